@@ -1,5 +1,5 @@
 -- Several DATA chunks, one after another.
-use Rattle.std.proofs.Common.{◌≡◌, ℕ, zero, suc, ◌<◌, List, [], ◌∷◌, ◌++◌, length, None, true, refl, sym, arith, subst}
+use Rattle.std.proofs.Common.{◌≡◌, Bool, ℕ, zero, suc, ◌<◌, List, [], ◌∷◌, ◌++◌, length, None, true, refl, sym, arith, subst}
 use Rattle.std.specs.Prelude.{slice_index_or}
 use Rattle.sctp_chunks.specs.declared.chunk.chunk_payload_data.ChunkPayloadData.{ChunkPayloadData}
 use Rattle.sctp_receiver.specs.declared.receiver.arrival.Arrival.{Arrival}
@@ -35,7 +35,7 @@ can-inside (suc i) (c ∷ cs) (n ∷ ns) x lt can =
 pub record CanNext (i : ℕ) (c : ChunkPayloadData) (cs : List ChunkPayloadData) (ns : List ℕ) (x : Sides) : Type 0 where
   pub accepted : data_refusal c (reception_of x) ≡ None
   pub open' : is_open c.stream_identifier x ≡ true
-  pub later : (y : Sides) → Takes c (slice_index_or ns i 0) (arrival_of c (reception_of x)) x y → CanFrom (suc i) cs ns y
+  pub later : (complete : Bool) (y : Sides) → Takes c (slice_index_or ns i 0) (arrival_of c.tsn complete (reception_of x)) x y → CanFrom (suc i) cs ns y
 
 pub can-next : (i : ℕ) (c : ChunkPayloadData) (cs : List ChunkPayloadData) (ns : List ℕ) (x : Sides) → i < length cs → c ≡ slice_index_or cs i c → CanFrom i cs ns x → CanNext i c cs ns x
 can-next i c [] ns x lt e can = absurd (omega (arith, lt))

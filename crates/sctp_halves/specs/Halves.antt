@@ -15,7 +15,7 @@ use Rattle.sctp_sender.specs.Flight.{Flight, with_queue, next_after_send, after_
 use Rattle.sctp_receiver.specs.Inbound as Inbound
 use Rattle.sctp_sender.specs.Outgoing as Outgoing
 use Rattle.sctp_sender.specs.Outgoing.{fragments_with_mode}
-use Rattle.sctp_receiver.specs.Receiver.{Reception, filter_of, is_stale, arrival_of, data_refusal}
+use Rattle.sctp_receiver.specs.Receiver.{Reception, filter_of, is_stale, arrival_of, is_told_complete, data_refusal}
 use Rattle.sctp_sender.specs.Sender.{Transmission}
 use Rattle.sctp_receiver.specs.TsnFilter.{Filter, with_tsn, with_duplicate, skipped_to}
 use Rattle.sctp_halves.specs.declared.halves.progress.StreamProgress.{StreamProgress}
@@ -147,7 +147,7 @@ repeat_tsn tsn x = with_filter_of (with_duplicate tsn (filter_of (reception_of x
 
 -- what a DATA chunk makes, where its TSN is new and where it is not
 abbrev pub Takes : ChunkPayloadData → ℕ → Arrival → Sides → Sides → Type 0
-Takes c number New old new = Accepts c number old new
+Takes c number (New complete) old new = Accepts c number old new
 Takes c number Repeat old new = new ≡ repeat_tsn c.tsn old
 
 abbrev pub without_duplicates : Sides → Sides
@@ -173,11 +173,12 @@ CanTake [] ns x = Unit {0}
 CanTake (c ∷ cs) [] x = ⊥
 CanTake (c ∷ cs) (n ∷ ns) x =
     (data_refusal c (reception_of x) ≡ None) × (is_open c.stream_identifier x ≡ true)
-    × ((y : Sides) → Takes c n (arrival_of c (reception_of x)) x y → CanTake cs ns y)
+    × ((complete : Bool) (y : Sides)
+    → Takes c n (arrival_of c.tsn complete (reception_of x)) x y → CanTake cs ns y)
 
 -- one is taken, with its answer
 pub record TakesFirst (c : ChunkPayloadData) (n : ℕ) (a : Arrival) (old mid : Sides) : Type 0 where
-  pub answer : a ≡ arrival_of c (reception_of old)
+  pub answer : a ≡ arrival_of c.tsn (is_told_complete a) (reception_of old)
   pub taken : Takes c n a old mid
 
 abbrev pub TakesEach : List ChunkPayloadData → List ℕ → List Arrival → Sides → Sides → Type 0

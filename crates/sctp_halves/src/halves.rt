@@ -13,10 +13,10 @@ use sctp_chunks::chunk::chunk_payload_data::ReliabilityType;
 use sctp_queues::outbound_queue::OutboundQueue;
 use sctp_queues::payload_queue::PayloadQueue;
 use sctp_queues::reassembly_queue::ReassemblyQueue;
-use sctp_stream::stream::DataChannelStats;
-use sctp_stream::stream_numbers::{StreamNumbers, put};
 use sctp_receiver::receiver::Receiver;
 use sctp_sender::sender::Sender;
+use sctp_stream::stream::DataChannelStats;
+use sctp_stream::stream_numbers::{StreamNumbers, put};
 use std::alloc::Global;
 use std::marker::Model;
 

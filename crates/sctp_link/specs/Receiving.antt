@@ -69,20 +69,20 @@ with_arrival x = record x { arrived = true }
 
 -- the slots after the arrival of some, one after another, each new or not
 abbrev pub arrived_in : List ℕ → List Arrival → List Slot → List Slot
-arrived_in (p ∷ ps) (New ∷ bs) ss = arrived_in ps bs (change_at with_arrival p ss)
+arrived_in (p ∷ ps) (New complete ∷ bs) ss = arrived_in ps bs (change_at with_arrival p ss)
 arrived_in (p ∷ ps) (Repeat ∷ bs) ss = arrived_in ps bs ss
 arrived_in [] bs ss = ss
 arrived_in (p ∷ ps) [] ss = ss
 
 -- those that came again
 abbrev pub repeated_of : List ℕ → List Arrival → List ℕ
-repeated_of (p ∷ ps) (New ∷ bs) = repeated_of ps bs
+repeated_of (p ∷ ps) (New complete ∷ bs) = repeated_of ps bs
 repeated_of (p ∷ ps) (Repeat ∷ bs) = p ∷ repeated_of ps bs
 repeated_of [] bs = []
 repeated_of (p ∷ ps) [] = []
 
 abbrev pub is_first : Arrival → Bool
-is_first New = true
+is_first (New complete) = true
 is_first Repeat = false
 
 -- the slot at this place lies in some datagram

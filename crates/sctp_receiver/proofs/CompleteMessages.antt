@@ -57,8 +57,8 @@ run-keeps-complete xs old new t h =
     let one : all_complete (set_of_run run ∷ []) ≡ true = and _ _ (ap is_complete (run-set run) ∙ run-complete xs t.first t.count t.run.run) refl in
     ap (λ (q : Reassembly). all_complete q.unordered) t.moved ∙ list_all-append (λ set. is_complete set.chunks) old.unordered (set_of_run run ∷ []) ∙ and _ _ h one
 
-pub pushed-complete : (x : ChunkPayloadData) (old new : ReassemblyState) → Pushes x old new → all_complete old.held.unordered ≡ true → all_complete new.held.unordered ≡ true
-pushed-complete x old new p h = by x.unordered p
+pub pushed-complete : (x : ChunkPayloadData) (complete : Bool) (old new : ReassemblyState) → Pushes x complete old new → all_complete old.held.unordered ≡ true → all_complete new.held.unordered ≡ true
+pushed-complete x complete old new p h = by x.unordered p
   where
     in-order : (b : Bool) → (if b then old.held else record old.held { ordered = sets_with x old.held.ordered }).unordered ≡ old.held.unordered
     in-order true = refl
@@ -68,9 +68,9 @@ pushed-complete x old new p h = by x.unordered p
     becomes true t = run-keeps-complete (insert_before chunk_before x old.held.unassembled) old.held new.held t h
     becomes false t = ap (λ (q : Reassembly). all_complete q.unordered) t.1 ∙ h
 
-    by : (b : Bool) → PushesAs b x old new → all_complete new.held.unordered ≡ true
-    by false e = ap (λ (q : ReassemblyState). all_complete q.held.unordered) e ∙ ap all_complete (in-order (comes_before16 x.stream_sequence_number old.held.next_ssn)) ∙ h
-    by true e = becomes e.0 e.1.0
+    by : (b : Bool) → PushesAs b x complete old new → all_complete new.held.unordered ≡ true
+    by false e = ap (λ (q : ReassemblyState). all_complete q.held.unordered) e.0 ∙ ap all_complete (in-order (comes_before16 x.stream_sequence_number old.held.next_ssn)) ∙ h
+    by true e = becomes complete e.0
 
 -- ## A message is read
 

@@ -39,9 +39,9 @@ found-has p (l ∷ ls) x e = by (p l) refl e (found-has p ls x)
     by false h f rest = rest f
 
 pub takes-keeps : (c : ChunkPayloadData) (a : Arrival) (old new : Reception) → Takes c a old new → (numbers_of new.streams ≡ numbers_of old.streams) × (new.max_message_size ≡ old.max_message_size)
-takes-keeps c New old new t =
+takes-keeps c (New complete) old new t =
     let has : (t.stream.queue.si == c.stream_identifier) ≡ true = found-has (has_number c.stream_identifier) old.streams t.stream t.found in
-    let same : t.queue.si ≡ c.stream_identifier = pushed-number c t.stream.queue t.queue t.pushed ∙ grind (arith, nat_tests, has) in
+    let same : t.queue.si ≡ c.stream_identifier = pushed-number c complete t.stream.queue t.queue t.pushed ∙ grind (arith, nat_tests, has) in
     (ap (λ (r : Reception). numbers_of r.streams) t.after ∙ changed-numbers c.stream_identifier t.queue same old.streams, ap (λ (r : Reception). r.max_message_size) t.after)
 takes-keeps c Repeat old new t = (ap (λ (r : Reception). numbers_of r.streams) t, ap (λ (r : Reception). r.max_message_size) t)
 

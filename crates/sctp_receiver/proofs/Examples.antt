@@ -105,17 +105,17 @@ one_open = open_stream 1 (at_first 7 2)
 abbrev after_datagram : Reception
 after_datagram = taken_on back at_two (repeat_tsn 7 (taken_on front at_one one_open))
 
-datagram : TakesEach (front ∷ front ∷ back ∷ []) (New ∷ Repeat ∷ New ∷ []) one_open after_datagram
+datagram : TakesEach (front ∷ front ∷ back ∷ []) (New false ∷ Repeat ∷ New true ∷ []) one_open after_datagram
 unfolding distance at_or_before comes_before at_or_before16 comes_before16 distance16
 datagram = (
   taken_on front at_one one_open,
   (
-    record { accepted = refl; answer = refl; taken = record { stream = new_stream 1 2; found = refl; queue = at_one; pushed = refl; after = refl } },
+    record { accepted = refl; answer = refl; taken = record { stream = new_stream 1 2; found = refl; queue = at_one; pushed = (refl, refl); after = refl } },
     (
       repeat_tsn 7 (taken_on front at_one one_open),
       (
         record { accepted = refl; answer = refl; taken = refl },
-        (after_datagram, (record { accepted = refl; answer = refl; taken = record { stream = with_queue at_one (new_stream 1 2); found = refl; queue = at_two; pushed = refl; after = refl } }, refl)),
+        (after_datagram, (record { accepted = refl; answer = refl; taken = record { stream = with_queue at_one (new_stream 1 2); found = refl; queue = at_two; pushed = (refl, refl); after = refl } }, refl)),
       ),
     ),
   ),

@@ -1,6 +1,6 @@
 -- What a receiver hands out, in every run of calls.
 use Rattle.std.proofs.Common.{◌≡◌, ℕ, ◌+◌, ◌≤◌, Bool, true, false, List, [], ◌∷◌, ◌++◌, Option, Some, None, refl, ap, sym, ◌∙◌, arith, subst}
-use Rattle.std.specs.Prelude.{◌==◌, if◌then◌else◌, find, not, option_map}
+use Rattle.std.specs.Prelude.{◌==◌, ◌&&◌, if◌then◌else◌, find, not, option_map}
 use Rattle.std.specs.Option.{option_or}
 use Rattle.std.specs.List.{list_all, sum_by, filter}
 use Rattle.std.proofs.lemmas.Bool.{eq-eqb}
@@ -8,22 +8,24 @@ use Rattle.std.proofs.lemmas.List.Folds.{find-append}
 use Rattle.std.proofs.lemmas.List.Sums.{sum_by-cons, sum_by-append}
 use Rattle.sctp_list_lemmas.specs.Lists.{change_where}
 use Rattle.sctp_list_lemmas.proofs.Cases.{same-is}
-use Rattle.sctp_list_lemmas.proofs.More.{and, fails, not_both}
+use Rattle.sctp_list_lemmas.proofs.More.{and, both, fails, not_both}
 use Rattle.sctp_chunks.specs.declared.chunk.chunk_payload_data.ChunkPayloadData.{ChunkPayloadData}
 use Rattle.sctp_chunks.specs.declared.chunk.chunk_forward_tsn.ChunkForwardTsnStream.{ChunkForwardTsnStream}
 use Rattle.sctp_chunks.specs.ChunkSet.{ChunkSet}
 use Rattle.sctp_chunks.specs.ForwardTsn.{ForwardTsn}
 use Rattle.sctp_reassembly.specs.reassembly_queue.Fragments.{is_complete}
-use Rattle.sctp_reassembly.specs.reassembly_queue.ReassemblyQueue.{message_read}
+use Rattle.sctp_reassembly.specs.reassembly_queue.ReassemblyQueue.{ReassemblyState, message_read}
 use Rattle.sctp_receiver.specs.declared.receiver.arrival.Arrival.TheVariants.{New, Repeat}
 use Rattle.sctp_receiver.specs.declared.receiver.inbound_streams.InboundStream.{InboundStream}
-use Rattle.sctp_receiver.specs.Inbound.{number, has_number, new_stream, with_queue, stream_read, ssn_forwarded, named_forwarded, unassembled_forwarded}
-use Rattle.sctp_receiver.specs.Receiver.{Reception, stream_of, Accepts, message_of, message_on, after_read, is_stale, follow_forward_tsn, after_forward}
-use Rattle.sctp_receiver.specs.ReceiverRuns.{Call, opens, closes, takes, reports, reads, forwards, Message, Stand, with_message, Follows, RunsTo, at_start, AfterEachRun, AreComplete, WereAccepted, fragments_read}
+use Rattle.sctp_receiver.specs.Inbound.{number, has_number, new_stream, with_queue, Pushes, stream_read, ssn_forwarded, named_forwarded, unassembled_forwarded}
+use Rattle.sctp_receiver.specs.Receiver.{Reception, filter_of, with_filter, stream_of, Accepts, repeat_tsn, after_discard, message_of, message_on, after_read, is_stale, follow_forward_tsn, after_forward}
+use Rattle.sctp_receiver.specs.TsnFilter.{has_come, with_tsn}
+use Rattle.sctp_receiver.specs.ReceiverRuns.{Call, opens, closes, takes, discards, reports, reports_within, reads, forwards, Message, Stand, with_message, Follows, RunsTo, at_start, AfterEachRun, AreComplete, AreOfOneMessage, WereAccepted, is_one_message, fragments_read}
 use Rattle.sctp_receiver.proofs.Inbounds.{pushed-number}
 use Rattle.sctp_receiver.proofs.Weights as weights
 use Rattle.sctp_receiver.proofs.Weights.{weight, message_weight}
 use Rattle.sctp_receiver.proofs.CompleteMessages.{all_complete, message_complete, pushed-complete, read-complete, rest-complete}
+use Rattle.sctp_receiver.proofs.OneMessage.{is_unmixed, message_one, pushed-unmixed, read-one, rest-unmixed, named-unmixed, unassembled-unmixed}
 use Rattle.sctp_receiver.proofs.Forwarded.{found-mapped}
 use Rattle.sctp_serial.specs.DataChunks.{is_on}
 
@@ -59,36 +61,43 @@ abbrev pub held_weight : (ChunkPayloadData → ℕ) → Option InboundStream →
 held_weight w None = 0
 held_weight w (Some l) = weight w l.queue.held
 
-abbrev pub held_complete : Option InboundStream → Bool
-held_complete None = true
-held_complete (Some l) = all_complete l.queue.held.unordered
+-- complete messages are complete, and what is held as one message is of one
+abbrev pub is_orderly : ReassemblyState → Bool
+is_orderly q = all_complete q.held.unordered && is_unmixed q.si q.held
+
+abbrev pub held_orderly : Option InboundStream → Bool
+held_orderly None = true
+held_orderly (Some l) = is_orderly l.queue
+
+orderly-both : (q : ReassemblyState) → is_orderly q ≡ true → (all_complete q.held.unordered ≡ true) × (is_unmixed q.si q.held ≡ true)
+orderly-both q h = both (all_complete q.held.unordered) (is_unmixed q.si q.held) h
 
 -- no more than before
 record IsNoMore (old new : Option InboundStream) : Type 0 where
   weighs : (w : ChunkPayloadData → ℕ) → held_weight w new ≤ held_weight w old
-  complete : held_complete old ≡ true → held_complete new ≡ true
+  orderly : held_orderly old ≡ true → held_orderly new ≡ true
 
 same-held : (o : Option InboundStream) → IsNoMore o o
-same-held o = record { weighs = λ w. omega arith; complete = λ h. h }
+same-held o = record { weighs = λ w. omega arith; orderly = λ h. h }
 
 then-less : (a b c : Option InboundStream) → IsNoMore a b → IsNoMore b c → IsNoMore a c
-then-less a b c x y = record { weighs = λ w. let p = x.weighs w in let q = y.weighs w in omega arith; complete = λ h. y.complete (x.complete h) }
+then-less a b c x y = record { weighs = λ w. let p = x.weighs w in let q = y.weighs w in omega arith; orderly = λ h. y.orderly (x.orderly h) }
 
 -- a stream of which less is held
 record Lightens (f : InboundStream → InboundStream) : Type 0 where
   number : (l : InboundStream) → (f l).queue.si ≡ l.queue.si
   weighs : (w : ChunkPayloadData → ℕ) (l : InboundStream) → weight w (f l).queue.held ≤ weight w l.queue.held
-  complete : (l : InboundStream) → (f l).queue.held.unordered ≡ l.queue.held.unordered
+  orderly : (l : InboundStream) → is_orderly l.queue ≡ true → is_orderly (f l).queue ≡ true
 
 names-lighten : (ssn : ℕ) → Lightens (ssn_forwarded ssn)
-names-lighten ssn = record { number = λ l. refl; weighs = λ w l. weights.named w ssn l.queue; complete = λ l. refl }
+names-lighten ssn = record { number = λ l. refl; weighs = λ w l. weights.named w ssn l.queue; orderly = λ l h. let p = orderly-both l.queue h in and _ _ p.0 (named-unmixed l.queue.si ssn l.queue.held p.1) }
 
 unassembled-lightens : (tsn : ℕ) → Lightens (unassembled_forwarded tsn)
-unassembled-lightens tsn = record { number = λ l. refl; weighs = λ w l. weights.unassembled w tsn l.queue; complete = λ l. refl }
+unassembled-lightens tsn = record { number = λ l. refl; weighs = λ w l. weights.unassembled w tsn l.queue; orderly = λ l h. let p = orderly-both l.queue h in and _ _ p.0 (unassembled-unmixed l.queue.si tsn l.queue.held p.1) }
 
 lighter : (f : InboundStream → InboundStream) (o : Option InboundStream) → Lightens f → IsNoMore o (option_map f o)
 lighter f None h = same-held None
-lighter f (Some l) h = record { weighs = λ w. h.weighs w l; complete = λ t. ap all_complete (h.complete l) ∙ t }
+lighter f (Some l) h = record { weighs = λ w. h.weighs w l; orderly = λ t. h.orderly l t }
 
 lighter-one : (s : ℕ) (f : InboundStream → InboundStream) (o : Option InboundStream) → Lightens f → IsNoMore o (option_map (λ l. if has_number s l then f l else l) o)
 lighter-one s f None h = same-held None
@@ -123,7 +132,7 @@ opened-less : (st s max : ℕ) (ls : List InboundStream) → IsNoMore (find (has
 opened-less st s max ls = subst (IsNoMore (find (has_number st) ls)) (sym (find-append (has_number st) ls (new_stream s max ∷ []))) (by (find (has_number st) ls) (s == st))
   where
     by : (o : Option InboundStream) (b : Bool) → IsNoMore o (option_or o (if b then Some (new_stream s max) else None))
-    by None true = record { weighs = λ w. omega arith; complete = λ h. refl }
+    by None true = record { weighs = λ w. omega arith; orderly = λ h. refl }
     by None false = same-held None
     by (Some l) b = same-held (Some l)
 
@@ -141,7 +150,7 @@ closed-less st s [] = same-held None
 closed-less st s (l ∷ ls) = by (number l == s) refl (number l == st) refl (closed-less st s ls)
   where
     gone : IsNoMore (Some l) None
-    gone = record { weighs = λ w. omega arith; complete = λ h. refl }
+    gone = record { weighs = λ w. omega arith; orderly = λ h. refl }
 
     by : (b : Bool) → (number l == s) ≡ b → (c : Bool) → (number l == st) ≡ c → IsNoMore (find (has_number st) ls) (find (has_number st) (filter (λ l. not (has_number s l)) ls))
         → IsNoMore (if c then Some l else find (has_number st) ls) (find (has_number st) (if not b then l ∷ filter (λ l. not (has_number s l)) ls else filter (λ l. not (has_number s l)) ls))
@@ -158,11 +167,12 @@ closed-less st s (l ∷ ls) = by (number l == s) refl (number l == st) refl (clo
 
 record Holds (st : ℕ) (s : Stand) : Type 0 where
   weighs : (w : ChunkPayloadData → ℕ) → sum_by w (fragments_read st s.read) + held_weight w (stream_of st s.receiver) ≤ sum_by w (filter (is_on st) s.accepted)
-  complete : held_complete (stream_of st s.receiver) ≡ true
+  orderly : held_orderly (stream_of st s.receiver) ≡ true
 
 record IsValid (s : Stand) : Type 0 where
   holds : (st : ℕ) → Holds st s
   read : AreComplete s
+  one : AreOfOneMessage s
 
 -- a call by which no stream holds more, no chunk is taken and none is read
 quiet : (old new : Stand) → IsValid old → new.accepted ≡ old.accepted → new.read ≡ old.read → ((st : ℕ) → IsNoMore (stream_of st old.receiver) (stream_of st new.receiver)) → IsValid new
@@ -174,9 +184,10 @@ quiet old new s a r less = record {
         let e = ap (λ ms. sum_by w (fragments_read st ms)) r in
         let f = ap (λ cs. sum_by w (filter (is_on st) cs)) a in
         omega arith;
-    complete = (less st).complete (s.holds st).complete;
+    orderly = (less st).orderly (s.holds st).orderly;
   };
   read = ap (λ ms. list_all (λ m. is_complete m.fragments) ms) r ∙ s.read;
+  one = ap (λ ms. list_all (λ m. is_one_message m.fragments) ms) r ∙ s.one;
 }
 
 -- ## A chunk is taken
@@ -191,18 +202,26 @@ taken-more w st c cs b e = ap (λ t. sum_by w (if t then c ∷ filter (is_on st)
 -- of the stream with this number so much more is held, where the chunk is of it
 record IsMoreBy (c : ChunkPayloadData) (b : Bool) (old new : Option InboundStream) : Type 0 where
   weighs : (w : ChunkPayloadData → ℕ) → held_weight w new ≤ (if b then w c else 0) + held_weight w old
-  complete : held_complete old ≡ true → held_complete new ≡ true
+  orderly : held_orderly old ≡ true → held_orderly new ≡ true
 
 no-less : (c : ChunkPayloadData) (b : Bool) (o : Option InboundStream) → IsMoreBy c b o o
-no-less c true o = record { weighs = λ w. omega arith; complete = λ h. h }
-no-less c false o = record { weighs = λ w. omega arith; complete = λ h. h }
+no-less c true o = record { weighs = λ w. omega arith; orderly = λ h. h }
+no-less c false o = record { weighs = λ w. omega arith; orderly = λ h. h }
 
-module _ (c : ChunkPayloadData) (old new : Reception) (a : Accepts c old new) (st : ℕ) where
+pushed-orderly : (c : ChunkPayloadData) (told : Bool) (old new : ReassemblyState) → is_on old.si c ≡ true → Pushes c told old new → is_orderly old ≡ true → is_orderly new ≡ true
+pushed-orderly c told old new on p h =
+    let s = orderly-both old h in
+    and _ _ (pushed-complete c told old new p s.0) (ap (λ n. is_unmixed n new.held) (pushed-number c told old new p) ∙ pushed-unmixed c told old new on p s.1)
+
+module _ (c : ChunkPayloadData) (told : Bool) (old new : Reception) (a : Accepts c told old new) (st : ℕ) where
   abbrev sid : ℕ
   sid = c.stream_identifier
 
+  on-stream : is_on (number a.stream) c ≡ true
+  on-stream = eq-eqb sid (number a.stream) (sym (same-is (number a.stream) sid (found-number sid old.streams a.stream a.found)))
+
   keeps : (l : InboundStream) → (number l == sid) ≡ true → a.queue.si ≡ number l
-  keeps l e = pushed-number c a.stream.queue a.queue a.pushed ∙ same-is (number a.stream) sid (found-number sid old.streams a.stream a.found) ∙ sym (same-is (number l) sid e)
+  keeps l e = pushed-number c told a.stream.queue a.queue a.pushed ∙ same-is (number a.stream) sid (found-number sid old.streams a.stream a.found) ∙ sym (same-is (number l) sid e)
 
   now : stream_of st new ≡ option_map (λ l. if has_number sid l then with_queue a.queue l else l) (stream_of st old)
   now = ap (λ (r : Reception). stream_of st r) a.after ∙ found-changed sid st (with_queue a.queue) keeps old.streams
@@ -220,26 +239,27 @@ module _ (c : ChunkPayloadData) (old new : Reception) (a : Accepts c old new) (s
           let on : is_on st c ≡ true = eq-eqb sid st (sym same) in
           subst (λ b. IsMoreBy c b (Some l) (Some (with_queue a.queue l))) (sym on)
           (record {
-            weighs = λ w. let p = weights.pushed w c a.stream.queue a.queue a.pushed in let q = ap (λ (x : InboundStream). weight w x.queue.held) is in omega arith;
-            complete = λ t. pushed-complete c a.stream.queue a.queue a.pushed (ap (λ (x : InboundStream). all_complete x.queue.held.unordered) (sym is) ∙ t);
+            weighs = λ w. let p = weights.pushed w c told a.stream.queue a.queue a.pushed in let q = ap (λ (x : InboundStream). weight w x.queue.held) is in omega arith;
+            orderly = λ t. pushed-orderly c told a.stream.queue a.queue on-stream a.pushed (ap (λ (x : InboundStream). is_orderly x.queue) (sym is) ∙ t);
           })
 
   more : IsMoreBy c (is_on st c) (stream_of st old) (stream_of st new)
   more = subst (IsMoreBy c (is_on st c) (stream_of st old)) (sym now) (at (stream_of st old) refl)
 
-taken-valid : (c : ChunkPayloadData) (old new : Stand) → IsValid old → Accepts c old.receiver new.receiver → new.accepted ≡ c ∷ old.accepted → new.read ≡ old.read → IsValid new
-taken-valid c old new s a e r = record {
+taken-valid : (c : ChunkPayloadData) (told : Bool) (old new : Stand) → IsValid old → Accepts c told old.receiver new.receiver → new.accepted ≡ c ∷ old.accepted → new.read ≡ old.read → IsValid new
+taken-valid c told old new s a e r = record {
   holds = λ st. record {
     weighs = λ w.
         let h = (s.holds st).weighs w in
-        let m = (more c old.receiver new.receiver a st).weighs w in
+        let m = (more c told old.receiver new.receiver a st).weighs w in
         let t = taken-more w st c old.accepted (is_on st c) refl in
         let f = ap (λ cs. sum_by w (filter (is_on st) cs)) e in
         let g = ap (λ ms. sum_by w (fragments_read st ms)) r in
         omega arith;
-    complete = (more c old.receiver new.receiver a st).complete (s.holds st).complete;
+    orderly = (more c told old.receiver new.receiver a st).orderly (s.holds st).orderly;
   };
   read = ap (λ ms. list_all (λ m. is_complete m.fragments) ms) r ∙ s.read;
+  one = ap (λ ms. list_all (λ m. is_one_message m.fragments) ms) r ∙ s.one;
 }
 
 -- ## A message is read
@@ -259,22 +279,22 @@ read-more w st s (Some set) ms = by (s == st)
 -- what is read leaves the stream
 record IsLessBy (b : Bool) (m : Option ChunkSet) (old new : Option InboundStream) : Type 0 where
   weighs : (w : ChunkPayloadData → ℕ) → (if b then message_weight w m else 0) + held_weight w new ≤ held_weight w old
-  complete : held_complete old ≡ true → held_complete new ≡ true
+  orderly : held_orderly old ≡ true → held_orderly new ≡ true
 
 module _ (s st : ℕ) (r : Reception) where
   here : (o : Option InboundStream) → stream_of st r ≡ o → s ≡ st → IsLessBy true (message_of o) o (option_map (λ l. if has_number s l then stream_read l else l) o)
-  here None e same = record { weighs = λ w. omega arith; complete = λ h. h }
+  here None e same = record { weighs = λ w. omega arith; orderly = λ h. h }
   here (Some l) e same =
       let on : has_number s l ≡ true = ap (λ n. number l == n) same ∙ found-number st r.streams l e in
       subst (λ b. IsLessBy true (message_read l.queue.held) (Some l) (Some (if b then stream_read l else l))) (sym on)
-      (record { weighs = λ w. let h = weights.read w l.queue.held in omega arith; complete = λ h. rest-complete l.queue.held h })
+      (record { weighs = λ w. let h = weights.read w l.queue.held in omega arith; orderly = λ h. let p = orderly-both l.queue h in and _ _ (rest-complete l.queue.held p.0) (rest-unmixed l.queue.si l.queue.held p.1) })
 
   elsewhere : (m : Option ChunkSet) (o : Option InboundStream) → stream_of st r ≡ o → (s == st) ≡ false → IsLessBy false m o (option_map (λ l. if has_number s l then stream_read l else l) o)
-  elsewhere m None e differ = record { weighs = λ w. omega arith; complete = λ h. h }
+  elsewhere m None e differ = record { weighs = λ w. omega arith; orderly = λ h. h }
   elsewhere m (Some l) e differ =
       let off : has_number s l ≡ false = fails (has_number s l) (λ t. not_both (sym differ ∙ eq-eqb s st (sym (same-is (number l) s t) ∙ same-is (number l) st (found-number st r.streams l e)))) in
       subst (λ b. IsLessBy false m (Some l) (Some (if b then stream_read l else l))) (sym off)
-      (record { weighs = λ w. omega arith; complete = λ h. h })
+      (record { weighs = λ w. omega arith; orderly = λ h. h })
 
   either : (b : Bool) → (s == st) ≡ b → IsLessBy b (message_on s r) (stream_of st r) (option_map (λ l. if has_number s l then stream_read l else l) (stream_of st r))
   either true e =
@@ -285,16 +305,27 @@ module _ (s st : ℕ) (r : Reception) where
   read-less : IsLessBy (s == st) (message_on s r) (stream_of st r) (stream_of st (after_read s r))
   read-less = subst (IsLessBy (s == st) (message_on s r) (stream_of st r)) (sym (found-changed s st stream_read (λ l e. refl) r.streams)) (either (s == st) refl)
 
-on-complete : (s : ℕ) (r : Reception) → held_complete (stream_of s r) ≡ true → message_complete (message_on s r) ≡ true
+on-complete : (s : ℕ) (r : Reception) → held_orderly (stream_of s r) ≡ true → message_complete (message_on s r) ≡ true
 on-complete s r h = by (stream_of s r) h
   where
-    by : (o : Option InboundStream) → held_complete o ≡ true → message_complete (message_of o) ≡ true
+    by : (o : Option InboundStream) → held_orderly o ≡ true → message_complete (message_of o) ≡ true
     by None h = refl
-    by (Some l) h = read-complete l.queue.held h
+    by (Some l) h = read-complete l.queue.held (orderly-both l.queue h).0
+
+on-one : (s : ℕ) (r : Reception) → held_orderly (stream_of s r) ≡ true → message_one (message_on s r) ≡ true
+on-one s r h = by (stream_of s r) h
+  where
+    by : (o : Option InboundStream) → held_orderly o ≡ true → message_one (message_of o) ≡ true
+    by None h = refl
+    by (Some l) h = read-one l.queue.si l.queue.held (orderly-both l.queue h).1
 
 with-complete : (s : ℕ) (m : Option ChunkSet) (ms : List Message) → message_complete m ≡ true → list_all (λ x. is_complete x.fragments) ms ≡ true → list_all (λ x. is_complete x.fragments) (with_message s m ms) ≡ true
 with-complete s None ms h k = k
 with-complete s (Some set) ms h k = and _ _ h k
+
+with-one : (s : ℕ) (m : Option ChunkSet) (ms : List Message) → message_one m ≡ true → list_all (λ x. is_one_message x.fragments) ms ≡ true → list_all (λ x. is_one_message x.fragments) (with_message s m ms) ≡ true
+with-one s None ms h k = k
+with-one s (Some set) ms h k = and _ _ h k
 
 read-valid : (stream : ℕ) (old new : Stand) → IsValid old → new.receiver ≡ after_read stream old.receiver → new.accepted ≡ old.accepted → new.read ≡ with_message stream (message_on stream old.receiver) old.read → IsValid new
 read-valid stream old new s is a r = record {
@@ -307,21 +338,32 @@ read-valid stream old new s is a r = record {
         let e = ap (λ ms. sum_by w (fragments_read st ms)) r in
         let f = ap (λ cs. sum_by w (filter (is_on st) cs)) a in
         omega arith;
-    complete = ap (λ (x : Reception). held_complete (stream_of st x)) is ∙ (read-less stream st old.receiver).complete (s.holds st).complete;
+    orderly = ap (λ (x : Reception). held_orderly (stream_of st x)) is ∙ (read-less stream st old.receiver).orderly (s.holds st).orderly;
   };
-  read = ap (λ ms. list_all (λ m. is_complete m.fragments) ms) r ∙ with-complete stream (message_on stream old.receiver) old.read (on-complete stream old.receiver (s.holds stream).complete) s.read;
+  read = ap (λ ms. list_all (λ m. is_complete m.fragments) ms) r ∙ with-complete stream (message_on stream old.receiver) old.read (on-complete stream old.receiver (s.holds stream).orderly) s.read;
+  one = ap (λ ms. list_all (λ m. is_one_message m.fragments) ms) r ∙ with-one stream (message_on stream old.receiver) old.read (on-one stream old.receiver (s.holds stream).orderly) s.one;
 }
 
 -- ## Every run
 
-repeat-valid : (c : ChunkPayloadData) (old new : Stand) → IsValid old → (streams : new.receiver.streams ≡ old.receiver.streams) → new.accepted ≡ old.accepted → new.read ≡ old.read → IsValid new
-repeat-valid c old new s streams a r = quiet old new s a r (λ st. subst (λ ls. IsNoMore (stream_of st old.receiver) (find (has_number st) ls)) (sym streams) (same-held (stream_of st old.receiver)))
+-- the streams stay
+still : (old new : Stand) → IsValid old → new.receiver.streams ≡ old.receiver.streams → new.accepted ≡ old.accepted → new.read ≡ old.read → IsValid new
+still old new s streams a r = quiet old new s a r (λ st. subst (λ ls. IsNoMore (stream_of st old.receiver) (find (has_number st) ls)) (sym streams) (same-held (stream_of st old.receiver)))
+
+discard-streams : (tsn : ℕ) (r : Reception) → (after_discard tsn r).streams ≡ r.streams
+discard-streams tsn r = by (has_come tsn (filter_of r))
+  where
+    by : (b : Bool) → (if b then repeat_tsn tsn r else with_filter (with_tsn tsn (filter_of r)) r).streams ≡ r.streams
+    by true = refl
+    by false = refl
 
 step : (c : Call) (old new : Stand) → IsValid old → Follows c old new → IsValid new
 step (opens stream) old new s f = quiet old new s f.accepted f.read (λ st. subst (λ (r : Reception). IsNoMore (stream_of st old.receiver) (stream_of st r)) (sym f.receiver.1) (opened-less st stream old.receiver.max_message_size old.receiver.streams))
 step (closes stream) old new s f = quiet old new s f.accepted f.read (λ st. subst (λ (r : Reception). IsNoMore (stream_of st old.receiver) (stream_of st r)) (sym f.receiver) (closed-less st stream old.receiver.streams))
-step (takes c New) old new s f = taken-valid c old new s f.receiver f.accepted f.read
-step (takes c Repeat) old new s f = repeat-valid c old new s (ap (λ (r : Reception). r.streams) f.receiver) f.accepted f.read
+step (takes c (New told)) old new s f = taken-valid c told old new s f.receiver f.accepted f.read
+step (takes c Repeat) old new s f = still old new s (ap (λ (r : Reception). r.streams) f.receiver) f.accepted f.read
+step (discards tsn) old new s f = still old new s (ap (λ (r : Reception). r.streams) f.receiver ∙ discard-streams tsn old.receiver) f.accepted f.read
+step (reports_within bytes) old new s f = still old new s (ap (λ (r : Reception). r.streams) f.receiver) f.accepted f.read
 step reports old new s f = quiet old new s f.accepted f.read (λ st. subst (λ (r : Reception). IsNoMore (stream_of st old.receiver) (stream_of st r)) (sym f.receiver) (same-held (stream_of st old.receiver)))
 step (reads stream) old new s f = read-valid stream old new s f.receiver f.accepted f.read
 step (forwards g) old new s f = quiet old new s f.accepted f.read (λ st. subst (λ (r : Reception). IsNoMore (stream_of st old.receiver) (stream_of st r)) (sym f.receiver) (followed-less st g old.receiver))
@@ -331,10 +373,13 @@ run [] old new s e = subst IsValid (sym e) s
 run (c ∷ cs) old new s r = run cs r.0 new (step c old r.0 s r.1.0) r.1.1
 
 start : (tsn max : ℕ) → IsValid (at_start tsn max)
-start tsn max = record { holds = λ st. record { weighs = λ w. omega arith; complete = refl }; read = refl }
+start tsn max = record { holds = λ st. record { weighs = λ w. omega arith; orderly = refl }; read = refl; one = refl }
 
 pub complete : AfterEachRun AreComplete
 complete tsn max calls s r = (run calls (at_start tsn max) s (start tsn max) r).read
+
+pub alike : AfterEachRun AreOfOneMessage
+alike tsn max calls s r = (run calls (at_start tsn max) s (start tsn max) r).one
 
 pub accepted : AfterEachRun WereAccepted
 accepted tsn max calls s r = λ st w. let h = ((run calls (at_start tsn max) s (start tsn max) r).holds st).weighs w in omega arith

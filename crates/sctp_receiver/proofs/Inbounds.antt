@@ -1,6 +1,6 @@
 -- What a fragment and a FORWARD-TSN make of the streams of a receiver.
 use Rattle.std.proofs.Common.{◌≡◌, sym, ap, ◌∙◌, refl, ℕ, List, [], ◌∷◌, map, Bool, true, false, Some, None, inl, inr, Result, Ok, Err, subst}
-use Rattle.std.specs.Prelude.{if◌then◌else◌, find, slice_index_or, slice_set, OnOk, OnErr, IfErr}
+use Rattle.std.specs.Prelude.{if◌then◌else◌, find, slice_index_or, slice_set, OnErr, IfOk, IfErr}
 use Rattle.sctp_list_lemmas.specs.Lists.{change_where}
 use Rattle.sctp_chunks.specs.declared.chunk.chunk_payload_data.ChunkPayloadData.{ChunkPayloadData}
 use Rattle.sctp_reassembly.specs.reassembly_queue.ReassemblyQueue.{ReassemblyState, is_too_large}
@@ -12,12 +12,12 @@ use Rattle.sctp_receiver.specs.Inbound.{number, numbers_of, has_number, with_que
 use Rattle.sctp_receiver.specs.Receiver.{stream_refusal, IsRefusedFor}
 use Rattle.sctp_stream.proofs.StreamPlaces.{found, changed}
 
-pub pushed-number : (c : ChunkPayloadData) (old new : ReassemblyState) → Pushes c old new → new.si ≡ old.si
-pushed-number c old new p = by c.unordered p
+pub pushed-number : (c : ChunkPayloadData) (complete : Bool) (old new : ReassemblyState) → Pushes c complete old new → new.si ≡ old.si
+pushed-number c complete old new p = by c.unordered p
   where
-    by : (b : Bool) → PushesAs b c old new → new.si ≡ old.si
-    by false e = ap (λ (q : ReassemblyState). q.si) e
-    by true e = ap (λ (q : ReassemblyState). q.si) e.1.1
+    by : (b : Bool) → PushesAs b c complete old new → new.si ≡ old.si
+    by false e = ap (λ (q : ReassemblyState). q.si) e.0
+    by true e = ap (λ (q : ReassemblyState). q.si) e.1
 
 -- what each stream keeps, all keep
 module _ {B : Type 0} (p : InboundStream → B) (f : InboundStream → InboundStream) (same : (l : InboundStream) → p (f l) ≡ p l) where
@@ -35,15 +35,15 @@ module _ {B : Type 0} (p : InboundStream → B) (f : InboundStream → InboundSt
 
 -- a push on the stream at a place
 module _ (c : ChunkPayloadData) (ls : List InboundStream) (k : ℕ) (p : IsOnlyPlace c.stream_identifier (numbers_of ls) k) (x y : InboundStream) (at : x ≡ slice_index_or ls k x) (rest : y ≡ record x { queue = y.queue }) where
-  pub number-stays : {T : Type 0} (r : Result T ReceiverRefusal) → OnOk r (Pushes c x.queue y.queue) → OnErr r (y ≡ x) → number y ≡ number x
-  number-stays (Ok t) ok err = pushed-number c x.queue y.queue ok
+  pub number-stays : (r : Result Bool ReceiverRefusal) → IfOk r (λ complete. Pushes c complete x.queue y.queue) → OnErr r (y ≡ x) → number y ≡ number x
+  number-stays (Ok complete) ok err = pushed-number c complete x.queue y.queue ok
   number-stays (Err e) ok err = ap number err
 
   is-found : find (has_number c.stream_identifier) ls ≡ Some x
   is-found = found number ls (numbers_of ls) refl c.stream_identifier k p x at
 
-  pub pushes : {T : Type 0} (r : Result T ReceiverRefusal) → OnOk r (Pushes c x.queue y.queue) → OnOk r (PushesOn c ls (slice_set ls k y))
-  pushes (Ok t) ok = record { stream = x; found = is-found; queue = y.queue; pushed = ok; after = changed number ls (numbers_of ls) refl c.stream_identifier k p (with_queue y.queue) x y at rest }
+  pub pushes : (r : Result Bool ReceiverRefusal) → IfOk r (λ complete. Pushes c complete x.queue y.queue) → IfOk r (λ complete. PushesOn c complete ls (slice_set ls k y))
+  pushes (Ok complete) ok = record { stream = x; found = is-found; queue = y.queue; pushed = ok; after = changed number ls (numbers_of ls) refl c.stream_identifier k p (with_queue y.queue) x y at rest }
   pushes (Err e) ok = ok
 
   pub fits : is_too_large c x.queue ≡ false → stream_refusal c (find (has_number c.stream_identifier) ls) ≡ None

@@ -7,6 +7,8 @@ pub mod Receptions
 pub mod DataEach
 pub mod Weights
 pub mod CompleteMessages
+pub mod OneMessage
+pub mod Readable
 pub mod Handed
 pub mod Closed
 mod Examples

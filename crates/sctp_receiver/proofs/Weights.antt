@@ -93,12 +93,12 @@ module _ (w : ChunkPayloadData → ℕ) where
   becomes xs old new true t = run-taken xs old new t
   becomes xs old new false t = ap weight t.1
 
-  pub pushed : (x : ChunkPayloadData) (old new : ReassemblyState) → Pushes x old new → weight new.held ≤ weight old.held + w x
-  pushed x old new p = by x.unordered p
+  pub pushed : (x : ChunkPayloadData) (complete : Bool) (old new : ReassemblyState) → Pushes x complete old new → weight new.held ≤ weight old.held + w x
+  pushed x complete old new p = by x.unordered p
     where
-      by : (b : Bool) → PushesAs b x old new → weight new.held ≤ weight old.held + w x
-      by false e = let h = pushed-in-order x old.held in let is = ap (λ (q : ReassemblyState). weight q.held) e in omega arith
-      by true e = let h = becomes (insert_before chunk_before x old.held.unassembled) old.held new.held e.0 e.1.0 in let more = sum_by-inserted w chunk_before x old.held.unassembled in omega arith
+      by : (b : Bool) → PushesAs b x complete old new → weight new.held ≤ weight old.held + w x
+      by false e = let h = pushed-in-order x old.held in let is = ap (λ (q : ReassemblyState). weight q.held) e.0 in omega arith
+      by true e = let h = becomes (insert_before chunk_before x old.held.unassembled) old.held new.held complete e.0 in let more = sum_by-inserted w chunk_before x old.held.unassembled in omega arith
 
   -- ## A message is read
 

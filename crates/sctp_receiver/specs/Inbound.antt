@@ -7,7 +7,7 @@ use Rattle.sctp_chunks.specs.declared.chunk.chunk_payload_data.ChunkPayloadData.
 use Rattle.sctp_chunks.specs.declared.chunk.chunk_forward_tsn.ChunkForwardTsnStream.{ChunkForwardTsnStream}
 use Rattle.sctp_chunks.specs.ChunkSet.{ChunkSet}
 use Rattle.sctp_serial.specs.DataChunks.{bytes_of}
-use Rattle.sctp_reassembly.specs.reassembly_queue.ReassemblyQueue.{ReassemblyState, PushesUnordered, after_ordered_push, message_read, state_read, after_ordered_skip, after_unordered_skip}
+use Rattle.sctp_reassembly.specs.reassembly_queue.ReassemblyQueue.{ReassemblyState, PushesUnordered, after_ordered_push, is_complete_with, message_read, state_read, after_ordered_skip, after_unordered_skip}
 use Rattle.sctp_receiver.specs.declared.receiver.inbound_streams.InboundStream.{InboundStream}
 use Rattle.sctp_stream.specs.declared.stream.DataChannelStats.{DataChannelStats}
 use Rattle.sctp_stream.specs.Stats.{with_received}
@@ -52,20 +52,22 @@ with_queue q l = record l { queue = q }
 
 -- ## A fragment comes
 
--- what it makes of its stream's queue, where it is unordered and where it is not
-abbrev pub PushesAs : Bool → ChunkPayloadData → ReassemblyState → ReassemblyState → Type 0
-PushesAs false c old new = new ≡ after_ordered_push c old
-PushesAs true c old new = (complete : Bool) × PushesUnordered c old new complete
+-- what it makes of its stream's queue, where it is unordered and where it is not, and whether a message became complete by it
+abbrev pub PushesAs : Bool → ChunkPayloadData → Bool → ReassemblyState → ReassemblyState → Type 0
+PushesAs false c complete old new =
+    (new ≡ after_ordered_push c old) × (complete ≡ is_complete_with c old.held)
+PushesAs true c complete old new = PushesUnordered c old new complete
 
-abbrev pub Pushes : ChunkPayloadData → ReassemblyState → ReassemblyState → Type 0
-Pushes c old new = PushesAs c.unordered c old new
+abbrev pub Pushes : ChunkPayloadData → Bool → ReassemblyState → ReassemblyState → Type 0
+Pushes c complete old new = PushesAs c.unordered c complete old new
 
 -- and of the streams
-pub record PushesOn (c : ChunkPayloadData) (old new : List InboundStream) : Type 0 where
+pub record PushesOn (c : ChunkPayloadData) (complete : Bool) (old new : List InboundStream)
+    : Type 0 where
   pub stream : InboundStream
   pub found : find (has_number c.stream_identifier) old ≡ Some stream
   pub queue : ReassemblyState
-  pub pushed : Pushes c stream.queue queue
+  pub pushed : Pushes c complete stream.queue queue
   pub after : new ≡ change_where (has_number c.stream_identifier) (with_queue queue) old
 
 -- ## A message is read

@@ -1,5 +1,5 @@
 -- The receiving half of a link as callers see it (RFC 4960 6; RFC 3758 3.6).
-use Rattle.std.specs.Prelude.{◌≡◌, ◌⊎◌, ℕ, Bool, not, ◌&&◌, ◌||◌, if◌then◌else◌, ◌-◌, List, [], ◌∷◌, ◌++◌, length, map, take, slice_get, Option, Some, None, is_some}
+use Rattle.std.specs.Prelude.{◌≡◌, ◌⊎◌, ℕ, Bool, false, not, ◌&&◌, ◌||◌, if◌then◌else◌, ◌-◌, ◌/◌, min, List, [], ◌∷◌, ◌++◌, length, map, take, drop, slice_get, Option, Some, None, is_some}
 use Rattle.std.specs.List.{find, filter}
 use Rattle.sctp_list_lemmas.specs.Lists.{change_where}
 use Rattle.sctp_list_lemmas.specs.Serial.{at_or_before}
@@ -15,7 +15,7 @@ use Rattle.sctp_receiver.specs.declared.receiver.arrival.Arrival.{Arrival}
 use Rattle.sctp_receiver.specs.declared.receiver.arrival.Arrival.TheVariants.{New, Repeat}
 use Rattle.sctp_receiver.specs.declared.receiver.arrival.Forwarded.{Forwarded}
 use Rattle.sctp_receiver.specs.declared.receiver.arrival.Forwarded.TheVariants.{Skipped, Stale}
-use Rattle.sctp_receiver.specs.Inbound.{has_number, new_stream, with_queue, Pushes, stream_read, named_forwarded, unassembled_forwarded}
+use Rattle.sctp_receiver.specs.Inbound.{number, has_number, new_stream, with_queue, Pushes, stream_read, named_forwarded, unassembled_forwarded}
 use Rattle.sctp_receiver.specs.TsnFilter.{Filter, has_come, is_opposite, with_tsn, with_duplicate, skipped_to, gap_ack_blocks}
 use Rattle.sctp_serial.specs.DataChunks.{preceding_tsn}
 
@@ -86,12 +86,13 @@ data_refusal c r =
 abbrev pub IsRefusedFor : Option ReceiverRefusal → ReceiverRefusal → Type 0
 IsRefusedFor reason e = ((e ≡ OutOfMemory) × (reason ≡ None)) ⊎ (reason ≡ Some e)
 
--- the chunk with a new TSN is taken: its stream's queue has it, and its TSN came
-pub record Accepts (c : ChunkPayloadData) (old new : Reception) : Type 0 where
+-- the chunk with a new TSN is taken: its stream's queue has it, whether a message of it became complete by that is told, and
+-- its TSN came
+pub record Accepts (c : ChunkPayloadData) (complete : Bool) (old new : Reception) : Type 0 where
   pub stream : InboundStream
   pub found : stream_of c.stream_identifier old ≡ Some stream
   pub queue : ReassemblyState
-  pub pushed : Pushes c stream.queue queue
+  pub pushed : Pushes c complete stream.queue queue
   pub after : new ≡ with_filter (with_tsn c.tsn (filter_of old))
       (record old {
         streams = change_where (has_number c.stream_identifier)
@@ -102,18 +103,24 @@ pub record Accepts (c : ChunkPayloadData) (old new : Reception) : Type 0 where
 abbrev pub repeat_tsn : ℕ → Reception → Reception
 repeat_tsn tsn r = with_filter (with_duplicate tsn (filter_of r)) r
 
-abbrev pub arrival_of : ChunkPayloadData → Reception → Arrival
-arrival_of c r = if has_come c.tsn (filter_of r) then Repeat else New
+-- what the chunk of a TSN is; where it is new, whether a message became complete with it is handed in
+abbrev pub arrival_of : ℕ → Bool → Reception → Arrival
+arrival_of tsn complete r = if has_come tsn (filter_of r) then Repeat else New complete
+
+-- whether it is told that a message became complete
+abbrev pub is_told_complete : Arrival → Bool
+is_told_complete (New complete) = complete
+is_told_complete Repeat = false
 
 -- what a DATA chunk makes, where its TSN is new and where it is not
 abbrev pub Takes : ChunkPayloadData → Arrival → Reception → Reception → Type 0
-Takes c New old new = Accepts c old new
+Takes c (New complete) old new = Accepts c complete old new
 Takes c Repeat old new = new ≡ repeat_tsn c.tsn old
 
 -- several, one after another: none is refused, and each has its answer
 pub record TakesFirst (c : ChunkPayloadData) (a : Arrival) (old mid : Reception) : Type 0 where
   pub accepted : data_refusal c old ≡ None
-  pub answer : a ≡ arrival_of c old
+  pub answer : a ≡ arrival_of c.tsn (is_told_complete a) old
   pub taken : Takes c a old mid
 
 abbrev pub TakesEach : List ChunkPayloadData → List Arrival → Reception → Reception → Type 0
@@ -140,25 +147,57 @@ takes_memory c r =
     has_come c.tsn (filter_of r) || (not (is_opposite c.tsn (filter_of r))
     && is_open c.stream_identifier r)
 
+-- ## A chunk is dropped
+
+-- why a TSN does not count as come
+abbrev pub discard_refusal : ℕ → Reception → Option ReceiverRefusal
+discard_refusal tsn r =
+    if has_come tsn (filter_of r) then None
+    else (if is_opposite tsn (filter_of r) then Some TsnOpposite else None)
+
+-- its TSN came, or came again
+abbrev pub after_discard : ℕ → Reception → Reception
+after_discard tsn r =
+    if has_come tsn (filter_of r) then repeat_tsn tsn r
+    else with_filter (with_tsn tsn (filter_of r)) r
+
 -- ## SACK
 
 -- the greatest count of blocks and duplicates in a SACK that fits its length
 abbrev pub max_sack_entries : ℕ
 max_sack_entries = 16379
 
+-- how many duplicates fit behind the blocks, of so many blocks and duplicates in all
+abbrev pub duplicates_told : ℕ → Reception → ℕ
+duplicates_told entries r = entries - length (take entries (gap_ack_blocks (filter_of r)))
+
 -- blocks come first, then as many duplicates as fit
-abbrev pub sack : ℕ → Reception → Sack
-sack credit r =
-    let blocks = take max_sack_entries (gap_ack_blocks (filter_of r)) in
+abbrev pub sack_of_entries : ℕ → ℕ → Reception → Sack
+sack_of_entries credit entries r =
     record {
       cumulative_tsn_ack = r.cumulative_tsn;
       advertised_receiver_window_credit = credit;
-      gap_ack_blocks = blocks;
-      duplicate_tsn = take (max_sack_entries - length blocks) r.duplicates;
+      gap_ack_blocks = take entries (gap_ack_blocks (filter_of r));
+      duplicate_tsn = take (duplicates_told entries r) r.duplicates;
     }
+
+abbrev pub sack : ℕ → Reception → Sack
+sack credit r = sack_of_entries credit max_sack_entries r
 
 abbrev pub without_duplicates : Reception → Reception
 without_duplicates r = record r { duplicates = [] }
+
+-- how many blocks and duplicates a SACK chunk of so many bytes has at most: it has 16 without them, and each has 4
+abbrev pub sack_entries : ℕ → ℕ
+sack_entries bytes = min ((bytes - 16) / 4) max_sack_entries
+
+abbrev pub sack_within : ℕ → ℕ → Reception → Sack
+sack_within credit bytes r = sack_of_entries credit (sack_entries bytes) r
+
+-- the duplicates that did not fit are kept
+abbrev pub after_sack_within : ℕ → Reception → Reception
+after_sack_within bytes r =
+    record r { duplicates = drop (duplicates_told (sack_entries bytes) r) r.duplicates }
 
 -- ## Read
 
@@ -169,6 +208,10 @@ message_of (Some l) = message_read l.queue.held
 -- the message that is read next on a stream
 abbrev pub message_on : ℕ → Reception → Option ChunkSet
 message_on s r = message_of (stream_of s r)
+
+-- the streams with a message to read, in the order in which they were opened
+abbrev pub readable_streams : List InboundStream → List ℕ
+readable_streams ls = map number (filter (λ l. is_some (message_read l.queue.held)) ls)
 
 abbrev pub after_read : ℕ → Reception → Reception
 after_read s r = record r { streams = change_where (has_number s) stream_read r.streams }

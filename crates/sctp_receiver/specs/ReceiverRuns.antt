@@ -1,5 +1,5 @@
 -- Runs of calls of a receiver, and what they hand out.
-use Rattle.std.specs.Prelude.{◌≡◌, ℕ, ◌≤◌, ◌==◌, true, false, if◌then◌else◌, List, [], ◌∷◌, ◌++◌, Option, Some, None}
+use Rattle.std.specs.Prelude.{◌≡◌, ℕ, ◌≤◌, ◌==◌, Bool, true, false, not, ◌&&◌, if◌then◌else◌, List, [], ◌∷◌, ◌++◌, Option, Some, None}
 use Rattle.std.specs.List.{list_all, sum_by, filter}
 use Rattle.sctp_chunks.specs.declared.chunk.chunk_payload_data.ChunkPayloadData.{ChunkPayloadData}
 use Rattle.sctp_chunks.specs.ChunkSet.{ChunkSet}
@@ -7,7 +7,7 @@ use Rattle.sctp_chunks.specs.ForwardTsn.{ForwardTsn}
 use Rattle.sctp_reassembly.specs.reassembly_queue.Fragments.{is_complete}
 use Rattle.sctp_receiver.specs.declared.receiver.arrival.Arrival.{Arrival}
 use Rattle.sctp_receiver.specs.declared.receiver.arrival.Arrival.TheVariants.{New, Repeat}
-use Rattle.sctp_receiver.specs.Receiver.{Reception, at_first, is_open, open_stream, close_stream, Takes, without_duplicates, message_on, after_read, after_forward}
+use Rattle.sctp_receiver.specs.Receiver.{Reception, at_first, is_open, open_stream, close_stream, Takes, after_discard, without_duplicates, after_sack_within, message_on, after_read, after_forward}
 use Rattle.sctp_serial.specs.DataChunks.{is_on}
 
 -- ## One call
@@ -17,7 +17,9 @@ pub data Call : Type 0 where
   opens : ℕ → Call
   closes : ℕ → Call
   takes : ChunkPayloadData → Arrival → Call
+  discards : ℕ → Call
   reports : Call
+  reports_within : ℕ → Call
   reads : ℕ → Call
   forwards : ForwardTsn → Call
 
@@ -26,7 +28,9 @@ abbrev pub Makes : Call → Reception → Reception → Type 0
 Makes (opens stream) old new = (is_open stream old ≡ false) × (new ≡ open_stream stream old)
 Makes (closes stream) old new = new ≡ close_stream stream old
 Makes (takes c arrival) old new = Takes c arrival old new
+Makes (discards tsn) old new = new ≡ after_discard tsn old
 Makes reports old new = new ≡ without_duplicates old
+Makes (reports_within bytes) old new = new ≡ after_sack_within bytes old
 Makes (reads stream) old new = new ≡ after_read stream old
 Makes (forwards f) old new = new ≡ after_forward f old
 
@@ -44,11 +48,13 @@ pub record Stand : Type 0 where
   pub read : List Message
 
 abbrev pub accepted_after : Call → List ChunkPayloadData → List ChunkPayloadData
-accepted_after (takes c New) cs = c ∷ cs
+accepted_after (takes c (New complete)) cs = c ∷ cs
 accepted_after (takes c Repeat) cs = cs
 accepted_after (opens stream) cs = cs
 accepted_after (closes stream) cs = cs
+accepted_after (discards tsn) cs = cs
 accepted_after reports cs = cs
+accepted_after (reports_within bytes) cs = cs
 accepted_after (reads stream) cs = cs
 accepted_after (forwards f) cs = cs
 
@@ -61,7 +67,9 @@ messages_after (reads stream) r ms = with_message stream (message_on stream r) m
 messages_after (takes c arrival) r ms = ms
 messages_after (opens stream) r ms = ms
 messages_after (closes stream) r ms = ms
+messages_after (discards tsn) r ms = ms
 messages_after reports r ms = ms
+messages_after (reports_within bytes) r ms = ms
 messages_after (forwards f) r ms = ms
 
 -- one call, and calls one after another
@@ -87,6 +95,31 @@ AfterEachRun P =
 -- each message that was read is complete: its first fragment begins, its last one ends, and TSNs rise by one
 abbrev pub AreComplete : Stand → Type 0
 AreComplete s = list_all (λ m. is_complete m.fragments) s.read ≡ true
+
+-- it is of the same stream, unordered as the other is, and ordered with the same stream sequence number
+abbrev pub is_like : ChunkPayloadData → ChunkPayloadData → Bool
+is_like x y =
+    (y.stream_identifier == x.stream_identifier)
+    && (if x.unordered then y.unordered
+    else not y.unordered && (y.stream_sequence_number == x.stream_sequence_number))
+
+-- no fragment ends but the last
+abbrev pub none_ends_before : ChunkPayloadData → List ChunkPayloadData → Bool
+none_ends_before x [] = true
+none_ends_before x (y ∷ ys) = not x.ending_fragment && none_ends_before y ys
+
+-- fragments of one message: all are like the first, and of an unordered message none begins but the first, and none ends but
+-- the last. An ordered message may have such inside, where a peer sets the flags so
+abbrev pub is_one_message : List ChunkPayloadData → Bool
+is_one_message [] = true
+is_one_message (x ∷ ys) =
+    list_all (is_like x) ys
+    && (if x.unordered
+    then list_all (λ y. not y.beginning_fragment) ys && none_ends_before x ys else true)
+
+-- each message that was read is made of fragments of one message
+abbrev pub AreOfOneMessage : Stand → Type 0
+AreOfOneMessage s = list_all (λ m. is_one_message m.fragments) s.read ≡ true
 
 -- the fragments of the messages that were read on a stream
 abbrev pub fragments_read : ℕ → List Message → List ChunkPayloadData

@@ -1,5 +1,5 @@
 -- The TSNs that came: the cumulative one, and those beyond it (RFC 4960 6.2; RFC 3758 3.6).
-use Rattle.std.specs.Prelude.{ℕ, ◌^◌, ◌==◌, Bool, true, false, not, ◌&&◌, ◌||◌, nat_lt, List, [], ◌∷◌, ◌++◌, map}
+use Rattle.std.specs.Prelude.{ℕ, ◌-◌, ◌^◌, ◌==◌, Bool, true, false, not, ◌&&◌, ◌||◌, nat_lt, List, [], ◌∷◌, ◌++◌, length, map, slice_get, unwrap_or}
 use Rattle.std.specs.List.{list_any, filter}
 use Rattle.sctp_list_lemmas.specs.Kept.{runs_of}
 use Rattle.sctp_list_lemmas.specs.Lists.{advance_over, insert_before, Seen}
@@ -28,6 +28,10 @@ has_come tsn f = at_or_before tsn f.cumulative_tsn || list_any (λ t. t == tsn) 
 -- half the circle from the cumulative TSN, and so neither before nor after it (RFC 1982 3.2)
 abbrev pub is_opposite : ℕ → Filter → Bool
 is_opposite tsn f = distance f.cumulative_tsn tsn == 2 ^ 31
+
+-- the highest TSN that came: the last of those beyond, or the cumulative one
+abbrev pub highest_tsn : Filter → ℕ
+highest_tsn f = unwrap_or (slice_get f.beyond (length f.beyond - 1)) f.cumulative_tsn
 
 -- ## What a TSN makes of it
 

@@ -1,12 +1,15 @@
 //! What holds after every run of calls of a receiver: a law, the contract of a function that does nothing.
 
-ghost use Rattle.sctp_receiver.specs.ReceiverRuns.{AfterEachRun, AreComplete, WereAccepted};
+ghost use Rattle.sctp_receiver.specs.ReceiverRuns.{AfterEachRun, AreComplete, AreOfOneMessage, WereAccepted};
 
 /// Whatever chunks come to a receiver, and whichever streams are opened and closed, each message that it hands out is complete: its
-/// fragments have consecutive TSNs, the first begins and the last ends. They are chunks of its stream that the receiver took as
-/// new, and none of those serves in two messages, or twice in one. The runs have no `restore`: by that a receiver stands as it
-/// stood when it was saved, and hands out again what was read since.
+/// fragments have consecutive TSNs, the first begins and the last ends. They are alike: all unordered, or all ordered with one stream
+/// sequence number; inside an unordered message none begins and none ends. They are chunks of its stream that the receiver took as
+/// new, and none of those serves in two messages, or twice in one. Inside an ordered message a fragment may begin or end, where a
+/// peer sends such flags. The runs have no `restore`: by that a receiver stands as it stood when it was saved, and hands out again
+/// what was read since.
 pub fn messages_are_of_accepted_chunks()
     ensures complete { AfterEachRun AreComplete }
+    ensures alike { AfterEachRun AreOfOneMessage }
     ensures accepted { AfterEachRun WereAccepted }
 {}

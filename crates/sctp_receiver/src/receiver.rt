@@ -1,26 +1,27 @@
 //! The receiving half of a link (RFC 4960 6.2; RFC 3758 3.6).
 
-ghost use Rattle.std.specs.Prelude.{◌≡◌, ◌==◌, ◌⊎◌, true, false, not, None, Some, OnOk, OnErr, IfOk, IfErr, IsOk, IsOkUnless, option_map, option_copied, is_some, map, length, if◌then◌else◌};
+ghost use Rattle.std.specs.Prelude.{◌≡◌, ◌==◌, ◌⊎◌, true, false, not, None, Some, OnOk, OnErr, IfOk, IfErr, IsOk, IsOkUnless, option_map, option_copied, is_some, map, min, length, ◌-◌, ◌^◌, if◌then◌else◌};
 ghost use Rattle.sctp_receiver.specs.Inbound.{named_forwarded};
 ghost use Rattle.sctp_receiver.specs.declared.receiver.refusal.ReceiverRefusal.TheVariants.{StreamOpen, StreamUnknown, OutOfMemory};
 
 pub mod arrival;
 pub mod data_each;
 pub mod inbound_streams;
+pub mod limits;
 pub mod refusal;
 pub mod sack_out;
 pub mod saved;
 pub mod tsn_filter;
 
 use self::arrival::{Arrival, Forwarded};
-use self::inbound_streams::InboundStreams;
+use self::inbound_streams::{InboundStream, InboundStreams};
 use self::refusal::ReceiverRefusal;
 use self::tsn_filter::TsnFilter;
 use sctp_base::util::sna32lte;
 use sctp_chunks::chunk::chunk_forward_tsn::{ChunkForwardTsn, ChunkForwardTsnStream};
-use sctp_chunks::chunk::chunk_payload_data::ChunkPayloadData;
-use sctp_reassembly::chunks::Chunks;
+use sctp_chunks::chunk::chunk_payload_data::{ChunkPayloadData, PayloadProtocolIdentifier};
 use sctp_outbound::payload_queue::PayloadQueue;
+use sctp_reassembly::chunks::Chunks;
 use sctp_reassembly::reassembly_queue::ReassemblyQueue;
 use sctp_stream::stream::DataChannelStats;
 use std::alloc::Global;
@@ -58,7 +59,8 @@ impl Receiver {
     ghost use Rattle.sctp_chunks.specs.ForwardTsn.{forward_tsn_of};
     ghost use Rattle.sctp_reassembly.specs.reassembly_queue.ReassemblyQueue.{at_start};
     ghost use Rattle.sctp_receiver.specs.TsnFilter.{mark};
-    ghost use Rattle.sctp_receiver.specs.Receiver.{at_first, stream_of, is_open, open_stream, close_stream, data_refusal, IsRefusedFor, takes_memory, arrival_of, Takes, message_on, after_read, forward_refusal, forwarded_of, after_forward};
+    ghost use Rattle.sctp_serial.specs.DataChunks.{bytes_of};
+    ghost use Rattle.sctp_receiver.specs.Receiver.{at_first, stream_of, is_open, open_stream, close_stream, data_refusal, IsRefusedFor, takes_memory, arrival_of, is_told_complete, Takes, discard_refusal, after_discard, message_on, readable_streams, after_read, forward_refusal, forwarded_of, after_forward};
 
     /// A receiver with no stream, to which nothing came. The first TSN is expected next, and a message may have
     /// `max_message_size` bytes. It takes no memory.
@@ -96,8 +98,9 @@ impl Receiver {
         self.streams.close(stream);
     }
 
-    /// Takes a DATA chunk (RFC 4960 6.2): `New`, where its TSN is new, and `Repeat`, where it came before or a FORWARD-TSN skipped it;
-    /// then the next SACK reports it as a duplicate. The refusals, in the order in which they are looked for:
+    /// Takes a DATA chunk (RFC 4960 6.2): `New`, where its TSN is new, with whether a message of its stream became complete with it;
+    /// and `Repeat`, where it came before or a FORWARD-TSN skipped it: then the next SACK reports it as a duplicate. The refusals, in
+    /// the order in which they are looked for:
     ///
     /// - `TsnOpposite`, where the TSN is neither before nor after the cumulative one;
     /// - `StreamUnknown`, where its stream is not open;
@@ -106,7 +109,8 @@ impl Receiver {
     ///
     /// The receiver is as it was then. The chunk that is expected next passes no filter.
     pub fn data(&mut self, chunk: &ChunkPayloadData) -> Result<Arrival, ReceiverRefusal>
-        ensures answer { IfOk result (λ arrival. arrival ≡ arrival_of chunk.now self.old) }
+        ensures answer { IfOk result (λ arrival. arrival
+            ≡ arrival_of chunk.now.tsn (is_told_complete arrival) self.old) }
         ensures ok { IfOk result (λ arrival. Takes chunk.now arrival self.old self.new) }
         ensures accepted { IsOk result → data_refusal chunk.now self.old ≡ None }
         ensures refused { IfErr result (λ e. IsRefusedFor (data_refusal chunk.now self.old) e) }
@@ -127,9 +131,32 @@ impl Receiver {
         if self.filter.reserve_for(chunk.tsn).is_err() {
             return Err(self.streams.refusal_at(place, chunk));
         }
-        self.streams.push_at(place, chunk)?;
+        let complete = self.streams.push_at(place, chunk)?;
         self.filter.accept(chunk.tsn);
-        Ok(Arrival::New)
+        Ok(Arrival::New { complete })
+    }
+
+    /// Takes the TSN of a DATA chunk that is dropped, as one of a stream that is not open, or of a message that is too long (RFC 4960
+    /// 6.5): it counts as come, and is acknowledged. `New`, with no message complete, where it is new, and `Repeat`, where it
+    /// came before: then the next SACK reports it as a duplicate. Refuses with `TsnOpposite`, where the TSN is neither before
+    /// nor after the cumulative one, and else only for memory. The receiver is as it was then.
+    pub fn discard(&mut self, tsn: u32) -> Result<Arrival, ReceiverRefusal>
+        ensures answer { IfOk result (λ arrival. arrival ≡ arrival_of tsn false self.old) }
+        ensures ok { OnOk result (self.new ≡ after_discard tsn self.old) }
+        ensures accepted { IsOk result → discard_refusal tsn self.old ≡ None }
+        ensures refused { IfErr result (λ e. IsRefusedFor (discard_refusal tsn self.old) e) }
+        ensures err { OnErr result (self.new ≡ self.old) }
+    {
+        if self.filter.has_come(tsn) {
+            self.filter.record_duplicate(tsn)?;
+            return Ok(Arrival::Repeat);
+        }
+        if self.filter.is_opposite(tsn) {
+            return Err(ReceiverRefusal::TsnOpposite);
+        }
+        self.filter.reserve_for(tsn)?;
+        self.filter.accept(tsn);
+        Ok(Arrival::New { complete: false })
     }
 
     /// Takes the next message of a stream out, where there is one: the first complete unordered one, else the ordered
@@ -147,6 +174,35 @@ impl Receiver {
             return Err(ReceiverRefusal::StreamUnknown);
         };
         Ok(self.streams.read_at(place, stream))
+    }
+
+    /// The open streams, in the order in which they were opened: what came on each and was not read, and its counters.
+    pub fn open_streams(&self) -> &[InboundStream]
+        ensures { result.now ≡ self.now.streams }
+    {
+        self.streams.as_slice()
+    }
+
+    /// The length in bytes, or the greatest usize where it is more, and the payload type of the message that `read` would give; None where
+    /// it would give none, or the stream is not open. Nothing is taken out.
+    pub fn next_len(&self, stream: u16) -> Option<(usize, PayloadProtocolIdentifier)>
+        ensures { result ≡ option_map (λ s. (min (bytes_of s.chunks) (2 ^ 64 - 1), s.ppi))
+            (message_on stream self.now) }
+    {
+        match self.streams.find(stream) {
+            Some(inbound) => inbound.queue.next_len(),
+            None => None,
+        }
+    }
+
+    /// The numbers of the streams with a message to read, in the order in which they were opened. It looks at each open stream once;
+    /// after one chunk the answer of `data` tells it at no cost. Refuses only for memory.
+    pub fn readable_streams(&self) -> Result<Vec<u16>, ReceiverRefusal>
+        ensures ok { IfOk result
+            (λ numbers. numbers.items ≡ readable_streams self.now.streams) }
+        ensures memory { IfErr result (λ e. e ≡ OutOfMemory) }
+    {
+        self.streams.readable(self.alloc)
     }
 
     /// Whether `read` would give a message of the stream; false where it is not open.

@@ -1,11 +1,16 @@
 -- A sender accounts for each byte that was written.
-use Rattle.std.proofs.Common.{◌≡◌, ◌+◌, ◌-◌, ◌^◌, List, [], ◌∷◌, refl, ap, sym, subst, ◌∙◌, arith}
+use Rattle.std.proofs.Common.{◌≡◌, ◌+◌, ◌-◌, ◌^◌, List, [], ◌∷◌, true, length, take, drop, refl, ap, sym, subst, ◌∙◌, arith}
 use Rattle.std.specs.Prelude.{min}
-use Rattle.sctp_outbound.specs.Marks.{with_nsent}
+use Rattle.std.proofs.lemmas.List.{take-append-drop}
+use Rattle.std.proofs.lemmas.List.Sums.{sum_by-append}
+use Rattle.sctp_list_lemmas.specs.Lists.{change_where}
+use Rattle.sctp_chunks.specs.declared.chunk.chunk_payload_data.ChunkPayloadData.{ChunkPayloadData}
+use Rattle.sctp_outbound.specs.Marks.{is_outstanding, with_nsent, with_retransmit}
 use Rattle.sctp_outbound.proofs.lemmas.pending_queue.Waiting.{bytes_of-change_where}
-use Rattle.sctp_serial.specs.DataChunks.{has_tsn}
+use Rattle.sctp_serial.specs.DataChunks.{bytes_of, has_tsn}
+use Rattle.sctp_sender.specs.Resending.{can_miss, missed, sent_again}
 use Rattle.sctp_sender.specs.Sender.{Transmission}
-use Rattle.sctp_sender.specs.SenderRuns.{AfterEachRun, Call, Follows, IsAccounted, Ledger, Makes, RunsTo, at_start, held_by_sender, abandons, abandons_late, closes, opens, released_by, resends, reserves, sends, sets_mode, starts, takes_sack, writes, written_by}
+use Rattle.sctp_sender.specs.SenderRuns.{AfterEachRun, Call, Follows, IsAccounted, Ledger, Makes, RunsTo, at_start, held_by_sender, abandons, abandons_late, closes, marks, misses, opens, released_by, resends, resends_at, reserves, resets, sends, sets_low, sets_mode, sets_size, starts, takes_sack, writes, written_by}
 use Rattle.sctp_sender.proofs.Amounts.{started-bytes}
 
 -- what a call makes of the bytes that wait and are in flight
@@ -15,6 +20,25 @@ moves (closes stream) old new m = let e = ap held_by_sender m in omega (arith, e
 moves (sets_mode stream unordered reliability value) old new m = let e = ap held_by_sender m in omega (arith, e)
 moves (starts now) old new m = let e = ap held_by_sender m ∙ started-bytes now old.flight.queue in omega (arith, e)
 moves (reserves count) old new m = let e = ap held_by_sender m in omega (arith, e)
+moves (sets_size size) old new m = let e = ap held_by_sender m in omega (arith, e)
+moves (sets_low stream bytes) old new m = let e = ap held_by_sender m in omega (arith, e)
+moves (resets stream) old new m = let e = ap held_by_sender m in omega (arith, e)
+moves (resends_at tsn now c) old new m =
+    let e = ap held_by_sender m in
+    let b = bytes_of-change_where (has_tsn tsn) (sent_again (min (c.nsent + 1) (2 ^ 32 - 1)) now) (λ _. refl) old.flight.queue.inflight.chunks in
+    omega (arith, e, b)
+moves marks old new m =
+    let e = ap held_by_sender m in
+    let b = bytes_of-change_where is_outstanding (with_retransmit true) (λ _. refl) old.flight.queue.inflight.chunks in
+    omega (arith, e, b)
+moves (misses count) old new m =
+    let cs = old.flight.queue.inflight.chunks in
+    let e = ap held_by_sender m in
+    let a = sum_by-append (λ (x : ChunkPayloadData). length x.user_data) (change_where can_miss missed (take count cs)) (drop count cs) in
+    let b = bytes_of-change_where can_miss missed (λ _. refl) (take count cs) in
+    let d = ap bytes_of (take-append-drop count cs) in
+    let f = sum_by-append (λ (x : ChunkPayloadData). length x.user_data) (take count cs) (drop count cs) in
+    omega (arith, e, a, b, d, f)
 moves (resends tsn c) old new m =
     let e = ap held_by_sender m in
     let b = bytes_of-change_where (has_tsn tsn) (with_nsent (min (c.nsent + 1) (2 ^ 32 - 1))) (λ _. refl) old.flight.queue.inflight.chunks in

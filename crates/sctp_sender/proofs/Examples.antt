@@ -1,14 +1,16 @@
 -- Worked examples, by computation.
-use Rattle.std.proofs.Common.{◌≡◌, ℕ, Bool, true, false, List, [], ◌∷◌, Some, None, refl}
+use Rattle.std.proofs.Common.{◌≡◌, ℕ, Bool, true, false, List, [], ◌∷◌, map, option_map, find, Some, refl}
 use Rattle.sctp_chunks.specs.ChunkSet.{fresh}
 use Rattle.sctp_chunks.specs.declared.chunk.chunk_payload_data.PayloadProtocolIdentifier.TheVariants as identifiers
 use Rattle.sctp_chunks.specs.declared.chunk.chunk_payload_data.ChunkPayloadData.{ChunkPayloadData}
+use Rattle.sctp_chunks.specs.declared.chunk.chunk_payload_data.PayloadProtocolIdentifier.{PayloadProtocolIdentifier}
+use Rattle.sctp_chunks.specs.declared.chunk.chunk_payload_data.ReliabilityType.TheVariants.{Rexmit}
 use Rattle.sctp_outbound.specs.Marks.{as_acknowledged, as_abandoned}
 use Rattle.sctp_sender.specs.Flight as flight
 use Rattle.sctp_sender.specs.Flight.{Flight}
 use Rattle.sctp_sender.specs.Abandonment.{advanced_ack_point}
 use Rattle.sctp_sender.specs.Late.{late_order, leaving_each}
-
+use Rattle.sctp_sender.specs.Resending.{after_misses, is_to_resend, thirds, worn_tsns}
 
 abbrev fragment : ℕ → Bool → Bool → List ℕ → ChunkPayloadData
 fragment tsn begins ends bytes = fresh (record {
@@ -49,3 +51,31 @@ leaves = refl
 
 early : late_order 4 past_deadline ≡ []
 early = refl
+
+-- ## What is sent again
+
+-- a chunk that is missing for the third time is marked, and is not counted again
+abbrev missed_twice : Flight
+missed_twice = in_flight (record (fragment 103 true true (1 ∷ [])) { miss_indicator = 2 } ∷ fragment 104 true true (1 ∷ []) ∷ [])
+
+third : map (λ (c : ChunkPayloadData). c.tsn) (thirds 2 missed_twice) ≡ 103 ∷ []
+third = refl
+
+marked : option_map (λ (c : ChunkPayloadData). c.tsn) (find is_to_resend (after_misses 2 missed_twice).queue.inflight.chunks) ≡ Some 103
+marked = refl
+
+fourth : thirds 2 (after_misses 2 missed_twice) ≡ []
+fourth = refl
+
+-- one sending after the first is allowed: a marked chunk that was sent twice is worn out, unless it is of a DCEP message
+abbrev marked_after : ℕ → PayloadProtocolIdentifier → Flight
+marked_after count ppi = in_flight (record (fragment 103 true true (1 ∷ [])) { payload_type = ppi; reliability = Some (Rexmit, 1); nsent = count; retransmit = true } ∷ [])
+
+worn : worn_tsns (marked_after 2 identifiers.Binary) ≡ 103 ∷ []
+worn = refl
+
+not_yet : worn_tsns (marked_after 1 identifiers.Binary) ≡ []
+not_yet = refl
+
+never : worn_tsns (marked_after 9 identifiers.Dcep) ≡ []
+never = refl

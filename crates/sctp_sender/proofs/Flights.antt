@@ -109,7 +109,7 @@ put-in f x cs inv same is =
 
 -- ## Sending
 
-started-inflight : (now : ℕ) (q : Outbound) → (all_started now q).inflight ≡ q.inflight
+pub started-inflight : (now : ℕ) (q : Outbound) → (all_started now q).inflight ≡ q.inflight
 started-inflight now q = by (q.next_unstarted == q.next_message_id)
   where
     by : (b : Bool) → (if b then q else record q { pending = start_pending q.next_unstarted now q.pending; next_unstarted = q.next_message_id }).inflight ≡ q.inflight

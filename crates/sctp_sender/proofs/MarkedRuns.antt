@@ -1,5 +1,5 @@
 -- A walk over a run of chunks that changes some of them.
-use Rattle.std.proofs.Common.{◌≡◌, ℕ, ◌+◌, ◌<◌, ◌≤◌, ◌%◌, ◌^◌, Bool, true, false, List, [], ◌∷◌, ◌++◌, length, map, take, drop, ◌-◌, get_or, set, Some, refl, ap, sym, ◌∙◌, arith}
+use Rattle.std.proofs.Common.{◌≡◌, ℕ, ◌+◌, ◌<◌, ◌≤◌, ◌%◌, ◌^◌, Bool, true, false, List, [], ◌∷◌, ◌++◌, length, length-append, map, take, drop, ◌-◌, get_or, set, Some, refl, ap, sym, ◌∙◌, arith}
 use Rattle.std.specs.Prelude.{if◌then◌else◌, find}
 use Rattle.std.proofs.lemmas.List.{length-map, length-take-le, take-append-drop, get_or-append_right, get_or-drop}
 use Rattle.std.specs.List.{filter}
@@ -25,12 +25,16 @@ tsns-append (x ∷ xs) ys = ap (λ ts. x.tsn ∷ ts) (tsns-append xs ys)
 tsns-length : (xs ys : List ChunkPayloadData) → tsns xs ≡ tsns ys → length xs ≡ length ys
 tsns-length xs ys e = sym (length-map xs (λ c. c.tsn)) ∙ ap length e ∙ length-map ys (λ c. c.tsn)
 
+-- a change of the first so many that keeps TSNs
+pub part-run : (p : ChunkPayloadData → Bool) (f : ChunkPayloadData → ChunkPayloadData) → ((c : ChunkPayloadData) → (f c).tsn ≡ c.tsn) → (cs : List ChunkPayloadData) (i : ℕ) → tsns (change_where p f (take i cs) ++ drop i cs) ≡ tsns cs
+part-run p f keeps cs i =
+    tsns-append (change_where p f (take i cs)) (drop i cs) ∙ ap (λ ts. ts ++ tsns (drop i cs)) (changed-run p f keeps (take i cs))
+    ∙ sym (tsns-append (take i cs) (drop i cs)) ∙ ap tsns (take-append-drop i cs)
+
 module _ (p : ChunkPayloadData → Bool) (f : ChunkPayloadData → ChunkPayloadData) (keeps : (c : ChunkPayloadData) → (f c).tsn ≡ c.tsn) (cs ys : List ChunkPayloadData) (first i : ℕ)
     (small : first < 2 ^ 32) (run : IsRunFrom first cs) (few : length cs < 2 ^ 31) (lt : i < length cs) (so_far : ys ≡ change_where p f (take i cs) ++ drop i cs) where
   same : tsns ys ≡ tsns cs
-  same =
-      ap tsns so_far ∙ tsns-append (change_where p f (take i cs)) (drop i cs) ∙ ap (λ ts. ts ++ tsns (drop i cs)) (changed-run p f keeps (take i cs))
-      ∙ sym (tsns-append (take i cs) (drop i cs)) ∙ ap tsns (take-append-drop i cs)
+  same = ap tsns so_far ∙ part-run p f keeps cs i
 
   count : length ys ≡ length cs
   count = tsns-length ys cs same
@@ -54,6 +58,12 @@ module _ (p : ChunkPayloadData → Bool) (f : ChunkPayloadData → ChunkPayloadD
         change_where-only (has_tsn ((first + i) % 2 ^ 32)) f ys i x (only-at ys first i small its-run (omega (arith, few, count)) (omega (arith, lt, count)))
         ∙ ap (λ c. set ys i (f c)) (sym read) ∙ changed_step p f cs ys i x lt so_far read h
 
+    -- the same by a change that makes of the chunk what f makes
+    pub marked-as : (g : ChunkPayloadData → ChunkPayloadData) → g x ≡ f x → p x ≡ true → change_where (has_tsn ((first + i) % 2 ^ 32)) g ys ≡ change_where p f (take (i + 1) cs) ++ drop (i + 1) cs
+    marked-as g e h =
+        change_where-only (has_tsn ((first + i) % 2 ^ 32)) g ys i x (only-at ys first i small its-run (omega (arith, few, count)) (omega (arith, lt, count)))
+        ∙ ap (λ c. set ys i (g c)) (sym read) ∙ ap (set ys i) e ∙ changed_step p f cs ys i x lt so_far read h
+
     pub its-tsn : x.tsn ≡ (first + i) % 2 ^ 32
     its-tsn = ap (λ (c : ChunkPayloadData). c.tsn) read ∙ tsn-at ys first i x small its-run (omega (arith, lt, count))
 
@@ -64,8 +74,18 @@ module _ (p : ChunkPayloadData → Bool) (f : ChunkPayloadData → ChunkPayloadD
         let none : i + (i - i) ≡ i = omega arith in
         read ∙ ap (λ zs. get_or zs i x) so_far ∙ get_or-append_right (change_where p f (take i cs)) (drop i cs) i i x short (omega arith) ∙ get_or-drop i cs (i - i) x ∙ ap (λ k. get_or cs k x) none
 
+    pub told-of : (r : ChunkPayloadData → Bool) → filter r (take (i + 1) cs) ≡ filter r (take i cs) ++ (if r x then x ∷ [] else [])
+    told-of r = those-more r cs i x lt ∙ ap (λ y. filter r (take i cs) ++ (if r y then y ∷ [] else [])) (sym old)
+
     pub told : filter p (take (i + 1) cs) ≡ filter p (take i cs) ++ (if p x then x ∷ [] else [])
-    told = those-more p cs i x lt ∙ ap (λ y. filter p (take i cs) ++ (if p y then y ∷ [] else [])) (sym old)
+    told = told-of p
+
+    pub counted-of : (r : ChunkPayloadData → Bool) (b : Bool) → r x ≡ b → length (filter r (take (i + 1) cs)) ≡ length (filter r (take i cs)) + (if b then 1 else 0)
+    counted-of r b e = ap length (told-of r ∙ ap (λ k. filter r (take i cs) ++ (if k then x ∷ [] else [])) e) ∙ by b
+      where
+        by : (k : Bool) → length (filter r (take i cs) ++ (if k then x ∷ [] else [])) ≡ length (filter r (take i cs)) + (if k then 1 else 0)
+        by true = length-append (filter r (take i cs)) (x ∷ [])
+        by false = length-append (filter r (take i cs)) []
 
 pub told-short : {B : Type 0} (p : ChunkPayloadData → Bool) (g : ChunkPayloadData → B) (cs : List ChunkPayloadData) (i : ℕ) → i ≤ length cs → length (map g (filter p (take i cs))) ≤ i
 told-short p g cs i le = let a = length-map (filter p (take i cs)) g in let b = those-short p (take i cs) in let d = length-take-le i cs le in omega arith

@@ -10,7 +10,7 @@ use Rattle.sctp_sender.specs.Flight.{Flight, IsContiguous}
 use Rattle.sctp_sender.specs.Abandonment.{advanced_ack_point, ahead, is_kept, is_named}
 use Rattle.sctp_sender.proofs.Runs.{IsRunFrom, found-at, tsn-at}
 
-found-place : (p : ChunkPayloadData → Bool) (cs : List ChunkPayloadData) (x : ChunkPayloadData) → find p cs ≡ Some x → (k : ℕ) × (k < length cs) × (x ≡ get_or cs k x)
+pub found-place : (p : ChunkPayloadData → Bool) (cs : List ChunkPayloadData) (x : ChunkPayloadData) → find p cs ≡ Some x → (k : ℕ) × (k < length cs) × (x ≡ get_or cs k x)
 found-place p [] x e = cc
 found-place p (c ∷ cs) x e = by (p c) e (found-place p cs x)
   where

@@ -17,8 +17,9 @@ use Rattle.sctp_reassembly.specs.reassembly_queue.Fragments.{payload_of}
 use Rattle.sctp_serial.specs.DataChunks.{bytes_of}
 use Rattle.sctp_stream.specs.declared.stream.StreamState.{StreamState}
 use Rattle.sctp_sender.specs.declared.sender.refusal.SenderRefusal.{SenderRefusal}
-use Rattle.sctp_sender.specs.declared.sender.refusal.SenderRefusal.TheVariants.{StreamUnknown, MessageTooLarge, QueueFull}
+use Rattle.sctp_sender.specs.declared.sender.refusal.SenderRefusal.TheVariants.{StreamUnknown, StreamBusy, MessageTooLarge, QueueFull}
 use Rattle.sctp_sender.specs.Sender.{Transmission, is_open, is_full, write_refusal}
+use Rattle.sctp_sender.specs.Settings.{is_drained, reset_refusal}
 use Rattle.sctp_stream.specs.Numbers.{IsOnlyPlace, IsAbsent}
 use Rattle.sctp_sender.specs.Outgoing.{number, numbers_of, has_number, with_reliability, fragments_with_mode}
 use Rattle.sctp_stream.specs.Stream.{fragment_at, pieces_of, new_stream}
@@ -115,3 +116,18 @@ bytes-are reliability value (c ∷ cs) =
 -- what is refused is not accepted
 pub refused-not : (s len : ℕ) (t : Transmission) (e : SenderRefusal) → write_refusal s len t ≡ Some e → len ≡ 0 → write_refusal s 0 t ≡ None → false ≡ true
 refused-not s len t e is zero' none = let same : write_refusal s len t ≡ write_refusal s 0 t = ap (λ n. write_refusal s n t) zero' in absurd (cc)
+
+-- ## Why a reset is refused
+
+module _ (s : ℕ) (t : Transmission) where
+  pub reset-unknown : find (has_number s) t.streams ≡ None → reset_refusal s t ≡ Some StreamUnknown
+  reset-unknown e = ap (λ b. if not b then Some StreamUnknown else (if is_drained s t then None else Some StreamBusy)) (ap is_some e)
+
+  pub reset-known : is_open s t ≡ true → reset_refusal s t ≡ (if is_drained s t then None else Some StreamBusy)
+  reset-known e = ap (λ b. if not b then Some StreamUnknown else (if is_drained s t then None else Some StreamBusy)) e
+
+  pub reset-busy : is_open s t ≡ true → is_drained s t ≡ false → reset_refusal s t ≡ Some StreamBusy
+  reset-busy e h = reset-known e ∙ ap (λ b. if b then None else Some StreamBusy) h
+
+  pub reset-fine : is_open s t ≡ true → is_drained s t ≡ true → reset_refusal s t ≡ None
+  reset-fine e h = reset-known e ∙ ap (λ b. if b then None else Some StreamBusy) h

@@ -1,6 +1,6 @@
 -- What was acknowledged has no bytes, and stays so.
-use Rattle.std.proofs.Common.{◌≡◌, ℕ, ◌+◌, Bool, true, false, List, [], ◌∷◌, ◌++◌, length, map, Option, Some, None, refl, ap, sym, subst, ◌∙◌, arith, Result, Ok, Err}
-use Rattle.std.specs.Prelude.{IfOk, OnErr, if◌then◌else◌, ◌==◌, ◌&&◌, ◌||◌, not, find, slice_get}
+use Rattle.std.proofs.Common.{◌≡◌, ℕ, zero, suc, ◌+◌, Bool, true, false, List, [], ◌∷◌, ◌++◌, length, map, Option, Some, None, refl, ap, sym, subst, ◌∙◌, arith, Result, Ok, Err}
+use Rattle.std.specs.Prelude.{IsOk, OnErr, OnOk, drop, take, if◌then◌else◌, ◌==◌, ◌&&◌, ◌||◌, not, find, slice_get}
 use Rattle.std.proofs.lemmas.List.Sums.{sum_by-cons}
 use Rattle.std.proofs.lemmas.Option.{none-some}
 use Rattle.std.specs.List.{filter}
@@ -10,7 +10,7 @@ use Rattle.sctp_list_lemmas.proofs.More.{not_both}
 use Rattle.sctp_chunks.specs.declared.chunk.chunk_payload_data.ChunkPayloadData.{ChunkPayloadData}
 use Rattle.sctp_chunks.specs.declared.chunk.chunk_payload_data.PayloadProtocolIdentifier.{PayloadProtocolIdentifier}
 use Rattle.sctp_chunks.specs.SelectiveAck.{Sack}
-use Rattle.sctp_outbound.specs.Marks.{as_acknowledged, as_abandoned, is_of}
+use Rattle.sctp_outbound.specs.Marks.{as_acknowledged, as_abandoned, is_of, is_outstanding, with_retransmit}
 use Rattle.sctp_outbound.specs.outbound_queue.OutboundQueue.{Outbound, abandoned_of, all_started, append_chunks, terminal_chunk, expired_of, as_sent, sent_next, sent_of, total_bytes, with_terminal_chunk, with_message, with_message_id}
 use Rattle.sctp_outbound.specs.payload_queue.Blocks.{is_in_blocks}
 use Rattle.sctp_outbound.specs.payload_queue.PayloadQueue as payload
@@ -20,9 +20,10 @@ use Rattle.sctp_serial.specs.DataChunks.{bytes_of, chunk_before, has_tsn, is_on}
 use Rattle.sctp_sender.specs.declared.sender.flight.Released.{Released}
 use Rattle.sctp_sender.specs.declared.sender.refusal.SenderRefusal.{SenderRefusal}
 use Rattle.sctp_stream.specs.declared.stream.StreamState.{StreamState}
-use Rattle.sctp_sender.specs.Flight.{Flight, after_sack, is_outdated, released_by, released_of, reports_anew, resent, take_sack, message_to_abandon}
+use Rattle.sctp_sender.specs.Flight.{Flight, after_sack, can_resend, is_outdated, is_outstanding_in, is_whole, released_by, released_of, reports_anew, resent, take_sack, message_to_abandon}
 use Rattle.sctp_sender.specs.Late.{abandoned_at, abandoned_each}
 use Rattle.sctp_sender.specs.Outgoing.{fragments_with_mode, with_reliability}
+use Rattle.sctp_sender.specs.Resending.{after_misses, all_marked, can_miss, missed, resent_at}
 use Rattle.sctp_stream.specs.Stream.{fragment_at, fragments_of}
 use Rattle.sctp_sender.specs.Totals.{AreSettled, IsAllSettled, IsSettled, bytes_in}
 
@@ -55,6 +56,16 @@ changed-settled p f keep (c ∷ cs) s = (by (p c), changed-settled p f keep cs s
 joined-settled : (xs ys : List ChunkPayloadData) → AreSettled xs → AreSettled ys → AreSettled (xs ++ ys)
 joined-settled [] ys s t = t
 joined-settled (x ∷ xs) ys s t = (s.0, joined-settled xs ys s.1 t)
+
+front-of-settled : (n : ℕ) (xs : List ChunkPayloadData) → AreSettled xs → AreSettled (take n xs)
+front-of-settled zero xs s = tt
+front-of-settled (suc n) [] s = tt
+front-of-settled (suc n) (x ∷ xs) s = (s.0, front-of-settled n xs s.1)
+
+rest-of-list-settled : (n : ℕ) (xs : List ChunkPayloadData) → AreSettled xs → AreSettled (drop n xs)
+rest-of-list-settled zero xs s = s
+rest-of-list-settled (suc n) [] s = tt
+rest-of-list-settled (suc n) (x ∷ xs) s = rest-of-list-settled n xs s.1
 
 mapped-settled : {A : Type 0} (f : A → ChunkPayloadData) → ((x : A) → IsSettled (f x)) → (xs : List A) → AreSettled (map f xs)
 mapped-settled f all [] = tt
@@ -170,12 +181,31 @@ expired-settled (Some c) q a = by c.unordered
     by true = record { ordered = left.0; unordered = left.1; inflight = a.inflight }
     by false = record { ordered = changed-settled (is_on c.stream_identifier) one_lower (λ d s. s) (without c.message_id q.pending).ordered left.0; unordered = left.1; inflight = a.inflight }
 
+resent-at-settled : (tsn now : ℕ) (c : ChunkPayloadData) (f : Flight) → IsAllSettled f.queue → IsAllSettled (resent_at tsn now c f).queue
+resent-at-settled tsn now c f a = record { ordered = a.ordered; unordered = a.unordered; inflight = changed-settled (has_tsn tsn) _ (λ d s. s) f.queue.inflight.chunks a.inflight }
+
 resent-settled : (tsn : ℕ) (c : ChunkPayloadData) (f : Flight) → IsAllSettled f.queue → IsAllSettled (resent tsn c f).queue
 resent-settled tsn c f a = record { ordered = a.ordered; unordered = a.unordered; inflight = changed-settled (has_tsn tsn) _ (λ d s. s) f.queue.inflight.chunks a.inflight }
 
-pub resend-settled : (tsn : ℕ) (f g : Flight) (r : Result ChunkPayloadData SenderRefusal) → IfOk r (λ c. g ≡ resent tsn c f) → OnErr r (g ≡ f) → IsAllSettled f.queue → IsAllSettled g.queue
-resend-settled tsn f g (Ok c) ok err a = subst (λ (h : Flight). IsAllSettled h.queue) (sym ok) (resent-settled tsn c f a)
-resend-settled tsn f g (Err e) ok err a = subst (λ (h : Flight). IsAllSettled h.queue) (sym err) a
+pub resend-settled : (tsn now : ℕ) (f g : Flight) (r : Result ChunkPayloadData SenderRefusal) → OnOk r ((c : ChunkPayloadData) → find (has_tsn tsn) f.queue.inflight.chunks ≡ Some c → g ≡ resent_at tsn now c f) → (IsOk r → can_resend tsn f ≡ true) → OnErr r (g ≡ f) → IsAllSettled f.queue → IsAllSettled g.queue
+resend-settled tsn now f g (Ok x) ok may err a = by (find (has_tsn tsn) f.queue.inflight.chunks) refl (may refl)
+  where
+    by : (o : Option ChunkPayloadData) → find (has_tsn tsn) f.queue.inflight.chunks ≡ o → is_outstanding_in o ≡ true → IsAllSettled g.queue
+    by None e h = absurd (not_both h)
+    by (Some c) e h = subst (λ (k : Flight). IsAllSettled k.queue) (sym (ok c e)) (resent-at-settled tsn now c f a)
+resend-settled tsn now f g (Err e) ok may err a = subst (λ (h : Flight). IsAllSettled h.queue) (sym err) a
+
+pub all-marked-settled : (f : Flight) → IsAllSettled f.queue → IsAllSettled (all_marked f).queue
+all-marked-settled f a = record { ordered = a.ordered; unordered = a.unordered; inflight = changed-settled is_outstanding (with_retransmit true) (λ c s. s) f.queue.inflight.chunks a.inflight }
+
+pub misses-settled : (count : ℕ) (f : Flight) → IsAllSettled f.queue → IsAllSettled (after_misses count f).queue
+misses-settled count f a = record {
+  ordered = a.ordered;
+  unordered = a.unordered;
+  inflight =
+      let cs = f.queue.inflight.chunks in
+      joined-settled (change_where can_miss missed (take count cs)) (drop count cs) (changed-settled can_miss missed (λ c s. s) (take count cs) (front-of-settled count cs a.inflight)) (rest-of-list-settled count cs a.inflight);
+}
 
 pub count-settled : (tsn : ℕ) (f g : Flight) → ((c : ChunkPayloadData) → find (has_tsn tsn) f.queue.inflight.chunks ≡ Some c → g ≡ resent tsn c f) → (find (has_tsn tsn) f.queue.inflight.chunks ≡ None → g ≡ f) → IsAllSettled f.queue → IsAllSettled g.queue
 count-settled tsn f g some none a = by (find (has_tsn tsn) f.queue.inflight.chunks) refl
@@ -205,6 +235,13 @@ size c = length c.user_data
 abbrev told : Released → ℕ
 told r = r.bytes
 
+-- what is told hangs on the messages that are whole alone
+pub same-told : (w v : ℕ → Bool) → ((m : ℕ) → w m ≡ v m) → (cs : List ChunkPayloadData) → map (released_of w) cs ≡ map (released_of v) cs
+same-told w v h [] = refl
+same-told w v h (c ∷ cs) =
+    ap (λ (b : Bool). let r : Released = record (released_of w c) { is_message_acked = b } in r ∷ map (released_of w) cs) (h c.message_id)
+    ∙ ap (λ (rs : List Released). released_of v c ∷ rs) (same-told w v h cs)
+
 -- a chunk that is reported cumulatively, and not anew, was acknowledged
 was-acked : (a b d : Bool) → (not a && (b || d)) ≡ false → b ≡ true → a ≡ true
 was-acked true b d e h = refl
@@ -215,12 +252,12 @@ module _ (s : Sack) where
   abbrev after : List ChunkPayloadData → List ChunkPayloadData
   after cs = past s.cumulative_tsn_ack (change_where (reports_anew s) as_acknowledged cs)
 
-  abbrev gone : List ChunkPayloadData → List Released
-  gone cs = map released_of (filter (reports_anew s) cs)
+  abbrev gone : (ℕ → Bool) → List ChunkPayloadData → List Released
+  gone w cs = map (released_of w) (filter (reports_anew s) cs)
 
-  weigh : (cs : List ChunkPayloadData) → AreSettled cs → bytes_of (after cs) + bytes_in (gone cs) ≡ bytes_of cs
-  weigh [] t = refl
-  weigh (c ∷ cs) t = by (reports_anew s c) refl (weigh cs t.1)
+  weigh : (w : ℕ → Bool) (cs : List ChunkPayloadData) → AreSettled cs → bytes_of (after cs) + bytes_in (gone w cs) ≡ bytes_of cs
+  weigh w [] t = refl
+  weigh w (c ∷ cs) t = by (reports_anew s c) refl (weigh w cs t.1)
     where
       all : bytes_of (c ∷ cs) ≡ size c + bytes_of cs
       all = sum_by-cons size c cs
@@ -233,10 +270,10 @@ module _ (s : Sack) where
       other true none = let z = none refl in omega (arith, z)
       other false none = sum_by-cons size c (after cs)
 
-      by : (b : Bool) → reports_anew s c ≡ b → bytes_of (after cs) + bytes_in (gone cs) ≡ bytes_of cs → bytes_of (past s.cumulative_tsn_ack ((if b then as_acknowledged c else c) ∷ change_where (reports_anew s) as_acknowledged cs)) + bytes_in (map released_of (if b then c ∷ filter (reports_anew s) cs else filter (reports_anew s) cs)) ≡ bytes_of (c ∷ cs)
+      by : (b : Bool) → reports_anew s c ≡ b → bytes_of (after cs) + bytes_in (gone w cs) ≡ bytes_of cs → bytes_of (past s.cumulative_tsn_ack ((if b then as_acknowledged c else c) ∷ change_where (reports_anew s) as_acknowledged cs)) + bytes_in (map (released_of w) (if b then c ∷ filter (reports_anew s) cs else filter (reports_anew s) cs)) ≡ bytes_of (c ∷ cs)
       by true e ih =
           let a = anew (at_or_before c.tsn s.cumulative_tsn_ack) in
-          let r = sum_by-cons told (released_of c) (gone cs) in
+          let r = sum_by-cons told (released_of w c) (gone w cs) in
           omega (arith, a, r, ih, all)
       by false e ih =
           let o = other (at_or_before c.tsn s.cumulative_tsn_ack) (λ h. t.0 (was-acked c.acked (at_or_before c.tsn s.cumulative_tsn_ack) (is_in_blocks s.gap_ack_blocks (distance s.cumulative_tsn_ack c.tsn)) e h)) in
@@ -245,13 +282,13 @@ module _ (s : Sack) where
   pub sack-bytes : (f : Flight) → AreSettled f.queue.inflight.chunks → total_bytes (after_sack s f).queue + bytes_in (released_by s f) ≡ total_bytes f.queue
   sack-bytes f t = by (is_outdated s f)
     where
-      by : (b : Bool) → total_bytes (if b then f else take_sack s f).queue + bytes_in (if b then [] else gone f.queue.inflight.chunks) ≡ total_bytes f.queue
+      by : (b : Bool) → total_bytes (if b then f else take_sack s f).queue + bytes_in (if b then [] else gone (is_whole s f) f.queue.inflight.chunks) ≡ total_bytes f.queue
       by true = omega arith
-      by false = let w = weigh f.queue.inflight.chunks t in omega (arith, w)
+      by false = let w = weigh (is_whole s f) f.queue.inflight.chunks t in omega (arith, w)
 
-  pub after-bytes : (f g : Flight) (items : List Released) → is_outdated s f ≡ false → g ≡ after_sack s f → items ≡ gone f.queue.inflight.chunks → AreSettled f.queue.inflight.chunks → total_bytes g.queue + bytes_in items ≡ total_bytes f.queue
+  pub after-bytes : (f g : Flight) (items : List Released) → is_outdated s f ≡ false → g ≡ after_sack s f → items ≡ gone (is_whole s f) f.queue.inflight.chunks → AreSettled f.queue.inflight.chunks → total_bytes g.queue + bytes_in items ≡ total_bytes f.queue
   after-bytes f g items current is told-is t =
       let q = ap (λ (h : Flight). total_bytes h.queue) is in
-      let r = ap bytes_in told-is ∙ ap (λ b. bytes_in (if b then [] else gone f.queue.inflight.chunks)) (sym current) in
+      let r = ap bytes_in told-is ∙ ap (λ b. bytes_in (if b then [] else gone (is_whole s f) f.queue.inflight.chunks)) (sym current) in
       let w = sack-bytes f t in
       omega (arith, q, r, w)

@@ -1,5 +1,5 @@
 -- Messages that are abandoned, and the FORWARD-TSN that says so (RFC 3758 3.5).
-use Rattle.std.specs.Prelude.{◌≡◌, ℕ, ◌<◌, Bool, true, false, length, get_or, ◌==◌, ◌&&◌, not, nat_lt, nat_le, take, if◌then◌else◌, List, [], ◌∷◌, Option, Some, None, option_map, unwrap_or}
+use Rattle.std.specs.Prelude.{◌≡◌, ℕ, ◌+◌, ◌*◌, ◌<◌, Bool, true, false, length, get_or, ◌==◌, ◌&&◌, not, nat_lt, nat_le, take, if◌then◌else◌, List, [], ◌∷◌, Option, Some, None, option_map, unwrap_or}
 use Rattle.std.specs.List.{find, filter}
 use Rattle.sctp_list_lemmas.specs.Serial.{distance}
 use Rattle.sctp_chunks.specs.declared.chunk.chunk_payload_data.ChunkPayloadData.{ChunkPayloadData}
@@ -59,6 +59,17 @@ pairs_of (Some c) = pair_of c ∷ []
 -- of each stream there is one pair, with the number of the last of these chunks on it; none where there is no such chunk
 abbrev pub Name : List ChunkForwardTsnStream → List ChunkPayloadData → Type 0
 Name pairs cs = (s : ℕ) → filter (is_pair_of s) pairs ≡ pairs_of (last_of (filter (is_on s) cs))
+
+-- the pairs that name these chunks are more than so many
+abbrev pub IsMore : ℕ → List ChunkPayloadData → Type 0
+IsMore room cs =
+    (pairs : List ChunkForwardTsnStream) × (Name pairs cs) × (room < length pairs)
+
+-- a chunk to the TSN, of 8 bytes and 4 a pair, is longer than so many bytes
+abbrev pub IsTooLong : ℕ → ℕ → Flight → Type 0
+IsTooLong bytes tsn f =
+    (pairs : List ChunkForwardTsnStream) × (Name pairs (named_up_to tsn f))
+    × (bytes < 8 + 4 * length pairs)
 
 -- none of the first so many pairs is of the stream
 abbrev pub IsNoPair : ℕ → List ChunkForwardTsnStream → ℕ → Type 0

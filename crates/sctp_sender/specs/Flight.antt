@@ -1,6 +1,6 @@
 -- What is in flight, and what a SACK makes of it (RFC 4960 6.2.1).
-use Rattle.std.specs.Prelude.{◌≡◌, ℕ, zero, suc, ◌+◌, ◌-◌, ◌%◌, ◌^◌, ◌<◌, Bool, false, not, ◌&&◌, ◌||◌, nat_lt, nat_le, if◌then◌else◌, List, [], ◌∷◌, length, map, min, max, Option, Some, None, is_some}
-use Rattle.std.specs.List.{list_all, find, filter}
+use Rattle.std.specs.Prelude.{◌≡◌, ℕ, zero, suc, ◌+◌, ◌-◌, ◌%◌, ◌^◌, ◌<◌, Bool, false, not, ◌&&◌, ◌||◌, ◌==◌, nat_eq, nat_lt, nat_le, if◌then◌else◌, List, [], ◌∷◌, length, map, min, max, Option, Some, None, is_some}
+use Rattle.std.specs.List.{list_all, list_any, find, filter}
 use Rattle.sctp_list_lemmas.specs.Lists.{change_where}
 use Rattle.sctp_list_lemmas.specs.Serial.{distance, comes_before, at_or_before}
 use Rattle.sctp_chunks.specs.declared.chunk.chunk_payload_data.ChunkPayloadData.{ChunkPayloadData}
@@ -14,6 +14,7 @@ use Rattle.sctp_sender.specs.declared.sender.flight.Released.{Released}
 use Rattle.sctp_sender.specs.declared.sender.refusal.SenderRefusal.{SenderRefusal}
 use Rattle.sctp_sender.specs.declared.sender.refusal.SenderRefusal.TheVariants.{InflightQueueTsnPop, TsnRequestNotExist}
 use Rattle.sctp_outbound.specs.pending_queue.PendingQueue.{next_pending}
+use Rattle.sctp_outbound.specs.pending_queue.Whole.{partially_sent}
 use Rattle.sctp_serial.specs.DataChunks.{has_tsn, following_tsn, preceding_tsn, tsns}
 
 -- what waits and what is in flight, the next TSN, and the TSN up to which all was acknowledged
@@ -123,14 +124,41 @@ take_sack s f =
 abbrev pub after_sack : Sack → Flight → Flight
 after_sack s f = if is_outdated s f then f else take_sack s f
 
--- the stream of a chunk, and its bytes
-abbrev pub released_of : ChunkPayloadData → Released
-released_of c = record { stream = c.stream_identifier; bytes = length c.user_data }
+-- it leaves the chunk unacknowledged, or of a message that is abandoned
+abbrev pub leaves_open : Sack → ChunkPayloadData → Bool
+leaves_open s c = c.abandoned || not (c.acked || reports s c)
+
+-- the messages of which it leaves a chunk in flight so
+abbrev pub open_messages : Sack → List ChunkPayloadData → List ℕ
+open_messages s chunks = map (λ c. c.message_id) (filter (leaves_open s) chunks)
+
+-- it is the message that is partially sent, if there is one
+abbrev pub is_half : Option ℕ → ℕ → Bool
+is_half None m = false
+is_half (Some n) m = n == m
+
+-- the message is acknowledged whole: none of it waits, and it leaves none of it open
+abbrev pub is_whole : Sack → Flight → ℕ → Bool
+is_whole s f m =
+    not (is_half (partially_sent f.queue.pending) m)
+    && not (list_any (nat_eq m) (open_messages s f.queue.inflight.chunks))
+
+-- what is told of a chunk, where it is known which messages are acknowledged whole
+abbrev pub released_of : (ℕ → Bool) → ChunkPayloadData → Released
+released_of whole c = record {
+  tsn = c.tsn;
+  stream = c.stream_identifier;
+  bytes = length c.user_data;
+  nsent = c.nsent;
+  since = c.since;
+  message = c.message_id;
+  is_message_acked = whole c.message_id;
+}
 
 abbrev pub released_by : Sack → Flight → List Released
 released_by s f =
     if is_outdated s f then []
-    else map released_of (filter (reports_anew s) f.queue.inflight.chunks)
+    else map (released_of (is_whole s f)) (filter (reports_anew s) f.queue.inflight.chunks)
 
 -- ## Abandoning
 

@@ -3,5 +3,7 @@ pub mod Outgoing
 pub mod Sender
 pub mod Abandonment
 pub mod Late
+pub mod Resending
+pub mod Settings
 pub mod Totals
 pub mod SenderRuns

@@ -23,6 +23,18 @@ abbrev pub with_mode : Bool → ReliabilityType → ℕ → StreamState → Stre
 with_mode unordered reliability value l =
     record l { unordered = unordered; reliability_type = reliability; reliability_value = value }
 
+-- later writes are cut into fragments of this size
+abbrev pub with_size : ℕ → StreamState → StreamState
+with_size size l = record l { max_payload_size = size }
+
+-- the amount down to which a fall is told
+abbrev pub with_low : ℕ → StreamState → StreamState
+with_low bytes l = record l { buffered_amount_low = bytes }
+
+-- the next ordered message has the number 0
+abbrev pub from_first : StreamState → StreamState
+from_first l = record l { sequence_number = 0 }
+
 -- a fragment with the mode of its stream
 abbrev pub with_reliability : ReliabilityType → ℕ → ChunkPayloadData → ChunkPayloadData
 with_reliability reliability value c = record c { reliability = Some (reliability, value) }

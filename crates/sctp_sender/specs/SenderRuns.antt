@@ -8,6 +8,8 @@ use Rattle.sctp_sender.specs.declared.sender.flight.late.AbandonedMessage.{Aband
 use Rattle.sctp_sender.specs.declared.sender.flight.Released.{Released}
 use Rattle.sctp_sender.specs.Flight.{resent, with_queue, with_room}
 use Rattle.sctp_sender.specs.Sender.{Transmission, open_stream, close_stream, with_flight, with_mode_on, with_nothing}
+use Rattle.sctp_sender.specs.Resending.{after_misses, all_marked, resent_at}
+use Rattle.sctp_sender.specs.Settings.{reset_on, with_fragment_size, with_low_on}
 use Rattle.sctp_sender.specs.Totals.{bytes_in}
 
 -- ## One call
@@ -19,14 +21,24 @@ pub data Call : Type 0 where
   sets_mode : ℕ → Bool → ReliabilityType → ℕ → Call
   starts : ℕ → Call
   reserves : ℕ → Call
+  sets_size : ℕ → Call
+  sets_low : ℕ → ℕ → Call
+  resets : ℕ → Call
+  -- `count_resend`
   resends : ℕ → ChunkPayloadData → Call
+  -- `resend`
+  resends_at : ℕ → ℕ → ChunkPayloadData → Call
+  -- `retransmit_all`
+  marks : Call
+  -- `add_miss_indications`
+  misses : ℕ → Call
   -- `write`
   writes : List ℕ → Call
   -- `send_next`, `send_next_tsn`
   sends : Call
   -- `abandon`, `expire`, `expire_tail`: so many bytes leave, none where the call answers None
   abandons : ℕ → Call
-  -- `expire_late`
+  -- `expire_late`, `expire_rexmit`
   abandons_late : List AbandonedMessage → Call
   -- `acked`
   takes_sack : List Released → Call
@@ -47,7 +59,13 @@ Makes (starts now) old new =
     new ≡ with_flight (with_queue old.flight (all_started now old.flight.queue)) old
 Makes (reserves count) old new =
     new ≡ with_flight (with_queue old.flight (with_room count old.flight.queue)) old
+Makes (sets_size size) old new = new ≡ with_fragment_size size old
+Makes (sets_low stream bytes) old new = new ≡ with_low_on stream bytes old
+Makes (resets stream) old new = new ≡ reset_on stream old
 Makes (resends tsn c) old new = new ≡ with_flight (resent tsn c old.flight) old
+Makes (resends_at tsn now c) old new = new ≡ with_flight (resent_at tsn now c old.flight) old
+Makes marks old new = new ≡ with_flight (all_marked old.flight) old
+Makes (misses count) old new = new ≡ with_flight (after_misses count old.flight) old
 Makes (writes bytes) old new = held_by_sender new ≡ held_by_sender old + length bytes
 Makes sends old new = held_by_sender new ≡ held_by_sender old
 Makes (abandons bytes) old new = held_by_sender new + bytes ≡ held_by_sender old

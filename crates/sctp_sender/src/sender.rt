@@ -1,6 +1,6 @@
 //! The sending half of a link (RFC 4960 6.1, 6.2.1, 6.9).
 
-ghost use Rattle.std.specs.Prelude.{◌≡◌, ◌==◌, ◌<◌, ◌≤◌, ◌⊎◌, ℕ, Bool, true, false, not, None, Some, OnOk, OnErr, IfOk, IfErr, IfSome, IsOk, IsOkUnless, ◌+◌, option_map, option_copied, is_some, map, find, length, if◌then◌else◌};
+ghost use Rattle.std.specs.Prelude.{◌≡◌, ◌≢◌, ◌==◌, ◌<◌, ◌≤◌, ◌⊎◌, ℕ, Bool, true, false, not, None, Some, OnOk, OnErr, IfOk, IfErr, IfSome, IsOk, IsOkUnless, ◌+◌, option_map, option_copied, is_some, map, find, length, if◌then◌else◌};
 ghost use Rattle.sctp_sender.specs.Outgoing.{after_releases};
 ghost use Rattle.sctp_sender.specs.Sender.{is_full_of};
 ghost use Rattle.sctp_sender.specs.declared.sender.refusal.SenderRefusal.TheVariants.{StreamOpen, StreamUnknown, TsnsUsedUp, NotInFlight, OutOfMemory};
@@ -9,7 +9,10 @@ mod abandonment;
 pub mod flight;
 mod outbound_streams;
 pub mod refusal;
+mod resending;
+mod settings;
 pub mod total;
+mod walking;
 
 use self::flight::{InFlight, Released};
 use self::outbound_streams::OutboundStreams;
@@ -57,12 +60,12 @@ impl Model for Sender {
 
 impl Sender {
     ghost use Rattle.sctp_chunks.specs.SelectiveAck.{sack_of};
-    ghost use Rattle.sctp_outbound.specs.outbound_queue.OutboundQueue.{all_started, sent_next, expiring, expiring_tail, message_of, tail_bytes, total_bytes, after_sends};
+    ghost use Rattle.sctp_outbound.specs.outbound_queue.OutboundQueue.{all_started, as_sent, sent_next, expiring, expiring_tail, message_of, tail_bytes, total_bytes, after_sends};
     ghost use Rattle.sctp_stream.specs.declared.stream.StreamState.{StreamState};
     ghost use Rattle.sctp_outbound.specs.pending_queue.PendingQueue.{next_pending};
-    ghost use Rattle.sctp_serial.specs.DataChunks.{has_tsn, under_tsn};
+    ghost use Rattle.sctp_serial.specs.DataChunks.{has_tsn};
     ghost use Rattle.sctp_serial.specs.Window.{is_held};
-    ghost use Rattle.sctp_sender.specs.Flight.{with_queue, with_room, may_send, next_after_send, can_resend, resent, is_outdated, sack_refusal, released_by, message_to_abandon, has_tail_at};
+    ghost use Rattle.sctp_sender.specs.Flight.{with_queue, with_room, may_send, next_after_send, resent, is_outdated, sack_refusal, released_by, message_to_abandon, has_tail_at};
     ghost use Rattle.sctp_sender.specs.Abandonment.{abandon_refusal};
     ghost use Rattle.sctp_sender.specs.Outgoing.{fragments_with_mode};
     ghost use Rattle.sctp_sender.specs.Totals.{bytes_in};
@@ -197,12 +200,18 @@ impl Sender {
         Ok((Some(number), count))
     }
 
-    /// Sends the fragment that is next: gives it the next TSN, puts it in flight, and answers the DATA chunk; None where nothing
-    /// waits. Lifetimes start; `now` is in nanoseconds. Refuses with `TsnsUsedUp`, where something waits and 2^31 - 1 chunks are
-    /// in flight, and for memory. The sender is as it was then.
+    /// Sends the fragment that is next: gives it the next TSN, puts it in flight, and answers the DATA chunk as it is noted there,
+    /// sent once at `now`; None where nothing waits. Lifetimes start; `now` is in nanoseconds. Refuses with `TsnsUsedUp`, where
+    /// something waits and 2^31 - 1 chunks are in flight, and for memory. The sender is as it was then.
     pub fn send_next(&mut self, now: u64) -> Result<Option<ChunkPayloadData>, SenderRefusal>
-        ensures answer { IfOk result (λ sent. sent ≡ option_map
-            (under_tsn self.old.flight.next_tsn) (next_pending self.old.flight.queue.pending)) }
+        ensures answer { IfOk result (λ sent. sent
+            ≡ option_map (as_sent self.old.flight.next_tsn now)
+            (next_pending (all_started now self.old.flight.queue).pending)) }
+        ensures noted { IfOk result (λ sent. IfSome sent
+            (λ c. find (has_tsn self.old.flight.next_tsn) self.new.flight.queue.inflight.chunks
+            ≡ Some c)) }
+        ensures nothing { next_pending self.old.flight.queue.pending ≡ None
+            → IfOk result (λ sent. sent ≡ None) }
         ensures ok { OnOk result (self.new
             ≡ with_flight (record self.old.flight {
               queue = sent_next self.old.flight.queue
@@ -218,15 +227,26 @@ impl Sender {
         ensures idle { next_pending self.old.flight.queue.pending ≡ None → IsOk result }
         ensures err { OnErr result (self.new ≡ self.old) }
     {
-        let sent = self.copy_next()?;
+        let Some(mut chunk) = self.copy_next()? else {
+            self.send_next_tsn(now)?;
+            return Ok(None);
+        };
+        let tsn = self.flight.next_tsn();
         self.send_next_tsn(now)?;
-        Ok(sent)
+        let Some(noted) = self.flight.queue().get(tsn) else {
+            unreachable!()
+        };
+        chunk.tsn = tsn;
+        chunk.since = noted.since;
+        chunk.nsent = noted.nsent;
+        chunk.deadline = noted.deadline;
+        Ok(Some(chunk))
     }
 
-    // A copy of the fragment that is next, under the next TSN; None where nothing waits.
+    // A copy of the fragment that is next; None where nothing waits.
     fn copy_next(&self) -> Result<Option<ChunkPayloadData>, SenderRefusal>
-        ensures ok { IfOk result (λ copied. copied ≡ option_map
-            (under_tsn self.now.flight.next_tsn) (next_pending self.now.flight.queue.pending)) }
+        ensures ok { IfOk result (λ copied. copied
+            ≡ next_pending self.now.flight.queue.pending) }
         ensures refused { IfErr result (λ e. e
             ≡ (if may_send self.now.flight then OutOfMemory else TsnsUsedUp)) }
         ensures idle { next_pending self.now.flight.queue.pending ≡ None → IsOk result }
@@ -237,9 +257,7 @@ impl Sender {
         if !self.flight.may_send() {
             return Err(SenderRefusal::TsnsUsedUp);
         }
-        let mut chunk = waiting.try_clone()?;
-        chunk.tsn = self.flight.next_tsn();
-        Ok(Some(chunk))
+        Ok(Some(waiting.try_clone()?))
     }
 
     /// From here on so many calls of `send_next_tsn`, and terminal chunks of `abandon` and `expire_tail`, together take no memory;
@@ -261,6 +279,10 @@ impl Sender {
         ensures answer { IfOk result (λ sent. sent
             ≡ option_map (λ _. self.old.flight.next_tsn)
             (next_pending self.old.flight.queue.pending)) }
+        ensures noted { next_pending self.old.flight.queue.pending ≢ None → OnOk result
+            (find (has_tsn self.old.flight.next_tsn) self.new.flight.queue.inflight.chunks
+            ≡ option_map (as_sent self.old.flight.next_tsn now)
+            (next_pending (all_started now self.old.flight.queue).pending)) }
         ensures ok { OnOk result (self.new
             ≡ with_flight (record self.old.flight {
               queue = sent_next self.old.flight.queue
@@ -380,21 +402,6 @@ impl Sender {
             self.streams.release(stream, bytes);
         }
         Ok(abandoned)
-    }
-
-    /// Sends the chunk in flight with a TSN again: answers it, and counts that. Refuses with `NotInFlight`, where none is, or it is
-    /// acknowledged or abandoned; and for memory. The sender is as it was then.
-    pub fn resend(&mut self, tsn: u32) -> Result<ChunkPayloadData, SenderRefusal>
-        ensures answer { IfOk result (λ c. find (has_tsn tsn) self.old.flight.queue.inflight.chunks
-            ≡ Some c) }
-        ensures ok { IfOk result (λ c. self.new
-            ≡ with_flight (resent tsn c self.old.flight) self.old) }
-        ensures accepted { IsOk result → can_resend tsn self.old.flight ≡ true }
-        ensures refused { IfErr result (λ e. e
-            ≡ (if can_resend tsn self.old.flight then OutOfMemory else NotInFlight)) }
-        ensures err { OnErr result (self.new ≡ self.old) }
-    {
-        self.flight.resend(tsn)
     }
 
     /// Counts one more sending of the chunk in flight with a TSN, up to the greatest u32; none is counted where the TSN is not in

@@ -147,8 +147,8 @@ fn three_come(alloc: Global, receiver: &mut Receiver) -> bool {
         well = well && receiver.open(stream).is_ok();
     }
     well && is_new(alloc, receiver, 1, (true, false), b"a")
-        && comes_on(alloc, receiver, 2, 3) == Ok(Arrival::New)
-        && comes_on(alloc, receiver, 3, 4) == Ok(Arrival::New)
+        && comes_on(alloc, receiver, 2, 3) == Ok(Arrival::New { complete: true })
+        && comes_on(alloc, receiver, 3, 4) == Ok(Arrival::New { complete: true })
 }
 
 // What came on the closed stream stays acknowledged, and what comes on it later is refused.
@@ -172,7 +172,7 @@ fn the_others_are_read(alloc: Global, receiver: &mut Receiver) -> bool {
 fn the_middle_is_new(alloc: Global, receiver: &mut Receiver) -> bool {
     receiver.open(2).is_ok()
         && !receiver.is_readable(2)
-        && comes_on(alloc, receiver, 2, 5) == Ok(Arrival::New)
+        && comes_on(alloc, receiver, 2, 5) == Ok(Arrival::New { complete: true })
         && receiver.is_readable(2)
 }
 
@@ -210,7 +210,7 @@ fn sendings_are_counted(a: &mut Host) -> bool {
     a.sender.count_resend(0);
     a.sender.count_resend(2);
     let well = sendings(a, 0) == 2 && sendings(a, 1) == 1;
-    well && a.sender.resend(0).is_ok() && sendings(a, 0) == 3 && a.sender.next_tsn() == 2
+    well && a.sender.resend(0, 7).is_ok() && sendings(a, 0) == 3 && a.sender.next_tsn() == 2
 }
 
 fn sizes_are_told(a: &Host) -> bool {

@@ -114,7 +114,7 @@ pub(crate) fn sends_again(alloc: Global, from: &mut Host, to: &mut Host) -> bool
     let Some(tsn) = from.sender.outbound().earliest_outstanding_tsn() else {
         return false;
     };
-    match from.sender.resend(tsn) {
+    match from.sender.resend(tsn, 0) {
         Ok(chunk) => arrives(alloc, to, ChunkKind::PayloadData(chunk)),
         Err(_) => false,
     }

@@ -2,7 +2,11 @@
 #![tactic(auto)]
 
 #[cfg(test)]
+mod arrival_tests;
+#[cfg(test)]
 mod closing_tests;
+#[cfg(test)]
+mod flight_tests;
 #[cfg(test)]
 mod host;
 #[cfg(test)]

@@ -47,7 +47,7 @@ pub(crate) fn is_new(
     bytes: &[u8],
 ) -> bool {
     match chunk(alloc, tsn, flags.0, flags.1, bytes) {
-        Ok(chunk) => matches!(receiver.data(&chunk), Ok(Arrival::New)),
+        Ok(chunk) => matches!(receiver.data(&chunk), Ok(Arrival::New { .. })),
         Err(_) => false,
     }
 }

@@ -1,30 +1,73 @@
 //! A caller of a receiver.
 
-ghost use Rattle.std.specs.Prelude.{◌≡◌, true, Some, None, OnErr, IfOk, IfErr, IsOk};
-ghost use Rattle.sctp_receiver.specs.declared.receiver.arrival.Arrival.TheVariants.{New, Repeat};
-ghost use Rattle.sctp_receiver.specs.declared.receiver.refusal.ReceiverRefusal.TheVariants.{OutOfMemory};
-ghost use Rattle.sctp_receiver.specs.Receiver.{Takes, arrival_of, data_refusal};
+ghost use Rattle.std.specs.Prelude.{◌≡◌, ◌+◌, ◌-◌, ◌*◌, ◌≤◌, true, Some, None, OnOk, OnErr, IfOk, IfErr, length};
+ghost use Rattle.sctp_chunks.specs.SelectiveAck.{sack_of};
+ghost use Rattle.sctp_receiver.specs.declared.receiver.refusal.ReceiverRefusal.TheVariants.{OutOfMemory, StreamUnknown};
+ghost use Rattle.sctp_receiver.specs.Receiver.{Takes, after_discard, after_sack_within, arrival_of, data_refusal, sack_within};
 
 use sctp_chunks::chunk::chunk_payload_data::ChunkPayloadData;
+use sctp_chunks::chunk::chunk_selective_ack::ChunkSelectiveAck;
 use sctp_receiver::receiver::Receiver;
 use sctp_receiver::receiver::arrival::Arrival;
 use sctp_receiver::receiver::refusal::ReceiverRefusal;
 
-/// Gives a DATA chunk to a receiver, and answers whether something can be read on its stream now. A chunk that the receiver
-/// refuses is dropped, as RFC 4960 6.2 lets a receiver do: its sender sends it again. Fails only where memory ran out.
+/// Gives a DATA chunk to a receiver, and answers whether a message of its stream became complete with it. A chunk that the
+/// receiver refuses is dropped, as RFC 4960 6.2 lets a receiver do: its sender sends it again. Fails only where memory ran out.
 pub fn take_chunk(
     receiver: &mut Receiver,
     chunk: &ChunkPayloadData,
 ) -> Result<bool, ReceiverRefusal>
-    ensures taken { data_refusal chunk.now receiver.old ≡ None → IsOk result
-        → Takes chunk.now (arrival_of chunk.now receiver.old) receiver.old receiver.new }
+    ensures taken { data_refusal chunk.now receiver.old ≡ None → IfOk result (λ complete.
+        Takes chunk.now (arrival_of chunk.now.tsn complete receiver.old)
+        receiver.old receiver.new) }
     ensures err { OnErr result (receiver.new ≡ receiver.old) }
     ensures memory { IfErr result (λ e. e ≡ OutOfMemory) }
 {
     match receiver.data(chunk) {
-        Ok(Arrival::New) => Ok(receiver.is_readable(chunk.stream_identifier)),
+        Ok(Arrival::New { complete }) => Ok(complete),
         Ok(Arrival::Repeat) => Ok(false),
         Err(ReceiverRefusal::OutOfMemory) => Err(ReceiverRefusal::OutOfMemory),
         Err(_) => Ok(false),
     }
+}
+
+/// Gives a DATA chunk to a receiver. One of a stream that is not open is dropped, and its TSN acknowledged, so that the peer does
+/// not send it for ever (RFC 4960 6.5): the answer is false then, and an ERROR with cause 1 is due. Fails as `data` does else.
+pub fn take_or_discard(
+    receiver: &mut Receiver,
+    chunk: &ChunkPayloadData,
+) -> Result<bool, ReceiverRefusal>
+    ensures taken { data_refusal chunk.now receiver.old ≡ None
+        → IfOk result (λ known. known ≡ true) }
+    ensures dropped { data_refusal chunk.now receiver.old ≡ Some StreamUnknown
+        → OnOk result (receiver.new ≡ after_discard chunk.now.tsn receiver.old) }
+    ensures err { OnErr result (receiver.new ≡ receiver.old) }
+{
+    match receiver.data(chunk) {
+        Ok(_) => Ok(true),
+        Err(ReceiverRefusal::StreamUnknown) => {
+            receiver.discard(chunk.tsn)?;
+            Ok(false)
+        }
+        Err(refusal) => Err(refusal),
+    }
+}
+
+/// The SACK of what came, for a packet of so many bytes, of which its header takes 12 (RFC 4960 6.2).
+/// Precondition: the packet has room for a SACK with no blocks.
+pub fn acknowledge(
+    receiver: &mut Receiver,
+    credit: u32,
+    packet: usize,
+) -> Result<ChunkSelectiveAck, ReceiverRefusal>
+    requires { 28 ≤ packet }
+    ensures sack { IfOk result
+        (λ s. sack_of s ≡ sack_within credit (packet - 12) receiver.old) }
+    ensures fits { IfOk result (λ s.
+        28 + 4 * (length s.gap_ack_blocks.items + length s.duplicate_tsn.items) ≤ packet) }
+    ensures rest { OnOk result (receiver.new ≡ after_sack_within (packet - 12) receiver.old) }
+    ensures err { OnErr result (receiver.new ≡ receiver.old) }
+    ensures memory { IfErr result (λ e. e ≡ OutOfMemory) }
+{
+    receiver.sack_within(credit, packet - 12)
 }

@@ -15,7 +15,7 @@ fn is_taken(receiver: &mut Receiver, chunk: &ChunkPayloadData) -> bool
     ensures numbers { numbers_of receiver.new.streams ≡ numbers_of receiver.old.streams }
     ensures size { receiver.new.max_message_size ≡ receiver.old.max_message_size }
 {
-    matches!(receiver.data(chunk), Ok(Arrival::New))
+    matches!(receiver.data(chunk), Ok(Arrival::New { .. }))
 }
 
 // Whether the second of three fragments is taken as new.

@@ -1,15 +1,19 @@
 //! A caller of a sender.
 
-ghost use Rattle.std.specs.Prelude.{◌≡◌, None, Some, OnErr, OnOk, IfErr, IfOk, IfSome};
+ghost use Rattle.std.specs.Prelude.{◌≡◌, ◌-◌, None, Some, OnErr, OnOk, IfErr, IfOk, IfSome, IsOk, find, length, option_map, slice_get};
 ghost use Rattle.sctp_chunks.specs.SelectiveAck.{sack_of};
+ghost use Rattle.sctp_chunks.specs.declared.chunk.chunk_payload_data.ChunkPayloadData.{ChunkPayloadData};
 ghost use Rattle.sctp_sender.specs.declared.sender.refusal.SenderRefusal.{SenderRefusal};
 ghost use Rattle.sctp_sender.specs.declared.sender.refusal.SenderRefusal.TheVariants.{OutOfMemory};
-ghost use Rattle.sctp_sender.specs.Flight.{sack_refusal};
+ghost use Rattle.sctp_sender.specs.Flight.{released_by, sack_refusal};
 ghost use Rattle.sctp_sender.specs.Abandonment.{advanced_ack_point};
 ghost use Rattle.sctp_sender.specs.Late.{after_late};
+ghost use Rattle.sctp_sender.specs.Resending.{is_to_resend};
 ghost use Rattle.sctp_sender.specs.Sender.{after_acked};
+ghost use Rattle.sctp_serial.specs.DataChunks.{has_tsn};
 
 use sctp_chunks::chunk::chunk_forward_tsn::ChunkForwardTsn;
+use sctp_chunks::chunk::chunk_payload_data::ChunkPayloadData;
 use sctp_chunks::chunk::chunk_selective_ack::ChunkSelectiveAck;
 use sctp_sender::sender::Sender;
 use sctp_sender::sender::refusal::SenderRefusal;
@@ -38,4 +42,42 @@ pub fn abandon_late(sender: &mut Sender, now: u64) -> Result<Option<ChunkForward
 {
     sender.expire_late(now)?;
     sender.forward_tsn()
+}
+
+/// Gives a SACK to a sender, and answers the highest TSN that it acknowledges anew: before it `add_miss_indications` counts what
+/// is missing (RFC 4960 7.2.4).
+pub fn highest_acked(
+    sender: &mut Sender,
+    sack: &ChunkSelectiveAck,
+) -> Result<Option<u32>, SenderRefusal>
+    ensures taken { OnOk result (sender.new ≡ after_acked (sack_of sack.now) sender.old) }
+    ensures highest { IfOk result (λ tsn. tsn ≡ option_map (λ r. r.tsn)
+        (slice_get (released_by (sack_of sack.now) sender.old.flight)
+        (length (released_by (sack_of sack.now) sender.old.flight) - 1))) }
+    ensures err { OnErr result (sender.new ≡ sender.old) }
+{
+    let released = sender.acked(sack)?;
+    match released.last() {
+        Some(one) => Ok(Some(one.tsn)),
+        None => Ok(None),
+    }
+}
+
+/// Sends the first chunk again that is marked for that, and answers it as it is noted in flight then; None where none is.
+pub fn send_again(sender: &mut Sender, now: u64) -> Result<Option<ChunkPayloadData>, SenderRefusal>
+    ensures idle { find is_to_resend sender.old.flight.queue.inflight.chunks ≡ None
+        → IsOk result }
+    ensures none { IfOk result (λ sent. sent ≡ None → sender.new ≡ sender.old) }
+    ensures sent { (c : ChunkPayloadData)
+        → find is_to_resend sender.old.flight.queue.inflight.chunks ≡ Some c
+        → IfOk result (λ sent. find (has_tsn c.tsn) sender.new.flight.queue.inflight.chunks
+        ≡ sent) }
+    ensures err { OnErr result (sender.new ≡ sender.old) }
+{
+    let Some(chunk) = sender.next_to_retransmit() else {
+        return Ok(None);
+    };
+    let tsn = chunk.tsn;
+    let again = sender.resend(tsn, now)?;
+    Ok(Some(again))
 }

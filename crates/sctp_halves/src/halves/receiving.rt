@@ -1,9 +1,8 @@
 //! What the receiving half is asked for (RFC 4960 6.2; RFC 3758 3.6).
 
-ghost use Rattle.std.specs.Prelude.{◌≡◌, ◌<◌, ◌+◌, ◌^◌, ◌∷◌, ℕ, [], List, true, None, Some, OnOk, OnErr, IfOk, IsOkUnless, length, map, option_map};
+ghost use Rattle.std.specs.Prelude.{◌≡◌, ◌<◌, ◌+◌, ◌^◌, ◌∷◌, ◌&&◌, ℕ, [], List, true, None, Some, OnOk, OnErr, IfOk, IsOkUnless, length, map, option_map};
 ghost use Rattle.sctp_base.specs.declared.error.Error.TheVariants.{ErrOutOfMemory};
-ghost use Rattle.sctp_receiver.specs.Receiver as R;
-ghost use Rattle.sctp_receiver.specs.declared.receiver.inbound_streams.InboundStream.{InboundStream};
+ghost use Rattle.sctp_receiver.specs.Receiver.{is_told_complete};
 ghost use Rattle.sctp_halves.specs.Halves.{Sides, IsSaved, Grows};
 
 use super::Halves;
@@ -12,10 +11,9 @@ use sctp_chunks::chunk::chunk_forward_tsn::ChunkForwardTsn;
 use sctp_chunks::chunk::chunk_payload_data::ChunkPayloadData;
 use sctp_chunks::chunk::chunk_selective_ack::ChunkSelectiveAck;
 use sctp_queues::chunks::Chunks;
-use sctp_stream::stream_numbers::put;
-use sctp_receiver::receiver::Receiver;
 use sctp_receiver::receiver::arrival::{Arrival, Forwarded};
 use sctp_receiver::receiver::saved::SavedReceiver;
+use sctp_stream::stream_numbers::put;
 
 /// What DATA chunks may change, as it is before they are taken.
 #[derive(Drop)]
@@ -96,7 +94,8 @@ impl Halves {
     fn data(&mut self, chunk: &ChunkPayloadData, number: u64) -> Result<Arrival>
         requires accepted { data_refusal chunk.now (reception_of self.old) ≡ None }
         requires open { is_open chunk.now.stream_identifier self.old ≡ true }
-        ensures answer { IfOk result (λ a. a ≡ arrival_of chunk.now (reception_of self.old)) }
+        ensures answer { IfOk result (λ a. a
+            ≡ arrival_of chunk.now.tsn (is_told_complete a) (reception_of self.old)) }
         ensures ok { IfOk result (λ a. Takes chunk.now number a self.old self.new) }
         ensures grows { Grows self.old self.new }
         ensures err { OnErr result (self.new ≡ self.old) }
@@ -106,11 +105,10 @@ impl Halves {
             unreachable!()
         };
         self.progress[place].complete.reserve(1)?;
-        let before = complete_on(&self.receiver, chunk.stream_identifier);
         let Ok(arrival) = self.receiver.data(chunk) else {
             return Err(Error::ErrOutOfMemory);
         };
-        if complete_on(&self.receiver, chunk.stream_identifier) > before {
+        if completes(chunk, arrival) {
             self.progress[place].complete.push_back_reserved(number);
         }
         Ok(arrival)
@@ -221,14 +219,12 @@ impl Halves {
     }
 }
 
-// How many unordered messages are complete on a stream and not read; none where it is not open.
-fn complete_on(receiver: &Receiver, stream: u16) -> usize
-    ensures none { R.stream_of stream receiver.now ≡ None → result ≡ 0 }
-    ensures some { (l : InboundStream) → R.stream_of stream receiver.now ≡ Some l
-        → result ≡ length l.queue.held.unordered }
+// Whether an unordered message became complete with a chunk.
+fn completes(chunk: &ChunkPayloadData, arrival: Arrival) -> bool
+    ensures { result ≡ (is_told_complete arrival && chunk.now.unordered) }
 {
-    match receiver.reassembly(stream) {
-        Some(queue) => queue.unordered().len(),
-        None => 0,
+    match arrival {
+        Arrival::New { complete } => complete && chunk.unordered,
+        Arrival::Repeat => false,
     }
 }

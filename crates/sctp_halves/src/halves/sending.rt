@@ -11,8 +11,8 @@ use bytes::Bytes;
 use sctp_base::error::{Error, Result};
 use sctp_chunks::chunk::chunk_payload_data::PayloadProtocolIdentifier;
 use sctp_chunks::chunk::chunk_selective_ack::ChunkSelectiveAck;
-use sctp_stream::stream::StreamState;
 use sctp_sender::sender::refusal::SenderRefusal;
+use sctp_stream::stream::StreamState;
 
 impl Halves {
     ghost use Rattle.sctp_chunks.specs.SelectiveAck.{sack_of};

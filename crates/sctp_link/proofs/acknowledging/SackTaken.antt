@@ -18,7 +18,7 @@ use Rattle.sctp_outbound.specs.payload_queue.Blocks.{is_in_blocks}
 use Rattle.sctp_outbound.specs.payload_queue.PayloadQueue.{past}
 use Rattle.sctp_outbound.specs.outbound_queue.OutboundQueue.{Outbound, with_inflight}
 use Rattle.sctp_sender.specs.declared.sender.refusal.SenderRefusal.TheVariants.{InflightQueueTsnPop, TsnRequestNotExist}
-use Rattle.sctp_sender.specs.Flight.{Flight, reports_anew, is_within, sack_refusal, take_sack, after_sack, released_of, released_by}
+use Rattle.sctp_sender.specs.Flight.{Flight, reports_anew, is_within, sack_refusal, take_sack, after_sack, is_whole, released_of, released_by}
 use Rattle.sctp_serial.specs.DataChunks.{bytes_of}
 use Rattle.sctp_model.specs.declared.event.Event.TheVariants as E
 use Rattle.sctp_model.specs.declared.event.LinkRefusal.TheVariants.{NoSuchDatagram}
@@ -391,8 +391,8 @@ module _ (sum : List ℕ → ℕ) (x : State) (k : ℕ) (r : Report) (l : IsLink
     after-is : after_sack s (flight_in x) ≡ take_sack s (flight_in x)
     after-is = ap (λ b. if b then flight_in x else take_sack s (flight_in x)) current
 
-    told-those : released_by s (flight_in x) ≡ map released_of (filter (reports_anew s) x.outbound.inflight.chunks)
-    told-those = ap (λ b. if b then [] else map released_of (filter (reports_anew s) x.outbound.inflight.chunks)) current
+    told-those : released_by s (flight_in x) ≡ map (released_of (is_whole s (flight_in x))) (filter (reports_anew s) x.outbound.inflight.chunks)
+    told-those = ap (λ b. if b then [] else map (released_of (is_whole s (flight_in x))) (filter (reports_anew s) x.outbound.inflight.chunks)) current
 
     marked : IsInFlight x.recorded (acknowledged_then x.recorded r) x.recorded.taken (length x.recorded.slots - x.recorded.taken) (change_where (reports_anew s) as_acknowledged x.outbound.inflight.chunks)
     marked =
@@ -413,7 +413,7 @@ module _ (sum : List ℕ → ℕ) (x : State) (k : ℕ) (r : Report) (l : IsLink
         (subst (λ n. IsInFlight x.recorded (acknowledged_then x.recorded r) (max x.recorded.taken top) (n - max x.recorded.taken top) (past (cumulative_tsn x.recorded top) (change_where (reports_anew s) as_acknowledged x.outbound.inflight.chunks))) all
         (front-leaves x.recorded s top first-fits top-short cum (acknowledged_then x.recorded r) (change_where (reports_anew s) as_acknowledged x.outbound.inflight.chunks) x.recorded.taken (length x.recorded.slots - x.recorded.taken) (omega (arith, few, t)) marked)))
 
-    amounts : (j : ℕ) (d : OpenStream) → j < length x.open_streams → slice_index_or (after_releases (map released_of (filter (reports_anew s) x.outbound.inflight.chunks)) x.open_streams) j d ≡ as_left x.recorded r (slice_index_or x.open_streams j d)
+    amounts : (j : ℕ) (d : OpenStream) → j < length x.open_streams → slice_index_or (after_releases (map (released_of (is_whole s (flight_in x))) (filter (reports_anew s) x.outbound.inflight.chunks)) x.open_streams) j d ≡ as_left x.recorded r (slice_index_or x.open_streams j d)
     amounts j d lt =
         let f = facts sum x l in
         let le = f.taken in
@@ -421,10 +421,10 @@ module _ (sum : List ℕ → ℕ) (x : State) (k : ℕ) (r : Report) (l : IsLink
         let a = acks sum x l in
         let old = on-unacked x.recorded.setup.first x.recorded a (acknowledged_at x.recorded) t x.outbound.inflight.chunks x.recorded.taken le below-first (in-flight-first x.recorded x.outbound l.outbound) in
         let new = on-unacked x.recorded.setup.first x.recorded a (acknowledged_then x.recorded r) t (change_where (reports_anew s) as_acknowledged x.outbound.inflight.chunks) x.recorded.taken le (λ p lt. then-below x.recorded r p below-first (omega (arith, lt))) marked in
-        let less = told-on (reports_anew s) t x.outbound.inflight.chunks in
+        let less = told-on (is_whole s (flight_in x)) (reports_anew s) t x.outbound.inflight.chunks in
         let had = (l.open_streams j d lt).amount ∙ amount-is x.recorded t f.sane.sender in
-        released-at (map released_of (filter (reports_anew s) x.outbound.inflight.chunks)) x.open_streams j d lt
-        ∙ ap (λ m. with_amount m (slice_index_or x.open_streams j d)) (fewer (slice_index_or x.open_streams j d).state.buffered_amount (released_on t (map released_of (filter (reports_anew s) x.outbound.inflight.chunks))) (on_stream x.recorded t (pending_bytes x.recorded)) (unacked_on x.recorded (acknowledged_at x.recorded) t) (unacked_on x.recorded (acknowledged_then x.recorded r) t) (chunks_on t x.outbound.inflight.chunks) (chunks_on t (change_where (reports_anew s) as_acknowledged x.outbound.inflight.chunks)) had less old new)
+        released-at (map (released_of (is_whole s (flight_in x))) (filter (reports_anew s) x.outbound.inflight.chunks)) x.open_streams j d lt
+        ∙ ap (λ m. with_amount m (slice_index_or x.open_streams j d)) (fewer (slice_index_or x.open_streams j d).state.buffered_amount (released_on t (map (released_of (is_whole s (flight_in x))) (filter (reports_anew s) x.outbound.inflight.chunks))) (on_stream x.recorded t (pending_bytes x.recorded)) (unacked_on x.recorded (acknowledged_at x.recorded) t) (unacked_on x.recorded (acknowledged_then x.recorded r) t) (chunks_on t x.outbound.inflight.chunks) (chunks_on t (change_where (reports_anew s) as_acknowledged x.outbound.inflight.chunks)) had less old new)
       where
         fewer : (a rel pend u v c d : ℕ) → a ≡ pend + u → rel + d ≡ c → c ≡ u → d ≡ v → a - rel ≡ pend + v
         fewer a rel pend u v c d e f g h = omega (arith, e, f, g, h)
@@ -445,9 +445,9 @@ module _ (sum : List ℕ → ℕ) (x : State) (k : ℕ) (r : Report) (l : IsLink
         → IsMarking x.recorded (and_blocks (and_run (acknowledged_at x.recorded) x.recorded.taken top) top s.gap_ack_blocks) xs
         → Taken sum x k now xs g top
     taken-all now xs g streams items moved marks =
-        let items' : now ≡ after_releases (map released_of (filter (reports_anew s) x.outbound.inflight.chunks)) x.open_streams = items ∙ ap (λ t. after_releases t x.open_streams) told-those in
+        let items' : now ≡ after_releases (map (released_of (is_whole s (flight_in x))) (filter (reports_anew s) x.outbound.inflight.chunks)) x.open_streams = items ∙ ap (λ t. after_releases t x.open_streams) told-those in
         let ls : now ≡ map (as_left x.recorded r) x.open_streams =
-        items' ∙ streams-then x.recorded r x.open_streams (after_releases (map released_of (filter (reports_anew s) x.outbound.inflight.chunks)) x.open_streams) (length-released (map released_of (filter (reports_anew s) x.outbound.inflight.chunks)) x.open_streams) amounts in
+        items' ∙ streams-then x.recorded r x.open_streams (after_releases (map (released_of (is_whole s (flight_in x))) (filter (reports_anew s) x.outbound.inflight.chunks)) x.open_streams) (length-released (map (released_of (is_whole s (flight_in x))) (filter (reports_anew s) x.outbound.inflight.chunks)) x.open_streams) amounts in
         let slots = slots-then x.recorded r xs (marking-same x.recorded (and_blocks (and_run (acknowledged_at x.recorded) x.recorded.taken top) top s.gap_ack_blocks) (acknowledged_then x.recorded r) xs loops-told marks) in
         let recorded : record_taken x.recorded now xs top ≡ after_acked x.recorded (Some (Sack r)) =
         ap (λ ys. record_taken x.recorded ys xs top) ls

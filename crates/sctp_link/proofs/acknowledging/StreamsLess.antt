@@ -87,12 +87,12 @@ none-on true = refl
 none-on false = refl
 
 -- what is acknowledged leaves
-pub told-on : (p : ChunkPayloadData → Bool) (t : ℕ) (cs : List ChunkPayloadData) → released_on t (map released_of (filter p cs)) + chunks_on t (change_where p as_acknowledged cs) ≡ chunks_on t cs
-told-on p t [] = refl
-told-on p t (c ∷ cs) = step (p c) (told-on p t cs)
+pub told-on : (whole : ℕ → Bool) (p : ChunkPayloadData → Bool) (t : ℕ) (cs : List ChunkPayloadData) → released_on t (map (released_of whole) (filter p cs)) + chunks_on t (change_where p as_acknowledged cs) ≡ chunks_on t cs
+told-on whole p t [] = refl
+told-on whole p t (c ∷ cs) = step (p c) (told-on whole p t cs)
   where
-    step : (b : Bool) → released_on t (map released_of (filter p cs)) + chunks_on t (change_where p as_acknowledged cs) ≡ chunks_on t cs
-        → released_on t (map released_of (if b then c ∷ filter p cs else filter p cs)) + chunks_on t ((if b then as_acknowledged c else c) ∷ change_where p as_acknowledged cs) ≡ chunks_on t (c ∷ cs)
+    step : (b : Bool) → released_on t (map (released_of whole) (filter p cs)) + chunks_on t (change_where p as_acknowledged cs) ≡ chunks_on t cs
+        → released_on t (map (released_of whole) (if b then c ∷ filter p cs else filter p cs)) + chunks_on t ((if b then as_acknowledged c else c) ∷ change_where p as_acknowledged cs) ≡ chunks_on t (c ∷ cs)
     step true ih = let z = none-on (c.stream_identifier == t) in omega (arith, ih, z)
     step false ih = omega (arith, ih)
 

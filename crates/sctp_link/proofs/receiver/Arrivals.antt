@@ -1,5 +1,5 @@
 -- Slots that arrive one after another, as a link records them.
-use Rattle.std.proofs.Common.{◌≡◌, ℕ, zero, suc, ◌+◌, ◌<◌, true, List, [], ◌∷◌, ◌++◌, length, drop, refl, ap, sym, ◌∙◌, arith}
+use Rattle.std.proofs.Common.{◌≡◌, ℕ, zero, suc, ◌+◌, ◌<◌, Bool, true, false, List, [], ◌∷◌, ◌++◌, length, drop, refl, ap, sym, ◌∙◌, arith}
 use Rattle.std.specs.Prelude.{slice_index_or, slice_set}
 use Rattle.std.specs.List.{list_any}
 use Rattle.std.proofs.lemmas.List.{drop_more}
@@ -25,20 +25,20 @@ module _ (ps : List ℕ) (bs : List Arrival) (i : ℕ) (inside : i < length ps) 
   places-left : drop i ps ≡ slice_index_or ps i 0 ∷ drop (i + 1) ps
   places-left = drop_more ps i 0 inside
 
-  answers-left : (a : Arrival) → slice_index_or bs i New ≡ a → drop i bs ≡ a ∷ drop (i + 1) bs
-  answers-left a e = drop_more bs i New (omega (arith, inside, count)) ∙ ap (λ b. b ∷ drop (i + 1) bs) e
+  answers-left : (a : Arrival) → slice_index_or bs i (New false) ≡ a → drop i bs ≡ a ∷ drop (i + 1) bs
+  answers-left a e = drop_more bs i (New false) (omega (arith, inside, count)) ∙ ap (λ b. b ∷ drop (i + 1) bs) e
 
-  module _ (e : slice_index_or bs i New ≡ New) where
+  module _ (complete : Bool) (e : slice_index_or bs i (New false) ≡ New complete) where
     pub slots-first : (ss : List Slot) → arrived_in (drop (i + 1) ps) (drop (i + 1) bs) (change_at with_arrival (slice_index_or ps i 0) ss) ≡ arrived_in (drop i ps) (drop i bs) ss
-    slots-first ss = sym (ap (λ qs. arrived_in qs (drop i bs) ss) places-left ∙ ap (λ cs. arrived_in (slice_index_or ps i 0 ∷ drop (i + 1) ps) cs ss) (answers-left New e))
+    slots-first ss = sym (ap (λ qs. arrived_in qs (drop i bs) ss) places-left ∙ ap (λ cs. arrived_in (slice_index_or ps i 0 ∷ drop (i + 1) ps) cs ss) (answers-left (New complete) e))
 
     pub repeated-first : repeated_of (drop (i + 1) ps) (drop (i + 1) bs) ≡ repeated_of (drop i ps) (drop i bs)
-    repeated-first = sym (ap (λ qs. repeated_of qs (drop i bs)) places-left ∙ ap (repeated_of (slice_index_or ps i 0 ∷ drop (i + 1) ps)) (answers-left New e))
+    repeated-first = sym (ap (λ qs. repeated_of qs (drop i bs)) places-left ∙ ap (repeated_of (slice_index_or ps i 0 ∷ drop (i + 1) ps)) (answers-left (New complete) e))
 
     pub any-first : list_any is_first (drop i bs) ≡ true
-    any-first = ap (list_any is_first) (answers-left New e)
+    any-first = ap (list_any is_first) (answers-left (New complete) e)
 
-  module _ (e : slice_index_or bs i New ≡ Repeat) where
+  module _ (e : slice_index_or bs i (New false) ≡ Repeat) where
     pub slots-again : (ss : List Slot) → arrived_in (drop (i + 1) ps) (drop (i + 1) bs) ss ≡ arrived_in (drop i ps) (drop i bs) ss
     slots-again ss = sym (ap (λ qs. arrived_in qs (drop i bs) ss) places-left ∙ ap (λ cs. arrived_in (slice_index_or ps i 0 ∷ drop (i + 1) ps) cs ss) (answers-left Repeat e))
 

@@ -13,7 +13,7 @@ use Rattle.sctp_model.proofs.sender.Network
 use Rattle.sctp_refinement.proofs.arriving.SlotArrives
 use Rattle.sctp_receiver.specs.declared.receiver.arrival.Arrival.{Arrival}
 use Rattle.sctp_receiver.specs.declared.receiver.arrival.Arrival.TheVariants.{New, Repeat}
-use Rattle.sctp_receiver.specs.Receiver.{arrival_of}
+use Rattle.sctp_receiver.specs.Receiver.{arrival_of, is_told_complete}
 use Rattle.sctp_halves.specs.Halves.{Sides, reception_of, CanTake, TakesEach}
 use Rattle.sctp_link.specs.declared.record.Slot.{Slot}
 use Rattle.sctp_link.specs.Records.{slot_record}
@@ -42,7 +42,7 @@ can f (p ∷ ps) [] w x num r m = absurd m
 can f (p ∷ ps) (c ∷ cs) w x num r m = (
   accepted w x r p c m.0,
   opened w x r p c m.0,
-  λ y t. can f ps cs (receive_slot w p) y (λ q. num q ∙ sym (numbers-stay w p q)) (one w x r p c m.0 (f p) (arrival_of c (reception_of x)) y (num p) refl t).receiver m.1,
+  λ complete y t. can f ps cs (receive_slot w p) y (λ q. num q ∙ sym (numbers-stay w p q)) (one w x r p c m.0 (f p) complete (arrival_of c.tsn complete (reception_of x)) y (num p) refl t).receiver m.1,
 )
 
 -- what they make
@@ -80,11 +80,11 @@ came-more w x mid y p ps a bs o e = record {
     any false h = e.new ∙ others-new w p ps h
 
     slots : (a : Arrival) → (receive_slot w p).slots ≡ (if is_first a then change_at mark_arrived p w.slots else w.slots) → (ss : List Slot) → w.slots ≡ map slot_record ss → (fold receive_slot (receive_slot w p) ps).slots ≡ map slot_record (arrived_in (p ∷ ps) (a ∷ bs) ss)
-    slots New h ss same = e.slots (change_at with_arrival p ss) (h ∙ ap (change_at mark_arrived p) same ∙ sym (marked p ss))
+    slots (New complete) h ss same = e.slots (change_at with_arrival p ss) (h ∙ ap (change_at mark_arrived p) same ∙ sym (marked p ss))
     slots Repeat h ss same = e.slots ss (h ∙ same)
 
     duplicates : (a : Arrival) → (receive_slot w p).duplicates ≡ (if is_first a then w.duplicates else w.duplicates ++ p ∷ []) → (receive_slot w p).duplicates ++ repeated_of ps bs ≡ w.duplicates ++ repeated_of (p ∷ ps) (a ∷ bs)
-    duplicates New h = ap (λ d. d ++ repeated_of ps bs) h
+    duplicates (New complete) h = ap (λ d. d ++ repeated_of ps bs) h
     duplicates Repeat h = ap (λ d. d ++ repeated_of ps bs) h ∙ more w.duplicates p (repeated_of ps bs)
 
 pub came : (f : ℕ → ℕ) (ps : List ℕ) (cs : List ChunkPayloadData) (bs : List Arrival) (w : LinkRecord) (x y : Sides) → ((q : ℕ) → f q ≡ message_of w q) → IsReceiver w x → AllCome w ps cs → TakesEach cs (map f ps) bs x y → Came w x ps bs y
@@ -102,5 +102,5 @@ came f [] (c ∷ cs) bs w x y num r m t = absurd m
 came f (p ∷ ps) [] bs w x y num r m t = absurd m
 came f (p ∷ ps) (c ∷ cs) [] w x y num r m t = absurd t
 came f (p ∷ ps) (c ∷ cs) (a ∷ bs) w x y num r m t =
-    let o = one w x r p c m.0 (f p) a t.0 (num p) t.1.0.answer t.1.0.taken in
+    let o = one w x r p c m.0 (f p) (is_told_complete a) a t.0 (num p) t.1.0.answer t.1.0.taken in
     came-more w x t.0 y p ps a bs o (came f ps cs bs (receive_slot w p) t.0 y (λ q. num q ∙ sym (numbers-stay w p q)) o.receiver m.1 t.1.1)

@@ -270,8 +270,8 @@ module _ (w : LinkRecord) (x : Sides) (r : IsReceiver w x) (p : ℕ) (c : ChunkP
         core-is : core z ≡ core y
         core-is = ap core keeps.rest
 
-        one-kept : (u : Sides) → u ≡ with_filter_of (with_tsn c.tsn f) (on_stream c.stream_identifier (λ _. z) x) → One w x p New u
-        one-kept u e =
+        one-kept : (complete : Bool) (u : Sides) → u ≡ with_filter_of (with_tsn c.tsn f) (on_stream c.stream_identifier (λ _. z) x) → One w x p (New complete) u
+        one-kept complete u e =
             let b = becomes_complete (with_arrived w p) n in
             let is : u ≡ with_filter_of (with_tsn c.tsn f) (record x { streams = slice_set x.streams at z }) = e ∙ ap (λ ls. with_filter_of (with_tsn c.tsn f) (record x { streams = ls })) (sym set-is) in
             record {
@@ -286,10 +286,10 @@ module _ (w : LinkRecord) (x : Sides) (r : IsReceiver w x) (p : ℕ) (c : ChunkP
     number-at : (l : OpenStream) (k : ℕ) → find (has_number c.stream_identifier) x.streams ≡ Some l → ((d : OpenStream) → slice_index_or x.streams k d ≡ l) → (d : OpenStream) → (slice_index_or x.streams k d).state.stream_identifier ≡ c.stream_identifier
     number-at l k found is d = ap (λ (q : OpenStream). q.state.stream_identifier) (is d) ∙ number-found c.stream_identifier x.streams l found
 
-    one-new : (number : ℕ) (u : Sides) → number ≡ message_of w p → Accepts c number x u → One w x p New u
-    one-new number u number_is a =
+    one-new : (complete : Bool) (number : ℕ) (u : Sides) → number ≡ message_of w p → Accepts c number x u → One w x p (New complete) u
+    one-new complete number u number_is a =
         let k = placed c.stream_identifier x.streams a.stream a.found in
-        one-kept k.0 k.1.0 (number-at a.stream k.0 a.found k.1.1) a.stream a.kept number number_is (subst (λ l. Keeps c number l a.kept) (sym (k.1.1 a.stream)) a.keeps) u a.after
+        one-kept k.0 k.1.0 (number-at a.stream k.0 a.found k.1.1) a.stream a.kept number number_is (subst (λ l. Keeps c number l a.kept) (sym (k.1.1 a.stream)) a.keeps) complete u a.after
 
     small-there : is_too_large c there.0.inbound.queue ≡ false
     small-there =
@@ -314,14 +314,14 @@ module _ (w : LinkRecord) (x : Sides) (r : IsReceiver w x) (p : ℕ) (c : ChunkP
           ∙ ap (λ b. if b then Some MessageTooLarge else None) (small-there new)
 
   -- and takes it as the record does
-  pub one : (number : ℕ) (a : Arrival) (u : Sides) → number ≡ message_of w p → a ≡ arrival_of c (reception_of x) → Takes c number a x u → One w x p a u
-  one number a u number_is e t = by a e t (is_new w p) refl
+  pub one : (number : ℕ) (complete : Bool) (a : Arrival) (u : Sides) → number ≡ message_of w p → a ≡ arrival_of c.tsn complete (reception_of x) → Takes c number a x u → One w x p a u
+  one number complete a u number_is e t = by a e t (is_new w p) refl
     where
-      told-is : (b : Bool) → is_new w p ≡ b → arrival_of c (reception_of x) ≡ (if not b then Repeat else New)
-      told-is b h = ap (λ b. if b then Repeat else New) (told ∙ ap not h)
+      told-is : (b : Bool) → is_new w p ≡ b → arrival_of c.tsn complete (reception_of x) ≡ (if not b then Repeat else New complete)
+      told-is b h = ap (λ b. if b then Repeat else New complete) (told ∙ ap not h)
 
-      by : (a : Arrival) → a ≡ arrival_of c (reception_of x) → Takes c number a x u → (b : Bool) → is_new w p ≡ b → One w x p a u
-      by New e t true h = one-new h number u number_is t
-      by New e t false h = let z : New ≡ Repeat = e ∙ told-is false h in cc
-      by Repeat e t true h = let z : Repeat ≡ New = e ∙ told-is true h in cc
+      by : (a : Arrival) → a ≡ arrival_of c.tsn complete (reception_of x) → Takes c number a x u → (b : Bool) → is_new w p ≡ b → One w x p a u
+      by (New said) e t true h = one-new h said number u number_is t
+      by (New said) e t false h = let z : New said ≡ Repeat = e ∙ told-is false h in cc
+      by Repeat e t true h = let z : Repeat ≡ New complete = e ∙ told-is true h in cc
       by Repeat e t false h = one-again h u t

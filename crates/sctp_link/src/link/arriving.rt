@@ -45,7 +45,7 @@ pub(super) fn record_arrivals(
     let mut new = false;
     for at in 0..places.len() {
         match arrivals[at] {
-            Arrival::New => {
+            Arrival::New { .. } => {
                 slots[places[at] as usize].arrived = true;
                 new = true;
             }

@@ -4,7 +4,10 @@
 #[derive(Clone, Copy, Debug, PartialEq, Eq)]
 pub enum Arrival {
     /// It is past the cumulative TSN, and did not come before.
-    New,
+    New {
+        /// Whether a message of its stream became complete with it. An ordered one may still wait for those before it.
+        complete: bool,
+    },
     /// It came before, or is at or before the cumulative TSN, to which a FORWARD-TSN may have moved it.
     Repeat,
 }

@@ -8,6 +8,7 @@ ghost use Rattle.sctp_receiver.specs.declared.receiver.refusal.ReceiverRefusal.T
 ghost use Rattle.sctp_stream.specs.Numbers.{IsOnlyPlace, IsAbsent};
 ghost use Rattle.sctp_reassembly.specs.reassembly_queue.ReassemblyQueue.{is_too_large};
 ghost use Rattle.sctp_receiver.specs.Inbound.{unassembled_forwarded};
+ghost use Rattle.sctp_receiver.specs.Receiver.{readable_streams};
 
 use crate::receiver::refusal::ReceiverRefusal;
 use sctp_chunks::chunk::chunk_payload_data::ChunkPayloadData;
@@ -28,7 +29,7 @@ pub struct InboundStream {
 }
 
 impl InboundStream {
-    ghost use Rattle.sctp_reassembly.specs.reassembly_queue.ReassemblyQueue.{is_complete_with, PushesUnordered, message_read, at_start};
+    ghost use Rattle.sctp_reassembly.specs.reassembly_queue.ReassemblyQueue.{message_read, at_start};
     ghost use Rattle.sctp_receiver.specs.Inbound.{new_stream, Pushes, stream_read};
 
     /// A stream on which nothing came. It takes no memory.
@@ -59,33 +60,13 @@ impl InboundStream {
         })
     }
 
-    /// Takes a fragment. Refuses with `MessageTooLarge`, exactly where its message would be longer
-    /// with it than a message may be, or for memory. The stream is as it was then.
+    /// Takes a fragment, and answers whether a message became complete by it. Refuses with `MessageTooLarge`, exactly where
+    /// its message would be longer with it than a message may be, or for memory. The stream is as it was then.
     /// Precondition: the fragment is of this stream.
-    pub fn push(&mut self, chunk: &ChunkPayloadData) -> Result<(), ReceiverRefusal>
+    pub fn push(&mut self, chunk: &ChunkPayloadData) -> Result<bool, ReceiverRefusal>
         requires { (chunk.now.stream_identifier == self.old.queue.si) ≡ true }
-        ensures ok { OnOk result (Pushes chunk.now self.old.queue self.new.queue) }
-        ensures rest { self.new ≡ record self.old { queue = self.new.queue } }
-        ensures fits { IsOk result → is_too_large chunk.now self.old.queue ≡ false }
-        ensures refused { IfErr result (λ e.
-            e ≡ (if is_too_large chunk.now self.old.queue then MessageTooLarge else OutOfMemory)) }
-        ensures err { OnErr result (self.new ≡ self.old) }
-    {
-        self.push_told(chunk)?;
-        Ok(())
-    }
-
-    /// Takes a fragment, as `push`, and answers whether a message became complete by it. Refuses as
-    /// `push` does.
-    /// Precondition: the fragment is of this stream.
-    pub fn push_told(&mut self, chunk: &ChunkPayloadData) -> Result<bool, ReceiverRefusal>
-        requires { (chunk.now.stream_identifier == self.old.queue.si) ≡ true }
-        ensures ok { OnOk result (Pushes chunk.now self.old.queue self.new.queue) }
-        ensures ordered { chunk.now.unordered ≡ false
-            → IfOk result (λ complete. complete ≡ is_complete_with chunk.now self.old.queue.held) }
-        ensures unordered { chunk.now.unordered ≡ true
-            → IfOk result (λ complete.
-            PushesUnordered chunk.now self.old.queue self.new.queue complete) }
+        ensures ok { IfOk result (λ complete.
+            Pushes chunk.now complete self.old.queue self.new.queue) }
         ensures rest { self.new ≡ record self.old { queue = self.new.queue } }
         ensures fits { IsOk result → is_too_large chunk.now self.old.queue ≡ false }
         ensures refused { IfErr result (λ e.
@@ -161,6 +142,21 @@ impl InboundStreams {
         Some(&self.items[place])
     }
 
+    /// The streams, lent.
+    pub fn as_slice(&self) -> &[InboundStream]
+        ensures { result.now ≡ self.now }
+    {
+        &self.items
+    }
+
+    /// The numbers of the streams with a message to read, in their order. Refuses only for memory.
+    pub fn readable(&self, alloc: Global) -> Result<Vec<u16>, ReceiverRefusal>
+        ensures ok { IfOk result (λ numbers. numbers.items ≡ readable_streams self.now) }
+        ensures memory { IfErr result (λ e. e ≡ OutOfMemory) }
+    {
+        readable_each(alloc, &self.items)
+    }
+
     /// Opens a stream. Refuses only for memory, and the streams are as they were then.
     /// Precondition: it is not open.
     pub fn open(
@@ -194,13 +190,17 @@ impl InboundStreams {
         self.numbers.remove(stream);
     }
 
-    /// Takes a fragment on the stream at a place. Refuses with `MessageTooLarge`, exactly where its
-    /// message would be longer with it than a message may be, or for memory. The streams are as
-    /// they were then.
+    /// Takes a fragment on the stream at a place, and answers whether a message became complete by it. Refuses with
+    /// `MessageTooLarge`, exactly where its message would be longer with it than a message may be, or for memory. The
+    /// streams are as they were then.
     /// Precondition: the fragment is of that stream.
-    pub fn push_at(&mut self, place: usize, chunk: &ChunkPayloadData) -> Result<(), ReceiverRefusal>
+    pub fn push_at(
+        &mut self,
+        place: usize,
+        chunk: &ChunkPayloadData,
+    ) -> Result<bool, ReceiverRefusal>
         requires { IsOnlyPlace chunk.now.stream_identifier (numbers_of self.old) place }
-        ensures ok { OnOk result (PushesOn chunk.now self.old self.new) }
+        ensures ok { IfOk result (λ complete. PushesOn chunk.now complete self.old self.new) }
         ensures fits { IsOk result → stream_refusal chunk.now
             (find (has_number chunk.now.stream_identifier) self.old) ≡ None }
         ensures refused { IfErr result (λ e. IsRefusedFor
@@ -284,6 +284,23 @@ fn clone_each(
         }
     }
     Ok(saved)
+}
+
+// The numbers of those with a message to read.
+fn readable_each(alloc: Global, streams: &[InboundStream]) -> Result<Vec<u16>, ReceiverRefusal>
+    ensures ok { IfOk result (λ numbers. numbers.items ≡ readable_streams streams.now) }
+    ensures memory { IfErr result (λ e. e ≡ OutOfMemory) }
+{
+    let mut numbers = Vec::new(alloc);
+    for stream in streams {
+        if !stream.queue.is_readable() {
+            continue;
+        }
+        if numbers.push(stream.queue.si()).is_err() {
+            return Err(ReceiverRefusal::OutOfMemory);
+        }
+    }
+    Ok(numbers)
 }
 
 // So on each stream.

@@ -13,6 +13,10 @@ pub enum ReceiverRefusal {
     TsnOpposite,
     /// With the chunk its message would be longer than a message may be.
     MessageTooLarge,
+    /// The TSN lies farther past the cumulative one than the limits allow.
+    TsnTooFar,
+    /// The TSN is past the highest one that came, and nothing is left of the window (RFC 4960 6.2).
+    WindowFull,
     /// Memory ran out.
     OutOfMemory,
 }

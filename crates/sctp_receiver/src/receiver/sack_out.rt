@@ -1,6 +1,6 @@
 //! What a receiver acknowledges (RFC 4960 3.3.4, 6.2).
 
-ghost use Rattle.std.specs.Prelude.{◌≡◌, ◌+◌, ◌≤◌, OnOk, OnErr, IfOk, IfErr, length};
+ghost use Rattle.std.specs.Prelude.{◌≡◌, ◌+◌, ◌*◌, ◌≤◌, max, OnOk, OnErr, IfOk, IfErr, length};
 ghost use Rattle.sctp_receiver.specs.declared.receiver.refusal.ReceiverRefusal.TheVariants.{OutOfMemory};
 
 use crate::receiver::Receiver;
@@ -12,7 +12,7 @@ pub const MAX_SACK_ENTRIES: usize = 16379;
 
 impl Receiver {
     ghost use Rattle.sctp_chunks.specs.SelectiveAck.{sack_of};
-    ghost use Rattle.sctp_receiver.specs.Receiver.{sack, without_duplicates};
+    ghost use Rattle.sctp_receiver.specs.Receiver.{sack, sack_of_entries, without_duplicates, sack_within, after_sack_within};
 
     /// The SACK of what came; `credit` is how many bytes of user data there is room for. Gap ack blocks come first, then
     /// as many duplicates as fit; all duplicates are forgotten. Refuses only for memory, and the receiver is as it was then.
@@ -29,6 +29,29 @@ impl Receiver {
         Ok(sack)
     }
 
+    /// The SACK that `sack` makes, in a chunk of at most `bytes` bytes, of which its header takes 16 and each gap ack block and each
+    /// duplicate 4: below 16 it has neither. Gap ack blocks come first, then as many duplicates as fit; those are forgotten, and the
+    /// others are kept for the next SACK. So a SACK is no longer than the path MTU (RFC 4960 6.2). Refuses only for memory, and the
+    /// receiver is as it was then. Where a duplicate did not fit, it copies the TSNs that are held.
+    pub fn sack_within(
+        &mut self,
+        credit: u32,
+        bytes: usize,
+    ) -> Result<ChunkSelectiveAck, ReceiverRefusal>
+        ensures sack { IfOk result (λ s. sack_of s ≡ sack_within credit bytes self.old) }
+        ensures fits { IfOk result (λ s. 16
+            + 4 * (length s.gap_ack_blocks.items + length s.duplicate_tsn.items) ≤ max 16 bytes) }
+        ensures rest { OnOk result (self.new ≡ after_sack_within bytes self.old) }
+        ensures err { OnErr result (self.new ≡ self.old) }
+        ensures memory { IfErr result (λ e. e ≡ OutOfMemory) }
+    {
+        let entries = (bytes.saturating_sub(16) / 4).min(MAX_SACK_ENTRIES);
+        let sack = self.sack_of_entries(credit, entries)?;
+        self.filter
+            .forget_duplicates(self.alloc, sack.duplicate_tsn.len())?;
+        Ok(sack)
+    }
+
     /// The SACK that `sack` makes, and nothing is forgotten: while it is not sent, the next one reports
     /// the same duplicates again. Refuses only for memory.
     pub fn make_sack(&self, credit: u32) -> Result<ChunkSelectiveAck, ReceiverRefusal>
@@ -37,12 +60,24 @@ impl Receiver {
             length s.gap_ack_blocks.items + length s.duplicate_tsn.items ≤ 16379) }
         ensures memory { IfErr result (λ e. e ≡ OutOfMemory) }
     {
+        self.sack_of_entries(credit, MAX_SACK_ENTRIES)
+    }
+
+    // The SACK with so many blocks and duplicates at most.
+    fn sack_of_entries(
+        &self,
+        credit: u32,
+        entries: usize,
+    ) -> Result<ChunkSelectiveAck, ReceiverRefusal>
+        ensures sack { IfOk result (λ s. sack_of s ≡ sack_of_entries credit entries self.now) }
+        ensures fits { IfOk result (λ s.
+            length s.gap_ack_blocks.items + length s.duplicate_tsn.items ≤ entries) }
+        ensures memory { IfErr result (λ e. e ≡ OutOfMemory) }
+    {
         let mut gap_ack_blocks = self.filter.gap_ack_blocks(self.alloc)?;
-        gap_ack_blocks.truncate(MAX_SACK_ENTRIES);
+        gap_ack_blocks.truncate(entries);
         let duplicates = self.filter.queue().duplicates();
-        let count = duplicates
-            .len()
-            .min(MAX_SACK_ENTRIES - gap_ack_blocks.len());
+        let count = duplicates.len().min(entries - gap_ack_blocks.len());
         let mut duplicate_tsn = Vec::new(self.alloc);
         if duplicate_tsn
             .extend_from_slice(&duplicates[..count])

@@ -1,6 +1,6 @@
 //! The TSNs that came (RFC 4960 6.2).
 
-ghost use Rattle.std.specs.Prelude.{◌≡◌, ◌<◌, ◌^◌, ◌∷◌, ◌++◌, [], ℕ, true, false, OnOk, OnErr, IfOk, IsOkUnless, length, map, slice_get, IsTrue};
+ghost use Rattle.std.specs.Prelude.{◌≡◌, ◌<◌, ◌^◌, ◌∷◌, ◌++◌, [], ℕ, true, false, OnOk, OnErr, IfOk, IsOkUnless, length, map, drop, slice_get, IsTrue};
 ghost use Rattle.sctp_base.specs.declared.error.Error.TheVariants.{ErrOutOfMemory};
 ghost use Rattle.sctp_list_lemmas.specs.Lists.{advance_over};
 ghost use Rattle.sctp_list_lemmas.specs.Serial.{comes_before};
@@ -52,7 +52,7 @@ impl Model for TsnFilter {
 }
 
 impl TsnFilter {
-    ghost use Rattle.sctp_receiver.specs.TsnFilter.{has_come, is_opposite, with_tsn, with_duplicate, skipped_to, has_room, gap_ack_blocks};
+    ghost use Rattle.sctp_receiver.specs.TsnFilter.{has_come, is_opposite, highest_tsn, with_tsn, with_duplicate, skipped_to, has_room, gap_ack_blocks};
 
     /// Nothing came: the first TSN is expected next. It takes no memory.
     pub fn new(alloc: Global, first_tsn: u32) -> Self
@@ -116,6 +116,16 @@ impl TsnFilter {
         distance(self.cumulative_tsn, tsn) == 1 << 31
     }
 
+    /// The highest TSN that came: the last of those beyond the cumulative one, or that one.
+    pub fn highest_tsn(&self) -> u32
+        ensures { result ≡ highest_tsn self.now }
+    {
+        match self.queue.get_last_tsn_received() {
+            Some(tsn) => tsn,
+            None => self.cumulative_tsn,
+        }
+    }
+
     /// Makes room for a new TSN: the one that is expected next needs none. Refuses only for memory.
     pub fn reserve_for(&mut self, tsn: u32) -> Result<()>
         ensures room { OnOk result (has_room tsn self.new ≡ true) }
@@ -176,6 +186,25 @@ impl TsnFilter {
         Ok(blocks)
     }
 
+    /// So many of the TSNs that came again are forgotten, those that came first. Where others are left the TSNs that are held are
+    /// copied. Refuses only for memory, and the filter is as it was then.
+    pub fn forget_duplicates(&mut self, alloc: Global, count: usize) -> Result<()>
+        ensures ok { OnOk result (self.new
+            ≡ record self.old { duplicates = drop count self.old.duplicates }) }
+        ensures err { OnErr result (self.new ≡ self.old) }
+        ensures memory { IsOkUnless result ErrOutOfMemory }
+    {
+        if count >= self.queue.duplicates().len() {
+            let _ = self.queue.pop_duplicates(alloc);
+            return Ok(());
+        }
+        let mut queue = self.queue.try_clone(alloc)?;
+        let all = queue.pop_duplicates(alloc);
+        note_each(&mut queue, &all[count..])?;
+        self.queue = queue;
+        Ok(())
+    }
+
     /// The TSNs that came again, which are forgotten. It takes no memory.
     pub fn take_duplicates(&mut self, alloc: Global) -> Vec<u32>
         ensures taken { result.items ≡ self.old.duplicates }
@@ -209,6 +238,18 @@ fn mark(tsn: u32) -> ChunkPayloadData
         nsent: 0,
         retransmit: false,
     }
+}
+
+// Notes TSNs as duplicates: each is at or before itself.
+fn note_each(queue: &mut PayloadQueue, duplicates: &[u32]) -> Result<()>
+    ensures ok { OnOk result (queue.new
+        ≡ record queue.old { duplicates = queue.old.duplicates ++ duplicates.now }) }
+    ensures memory { IsOkUnless result ErrOutOfMemory }
+{
+    for tsn in duplicates {
+        queue.push(mark(*tsn), *tsn)?;
+    }
+    Ok(())
 }
 
 // Moves the cumulative TSN over the chunks that stand next to it, which leave the queue (RFC 4960 6.2).

@@ -1,10 +1,10 @@
 //! What a sender abandons, and how its peer learns of it (RFC 3758 3.5).
 
-ghost use Rattle.std.specs.Prelude.{◌≡◌, ◌+◌, ◌⊎◌, [], true, false, None, OnOk, OnErr, IfOk, IfErr, IfSome, IsOk, is_some, map, nat_lt};
+ghost use Rattle.std.specs.Prelude.{◌≡◌, ◌+◌, ◌*◌, ◌<◌, ◌≤◌, ◌⊎◌, [], true, false, None, OnOk, OnErr, IfOk, IfErr, IfSome, IsOk, is_some, length, nat_lt};
 ghost use Rattle.std.specs.List.{sum_by};
 ghost use Rattle.sctp_sender.specs.declared.sender.refusal.SenderRefusal.TheVariants.{OutOfMemory, TsnsUsedUp};
-ghost use Rattle.sctp_sender.specs.Late.{part_of};
-ghost use Rattle.sctp_sender.specs.Outgoing.{after_releases};
+ghost use Rattle.sctp_sender.specs.Late.{after_leaving};
+ghost use Rattle.sctp_serial.specs.DataChunks.{following_tsn};
 
 use super::Sender;
 use super::flight::late::AbandonedMessage;
@@ -16,7 +16,8 @@ impl Sender {
     ghost use Rattle.sctp_outbound.specs.outbound_queue.OutboundQueue.{late_tsns, total_bytes};
     ghost use Rattle.sctp_sender.specs.Flight.{may_send};
     ghost use Rattle.sctp_sender.specs.Abandonment.{Name, advanced_ack_point, ahead, can_skip_to, named_up_to};
-    ghost use Rattle.sctp_sender.specs.Late.{after_late, late_order, leaving_each, with_tail};
+    ghost use Rattle.sctp_sender.specs.Late.{after_late, after_worn, late_order, leaving_each, with_tail, worn_order};
+    ghost use Rattle.sctp_sender.specs.Resending.{worn_tsns};
 
     /// Abandons each message in flight that is late (RFC 3758 3.5, 4.1): a chunk of it has reached its deadline, it is
     /// not abandoned yet, and of it some chunk is not acknowledged or some fragment waits. `now` is in nanoseconds. Answers
@@ -42,6 +43,31 @@ impl Sender {
         let abandoned = self.flight.expire_late(self.alloc, now)?;
         release_abandoned(&mut self.streams, &abandoned);
         Ok(abandoned)
+    }
+
+    /// Abandons each message in flight that was sent again as often as it may be (RFC 7496 3.1): a chunk of it is outstanding, of
+    /// reliability `Rexmit`, marked for retransmission, and was sent more often than its limit, without the first time; never a
+    /// DCEP message (RFC 8832 6). Call it once chunks are marked: `next_to_retransmit` lends no such chunk then. The answer and the
+    /// refusals are those of `expire_late`. The sender is as it was then.
+    pub fn expire_rexmit(&mut self) -> Result<Vec<AbandonedMessage>, SenderRefusal>
+        ensures ok { OnOk result (self.new ≡ after_worn self.old) }
+        ensures none_left { OnOk result (worn_tsns self.new.flight ≡ []) }
+        ensures answer { IfOk result (λ abandoned. abandoned.items
+            ≡ leaving_each (worn_order self.old.flight) self.old.flight) }
+        ensures released { IfOk result (λ abandoned. total_bytes self.new.flight.queue
+            + sum_by (λ g. g.bytes) abandoned.items ≡ total_bytes self.old.flight.queue) }
+        ensures accepted { IsOk result →
+            (with_tail (worn_tsns self.old.flight) self.old.flight ≡ None)
+            ⊎ (may_send self.old.flight ≡ true) }
+        ensures refused { IfErr result (λ e. (e ≡ OutOfMemory)
+            ⊎ ((e ≡ TsnsUsedUp) × (may_send self.old.flight ≡ false)
+            × (is_some (with_tail (worn_tsns self.old.flight) self.old.flight) ≡ true))) }
+        ensures idle { worn_tsns self.old.flight ≡ [] → IsOk result }
+        ensures err { OnErr result (self.new ≡ self.old) }
+    {
+        let worn = self.flight.expire_rexmit(self.alloc)?;
+        release_abandoned(&mut self.streams, &worn);
+        Ok(worn)
     }
 
     /// The greatest TSN such that the message of it and of each in flight before it is abandoned, or, where that of the first
@@ -89,9 +115,37 @@ impl Sender {
     }
 }
 
+impl Sender {
+    ghost use Rattle.sctp_sender.specs.Abandonment.{IsTooLong, Name, advanced_ack_point, ahead, can_skip_to, named_up_to};
+
+    /// As `forward_tsn`, as far as the names fit into a chunk of so many bytes, as of what is left of a packet (RFC 4960 6.10): 8 for
+    /// its header and its TSN, and 4 a name. It goes to `advanced_ack_point`, or to the last TSN before whose chunk is not longer. None
+    /// where there is nothing to tell, or the chunk to the first TSN would be longer. Refuses only for memory, and takes none where
+    /// there is nothing to tell.
+    pub fn forward_tsn_within(&self, bytes: usize) -> Result<Option<ChunkForwardTsn>, SenderRefusal>
+        ensures past { IfOk result (λ r. IfSome r
+            (λ c. can_skip_to c.new_cumulative_tsn self.now.flight ≡ true)) }
+        ensures names { IfOk result (λ r. IfSome r
+            (λ c. Name c.streams.items (named_up_to c.new_cumulative_tsn self.now.flight))) }
+        ensures fits { IfOk result (λ r. IfSome r
+            (λ c. 8 + 4 * length c.streams.items ≤ bytes)) }
+        ensures furthest { IfOk result (λ r. IfSome r
+            (λ c. (c.new_cumulative_tsn ≡ advanced_ack_point self.now.flight)
+            ⊎ IsTooLong bytes (following_tsn c.new_cumulative_tsn) self.now.flight)) }
+        ensures none { IfOk result (λ r. r ≡ None
+            → (ahead self.now.flight (advanced_ack_point self.now.flight) ≡ 0)
+            ⊎ IsTooLong bytes (following_tsn self.now.flight.acked_tsn) self.now.flight) }
+        ensures idle { ahead self.now.flight (advanced_ack_point self.now.flight) ≡ 0
+            → IsOk result }
+        ensures memory { IfErr result (λ e. e ≡ OutOfMemory) }
+    {
+        self.flight.forward_tsn_within(self.alloc, bytes)
+    }
+}
+
 // Takes off each stream what left of it.
 fn release_abandoned(streams: &mut OutboundStreams, gone: &[AbandonedMessage])
-    ensures { streams.new ≡ after_releases (map part_of gone.now) streams.old }
+    ensures { streams.new ≡ after_leaving gone.now streams.old }
 {
     for one in gone {
         streams.release(one.stream, one.bytes);

@@ -1,19 +1,23 @@
 //! What is in flight: each TSN from the one behind the acknowledged ones to the one before the next.
 
-ghost use Rattle.std.specs.Prelude.{◌≡◌, ◌+◌, ◌-◌, ◌<◌, ◌≤◌, ◌^◌, ◌%◌, ◌⊎◌, ◌++◌, ◌∷◌, [], ℕ, true, false, is_some, Some, None, OnOk, OnErr, IfOk, IfErr, IsOk, IsOkUnless, length, map, drop, vec_len, vec_capacity, option_map, find, Bool, if◌then◌else◌};
+ghost use Rattle.std.specs.Prelude.{◌≡◌, ◌&&◌, not, nat_eq, ◌+◌, ◌-◌, ◌<◌, ◌≤◌, ◌^◌, ◌%◌, ◌⊎◌, ◌++◌, ◌∷◌, [], ℕ, true, false, is_some, Some, None, OnOk, OnErr, IfOk, IfErr, IsOk, IsOkUnless, length, map, drop, vec_len, vec_capacity, option_map, find, Bool, if◌then◌else◌};
 ghost use Rattle.sctp_list_lemmas.specs.Lists.{change_where};
 ghost use Rattle.sctp_chunks.specs.SelectiveAck.{sack_of};
 ghost use Rattle.sctp_outbound.specs.Marks.{as_acknowledged};
 ghost use Rattle.sctp_outbound.specs.outbound_queue.OutboundQueue.{with_inflight};
-ghost use Rattle.sctp_sender.specs.Flight.{tsns_from, reports_anew, is_within, released_of};
-ghost use Rattle.std.specs.List.{list_all, filter};
+ghost use Rattle.sctp_sender.specs.Flight.{tsns_from, reports_anew, is_within, is_half, leaves_open, open_messages, released_of};
+ghost use Rattle.std.specs.HashSet.{contains};
+ghost use Rattle.sctp_outbound.specs.pending_queue.Whole.{partially_sent};
+ghost use Rattle.std.specs.List.{list_all, list_any, filter};
 ghost use Rattle.sctp_outbound.specs.payload_queue.Blocks.{is_in_blocks, is_in_block};
 ghost use Rattle.sctp_chunks.specs.declared.chunk.chunk_payload_data.ChunkPayloadData.{ChunkPayloadData};
 ghost use Rattle.sctp_sender.specs.declared.sender.refusal.SenderRefusal.TheVariants.{NotInFlight, OutOfMemory};
 ghost use Rattle.sctp_serial.specs.DataChunks.{bytes_of, has_tsn, following_tsn, preceding_tsn, tsns};
 
 pub mod late;
+mod resending;
 mod skipping;
+mod walking;
 
 use crate::sender::refusal::SenderRefusal;
 use sctp_base::util::{sna32lt, sna32lte};
@@ -23,13 +27,27 @@ use sctp_outbound::outbound_queue::OutboundQueue;
 use sctp_serial::serial::distance;
 use sctp_stream::stream_numbers::put;
 use std::alloc::Global;
+use std::collections::HashSet;
 use std::marker::Model;
 
-/// A chunk that was acknowledged: its stream, and how many bytes it had.
+/// A chunk that was acknowledged.
 #[derive(Clone, Copy, Debug, PartialEq, Eq)]
 pub struct Released {
+    /// Its TSN.
+    pub tsn: u32,
+    /// Its stream.
     pub stream: u16,
+    /// How many bytes of user data it had, 0 where its message was abandoned before.
     pub bytes: usize,
+    /// How often it was sent: an acknowledgement of a chunk that was sent once alone tells the round trip time (RFC 4960 6.3.1 C5).
+    pub nsent: u32,
+    /// When it was sent last, in nanoseconds; None of a chunk that stood for what was never sent.
+    pub since: Option<u64>,
+    /// The number of its message.
+    pub message: u64,
+    /// Whether the message is acknowledged whole now: nothing of it waits, each chunk of it in flight is acknowledged, and it was not
+    /// abandoned.
+    pub is_message_acked: bool,
 }
 
 /// What waits and what is in flight, with the next TSN and the TSN up to which all was acknowledged.
@@ -60,11 +78,11 @@ impl Model for InFlight {
 
 impl InFlight {
     ghost use Rattle.sctp_outbound.specs.Marks.{with_nsent};
-    ghost use Rattle.sctp_outbound.specs.outbound_queue.OutboundQueue.{with_message, has_room, total_bytes, all_started, sent_next, expired_of, expiring, expiring_tail, message_of, released_of as bytes_left, expired_bytes, tail_bytes};
+    ghost use Rattle.sctp_outbound.specs.outbound_queue.OutboundQueue.{with_message, has_room, total_bytes, all_started, as_sent, sent_next, expired_of, expiring, expiring_tail, message_of, released_of as bytes_left, expired_bytes, tail_bytes};
     ghost use Rattle.sctp_outbound.specs.pending_queue.PendingQueue as pending;
     ghost use Rattle.sctp_outbound.specs.pending_queue.Whole.{IsMessageOrNone};
     ghost use Rattle.sctp_sender.specs.Totals.{AreSettled, bytes_in};
-    ghost use Rattle.sctp_sender.specs.Flight.{with_queue, with_room, at_first, may_send, next_after_send, can_resend, resent, is_outdated, sack_refusal, after_sack, released_by, message_to_abandon, has_tail_at, after_abandonment};
+    ghost use Rattle.sctp_sender.specs.Flight.{with_queue, with_room, at_first, may_send, next_after_send, resent, is_outdated, sack_refusal, after_sack, released_by, message_to_abandon, has_tail_at, after_abandonment};
 
     /// Nothing waits, and the first TSN is the next. It takes no memory.
     pub fn new(alloc: Global, first_tsn: u32) -> Self
@@ -165,6 +183,9 @@ impl InFlight {
         requires { may_send self.old ≡ true }
         ensures sent { IfOk result (λ sent. sent
             ≡ option_map (λ _. self.old.next_tsn) (pending.next_pending self.old.queue.pending)) }
+        ensures noted { OnOk result (find (has_tsn self.old.next_tsn) self.new.queue.inflight.chunks
+            ≡ option_map (as_sent self.old.next_tsn now)
+            (pending.next_pending (all_started now self.old.queue).pending)) }
         ensures ok { OnOk result (self.new ≡ record self.old {
           queue = sent_next
               self.old.queue self.old.next_tsn now;
@@ -237,28 +258,6 @@ impl InFlight {
         Ok(abandoned)
     }
 
-    /// The chunk in flight with a TSN, to be sent again, which is counted. Refuses with `NotInFlight`, where none is, or it is
-    /// acknowledged or abandoned; and for memory. All is as it was then.
-    pub fn resend(&mut self, tsn: u32) -> Result<ChunkPayloadData, SenderRefusal>
-        ensures answer { IfOk result (λ c. find (has_tsn tsn) self.old.queue.inflight.chunks
-            ≡ Some c) }
-        ensures ok { IfOk result (λ c. self.new ≡ resent tsn c self.old) }
-        ensures accepted { IsOk result → can_resend tsn self.old ≡ true }
-        ensures refused { IfErr result (λ e. e
-            ≡ (if can_resend tsn self.old then OutOfMemory else NotInFlight)) }
-        ensures err { OnErr result (self.new ≡ self.old) }
-    {
-        let Some(chunk) = self.queue.get(tsn) else {
-            return Err(SenderRefusal::NotInFlight);
-        };
-        if chunk.acked || chunk.abandoned {
-            return Err(SenderRefusal::NotInFlight);
-        }
-        let again = chunk.try_clone()?;
-        self.count_resend(tsn);
-        Ok(again)
-    }
-
     /// Counts one more sending of the chunk in flight with a TSN, up to the greatest u32; none is counted where the TSN is not in
     /// flight. It takes no memory.
     pub fn count_resend(&mut self, tsn: u32)
@@ -318,7 +317,16 @@ impl InFlight {
             return Err(SenderRefusal::OutOfMemory);
         }
         let first = self.acked_tsn.wrapping_add(1);
-        mark_reported(&mut self.queue, first, sack, &mut released);
+        let unfinished = open_messages(alloc, &self.queue, first, sack)?;
+        let half = half_of(&self.queue);
+        mark_reported(
+            &mut self.queue,
+            first,
+            sack,
+            &unfinished,
+            half,
+            &mut released,
+        );
         pop_run(&mut self.queue, first, count);
         self.acked_tsn = sack.cumulative_tsn_ack;
         Ok(released)
@@ -375,11 +383,80 @@ fn is_in_block(block: &GapAckBlock, offset: usize) -> bool
     block.start as usize <= offset && offset <= block.end as usize
 }
 
+// The messages of which a SACK leaves a chunk in flight unacknowledged, or abandoned.
+fn open_messages(
+    alloc: Global,
+    queue: &OutboundQueue,
+    first: u32,
+    sack: &ChunkSelectiveAck,
+) -> Result<HashSet<u64>, SenderRefusal>
+    requires run { tsns queue.now.inflight.chunks
+        ≡ tsns_from first (length queue.now.inflight.chunks) }
+    requires few { length queue.now.inflight.chunks < 2 ^ 31 }
+    ensures ok { IfOk result (λ set. (m : ℕ) → contains nat_eq set m
+        ≡ list_any (nat_eq m) (open_messages (sack_of sack.now) queue.now.inflight.chunks)) }
+    ensures memory { IfErr result (λ e. e ≡ OutOfMemory) }
+{
+    let mut unfinished = HashSet::new(alloc);
+    for place in 0..queue.inflight_len() {
+        let Some(chunk) = queue.get(first.wrapping_add(place as u32)) else {
+            unreachable!()
+        };
+        if !leaves_open(sack, chunk) {
+            continue;
+        }
+        let Ok(_) = unfinished.insert(chunk.message_id) else {
+            return Err(SenderRefusal::OutOfMemory);
+        };
+    }
+    Ok(unfinished)
+}
+
+// Whether a SACK leaves the chunk unacknowledged, or it is abandoned.
+fn leaves_open(sack: &ChunkSelectiveAck, chunk: &ChunkPayloadData) -> bool
+    ensures { result ≡ leaves_open (sack_of sack.now) chunk.now }
+{
+    if chunk.abandoned {
+        return true;
+    }
+    if chunk.acked {
+        return false;
+    }
+    !is_reported(sack, chunk.tsn)
+}
+
+// The message that is partially sent, if there is one.
+fn half_of(queue: &OutboundQueue) -> Option<u64>
+    ensures { result ≡ partially_sent queue.now.pending }
+{
+    queue.are_whole();
+    let Some(chunk) = queue.peek_pending() else {
+        return None;
+    };
+    if chunk.beginning_fragment {
+        return None;
+    }
+    Some(chunk.message_id)
+}
+
+// Whether it is neither the message that is partially sent nor one of these.
+fn is_whole(unfinished: &HashSet<u64>, half: Option<u64>, message: u64) -> bool
+    ensures { result
+        ≡ (not (is_half half message) && not (contains nat_eq unfinished.now message)) }
+{
+    if half == Some(message) {
+        return false;
+    }
+    !unfinished.contains(&message)
+}
+
 // Acknowledges each chunk in flight that a SACK reports anew, and tells of it.
 fn mark_reported(
     queue: &mut OutboundQueue,
     first: u32,
     sack: &ChunkSelectiveAck,
+    unfinished: &HashSet<u64>,
+    half: Option<u64>,
     released: &mut Vec<Released>,
 )
     requires run { tsns queue.old.inflight.chunks
@@ -390,7 +467,8 @@ fn mark_reported(
     ensures marked { queue.new ≡ with_inflight queue.old
         (change_where (reports_anew (sack_of sack.now)) as_acknowledged queue.old.inflight.chunks) }
     ensures told { released.new.items
-        ≡ map released_of (filter (reports_anew (sack_of sack.now)) queue.old.inflight.chunks) }
+        ≡ map (released_of (λ m. not (is_half half m) && not (contains nat_eq unfinished.now m)))
+        (filter (reports_anew (sack_of sack.now)) queue.old.inflight.chunks) }
 {
     for place in 0..queue.inflight_len() {
         let tsn = first.wrapping_add(place as u32);
@@ -400,9 +478,15 @@ fn mark_reported(
         if chunk.acked || !is_reported(sack, tsn) {
             continue;
         }
+        let whole = is_whole(unfinished, half, chunk.message_id);
         let one = Released {
+            tsn: chunk.tsn,
             stream: chunk.stream_identifier,
             bytes: chunk.user_data.len(),
+            nsent: chunk.nsent,
+            since: chunk.since,
+            message: chunk.message_id,
+            is_message_acked: whole,
         };
         queue.mark_as_acked(tsn);
         put(released, one);

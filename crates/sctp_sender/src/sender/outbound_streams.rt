@@ -8,7 +8,7 @@ ghost use Rattle.sctp_list_lemmas.specs.Lists.{change_where};
 ghost use Rattle.sctp_serial.specs.DataChunks.{bytes_of};
 ghost use Rattle.sctp_sender.specs.declared.sender.refusal.SenderRefusal.TheVariants.{OutOfMemory};
 ghost use Rattle.sctp_stream.specs.Numbers.{IsOnlyPlace, IsAbsent};
-ghost use Rattle.sctp_sender.specs.Outgoing.{with_reliability, wrote, after_expiry};
+ghost use Rattle.sctp_sender.specs.Outgoing.{with_reliability, with_size, wrote, after_expiry};
 
 use crate::sender::refusal::SenderRefusal;
 use bytes::Bytes;
@@ -42,7 +42,7 @@ impl Model for OutboundStreams {
 
 impl OutboundStreams {
     ghost use Rattle.sctp_stream.specs.Stream.{new_stream};
-    ghost use Rattle.sctp_sender.specs.Outgoing.{has_number, numbers_of, with_mode, fragments_with_mode, less_by};
+    ghost use Rattle.sctp_sender.specs.Outgoing.{has_number, numbers_of, with_mode, with_low, from_first, fragments_with_mode, less_by};
 
     /// No streams. It takes no memory.
     pub fn new(alloc: Global) -> Self
@@ -123,6 +123,42 @@ impl OutboundStreams {
     {
         let _stream = stream;
         self.items[place].set_reliability_params(mode.0, mode.1, mode.2);
+    }
+
+    /// Later writes are cut into fragments of this size, on every stream. It takes no memory.
+    /// Precondition: 1 to 65,519.
+    pub fn set_fragment_size(&mut self, size: u32)
+        requires { (0 < size) × (size ≤ 65519) }
+        ensures { self.new ≡ map (with_size size) self.old }
+    {
+        set_sizes(&mut self.items, size);
+    }
+
+    /// Sets the low threshold of the stream at a place, in bytes. It takes no memory.
+    /// Precondition: that stream stands there.
+    pub fn set_low_at(&mut self, place: usize, stream: u16, bytes: usize)
+        requires { IsOnlyPlace stream (numbers_of self.old) place }
+        ensures { self.new ≡ change_where (has_number stream) (with_low bytes) self.old }
+    {
+        let _stream = stream;
+        self.items[place].set_buffered_amount_low_threshold(bytes);
+    }
+
+    /// The next ordered message of the stream at a place has the number 0. It takes no memory.
+    /// Precondition: that stream stands there.
+    pub fn restart_at(&mut self, place: usize, stream: u16)
+        requires { IsOnlyPlace stream (numbers_of self.old) place }
+        ensures { self.new ≡ change_where (has_number stream) from_first self.old }
+    {
+        let _stream = stream;
+        self.items[place].set_sequence_number(0);
+    }
+
+    /// The streams.
+    pub fn all(&self) -> &[StreamState]
+        ensures { result.now ≡ self.now }
+    {
+        &self.items
     }
 
     /// The fragments of a write to the stream at a place, with its mode. Refuses only for memory.
@@ -210,6 +246,16 @@ fn expire_message(state: &mut StreamState, unordered: bool, bytes: usize)
     if !unordered {
         let number = state.sequence_number().wrapping_sub(1);
         state.set_sequence_number(number);
+    }
+}
+
+// Each stream cuts later writes into fragments of this size.
+fn set_sizes(streams: &mut Vec<StreamState>, size: u32)
+    requires { (0 < size) × (size ≤ 65519) }
+    ensures { streams.new.items ≡ map (with_size size) streams.old.items }
+{
+    for place in 0..streams.len() {
+        streams[place].set_max_payload_size(size);
     }
 }
 

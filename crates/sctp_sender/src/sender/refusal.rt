@@ -9,6 +9,8 @@ pub enum SenderRefusal {
     StreamOpen,
     /// The stream is not open.
     StreamUnknown,
+    /// Something of the stream waits or is in flight.
+    StreamBusy,
     /// The message is longer than a message may be.
     MessageTooLarge,
     /// No further message can wait: the numbers of messages are used up, or all bytes would be more than the greatest usize.

@@ -1,6 +1,7 @@
-//! Messages that are in flight when their lifetime ends (RFC 3758 3.5, 4.1).
+//! Messages that are in flight when their lifetime ends, or when they were sent as often as they may be (RFC 3758 3.5, 4.1;
+//! RFC 7496 3.1).
 
-ghost use Rattle.std.specs.Prelude.{◌≡◌, ◌+◌, ◌≤◌, ◌<◌, ◌⊎◌, ◌++◌, ℕ, [], true, false, not, None, OnOk, OnErr, IfOk, IfErr, IsOk, is_some, length, map, vec_len, vec_capacity, option_to_list};
+ghost use Rattle.std.specs.Prelude.{◌≡◌, ◌+◌, ◌≤◌, ◌<◌, ◌⊎◌, ◌++◌, ◌∷◌, ℕ, List, [], true, false, not, None, OnOk, OnErr, IfOk, IfErr, IsOk, is_some, length, map, vec_len, vec_capacity, option_to_list};
 ghost use Rattle.std.specs.List.{list_all, sum_by};
 ghost use Rattle.sctp_sender.specs.declared.sender.refusal.SenderRefusal.TheVariants.{OutOfMemory, TsnsUsedUp};
 
@@ -20,7 +21,8 @@ pub struct AbandonedMessage {
 impl InFlight {
     ghost use Rattle.sctp_outbound.specs.outbound_queue.OutboundQueue.{late_tsns, total_bytes};
     ghost use Rattle.sctp_sender.specs.Flight.{has_tail_at, may_send};
-    ghost use Rattle.sctp_sender.specs.Late.{abandoned_at, abandoned_each, late_order, leaving_at, leaving_each, with_tail};
+    ghost use Rattle.sctp_sender.specs.Late.{abandoned_at, abandoned_each, late_order, leaving_at, leaving_each, tail_first, with_tail, worn_order};
+    ghost use Rattle.sctp_sender.specs.Resending.{are_listed, worn_tsns};
 
     /// Abandons each message in flight that is late: a chunk of it has reached its deadline, it is not abandoned yet, and of it
     /// some chunk is not acknowledged or some fragment waits. `now` is in nanoseconds. Answers them, in the order of the first
@@ -47,15 +49,62 @@ impl InFlight {
         ensures err { OnErr result (self.new ≡ self.old) }
     {
         let tsns = self.queue.expired_inflight(alloc, now)?;
+        self.abandon_all(alloc, &tsns)
+    }
+
+    /// Abandons each message in flight that was sent again as often as it may be (RFC 7496 3.1) and of which a chunk is marked for
+    /// retransmission, outstanding and sent more often than its limit and once; never a DCEP message (RFC 8832 6). The answer and
+    /// the refusals are those of `expire_late`. All is as it was then.
+    pub fn expire_rexmit(&mut self, alloc: Global) -> Result<Vec<AbandonedMessage>, SenderRefusal>
+        ensures ok { OnOk result (self.new ≡ abandoned_each (worn_order self.old) self.old) }
+        ensures none_left { OnOk result (worn_tsns self.new ≡ []) }
+        ensures answer { IfOk result (λ abandoned. abandoned.items
+            ≡ leaving_each (worn_order self.old) self.old) }
+        ensures released { IfOk result (λ abandoned. total_bytes self.new.queue
+            + sum_by (λ g. g.bytes) abandoned.items ≡ total_bytes self.old.queue) }
+        ensures accepted { IsOk result →
+            (with_tail (worn_tsns self.old) self.old ≡ None) ⊎ (may_send self.old ≡ true) }
+        ensures refused { IfErr result (λ e. (e ≡ OutOfMemory)
+            ⊎ ((e ≡ TsnsUsedUp) × (may_send self.old ≡ false)
+            × (is_some (with_tail (worn_tsns self.old) self.old) ≡ true))) }
+        ensures idle { worn_tsns self.old ≡ [] → IsOk result }
+        ensures err { OnErr result (self.new ≡ self.old) }
+    {
+        let tsns = self.worn_tsns(alloc)?;
+        self.abandon_all(alloc, &tsns)
+    }
+
+    // Abandons the messages of these TSNs, that with a tail before the others.
+    fn abandon_all(
+        &mut self,
+        alloc: Global,
+        tsns: &[u32],
+    ) -> Result<Vec<AbandonedMessage>, SenderRefusal>
+        ensures ok { OnOk result (self.new
+            ≡ abandoned_each (tail_first tsns.now self.old) self.old) }
+        ensures listed { OnOk result (are_listed tsns.now self.old ≡ true
+            → are_listed [] self.new ≡ true) }
+        ensures answer { IfOk result (λ abandoned. abandoned.items
+            ≡ leaving_each (tail_first tsns.now self.old) self.old) }
+        ensures released { IfOk result (λ abandoned. total_bytes self.new.queue
+            + sum_by (λ g. g.bytes) abandoned.items ≡ total_bytes self.old.queue) }
+        ensures accepted { IsOk result → (with_tail tsns.now self.old ≡ None)
+            ⊎ (may_send self.old ≡ true) }
+        ensures refused { IfErr result (λ e. (e ≡ OutOfMemory)
+            ⊎ ((e ≡ TsnsUsedUp) × (may_send self.old ≡ false)
+            × (is_some (with_tail tsns.now self.old) ≡ true))) }
+        ensures idle { tsns.now ≡ [] → IsOk result }
+        ensures err { OnErr result (self.new ≡ self.old) }
+    {
         let mut abandoned = Vec::new(alloc);
         if tsns.is_empty() {
             return Ok(abandoned);
         }
-        if abandoned.reserve(tsns.len() + 1).is_err() {
+        if tsns.len() == usize::MAX || abandoned.reserve(tsns.len() + 1).is_err() {
             return Err(SenderRefusal::OutOfMemory);
         }
-        self.abandon_with_tail(&tsns, &mut abandoned)?;
-        self.abandon_each(&tsns, &mut abandoned);
+        self.abandon_with_tail(tsns, &mut abandoned)?;
+        self.abandon_each(tsns, &mut abandoned);
         Ok(abandoned)
     }
 
@@ -68,6 +117,8 @@ impl InFlight {
         requires room { vec_len abandoned.old < vec_capacity abandoned.old }
         ensures ok { OnOk result (self.new
             ≡ abandoned_each (option_to_list (with_tail tsns.now self.old)) self.old) }
+        ensures listed { OnOk result ((ts : List ℕ) → are_listed ts self.old ≡ true
+            → are_listed ts self.new ≡ true) }
         ensures answer { OnOk result (abandoned.new.items
             ≡ abandoned.old.items
             ++ leaving_each (option_to_list (with_tail tsns.now self.old)) self.old) }
@@ -126,6 +177,7 @@ impl InFlight {
         requires no_tail { list_all (λ t. not (has_tail_at self.old t)) tsns.now ≡ true }
         requires room { length abandoned.old.items + length tsns.now ≤ vec_capacity abandoned.old }
         ensures ok { self.new ≡ abandoned_each tsns.now self.old }
+        ensures listed { are_listed tsns.now self.old ≡ true → are_listed [] self.new ≡ true }
         ensures answer { abandoned.new.items ≡ abandoned.old.items
             ++ leaving_each tsns.now self.old }
         ensures released { total_bytes self.new.queue + sum_by (λ g. g.bytes) abandoned.new.items
@@ -144,6 +196,8 @@ impl InFlight {
         requires { has_tail_at self.old tsn ≡ true → may_send self.old ≡ true }
         ensures ok { OnOk result (self.new ≡ abandoned_at tsn self.old) }
         ensures answer { IfOk result (λ one. option_to_list one ≡ leaving_at tsn self.old) }
+        ensures listed { OnOk result ((ts : List ℕ) → are_listed (tsn ∷ ts) self.old ≡ true
+            → are_listed ts self.new ≡ true) }
         ensures released { IfOk result (λ one. total_bytes self.new.queue
             + sum_by (λ g. g.bytes) (option_to_list one) ≡ total_bytes self.old.queue) }
         ensures no_tail { has_tail_at self.old tsn ≡ false → IsOk result }

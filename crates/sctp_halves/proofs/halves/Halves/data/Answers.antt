@@ -56,25 +56,25 @@ returns-in_default-data-clause-err c =
     let kept = progress-kept h.numbers h.sender h.receiver h.progress.items c.self.invariant c.in-Some.place p q c.index_mut.ensures.value (λ l. ap (λ ws. let x : OpenStream = record (with_progress p l) { complete = ws } in x) c.in_ok-reserve.ensures.items) in
     ap (λ r. sides h.sender r (slice_set h.progress.items c.in-Some.place q)) c.in_default-data.ensures.err ∙ kept ∙ c.self.view_is
 
-pub index_mut-requires-then-complete_on-before : goal.index_mut-requires-then-complete_on-before
-index_mut-requires-then-complete_on-before c =
+pub index_mut-requires-then-completes : goal.index_mut-requires-then-completes
+index_mut-requires-then-completes c =
     let h = c.self.inside in
     omega (arith, place-inside h.numbers h.sender h.receiver h.progress.items c.self.invariant c.args.chunk.now.stream_identifier c.in-Some.place c.in-Some.ensures)
 
-pub invariant_of-self-then-complete_on-before : goal.invariant_of-self-then-complete_on-before
-invariant_of-self-then-complete_on-before c =
+pub invariant_of-self-then-completes : goal.invariant_of-self-then-completes
+invariant_of-self-then-completes c =
     let h = c.self.inside in
     let p = c.index_mut.result.now in
     let q : StreamProgress = record p { complete = c.reserve.new.self } in
     let ps = slice_set h.progress.items c.in-Some.place q in
     let a = with-progresses h.numbers h.sender h.receiver h.progress.items c.self.invariant ps (progress-number h.numbers h.sender h.receiver h.progress.items c.self.invariant c.in-Some.place p q c.index_mut.ensures.value refl) in
     let b = taken-aligned h.numbers h.sender h.receiver ps a c.args.chunk.now c.in-Ok.arrival c.data.new.self c.in-Ok.ensures.ok in
-    let p2 = c.index_mut-then-complete_on-before.result.now in
+    let p2 = c.index_mut-then-completes.result.now in
     let q2 : StreamProgress = record p2 { complete = c.push_back_reserved.new.self } in
-    with-progresses h.numbers h.sender c.data.new.self ps b _ (progress-number h.numbers h.sender c.data.new.self ps b c.in-Some.place p2 q2 c.index_mut-then-complete_on-before.ensures.value refl)
+    with-progresses h.numbers h.sender c.data.new.self ps b _ (progress-number h.numbers h.sender c.data.new.self ps b c.in-Some.place p2 q2 c.index_mut-then-completes.ensures.value refl)
 
-pub invariant_of-self-else-complete_on-before : goal.invariant_of-self-else-complete_on-before
-invariant_of-self-else-complete_on-before c =
+pub invariant_of-self-else-completes : goal.invariant_of-self-else-completes
+invariant_of-self-else-completes c =
     let h = c.self.inside in
     let p = c.index_mut.result.now in
     let q : StreamProgress = record p { complete = c.reserve.new.self } in
@@ -82,22 +82,22 @@ invariant_of-self-else-complete_on-before c =
     let a = with-progresses h.numbers h.sender h.receiver h.progress.items c.self.invariant ps (progress-number h.numbers h.sender h.receiver h.progress.items c.self.invariant c.in-Some.place p q c.index_mut.ensures.value refl) in
     taken-aligned h.numbers h.sender h.receiver ps a c.args.chunk.now c.in-Ok.arrival c.data.new.self c.in-Ok.ensures.ok
 
-pub returns-then-complete_on-before-clause-ok : goal.returns-then-complete_on-before-clause-ok
-returns-then-complete_on-before-clause-ok c =
+pub returns-then-completes-clause-ok : goal.returns-then-completes-clause-ok
+returns-then-completes-clause-ok c =
     let h = c.self.inside in
     let p = c.index_mut.result.now in
     let q : StreamProgress = record p { complete = c.reserve.new.self } in
     let ps = slice_set h.progress.items c.in-Some.place q in
     let a = with-progresses h.numbers h.sender h.receiver h.progress.items c.self.invariant ps (progress-number h.numbers h.sender h.receiver h.progress.items c.self.invariant c.in-Some.place p q c.index_mut.ensures.value refl) in
     let kept = progress-kept h.numbers h.sender h.receiver h.progress.items c.self.invariant c.in-Some.place p q c.index_mut.ensures.value (λ l. ap (λ ws. let x : OpenStream = record (with_progress p l) { complete = ws } in x) c.in_ok-reserve.ensures.items) in
-    let p2 = c.index_mut-then-complete_on-before.result.now in
+    let p2 = c.index_mut-then-completes.result.now in
     let q2 : StreamProgress = record p2 { complete = c.push_back_reserved.new.self } in
     subst (λ o. Takes c.args.chunk.now c.args.number c.in-Ok.arrival o (sides h.sender c.data.new.self (slice_set ps c.in-Some.place q2))) (kept ∙ c.self.view_is)
-    (takes-complete h.numbers h.sender h.receiver ps a c.args.chunk.now c.args.number c.in-Some.place c.in-Some.ensures c.data.new.self c.complete_on-before.result c.complete_on.result c.complete_on-before.ensures.some c.complete_on.ensures.some c.if-complete_on-before.true c.in-Ok.arrival c.in-Ok.ensures.ok p2 q2 c.index_mut-then-complete_on-before.ensures.value
+    (takes-complete h.numbers h.sender h.receiver ps a c.args.chunk.now c.args.number c.in-Some.place c.in-Some.ensures c.data.new.self c.in-Ok.arrival (sym c.completes.ensures ∙ c.if-completes.true) c.in-Ok.ensures.ok p2 q2 c.index_mut-then-completes.ensures.value
     (λ l. ap (λ ws. let x : OpenStream = record (with_progress p2 l) { complete = ws } in x) c.push_back_reserved.ensures.items))
 
-pub returns-else-complete_on-before-clause-ok : goal.returns-else-complete_on-before-clause-ok
-returns-else-complete_on-before-clause-ok c =
+pub returns-else-completes-clause-ok : goal.returns-else-completes-clause-ok
+returns-else-completes-clause-ok c =
     let h = c.self.inside in
     let p = c.index_mut.result.now in
     let q : StreamProgress = record p { complete = c.reserve.new.self } in
@@ -105,7 +105,7 @@ returns-else-complete_on-before-clause-ok c =
     let a = with-progresses h.numbers h.sender h.receiver h.progress.items c.self.invariant ps (progress-number h.numbers h.sender h.receiver h.progress.items c.self.invariant c.in-Some.place p q c.index_mut.ensures.value refl) in
     let kept = progress-kept h.numbers h.sender h.receiver h.progress.items c.self.invariant c.in-Some.place p q c.index_mut.ensures.value (λ l. ap (λ ws. let x : OpenStream = record (with_progress p l) { complete = ws } in x) c.in_ok-reserve.ensures.items) in
     subst (λ o. Takes c.args.chunk.now c.args.number c.in-Ok.arrival o (sides h.sender c.data.new.self ps)) (kept ∙ c.self.view_is)
-    (takes-more h.numbers h.sender h.receiver ps a c.args.chunk.now c.args.number c.in-Some.place c.in-Some.ensures c.data.new.self c.complete_on-before.result c.complete_on.result c.complete_on-before.ensures.some c.complete_on.ensures.some c.if-complete_on-before.false c.in-Ok.arrival c.in-Ok.ensures.ok)
+    (takes-more h.numbers h.sender h.receiver ps a c.args.chunk.now c.args.number c.in-Some.place c.in-Some.ensures c.data.new.self c.in-Ok.arrival (sym c.completes.ensures ∙ c.if-completes.false) c.in-Ok.ensures.ok)
 
 pub returns-in_err-reserve-clause-grows : goal.returns-in_err-reserve-clause-grows
 returns-in_err-reserve-clause-grows c =
@@ -123,22 +123,22 @@ returns-in_default-data-clause-grows c =
     let kept = progress-kept h.numbers h.sender h.receiver h.progress.items c.self.invariant c.in-Some.place p q c.index_mut.ensures.value (λ l. ap (λ ws. let x : OpenStream = record (with_progress p l) { complete = ws } in x) c.in_ok-reserve.ensures.items) in
     subst (λ z. Grows c.args.self.now z) (sym (ap (λ r. sides h.sender r (slice_set h.progress.items c.in-Some.place q)) c.in_default-data.ensures.err ∙ kept ∙ c.self.view_is)) (grows-same c.args.self.now)
 
-pub returns-then-complete_on-before-clause-grows : goal.returns-then-complete_on-before-clause-grows
-returns-then-complete_on-before-clause-grows c =
+pub returns-then-completes-clause-grows : goal.returns-then-completes-clause-grows
+returns-then-completes-clause-grows c =
     let h = c.self.inside in
     let p = c.index_mut.result.now in
     let q : StreamProgress = record p { complete = c.reserve.new.self } in
     let ps = slice_set h.progress.items c.in-Some.place q in
     let a = with-progresses h.numbers h.sender h.receiver h.progress.items c.self.invariant ps (progress-number h.numbers h.sender h.receiver h.progress.items c.self.invariant c.in-Some.place p q c.index_mut.ensures.value refl) in
     let kept = progress-kept h.numbers h.sender h.receiver h.progress.items c.self.invariant c.in-Some.place p q c.index_mut.ensures.value (λ l. ap (λ ws. let x : OpenStream = record (with_progress p l) { complete = ws } in x) c.in_ok-reserve.ensures.items) in
-    let p2 = c.index_mut-then-complete_on-before.result.now in
+    let p2 = c.index_mut-then-completes.result.now in
     let q2 : StreamProgress = record p2 { complete = c.push_back_reserved.new.self } in
     subst (λ o. Grows o (sides h.sender c.data.new.self (slice_set ps c.in-Some.place q2))) (kept ∙ c.self.view_is)
-    (grows-complete h.numbers h.sender h.receiver ps a c.args.chunk.now c.args.number c.in-Some.place c.in-Some.ensures c.data.new.self c.complete_on-before.result c.complete_on.result c.complete_on-before.ensures.some c.complete_on.ensures.some c.if-complete_on-before.true c.in-Ok.arrival c.in-Ok.ensures.ok p2 q2 c.index_mut-then-complete_on-before.ensures.value
+    (grows-complete h.numbers h.sender h.receiver ps a c.args.chunk.now c.args.number c.in-Some.place c.in-Some.ensures c.data.new.self c.in-Ok.arrival (sym c.completes.ensures ∙ c.if-completes.true) c.in-Ok.ensures.ok p2 q2 c.index_mut-then-completes.ensures.value
     (λ l. ap (λ ws. let x : OpenStream = record (with_progress p2 l) { complete = ws } in x) c.push_back_reserved.ensures.items))
 
-pub returns-else-complete_on-before-clause-grows : goal.returns-else-complete_on-before-clause-grows
-returns-else-complete_on-before-clause-grows c =
+pub returns-else-completes-clause-grows : goal.returns-else-completes-clause-grows
+returns-else-completes-clause-grows c =
     let h = c.self.inside in
     let p = c.index_mut.result.now in
     let q : StreamProgress = record p { complete = c.reserve.new.self } in
@@ -146,4 +146,4 @@ returns-else-complete_on-before-clause-grows c =
     let a = with-progresses h.numbers h.sender h.receiver h.progress.items c.self.invariant ps (progress-number h.numbers h.sender h.receiver h.progress.items c.self.invariant c.in-Some.place p q c.index_mut.ensures.value refl) in
     let kept = progress-kept h.numbers h.sender h.receiver h.progress.items c.self.invariant c.in-Some.place p q c.index_mut.ensures.value (λ l. ap (λ ws. let x : OpenStream = record (with_progress p l) { complete = ws } in x) c.in_ok-reserve.ensures.items) in
     subst (λ o. Grows o (sides h.sender c.data.new.self ps)) (kept ∙ c.self.view_is)
-    (grows-more h.numbers h.sender h.receiver ps a c.args.chunk.now c.args.number c.in-Some.place c.in-Some.ensures c.data.new.self c.complete_on-before.result c.complete_on.result c.complete_on-before.ensures.some c.complete_on.ensures.some c.in-Ok.arrival c.in-Ok.ensures.ok)
+    (grows-more h.numbers h.sender h.receiver ps a c.args.chunk.now c.args.number c.in-Some.place c.in-Some.ensures c.data.new.self c.in-Ok.arrival c.in-Ok.ensures.ok)

@@ -3,6 +3,7 @@ use Rattle.std.specs.Prelude.{slice_index_or}
 use Rattle.std.proofs.lemmas.List.{take_more, take_all, length-take}
 use Rattle.sctp_chunks.specs.declared.chunk.chunk_payload_data.ChunkPayloadData.{ChunkPayloadData}
 use Rattle.sctp_receiver.specs.declared.receiver.arrival.Arrival.{Arrival}
+use Rattle.sctp_receiver.specs.Receiver.{is_told_complete}
 use Rattle.sctp_halves.specs.Halves.{TakesEach, TakesFirst, Takes}
 use Rattle.sctp_halves.proofs.Growing.{grows-same, grows-then}
 use Rattle.sctp_halves.proofs.Taken.{CanFrom, takes-next, can-inside, can-next}
@@ -45,7 +46,7 @@ loop-at-preserved c =
     let one : suc i ≡ i + 1 = omega arith in
     record {
       taken = subst (λ (bs : List Arrival). TakesEach (take (i + 1) cs) ns bs c.args.self.now new) (sym items) (subst (λ (ys : List ChunkPayloadData). TakesEach ys ns (c.loop-at.arrivals.items ++ b ∷ []) c.args.self.now new) front (takes-next (take i cs) ns c.loop-at.arrivals.items x b c.args.self.now old new short c.loop-at.invariant.taken here));
-      can = subst (λ j. CanFrom j cs ns new) one (h.later new (subst (λ (d : Arrival). Takes x (slice_index_or ns i 0) d old new) c.in_ok-arrival.ensures.answer c.in_ok-arrival.ensures.ok));
+      can = subst (λ j. CanFrom j cs ns new) one (h.later (is_told_complete b) new (subst (λ (d : Arrival). Takes x (slice_index_or ns i 0) d old new) c.in_ok-arrival.ensures.answer c.in_ok-arrival.ensures.ok));
       grows = grows-then c.args.self.now old new c.loop-at.invariant.grows c.data.ensures.grows;
     }
 

@@ -18,13 +18,13 @@ loop-at-preserved c =
       | in-New w ↦ record {
         slots =
             ap (arrived_in (drop (i + 1) ps) (drop (i + 1) bs)) (w.slots-is ∙ set-changed with_arrival c.loop-at.slots (slice_index_or ps i 0) _ (omega (arith, c.requires.inside i lt, inv.count)))
-            ∙ slots-first ps bs i lt c.requires.count w.in-New.is c.loop-at.slots ∙ inv.slots;
+            ∙ slots-first ps bs i lt c.requires.count _ w.in-New.is c.loop-at.slots ∙ inv.slots;
         duplicates =
             ap (λ (v : Vec ℕ Global). v.items ++ repeated_of (drop (i + 1) ps) (drop (i + 1) bs)) w.duplicates-is
-            ∙ ap (λ ds. c.loop-at.duplicates.items ++ ds) (repeated-first ps bs i lt c.requires.count w.in-New.is) ∙ inv.duplicates;
+            ∙ ap (λ ds. c.loop-at.duplicates.items ++ ds) (repeated-first ps bs i lt c.requires.count _ w.in-New.is) ∙ inv.duplicates;
         new =
             ap (λ b. b || list_any is_first (drop (i + 1) bs)) w.new-is
-            ∙ sym (ap (λ b. c.loop-at.new || b) (any-first ps bs i lt c.requires.count w.in-New.is) ∙ or-true c.loop-at.new) ∙ inv.new;
+            ∙ sym (ap (λ b. c.loop-at.new || b) (any-first ps bs i lt c.requires.count _ w.in-New.is) ∙ or-true c.loop-at.new) ∙ inv.new;
         room = omega (arith, ap vec_len w.duplicates-is, ap vec_capacity w.duplicates-is, inv.room);
         count = c.match-arrivals-at.auto.slots ∙ inv.count;
       }

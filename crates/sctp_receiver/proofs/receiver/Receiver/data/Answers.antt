@@ -21,8 +21,8 @@ returns-then-is_err-clause-wants c = λ _.
     let fresh = sym c.has_come.ensures ∙ c.if-has_come.false in
     rw (← c.self.view_is) (wanted c.args.chunk.now (reception_in c.self.inside.streams c.self.inside.filter c.self.inside.max_message_size) fresh near (open-at (reception_in c.self.inside.streams c.self.inside.filter c.self.inside.max_message_size) c.args.chunk.now.stream_identifier c.in-Some.place c.in-Some.ensures))
 
-pub returns-in_err-push_at-clause-wants : goal.returns-in_err-push_at-clause-wants
-returns-in_err-push_at-clause-wants c =
+pub returns-in_err-complete-clause-wants : goal.returns-in_err-complete-clause-wants
+returns-in_err-complete-clause-wants c =
     let near = sym c.is_opposite.ensures.value ∙ c.if-is_opposite.false in
     let fresh = sym c.has_come.ensures ∙ c.if-has_come.false in
-    on-err c.from_residual-in_err-push_at.result (rw (← c.self.view_is) (wanted c.args.chunk.now (reception_in c.self.inside.streams c.self.inside.filter c.self.inside.max_message_size) fresh near (open-at (reception_in c.self.inside.streams c.self.inside.filter c.self.inside.max_message_size) c.args.chunk.now.stream_identifier c.in-Some.place c.in-Some.ensures)))
+    on-err c.from_residual-in_err-complete.result (rw (← c.self.view_is) (wanted c.args.chunk.now (reception_in c.self.inside.streams c.self.inside.filter c.self.inside.max_message_size) fresh near (open-at (reception_in c.self.inside.streams c.self.inside.filter c.self.inside.max_message_size) c.args.chunk.now.stream_identifier c.in-Some.place c.in-Some.ensures)))

@@ -1,9 +1,11 @@
-use Rattle.std.proofs.Common.{rules, ◌≡◌, ◌<◌, ◌+◌, ◌∙◌, ap, sym, subst, arith, None, List, ◌∷◌, [], ◌++◌, length, take, get_or}
+use Rattle.std.proofs.Common.{rules, ◌≡◌, ◌<◌, ◌+◌, ◌∙◌, ap, sym, subst, arith, None, Some, refl, List, ◌∷◌, [], ◌++◌, length, take, get_or}
 use Rattle.std.proofs.lemmas.List.{take_more}
 use Rattle.sctp_chunks.specs.declared.chunk.chunk_payload_data.ChunkPayloadData.{ChunkPayloadData}
 use Rattle.sctp_receiver.specs.declared.receiver.arrival.Arrival.{Arrival}
 use Rattle.sctp_receiver.specs.Receiver.{TakesEach, TakesFirst, data_refusal}
-use Rattle.sctp_receiver.proofs.DataEach.{takes-more, takes-keeps}
+use Rattle.std.specs.Prelude.{slice_get}
+use Rattle.std.proofs.lemmas.Option.{slice_get_read}
+use Rattle.sctp_receiver.proofs.DataEach.{takes-more, takes-keeps, stops}
 use Rattle.sctp_receiver.proofs.receiver.Receiver.take_each.Goals as goal
 
 pub returns-then-is_err-clause-numbers : goal.returns-then-is_err-clause-numbers
@@ -29,3 +31,11 @@ loop-chunk-preserved c =
       numbers = keeps.0 ∙ c.loop-chunk.invariant.numbers;
       size = keeps.1 ∙ c.loop-chunk.invariant.size;
     }
+
+pub returns-in_err-arrival-clause-refused : goal.returns-in_err-arrival-clause-refused
+returns-in_err-arrival-clause-refused c =
+    let x = c.chunk-item.result in
+    let lt : c.loop-chunk.chunk-index < length c.args.chunks.now = omega (arith, c.loop-chunk-test.true) in
+    let next : slice_get c.args.chunks.now c.loop-chunk.chunk-index ≡ Some x = slice_get_read c.args.chunks.now (length c.args.chunks.now) c.loop-chunk.chunk-index x refl lt c.chunk-item.is in
+    let why = stops c.args.chunks.now c.loop-chunk.arrivals.items c.loop-chunk.chunk-index x c.args.self.now c.loop-chunk.self c.in_err-arrival.field-0.0 c.loop-chunk.invariant.taken next c.in_err-arrival.ensures.refused in
+    search rules

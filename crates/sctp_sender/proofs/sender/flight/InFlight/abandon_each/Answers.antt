@@ -4,6 +4,7 @@ use Rattle.std.specs.Prelude.{not, true, option_to_list}
 use Rattle.std.specs.List.{list_all, sum_by}
 use Rattle.std.proofs.lemmas.List.Sums.{sum_by-append}
 use Rattle.sctp_sender.specs.declared.sender.flight.late.AbandonedMessage.{AbandonedMessage}
+use Rattle.sctp_sender.specs.Resending.{are_listed}
 use Rattle.sctp_sender.specs.Late.{abandoned_at, abandoned_each, leaving_at, leaving_each}
 use Rattle.sctp_sender.proofs.Lates.{at-most-one, next-of, rest-with-no-tail}
 use Rattle.sctp_sender.proofs.sender.flight.InFlight.abandon_each.Goals as goal
@@ -22,6 +23,7 @@ loop-tsn-preserved c =
     let one : option_to_list c.in-Ok.one ≡ leaving_at t f = c.in-Ok.ensures.answer in
     record {
       so_far = inv.so_far ∙ ap (λ xs. abandoned_each xs f) d ∙ ap (abandoned_each rest) (sym is);
+      listed = λ all. c.in-Ok.ensures.listed rest (subst (λ xs. are_listed xs f ≡ true) d (inv.listed all));
       told =
           inv.told ∙ ap (λ xs. items ++ leaving_each xs f) d ∙ sym (append_assoc items (leaving_at t f) (leaving_each rest (abandoned_at t f)))
           ∙ ap (λ xs. (items ++ xs) ++ leaving_each rest (abandoned_at t f)) (sym one)

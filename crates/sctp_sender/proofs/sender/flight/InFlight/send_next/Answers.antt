@@ -1,6 +1,10 @@
-use Rattle.std.proofs.Common.{◌≡◌, true}
+use Rattle.std.proofs.Common.{◌≡◌, true, ap, ◌∙◌}
+use Rattle.std.specs.Prelude.{find}
+use Rattle.sctp_outbound.specs.outbound_queue.OutboundQueue.{Outbound}
+use Rattle.sctp_serial.specs.DataChunks.{has_tsn}
 use Rattle.sctp_sender.specs.Flight.{Flight, may_send}
 use Rattle.sctp_sender.proofs.Flights.{fresh, window, sent}
+use Rattle.sctp_sender.proofs.Sent.{noted-next}
 use Rattle.sctp_sender.proofs.sender.flight.InFlight.send_next.Goals as goal
 
 pub send_next-requires-clause-fresh : goal.send_next-requires-clause-fresh
@@ -18,3 +22,8 @@ invariant_of-self-2 c =
     let f : Flight = record { queue = c.self.inside.queue; next_tsn = c.self.inside.next_tsn; acked_tsn = c.self.inside.acked_tsn } in
     let room : may_send f ≡ true = rw (← c.self.view_is) at c.requires in
     sent f c.args.now c.send_next.new.self c.send_next.new.next_tsn c.self.invariant room c.in_ok-sent.ensures.ok c.in_ok-sent.ensures.raised
+
+pub returns-clause-noted : goal.returns-clause-noted
+returns-clause-noted c =
+    let f : Flight = record { queue = c.self.inside.queue; next_tsn = c.self.inside.next_tsn; acked_tsn = c.self.inside.acked_tsn } in
+    rw (← c.self.view_is) (ap (λ (o : Outbound). find (has_tsn f.next_tsn) o.inflight.chunks) c.in_ok-sent.ensures.ok ∙ noted-next f c.self.invariant c.args.now)

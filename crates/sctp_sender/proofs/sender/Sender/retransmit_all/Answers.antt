@@ -1,0 +1,10 @@
+use Rattle.std.proofs.Common.{sym, subst}
+use Rattle.sctp_sender.specs.Flight.{Flight}
+use Rattle.sctp_sender.specs.Totals.{IsAllSettled}
+use Rattle.sctp_sender.proofs.Settled.{all-marked-settled}
+use Rattle.sctp_sender.proofs.sender.Sender.retransmit_all.Goals as goal
+
+pub invariant_of-self : goal.invariant_of-self
+invariant_of-self c =
+    let f : Flight = c.self.inside.flight in
+    (c.self.invariant.0, c.self.invariant.1, subst (λ (g : Flight). IsAllSettled g.queue) (sym c.retransmit_all.ensures) (all-marked-settled f c.self.invariant.2))

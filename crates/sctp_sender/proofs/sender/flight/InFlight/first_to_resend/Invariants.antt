@@ -1,0 +1,7 @@
+use Rattle.std.proofs.Common.{◌≡◌, drop}
+use Rattle.std.specs.Prelude.{find}
+use Rattle.sctp_sender.specs.Resending.{is_to_resend}
+use Rattle.sctp_sender.proofs.sender.flight.InFlight.first_to_resend.Given as goal
+
+abbrev pub invariant-loop-place : goal.invariant-loop-place
+invariant-loop-place l = find is_to_resend l.self.queue.inflight.chunks ≡ find is_to_resend (drop l.place l.self.queue.inflight.chunks)

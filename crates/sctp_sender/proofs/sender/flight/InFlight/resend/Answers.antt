@@ -1,0 +1,24 @@
+use Rattle.std.proofs.Common.{ap, refl, sym, ◌∙◌, Some}
+use Rattle.std.specs.Prelude.{find}
+use Rattle.sctp_chunks.specs.declared.chunk.chunk_payload_data.ChunkPayloadData.{ChunkPayloadData}
+use Rattle.sctp_sender.proofs.Walks.{found-changed}
+use Rattle.sctp_outbound.specs.outbound_queue.OutboundQueue.{Outbound}
+use Rattle.sctp_serial.specs.DataChunks.{has_tsn, tsns}
+use Rattle.sctp_sender.specs.Flight.{Flight}
+use Rattle.sctp_sender.specs.Resending.{sent_again}
+use Rattle.sctp_sender.proofs.Runs.{changed-run}
+use Rattle.sctp_sender.proofs.Flights.{kept}
+use Rattle.sctp_sender.proofs.sender.flight.InFlight.resend.Goals as goal
+
+pub invariant_of-self : goal.invariant_of-self
+invariant_of-self c =
+    let f : Flight = record { queue = c.self.inside.queue; next_tsn = c.self.inside.next_tsn; acked_tsn = c.self.inside.acked_tsn } in
+    kept f (record f { queue = c.note_sent_again.new.queue }) (ap (λ (o : Outbound). tsns o.inflight.chunks) c.note_sent_again.ensures ∙ changed-run (has_tsn c.args.tsn) (sent_again c.saturating_add-count.result c.args.now) (λ d. refl) f.queue.inflight.chunks) refl refl c.self.invariant
+
+pub returns-clause-noted : goal.returns-clause-noted
+returns-clause-noted c =
+    let f : Flight = record { queue = c.self.inside.queue; next_tsn = c.self.inside.next_tsn; acked_tsn = c.self.inside.acked_tsn } in
+    let p = has_tsn c.args.tsn in
+    let g = sent_again c.saturating_add-count.result c.args.now in
+    ap (λ (o : Outbound). find p o.inflight.chunks) c.note_sent_again.ensures ∙ found-changed p g (λ x. refl) f.queue.inflight.chunks c.in-Some.chunk.now (sym c.in-Some.ensures)
+    ∙ ap (λ (y : ChunkPayloadData). Some (g y)) (sym c.in_ok-again.ensures.ok)

@@ -1,0 +1,7 @@
+use Rattle.std.proofs.Common.{ap, sym, ◌∙◌}
+use Rattle.sctp_list_lemmas.proofs.Getting.{map-twice}
+use Rattle.sctp_sender.specs.Outgoing.{number, numbers_of, with_size}
+use Rattle.sctp_sender.proofs.sender.outbound_streams.OutboundStreams.set_fragment_size.Goals as goal
+
+pub invariant_of-self : goal.invariant_of-self
+invariant_of-self c = c.self.invariant ∙ sym (ap numbers_of c.set_sizes.ensures ∙ map-twice number (with_size c.args.size) c.self.inside.items.items)

@@ -1,0 +1,234 @@
+//! Which chunks in flight are sent again (RFC 4960 6.3.3, 7.2.4; RFC 7496 3.1).
+
+ghost use Rattle.std.specs.Prelude.{◌≡◌, ◌==◌, ◌+◌, ◌-◌, ◌^◌, ◌<◌, ◌≤◌, ◌++◌, [], min, true, None, Some, OnOk, OnErr, IfOk, IfErr, IfSome, IsOk, drop, find, length, option_copied, option_map, slice_get, take, if◌then◌else◌};
+ghost use Rattle.std.specs.List.{filter};
+ghost use Rattle.sctp_list_lemmas.specs.Lists.{change_where};
+ghost use Rattle.sctp_chunks.specs.declared.chunk.chunk_payload_data.ChunkPayloadData.{ChunkPayloadData};
+ghost use Rattle.sctp_outbound.specs.outbound_queue.OutboundQueue.{with_inflight};
+ghost use Rattle.sctp_sender.specs.declared.sender.refusal.SenderRefusal.TheVariants.{NotInFlight, OutOfMemory};
+ghost use Rattle.sctp_sender.specs.Flight.{tsns_from};
+ghost use Rattle.sctp_sender.specs.Resending.{can_miss, is_over, is_third, is_to_resend, is_worn, limit_of, missed, missed_after, rexmit_limit, sent_again};
+ghost use Rattle.sctp_serial.specs.DataChunks.{has_tsn, tsns};
+
+use super::InFlight;
+use crate::sender::refusal::SenderRefusal;
+use sctp_base::util::sna32lt;
+use sctp_chunks::chunk::chunk_payload_data::{ChunkPayloadData, ReliabilityType};
+use sctp_outbound::outbound_queue::OutboundQueue;
+use sctp_serial::serial::distance;
+use sctp_stream::stream_numbers::put;
+use std::alloc::Global;
+
+impl InFlight {
+    ghost use Rattle.sctp_sender.specs.Flight.{can_resend};
+    ghost use Rattle.sctp_sender.specs.Resending.{after_misses, all_marked, count_before, resent_at, thirds, worn_tsns};
+
+    /// Sends the chunk in flight with a TSN again: it is counted, `now` is noted, in nanoseconds, and it is no longer marked for
+    /// retransmission. Answers it as it is noted then. Refuses with `NotInFlight`, where none is, or it is acknowledged or
+    /// abandoned; and for memory. All is as it was then.
+    pub fn resend(&mut self, tsn: u32, now: u64) -> Result<ChunkPayloadData, SenderRefusal>
+        ensures answer { IfOk result (λ again. (c : ChunkPayloadData)
+            → find (has_tsn tsn) self.old.queue.inflight.chunks ≡ Some c
+            → again ≡ sent_again (min (c.nsent + 1) (2 ^ 32 - 1)) now c) }
+        ensures noted { IfOk result (λ again. find (has_tsn tsn) self.new.queue.inflight.chunks
+            ≡ Some again) }
+        ensures ok { OnOk result ((c : ChunkPayloadData)
+            → find (has_tsn tsn) self.old.queue.inflight.chunks ≡ Some c
+            → self.new ≡ resent_at tsn now c self.old) }
+        ensures accepted { IsOk result → can_resend tsn self.old ≡ true }
+        ensures refused { IfErr result (λ e. e
+            ≡ (if can_resend tsn self.old then OutOfMemory else NotInFlight)) }
+        ensures err { OnErr result (self.new ≡ self.old) }
+    {
+        let Some(chunk) = self.queue.get(tsn) else {
+            return Err(SenderRefusal::NotInFlight);
+        };
+        if chunk.acked || chunk.abandoned {
+            return Err(SenderRefusal::NotInFlight);
+        }
+        let mut again = chunk.try_clone()?;
+        let count = again.nsent.saturating_add(1);
+        again.nsent = count;
+        again.since = Some(now);
+        again.retransmit = false;
+        note_sent_again(&mut self.queue, tsn, count, now);
+        Ok(again)
+    }
+
+    /// Marks each outstanding chunk for retransmission (RFC 4960 6.3.3). It takes no memory.
+    pub fn retransmit_all(&mut self)
+        ensures { self.new ≡ all_marked self.old }
+    {
+        self.queue.mark_all_to_retransmit();
+    }
+
+    /// The first chunk in flight that is marked for retransmission and outstanding.
+    pub fn next_to_retransmit(&self) -> Option<&ChunkPayloadData>
+        ensures { option_copied result ≡ find is_to_resend self.now.queue.inflight.chunks }
+    {
+        match self.first_to_resend() {
+            Some(place) => self.at(place),
+            None => None,
+        }
+    }
+
+    // The place of that chunk.
+    fn first_to_resend(&self) -> Option<usize>
+        ensures some { IfSome result (λ k. slice_get self.now.queue.inflight.chunks k
+            ≡ find is_to_resend self.now.queue.inflight.chunks) }
+        ensures none { result ≡ None → find is_to_resend self.now.queue.inflight.chunks ≡ None }
+    {
+        for place in 0..self.queue.inflight_len() {
+            let Some(chunk) = self.at(place) else {
+                unreachable!()
+            };
+            if is_to_resend(chunk) {
+                return Some(place);
+            }
+        }
+        None
+    }
+
+    /// Counts each outstanding chunk in flight whose TSN is before this one as missing once more (RFC 4960 7.2.4), up to 3, and
+    /// marks for retransmission what is missing for the third time. Answers how many chunks that are. It takes no memory, and
+    /// looks only at what is before the TSN. Nothing changes where that is not past what is acknowledged.
+    pub fn add_miss_indications(&mut self, before: u32) -> usize
+        ensures missed { self.new ≡ after_misses (count_before before self.old) self.old }
+        ensures thirds { result ≡ length (thirds (count_before before self.old) self.old) }
+    {
+        let count = self.count_before(before);
+        let first = self.acked_tsn.wrapping_add(1);
+        count_missing(&mut self.queue, first, count)
+    }
+
+    // How many chunks in flight have TSNs before this one.
+    fn count_before(&self, tsn: u32) -> usize
+        ensures value { result ≡ count_before tsn self.now }
+        ensures within { result ≤ length self.now.queue.inflight.chunks }
+    {
+        if !sna32lt(self.acked_tsn, tsn) {
+            return 0;
+        }
+        let ahead = distance(self.acked_tsn, tsn) as usize;
+        ahead.saturating_sub(1).min(self.queue.inflight_len())
+    }
+
+    /// The TSNs in flight that are marked for retransmission, and were sent again as often as their limit allows (RFC 7496 3.1), but
+    /// for those of DCEP messages (RFC 8832 6). Refuses only for memory, and not where there are none.
+    pub fn worn_tsns(&self, alloc: Global) -> Result<Vec<u32>, SenderRefusal>
+        ensures ok { IfOk result (λ tsns. tsns.items ≡ worn_tsns self.now) }
+        ensures memory { IfErr result (λ e. e ≡ OutOfMemory) }
+        ensures idle { worn_tsns self.now ≡ [] → IsOk result }
+    {
+        let mut tsns = Vec::new(alloc);
+        for place in 0..self.queue.inflight_len() {
+            let Some(chunk) = self.at(place) else {
+                unreachable!()
+            };
+            if !is_worn(chunk) {
+                continue;
+            }
+            if tsns.reserve(1).is_err() {
+                return Err(SenderRefusal::OutOfMemory);
+            }
+            put(&mut tsns, chunk.tsn);
+        }
+        Ok(tsns)
+    }
+}
+
+// Notes that a chunk in flight was sent again.
+fn note_sent_again(queue: &mut OutboundQueue, tsn: u32, count: u32, now: u64)
+    ensures { queue.new ≡ with_inflight queue.old
+        (change_where (has_tsn tsn) (sent_again count now) queue.old.inflight.chunks) }
+{
+    queue.set_nsent(tsn, count);
+    queue.set_since(tsn, Some(now));
+    queue.set_retransmit(tsn, false);
+}
+
+// Whether the chunk is marked, and outstanding.
+fn is_to_resend(chunk: &ChunkPayloadData) -> bool
+    ensures { result ≡ is_to_resend chunk.now }
+{
+    chunk.retransmit && !chunk.acked && !chunk.abandoned
+}
+
+// Whether the chunk is outstanding, and not counted as missing three times.
+fn can_miss(chunk: &ChunkPayloadData) -> bool
+    ensures { result ≡ can_miss chunk.now }
+{
+    !chunk.acked && !chunk.abandoned && chunk.miss_indicator < 3
+}
+
+// Whether the chunk was sent again as often as it may be, and is marked.
+fn is_worn(chunk: &ChunkPayloadData) -> bool
+    ensures { result ≡ is_worn chunk.now }
+{
+    is_to_resend(chunk)
+        && !chunk.payload_type.is_dcep()
+        && is_over(chunk.nsent, rexmit_limit(chunk.reliability))
+}
+
+// How often a chunk may be sent after the first time, where that is limited.
+fn rexmit_limit(reliability: Option<(ReliabilityType, u32)>) -> Option<u32>
+    ensures { result ≡ rexmit_limit reliability }
+{
+    match reliability {
+        Some((ReliabilityType::Rexmit, limit)) => Some(limit),
+        _ => None,
+    }
+}
+
+// Whether there is a limit, and so many are more.
+fn is_over(count: u32, limit: Option<u32>) -> bool
+    ensures { result ≡ is_over count limit }
+{
+    match limit {
+        Some(limit) => count > limit,
+        None => false,
+    }
+}
+
+// Counts each of the first so many chunks in flight that can miss as missing once more. Answers how many are for the third time.
+fn count_missing(queue: &mut OutboundQueue, first: u32, count: usize) -> usize
+    requires run { tsns queue.old.inflight.chunks
+        ≡ tsns_from first (length queue.old.inflight.chunks) }
+    requires few { length queue.old.inflight.chunks < 2 ^ 31 }
+    requires within { count ≤ length queue.old.inflight.chunks }
+    ensures missed { queue.new ≡ with_inflight queue.old
+        (change_where can_miss missed (take count queue.old.inflight.chunks)
+        ++ drop count queue.old.inflight.chunks) }
+    ensures thirds { result
+        ≡ length (filter is_third (take count queue.old.inflight.chunks)) }
+{
+    let mut thirds = 0;
+    for place in 0..count {
+        let tsn = first.wrapping_add(place as u32);
+        let Some(chunk) = queue.get(tsn) else {
+            unreachable!()
+        };
+        if !can_miss(chunk) {
+            continue;
+        }
+        let misses = chunk.miss_indicator;
+        let third = note_missing(queue, tsn, misses);
+        thirds += third;
+    }
+    thirds
+}
+
+// Notes that a chunk in flight, missing so often before, is missing once more. Answers 1 where that is the third time, else 0.
+fn note_missing(queue: &mut OutboundQueue, tsn: u32, misses: u8) -> usize
+    requires { misses < 3 }
+    ensures noted { queue.new ≡ with_inflight queue.old
+        (change_where (has_tsn tsn) (missed_after misses) queue.old.inflight.chunks) }
+    ensures third { result ≡ (if misses == 2 then 1 else 0) }
+{
+    queue.set_miss_indicator(tsn, misses + 1);
+    if misses != 2 {
+        return 0;
+    }
+    queue.set_retransmit(tsn, true);
+    1
+}

@@ -1,0 +1,65 @@
+//! What a sender sends again, and when (RFC 4960 6.3.3, 7.2.4).
+
+ghost use Rattle.std.specs.Prelude.{◌≡◌, ◌+◌, ◌-◌, ◌^◌, true, None, Some, OnOk, OnErr, IfOk, IfErr, IsOk, find, length, option_copied, if◌then◌else◌};
+ghost use Rattle.sctp_chunks.specs.declared.chunk.chunk_payload_data.ChunkPayloadData.{ChunkPayloadData};
+ghost use Rattle.sctp_sender.specs.declared.sender.refusal.SenderRefusal.TheVariants.{NotInFlight, OutOfMemory};
+ghost use Rattle.sctp_serial.specs.DataChunks.{has_tsn};
+
+use super::Sender;
+use crate::sender::refusal::SenderRefusal;
+use sctp_chunks::chunk::chunk_payload_data::ChunkPayloadData;
+
+impl Sender {
+    ghost use Rattle.sctp_sender.specs.Flight.{can_resend};
+    ghost use Rattle.sctp_sender.specs.Sender.{with_flight};
+    ghost use Rattle.sctp_sender.specs.Resending.{after_misses, all_marked, count_again, count_before, is_to_resend, resent_at, sent_again, thirds};
+
+    /// Sends the chunk in flight with a TSN again: it is counted, `now` is noted, in nanoseconds, and it is no longer marked for
+    /// retransmission. Answers it as it is noted then. Refuses with `NotInFlight`, where none is, or it is acknowledged or
+    /// abandoned; and for memory. The sender is as it was then.
+    pub fn resend(&mut self, tsn: u32, now: u64) -> Result<ChunkPayloadData, SenderRefusal>
+        ensures answer { IfOk result (λ again. (c : ChunkPayloadData)
+            → find (has_tsn tsn) self.old.flight.queue.inflight.chunks ≡ Some c
+            → again ≡ sent_again (count_again c) now c) }
+        ensures noted { IfOk result (λ again.
+            find (has_tsn tsn) self.new.flight.queue.inflight.chunks ≡ Some again) }
+        ensures ok { OnOk result ((c : ChunkPayloadData)
+            → find (has_tsn tsn) self.old.flight.queue.inflight.chunks ≡ Some c
+            → self.new ≡ with_flight (resent_at tsn now c self.old.flight) self.old) }
+        ensures accepted { IsOk result → can_resend tsn self.old.flight ≡ true }
+        ensures refused { IfErr result (λ e. e
+            ≡ (if can_resend tsn self.old.flight then OutOfMemory else NotInFlight)) }
+        ensures err { OnErr result (self.new ≡ self.old) }
+    {
+        self.flight.resend(tsn, now)
+    }
+
+    /// Marks each outstanding chunk in flight for retransmission, as where the timer T3-rtx runs out (RFC 4960 6.3.3 E3). It takes no
+    /// memory.
+    pub fn retransmit_all(&mut self)
+        ensures { self.new ≡ with_flight (all_marked self.old.flight) self.old }
+    {
+        self.flight.retransmit_all();
+    }
+
+    /// The first chunk in flight that is marked for retransmission and outstanding; `resend` sends it again, and takes the mark.
+    pub fn next_to_retransmit(&self) -> Option<&ChunkPayloadData>
+        ensures { option_copied result ≡ find is_to_resend self.now.flight.queue.inflight.chunks }
+    {
+        self.flight.next_to_retransmit()
+    }
+
+    /// Counts each outstanding chunk in flight whose TSN is before this one as missing once more, and marks for retransmission
+    /// what is missing for the third time (RFC 4960 7.2.4). A chunk is counted up to 3, and so is marked by this once only.
+    /// Answers how many are marked now: more than none begins fast recovery. For a SACK whose gap ack blocks report chunks anew
+    /// hand in the highest TSN that it reports anew, in fast recovery the highest that it reports. Nothing changes where that is
+    /// not past what is acknowledged. It takes no memory, and looks only at what is in flight before the TSN.
+    pub fn add_miss_indications(&mut self, before: u32) -> usize
+        ensures missed { self.new ≡ with_flight
+            (after_misses (count_before before self.old.flight) self.old.flight) self.old }
+        ensures thirds { result
+            ≡ length (thirds (count_before before self.old.flight) self.old.flight) }
+    {
+        self.flight.add_miss_indications(before)
+    }
+}

@@ -1,0 +1,287 @@
+//! What is in flight: walked, acknowledged, marked, counted as missing, sent again, abandoned.
+
+use crate::host::{Host, sends};
+use crate::sending::{highest_acked, send_again};
+use sctp_chunks::chunk::chunk_payload_data::ReliabilityType;
+use sctp_chunks::chunk::chunk_selective_ack::{ChunkSelectiveAck, GapAckBlock};
+use sctp_sender::sender::flight::Released;
+use sctp_sender::sender::flight::late::AbandonedMessage;
+use sctp_sender::sender::refusal::SenderRefusal;
+use std::alloc::Global;
+
+// The SACK up to a TSN with one block.
+fn sack(alloc: Global, tsn: u32, start: u16, end: u16) -> Option<ChunkSelectiveAck> {
+    let mut sack = ChunkSelectiveAck {
+        cumulative_tsn_ack: tsn,
+        advertised_receiver_window_credit: 1000,
+        gap_ack_blocks: Vec::new(alloc),
+        duplicate_tsn: Vec::new(alloc),
+    };
+    match sack.gap_ack_blocks.push(GapAckBlock { start, end }) {
+        Ok(()) => Some(sack),
+        Err(_) => None,
+    }
+}
+
+// Two hosts, of which the first has the TSNs 4294967295, 0, 1, 2 in flight: three bytes, three, two, one.
+fn four_in_flight(alloc: Global, a: &mut Host, b: &mut Host) -> bool {
+    let mut well = a.opens() && b.opens() && a.writes(alloc, b"abcdefgh") && a.writes(alloc, b"i");
+    for _ in 0..4 {
+        well = well && sends(alloc, a, b, true);
+    }
+    well
+}
+
+// Whether the chunk at a place has this TSN, was sent so often and last then, and is marked or not.
+fn is_at(a: &Host, place: usize, due: (u32, u32, u64, bool)) -> bool {
+    match a.sender.in_flight_at(place) {
+        Some(chunk) => {
+            (chunk.tsn, chunk.nsent, chunk.retransmit) == (due.0, due.1, due.3)
+                && chunk.since == Some(due.2)
+        }
+        None => false,
+    }
+}
+
+fn is_walked(a: &Host) -> bool {
+    a.sender.acked_tsn() == u32::MAX - 1
+        && a.sender.chunks_in_flight() == 4
+        && a.sender.bytes_in_flight() == 9
+        && is_at(a, 0, (u32::MAX, 1, 0, false))
+        && is_at(a, 3, (2, 1, 0, false))
+        && a.sender.in_flight_at(4).is_none()
+        && a.sender.bytes_of(1) == Some(2)
+        && a.sender.bytes_of(3).is_none()
+}
+
+/// What is in flight is walked by places, without a TSN.
+#[test]
+fn walked(rt: HostRuntime) {
+    let alloc = rt.alloc();
+    let mut a = Host::new(alloc, u32::MAX, 7);
+    let mut b = Host::new(alloc, 7, u32::MAX);
+    let well = four_in_flight(alloc, &mut a, &mut b);
+    assert!(rt; well && is_walked(&a));
+}
+
+// What a SACK reports anew while four chunks are in flight: the second and the third.
+fn is_told(alloc: Global, a: &mut Host) -> bool {
+    let due = |tsn: u32, bytes: usize| Released {
+        tsn,
+        stream: 1,
+        bytes,
+        nsent: 1,
+        since: Some(0),
+        message: 0,
+        is_message_acked: false,
+    };
+    match sack(alloc, u32::MAX - 1, 2, 3) {
+        Some(sack) => match a.sender.acked(&sack) {
+            Ok(released) => released.as_slice() == [due(0, 3), due(1, 2)].as_slice(),
+            Err(_) => false,
+        },
+        None => false,
+    }
+}
+
+fn is_less(a: &Host) -> bool {
+    a.sender.bytes_in_flight() == 4
+        && a.sender.chunks_in_flight() == 4
+        && a.sender.bytes_of(0) == Some(0)
+}
+
+/// A SACK's answer says of each chunk that it reports anew what an association asks.
+#[test]
+fn told_of_what_is_acknowledged(rt: HostRuntime) {
+    let alloc = rt.alloc();
+    let mut a = Host::new(alloc, u32::MAX, 7);
+    let mut b = Host::new(alloc, 7, u32::MAX);
+    let well = four_in_flight(alloc, &mut a, &mut b) && is_told(alloc, &mut a);
+    assert!(rt; well && is_less(&a));
+}
+
+// Whether the first chunk that is marked is sent again then, and has this TSN.
+fn is_sent_again(a: &mut Host, now: u64, tsn: u32) -> bool {
+    match send_again(&mut a.sender, now) {
+        Ok(Some(chunk)) => {
+            chunk.tsn == tsn && chunk.nsent == 2 && chunk.since == Some(now) && !chunk.retransmit
+        }
+        _ => false,
+    }
+}
+
+fn nothing_is_marked(a: &mut Host) -> bool {
+    a.sender.next_to_retransmit().is_none() && matches!(send_again(&mut a.sender, 1), Ok(None))
+}
+
+// All but what is acknowledged is sent again, in order.
+fn all_are_sent_again(a: &mut Host) -> bool {
+    a.sender.retransmit_all();
+    is_at(a, 0, (u32::MAX, 1, 0, true))
+        && is_at(a, 1, (0, 1, 0, false))
+        && is_sent_again(a, 5, u32::MAX)
+        && is_sent_again(a, 6, 2)
+        && nothing_is_marked(a)
+        && is_at(a, 3, (2, 2, 6, false))
+        && matches!(a.sender.resend(0, 7), Err(SenderRefusal::NotInFlight))
+        && matches!(a.sender.resend(3, 7), Err(SenderRefusal::NotInFlight))
+}
+
+/// The timer runs out: what is outstanding is marked, lent one after another, and sent again.
+#[test]
+fn marked_and_sent_again(rt: HostRuntime) {
+    let alloc = rt.alloc();
+    let mut a = Host::new(alloc, u32::MAX, 7);
+    let mut b = Host::new(alloc, 7, u32::MAX);
+    let well = four_in_flight(alloc, &mut a, &mut b)
+        && nothing_is_marked(&mut a)
+        && is_told(alloc, &mut a);
+    assert!(rt; well && all_are_sent_again(&mut a));
+}
+
+// A SACK of one TSN behind the first in flight comes; so many chunks are marked by it.
+fn misses(alloc: Global, a: &mut Host, far: u16, marked: usize) -> bool {
+    let Some(sack) = sack(alloc, u32::MAX - 1, far, far) else {
+        return false;
+    };
+    match highest_acked(&mut a.sender, &sack) {
+        Ok(Some(tsn)) => a.sender.add_miss_indications(tsn) == marked,
+        _ => false,
+    }
+}
+
+fn is_missed_thrice(alloc: Global, a: &mut Host) -> bool {
+    misses(alloc, a, 2, 0)
+        && misses(alloc, a, 3, 0)
+        && nothing_is_marked(a)
+        && misses(alloc, a, 4, 1)
+        && is_sent_again(a, 9, u32::MAX)
+        && a.sender.add_miss_indications(2) == 0
+        && a.sender.add_miss_indications(u32::MAX - 5) == 0
+        && nothing_is_marked(a)
+}
+
+/// Three SACKs report later chunks: the first is sent again at once, and once only (RFC 4960 7.2.4).
+#[test]
+fn missed_three_times(rt: HostRuntime) {
+    let alloc = rt.alloc();
+    let mut a = Host::new(alloc, u32::MAX, 7);
+    let mut b = Host::new(alloc, 7, u32::MAX);
+    let well = four_in_flight(alloc, &mut a, &mut b);
+    assert!(rt; well && is_missed_thrice(alloc, &mut a));
+}
+
+fn is_abandoned(a: &mut Host, due: &[AbandonedMessage]) -> bool {
+    match a.sender.expire_rexmit() {
+        Ok(abandoned) => abandoned.as_slice() == due,
+        Err(_) => false,
+    }
+}
+
+// A message may be sent again once, and is lost twice.
+fn is_worn(a: &mut Host) -> bool {
+    let due = [AbandonedMessage {
+        stream: 1,
+        number: 0,
+        bytes: 2,
+    }];
+    a.sender.retransmit_all();
+    let well = is_abandoned(a, &[]) && is_sent_again(a, 5, 0) && is_abandoned(a, &[]);
+    a.sender.retransmit_all();
+    well && is_abandoned(a, &due) && nothing_is_marked(a)
+}
+
+// The FORWARD-TSN has 12 bytes with its name.
+fn is_skipped(a: &Host) -> bool {
+    let fits = match a.sender.forward_tsn_within(12) {
+        Ok(Some(skip)) => skip.new_cumulative_tsn == 0 && skip.streams.len() == 1,
+        _ => false,
+    };
+    fits && matches!(a.sender.forward_tsn_within(11), Ok(None))
+}
+
+fn one_is_limited(alloc: Global, a: &mut Host, b: &mut Host) -> bool {
+    a.opens()
+        && a.sender
+            .set_mode(1, false, ReliabilityType::Rexmit, 1)
+            .is_ok()
+        && matches!(a.sender.forward_tsn_within(1000), Ok(None))
+        && a.writes(alloc, b"ab")
+        && sends(alloc, a, b, true)
+}
+
+/// A message that may be sent again once is abandoned where it is marked a second time (RFC 7496 3.1), and skipped.
+#[test]
+fn sent_as_often_as_it_may_be(rt: HostRuntime) {
+    let alloc = rt.alloc();
+    let mut a = Host::new(alloc, 0, 7);
+    let mut b = Host::new(alloc, 7, 0);
+    let well = one_is_limited(alloc, &mut a, &mut b) && is_worn(&mut a);
+    assert!(rt; well && is_skipped(&a));
+}
+
+fn is_busy(alloc: Global, a: &mut Host) -> bool {
+    a.sender.reset(1) == Err(SenderRefusal::StreamUnknown)
+        && a.opens()
+        && a.sender.is_drained(1)
+        && a.writes(alloc, b"abc")
+        && !a.sender.is_drained(1)
+        && a.sender.reset(1) == Err(SenderRefusal::StreamBusy)
+}
+
+fn sequence_number(a: &Host) -> Option<u16> {
+    match a.sender.open_streams() {
+        [state] => Some(state.sequence_number()),
+        _ => None,
+    }
+}
+
+// What was sent is acknowledged; the stream begins anew, and keeps its mode.
+fn is_reset(alloc: Global, a: &mut Host) -> bool {
+    let acked = match sack(alloc, 0, 1, 0) {
+        Some(sack) => a.sender.acked(&sack).is_ok(),
+        None => false,
+    };
+    acked
+        && sequence_number(a) == Some(1)
+        && a.sender.is_drained(1)
+        && a.sender.reset(1).is_ok()
+        && sequence_number(a) == Some(0)
+}
+
+/// An outgoing stream is reset once nothing of it is left (RFC 6525 5.1.2).
+#[test]
+fn reset(rt: HostRuntime) {
+    let alloc = rt.alloc();
+    let mut a = Host::new(alloc, 0, 7);
+    let mut b = Host::new(alloc, 7, 0);
+    let well = is_busy(alloc, &mut a) && sends(alloc, &mut a, &mut b, true);
+    assert!(rt; well && is_reset(alloc, &mut a));
+}
+
+// What is written before has fragments of three bytes, and what is written after of two.
+fn is_cut_anew(alloc: Global, a: &mut Host) -> bool {
+    let well = a.opens() && a.writes(alloc, b"abcd");
+    a.sender.set_fragment_size(2);
+    well && a.writes(alloc, b"efgh")
+        && a.sender.fragment_size() == 2
+        && a.sender.outbound().pending_len() == 4
+}
+
+fn is_low_at(a: &mut Host) -> bool {
+    a.sender.set_buffered_amount_low_threshold(2, 5) == Err(SenderRefusal::StreamUnknown)
+        && a.sender.set_buffered_amount_low_threshold(1, 5).is_ok()
+        && match a.sender.stream(1) {
+            Some(state) => state.buffered_amount_low_threshold() == 5,
+            None => false,
+        }
+}
+
+/// The fragment size of later writes and a low threshold are set.
+#[test]
+fn settings(rt: HostRuntime) {
+    let alloc = rt.alloc();
+    let mut a = Host::new(alloc, 0, 7);
+    let well = is_cut_anew(alloc, &mut a);
+    assert!(rt; well && is_low_at(&mut a));
+}
