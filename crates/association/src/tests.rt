@@ -1,0 +1,202 @@
+//! Two associations over a network that loses 0, 5, 20 and 40 of 100 packets.
+
+use crate::association::Association;
+use crate::fault::Fault;
+use crate::network::{MS, Network};
+use crate::traffic::{CHANNELS, Inbox, MESSAGES, text};
+use sctp_chunks::chunk::chunk_kind::ChunkKind;
+use sctp_chunks::chunk::chunk_payload_data::PayloadProtocolIdentifier;
+use std::alloc::Global;
+
+// More steps than a run takes.
+const STEPS: u32 = 200_000;
+
+// More packets than a host sends at once, and more messages than it reads at once.
+const MOST: u32 = 10_000;
+
+// A host: its association, and what it read on each stream.
+#[derive(Drop)]
+struct Host {
+    association: Association,
+    inboxes: Vec<Inbox>,
+}
+
+impl Host {
+    fn new(alloc: Global, first_tsn: u32, peer_tsn: u32) -> Result<Host, Fault> {
+        let mut association = Association::new(alloc, first_tsn, peer_tsn, 100_000);
+        let mut inboxes = Vec::new(alloc);
+        for channel in CHANNELS {
+            let stream = channel.stream;
+            association.open(stream)?;
+            let mode = (channel.reliability, channel.value);
+            association
+                .sender
+                .set_mode(stream, channel.unordered, mode.0, mode.1)?;
+            inboxes.push(Inbox::new(alloc))?;
+        }
+        Ok(Host {
+            association,
+            inboxes,
+        })
+    }
+
+    // Writes a message to each stream.
+    fn write(&mut self, alloc: Global, number: u16, now: u64) -> Result<(), Fault> {
+        for channel in CHANNELS {
+            let bytes = text(alloc, channel.stream, number)?;
+            let ppi = PayloadProtocolIdentifier::Binary;
+            self.association.write(channel.stream, ppi, &bytes, now)?;
+        }
+        Ok(())
+    }
+
+    // Gives the network all packets that are due.
+    fn transmit(&mut self, network: &mut Network, to: usize, now: u64) -> Result<(), Fault> {
+        for _ in 0..MOST {
+            let chunks = self.association.transmit(now)?;
+            if chunks.is_empty() {
+                break;
+            }
+            network.send(to, chunks, now)?;
+        }
+        Ok(())
+    }
+
+    // Reads a stream until nothing is left.
+    fn read(&mut self, alloc: Global, stream: u16, now: u64) -> Result<(), Fault> {
+        for _ in 0..MOST {
+            let Some(message) = self.association.read(stream, now)? else {
+                break;
+            };
+            if let Some(inbox) = self.inboxes.get_mut(stream as usize) {
+                inbox.take(alloc, stream, &message)?;
+            }
+        }
+        Ok(())
+    }
+
+    // Reads each stream that has a message.
+    fn read_all(&mut self, alloc: Global, now: u64) -> Result<(), Fault> {
+        let streams = self.association.receiver.readable_streams()?;
+        for stream in &streams {
+            self.read(alloc, *stream, now)?;
+        }
+        Ok(())
+    }
+
+    // Takes the chunks of a packet, and reads what can be read then.
+    fn take(&mut self, alloc: Global, chunks: &[ChunkKind], now: u64) -> Result<(), Fault> {
+        self.association.receive(chunks, now)?;
+        self.read_all(alloc, now)
+    }
+
+    // Whether on each stream came what its mode promises, and nothing is held of what came.
+    fn is_served(&self) -> bool {
+        let mut well = self.association.receiver.filter().is_empty();
+        for (channel, inbox) in CHANNELS.iter().zip(self.inboxes.iter()) {
+            well = well && inbox.is_as(channel);
+        }
+        for stream in self.association.receiver.open_streams() {
+            well = well && stream.queue.get_num_bytes() == 0;
+        }
+        well
+    }
+}
+
+// Two hosts, and the network between them.
+#[derive(Drop)]
+struct Exchange {
+    alloc: Global,
+    first: Host,
+    second: Host,
+    network: Network,
+    now: u64,
+}
+
+// The earlier of two moments.
+fn earlier(a: Option<u64>, b: Option<u64>) -> Option<u64> {
+    match (a, b) {
+        (Some(a), Some(b)) => Some(a.min(b)),
+        (Some(a), None) => Some(a),
+        (None, b) => b,
+    }
+}
+
+impl Exchange {
+    fn new(alloc: Global, loss: u32) -> Result<Exchange, Fault> {
+        Ok(Exchange {
+            alloc,
+            first: Host::new(alloc, u32::MAX - 50, 77)?,
+            second: Host::new(alloc, 77, u32::MAX - 50)?,
+            network: Network::new(alloc, loss),
+            now: 0,
+        })
+    }
+
+    // Lets both write a message to each stream.
+    fn write(&mut self, number: u16) -> Result<(), Fault> {
+        self.first.write(self.alloc, number, self.now)?;
+        self.second.write(self.alloc, number, self.now)
+    }
+
+    // Lets both send what is due, and time go on to what happens next.
+    fn wait(&mut self, most: u64) -> Result<(), Fault> {
+        self.first.transmit(&mut self.network, 1, self.now)?;
+        self.second.transmit(&mut self.network, 0, self.now)?;
+        let timers = earlier(
+            self.first.association.next_time(),
+            self.second.association.next_time(),
+        );
+        let end = self.now.saturating_add(most);
+        let next = earlier(timers, self.network.next_time()).unwrap_or(end);
+        self.now = self.now.max(next.min(end));
+        Ok(())
+    }
+
+    // Lets a packet come that is due.
+    fn deliver(&mut self) -> Result<(), Fault> {
+        let Some((to, chunks)) = self.network.take(self.now)? else {
+            return Ok(());
+        };
+        if to == 0 {
+            self.first.take(self.alloc, &chunks, self.now)
+        } else {
+            self.second.take(self.alloc, &chunks, self.now)
+        }
+    }
+
+    fn is_drained(&self) -> bool {
+        self.first.association.is_drained() && self.second.association.is_drained()
+    }
+
+    fn is_served(&self) -> bool {
+        self.first.is_served() && self.second.is_served()
+    }
+}
+
+// Whether all goes well over a network that loses so many of 100 packets.
+fn goes_well(alloc: Global, loss: u32) -> Result<bool, Fault> {
+    let mut exchange = Exchange::new(alloc, loss)?;
+    for step in 0..STEPS {
+        if step < u32::from(MESSAGES) {
+            exchange.write(step as u16)?;
+            exchange.wait(20 * MS)?;
+        } else {
+            exchange.wait(u64::MAX)?;
+        }
+        exchange.deliver()?;
+        if step > u32::from(MESSAGES) && exchange.is_drained() {
+            return Ok(exchange.is_served());
+        }
+    }
+    Ok(false)
+}
+
+/// Reliable messages all come, each once, ordered ones in order; of the others those that come are such as were written; in the
+/// end nothing waits, is in flight or is held.
+#[test]
+fn two_over_a_network_that_loses(rt: HostRuntime) {
+    for loss in [0, 5, 20, 40] {
+        assert_eq!(rt; goes_well(rt.alloc(), loss), Ok(true), "at {loss} of 100");
+    }
+}
