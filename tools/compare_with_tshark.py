@@ -56,7 +56,7 @@ def of_tshark(capture):
 
 def of_sctpdump(program, capture):
     """Returns the same of what sctpdump says, or None for a record with no packet to show."""
-    out = subprocess.run([program, "--json", "--port", "9899", capture], capture_output=True, text=True, check=True).stdout
+    out = subprocess.run([program, "--json", "--port", "9899", capture], capture_output=True, text=True).stdout
     return [json.loads(line) for line in out.splitlines()][:-1]
 
 

@@ -9,6 +9,8 @@ use Rattle.sctp_show.specs.declared.run.Format.TheVariants.{Lines, Capture, Bloc
 use Rattle.sctp_show.specs.Window.{Drops}
 use Rattle.sctp_show.specs.Record.{IsHead}
 use Rattle.sctp_show.specs.Blocks.{IsBlocks}
+use Rattle.sctp_base.specs.Field.{u32_at}
+use Rattle.sctp_show.specs.Kind.{kind_by, IsNoOther}
 use Rattle.sctp_show.specs.Run.{IsOpened}
 use Rattle.sctp_show.proofs.Entries.{number_more}
 
@@ -44,16 +46,21 @@ more_blocks held more is =
 less_blocks : (held more : List ℕ) → 4 ≤ length held → IsBlocks (held ++ more) → IsBlocks held
 less_blocks held more long is = (long, sym (number_more Big held more 0 long) ∙ is.1)
 
+less_other : (held more : List ℕ) → 4 ≤ length held → IsNoOther held → kind_by (u32_at (held ++ more) 0) ≡ None
+less_other held more long other = ap kind_by (number_more Big held more 0 long) ∙ other long
+
 -- lines are opened
-pub opened_lines : (a b : Option (List ℕ)) (held : List ℕ) → Keeps a (prepend_known held b) → (24 ≤ length held) ⊎ IsAtEnd b → ((h : Head) → IsHead held h → ⊥) → (IsBlocks held → ⊥)
+pub opened_lines : (a b : Option (List ℕ)) (held : List ℕ) → Keeps a (prepend_known held b) → (24 ≤ length held) ⊎ IsAtEnd b → ((h : Head) → IsHead held h → ⊥) → (IsBlocks held → ⊥) → IsNoOther held
     → IfSome a (λ xs. IsOpened Lines xs (prepend_known held b))
-opened_lines None b held keeps full none other = tt
-opened_lines (Some xs) None held keeps full none other = absurd keeps
-opened_lines (Some xs) (Some ys) held keeps (inl long) none other =
-    (λ h is. none h (less_head held ys h long (rw keeps is)), λ is. other (less_blocks held ys (omega (arith, long)) (rw keeps is)), keeps)
-opened_lines (Some xs) (Some ys) held keeps (inr ended) none other =
+opened_lines None b held keeps full none blocks other = tt
+opened_lines (Some xs) None held keeps full none blocks other = absurd keeps
+opened_lines (Some xs) (Some ys) held keeps (inl long) none blocks other =
+    let four : 4 ≤ length held = omega (arith, long) in
+    let lines : IsNoOther (held ++ ys) = λ _. less_other held ys four other in
+    (λ h is. none h (less_head held ys h long (rw keeps is)), λ is. blocks (less_blocks held ys four (rw keeps is)), rw keeps at lines, keeps)
+opened_lines (Some xs) (Some ys) held keeps (inr ended) none blocks other =
     let same : xs ≡ held = sym keeps ∙ ap (λ l. held ++ l) ended ∙ append-nil held in
-    (λ h is. none h (rw same at is), λ is. other (rw same at is), keeps)
+    (λ h is. none h (rw same at is), λ is. blocks (rw same at is), rw (← same) at other, keeps)
 
 -- blocks are opened
 pub opened_blocks : (a b : Option (List ℕ)) (held : List ℕ) → Keeps a (prepend_known held b) → (24 ≤ length held) ⊎ IsAtEnd b → ((h : Head) → IsHead held h → ⊥) → IsBlocks held

@@ -1,6 +1,7 @@
 pub mod Known
 pub mod Entries
 pub mod Lines
+pub mod Digits
 pub mod Heads
 pub mod Runs
 pub mod Texts

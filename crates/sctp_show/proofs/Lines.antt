@@ -9,7 +9,7 @@ use lib.Seq.{drop-append-le}
 use Rattle.std.proofs.Math.Seq.{drop-append_seam}
 use Rattle.sctp_show.specs.declared.record.Record.{Record}
 use Rattle.sctp_show.specs.Window.{Drops}
-use Rattle.sctp_show.specs.Record.{line_in, after_line, HoldsLine, IsLine}
+use Rattle.sctp_show.specs.Record.{line_in, after_line, digits_in, HoldsLine, IsLine, IsBlankLine, IsLineFound}
 
 line_feed : (x : ℕ) (xs : List ℕ) → x ≡ 10 → line_in (x ∷ xs) ≡ []
 line_feed x xs e = let it : (x == 10) ≡ true = grind (arith, nat_tests) in rw it refl
@@ -46,6 +46,12 @@ pub line_front : (bytes : List ℕ) → IsFront bytes
 line_front [] = (omega arith, refl)
 line_front (x ∷ xs) = front_by (x == 10) x xs refl (line_front xs)
 
+-- a line without digits says nothing
+pub blank_front : (bytes digits : List ℕ) (n : ℕ) → n ≡ length (line_in bytes) → digits ≡ digits_in (take n bytes) → length digits ≡ 0 → digits_in (line_in bytes) ≡ []
+blank_front bytes digits n is says none =
+    let front : line_in bytes ≡ take n bytes = (line_front bytes).1 ∙ ap (λ k. take k bytes) (sym is) in
+    ap digits_in front ∙ sym says ∙ nil_from_length digits none
+
 -- ---- more bytes behind
 
 abbrev IsCut : List ℕ → List ℕ → Type 0
@@ -75,7 +81,7 @@ line_joined (x ∷ xs) more = joined_by (x == 10) x xs more refl (line_joined xs
 cut_is_line : (held more : List ℕ) (r : Record) → IsLine held r → length (line_in held) < length held → IsLine (held ++ more) r
 cut_is_line held more r is lt =
     let same = (line_cut held more lt).0 in
-    record { link_type = is.link_type; time = is.time; too_long = rw same is.too_long; text = rw same is.text }
+    record { link_type = is.link_type; time = is.time; too_long = rw same is.too_long; some = rw same is.some; text = rw same is.text }
 
 -- a line that is read of what is held is that of all the bytes
 pub more_line : (held more : List ℕ) (r : Record) → IsLine held r → HoldsLine held → IsLine (held ++ more) r
@@ -85,20 +91,38 @@ more_line held more r is (inr long) = elim (cases_lt (length (line_in held)) (le
   | inr le ↦
       let same : line_in (held ++ more) ≡ held ++ line_in more = (line_joined held more le).0 in
       let far : 524288 < length (line_in (held ++ more)) = rw (same, length-append) (omega (arith, long)) in
-      record { link_type = is.link_type; time = is.time; too_long = λ _. is.too_long (omega (arith, long, le)); text = λ short. absurd (omega (arith, far, short)) }
+      record {
+        link_type = is.link_type;
+        time = is.time;
+        too_long = λ _. is.too_long (omega (arith, long, le));
+        some = λ short. absurd (omega (arith, far, short));
+        text = λ short. absurd (omega (arith, far, short));
+      }
 ]
+
+cut_is_blank : (held more : List ℕ) → IsBlankLine held → length (line_in held) < length held → IsBlankLine (held ++ more)
+cut_is_blank held more is lt = let same = (line_cut held more lt).0 in rw same is
+
+-- so is a blank one
+more_blank : (held more : List ℕ) → IsBlankLine held → HoldsLine held → IsBlankLine (held ++ more)
+more_blank held more is (inl lt) = cut_is_blank held more is lt
+more_blank held more is (inr long) = cut_is_blank held more is (omega (arith, is.0, long))
+
+more_found : (held more : List ℕ) (found : Option Record) → IsLineFound held found → HoldsLine held → IsLineFound (held ++ more) found
+more_found held more None is holds = more_blank held more is holds
+more_found held more (Some r) is holds = more_line held more r is holds
 
 -- ---- of an input
 
 -- the line that is read of what is held is the next of the input
-pub line_next : (a b e : Option (List ℕ)) (held : List ℕ) (r : Record) → Keeps a (prepend_known held b) → HoldsLine held ⊎ IsAtEnd b → 0 < length held → IsLine held r
-    → IfSome (prepend_known held b) (λ xs. Keeps (Some (after_line xs)) e) → IfSome a (λ xs. (0 < length xs) × IsLine xs r × Keeps (Some (after_line xs)) e)
-line_next None b e held r keeps holds some is left = tt
-line_next (Some xs) None e held r keeps holds some is left = absurd keeps
-line_next (Some xs) (Some ys) e held r keeps (inl holds) some is left =
+pub line_next : (a b e : Option (List ℕ)) (held : List ℕ) (found : Option Record) → Keeps a (prepend_known held b) → HoldsLine held ⊎ IsAtEnd b → 0 < length held → IsLineFound held found
+    → IfSome (prepend_known held b) (λ xs. Keeps (Some (after_line xs)) e) → IfSome a (λ xs. (0 < length xs) × IsLineFound xs found × Keeps (Some (after_line xs)) e)
+line_next None b e held found keeps holds some is left = tt
+line_next (Some xs) None e held found keeps holds some is left = absurd keeps
+line_next (Some xs) (Some ys) e held found keeps (inl holds) some is left =
     let longer : 0 < length (held ++ ys) = rw length-append (omega (arith, some)) in
-    rw (← keeps) (longer, more_line held ys r is holds, left)
-line_next (Some xs) (Some ys) e held r keeps (inr ended) some is left =
+    rw (← keeps) (longer, more_found held ys found is holds, left)
+line_next (Some xs) (Some ys) e held found keeps (inr ended) some is left =
     let same : held ++ ys ≡ held = ap (λ l. held ++ l) ended ∙ append-nil held in
     let all : xs ≡ held = sym keeps ∙ same in
     rw all (some, is, rw same at left)

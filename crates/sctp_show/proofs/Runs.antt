@@ -3,7 +3,7 @@ use Rattle.std.proofs.Common.{◌≡◌, ℕ, ◌+◌, ◌<◌, List, [], ◌∷
 use Rattle.std.specs.Prelude.{Option, IsSomeAnd, option_to_list}
 use Rattle.std.specs.List.{concat}
 use Rattle.std.specs.Io.KnownBytes.{Keeps, Appends}
-use Rattle.std.proofs.KnownBytes.{Appends-trans, Appends-nil}
+use Rattle.std.proofs.KnownBytes.{Appends-trans, Appends-nil, Appends-kept}
 use Rattle.std.proofs.lemmas.List.{append-nil, length-append}
 use Rattle.std.proofs.lemmas.List.Folds.{concat-append}
 use Rattle.std.proofs.lemmas.Grind.{flat_map-append}
@@ -13,7 +13,7 @@ use Rattle.sctp_show.specs.declared.run.Format.{Format}
 use Rattle.sctp_show.specs.declared.run.Format.TheVariants.{Lines, Capture, Blocks}
 use Rattle.sctp_show.specs.Blocks.{Known, Piece, IsBegun, IsEnd}
 use Rattle.sctp_show.specs.Text.{IsText, AreTexts}
-use Rattle.sctp_show.specs.Run.{IsOpened, IsPiece, Pieces, records_of, IsInput, IsTaken, PrintsRecord, Prints}
+use Rattle.sctp_show.specs.Run.{IsOpened, IsPiece, Pieces, records_of, IsInput, IsTaken, unread_by, unread_in, PrintsRecord, Prints}
 
 -- the pieces so far, by what was to be read and what is left
 pub record Walked (format : Format) (begun : Known) (bytes : List ℕ) (k : Known) (left : List ℕ) (records : List Record) : Type 0 where
@@ -29,9 +29,10 @@ HasRead format begun first k left records = IfSome first (λ xs. IsSomeAnd left 
 abbrev pub HasPrinted : Form → Option (List ℕ) → Option (List ℕ) → List Record → Type 0
 HasPrinted form old new records = (texts : List (List ℕ)) × AreTexts form 1 records texts × Appends old new (concat texts)
 
-pub record SoFar (form : Form) (format : Format) (begun : Known) (first : Option (List ℕ)) (k : Known) (left old new : Option (List ℕ)) (count : ℕ) : Type 0 where
+pub record SoFar (form : Form) (format : Format) (begun : Known) (first : Option (List ℕ)) (k : Known) (left old new : Option (List ℕ)) (count unread : ℕ) : Type 0 where
   pub records : List Record
   pub counted : length records ≡ count
+  pub missed : unread_in records ≡ unread
   pub read : HasRead format begun first k left records
   pub printed : HasPrinted form old new records
 
@@ -54,8 +55,8 @@ pub read_none : (format : Format) (k : Known) (a : Option (List ℕ)) → HasRea
 read_none format k None = tt
 read_none format k (Some xs) = record { pieces = []; walk = pieces_none format k xs; are = refl }
 
-pub so_far_none : (form : Form) (format : Format) (k : Known) (a old : Option (List ℕ)) → SoFar form format k a k a old old 0
-so_far_none form format k a old = record { records = []; counted = refl; read = read_none format k a; printed = ([], tt, Appends-nil old) }
+pub so_far_none : (form : Form) (format : Format) (k : Known) (a old : Option (List ℕ)) → SoFar form format k a k a old old 0 0
+so_far_none form format k a old = record { records = []; counted = refl; missed = refl; read = read_none format k a; printed = ([], tt, Appends-nil old) }
 
 records_next : (pieces : List Piece) (p : Piece) → records_of (pieces ++ p ∷ []) ≡ records_of pieces ++ option_to_list p.found
 records_next pieces p =
@@ -95,26 +96,45 @@ printed_next form old mid new records r n e printed next =
     let joined : concat (texts ++ t ∷ []) ≡ concat texts ++ t = concat-append texts (t ∷ []) ∙ ap (λ l. concat texts ++ l) (append-nil t) in
     (texts ++ t ∷ [], texts_next form 1 records texts r t printed.1 (rw e at next.1), rw joined (Appends-trans old mid new (concat texts) t printed.2 next.2))
 
+unread_next : (records : List Record) (r : Record) → unread_in (records ++ r ∷ []) ≡ unread_in records + unread_by r
+unread_next [] r = omega arith
+unread_next (q ∷ qs) r = let rest = unread_next qs r in omega (arith, rest)
+
+-- what was printed is sent off
+pub so_far_sent : (form : Form) (format : Format) (begun k : Known) (a b old mid new : Option (List ℕ)) (count unread : ℕ) → SoFar form format begun a k b old mid count unread
+    → Keeps mid new → SoFar form format begun a k b old new count unread
+so_far_sent form format begun k a b old mid new count unread so kept =
+    let texts : List (List ℕ) = so.printed.0 in
+    record {
+      records = so.records;
+      counted = so.counted;
+      missed = so.missed;
+      read = so.read;
+      printed = (texts, so.printed.1, Appends-kept old mid new (concat texts) so.printed.2 kept);
+    }
+
 -- one record more is read and printed
-pub so_far_record : (form : Form) (format : Format) (begun k after : Known) (a b c old mid new : Option (List ℕ)) (count : ℕ) (r : Record) → SoFar form format begun a k b old mid count
-    → IfSome b (λ xs. IsTaken format k xs (Some r) after c) → PrintsRecord form (count + 1) r mid new → SoFar form format begun a after c old new (count + 1)
-so_far_record form format begun k after a b c old mid new count r so next prints =
+pub so_far_record : (form : Form) (format : Format) (begun k after : Known) (a b c old mid new : Option (List ℕ)) (count unread : ℕ) (r : Record)
+    → SoFar form format begun a k b old mid count unread → IfSome b (λ xs. IsTaken format k xs (Some r) after c) → PrintsRecord form (count + 1) r mid new
+    → SoFar form format begun a after c old new (count + 1) (unread + unread_by r)
+so_far_record form format begun k after a b c old mid new count unread r so next prints =
     let number : count + 1 ≡ 1 + length so.records = omega (arith, so.counted) in
     let longer : length (so.records ++ r ∷ []) ≡ count + 1 = length-append so.records (r ∷ []) ∙ omega (arith, so.counted) in
     record {
       records = so.records ++ r ∷ [];
       counted = longer;
+      missed = unread_next so.records r ∙ ap (λ n. n + unread_by r) so.missed;
       read = read_next format begun k after a b c so.records (Some r) so.read next;
       printed = printed_next form old mid new so.records r (count + 1) number so.printed prints;
     }
 
 -- one piece more is read, which is no record
-pub so_far_nothing : (form : Form) (format : Format) (begun k after : Known) (a b c old new : Option (List ℕ)) (count : ℕ) → SoFar form format begun a k b old new count
-    → IfSome b (λ xs. IsTaken format k xs None after c) → SoFar form format begun a after c old new count
-so_far_nothing form format begun k after a b c old new count so next =
+pub so_far_nothing : (form : Form) (format : Format) (begun k after : Known) (a b c old new : Option (List ℕ)) (count unread : ℕ) → SoFar form format begun a k b old new count unread
+    → IfSome b (λ xs. IsTaken format k xs None after c) → SoFar form format begun a after c old new count unread
+so_far_nothing form format begun k after a b c old new count unread so next =
     let same : so.records ++ [] ≡ so.records = append-nil so.records in
     let read : HasRead format begun a after c (so.records ++ []) = read_next format begun k after a b c so.records None so.read next in
-    record { records = so.records; counted = so.counted; read = rw same at read; printed = so.printed }
+    record { records = so.records; counted = so.counted; missed = so.missed; read = rw same at read; printed = so.printed }
 
 -- what is opened is the input
 pub opened_input : (format : Format) (z a b : Option (List ℕ)) → Keeps z a → IfSome a (λ xs. IsOpened format xs b) → IfSome z (λ bytes. IsOpened format bytes b)
@@ -125,7 +145,7 @@ opened_input format (Some bytes) (Some xs) b keeps opened = rw keeps at opened
 all_read : (format : Format) (begun k : Known) (z a b : Option (List ℕ)) (records : List Record) → IsBegun begun → IfSome z (λ bytes. IsOpened format bytes a) → HasRead format begun a k b records
     → IfSome b (λ xs. IsEnd k xs) → IfSome z (λ bytes. IsInput bytes records)
 all_read format begun k None a b records is_begun opened read next = tt
-all_read Lines begun k (Some bytes) None b records is_begun opened read next = absurd opened.2
+all_read Lines begun k (Some bytes) None b records is_begun opened read next = absurd opened.3
 all_read (Capture h) begun k (Some bytes) None b records is_begun opened read next = absurd opened.1
 all_read Blocks begun k (Some bytes) None b records is_begun opened read next = absurd opened.2
 all_read format begun k (Some bytes) (Some xs) None records is_begun opened read next = absurd read
@@ -144,12 +164,13 @@ all_read format begun k (Some bytes) (Some xs) (Some ys) records is_begun opened
 }
 
 -- where no piece is left, all are read and printed
-pub so_far_all : (form : Form) (format : Format) (begun k : Known) (z a b old mid new : Option (List ℕ)) (count : ℕ) (ending : List ℕ) → IsBegun begun → IfSome z (λ bytes. IsOpened format bytes a)
-    → SoFar form format begun a k b old mid count → IfSome b (λ xs. IsEnd k xs) → Appends mid new ending
-    → (records : List Record) × (count ≡ length records) × IfSome z (λ bytes. IsInput bytes records) × Prints form records old new
-so_far_all form format begun k z a b old mid new count ending is_begun opened so next ends = (
+pub so_far_all : (form : Form) (format : Format) (begun k : Known) (z a b old mid new : Option (List ℕ)) (count unread : ℕ) (ending : List ℕ) → IsBegun begun
+    → IfSome z (λ bytes. IsOpened format bytes a) → SoFar form format begun a k b old mid count unread → IfSome b (λ xs. IsEnd k xs) → Appends mid new ending
+    → (records : List Record) × (count ≡ length records) × (unread ≡ unread_in records) × IfSome z (λ bytes. IsInput bytes records) × Prints form records old new
+so_far_all form format begun k z a b old mid new count unread ending is_begun opened so next ends = (
   so.records,
   sym so.counted,
+  sym so.missed,
   all_read format begun k z a b so.records is_begun opened so.read next,
   (so.printed.0, ending, so.printed.1, Appends-trans old mid new (concat so.printed.0) ending so.printed.2 ends),
 )

@@ -1,16 +1,20 @@
 -- The SCTP datagram that stands in a frame.
-use Rattle.std.specs.Prelude.{◌≡◌, ◌≢◌, ℕ, zero, suc, ◌+◌, ◌*◌, ◌/◌, ◌%◌, ◌≤◌, ◌⊎◌, List, length, slice_index, slice_range}
+use Rattle.std.specs.Prelude.{◌≡◌, ◌≢◌, ℕ, zero, suc, ◌+◌, ◌*◌, ◌/◌, ◌%◌, ◌≤◌, ◌⊎◌, ◌==◌, if◌then◌else◌, List, length, slice_index, slice_range}
 use Rattle.std.specs.Prelude.{Option, IsSomeAnd}
 use Rattle.std.specs.Net.Addr.{ipv4_octets, ipv6_segments, segments_of, IsV4And, IsV6And}
 use Rattle.std.specs.declared.net.ip_addr.IpAddr.{IpAddr}
 use Rattle.sctp_base.specs.Field.{u16_at}
 
+-- where an IP packet or a UDP datagram ends that has its length at this place: there, or, if it is 0, with the bytes that there are
+abbrev pub end_of : List ℕ → ℕ → ℕ
+end_of bytes at = if u16_at bytes at == 0 then length bytes else u16_at bytes at
+
 -- in UDP to or from the port: behind the header, to the length that it says (RFC 768)
 pub record InUdp (port : ℕ) (payload bytes : List ℕ) : Type 0 where
   pub has_port : (u16_at payload 0 ≡ port) ⊎ (u16_at payload 2 ≡ port)
-  pub has_header : 8 ≤ u16_at payload 4
-  pub has_all : u16_at payload 4 ≤ length payload
-  pub is : bytes ≡ slice_range payload 8 (u16_at payload 4)
+  pub has_header : 8 ≤ end_of payload 4
+  pub has_all : end_of payload 4 ≤ length payload
+  pub is : bytes ≡ slice_range payload 8 (end_of payload 4)
 
 -- in what IP carries: all of it, or what UDP carries to or from the port (RFC 6951)
 abbrev pub IsCarried : ℕ → ℕ → List ℕ → List ℕ → Type 0
@@ -25,27 +29,33 @@ ipv4_header packet = (slice_index packet 0 % 16) * 4
 pub record InIpv4 (port : ℕ) (packet bytes : List ℕ) : Type 0 where
   pub is_no_fragment : u16_at packet 6 % 16384 ≡ 0
   pub has_header : 20 ≤ ipv4_header packet
-  pub has_length : ipv4_header packet ≤ u16_at packet 2
-  pub has_all : u16_at packet 2 ≤ length packet
+  pub has_length : ipv4_header packet ≤ end_of packet 2
+  pub has_all : end_of packet 2 ≤ length packet
   pub carried : IsCarried port (slice_index packet 9)
-      (slice_range packet (ipv4_header packet) (u16_at packet 2)) bytes
+      (slice_range packet (ipv4_header packet) (end_of packet 2)) bytes
 
--- headers of IPv6 that another one follows: hop-by-hop options, routing, destination options (RFC 8200 4)
-abbrev pub IsExtension : ℕ → Type 0
-IsExtension protocol = (protocol ≡ 0) ⊎ ((protocol ≡ 43) ⊎ (protocol ≡ 60))
+-- a fragment header of a packet that is whole: no offset, and no more fragments (RFC 6946)
+abbrev pub IsAtomic : List ℕ → Type 0
+IsAtomic payload =
+    (8 ≤ length payload) × (u16_at payload 2 / 8 ≡ 0) × (u16_at payload 2 % 2 ≡ 0)
 
--- the bytes of such a header (RFC 8200 4.3)
-abbrev pub extension_header : List ℕ → ℕ
-extension_header payload = 8 + 8 * slice_index payload 1
+-- headers of IPv6 that another one follows: hop-by-hop options, routing, destination options (RFC 8200 4), and that of a whole packet
+abbrev pub IsPassed : ℕ → List ℕ → Type 0
+IsPassed protocol payload = (protocol ≡ 0) ⊎ ((protocol ≡ 43)
+    ⊎ ((protocol ≡ 60) ⊎ ((protocol ≡ 44) × IsAtomic payload)))
+
+-- the bytes of such a header (RFC 8200 4.3, 4.5)
+abbrev pub passed_bytes : ℕ → List ℕ → ℕ
+passed_bytes protocol payload = if protocol == 44 then 8 else 8 + 8 * slice_index payload 1
 
 -- what stands behind fewer than so many such headers, each whole, and its protocol; it is no fragment (RFC 8200 4.5)
 unfoldable pub IsUpper : ℕ → ℕ → List ℕ → ℕ → List ℕ → Type 0
 IsUpper zero first payload protocol upper = ⊥
 IsUpper (suc count) first payload protocol upper =
-    (IsExtension first × (extension_header payload ≤ length payload)
+    (IsPassed first payload × (passed_bytes first payload ≤ length payload)
     × IsUpper count (slice_index payload 0)
-    (slice_range payload (extension_header payload) (length payload)) protocol upper)
-    ⊎ ((IsExtension first → ⊥) × (first ≢ 44) × (protocol ≡ first) × (upper ≡ payload))
+    (slice_range payload (passed_bytes first payload) (length payload)) protocol upper)
+    ⊎ ((IsPassed first payload → ⊥) × (first ≢ 44) × (protocol ≡ first) × (upper ≡ payload))
 
 -- in an IPv6 packet: behind its headers, of which fifteen may follow the first, to its length
 pub record InIpv6 (port : ℕ) (packet bytes : List ℕ) : Type 0 where

@@ -6,4 +6,5 @@ pub mod Sum
 pub mod Blocks
 pub mod Text
 pub mod Frame
+pub mod Kind
 pub mod Run

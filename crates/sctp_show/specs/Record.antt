@@ -1,5 +1,5 @@
 -- The records that an input holds, by its bytes.
-use Rattle.std.specs.Prelude.{◌≡◌, ℕ, ◌+◌, ◌%◌, ◌<◌, ◌≤◌, ◌⊎◌, Bool, true, false, ◌==◌, if◌then◌else◌, List, [], ◌∷◌, length, drop, slice_range, Option, Some, None, Ok, Err, MatchResult}
+use Rattle.std.specs.Prelude.{◌≡◌, ℕ, ◌+◌, ◌%◌, ◌<◌, ◌≤◌, ◌⊎◌, Bool, true, false, ◌==◌, ◌||◌, if◌then◌else◌, List, [], ◌∷◌, length, drop, slice_range, Option, Some, None, Ok, Err, MatchResult}
 use Rattle.std.specs.Io.KnownBytes.{Keeps}
 use Rattle.std.specs.Io.BufRead.{drop_through}
 use Rattle.hex.specs.Hex.{decode_of}
@@ -10,6 +10,8 @@ use Rattle.sctp_show.specs.declared.record.Head.{Head}
 use Rattle.sctp_show.specs.declared.record.Time.{Time}
 use Rattle.sctp_show.specs.declared.record.Fault.TheVariants.{NotHex, CutOff, TooLong}
 use Rattle.sctp_show.specs.declared.record.Record.{Record}
+use Rattle.sctp_show.specs.declared.blocks.Taken.{Taken}
+use Rattle.sctp_show.specs.declared.blocks.Taken.TheVariants as taken
 
 -- the number that stands in the four bytes from a place on
 abbrev pub number_at : Order → List ℕ → ℕ → ℕ
@@ -70,16 +72,44 @@ after_line bytes = drop_through 10 bytes
 abbrev pub HoldsLine : List ℕ → Type 0
 HoldsLine bytes = (length (line_in bytes) < length bytes) ⊎ (524288 < length bytes)
 
+-- what may stand between the digits: a space, a tab, a carriage return
+abbrev pub is_blank : ℕ → Bool
+is_blank x = x == 32 || (x == 9 || x == 13)
+
+-- what a line says up to a comment, which '#' begins, without the blanks in it
+abbrev pub digits_in : List ℕ → List ℕ
+digits_in [] = []
+digits_in (x ∷ xs) =
+    if x == 35 then [] else if is_blank x then digits_in xs else x ∷ digits_in xs
+
 -- the line that the bytes begin with: its frame is what its hex text says, or refused
 pub record IsLine (bytes : List ℕ) (r : Record) : Type 0 where
   pub link_type : r.link_type ≡ 248
   pub time : r.time ≡ None
   pub too_long : 524288 < length (line_in bytes) → r.frame ≡ Err TooLong
+  pub some : length (line_in bytes) ≤ 524288 → 0 < length (digits_in (line_in bytes))
   pub text : length (line_in bytes) ≤ 524288
-      → MatchResult (decode_of (line_in bytes)) (λ frame. r.frame ≡ Ok frame)
+      → MatchResult (decode_of (digits_in (line_in bytes))) (λ frame. r.frame ≡ Ok frame)
       (λ _. r.frame ≡ Err NotHex)
 
--- ---- both
+-- the line says nothing: it is empty, or blanks and a comment
+abbrev pub IsBlankLine : List ℕ → Type 0
+IsBlankLine bytes = (length (line_in bytes) ≤ 524288) × (digits_in (line_in bytes) ≡ [])
+
+-- the record that a line is, if it says anything
+abbrev pub IsLineFound : List ℕ → Option Record → Type 0
+IsLineFound bytes None = IsBlankLine bytes
+IsLineFound bytes (Some r) = IsLine bytes r
+
+-- the next line, and what is left then; none at the end of the bytes
+abbrev pub IsNextLine : List ℕ → Option (List ℕ) → Taken → Type 0
+IsNextLine bytes left taken.End = bytes ≡ []
+IsNextLine bytes left taken.Nothing =
+    (0 < length bytes) × IsBlankLine bytes × Keeps (Some (after_line bytes)) left
+IsNextLine bytes left (taken.Record r) =
+    (0 < length bytes) × IsLine bytes r × Keeps (Some (after_line bytes)) left
+
+-- ---- the next entry
 
 -- the next record, and what is left then; none at the end of the bytes
 abbrev pub IsNext : (List ℕ → Record → Type 0) → (List ℕ → List ℕ) → List ℕ → Option (List ℕ)

@@ -1,5 +1,5 @@
 -- What a run prints of an input.
-use Rattle.std.specs.Prelude.{◌≡◌, ℕ, ◌<◌, List, [], ◌∷◌, ◌++◌, length, drop, Option, Some, None, IsSomeAnd, option_to_list}
+use Rattle.std.specs.Prelude.{◌≡◌, ℕ, ◌+◌, ◌<◌, if◌then◌else◌, is_err, List, [], ◌∷◌, ◌++◌, length, drop, Option, Some, None, IsSomeAnd, option_to_list}
 use Rattle.std.specs.List.{concat, flat_map}
 use Rattle.std.specs.Io.KnownBytes.{Keeps, Appends}
 use Rattle.sctp_show.specs.declared.page.Form.{Form}
@@ -9,14 +9,16 @@ use Rattle.sctp_show.specs.declared.run.Format.{Format}
 use Rattle.sctp_show.specs.declared.run.Format.TheVariants.{Lines, Capture, Blocks}
 use Rattle.sctp_show.specs.declared.blocks.Taken.{Taken}
 use Rattle.sctp_show.specs.declared.blocks.Taken.TheVariants as taken
-use Rattle.sctp_show.specs.Record.{IsHead, IsEntry, IsLine, after_entry, after_line}
+use Rattle.sctp_show.specs.Kind.{IsNoOther}
+use Rattle.sctp_show.specs.Record.{IsHead, IsEntry, IsLineFound, after_entry, after_line}
 use Rattle.sctp_show.specs.Blocks.{Known, Piece, IsBegun, IsBlocks, IsBlock, IsEnd}
 use Rattle.sctp_show.specs.Text.{IsText, AreTexts}
 
 -- the format of an input, and what is left to read of it then
 abbrev pub IsOpened : Format → List ℕ → Option (List ℕ) → Type 0
 IsOpened Lines bytes left =
-    ((h : Head) → IsHead bytes h → ⊥) × (IsBlocks bytes → ⊥) × Keeps (Some bytes) left
+    ((h : Head) → IsHead bytes h → ⊥) × (IsBlocks bytes → ⊥) × IsNoOther bytes
+    × Keeps (Some bytes) left
 IsOpened (Capture h) bytes left = IsHead bytes h × Keeps (Some (drop 24 bytes)) left
 IsOpened Blocks bytes left =
     ((h : Head) → IsHead bytes h → ⊥) × IsBlocks bytes × Keeps (Some bytes) left
@@ -24,7 +26,7 @@ IsOpened Blocks bytes left =
 -- the piece that the bytes begin with: a line, an entry, or a block
 abbrev pub IsPiece : Format → Known → List ℕ → Piece → Type 0
 IsPiece Lines k bytes p =
-    IsSomeAnd p.found (IsLine bytes) × (p.known ≡ k) × (p.left ≡ after_line bytes)
+    IsLineFound bytes p.found × (p.known ≡ k) × (p.left ≡ after_line bytes)
 IsPiece (Capture h) k bytes p =
     IsSomeAnd p.found (IsEntry h bytes) × (p.known ≡ k) × (p.left ≡ after_entry h bytes)
 IsPiece Blocks k bytes p = IsBlock k bytes p
@@ -64,10 +66,18 @@ Takes format k bytes (taken.Record r) after left = IsTaken format k bytes (Some 
 Takes format k bytes taken.Nothing after left = IsTaken format k bytes None after left
 Takes format k bytes taken.End after left = IsEnd k bytes
 
--- of lines and entries each piece is a record
+-- of entries each piece is a record
 abbrev pub taken_by : Option Record → Taken
 taken_by (Some r) = taken.Record r
 taken_by None = taken.End
+
+-- a record that has no frame could not be read
+abbrev pub unread_by : Record → ℕ
+unread_by r = if is_err r.frame then 1 else 0
+
+abbrev pub unread_in : List Record → ℕ
+unread_in [] = 0
+unread_in (r ∷ rs) = unread_by r + unread_in rs
 
 -- the text of the record, and nothing else, was written
 abbrev pub PrintsRecord : Form → ℕ → Record → Option (List ℕ) → Option (List ℕ) → Type 0

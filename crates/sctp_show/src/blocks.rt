@@ -143,6 +143,17 @@ pub fn read_block_head(order: Order, held: &[u8]) -> Option<BlockHead>
     })
 }
 
+/// Whether the block at the front is held whole, or nothing can be taken there.
+pub fn holds_block(order: Order, held: &[u8]) -> bool {
+    if held.len() < BLOCK_HEADER {
+        return false;
+    }
+    match read_block_head(order, held) {
+        Some(head) => held.len() >= head.length as usize,
+        None => true,
+    }
+}
+
 /// The number that the first two of four bytes are, by the number that all four are.
 fn first_half(order: Order, number: u32) -> u32
     ensures { result ≡ blocks.first_half order number }

@@ -1,7 +1,7 @@
 //! The SCTP datagram inside a frame.
 
 ghost use Rattle.std.specs.Prelude.{◌≡◌, ◌≢◌, ◌↔◌, ◌+◌, ◌≤◌, ◌<◌, ℕ, List, length, slice_range, IsTrue, IfOk, IfErr, IsOkAnd, IsSomeAnd, None};
-ghost use Rattle.sctp_show.specs.Frame.{IsCarried, InIpv4, IsExtension, IsUpper, InIpv6, InIp, IsTag, IsTypePlace, IsEthernetPlace, IsPlace, InFrame, IsIpv4At, IsIpv6At, AreEnds, HasEnds};
+ghost use Rattle.sctp_show.specs.Frame.{IsCarried, end_of, InIpv4, IsAtomic, IsPassed, passed_bytes, IsUpper, InIpv6, InIp, IsTag, IsTypePlace, IsEthernetPlace, IsPlace, InFrame, IsIpv4At, IsIpv6At, AreEnds, HasEnds};
 ghost use Rattle.sctp_base.specs.Field;
 
 use crate::record::Fault;
@@ -23,6 +23,20 @@ pub struct Datagram<'a> {
     pub bytes: &'a [u8],
 }
 
+/// Where an IP packet or a UDP datagram ends that has its length at this place: there, or, if it is 0, with the bytes that there are, as
+/// where a network card cuts a large packet into segments.
+/// Precondition: the length is there.
+fn end_of(bytes: &[u8], at: usize) -> usize
+    requires { at + 2 ≤ length bytes.now }
+    ensures { result ≡ end_of bytes.now at }
+{
+    let length = read_u16(bytes, at) as usize;
+    if length == 0 {
+        return bytes.len();
+    }
+    length
+}
+
 /// The SCTP datagram in what IP carries: all of it, or what UDP carries to or from the port (RFC 6951).
 fn inside_transport(protocol: u8, payload: &[u8], port: u16) -> Result<&[u8], Fault>
     ensures found { IfOk result (λ bytes. IsCarried port protocol payload.now bytes.now) }
@@ -41,8 +55,8 @@ fn inside_transport(protocol: u8, payload: &[u8], port: u16) -> Result<&[u8], Fa
     if read_u16(payload, 0) != port && read_u16(payload, 2) != port {
         return Err(Fault::OtherProtocol);
     }
-    let length = read_u16(payload, 4) as usize;
-    payload.get(8..length).ok_or(Fault::Short)
+    let end = end_of(payload, 4);
+    payload.get(8..end).ok_or(Fault::Short)
 }
 
 /// The address in four bytes.
@@ -71,7 +85,7 @@ fn inside_ipv4(packet: &[u8], port: u16) -> Result<Datagram<'_>, Fault>
     if header < 20 {
         return Err(Fault::Short);
     }
-    let total = read_u16(packet, 2) as usize;
+    let total = end_of(packet, 2);
     let Some(payload) = packet.get(header..total) else {
         return Err(Fault::Short);
     };
@@ -91,11 +105,36 @@ fn ipv6_at(packet: &[u8], at: usize) -> IpAddr
     IpAddr::from(octets)
 }
 
-/// Whether such a header of IPv6 is followed by another one.
-fn is_extension(protocol: u8) -> bool
-    ensures { IsTrue result ↔ IsExtension protocol }
+/// Whether a fragment header of IPv6 says that the packet is whole: no offset, and no more fragments (RFC 6946).
+fn is_atomic(payload: &[u8]) -> bool
+    ensures { IsTrue result ↔ IsAtomic payload.now }
 {
-    protocol == 0 || protocol == 43 || protocol == 60
+    payload.len() >= 8 && read_u16(payload, 2) / 8 == 0 && read_u16(payload, 2) % 2 == 0
+}
+
+/// Whether the packet is a fragment by such a header of IPv6.
+fn is_fragment(protocol: u8, payload: &[u8]) -> bool
+    ensures { IsTrue result ↔ ((protocol ≡ 44) × (IsAtomic payload.now → ⊥)) }
+{
+    protocol == 44 && !is_atomic(payload)
+}
+
+/// Whether such a header of IPv6 is followed by another one.
+fn is_passed(protocol: u8, payload: &[u8]) -> bool
+    ensures { IsTrue result ↔ IsPassed protocol payload.now }
+{
+    protocol == 0 || protocol == 43 || protocol == 60 || (protocol == 44 && is_atomic(payload))
+}
+
+/// How many bytes such a header of IPv6 takes.
+fn passed_bytes(protocol: u8, payload: &[u8]) -> usize
+    requires { 2 ≤ length payload.now }
+    ensures { result ≡ passed_bytes protocol payload.now }
+{
+    if protocol == 44 {
+        return 8;
+    }
+    8 + 8 * (payload[1] as usize)
 }
 
 /// What the last of the headers that follow the one of IPv6 carries, and its protocol number. At most fifteen follow.
@@ -107,16 +146,16 @@ fn inside_extensions(first: u8, payload: &[u8]) -> Result<(u8, &[u8]), Fault>
     let mut protocol = first;
     let mut rest = payload;
     for _passed in 0..MAX_HEADERS {
-        if protocol == 44 {
+        if is_fragment(protocol, rest) {
             return Err(Fault::Fragment);
         }
-        if !is_extension(protocol) {
+        if !is_passed(protocol, rest) {
             return Ok((protocol, rest));
         }
         if rest.len() < 2 {
             return Err(Fault::Short);
         }
-        let after = 8 + 8 * (rest[1] as usize);
+        let after = passed_bytes(protocol, rest);
         if rest.len() < after {
             return Err(Fault::Short);
         }

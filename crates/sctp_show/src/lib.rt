@@ -5,6 +5,7 @@ pub mod blocks;
 pub mod checksum;
 pub mod chunk_text;
 pub mod frame;
+pub mod kind;
 pub mod page;
 pub mod record;
 pub mod run;

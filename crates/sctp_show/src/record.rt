@@ -1,12 +1,13 @@
 //! The records of an input: the entries of a capture, or lines of hex text.
 
-ghost use Rattle.std.specs.Prelude.{◌≡◌, ◌≤◌, ◌<◌, ◌+◌, ℕ, Option, None, Some, length, drop, ◌⊎◌, Ok, Err, ◌≢◌, Bool, MatchResult, IfOk, OnOk, IfSome, IfNone};
+ghost use Rattle.std.specs.Prelude.{◌≡◌, ◌≤◌, ◌<◌, ◌+◌, ℕ, Option, None, Some, length, drop, ◌⊎◌, Ok, Err, ◌≢◌, Bool, MatchResult, IfOk, OnOk, IfSome, IfNone, IsTrue, ◌↔◌};
 ghost use Rattle.std.specs.Io.KnownBytes.{Keeps, IsAtEnd, prepend_known};
 ghost use Rattle.hex.specs.Hex.{decode_of};
 ghost use Rattle.sctp_show.specs.declared.record.Fault.TheVariants.{NotHex};
 ghost use Rattle.sctp_show.specs.Text.{fault_text};
-ghost use Rattle.sctp_show.specs.Record.{IsHead, magic_of, number_at, IsEntry, entry_span, after_entry, line_in, HoldsLine, IsLine, after_line, IsNext};
+ghost use Rattle.sctp_show.specs.Record.{IsHead, magic_of, number_at, IsEntry, entry_span, after_entry, line_in, HoldsLine, is_blank, digits_in, IsLineFound, after_line, IsNext, IsNextLine};
 
+use crate::blocks::Taken;
 use crate::run::RunFault;
 use crate::window::Window;
 use bytes::Bytes;
@@ -24,7 +25,7 @@ pub const ENTRY_HEADER: usize = 16;
 /// The most bytes that a record may have.
 pub const MAX_RECORD: usize = 262_144;
 
-/// The most digits of a line.
+/// The most bytes of a line.
 pub const MAX_LINE: usize = 524_288;
 
 /// The link type of a line: a datagram alone.
@@ -220,6 +221,13 @@ fn span_in(head: &Head, held: &[u8]) -> usize
     ENTRY_HEADER + read_number(head.order, held, 8) as usize
 }
 
+/// Whether the entry at the front is held whole.
+pub fn holds_entry(head: &Head, held: &[u8]) -> bool
+    ensures { IsTrue result ↔ (16 ≤ length held.now × (entry_span head.now held.now ≤ length held.now)) }
+{
+    held.len() >= ENTRY_HEADER && held.len() >= span_in(head, held)
+}
+
 /// Takes the next entry of a capture. There is none at the end of the input.
 pub fn next_entry<R: Read + Drop>(
     alloc: Global,
@@ -256,6 +264,13 @@ fn line_length(bytes: &[u8]) -> usize
     bytes.len()
 }
 
+/// Whether the line at the front is held with its line feed.
+pub fn holds_line(held: &[u8]) -> bool
+    ensures { IsTrue result ↔ length (line_in held.now) < length held.now }
+{
+    line_length(held) < held.len()
+}
+
 /// Holds the line at the front with its line feed, more than a line may have, or all that there is.
 fn fill_line<R: Read + Drop>(window: &mut Window<R>) -> Result<(), RunFault>
     ensures keeps { OnOk result
@@ -272,22 +287,57 @@ fn fill_line<R: Read + Drop>(window: &mut Window<R>) -> Result<(), RunFault>
     Ok(())
 }
 
-/// Reads the line that the bytes begin with.
-#[tactic(auto, using(crate::proofs::Lines::line_front))]
-fn read_line(alloc: Global, held: &[u8]) -> Result<Record, AllocError>
-    ensures { IfOk result (IsLine held.now) }
+/// The record of a line with this frame.
+fn line_record(frame: Result<Bytes, Fault>) -> Record
+    ensures link_type { result.link_type ≡ 248 }
+    ensures time { result.time ≡ None }
+    ensures frame { result.frame ≡ frame }
 {
-    let length = line_length(held);
-    let frame = if length > MAX_LINE {
-        Err(Fault::TooLong)
-    } else {
-        read_hex(alloc, &held[..length])?
-    };
-    Ok(Record {
+    Record {
         time: None,
         link_type: LINE_LINK,
         frame,
-    })
+    }
+}
+
+/// Whether a byte may stand between hex digits: a space, a tab or a carriage return.
+fn is_blank(byte: u8) -> bool
+    ensures { result ≡ is_blank byte }
+{
+    byte == b' ' || byte == b'\t' || byte == b'\r'
+}
+
+/// The bytes of a line up to a comment, which `#` begins, without the blanks among them.
+#[tactic(auto, using(crate::proofs::Digits::digits_stop, crate::proofs::Digits::digits_pass, crate::proofs::Digits::digits_keep, crate::proofs::Digits::digits_end))]
+fn digits_of(alloc: Global, line: &[u8]) -> Result<Vec<u8>, AllocError>
+    ensures { IfOk result (λ digits. digits.items ≡ digits_in line.now) }
+{
+    let mut digits = Vec::with_capacity(alloc, line.len())?;
+    for byte in line {
+        if *byte == b'#' {
+            return Ok(digits);
+        }
+        if !is_blank(*byte) {
+            digits.push(*byte)?;
+        }
+    }
+    Ok(digits)
+}
+
+/// Reads the line that the bytes begin with. There is no record where it has nothing but blanks and a comment.
+#[tactic(auto, using(crate::proofs::Lines::line_front))]
+fn read_line(alloc: Global, held: &[u8]) -> Result<Option<Record>, AllocError>
+    ensures { IfOk result (IsLineFound held.now) }
+{
+    let length = line_length(held);
+    if length > MAX_LINE {
+        return Ok(Some(line_record(Err(Fault::TooLong))));
+    }
+    let digits = digits_of(alloc, &held[..length])?;
+    if digits.is_empty() {
+        return Ok(None);
+    }
+    Ok(Some(line_record(read_hex(alloc, &digits)?)))
 }
 
 /// The bytes that hex text says.
@@ -321,24 +371,23 @@ fn skip_line<R: Read + Drop>(window: &mut Window<R>) -> Result<(), RunFault>
             return Ok(());
         }
     }
-    Err(RunFault::Input)
+    Err(RunFault::Input(None))
 }
 
 /// Takes the next line. There is none at the end of the input.
-pub fn next_line<R: Read + Drop>(
-    alloc: Global,
-    window: &mut Window<R>,
-) -> Result<Option<Record>, RunFault>
+pub fn next_line<R: Read + Drop>(alloc: Global, window: &mut Window<R>) -> Result<Taken, RunFault>
     ensures { IfOk result
-        (λ next. IfSome (prepend_known window.old.held.items (R.remaining window.old.reader)) (λ xs.
-        IsNext IsLine after_line xs
-        (prepend_known window.new.held.items (R.remaining window.new.reader)) next)) }
+        (λ taken. IfSome (prepend_known window.old.held.items (R.remaining window.old.reader)) (λ xs.
+        IsNextLine xs (prepend_known window.new.held.items (R.remaining window.new.reader)) taken)) }
 {
     fill_line(window)?;
     if window.held().is_empty() {
-        return Ok(None);
+        return Ok(Taken::End);
     }
-    let record = read_line(alloc, window.held())?;
+    let found = read_line(alloc, window.held())?;
     skip_line(window)?;
-    Ok(Some(record))
+    match found {
+        Some(record) => Ok(Taken::Record(record)),
+        None => Ok(Taken::Nothing),
+    }
 }

@@ -34,10 +34,10 @@ fn read_piece<R: Read>(reader: &mut R, piece: &mut [u8]) -> Result<usize, RunFau
         match reader.read(piece) {
             Ok(n) => return Ok(n),
             Err(e) if e.kind() == ErrorKind::Interrupted => {}
-            Err(_) => return Err(RunFault::Input),
+            Err(e) => return Err(RunFault::Input(e.raw_os_error())),
         }
     }
-    Err(RunFault::Input)
+    Err(RunFault::Input(None))
 }
 
 impl<R: Read + Drop> Window<R> {

@@ -1,4 +1,6 @@
+use Rattle.std.proofs.Common.{sym, ◌∙◌}
 use Rattle.sctp_show.proofs.Heads.{opened_capture, opened_lines, opened_blocks}
+use Rattle.sctp_show.specs.Kind.{IsNoOther}
 use Rattle.sctp_show.proofs.run.open_input.Goals as goal
 
 pub returns-in-Some : goal.returns-in-Some
@@ -8,6 +10,9 @@ pub returns-then-begins_blocks : goal.returns-then-begins_blocks
 returns-then-begins_blocks g c = opened_blocks _ (g.R.Read.remaining c.fill.new.self.reader) c.fill.new.self.held.items c.in_ok-fill.ensures.keeps c.in_ok-fill.ensures.full (rw c.held.ensures at c.in-None.ensures.none)
     (rw c.held-in-None.ensures at (c.begins_blocks.ensures.yes c.if-begins_blocks.true))
 
-pub returns-else-begins_blocks : goal.returns-else-begins_blocks
-returns-else-begins_blocks g c = opened_lines _ (g.R.Read.remaining c.fill.new.self.reader) c.fill.new.self.held.items c.in_ok-fill.ensures.keeps c.in_ok-fill.ensures.full (rw c.held.ensures at c.in-None.ensures.none)
-    (rw c.held-in-None.ensures at (c.begins_blocks.ensures.no c.if-begins_blocks.false))
+pub returns-in_default : goal.returns-in_default
+returns-in_default g c =
+    let told = rw c.held-in-None-2.ensures at c.other_kind.ensures.long in
+    let other : IsNoOther c.fill.new.self.held.items = λ long. sym (told long) ∙ c.in_default.is in
+    opened_lines _ (g.R.Read.remaining c.fill.new.self.reader) c.fill.new.self.held.items c.in_ok-fill.ensures.keeps c.in_ok-fill.ensures.full (rw c.held.ensures at c.in-None.ensures.none)
+    (rw c.held-in-None.ensures at (c.begins_blocks.ensures.no c.if-begins_blocks.false)) other

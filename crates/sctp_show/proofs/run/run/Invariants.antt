@@ -7,6 +7,7 @@ use Rattle.sctp_show.proofs.run.run.Given as goal
 abbrev pub invariant-pieces : goal.invariant-pieces
 invariant-pieces g l = record {
   counted : l.count ≤ l.turn;
+  fewer : l.unread ≤ l.count;
   so_far : SoFar l.options.form l.format (known_of l.initial.section) (prepend_known l.initial.window.held.items (g.R.Read.remaining l.initial.window.reader))
-      (known_of l.section) (prepend_known l.window.held.items (g.R.Read.remaining l.window.reader)) (g.W.Write.contents l.fn.output) (g.W.Write.contents l.output) l.count;
+      (known_of l.section) (prepend_known l.window.held.items (g.R.Read.remaining l.window.reader)) (g.W.Write.contents l.fn.output) (g.W.Write.contents l.output) l.count l.unread;
 }
