@@ -56,8 +56,11 @@ def of_tshark(capture):
 
 def of_sctpdump(program, capture):
     """Returns the same of what sctpdump says, or None for a record with no packet to show."""
-    out = subprocess.run([program, "--json", "--port", "9899", capture], capture_output=True, text=True).stdout
-    return [json.loads(line) for line in out.splitlines()][:-1]
+    ran = subprocess.run([program, "--json", "--port", "9899", capture], capture_output=True, text=True)
+    # 1: a record could not be read, which its line says
+    if ran.returncode not in (0, 1):
+        sys.exit(ran.stderr)
+    return [json.loads(line) for line in ran.stdout.splitlines()][:-1]
 
 
 def fields_of(record):
