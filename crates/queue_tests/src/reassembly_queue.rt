@@ -421,3 +421,38 @@ fn a_fragment_finds_its_message_among_many(rt: HostRuntime) {
     let mut queue = ReassemblyQueue::new(alloc, 1, 100);
     assert!(rt; ends_come(alloc, &mut queue) && beginnings_come(alloc, &mut queue));
 }
+
+// Two complete messages and a begun one of the old use, which ends with TSN 12, and one of the new use.
+fn is_reset(alloc: Global, queue: &mut ReassemblyQueue) -> bool {
+    takes(alloc, queue, (10, 0), (WHOLE, b"a", true))
+        && takes(alloc, queue, (11, 1), (WHOLE, b"b", true))
+        && takes(alloc, queue, (12, 2), (FIRST, b"x", false))
+        && queue.reset(12) == Ok(())
+        && takes(alloc, queue, (13, 0), (WHOLE, b"c", true))
+        && queue.get_num_bytes() == 3
+}
+
+#[test]
+fn a_reset_keeps_complete_messages_before_new_ones(rt: HostRuntime) {
+    let alloc = rt.alloc();
+    let mut queue = ReassemblyQueue::new(alloc, 1, 100);
+    assert!(rt; is_reset(alloc, &mut queue) && reads(&mut queue, b"a"));
+    assert!(rt; reads(&mut queue, b"b") && reads(&mut queue, b"c") && queue.next_ssn() == 1);
+}
+
+// The end of a message comes too late, and the next one is read.
+fn is_not_waited_for(alloc: Global, queue: &mut ReassemblyQueue) -> bool {
+    takes(alloc, queue, (3, 0), (LAST, b"c", false))
+        && takes(alloc, queue, (4, 1), (WHOLE, b"d", true))
+        && reads(queue, b"d")
+        && queue.get_num_bytes() == 0
+}
+
+#[test]
+fn a_skip_without_names_blocks_nothing(rt: HostRuntime) {
+    let alloc = rt.alloc();
+    let mut queue = ReassemblyQueue::new(alloc, 1, 100);
+    assert!(rt; takes(alloc, &mut queue, (1, 0), (FIRST, b"a", false)));
+    queue.forward_tsn_for_incomplete(2);
+    assert!(rt; is_not_waited_for(alloc, &mut queue));
+}

@@ -5,5 +5,6 @@ pub mod Counts
 pub mod Fragments
 pub mod Loose
 pub mod ReassemblyQueue
+pub mod Resets
 pub mod Sizes
 pub mod Skips

@@ -15,8 +15,10 @@ ghost use Rattle.sctp_base.specs.declared.error.Error.TheVariants.{ErrOutOfMemor
 
 pub mod chunks;
 mod counted_sets;
+mod incomplete;
 mod ordered_sets;
 mod pool;
+mod resets;
 mod sizes;
 mod skips;
 pub mod unassembled;
@@ -317,7 +319,7 @@ impl ReassemblyQueue {
         ensures memory { IfErr result (λ e. e ≡ ErrOutOfMemory) }
     {
         let len = chunk.user_data.len();
-        self.unordered.reserve_one()?;
+        self.unordered.reserve(1)?;
         let run = self.unordered_chunks.put(self.alloc, place, chunk)?;
         self.n_bytes = self.n_bytes.saturating_add(len);
         match run {
@@ -427,7 +429,7 @@ impl ReassemblyQueue {
         ensures complete { complete_sets self.new.held ≡ complete_sets self.old.held }
     {
         self.next_ssn = ssn_past(self.next_ssn, last_ssn);
-        let gone = self.ordered.discard(last_ssn, None);
+        let gone = self.ordered.discard(Some(last_ssn), None);
         self.release(gone);
     }
 
@@ -443,7 +445,9 @@ impl ReassemblyQueue {
     {
         let goal = goal(self.ordered.as_deque(), last_ssn, new_cumulative_tsn);
         self.next_ssn = ssn_upto(self.next_ssn, goal);
-        let gone = self.ordered.discard(last_ssn, Some(new_cumulative_tsn));
+        let gone = self
+            .ordered
+            .discard(Some(last_ssn), Some(new_cumulative_tsn));
         self.release(gone);
     }
 

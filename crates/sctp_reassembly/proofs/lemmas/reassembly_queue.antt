@@ -9,4 +9,5 @@ pub mod ChunkSets
 pub mod ChunkCounts
 pub mod SizeBounds
 pub mod LastFragments
+pub mod Resets
 pub mod TakenRuns

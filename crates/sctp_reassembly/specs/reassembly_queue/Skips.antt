@@ -27,10 +27,16 @@ abbrev pub is_abandoned : ℕ → ℕ → ChunkSet → Bool
 is_abandoned last t set =
     at_or_before16 set.ssn last && (not (is_complete set.chunks) && misses t set.chunks)
 
--- a set that a skip discards, with a bound or without
-abbrev pub is_discarded : ℕ → Option ℕ → ChunkSet → Bool
-is_discarded last None set = is_passed last set
-is_discarded last (Some t) set = is_abandoned last t set
+-- an incomplete set that misses a TSN at or before t: it can't become complete, where all up to t counts as come
+abbrev pub cannot_complete : ℕ → ChunkSet → Bool
+cannot_complete t set = not (is_complete set.chunks) && misses t set.chunks
+
+-- a set that a skip discards: an incomplete one, at or before the SSN where there is one, and missing a TSN where there is a bound
+abbrev pub is_discarded : Option ℕ → Option ℕ → ChunkSet → Bool
+is_discarded None None set = not (is_complete set.chunks)
+is_discarded None (Some t) set = cannot_complete t set
+is_discarded (Some last) None set = is_passed last set
+is_discarded (Some last) (Some t) set = is_abandoned last t set
 
 -- a set that a bounded skip does not pass: at or before the SSN, and complete with a TSN after t, or incomplete and missing none
 abbrev pub is_unaffected : ℕ → ℕ → ChunkSet → Bool
@@ -68,6 +74,29 @@ after_bounded_skip last t q =
       held = held_after_bounded_skip last t q.held;
       bytes = q.bytes
           - set_bytes (filter (is_abandoned last t) q.held.ordered);
+    }
+
+-- ## Skipping what no SSN names
+
+-- the next SSN, moved past each of the sets that is not before it
+abbrev pub ssn_past_sets : ℕ → List ChunkSet → ℕ
+ssn_past_sets next [] = next
+ssn_past_sets next (set ∷ sets) =
+    ssn_past_sets (if at_or_before16 next set.ssn then (set.ssn + 1) % 2 ^ 16 else next) sets
+
+abbrev pub held_after_incomplete_skip : ℕ → Reassembly → Reassembly
+held_after_incomplete_skip t q =
+    record q {
+      ordered = filter (λ set. not (cannot_complete t set)) q.ordered;
+      next_ssn = ssn_past_sets q.next_ssn (filter (cannot_complete t) q.ordered);
+    }
+
+abbrev pub after_incomplete_skip : ℕ → ReassemblyState → ReassemblyState
+after_incomplete_skip t q =
+    record q {
+      held = held_after_incomplete_skip t q.held;
+      bytes = q.bytes
+          - set_bytes (filter (cannot_complete t) q.held.ordered);
     }
 
 -- ## How much of a skip is applicable

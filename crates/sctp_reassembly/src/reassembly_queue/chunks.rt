@@ -9,13 +9,14 @@ ghost use Rattle.sctp_chunks.specs.declared.chunk.chunk_payload_data.ChunkPayloa
 ghost use Rattle.sctp_list_lemmas.specs.Serial.{comes_before, distance};
 ghost use Rattle.sctp_list_lemmas.specs.Lists.{insert_before};
 ghost use Rattle.sctp_reassembly.specs.reassembly_queue.Fragments.{payload_of, is_complete, with_chunk, answer_with, is_complete_after};
+ghost use Rattle.sctp_reassembly.specs.reassembly_queue.Resets.{chunks_upto, rest_past};
 ghost use Rattle.sctp_serial.specs.DataChunks.{bytes_of, has_tsn, chunk_before};
 ghost use Rattle.sctp_serial.specs.Ascending.{IsOrder, IsInsertion};
 ghost use Rattle.sctp_base.specs.declared.error.Error.TheVariants.{ErrOutOfMemory, ErrShortBuffer};
 
 use bytes::{Bytes, BytesMut};
 use sctp_base::error::{Error, Result};
-use sctp_base::util::sna32lt;
+use sctp_base::util::{sna32lt, sna32lte};
 use sctp_chunks::chunk::chunk_payload_data::{ChunkPayloadData, PayloadProtocolIdentifier};
 use sctp_serial::serial::{Insertion, distance};
 use sctp_serial::turns::Turns;
@@ -126,6 +127,18 @@ impl Fragments {
         self.n_bytes = self.n_bytes.saturating_add(len);
         self.ascending = at.ascending;
         Ok(Some(self.is_complete()))
+    }
+
+    /// Keeps the fragments past the TSN, and counts the bytes of the others up to the greatest number. It takes no memory.
+    pub(crate) fn keep_past(&mut self, tsn: u32) -> usize
+        ensures rest { self.new ≡ rest_past tsn self.old }
+        ensures bytes { result
+            ≡ min (bytes_of (chunks_upto tsn self.old.chunks)) (2 ^ 64 - 1) }
+    {
+        let gone = bytes_upto(&self.chunks, tsn);
+        self.chunks.retain(|c| !sna32lte(c.tsn, tsn));
+        self.n_bytes = bytes_in(&self.chunks);
+        gone
     }
 }
 
@@ -471,6 +484,20 @@ pub(crate) fn bytes_in(chunks: &[ChunkPayloadData]) -> usize
     let mut len = 0usize;
     for chunk in chunks {
         len = len.saturating_add(chunk.user_data.len());
+    }
+    len
+}
+
+// How many bytes the fragments at or before the TSN carry, or the greatest number where they are more.
+fn bytes_upto(chunks: &[ChunkPayloadData], tsn: u32) -> usize
+    ensures { result ≡ min (bytes_of (chunks_upto tsn chunks.now)) (2 ^ 64 - 1) }
+{
+    let mut len = 0usize;
+    for chunk in chunks {
+        if sna32lte(chunk.tsn, tsn) {
+            let more = chunk.user_data.len();
+            len = len.saturating_add(more);
+        }
     }
     len
 }

@@ -1,16 +1,17 @@
 //! Sets of fragments, whose chunks are counted.
 
-ghost use Rattle.std.specs.Prelude.{◌≡◌, ◌+◌, ◌-◌, ◌^◌, ◌<◌, ◌≤◌, [], ◌∷◌, ◌++◌, length, min, not, drop, set, slice_index_or, OnOk, OnErr, IfOk, IfErr, IfSome, IfNone};
+ghost use Rattle.std.specs.Prelude.{◌≡◌, ◌+◌, ◌-◌, ◌^◌, ◌<◌, ◌≤◌, [], ◌∷◌, ◌++◌, length, min, not, drop, set, slice_index_or, OnOk, OnErr, IfOk, IfErr, IfSome, IfNone, IsOk};
 ghost use Rattle.std.specs.List.{insert, filter};
 ghost use Rattle.sctp_chunks.specs.ChunkSet.{ChunkSet};
 ghost use Rattle.sctp_base.specs.declared.error.Error.TheVariants.{ErrOutOfMemory};
 ghost use Rattle.sctp_reassembly.specs.reassembly_queue.Counts.{set_chunks};
 ghost use Rattle.sctp_reassembly.specs.reassembly_queue.Fragments.{with_chunk, answer_with};
 ghost use Rattle.sctp_reassembly.specs.reassembly_queue.ReassemblyQueue.{set_bytes};
+ghost use Rattle.sctp_reassembly.specs.reassembly_queue.Resets.{is_old_message, of_new_use, dropped_bytes};
 ghost use Rattle.sctp_reassembly.specs.reassembly_queue.Skips.{is_discarded};
 
 use crate::reassembly_queue::chunks::Fragments;
-use crate::reassembly_queue::skips;
+use crate::reassembly_queue::{resets, skips};
 use sctp_base::error::Result;
 use sctp_chunks::chunk::chunk_payload_data::ChunkPayloadData;
 use std::alloc::Global;
@@ -120,13 +121,14 @@ impl CountedSets {
         Ok(())
     }
 
-    /// Makes room for one more set. Refuses only for memory.
-    pub(crate) fn reserve_one(&mut self) -> Result<()>
+    /// Makes room for so many more sets. Refuses only for memory, and not where it is for none.
+    pub(crate) fn reserve(&mut self, more: usize) -> Result<()>
         ensures items { self.new.items ≡ self.old.items }
-        ensures room { OnOk result (length self.new.items < self.new.capacity) }
+        ensures room { OnOk result (length self.new.items + more ≤ self.new.capacity) }
+        ensures none { more ≡ 0 → IsOk result }
         ensures memory { IfErr result (λ e. e ≡ ErrOutOfMemory) }
     {
-        self.sets.reserve(1)?;
+        self.sets.reserve(more)?;
         Ok(())
     }
 
@@ -135,15 +137,16 @@ impl CountedSets {
     pub(crate) fn push_back_reserved(&mut self, set: Fragments)
         requires { length self.old.items < self.old.capacity }
         ensures items { self.new.items ≡ self.old.items ++ set ∷ [] }
+        ensures capacity { self.new.capacity ≡ self.old.capacity }
     {
         let more = set.fragments().len();
         self.sets.push_back_reserved(set);
         self.n_chunks = self.n_chunks.saturating_add(more);
     }
 
-    /// Removes the sets that a skip up to the number discards, those alone that miss a TSN where there
-    /// is a bound, and counts their bytes up to the greatest number.
-    pub(crate) fn discard(&mut self, last_ssn: u16, bound: Option<u32>) -> usize
+    /// Removes the sets that a skip discards: the incomplete ones, those alone at or before the number where there is
+    /// one, and those alone that miss a TSN where there is a bound. Counts their bytes up to the greatest number.
+    pub(crate) fn discard(&mut self, last_ssn: Option<u16>, bound: Option<u32>) -> usize
         ensures rest { self.new.items
             ≡ filter (λ s. not (is_discarded last_ssn bound s)) self.old.items }
         ensures bytes { result
@@ -151,6 +154,23 @@ impl CountedSets {
     {
         let gone = skips::discard(&mut self.sets, last_ssn, bound);
         self.n_chunks = chunks_in(&self.sets);
+        gone
+    }
+
+    /// Moves the complete messages of the old use, which ends with the TSN, behind others, and keeps of the rest what is of
+    /// the new use. Counts the bytes that are dropped up to the greatest number. It takes no memory.
+    /// Precondition: there is room for those that are moved.
+    pub(crate) fn end_use(&mut self, last_tsn: u32, moved: &mut CountedSets) -> usize
+        requires { length moved.old.items + length (filter (is_old_message last_tsn) self.old.items)
+            ≤ moved.old.capacity }
+        ensures rest { self.new.items ≡ of_new_use last_tsn self.old.items }
+        ensures moved { moved.new.items
+            ≡ moved.old.items ++ filter (is_old_message last_tsn) self.old.items }
+        ensures bytes { result ≡ min (dropped_bytes last_tsn self.old.items) (2 ^ 64 - 1) }
+    {
+        let gone = resets::end_use(&mut self.sets, last_tsn, moved);
+        let left = chunks_in(&self.sets);
+        self.n_chunks = left;
         gone
     }
 }

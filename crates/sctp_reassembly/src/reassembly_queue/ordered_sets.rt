@@ -1,10 +1,11 @@
 //! The sets of ordered messages, in the order of their numbers where these lie within half a circle.
 
-ghost use Rattle.std.specs.Prelude.{◌≡◌, ◌+◌, ◌-◌, ◌^◌, ◌<◌, ◌≤◌, ◌&&◌, [], ◌∷◌, length, map, min, true, false, not, OnOk, OnErr, IfOk, IfErr, IfSome, IfNone};
+ghost use Rattle.std.specs.Prelude.{◌≡◌, ◌+◌, ◌-◌, ◌^◌, ◌<◌, ◌≤◌, ◌&&◌, [], ◌∷◌, ◌++◌, length, map, min, true, false, not, OnOk, OnErr, IfOk, IfErr, IfSome, IfNone};
 ghost use Rattle.std.specs.List.{list_any, position_or_len, filter};
 ghost use Rattle.std.specs.List.Sorted.{IsNonDecreasingBy, IsPartitionPoint};
 ghost use Rattle.sctp_list_lemmas.specs.Serial.{comes_before16, distance};
 ghost use Rattle.sctp_reassembly.specs.reassembly_queue.ReassemblyQueue.{set_bytes, without_first};
+ghost use Rattle.sctp_reassembly.specs.reassembly_queue.Resets.{is_old_message, of_new_use, dropped_bytes};
 ghost use Rattle.sctp_reassembly.specs.reassembly_queue.Skips.{is_discarded};
 ghost use Rattle.sctp_reassembly.specs.reassembly_queue.Fragments.{is_complete, has_ssn, chunks_of_ssn, sets_with, answer_with, new_set, set_before};
 ghost use Rattle.sctp_reassembly.specs.reassembly_queue.Counts.{set_chunks};
@@ -132,14 +133,28 @@ impl OrderedSets {
         }
     }
 
-    /// Removes the sets that a skip up to the number discards, those alone that miss a TSN where there
-    /// is a bound, and counts their bytes up to the greatest number.
-    pub(crate) fn discard(&mut self, last_ssn: u16, bound: Option<u32>) -> usize
+    /// Removes the sets that a skip discards: the incomplete ones, those alone at or before the number where there is
+    /// one, and those alone that miss a TSN where there is a bound. Counts their bytes up to the greatest number.
+    pub(crate) fn discard(&mut self, last_ssn: Option<u16>, bound: Option<u32>) -> usize
         ensures rest { self.new ≡ filter (λ s. not (is_discarded last_ssn bound s)) self.old }
         ensures bytes { result
             ≡ min (set_bytes (filter (is_discarded last_ssn bound) self.old)) (2 ^ 64 - 1) }
     {
         self.sets.discard(last_ssn, bound)
+    }
+
+    /// Moves the complete messages of the old use, which ends with the TSN, behind others, and keeps of the rest what is of
+    /// the new use. Counts the bytes that are dropped up to the greatest number. It takes no memory.
+    /// Precondition: there is room for those that are moved.
+    pub(crate) fn end_use(&mut self, last_tsn: u32, moved: &mut CountedSets) -> usize
+        requires { length moved.old.items + length (filter (is_old_message last_tsn) self.old)
+            ≤ moved.old.capacity }
+        ensures rest { self.new ≡ of_new_use last_tsn self.old }
+        ensures moved { moved.new.items
+            ≡ moved.old.items ++ filter (is_old_message last_tsn) self.old }
+        ensures bytes { result ≡ min (dropped_bytes last_tsn self.old) (2 ^ 64 - 1) }
+    {
+        self.sets.end_use(last_tsn, moved)
     }
 }
 

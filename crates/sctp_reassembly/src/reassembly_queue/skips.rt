@@ -5,7 +5,7 @@ ghost use Rattle.std.specs.List.{list_any, list_all, filter};
 ghost use Rattle.sctp_list_lemmas.specs.Serial.{comes_before16, at_or_before, comes_after};
 ghost use Rattle.sctp_reassembly.specs.reassembly_queue.Fragments.{has_ssn};
 ghost use Rattle.sctp_reassembly.specs.reassembly_queue.ReassemblyQueue.{set_bytes};
-ghost use Rattle.sctp_reassembly.specs.reassembly_queue.Skips.{misses, misses_behind, is_discarded, is_abandoned, is_unaffected, earlier_ssn, goal_of, is_covered, settles, earlier_tsn, earliest_among, earliest_from, is_from, is_upto, begins_upto, is_passable, later_ssn, latest_passable};
+ghost use Rattle.sctp_reassembly.specs.reassembly_queue.Skips.{misses, misses_behind, cannot_complete, is_discarded, is_abandoned, is_unaffected, earlier_ssn, goal_of, is_covered, settles, earlier_tsn, earliest_among, earliest_from, is_from, is_upto, begins_upto, is_passable, later_ssn, latest_passable};
 
 use crate::reassembly_queue::chunks::Fragments;
 use sctp_base::util::{sna16gt, sna16lt, sna16lte, sna32gt, sna32lt, sna32lte};
@@ -40,9 +40,13 @@ fn misses_behind(first: &ChunkPayloadData, rest: &[ChunkPayloadData], tsn: u32) 
     !last.ending_fragment && sna32lte(last.tsn.wrapping_add(1), tsn)
 }
 
-/// Removes the sets that a skip up to the number discards, those alone that miss a TSN where there
-/// is a bound, and counts their bytes up to the greatest number.
-pub(crate) fn discard(sets: &mut VecDeque<Fragments>, last_ssn: u16, bound: Option<u32>) -> usize
+/// Removes the sets that a skip discards: the incomplete ones, those alone at or before the number where there is
+/// one, and those alone that miss a TSN where there is a bound. Counts their bytes up to the greatest number.
+pub(crate) fn discard(
+    sets: &mut VecDeque<Fragments>,
+    last_ssn: Option<u16>,
+    bound: Option<u32>,
+) -> usize
     ensures rest { sets.new.items ≡ filter (λ s. not
         (is_discarded last_ssn bound s)) sets.old.items }
     ensures bytes { result
@@ -65,17 +69,26 @@ pub(crate) fn discard(sets: &mut VecDeque<Fragments>, last_ssn: u16, bound: Opti
     gone
 }
 
-// Whether a skip up to the number gives the set up.
-fn is_discarded(set: &Fragments, last_ssn: u16, bound: Option<u32>) -> bool
+// Whether a skip gives the set up.
+fn is_discarded(set: &Fragments, last_ssn: Option<u16>, bound: Option<u32>) -> bool
     ensures { result ≡ is_discarded last_ssn bound set.now }
 {
-    if !sna16lte(set.ssn(), last_ssn) || set.is_complete() {
+    if let Some(last_ssn) = last_ssn
+        && !sna16lte(set.ssn(), last_ssn)
+    {
         return false;
     }
     match bound {
-        Some(tsn) => misses(set.fragments(), tsn),
-        None => true,
+        Some(tsn) => cannot_complete(set, tsn),
+        None => !set.is_complete(),
     }
+}
+
+/// Whether the set can't become complete, where all up to the TSN counts as come.
+pub(crate) fn cannot_complete(set: &Fragments, tsn: u32) -> bool
+    ensures { result ≡ cannot_complete tsn set.now }
+{
+    !set.is_complete() && misses(set.fragments(), tsn)
 }
 
 // Whether it leaves the set alone, at or before the number.
@@ -152,8 +165,8 @@ fn is_covered(set: &Fragments, tsn: u32) -> bool
     }
 }
 
-// Whether every fragment is at or before the TSN.
-fn lies_upto(chunks: &[ChunkPayloadData], tsn: u32) -> bool
+/// Whether every fragment is at or before the TSN.
+pub(crate) fn lies_upto(chunks: &[ChunkPayloadData], tsn: u32) -> bool
     ensures { result ≡ list_all (λ c. at_or_before c.tsn tsn) chunks.now }
 {
     chunks.iter().all(|c| sna32lte(c.tsn, tsn))

@@ -1,5 +1,5 @@
 -- The byte count follows what is held.
-use Rattle.std.proofs.Common.{◌≡◌, ℕ, ◌+◌, ◌-◌, ◌^◌, ◌<◌, ◌&&◌, ◌||◌, Bool, true, false, not, if◌then◌else◌, List, [], ◌∷◌, ◌++◌, Some, None, Result, Ok, Err, OnOk, OnErr, IfOk, length, take, drop, refl, sym, ap, ◌∙◌, arith}
+use Rattle.std.proofs.Common.{◌≡◌, ℕ, ◌+◌, ◌-◌, ◌^◌, ◌<◌, ◌&&◌, ◌||◌, Bool, true, false, not, if◌then◌else◌, List, [], ◌∷◌, ◌++◌, Some, None, Result, Ok, Err, OnOk, OnErr, IfOk, length, take, drop, refl, sym, ap, ap₂, ◌∙◌, arith}
 use Rattle.std.specs.List.{list_any, sum_by, filter}
 use Rattle.std.proofs.lemmas.Bool.{true≢false}
 use Rattle.std.proofs.lemmas.List.{take-append-drop, drop-drop}
@@ -12,8 +12,9 @@ use Rattle.sctp_reassembly.specs.reassembly_queue.Fragments.{has_ssn, with_chunk
 use Rattle.sctp_serial.specs.DataChunks.{bytes_of, has_tsn, chunk_before}
 use Rattle.sctp_reassembly.specs.reassembly_queue.ReassemblyQueue.{Reassembly, ReassemblyState, set_bytes, held_bytes, IsCounted, count_up, after_ordered_push, set_of_run, BecomesComplete, PushesUnordered, is_readable, state_read, message_read, rest_read, after_read, bytes_read, leading_upto, after_unordered_skip, after_ordered_skip, held_after_ordered_skip, is_passed, complete_sets}
 use Rattle.sctp_reassembly.specs.reassembly_queue.Loose.{IsRunTaken}
-use Rattle.sctp_reassembly.specs.reassembly_queue.Skips.{after_bounded_skip, held_after_bounded_skip, is_abandoned, misses}
-use Rattle.sctp_reassembly.proofs.lemmas.reassembly_queue.ChunkSets.{chunks_none}
+use Rattle.sctp_reassembly.specs.reassembly_queue.Skips.{after_bounded_skip, held_after_bounded_skip, is_abandoned, misses, cannot_complete, ssn_past_sets, held_after_incomplete_skip, after_incomplete_skip}
+use Rattle.sctp_reassembly.proofs.lemmas.reassembly_queue.ChunkSets.{chunks_none, state_of}
+use Rattle.sctp_serial.proofs.lemmas.ListEdits.{neither}
 
 -- a sum over a list with one more element
 sum-inserted : {A : Type 0} (f : A → ℕ) (before : A → A → Bool) (x : A) (xs : List A) → sum_by f (insert_before before x xs) ≡ sum_by f xs + f x
@@ -145,6 +146,9 @@ bounded_counted last t q h = omega (arith, h, skipped (is_abandoned last t) q.he
 pub drop_counted : (t : ℕ) (q : ReassemblyState) → IsCounted q → IsCounted (after_unordered_skip t q)
 drop_counted t q h = omega (arith, h, dropped t q.held.unassembled)
 
+pub incomplete_counted : (t : ℕ) (q : ReassemblyState) → IsCounted q → IsCounted (after_incomplete_skip t q)
+incomplete_counted t q h = omega (arith, h, skipped (cannot_complete t) q.held.ordered)
+
 complete_not_passed : (a b : Bool) → b ≡ true → not (a && not b) ≡ true
 complete_not_passed true true e = refl
 complete_not_passed true false e = absurd (true≢false (sym e))
@@ -155,12 +159,35 @@ complete_not_abandoned true true c e = refl
 complete_not_abandoned true false c e = absurd (true≢false (sym e))
 complete_not_abandoned false b c e = refl
 
+complete_not_cut : (b c : Bool) → b ≡ true → not (not b && c) ≡ true
+complete_not_cut true c e = refl
+complete_not_cut false c e = absurd (true≢false (sym e))
+
 -- the complete sets stay
 pub skip_complete : (last : ℕ) (q : Reassembly) → complete_sets (held_after_ordered_skip last q) ≡ complete_sets q
 skip_complete last q = those_stay (λ s. is_complete s.chunks) (λ s. not (is_passed last s)) (λ s e. complete_not_passed (at_or_before16 s.ssn last) (is_complete s.chunks) e) q.ordered
 
 pub bounded_complete : (last t : ℕ) (q : Reassembly) → complete_sets (held_after_bounded_skip last t q) ≡ complete_sets q
 bounded_complete last t q = those_stay (λ s. is_complete s.chunks) (λ s. not (is_abandoned last t s)) (λ s e. complete_not_abandoned (at_or_before16 s.ssn last) (is_complete s.chunks) (misses t s.chunks) e) q.ordered
+
+pub incomplete_complete : (t : ℕ) (q : Reassembly) → complete_sets (held_after_incomplete_skip t q) ≡ complete_sets q
+incomplete_complete t q = those_stay (λ s. is_complete s.chunks) (λ s. not (cannot_complete t s)) (λ s e. complete_not_cut (is_complete s.chunks) (misses t s.chunks) e) q.ordered
+
+-- where there is none, none goes and all stay
+pub none_there : (p : ChunkSet → Bool) (xs : List ChunkSet) → list_any p xs ≡ false → filter p xs ≡ []
+none_there p [] h = refl
+none_there p (x ∷ xs) h = let (a, b) = neither (p x) (list_any p xs) h in rw a (none_there p xs b)
+
+all_stay : (p : ChunkSet → Bool) (xs : List ChunkSet) → list_any p xs ≡ false → filter (λ s. not (p s)) xs ≡ xs
+all_stay p [] h = refl
+all_stay p (x ∷ xs) h = let (a, b) = neither (p x) (list_any p xs) h in rw a (ap (λ ys. x ∷ ys) (all_stay p xs b))
+
+pub incomplete_agrees : (t : ℕ) (q : ReassemblyState) → list_any (cannot_complete t) q.held.ordered ≡ false → after_incomplete_skip t q ≡ q
+incomplete_agrees t q h =
+    let kept : q.bytes - 0 ≡ q.bytes = omega arith in
+    ap₂ (λ gone stay. state_of q.si (ssn_past_sets q.held.next_ssn gone) stay q.held.unordered q.held.unassembled (q.bytes - set_bytes gone) q.max_message_size)
+    (none_there (cannot_complete t) q.held.ordered h) (all_stay (cannot_complete t) q.held.ordered h)
+    ∙ ap (λ bytes. record q { bytes = bytes }) kept
 
 -- what follows from either answer
 pub either : {A E X Y P : Type 0} (r : Result A E) → OnOk r X → OnErr r Y → (X → P) → (Y → P) → P

@@ -13,9 +13,9 @@ returns-in-None-clause-ok c =
     rw (← c.self.view_is) (
       (
         subst HasNoRun h.1 h.0,
-        ap₂ (λ us ls. let r : Reassembly = record { next_ssn = q.next_ssn; ordered = q.ordered; unordered = us; unassembled = ls } in r) c.in_ok-reserve_one.ensures.items h.1,
+        ap₂ (λ us ls. let r : Reassembly = record { next_ssn = q.next_ssn; ordered = q.ordered; unordered = us; unassembled = ls } in r) c.in_ok-reserve.ensures.items h.1,
       ),
-      ap (λ b. state_of q.si q.next_ssn q.ordered c.reserve_one.new.self.items c.put.new.self b q.max_message_size) counted,
+      ap (λ b. state_of q.si q.next_ssn q.ordered c.reserve.new.self.items c.put.new.self b q.max_message_size) counted,
     )
 
 pub returns-in-Some-clause-ok : goal.returns-in-Some-clause-ok
@@ -24,7 +24,7 @@ returns-in-Some-clause-ok c =
     let h = rw c.in-Some.is at c.in_ok-run.ensures.ok in
     let counted = c.saturating_add-self-inside.ensures ∙ ap (count_up q.n_bytes) c.len-len.ensures.value in
     let taken = c.set_of_run.ensures ∙ ap set_of_run h.fragments in
-    let more = c.push_back_reserved.ensures.items ∙ ap₂ (λ (a : List ChunkSet) (b : ChunkSet). a ++ b ∷ []) c.in_ok-reserve_one.ensures.items taken in
+    let more = c.push_back_reserved.ensures.items ∙ ap₂ (λ (a : List ChunkSet) (b : ChunkSet). a ++ b ∷ []) c.in_ok-reserve.ensures.items taken in
     rw (← c.self.view_is) (
       record {
         first = h.first;
