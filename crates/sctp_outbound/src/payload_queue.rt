@@ -1,6 +1,6 @@
 //! Chunks by their TSNs, in serial order: what is in flight, or what came beyond the cumulative TSN.
 
-ghost use Rattle.std.specs.Prelude.{◌≡◌, ◌==◌, ◌≢◌, ℕ, ◌+◌, ◌*◌, ◌-◌, ◌^◌, ◌<◌, ◌≤◌, [], length, map, max, OnOk, OnErr, IfOk, IfErr, IfSome, IsOk, IsOkUnless, IsTrue, All, find, not, option_copied, slice_get, slice_index_or, is_some, unwrap_or, true, false, string_bytes, if◌then◌else◌};
+ghost use Rattle.std.specs.Prelude.{◌≡◌, ◌==◌, ◌≢◌, ℕ, ◌+◌, ◌*◌, ◌-◌, ◌^◌, ◌<◌, ◌≤◌, [], length, map, max, OnOk, OnErr, IfOk, IfErr, IfSome, IsOk, IsOkUnless, IsTrue, All, find, not, option_copied, slice_get, slice_index_or, slice_set, is_some, unwrap_or, true, false, string_bytes, if◌then◌else◌};
 ghost use Rattle.std.specs.Option.{option_map};
 ghost use Rattle.std.specs.List.{list_any};
 ghost use Rattle.sctp_base.specs.declared.error.Error.TheVariants.{ErrOutOfMemory};
@@ -594,6 +594,23 @@ impl PayloadQueue {
         ensures left { bytes_of self.new.chunks + result ≡ bytes_of self.old.chunks }
     {
         self.mark(tsn, Mark::Acknowledged).unwrap_or(0)
+    }
+
+    /// Marks the chunk at a place as `mark_as_acked` does, without a search. Answers how many bytes left.
+    /// Precondition: the place has a chunk.
+    pub fn mark_as_acked_at(&mut self, place: usize) -> usize
+        requires { place < length self.old.chunks }
+        ensures acked { (d : _) → self.new ≡ with_chunks self.old (slice_set self.old.chunks place
+            (as_acknowledged (slice_index_or self.old.chunks place d))) }
+        // no other chunk has its TSN
+        ensures alone { (d : _) → self.new ≡ with_chunks self.old (change_where
+            (has_tsn (slice_index_or self.old.chunks place d).tsn)
+            as_acknowledged self.old.chunks) }
+        ensures left { bytes_of self.new.chunks + result ≡ bytes_of self.old.chunks }
+    {
+        let left = self.held.mark(place, Mark::Acknowledged, &mut Turns::new());
+        self.n_bytes -= left;
+        left
     }
 
     /// Whether the TSN is held; the chunk is to be sent again then, or not, as `retransmit` says.

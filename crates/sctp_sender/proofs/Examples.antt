@@ -1,16 +1,26 @@
 -- Worked examples, by computation.
-use Rattle.std.proofs.Common.{◌≡◌, ℕ, Bool, true, false, List, [], ◌∷◌, map, option_map, find, Some, refl}
+use Rattle.std.proofs.Common.{◌≡◌, ℕ, Bool, true, false, List, [], ◌∷◌, map, option_map, find, Some, refl, ap, sym}
 use Rattle.sctp_chunks.specs.ChunkSet.{fresh}
 use Rattle.sctp_chunks.specs.declared.chunk.chunk_payload_data.PayloadProtocolIdentifier.TheVariants as identifiers
 use Rattle.sctp_chunks.specs.declared.chunk.chunk_payload_data.ChunkPayloadData.{ChunkPayloadData}
 use Rattle.sctp_chunks.specs.declared.chunk.chunk_payload_data.PayloadProtocolIdentifier.{PayloadProtocolIdentifier}
 use Rattle.sctp_chunks.specs.declared.chunk.chunk_payload_data.ReliabilityType.TheVariants.{Rexmit}
 use Rattle.sctp_outbound.specs.Marks.{as_acknowledged, as_abandoned}
+use Rattle.std.specs.Prelude.{◌==◌}
+use Rattle.std.specs.List.{list_any}
+use Rattle.std.proofs.lemmas.Bool.{false≢true}
+use Rattle.sctp_chunks.specs.declared.chunk.chunk_selective_ack.GapAckBlock.{GapAckBlock}
+use Rattle.sctp_sender.specs.Reporting.{after_blocks, goes_from_to}
+use Rattle.sctp_sender.specs.SideBySide.{StandSideBySide}
 use Rattle.sctp_sender.specs.Flight as flight
 use Rattle.sctp_sender.specs.Flight.{Flight}
 use Rattle.sctp_sender.specs.Abandonment.{advanced_ack_point}
 use Rattle.sctp_sender.specs.Late.{late_order, leaving_each}
 use Rattle.sctp_sender.specs.Resending.{after_misses, is_to_resend, thirds, worn_tsns}
+use Rattle.sctp_sender.specs.declared.sender.flight.Released.{Released}
+use Rattle.sctp_sender.specs.Thresholds.{with_lows}
+use Rattle.sctp_stream.specs.declared.stream.StreamState.{StreamState}
+use Rattle.sctp_stream.specs.Stream.{new_stream}
 
 abbrev fragment : ℕ → Bool → Bool → List ℕ → ChunkPayloadData
 fragment tsn begins ends bytes = fresh (record {
@@ -46,7 +56,7 @@ past_deadline = in_flight (record (fragment 103 true false (1 ∷ [])) { deadlin
 order : late_order 5 past_deadline ≡ 103 ∷ 104 ∷ []
 order = refl
 
-leaves : leaving_each (late_order 5 past_deadline) past_deadline ≡ record { stream = 1; number = 0; bytes = 2 } ∷ []
+leaves : leaving_each (late_order 5 past_deadline) past_deadline ≡ record { stream = 1; number = 0; bytes = 2; is_low = false } ∷ []
 leaves = refl
 
 early : late_order 4 past_deadline ≡ []
@@ -79,3 +89,48 @@ not_yet = refl
 
 never : worn_tsns (marked_after 9 identifiers.Dcep) ≡ []
 never = refl
+
+-- ## Thresholds
+
+-- a stream with ten bytes and a threshold of five, and one with ten bytes and none
+abbrev amounts : List StreamState
+amounts = record (new_stream 1 1200 100 identifiers.Unknown) { buffered_amount = 10; buffered_amount_low = 5 } ∷ record (new_stream 2 1200 100 identifiers.Unknown) { buffered_amount = 10 } ∷ []
+
+abbrev gone : ℕ → ℕ → Released
+gone stream bytes = record { tsn = 7; stream = stream; bytes = bytes; nsent = 1; since = Some 0; message = 0; is_message_acked = false; is_low = false }
+
+-- three bytes at a time: the second chunk of the first stream goes from seven to four, and the third tells nothing more; what has no bytes
+-- tells nothing; the other stream falls to 0 with its last byte, and one that isn't open never
+falls : map (λ (r : Released). r.is_low) (with_lows (gone 1 3 ∷ gone 2 9 ∷ gone 1 0 ∷ gone 1 3 ∷ gone 1 3 ∷ gone 2 1 ∷ gone 3 9 ∷ []) amounts) ≡ false ∷ false ∷ false ∷ true ∷ false ∷ true ∷ false ∷ []
+falls = refl
+
+-- ## What a SACK reports
+
+abbrev block : ℕ → ℕ → GapAckBlock
+block first last = record { start = first; end = last }
+
+-- 2 to 3, then 3 to 5, which overlap, and one that reports nothing
+abbrev blocks : List GapAckBlock
+blocks = block 2 3 ∷ block 3 5 ∷ block 9 8 ∷ []
+
+after_them : after_blocks blocks ≡ 6
+after_them = refl
+
+after_none : after_blocks (block 9 8 ∷ []) ≡ 0
+after_none = refl
+
+-- one begins at 3 and goes on to 5, none begins at 4
+begins_there : list_any (goes_from_to 3 5) blocks ≡ true
+begins_there = refl
+
+begins_not : list_any (goes_from_to 4 5) blocks ≡ false
+begins_not = refl
+
+-- ## Messages side by side
+
+together : StandSideBySide (7 ∷ 7 ∷ 9 ∷ [])
+together = (λ h. refl, (λ h. absurd (false≢true h), tt))
+
+-- of the message 7 one chunk stands behind one of 9
+torn : StandSideBySide (7 ∷ 9 ∷ 7 ∷ []) → ⊥
+torn s = false≢true (sym (ap (λ (n : ℕ). n == 9) (s.0 refl)))

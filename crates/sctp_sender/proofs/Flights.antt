@@ -20,6 +20,7 @@ use Rattle.sctp_outbound.specs.pending_queue.Whole.{waits}
 use Rattle.sctp_outbound.proofs.lemmas.outbound_queue.Outbounds.{peeked_all_started}
 use Rattle.sctp_outbound.proofs.lemmas.outbound_queue.Abandoned.{no_last, last_removed_none}
 use Rattle.sctp_sender.specs.Flight.{Flight, IsContiguous, tsns_from, may_send}
+use Rattle.sctp_sender.specs.SideBySide.{StandSideBySide, messages_in_line}
 use Rattle.sctp_sender.proofs.Runs.{IsRunFrom, tsn-at, changed-run}
 
 -- ## The next TSN
@@ -53,14 +54,15 @@ may f h = grind (arith, nat_tests, h)
 count : (xs : List ChunkPayloadData) → length (tsns xs) ≡ length xs
 count xs = length-map xs (λ c. c.tsn)
 
-pub kept : (f g : Flight) → tsns g.queue.inflight.chunks ≡ tsns f.queue.inflight.chunks → g.next_tsn ≡ f.next_tsn → g.acked_tsn ≡ f.acked_tsn → IsContiguous f → IsContiguous g
-kept f g same next acked inv =
+pub kept : (f g : Flight) → tsns g.queue.inflight.chunks ≡ tsns f.queue.inflight.chunks → g.next_tsn ≡ f.next_tsn → g.acked_tsn ≡ f.acked_tsn → StandSideBySide (messages_in_line g.queue) → IsContiguous f → IsContiguous g
+kept f g same next acked line inv =
     let n : length g.queue.inflight.chunks ≡ length f.queue.inflight.chunks = sym (count g.queue.inflight.chunks) ∙ ap length same ∙ count f.queue.inflight.chunks in
     record {
       in_range = omega (arith, acked, inv.in_range);
       run = same ∙ inv.run ∙ ap (tsns_from (following_tsn f.acked_tsn)) (sym n) ∙ ap (λ a. tsns_from (following_tsn a) (length g.queue.inflight.chunks)) (sym acked);
       next = next ∙ inv.next ∙ ap (λ m. (f.acked_tsn + 1 + m) % 2 ^ 32) (sym n) ∙ ap (λ a. (a + 1 + length g.queue.inflight.chunks) % 2 ^ 32) (sym acked);
       few = omega (arith, n, inv.few);
+      side_by_side = line;
     }
 
 one-more : (t n : ℕ) → t < 2 ^ 32 → tsns_from t n ++ ((t + n) % 2 ^ 32) ∷ [] ≡ tsns_from t (suc n)
@@ -69,8 +71,8 @@ one-more t (suc n) small =
     let e : (t + suc n) % 2 ^ 32 ≡ (following_tsn t + n) % 2 ^ 32 = omega arith in
     ap (λ u. t ∷ (tsns_from (following_tsn t) n ++ u ∷ [])) e ∙ ap (λ ts. t ∷ ts) (one-more (following_tsn t) n (omega arith))
 
-pub grown : (f g : Flight) → tsns g.queue.inflight.chunks ≡ tsns f.queue.inflight.chunks ++ f.next_tsn ∷ [] → g.next_tsn ≡ following_tsn f.next_tsn → g.acked_tsn ≡ f.acked_tsn → may_send f ≡ true → IsContiguous f → IsContiguous g
-grown f g more next acked room inv =
+pub grown : (f g : Flight) → tsns g.queue.inflight.chunks ≡ tsns f.queue.inflight.chunks ++ f.next_tsn ∷ [] → g.next_tsn ≡ following_tsn f.next_tsn → g.acked_tsn ≡ f.acked_tsn → may_send f ≡ true → StandSideBySide (messages_in_line g.queue) → IsContiguous f → IsContiguous g
+grown f g more next acked room line inv =
     let n : length g.queue.inflight.chunks ≡ suc (length f.queue.inflight.chunks) =
     sym (count g.queue.inflight.chunks) ∙ ap length more ∙ (let a = length-append (tsns f.queue.inflight.chunks) (f.next_tsn ∷ []) in let b = count f.queue.inflight.chunks in omega arith) in
     let first = following_tsn f.acked_tsn in
@@ -83,11 +85,12 @@ grown f g more next acked room inv =
           ∙ one-more first (length f.queue.inflight.chunks) (omega arith) ∙ ap (tsns_from first) (sym n) ∙ ap (λ a. tsns_from (following_tsn a) (length g.queue.inflight.chunks)) (sym acked);
       next = omega (arith, next, inv.next, n, acked);
       few = omega (arith, n, few);
+      side_by_side = line;
     }
 
 -- ## A chunk with the next TSN goes to the end
 
-behind : (first m : ℕ) → first < 2 ^ 32 → 0 < m → m < 2 ^ 31 → comes_before ((first + m) % 2 ^ 32) first ≡ false
+pub behind : (first m : ℕ) → first < 2 ^ 32 → 0 < m → m < 2 ^ 31 → comes_before ((first + m) % 2 ^ 32) first ≡ false
 unfolding distance
 behind first m small pos near = not_before_from ((first + m) % 2 ^ 32) first (omega arith)
 
@@ -116,17 +119,17 @@ started-inflight now q = by (q.next_unstarted == q.next_message_id)
     by true = refl
     by false = refl
 
-pub sent : (f : Flight) (now : ℕ) (then' : Outbound) (next : ℕ) → IsContiguous f → may_send f ≡ true → then' ≡ sent_next f.queue f.next_tsn now → next ≡ (if is_some (next_pending f.queue.pending) then following_tsn f.next_tsn else f.next_tsn) → IsContiguous (record { queue = then'; next_tsn = next; acked_tsn = f.acked_tsn })
-sent f now then' next inv room is raised = by (next_pending (all_started now f.queue).pending) (peeked_all_started now f.queue) is
+pub sent : (f : Flight) (now : ℕ) (then' : Outbound) (next : ℕ) → IsContiguous f → may_send f ≡ true → then' ≡ sent_next f.queue f.next_tsn now → next ≡ (if is_some (next_pending f.queue.pending) then following_tsn f.next_tsn else f.next_tsn) → StandSideBySide (messages_in_line then') → IsContiguous (record { queue = then'; next_tsn = next; acked_tsn = f.acked_tsn })
+sent f now then' next inv room is raised line = by (next_pending (all_started now f.queue).pending) (peeked_all_started now f.queue) is
   where
     same : tsns (all_started now f.queue).inflight.chunks ≡ tsns f.queue.inflight.chunks
     same = ap (λ (p : payload.Payload). tsns p.chunks) (started-inflight now f.queue)
 
     by : (o : Option ChunkPayloadData) → is_some o ≡ is_some (next_pending f.queue.pending) → then' ≡ sent_of o (all_started now f.queue) f.next_tsn now → IsContiguous (record { queue = then'; next_tsn = next; acked_tsn = f.acked_tsn })
-    by None none e = kept f (record { queue = then'; next_tsn = next; acked_tsn = f.acked_tsn }) (ap (λ (o : Outbound). tsns o.inflight.chunks) e ∙ same) (raised ∙ ap (λ b. if b then following_tsn f.next_tsn else f.next_tsn) (sym none)) refl inv
+    by None none e = kept f (record { queue = then'; next_tsn = next; acked_tsn = f.acked_tsn }) (ap (λ (o : Outbound). tsns o.inflight.chunks) e ∙ same) (raised ∙ ap (λ b. if b then following_tsn f.next_tsn else f.next_tsn) (sym none)) refl line inv
     by (Some c) some e =
         grown f (record { queue = then'; next_tsn = next; acked_tsn = f.acked_tsn }) (ap (λ (o : Outbound). tsns o.inflight.chunks) e ∙ put-in f (as_sent f.next_tsn now c) (all_started now f.queue).inflight.chunks inv same refl)
-        (raised ∙ ap (λ b. if b then following_tsn f.next_tsn else f.next_tsn) (sym some)) refl room inv
+        (raised ∙ ap (λ b. if b then following_tsn f.next_tsn else f.next_tsn) (sym some)) refl room line inv
 
 -- ## Abandoning
 
@@ -135,14 +138,14 @@ pub tail-there : (o : Option ChunkPayloadData) (q : Outbound) → has_tail (mess
 tail-there None q e = e
 tail-there (Some c) q e = refl
 
-pub after-abandoning : (f : Flight) (o : Option ℕ) (then' : Outbound) (next : ℕ) → IsContiguous f → (has_tail o f.queue ≡ true → may_send f ≡ true) → then' ≡ abandoned_of o f.next_tsn f.queue → next ≡ tsn_after_of o f.next_tsn f.queue → IsContiguous (record { queue = then'; next_tsn = next; acked_tsn = f.acked_tsn })
-after-abandoning f None then' next inv room is raised = kept f (record { queue = then'; next_tsn = next; acked_tsn = f.acked_tsn }) (ap (λ (o : Outbound). tsns o.inflight.chunks) is) raised refl inv
-after-abandoning f (Some m) then' next inv room is raised = by (last_removed m f.queue.pending) refl is
+pub after-abandoning : (f : Flight) (o : Option ℕ) (then' : Outbound) (next : ℕ) → IsContiguous f → (has_tail o f.queue ≡ true → may_send f ≡ true) → then' ≡ abandoned_of o f.next_tsn f.queue → next ≡ tsn_after_of o f.next_tsn f.queue → StandSideBySide (messages_in_line then') → IsContiguous (record { queue = then'; next_tsn = next; acked_tsn = f.acked_tsn })
+after-abandoning f None then' next inv room is raised line = kept f (record { queue = then'; next_tsn = next; acked_tsn = f.acked_tsn }) (ap (λ (o : Outbound). tsns o.inflight.chunks) is) raised refl line inv
+after-abandoning f (Some m) then' next inv room is raised line = by (last_removed m f.queue.pending) refl is
   where
     by : (o : Option ChunkPayloadData) → last_removed m f.queue.pending ≡ o → then' ≡ record f.queue { pending = without m f.queue.pending; inflight = with_terminal_chunk o f.next_tsn (payload.with_chunks f.queue.inflight (change_where (is_of m) as_abandoned f.queue.inflight.chunks)) } → IsContiguous (record { queue = then'; next_tsn = next; acked_tsn = f.acked_tsn })
     by None none e =
         let still : waits m f.queue.pending ≡ false = fails (waits m f.queue.pending) (λ t. no_last m f.queue.pending t none) in
-        kept f (record { queue = then'; next_tsn = next; acked_tsn = f.acked_tsn }) (ap (λ (o : Outbound). tsns o.inflight.chunks) e ∙ changed-run (is_of m) as_abandoned (λ c. refl) f.queue.inflight.chunks) (raised ∙ ap (λ b. if b then following_tsn f.next_tsn else f.next_tsn) still) refl inv
+        kept f (record { queue = then'; next_tsn = next; acked_tsn = f.acked_tsn }) (ap (λ (o : Outbound). tsns o.inflight.chunks) e ∙ changed-run (is_of m) as_abandoned (λ c. refl) f.queue.inflight.chunks) (raised ∙ ap (λ b. if b then following_tsn f.next_tsn else f.next_tsn) still) refl line inv
     by (Some c) some e = tail (waits m f.queue.pending) refl
       where
         tail : (b : Bool) → waits m f.queue.pending ≡ b → IsContiguous (record { queue = then'; next_tsn = next; acked_tsn = f.acked_tsn })
@@ -150,4 +153,4 @@ after-abandoning f (Some m) then' next inv room is raised = by (last_removed m f
         tail true w =
             grown f (record { queue = then'; next_tsn = next; acked_tsn = f.acked_tsn })
             (ap (λ (o : Outbound). tsns o.inflight.chunks) e ∙ put-in f (terminal_chunk f.next_tsn c) (change_where (is_of m) as_abandoned f.queue.inflight.chunks) inv (changed-run (is_of m) as_abandoned (λ d. refl) f.queue.inflight.chunks) refl)
-            (raised ∙ ap (λ b. if b then following_tsn f.next_tsn else f.next_tsn) w) refl (room w) inv
+            (raised ∙ ap (λ b. if b then following_tsn f.next_tsn else f.next_tsn) w) refl (room w) line inv

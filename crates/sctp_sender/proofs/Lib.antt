@@ -1,5 +1,10 @@
 pub mod Runs
 pub mod MarkedRuns
+pub mod MarkedPlaces
+pub mod Offsets
+pub mod InLine
+pub mod CompleteMessages
+pub mod ToldWhole
 pub mod Walks
 pub mod Sent
 pub mod Sacks
@@ -14,4 +19,5 @@ pub mod Worn
 pub mod Settled
 pub mod Accounts
 pub mod Closed
+pub mod Lows
 mod Examples

@@ -1,5 +1,5 @@
 -- A walk over a run of chunks that changes some of them.
-use Rattle.std.proofs.Common.{◌≡◌, ℕ, ◌+◌, ◌<◌, ◌≤◌, ◌%◌, ◌^◌, Bool, true, false, List, [], ◌∷◌, ◌++◌, length, length-append, map, take, drop, ◌-◌, get_or, set, Some, refl, ap, sym, ◌∙◌, arith}
+use Rattle.std.proofs.Common.{◌≡◌, ℕ, ◌+◌, ◌<◌, ◌%◌, ◌^◌, Bool, true, false, List, [], ◌∷◌, ◌++◌, length, length-append, take, drop, ◌-◌, get_or, set, Some, refl, ap, sym, ◌∙◌, arith}
 use Rattle.std.specs.Prelude.{if◌then◌else◌, find}
 use Rattle.std.proofs.lemmas.List.{length-map, length-take-le, take-append-drop, get_or-append_right, get_or-drop}
 use Rattle.std.specs.List.{filter}
@@ -9,14 +9,6 @@ use Rattle.sctp_chunks.specs.declared.chunk.chunk_payload_data.ChunkPayloadData.
 use Rattle.sctp_serial.specs.DataChunks.{has_tsn, tsns}
 use Rattle.sctp_sender.specs.Flight.{tsns_from}
 use Rattle.sctp_sender.proofs.Runs.{IsRunFrom, tsn-at, found-at, only-at, changed-run}
-
-those-short : {X : Type 0} (p : X → Bool) (xs : List X) → length (filter p xs) ≤ length xs
-those-short p [] = omega arith
-those-short p (x ∷ xs) = by (p x) (those-short p xs)
-  where
-    by : (b : Bool) → length (filter p xs) ≤ length xs → length (if b then x ∷ filter p xs else filter p xs) ≤ length (x ∷ xs)
-    by true h = omega arith
-    by false h = omega arith
 
 tsns-append : (xs ys : List ChunkPayloadData) → tsns (xs ++ ys) ≡ tsns xs ++ tsns ys
 tsns-append [] ys = refl
@@ -53,12 +45,7 @@ module _ (p : ChunkPayloadData → Bool) (f : ChunkPayloadData → ChunkPayloadD
     pub unmarked : p x ≡ false → ys ≡ change_where p f (take (i + 1) cs) ++ drop (i + 1) cs
     unmarked h = unchanged_step p f cs ys i x lt so_far read h
 
-    pub marked : p x ≡ true → change_where (has_tsn ((first + i) % 2 ^ 32)) f ys ≡ change_where p f (take (i + 1) cs) ++ drop (i + 1) cs
-    marked h =
-        change_where-only (has_tsn ((first + i) % 2 ^ 32)) f ys i x (only-at ys first i small its-run (omega (arith, few, count)) (omega (arith, lt, count)))
-        ∙ ap (λ c. set ys i (f c)) (sym read) ∙ changed_step p f cs ys i x lt so_far read h
-
-    -- the same by a change that makes of the chunk what f makes
+    -- changed by a change that makes of the chunk what f makes
     pub marked-as : (g : ChunkPayloadData → ChunkPayloadData) → g x ≡ f x → p x ≡ true → change_where (has_tsn ((first + i) % 2 ^ 32)) g ys ≡ change_where p f (take (i + 1) cs) ++ drop (i + 1) cs
     marked-as g e h =
         change_where-only (has_tsn ((first + i) % 2 ^ 32)) g ys i x (only-at ys first i small its-run (omega (arith, few, count)) (omega (arith, lt, count)))
@@ -77,15 +64,9 @@ module _ (p : ChunkPayloadData → Bool) (f : ChunkPayloadData → ChunkPayloadD
     pub told-of : (r : ChunkPayloadData → Bool) → filter r (take (i + 1) cs) ≡ filter r (take i cs) ++ (if r x then x ∷ [] else [])
     told-of r = those-more r cs i x lt ∙ ap (λ y. filter r (take i cs) ++ (if r y then y ∷ [] else [])) (sym old)
 
-    pub told : filter p (take (i + 1) cs) ≡ filter p (take i cs) ++ (if p x then x ∷ [] else [])
-    told = told-of p
-
     pub counted-of : (r : ChunkPayloadData → Bool) (b : Bool) → r x ≡ b → length (filter r (take (i + 1) cs)) ≡ length (filter r (take i cs)) + (if b then 1 else 0)
     counted-of r b e = ap length (told-of r ∙ ap (λ k. filter r (take i cs) ++ (if k then x ∷ [] else [])) e) ∙ by b
       where
         by : (k : Bool) → length (filter r (take i cs) ++ (if k then x ∷ [] else [])) ≡ length (filter r (take i cs)) + (if k then 1 else 0)
         by true = length-append (filter r (take i cs)) (x ∷ [])
         by false = length-append (filter r (take i cs)) []
-
-pub told-short : {B : Type 0} (p : ChunkPayloadData → Bool) (g : ChunkPayloadData → B) (cs : List ChunkPayloadData) (i : ℕ) → i ≤ length cs → length (map g (filter p (take i cs))) ≤ i
-told-short p g cs i le = let a = length-map (filter p (take i cs)) g in let b = those-short p (take i cs) in let d = length-take-le i cs le in omega arith

@@ -85,7 +85,7 @@ changed-run p f same (c ∷ cs) = by (p c) (changed-run p f same cs)
 
 -- ## What is not past a TSN
 
-later : (t base far : ℕ) → base < 2 ^ 32 → far + 1 < 2 ^ 31 → t ≡ (base + far + 1) % 2 ^ 32 → at_or_before t base ≡ false
+pub later : (t base far : ℕ) → base < 2 ^ 32 → far + 1 < 2 ^ 31 → t ≡ (base + far + 1) % 2 ^ 32 → at_or_before t base ≡ false
 unfolding at_or_before distance
 later t base far small few is = let e : (base + (2 ^ 32 - t)) % 2 ^ 32 ≡ 2 ^ 32 - far - 1 = omega arith in grind (arith, nat_tests, few, e)
 

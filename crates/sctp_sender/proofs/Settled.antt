@@ -235,13 +235,6 @@ size c = length c.user_data
 abbrev told : Released → ℕ
 told r = r.bytes
 
--- what is told hangs on the messages that are whole alone
-pub same-told : (w v : ℕ → Bool) → ((m : ℕ) → w m ≡ v m) → (cs : List ChunkPayloadData) → map (released_of w) cs ≡ map (released_of v) cs
-same-told w v h [] = refl
-same-told w v h (c ∷ cs) =
-    ap (λ (b : Bool). let r : Released = record (released_of w c) { is_message_acked = b } in r ∷ map (released_of w) cs) (h c.message_id)
-    ∙ ap (λ (rs : List Released). released_of v c ∷ rs) (same-told w v h cs)
-
 -- a chunk that is reported cumulatively, and not anew, was acknowledged
 was-acked : (a b d : Bool) → (not a && (b || d)) ≡ false → b ≡ true → a ≡ true
 was-acked true b d e h = refl

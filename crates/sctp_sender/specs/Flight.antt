@@ -11,6 +11,7 @@ use Rattle.sctp_outbound.specs.outbound_queue.OutboundQueue.{Outbound, new_outbo
 use Rattle.sctp_outbound.specs.payload_queue.Blocks.{is_in_blocks}
 use Rattle.sctp_outbound.specs.payload_queue.PayloadQueue.{past}
 use Rattle.sctp_sender.specs.declared.sender.flight.Released.{Released}
+use Rattle.sctp_sender.specs.SideBySide.{StandSideBySide, messages_in_line}
 use Rattle.sctp_sender.specs.declared.sender.refusal.SenderRefusal.{SenderRefusal}
 use Rattle.sctp_sender.specs.declared.sender.refusal.SenderRefusal.TheVariants.{InflightQueueTsnPop, TsnRequestNotExist}
 use Rattle.sctp_outbound.specs.pending_queue.PendingQueue.{next_pending}
@@ -28,13 +29,15 @@ abbrev pub tsns_from : ℕ → ℕ → List ℕ
 tsns_from tsn zero = []
 tsns_from tsn (suc count) = tsn ∷ tsns_from (following_tsn tsn) count
 
--- each TSN from the one behind the acknowledged ones to the one before the next is in flight: fewer than half the circle
+-- each TSN from the one behind the acknowledged ones to the one before the next is in flight: fewer than half the circle;
+-- and the chunks of each message stand side by side
 pub record IsContiguous (f : Flight) : Type 0 where
   pub in_range : f.acked_tsn < 2 ^ 32
   pub run : tsns f.queue.inflight.chunks
       ≡ tsns_from (following_tsn f.acked_tsn) (length f.queue.inflight.chunks)
   pub next : f.next_tsn ≡ (f.acked_tsn + 1 + length f.queue.inflight.chunks) % 2 ^ 32
   pub few : length f.queue.inflight.chunks < 2 ^ 31
+  pub side_by_side : StandSideBySide (messages_in_line f.queue)
 
 abbrev pub with_queue : Flight → Outbound → Flight
 with_queue f queue = record f { queue = queue }
@@ -153,6 +156,7 @@ released_of whole c = record {
   since = c.since;
   message = c.message_id;
   is_message_acked = whole c.message_id;
+  is_low = false;
 }
 
 abbrev pub released_by : Sack → Flight → List Released

@@ -1,5 +1,5 @@
 -- Messages in flight whose lifetime is over, or which were sent as often as they may be (RFC 3758 3.5, 4.1; RFC 7496 3.1).
-use Rattle.std.specs.Prelude.{ℕ, ◌-◌, if◌then◌else◌, List, [], ◌∷◌, ◌++◌, Option, Some, None, option_to_list}
+use Rattle.std.specs.Prelude.{ℕ, ◌-◌, false, if◌then◌else◌, List, [], ◌∷◌, ◌++◌, Option, Some, None, option_to_list}
 use Rattle.std.specs.List.{find}
 use Rattle.sctp_chunks.specs.declared.chunk.chunk_payload_data.ChunkPayloadData.{ChunkPayloadData}
 use Rattle.sctp_list_lemmas.specs.Lists.{change_where}
@@ -29,6 +29,7 @@ abandoned_with (Some c) bytes =
       stream = c.stream_identifier;
       number = c.message_id;
       bytes = bytes;
+      is_low = false;
     } ∷ []
 
 -- the message of a TSN, with the bytes that leave with it

@@ -1,4 +1,6 @@
 pub mod Flight
+pub mod Reporting
+pub mod SideBySide
 pub mod Outgoing
 pub mod Sender
 pub mod Abandonment
@@ -7,3 +9,4 @@ pub mod Resending
 pub mod Settings
 pub mod Totals
 pub mod SenderRuns
+pub mod Thresholds

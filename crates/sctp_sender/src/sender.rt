@@ -1,7 +1,9 @@
 //! The sending half of a link (RFC 4960 6.1, 6.2.1, 6.9).
 
-ghost use Rattle.std.specs.Prelude.{◌≡◌, ◌≢◌, ◌==◌, ◌<◌, ◌≤◌, ◌⊎◌, ℕ, Bool, true, false, not, None, Some, OnOk, OnErr, IfOk, IfErr, IfSome, IsOk, IsOkUnless, ◌+◌, option_map, option_copied, is_some, map, find, length, if◌then◌else◌};
+ghost use Rattle.std.specs.Prelude.{◌≡◌, ◌≢◌, ◌==◌, ◌<◌, ◌≤◌, ◌⊎◌, ℕ, Bool, true, false, not, None, Some, OnOk, OnErr, IfOk, IfErr, IfSome, IsOk, IsOkUnless, ◌+◌, option_map, option_copied, option_to_list, is_some, map, find, length, if◌then◌else◌};
+ghost use Rattle.std.specs.List.{count_by, list_any, sum_by};
 ghost use Rattle.sctp_sender.specs.Outgoing.{after_releases};
+ghost use Rattle.sctp_sender.specs.Thresholds.{with_lows};
 ghost use Rattle.sctp_sender.specs.Sender.{is_full_of};
 ghost use Rattle.sctp_sender.specs.declared.sender.refusal.SenderRefusal.TheVariants.{StreamOpen, StreamUnknown, TsnsUsedUp, NotInFlight, OutOfMemory};
 
@@ -14,6 +16,7 @@ mod settings;
 pub mod total;
 mod walking;
 
+use self::flight::late::AbandonedMessage;
 use self::flight::{InFlight, Released};
 use self::outbound_streams::OutboundStreams;
 use self::refusal::SenderRefusal;
@@ -26,6 +29,17 @@ use sctp_outbound::outbound_queue::OutboundQueue;
 use sctp_stream::stream::{DataChannelStats, StreamState};
 use std::alloc::Global;
 use std::marker::Model;
+
+/// A message that expired.
+#[derive(Clone, Copy, Debug, PartialEq, Eq)]
+pub struct ExpiredMessage {
+    /// Its stream.
+    pub stream: u16,
+    /// How many bytes it had.
+    pub bytes: usize,
+    /// Whether with them the buffered amount of its stream fell from above the low threshold to at most it.
+    pub is_low: bool,
+}
 
 /// The sending half of a link: what was written and is not yet acknowledged. It takes every SACK that a peer may send.
 ///
@@ -60,7 +74,7 @@ impl Model for Sender {
 
 impl Sender {
     ghost use Rattle.sctp_chunks.specs.SelectiveAck.{sack_of};
-    ghost use Rattle.sctp_outbound.specs.outbound_queue.OutboundQueue.{all_started, as_sent, sent_next, expiring, expiring_tail, message_of, tail_bytes, total_bytes, after_sends};
+    ghost use Rattle.sctp_outbound.specs.outbound_queue.OutboundQueue.{all_started, as_sent, sent_next, expiring, expiring_tail, message_of, total_bytes, after_sends};
     ghost use Rattle.sctp_stream.specs.declared.stream.StreamState.{StreamState};
     ghost use Rattle.sctp_outbound.specs.pending_queue.PendingQueue.{next_pending};
     ghost use Rattle.sctp_serial.specs.DataChunks.{has_tsn};
@@ -70,6 +84,7 @@ impl Sender {
     ghost use Rattle.sctp_sender.specs.Outgoing.{fragments_with_mode};
     ghost use Rattle.sctp_sender.specs.Totals.{bytes_in};
     ghost use Rattle.sctp_sender.specs.Sender.{with_nothing, stream_of, is_open, open_stream, close_stream, with_mode_on, with_flight, write_refusal, written_to, after_acked, after_abandon, after_expire};
+    ghost use Rattle.sctp_sender.specs.Thresholds.{fell, tells_low};
 
     /// A sender with no stream, whose first chunk gets the first TSN. It takes no memory.
     /// Precondition: `fragment_size` is 1 to 65,519.
@@ -321,18 +336,21 @@ impl Sender {
         self.flight.queue().peek_pending_at(sends)
     }
 
-    /// Abandons the message of a chunk in flight (RFC 3758 3.5), and answers its stream and the bytes that left. Refuses with
-    /// `NotInFlight`, where the TSN is not in flight; and, only where some of the message still waits, so that a terminal chunk has
-    /// to go in flight, with `TsnsUsedUp`, where 2^31 - 1 chunks are in flight, and for memory, though not within the room of `reserve`.
-    /// The sender is as it was then.
-    pub fn abandon(&mut self, tsn: u32) -> Result<(u16, usize), SenderRefusal>
+    /// Abandons the message of a chunk in flight (RFC 3758 3.5), and answers it with the bytes that left: none where it was
+    /// abandoned before. Refuses with `NotInFlight`, where the TSN is not in flight; and, only where some of the message still
+    /// waits, so that a terminal chunk has to go in flight, with `TsnsUsedUp`, where 2^31 - 1 chunks are in flight, and for memory,
+    /// though not within the room of `reserve`. The sender is as it was then.
+    pub fn abandon(&mut self, tsn: u32) -> Result<AbandonedMessage, SenderRefusal>
         ensures ok { IfOk result (λ r. self.new
-            ≡ after_abandon (message_to_abandon tsn self.old.flight) r.0 r.1
+            ≡ after_abandon (message_to_abandon tsn self.old.flight) r.stream r.bytes
             self.old) }
-        ensures stream { IfOk result (λ r. Some r.0 ≡ option_map
+        ensures stream { IfOk result (λ r. Some r.stream ≡ option_map
             (λ c. c.stream_identifier) (find (has_tsn tsn) self.old.flight.queue.inflight.chunks)) }
-        ensures released { IfOk result (λ r. total_bytes self.new.flight.queue + r.1
+        ensures number { IfOk result (λ r. Some r.number ≡ option_map
+            (λ c. c.message_id) (find (has_tsn tsn) self.old.flight.queue.inflight.chunks)) }
+        ensures released { IfOk result (λ r. total_bytes self.new.flight.queue + r.bytes
             ≡ total_bytes self.old.flight.queue) }
+        ensures low { IfOk result (λ r. r.is_low ≡ fell r.stream self.old self.new) }
         ensures accepted { IsOk result → abandon_refusal tsn self.old.flight ≡ None }
         ensures refused { IfErr result (λ e.
             ((e ≡ OutOfMemory) × (abandon_refusal tsn self.old.flight ≡ None))
@@ -344,47 +362,60 @@ impl Sender {
             → abandon_refusal tsn self.old.flight ≡ None → IsOk result }
         ensures err { OnErr result (self.new ≡ self.old) }
     {
-        if self.flight.queue().get(tsn).is_none() {
+        let Some(chunk) = self.flight.queue().get(tsn) else {
             return Err(SenderRefusal::NotInFlight);
-        }
+        };
+        let number = chunk.message_id;
         if self.flight.has_tail_at(tsn) && !self.flight.may_send() {
             return Err(SenderRefusal::TsnsUsedUp);
         }
         let Some((stream, bytes)) = self.flight.abandon(tsn)? else {
             unreachable!()
         };
-        self.streams.release(stream, bytes);
-        Ok((stream, bytes))
+        let is_low = self.streams.release(stream, bytes);
+        Ok(AbandonedMessage {
+            stream,
+            number,
+            bytes,
+            is_low,
+        })
     }
 
-    /// Removes the message in front, where it is past its deadline and wholly unsent, and answers its stream and its bytes. `now` is in
-    /// nanoseconds. It takes no memory.
-    pub fn expire(&mut self, now: u64) -> Option<(u16, usize)>
+    /// Removes the message in front, where it is past its deadline and wholly unsent, and answers it. `now` is in nanoseconds. It
+    /// takes no memory.
+    pub fn expire(&mut self, now: u64) -> Option<ExpiredMessage>
         ensures some { IfSome result (λ r. IfSome (expiring now self.old.flight.queue)
-            (λ c. (r.0 ≡ c.stream_identifier) × (self.new ≡ after_expire c r.1 now self.old))) }
+            (λ c. (r.stream ≡ c.stream_identifier)
+            × (self.new ≡ after_expire c r.bytes now self.old))) }
         ensures none { is_some result ≡ is_some (expiring now self.old.flight.queue) }
         ensures idle { result ≡ None → self.new ≡ self.old }
-        ensures released { IfSome result (λ r. total_bytes self.new.flight.queue + r.1
+        ensures released { IfSome result (λ r. total_bytes self.new.flight.queue + r.bytes
             ≡ total_bytes self.old.flight.queue) }
+        ensures low { IfSome result (λ r. r.is_low ≡ fell r.stream self.old self.new) }
     {
         let (stream, unordered, bytes) = self.flight.expire(now)?;
-        self.streams.expire(stream, unordered, bytes);
-        Some((stream, bytes))
+        let is_low = self.streams.expire(stream, unordered, bytes);
+        Some(ExpiredMessage {
+            stream,
+            bytes,
+            is_low,
+        })
     }
 
-    /// Abandons the rest of the partially sent message in front, where it is past its deadline, and answers its stream, its
-    /// number and the bytes that left. `now` is in nanoseconds. Refuses, only where there is such a message, with `TsnsUsedUp`,
-    /// where 2^31 - 1 chunks are in flight, and for memory, though not within the room of `reserve`. The sender is as it was
-    /// then.
-    pub fn expire_tail(&mut self, now: u64) -> Result<Option<(u16, u64, usize)>, SenderRefusal>
+    /// Abandons the rest of the partially sent message in front, where it is past its deadline, and answers the message with the
+    /// bytes that left. `now` is in nanoseconds. Refuses, only where there is such a message, with `TsnsUsedUp`, where 2^31 - 1
+    /// chunks are in flight, and for memory, though not within the room of `reserve`. The sender is as it was then.
+    pub fn expire_tail(&mut self, now: u64) -> Result<Option<AbandonedMessage>, SenderRefusal>
         ensures some { IfOk result (λ r. IfSome r (λ a. self.new ≡ after_abandon
-            (message_of (expiring_tail now self.old.flight.queue)) a.0 a.2 self.old)) }
-        ensures answer { IfOk result (λ r. option_map {U = ℕ × ℕ} (λ a. (a.0, a.1)) r
+            (message_of (expiring_tail now self.old.flight.queue)) a.stream a.bytes self.old)) }
+        ensures answer { IfOk result (λ r. option_map {U = ℕ × ℕ} (λ a. (a.stream, a.number)) r
             ≡ option_map {U = ℕ × ℕ}
             (λ c. (c.stream_identifier, c.message_id)) (expiring_tail now self.old.flight.queue)) }
         ensures none { IfOk result (λ r. r ≡ None → self.new ≡ self.old) }
-        ensures released { IfOk result (λ r. total_bytes self.new.flight.queue + tail_bytes r
-            ≡ total_bytes self.old.flight.queue) }
+        ensures released { IfOk result (λ r. total_bytes self.new.flight.queue
+            + sum_by (λ g. g.bytes) (option_to_list r) ≡ total_bytes self.old.flight.queue) }
+        ensures low { IfOk result (λ r. IfSome r
+            (λ a. a.is_low ≡ fell a.stream self.old self.new)) }
         ensures accepted { IsOk result → (expiring_tail now self.old.flight.queue ≡ None)
             ⊎ (may_send self.old.flight ≡ true) }
         ensures refused { IfErr result (λ e. e
@@ -397,11 +428,16 @@ impl Sender {
         if self.flight.queue().is_tail_expired(now) && !self.flight.may_send() {
             return Err(SenderRefusal::TsnsUsedUp);
         }
-        let abandoned = self.flight.expire_tail(now)?;
-        if let Some((stream, _, bytes)) = abandoned {
-            self.streams.release(stream, bytes);
-        }
-        Ok(abandoned)
+        let Some((stream, number, bytes)) = self.flight.expire_tail(now)? else {
+            return Ok(None);
+        };
+        let is_low = self.streams.release(stream, bytes);
+        Ok(Some(AbandonedMessage {
+            stream,
+            number,
+            bytes,
+            is_low,
+        }))
     }
 
     /// Counts one more sending of the chunk in flight with a TSN, up to the greatest u32; none is counted where the TSN is not in
@@ -418,11 +454,14 @@ impl Sender {
 
     /// Takes a SACK, whatever a peer claims (RFC 4960 6.2.1): what is acknowledged is what it reports and is in flight.
     /// Answers the chunks that it reports anew, each with its stream and its bytes, which are all that leave; each stream has so
-    /// much less. One whose cumulative TSN is before the last one is out of date, and changes nothing. The refusals are those of
-    /// `InFlight::acked`.
+    /// much less, and of each whose amount so fell to its low threshold one chunk says that. One whose cumulative TSN is before the
+    /// last one is out of date, and changes nothing. The refusals are those of `InFlight::acked`.
     pub fn acked(&mut self, sack: &ChunkSelectiveAck) -> Result<Vec<Released>, SenderRefusal>
         ensures answer { IfOk result (λ r. r.items
-            ≡ released_by (sack_of sack.now) self.old.flight) }
+            ≡ with_lows (released_by (sack_of sack.now) self.old.flight) self.old.streams) }
+        ensures low { IfOk result (λ r. (s : ℕ)
+            → list_any (tells_low s) r.items ≡ fell s self.old self.new) }
+        ensures once { IfOk result (λ r. (s : ℕ) → count_by (tells_low s) r.items ≤ 1) }
         ensures ok { OnOk result (self.new ≡ after_acked (sack_of sack.now) self.old) }
         ensures released { IfOk result (λ r. total_bytes self.new.flight.queue + bytes_in r.items
             ≡ total_bytes self.old.flight.queue) }
@@ -433,8 +472,8 @@ impl Sender {
         ensures outdated { is_outdated (sack_of sack.now) self.old.flight ≡ true → IsOk result }
         ensures err { OnErr result (self.new ≡ self.old) }
     {
-        let released = self.flight.acked(self.alloc, sack)?;
-        release_each(&mut self.streams, &released);
+        let mut released = self.flight.acked(self.alloc, sack)?;
+        release_each(&mut self.streams, &mut released);
         Ok(released)
     }
 
@@ -510,11 +549,12 @@ fn is_full(queue: &OutboundQueue, len: usize) -> bool
     }
 }
 
-// Takes off each stream what left of it.
-fn release_each(streams: &mut OutboundStreams, gone: &[Released])
-    ensures { streams.new ≡ after_releases gone.now streams.old }
+// Takes off each stream what left of it, and notes with which chunks its amount fell to its low threshold.
+fn release_each(streams: &mut OutboundStreams, gone: &mut Vec<Released>)
+    ensures less { streams.new ≡ after_releases gone.old.items streams.old }
+    ensures lows { gone.new.items ≡ with_lows gone.old.items streams.old }
 {
-    for one in gone {
-        streams.release(one.stream, one.bytes);
+    for one in gone.iter_mut() {
+        one.is_low = streams.release(one.stream, one.bytes);
     }
 }

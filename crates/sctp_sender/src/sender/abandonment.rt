@@ -1,9 +1,10 @@
 //! What a sender abandons, and how its peer learns of it (RFC 3758 3.5).
 
-ghost use Rattle.std.specs.Prelude.{◌≡◌, ◌+◌, ◌*◌, ◌<◌, ◌≤◌, ◌⊎◌, [], true, false, None, OnOk, OnErr, IfOk, IfErr, IfSome, IsOk, is_some, length, nat_lt};
-ghost use Rattle.std.specs.List.{sum_by};
+ghost use Rattle.std.specs.Prelude.{◌≡◌, ℕ, ◌+◌, ◌*◌, ◌<◌, ◌≤◌, ◌⊎◌, [], true, false, None, OnOk, OnErr, IfOk, IfErr, IfSome, IsOk, is_some, length, nat_lt};
+ghost use Rattle.std.specs.List.{count_by, list_any, sum_by};
 ghost use Rattle.sctp_sender.specs.declared.sender.refusal.SenderRefusal.TheVariants.{OutOfMemory, TsnsUsedUp};
 ghost use Rattle.sctp_sender.specs.Late.{after_leaving};
+ghost use Rattle.sctp_sender.specs.Thresholds.{with_message_lows};
 ghost use Rattle.sctp_serial.specs.DataChunks.{following_tsn};
 
 use super::Sender;
@@ -18,17 +19,24 @@ impl Sender {
     ghost use Rattle.sctp_sender.specs.Abandonment.{Name, advanced_ack_point, ahead, can_skip_to, named_up_to};
     ghost use Rattle.sctp_sender.specs.Late.{after_late, after_worn, late_order, leaving_each, with_tail, worn_order};
     ghost use Rattle.sctp_sender.specs.Resending.{worn_tsns};
+    ghost use Rattle.sctp_sender.specs.Thresholds.{fell, tells_message_low};
 
     /// Abandons each message in flight that is late (RFC 3758 3.5, 4.1): a chunk of it has reached its deadline, it is
     /// not abandoned yet, and of it some chunk is not acknowledged or some fragment waits. `now` is in nanoseconds. Answers
-    /// them, each with its stream, its number and the bytes that left, by which its stream has less; `forward_tsn` gives what
-    /// the peer is to be sent then. They stand in the order of the first late chunk of each, but for the message of which some
-    /// waits, which comes first. Refuses, only where there is such a one, with `TsnsUsedUp`, where 2^31 - 1 chunks are in
-    /// flight; and for memory, but not where no message is late. The sender is as it was then.
+    /// them, each with its stream, its number and the bytes that left, by which its stream has less, and whether the stream's
+    /// amount so fell to its low threshold; `forward_tsn` gives what the peer is to be sent then. They stand in the order of the
+    /// first late chunk of each, but for the message of which some waits, which comes first. Refuses, only where there is such a
+    /// one, with `TsnsUsedUp`, where 2^31 - 1 chunks are in flight; and for memory, but not where no message is late. The sender
+    /// is as it was then.
     pub fn expire_late(&mut self, now: u64) -> Result<Vec<AbandonedMessage>, SenderRefusal>
         ensures ok { OnOk result (self.new ≡ after_late now self.old) }
         ensures answer { IfOk result (λ abandoned. abandoned.items
-            ≡ leaving_each (late_order now self.old.flight) self.old.flight) }
+            ≡ with_message_lows (leaving_each (late_order now self.old.flight) self.old.flight)
+            self.old.streams) }
+        ensures low { IfOk result (λ abandoned. (s : ℕ)
+            → list_any (tells_message_low s) abandoned.items ≡ fell s self.old self.new) }
+        ensures once { IfOk result (λ abandoned. (s : ℕ)
+            → count_by (tells_message_low s) abandoned.items ≤ 1) }
         ensures released { IfOk result (λ abandoned. total_bytes self.new.flight.queue
             + sum_by (λ g. g.bytes) abandoned.items ≡ total_bytes self.old.flight.queue) }
         ensures accepted { IsOk result →
@@ -40,8 +48,8 @@ impl Sender {
         ensures idle { late_tsns now self.old.flight.queue ≡ [] → IsOk result }
         ensures err { OnErr result (self.new ≡ self.old) }
     {
-        let abandoned = self.flight.expire_late(self.alloc, now)?;
-        release_abandoned(&mut self.streams, &abandoned);
+        let mut abandoned = self.flight.expire_late(self.alloc, now)?;
+        release_abandoned(&mut self.streams, &mut abandoned);
         Ok(abandoned)
     }
 
@@ -53,7 +61,12 @@ impl Sender {
         ensures ok { OnOk result (self.new ≡ after_worn self.old) }
         ensures none_left { OnOk result (worn_tsns self.new.flight ≡ []) }
         ensures answer { IfOk result (λ abandoned. abandoned.items
-            ≡ leaving_each (worn_order self.old.flight) self.old.flight) }
+            ≡ with_message_lows (leaving_each (worn_order self.old.flight) self.old.flight)
+            self.old.streams) }
+        ensures low { IfOk result (λ abandoned. (s : ℕ)
+            → list_any (tells_message_low s) abandoned.items ≡ fell s self.old self.new) }
+        ensures once { IfOk result (λ abandoned. (s : ℕ)
+            → count_by (tells_message_low s) abandoned.items ≤ 1) }
         ensures released { IfOk result (λ abandoned. total_bytes self.new.flight.queue
             + sum_by (λ g. g.bytes) abandoned.items ≡ total_bytes self.old.flight.queue) }
         ensures accepted { IsOk result →
@@ -65,8 +78,8 @@ impl Sender {
         ensures idle { worn_tsns self.old.flight ≡ [] → IsOk result }
         ensures err { OnErr result (self.new ≡ self.old) }
     {
-        let worn = self.flight.expire_rexmit(self.alloc)?;
-        release_abandoned(&mut self.streams, &worn);
+        let mut worn = self.flight.expire_rexmit(self.alloc)?;
+        release_abandoned(&mut self.streams, &mut worn);
         Ok(worn)
     }
 
@@ -143,11 +156,12 @@ impl Sender {
     }
 }
 
-// Takes off each stream what left of it.
-fn release_abandoned(streams: &mut OutboundStreams, gone: &[AbandonedMessage])
-    ensures { streams.new ≡ after_leaving gone.now streams.old }
+// Takes off each stream what left of it, and notes with which messages its amount fell to its low threshold.
+fn release_abandoned(streams: &mut OutboundStreams, gone: &mut Vec<AbandonedMessage>)
+    ensures less { streams.new ≡ after_leaving gone.old.items streams.old }
+    ensures lows { gone.new.items ≡ with_message_lows gone.old.items streams.old }
 {
-    for one in gone {
-        streams.release(one.stream, one.bytes);
+    for one in gone.iter_mut() {
+        one.is_low = streams.release(one.stream, one.bytes);
     }
 }

@@ -8,7 +8,8 @@ ghost use Rattle.sctp_list_lemmas.specs.Lists.{change_where};
 ghost use Rattle.sctp_serial.specs.DataChunks.{bytes_of};
 ghost use Rattle.sctp_sender.specs.declared.sender.refusal.SenderRefusal.TheVariants.{OutOfMemory};
 ghost use Rattle.sctp_stream.specs.Numbers.{IsOnlyPlace, IsAbsent};
-ghost use Rattle.sctp_sender.specs.Outgoing.{with_reliability, with_size, wrote, after_expiry};
+ghost use Rattle.sctp_stream.specs.Stream.{falls_low};
+ghost use Rattle.sctp_sender.specs.Outgoing.{with_reliability, with_size, wrote, after_expiry, less_by};
 
 use crate::sender::refusal::SenderRefusal;
 use bytes::Bytes;
@@ -42,7 +43,8 @@ impl Model for OutboundStreams {
 
 impl OutboundStreams {
     ghost use Rattle.sctp_stream.specs.Stream.{new_stream};
-    ghost use Rattle.sctp_sender.specs.Outgoing.{has_number, numbers_of, with_mode, with_low, from_first, fragments_with_mode, less_by};
+    ghost use Rattle.sctp_sender.specs.Outgoing.{has_number, numbers_of, with_mode, with_low, from_first, fragments_with_mode};
+    ghost use Rattle.sctp_sender.specs.Thresholds.{falls_on};
 
     /// No streams. It takes no memory.
     pub fn new(alloc: Global) -> Self
@@ -205,26 +207,41 @@ impl OutboundStreams {
         count_write(&mut self.items[place], ppi, len);
     }
 
-    /// Takes bytes off the amount of a stream, where it is open. It takes no memory.
-    pub fn release(&mut self, stream: u16, bytes: usize)
-        ensures { self.new ≡ change_where (has_number stream) (less_by bytes) self.old }
+    /// Takes bytes off the amount of a stream, where it is open, and says whether it fell from above its low threshold to at most
+    /// it. It takes no memory.
+    pub fn release(&mut self, stream: u16, bytes: usize) -> bool
+        ensures low { result ≡ falls_on stream bytes self.old }
+        ensures less { self.new ≡ change_where (has_number stream) (less_by bytes) self.old }
     {
         let Some(place) = self.numbers.place_of(stream) else {
-            return;
+            return false;
         };
-        self.items[place].lower_buffered(bytes);
+        lower(&mut self.items[place], bytes)
     }
 
-    /// Takes a message that was not sent off its stream, where it is open. It takes no memory.
-    pub fn expire(&mut self, stream: u16, unordered: bool, bytes: usize)
-        ensures { self.new ≡ change_where (has_number stream)
+    /// Takes a message that was not sent off its stream, where it is open, and says whether its amount fell from above its low
+    /// threshold to at most it. It takes no memory.
+    pub fn expire(&mut self, stream: u16, unordered: bool, bytes: usize) -> bool
+        ensures low { result ≡ falls_on stream bytes self.old }
+        ensures less { self.new ≡ change_where (has_number stream)
             (after_expiry unordered bytes) self.old }
     {
         let Some(place) = self.numbers.place_of(stream) else {
-            return;
+            return false;
         };
-        expire_message(&mut self.items[place], unordered, bytes);
+        expire_message(&mut self.items[place], unordered, bytes)
     }
+}
+
+// Takes bytes off the amount of a stream, and says whether it fell from above the low threshold to at most it.
+fn lower(state: &mut StreamState, bytes: usize) -> bool
+    ensures low { result ≡ falls_low state.old bytes }
+    ensures less { state.new ≡ less_by bytes state.old }
+{
+    let threshold = state.buffered_amount_low_threshold();
+    let was_above = state.buffered_amount() > threshold;
+    state.lower_buffered(bytes);
+    bytes > 0 && was_above && state.buffered_amount() <= threshold
 }
 
 // Counts a write that was accepted.
@@ -238,15 +255,17 @@ fn count_write(state: &mut StreamState, ppi: PayloadProtocolIdentifier, len: usi
     state.set_stats(stats);
 }
 
-// Takes a message that was not sent off its stream.
-fn expire_message(state: &mut StreamState, unordered: bool, bytes: usize)
-    ensures { state.new ≡ after_expiry unordered bytes state.old }
+// Takes a message that was not sent off its stream, and says whether the amount fell from above the low threshold to at most it.
+fn expire_message(state: &mut StreamState, unordered: bool, bytes: usize) -> bool
+    ensures low { result ≡ falls_low state.old bytes }
+    ensures less { state.new ≡ after_expiry unordered bytes state.old }
 {
-    state.lower_buffered(bytes);
+    let is_low = lower(state, bytes);
     if !unordered {
         let number = state.sequence_number().wrapping_sub(1);
         state.set_sequence_number(number);
     }
+    is_low
 }
 
 // Each stream cuts later writes into fragments of this size.

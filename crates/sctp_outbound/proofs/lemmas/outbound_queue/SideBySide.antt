@@ -128,7 +128,7 @@ started-kept now s k = step (s.queue.next_unstarted == s.queue.next_message_id)
 
 -- ## Sending
 
-some_is : (x c : ChunkPayloadData) → Some x ≡ Some c → x ≡ c
+pub some_is : (x c : ChunkPayloadData) → Some x ≡ Some c → x ≡ c
 some_is x c h = cc
 
 front_is_there : (xs : List ChunkPayloadData) (c : ChunkPayloadData) → slice_get xs 0 ≡ Some c → list_any (is_of c.message_id) xs ≡ true
@@ -138,7 +138,7 @@ front_is_there (x ∷ xs) c h =
     or-left (x.message_id == c.message_id) (list_any (is_of c.message_id) xs) it
 
 -- what a peek shows waits
-peeked_waits : (os us : List ChunkPayloadData) (sel : Option Selected) (ro ru : ℕ) (c : ChunkPayloadData) → next_pending (made os us sel ro ru) ≡ Some c → waits c.message_id (made os us sel ro ru) ≡ true
+pub peeked_waits : (os us : List ChunkPayloadData) (sel : Option Selected) (ro ru : ℕ) (c : ChunkPayloadData) → next_pending (made os us sel ro ru) ≡ Some c → waits c.message_id (made os us sel ro ru) ≡ true
 peeked_waits os (u ∷ us) None ro ru c h = or-left _ _ (front_is_there (u ∷ us) c h)
 peeked_waits os [] None ro ru c h = front_is_there os c h
 peeked_waits os us (Some s) ro ru c h = by s.unordered h
@@ -160,7 +160,7 @@ half_selected (Some s) kind c m h = step (c.ending_fragment && (c.message_id == 
     step true h = absurd (none-some m h)
     step false h = inl h
 
-half_rest : (k : Option Bool) (os us : List ChunkPayloadData) (sel : Option Selected) (ro ru : ℕ) (c : ChunkPayloadData) (m : ℕ) → chunk_to_pop_from k (made os us sel ro ru) ≡ Some c → partially_sent (rest_from k (made os us sel ro ru)) ≡ Some m → (half_of sel ≡ Some m) ⊎ (c.message_id ≡ m)
+pub half_rest : (k : Option Bool) (os us : List ChunkPayloadData) (sel : Option Selected) (ro ru : ℕ) (c : ChunkPayloadData) (m : ℕ) → chunk_to_pop_from k (made os us sel ro ru) ≡ Some c → partially_sent (rest_from k (made os us sel ro ru)) ≡ Some m → (half_of sel ≡ Some m) ⊎ (c.message_id ≡ m)
 half_rest None os us sel ro ru c m h e = inl e
 half_rest (Some true) os [] sel ro ru c m h e = inl e
 half_rest (Some true) os (u ∷ us) sel ro ru c m h e = subst (λ (x : ChunkPayloadData). (half_of sel ≡ Some m) ⊎ (x.message_id ≡ m)) (some_is u c h) (half_selected sel true u m e)
@@ -189,7 +189,7 @@ sent-kept now s k (Some c) h =
 
 -- ## Messages that are abandoned
 
-half_before : (m j : ℕ) (sel : Option Selected) → half_of (selected_without m sel) ≡ Some j → half_of sel ≡ Some j
+pub half_before : (m j : ℕ) (sel : Option Selected) → half_of (selected_without m sel) ≡ Some j → half_of sel ≡ Some j
 half_before m j None h = h
 half_before m j (Some s) h = step (s.message_id == m) h
   where
@@ -268,7 +268,7 @@ expired-kept s k (Some c) = step c.unordered
 
 -- ## Push
 
-half_appended : (b : Bool) (cs : List ChunkPayloadData) (q : Pending) → partially_sent (append_chunks b cs q) ≡ partially_sent q
+pub half_appended : (b : Bool) (cs : List ChunkPayloadData) (q : Pending) → partially_sent (append_chunks b cs q) ≡ partially_sent q
 half_appended true cs q = refl
 half_appended false cs q = refl
 

@@ -1,9 +1,25 @@
 -- What a mark leaves as it is.
-use Rattle.std.proofs.Common.{◌≡◌, refl}
+use Rattle.std.proofs.Common.{◌≡◌, false, [], refl}
+use Rattle.sctp_chunks.specs.ChunkSet.{fresh}
 use Rattle.sctp_chunks.specs.declared.chunk.chunk_payload_data.ChunkPayloadData.{ChunkPayloadData}
+use Rattle.sctp_chunks.specs.declared.chunk.chunk_payload_data.PayloadProtocolIdentifier.TheVariants.{Unknown}
 use Rattle.sctp_outbound.specs.declared.payload_queue.held.Mark.{Mark}
 use Rattle.sctp_outbound.specs.declared.payload_queue.held.Mark.TheVariants.{Acknowledged, Abandoned, Retransmit, Nsent, Since, MissIndicator}
 use Rattle.sctp_outbound.specs.Marks.{with_mark}
+
+-- any chunk, where a place asks for one to fall back on
+abbrev pub any_chunk : ChunkPayloadData
+any_chunk = fresh (record {
+  unordered = false;
+  beginning_fragment = false;
+  ending_fragment = false;
+  immediate_sack = false;
+  tsn = 0;
+  stream_identifier = 0;
+  stream_sequence_number = 0;
+  payload_type = Unknown;
+  user_data = [];
+})
 
 pub marked-tsn : (mark : Mark) (c : ChunkPayloadData) → (with_mark mark c).tsn ≡ c.tsn
 marked-tsn Acknowledged c = refl

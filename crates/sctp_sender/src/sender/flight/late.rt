@@ -10,12 +10,18 @@ use crate::sender::refusal::SenderRefusal;
 use sctp_stream::stream_numbers::put;
 use std::alloc::Global;
 
-/// A message that was abandoned: its stream, its number, and how many of its bytes left.
+/// A message that was abandoned.
 #[derive(Clone, Copy, Debug, PartialEq, Eq)]
 pub struct AbandonedMessage {
+    /// Its stream.
     pub stream: u16,
+    /// Its number.
     pub number: u64,
+    /// How many of its bytes left.
     pub bytes: usize,
+    /// Whether with them, after those of the messages before it in the answer, the buffered amount of its stream fell from above the
+    /// low threshold to at most it. The parts of a sender know no streams, and answer false.
+    pub is_low: bool,
 }
 
 impl InFlight {
@@ -218,6 +224,7 @@ impl InFlight {
             stream,
             number,
             bytes,
+            is_low: false,
         }))
     }
 }

@@ -11,11 +11,7 @@ impl InFlight {
     pub fn at(&self, place: usize) -> Option<&ChunkPayloadData>
         ensures { option_copied result ≡ slice_get self.now.queue.inflight.chunks place }
     {
-        if place >= self.queue.inflight_len() {
-            return None;
-        }
-        let first = self.acked_tsn.wrapping_add(1);
-        self.queue.get(first.wrapping_add(place as u32))
+        self.queue.inflight_at(place)
     }
 
     /// How many bytes of user data the chunk in flight with a TSN has; None where there is none.

@@ -3,9 +3,19 @@ use Rattle.sctp_sender.specs.Flight.{Flight}
 use Rattle.sctp_sender.specs.Late.{late_order}
 use Rattle.sctp_sender.specs.Totals.{IsAllSettled}
 use Rattle.sctp_sender.proofs.Settled.{each-settled}
+use Rattle.sctp_sender.proofs.Lows.{messages-released-same, messages-tell, one-message-tells}
 use Rattle.sctp_sender.proofs.sender.Sender.expire_late.Goals as goal
 
 pub invariant_of-self-2 : goal.invariant_of-self-2
 invariant_of-self-2 c =
     let f : Flight = c.self.inside.flight in
     (c.self.invariant.0, c.self.invariant.1, subst (λ (g : Flight). IsAllSettled g.queue) (sym c.in_ok-abandoned.ensures.ok) (each-settled (late_order c.args.now f) f c.self.invariant.2))
+
+pub returns-clause-low : goal.returns-clause-low
+returns-clause-low c = λ s. rw (← c.self.view_is) (messages-tell s _ _ _ _ c.release_abandoned.ensures.lows c.release_abandoned.ensures.less)
+
+pub returns-clause-once : goal.returns-clause-once
+returns-clause-once c = λ s. one-message-tells s _ _ _ _ c.release_abandoned.ensures.lows c.release_abandoned.ensures.less
+
+pub returns-clause-released : goal.returns-clause-released
+returns-clause-released c = rw (← c.self.view_is) (messages-released-same _ _ _ _ _ c.release_abandoned.ensures.lows c.in_ok-abandoned.ensures.released)

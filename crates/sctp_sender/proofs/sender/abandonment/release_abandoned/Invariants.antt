@@ -1,6 +1,10 @@
-use Rattle.std.proofs.Common.{◌≡◌, drop}
+use Rattle.std.proofs.Common.{◌≡◌, ◌++◌, take, drop}
 use Rattle.sctp_sender.specs.Late.{after_leaving}
+use Rattle.sctp_sender.specs.Thresholds.{with_message_lows}
 use Rattle.sctp_sender.proofs.sender.abandonment.release_abandoned.Given as goal
 
 abbrev pub invariant-loop-one : goal.invariant-loop-one
-invariant-loop-one l = after_leaving l.gone l.initial.streams ≡ after_leaving (drop l.one-index l.gone) l.streams
+invariant-loop-one l = record {
+  less : after_leaving l.fn.gone.items l.initial.streams ≡ after_leaving (drop l.one-index l.one-items) l.streams;
+  lows : with_message_lows l.fn.gone.items l.initial.streams ≡ take l.one-index l.one-items ++ with_message_lows (drop l.one-index l.one-items) l.streams;
+}

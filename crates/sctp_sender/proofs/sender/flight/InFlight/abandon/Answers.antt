@@ -1,8 +1,9 @@
-use Rattle.std.proofs.Common.{◌≡◌, true}
+use Rattle.std.proofs.Common.{◌≡◌, true, refl, arith}
 use Rattle.std.specs.Prelude.{find}
-use Rattle.sctp_serial.specs.DataChunks.{has_tsn}
+use Rattle.sctp_serial.specs.DataChunks.{has_tsn, following_tsn}
 use Rattle.sctp_outbound.specs.outbound_queue.OutboundQueue.{has_tail, to_abandon}
 use Rattle.sctp_sender.specs.Flight.{Flight, may_send}
+use Rattle.sctp_sender.proofs.InLine.{abandoned-in-line, found-half}
 use Rattle.sctp_sender.proofs.Flights.{fresh, window, after-abandoning}
 use Rattle.sctp_sender.proofs.sender.flight.InFlight.abandon.Goals as goal
 
@@ -21,3 +22,4 @@ invariant_of-self-2 c =
     let f : Flight = record { queue = c.self.inside.queue; next_tsn = c.self.inside.next_tsn; acked_tsn = c.self.inside.acked_tsn } in
     let room : has_tail (to_abandon (find (has_tsn c.args.tsn) f.queue.inflight.chunks)) f.queue ≡ true → may_send f ≡ true = rw (← c.self.view_is) at c.requires in
     after-abandoning f _ c.abandon.new.self c.abandon.new.next_tsn c.self.invariant room c.in_ok-abandoned.ensures.ok c.in_ok-abandoned.ensures.raised
+    (abandoned-in-line f.queue (following_tsn f.acked_tsn) (omega arith) c.self.invariant.few c.self.invariant.run c.are_whole.ensures c.self.invariant.side_by_side (to_abandon (find (has_tsn c.args.tsn) f.queue.inflight.chunks)) f.next_tsn (let next = c.self.invariant.next in omega (arith, next)) (found-half f.queue c.are_whole.ensures c.args.tsn (find (has_tsn c.args.tsn) f.queue.inflight.chunks) refl) c.abandon.new.self c.in_ok-abandoned.ensures.ok)

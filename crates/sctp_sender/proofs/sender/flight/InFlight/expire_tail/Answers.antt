@@ -1,7 +1,10 @@
-use Rattle.std.proofs.Common.{◌≡◌, true}
+use Rattle.std.proofs.Common.{◌≡◌, true, refl, arith}
 use Rattle.std.specs.Prelude.{is_some}
-use Rattle.sctp_outbound.specs.outbound_queue.OutboundQueue.{expiring_tail}
+use Rattle.sctp_outbound.specs.outbound_queue.OutboundQueue.{expiring_tail, message_of}
+use Rattle.sctp_outbound.specs.pending_queue.PendingQueue.{next_pending}
+use Rattle.sctp_serial.specs.DataChunks.{following_tsn}
 use Rattle.sctp_sender.specs.Flight.{Flight, may_send}
+use Rattle.sctp_sender.proofs.InLine.{abandoned-in-line, tail-half}
 use Rattle.sctp_sender.proofs.Flights.{fresh, window, after-abandoning, tail-there}
 use Rattle.sctp_sender.proofs.sender.flight.InFlight.expire_tail.Goals as goal
 
@@ -20,3 +23,4 @@ invariant_of-self-2 c =
     let f : Flight = record { queue = c.self.inside.queue; next_tsn = c.self.inside.next_tsn; acked_tsn = c.self.inside.acked_tsn } in
     let room : is_some (expiring_tail c.args.now f.queue) ≡ true → may_send f ≡ true = rw (← c.self.view_is) at c.requires in
     after-abandoning f _ c.expire_pending_tail.new.self c.expire_pending_tail.new.next_tsn c.self.invariant (λ tail. room (tail-there (expiring_tail c.args.now f.queue) f.queue tail)) c.in_ok-abandoned.ensures.ok c.in_ok-abandoned.ensures.raised
+    (abandoned-in-line f.queue (following_tsn f.acked_tsn) (omega arith) c.self.invariant.few c.self.invariant.run c.are_whole.ensures c.self.invariant.side_by_side (message_of (expiring_tail c.args.now f.queue)) f.next_tsn (let next = c.self.invariant.next in omega (arith, next)) (λ m h w. tail-half f.queue c.are_whole.ensures c.args.now (next_pending f.queue.pending) refl m h) c.expire_pending_tail.new.self c.in_ok-abandoned.ensures.ok)

@@ -1,8 +1,9 @@
-use Rattle.std.proofs.Common.{◌≡◌, true, ap, ◌∙◌}
+use Rattle.std.proofs.Common.{◌≡◌, true, ap, ◌∙◌, arith}
 use Rattle.std.specs.Prelude.{find}
 use Rattle.sctp_outbound.specs.outbound_queue.OutboundQueue.{Outbound}
-use Rattle.sctp_serial.specs.DataChunks.{has_tsn}
+use Rattle.sctp_serial.specs.DataChunks.{has_tsn, following_tsn}
 use Rattle.sctp_sender.specs.Flight.{Flight, may_send}
+use Rattle.sctp_sender.proofs.InLine.{sent-in-line}
 use Rattle.sctp_sender.proofs.Flights.{fresh, window, sent}
 use Rattle.sctp_sender.proofs.Sent.{noted-next}
 use Rattle.sctp_sender.proofs.sender.flight.InFlight.send_next.Goals as goal
@@ -22,6 +23,7 @@ invariant_of-self-2 c =
     let f : Flight = record { queue = c.self.inside.queue; next_tsn = c.self.inside.next_tsn; acked_tsn = c.self.inside.acked_tsn } in
     let room : may_send f ≡ true = rw (← c.self.view_is) at c.requires in
     sent f c.args.now c.send_next.new.self c.send_next.new.next_tsn c.self.invariant room c.in_ok-sent.ensures.ok c.in_ok-sent.ensures.raised
+    (sent-in-line f.queue (following_tsn f.acked_tsn) (omega arith) c.self.invariant.few c.self.invariant.run c.are_whole.ensures c.self.invariant.side_by_side c.args.now f.next_tsn (let next = c.self.invariant.next in omega (arith, next)) c.send_next.new.self c.in_ok-sent.ensures.ok)
 
 pub returns-clause-noted : goal.returns-clause-noted
 returns-clause-noted c =

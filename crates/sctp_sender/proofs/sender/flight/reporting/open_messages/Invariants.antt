@@ -4,7 +4,7 @@ use Rattle.std.specs.HashSet.{contains}
 use Rattle.std.specs.List.{list_any}
 use Rattle.sctp_chunks.specs.SelectiveAck.{sack_of}
 use Rattle.sctp_sender.specs.Flight.{open_messages}
-use Rattle.sctp_sender.proofs.sender.flight.open_messages.Given as goal
+use Rattle.sctp_sender.proofs.sender.flight.reporting.open_messages.Given as goal
 
 abbrev pub invariant-loop-place : goal.invariant-loop-place
 invariant-loop-place l = (m : ℕ) → contains nat_eq l.unfinished m ≡ list_any (nat_eq m) (open_messages (sack_of l.sack) (take l.place l.queue.inflight.chunks))

@@ -7,7 +7,7 @@ use Rattle.sctp_chunks.specs.SelectiveAck.{sack_of}
 use Rattle.sctp_outbound.specs.Marks.{as_acknowledged}
 use Rattle.sctp_outbound.specs.outbound_queue.OutboundQueue.{with_inflight}
 use Rattle.sctp_sender.specs.Flight.{is_half, reports_anew, released_of}
-use Rattle.sctp_sender.proofs.sender.flight.mark_reported.Given as goal
+use Rattle.sctp_sender.proofs.sender.flight.reporting.mark_reported.Given as goal
 
 abbrev pub invariant-loop-place : goal.invariant-loop-place
 invariant-loop-place l = record {

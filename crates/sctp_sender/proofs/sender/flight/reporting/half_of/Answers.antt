@@ -1,6 +1,6 @@
 use Rattle.std.proofs.Common.{sym}
 use Rattle.sctp_outbound.proofs.lemmas.outbound_queue.Sendable.{half_in_front}
-use Rattle.sctp_sender.proofs.sender.flight.half_of.Goals as goal
+use Rattle.sctp_sender.proofs.sender.flight.reporting.half_of.Goals as goal
 
 pub returns : goal.returns
 returns c =

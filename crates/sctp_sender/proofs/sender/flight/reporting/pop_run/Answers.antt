@@ -2,7 +2,7 @@ use Rattle.std.proofs.Common.{◌<◌, length, ap, ◌∙◌, arith, ◌+◌, �
 use Rattle.sctp_outbound.specs.outbound_queue.OutboundQueue.{Outbound, with_inflight}
 use Rattle.sctp_outbound.specs.payload_queue.PayloadQueue.{without_front}
 use Rattle.sctp_sender.proofs.Runs.{front-dropped}
-use Rattle.sctp_sender.proofs.sender.flight.pop_run.Goals as goal
+use Rattle.sctp_sender.proofs.sender.flight.reporting.pop_run.Goals as goal
 
 pub loop-place-preserved : goal.loop-place-preserved
 loop-place-preserved c =

@@ -1,0 +1,373 @@
+//! What a SACK reports, and what it makes of what is in flight (RFC 4960 6.2.1).
+
+ghost use Rattle.std.specs.Prelude.{◌≡◌, ◌≢◌, ◌-◌, ◌&&◌, ◌||◌, Bool, not, nat_eq, nat_lt, ◌+◌, ◌<◌, ◌≤◌, ◌^◌, ◌⊎◌, [], ℕ, true, false, Some, None, OnOk, OnErr, IfOk, IfErr, IsOk, length, map, drop, take, vec_capacity, slice_index_or};
+ghost use Rattle.std.specs.HashSet.{contains};
+ghost use Rattle.std.specs.List.{list_all, list_any, filter};
+ghost use Rattle.sctp_list_lemmas.specs.Lists.{change_where};
+ghost use Rattle.sctp_chunks.specs.SelectiveAck.{sack_of};
+ghost use Rattle.sctp_chunks.specs.declared.chunk.chunk_payload_data.ChunkPayloadData.{ChunkPayloadData};
+ghost use Rattle.sctp_outbound.specs.Marks.{as_acknowledged};
+ghost use Rattle.sctp_outbound.specs.outbound_queue.OutboundQueue.{with_inflight};
+ghost use Rattle.sctp_outbound.specs.pending_queue.Whole.{partially_sent};
+ghost use Rattle.sctp_serial.specs.DataChunks.{tsns};
+ghost use Rattle.sctp_sender.specs.declared.sender.refusal.SenderRefusal.TheVariants.{OutOfMemory};
+ghost use Rattle.sctp_sender.specs.Flight.{tsns_from, reports_anew, is_within, is_half, leaves_open, open_messages, released_of};
+ghost use Rattle.sctp_sender.specs.Reporting.{after_block, after_blocks, goes_from_to, HasEnds, Marks};
+ghost use Rattle.sctp_sender.specs.SideBySide.{IsApartAt, StandSideBySide, messages_of};
+
+use super::{InFlight, Released};
+use crate::sender::refusal::SenderRefusal;
+use sctp_base::util::{sna32lt, sna32lte};
+use sctp_chunks::chunk::chunk_payload_data::ChunkPayloadData;
+use sctp_chunks::chunk::chunk_selective_ack::{ChunkSelectiveAck, GapAckBlock};
+use sctp_outbound::outbound_queue::OutboundQueue;
+use sctp_serial::serial::distance;
+use sctp_stream::stream_numbers::put;
+use std::alloc::Global;
+use std::collections::HashSet;
+
+impl InFlight {
+    ghost use Rattle.sctp_outbound.specs.outbound_queue.OutboundQueue.{total_bytes};
+    ghost use Rattle.sctp_sender.specs.Totals.{AreSettled, bytes_in};
+    ghost use Rattle.sctp_sender.specs.Flight.{is_outdated, sack_refusal, after_sack, released_by};
+
+    /// Takes a SACK, whatever a peer claims (RFC 4960 6.2.1): what is acknowledged is what it reports and is in flight.
+    /// Answers the chunks that it reports anew. Theirs are all the bytes that leave, where no acknowledged chunk in flight has
+    /// bytes, as in a `Sender`. One whose cumulative TSN is before the last one is out of date, and changes nothing. The
+    /// refusals, in the order in which they are looked for:
+    ///
+    /// - `InflightQueueTsnPop`, where its cumulative TSN was not given out;
+    /// - `TsnRequestNotExist`, where a gap ack block that is not empty begins at 0, or ends past the last TSN in flight;
+    /// - `OutOfMemory`, and not where it is out of date.
+    ///
+    /// All is as it was then.
+    pub fn acked(
+        &mut self,
+        alloc: Global,
+        sack: &ChunkSelectiveAck,
+    ) -> Result<Vec<Released>, SenderRefusal>
+        ensures answer { IfOk result (λ released. released.items
+            ≡ released_by (sack_of sack.now) self.old) }
+        ensures ok { OnOk result (self.new ≡ after_sack (sack_of sack.now) self.old) }
+        ensures released { AreSettled self.old.queue.inflight.chunks → IfOk result
+            (λ r. total_bytes self.new.queue + bytes_in r.items ≡ total_bytes self.old.queue) }
+        ensures accepted { IsOk result → sack_refusal (sack_of sack.now) self.old ≡ None }
+        ensures refused { IfErr result
+            (λ e. ((e ≡ OutOfMemory) × (sack_refusal (sack_of sack.now) self.old ≡ None))
+            ⊎ (sack_refusal (sack_of sack.now) self.old ≡ Some e)) }
+        ensures err { OnErr result (self.new ≡ self.old) }
+        ensures outdated { is_outdated (sack_of sack.now) self.old ≡ true → IsOk result }
+    {
+        let mut released = Vec::new(alloc);
+        if sna32lt(sack.cumulative_tsn_ack, self.acked_tsn) {
+            return Ok(released);
+        }
+        let count = distance(self.acked_tsn, sack.cumulative_tsn_ack) as usize;
+        let in_flight = self.queue.inflight_len();
+        if in_flight < count {
+            return Err(SenderRefusal::InflightQueueTsnPop);
+        }
+        if !are_within(&sack.gap_ack_blocks, in_flight - count) {
+            return Err(SenderRefusal::TsnRequestNotExist);
+        }
+        let marks = marks_of(alloc, &sack.gap_ack_blocks)?;
+        // what lies behind is not reported
+        let reach = in_flight.min(count + marks.len());
+        if released.reserve(reach).is_err() {
+            return Err(SenderRefusal::OutOfMemory);
+        }
+        let end = message_end(&self.queue, reach);
+        let unfinished = open_messages(alloc, &self.queue, sack, &marks, end)?;
+        let half = half_of(&self.queue);
+        mark_reported(
+            &mut self.queue,
+            sack,
+            &marks,
+            reach,
+            &unfinished,
+            half,
+            &mut released,
+        );
+        pop_run(&mut self.queue, self.acked_tsn.wrapping_add(1), count);
+        self.acked_tsn = sack.cumulative_tsn_ack;
+        Ok(released)
+    }
+}
+
+// Whether each block reports nothing, or distances from 1 to the greatest alone.
+fn are_within(blocks: &[GapAckBlock], left: usize) -> bool
+    ensures { result ≡ list_all (is_within left) blocks.now }
+{
+    for block in blocks {
+        if !is_within(block, left) {
+            return false;
+        }
+    }
+    true
+}
+
+// Whether the block does.
+fn is_within(block: &GapAckBlock, left: usize) -> bool
+    ensures { result ≡ is_within left block.now }
+{
+    block.end < block.start || (block.start > 0 && block.end as usize <= left)
+}
+
+// For each distance up to the greatest that a block reports, whether one does. Each block and each distance is looked at once.
+fn marks_of(alloc: Global, blocks: &[GapAckBlock]) -> Result<Vec<bool>, SenderRefusal>
+    ensures marks { IfOk result (λ marks. Marks marks.items blocks.now) }
+    ensures count { IfOk result (λ marks. length marks.items ≡ after_blocks blocks.now) }
+    ensures small { IfOk result (λ marks. length marks.items ≤ 2 ^ 16) }
+    ensures memory { IfErr result (λ e. e ≡ OutOfMemory) }
+{
+    let ends = ends_of(alloc, blocks)?;
+    let mut marks = Vec::new(alloc);
+    if marks.reserve(ends.len()).is_err() {
+        return Err(SenderRefusal::OutOfMemory);
+    }
+    let mut end = 0;
+    for offset in 0..ends.len() {
+        end = end.max(ends[offset]);
+        put(&mut marks, offset < end as usize);
+    }
+    Ok(marks)
+}
+
+// For each distance up to the greatest that a block reports, one more than the greatest end of the blocks that begin there.
+fn ends_of(alloc: Global, blocks: &[GapAckBlock]) -> Result<Vec<u32>, SenderRefusal>
+    ensures ends { IfOk result (λ ends. HasEnds ends.items blocks.now) }
+    ensures count { IfOk result (λ ends. length ends.items ≡ after_blocks blocks.now) }
+    ensures small { IfOk result (λ ends. length ends.items ≤ 2 ^ 16) }
+    ensures memory { IfErr result (λ e. e ≡ OutOfMemory) }
+{
+    let Ok(mut ends) = vec![in alloc; 0u32; after_blocks(blocks)] else {
+        return Err(SenderRefusal::OutOfMemory);
+    };
+    for block in blocks {
+        note_block(&mut ends, block);
+    }
+    Ok(ends)
+}
+
+// Notes at the distance where the block begins how far it goes, if it goes farther than those before it.
+fn note_block(ends: &mut Vec<u32>, block: &GapAckBlock)
+    requires { after_block block.now ≤ length ends.old.items }
+    ensures count { length ends.new.items ≡ length ends.old.items }
+    ensures noted { (first last : ℕ) → first ≤ last
+        → nat_lt last (slice_index_or ends.new.items first 0)
+        ≡ (nat_lt last (slice_index_or ends.old.items first 0)
+        || goes_from_to first last block.now) }
+{
+    let after = after_block(block);
+    if after == 0 {
+        return;
+    }
+    let start = block.start as usize;
+    ends[start] = ends[start].max(after);
+}
+
+// One more than the greatest distance that a block reports, 0 where none reports any.
+fn after_blocks(blocks: &[GapAckBlock]) -> usize
+    ensures value { result ≡ after_blocks blocks.now }
+    ensures small { result ≤ 2 ^ 16 }
+{
+    let mut after = 0;
+    for block in blocks {
+        after = after.max(after_block(block));
+    }
+    after as usize
+}
+
+// One more than the last distance that the block reports, 0 where it reports none.
+fn after_block(block: &GapAckBlock) -> u32
+    ensures value { result ≡ after_block block.now }
+    ensures small { result ≤ 2 ^ 16 }
+{
+    if block.end < block.start {
+        return 0;
+    }
+    u32::from(block.end) + 1
+}
+
+// Whether a SACK reports the TSN, where the distances that it reports are marked.
+fn is_reported(sack: &ChunkSelectiveAck, marks: &[bool], tsn: u32) -> bool
+    requires { Marks marks.now (sack_of sack.now).gap_ack_blocks }
+    ensures { (c : ChunkPayloadData)
+        → c.tsn ≡ tsn → c.acked ≡ false → result ≡ reports_anew (sack_of sack.now) c }
+{
+    if sna32lte(tsn, sack.cumulative_tsn_ack) {
+        return true;
+    }
+    let offset = distance(sack.cumulative_tsn_ack, tsn) as usize;
+    offset < marks.len() && marks[offset]
+}
+
+// The first place from this one on from where no chunk in flight is of the message of one before it.
+fn message_end(queue: &OutboundQueue, reach: usize) -> usize
+    requires { reach ≤ length queue.now.inflight.chunks }
+    ensures from { reach ≤ result }
+    ensures to { result ≤ length queue.now.inflight.chunks }
+    ensures apart { StandSideBySide (messages_of queue.now.inflight.chunks)
+        → IsApartAt result queue.now.inflight.chunks }
+{
+    if reach == 0 {
+        return 0;
+    }
+    for place in reach..queue.inflight_len() {
+        if begins_another(queue, place) {
+            return place;
+        }
+    }
+    queue.inflight_len()
+}
+
+// Whether the chunk at a place is of another message than the one before it.
+fn begins_another(queue: &OutboundQueue, place: usize) -> bool
+    requires some { 0 < place }
+    requires in_range { place < length queue.now.inflight.chunks }
+    ensures { result ≡ true → (d : ChunkPayloadData)
+        → (slice_index_or queue.now.inflight.chunks (place - 1) d).message_id
+        ≢ (slice_index_or queue.now.inflight.chunks place d).message_id }
+{
+    let Some(before) = queue.inflight_at(place - 1) else {
+        unreachable!()
+    };
+    let Some(chunk) = queue.inflight_at(place) else {
+        unreachable!()
+    };
+    before.message_id != chunk.message_id
+}
+
+// The messages of which a SACK leaves a chunk in flight before a place unacknowledged, or abandoned.
+fn open_messages(
+    alloc: Global,
+    queue: &OutboundQueue,
+    sack: &ChunkSelectiveAck,
+    marks: &[bool],
+    end: usize,
+) -> Result<HashSet<u64>, SenderRefusal>
+    requires marks { Marks marks.now (sack_of sack.now).gap_ack_blocks }
+    requires end { end ≤ length queue.now.inflight.chunks }
+    ensures ok { IfOk result (λ set. (m : ℕ) → contains nat_eq set m ≡ list_any (nat_eq m)
+        (open_messages (sack_of sack.now) (take end queue.now.inflight.chunks))) }
+    ensures memory { IfErr result (λ e. e ≡ OutOfMemory) }
+{
+    let mut unfinished = HashSet::new(alloc);
+    for place in 0..end {
+        let Some(chunk) = queue.inflight_at(place) else {
+            unreachable!()
+        };
+        if !leaves_open(sack, marks, chunk) {
+            continue;
+        }
+        let Ok(_) = unfinished.insert(chunk.message_id) else {
+            return Err(SenderRefusal::OutOfMemory);
+        };
+    }
+    Ok(unfinished)
+}
+
+// Whether a SACK leaves the chunk unacknowledged, or it is abandoned.
+fn leaves_open(sack: &ChunkSelectiveAck, marks: &[bool], chunk: &ChunkPayloadData) -> bool
+    requires { Marks marks.now (sack_of sack.now).gap_ack_blocks }
+    ensures { result ≡ leaves_open (sack_of sack.now) chunk.now }
+{
+    if chunk.abandoned {
+        return true;
+    }
+    if chunk.acked {
+        return false;
+    }
+    !is_reported(sack, marks, chunk.tsn)
+}
+
+// The message that is partially sent, if there is one.
+fn half_of(queue: &OutboundQueue) -> Option<u64>
+    ensures { result ≡ partially_sent queue.now.pending }
+{
+    queue.are_whole();
+    let Some(chunk) = queue.peek_pending() else {
+        return None;
+    };
+    if chunk.beginning_fragment {
+        return None;
+    }
+    Some(chunk.message_id)
+}
+
+// Whether it is neither the message that is partially sent nor one of these.
+fn is_whole(unfinished: &HashSet<u64>, half: Option<u64>, message: u64) -> bool
+    ensures { result
+        ≡ (not (is_half half message) && not (contains nat_eq unfinished.now message)) }
+{
+    if half == Some(message) {
+        return false;
+    }
+    !unfinished.contains(&message)
+}
+
+// Acknowledges each chunk in flight that a SACK reports anew, and tells of it. From the place `reach` on it reports none.
+fn mark_reported(
+    queue: &mut OutboundQueue,
+    sack: &ChunkSelectiveAck,
+    marks: &[bool],
+    reach: usize,
+    unfinished: &HashSet<u64>,
+    half: Option<u64>,
+    released: &mut Vec<Released>,
+)
+    requires marks { Marks marks.now (sack_of sack.now).gap_ack_blocks }
+    requires reach { reach ≤ length queue.old.inflight.chunks }
+    requires beyond { (k : ℕ) (d : ChunkPayloadData) → reach ≤ k
+        → k < length queue.old.inflight.chunks
+        → reports_anew (sack_of sack.now) (slice_index_or queue.old.inflight.chunks k d) ≡ false }
+    requires empty { released.old.items ≡ [] }
+    requires room { reach ≤ vec_capacity released.old }
+    ensures marked { queue.new ≡ with_inflight queue.old
+        (change_where (reports_anew (sack_of sack.now)) as_acknowledged queue.old.inflight.chunks) }
+    ensures told { released.new.items
+        ≡ map (released_of (λ m. not (is_half half m) && not (contains nat_eq unfinished.now m)))
+        (filter (reports_anew (sack_of sack.now)) queue.old.inflight.chunks) }
+{
+    for place in 0..reach {
+        let Some(chunk) = queue.inflight_at(place) else {
+            unreachable!()
+        };
+        if chunk.acked || !is_reported(sack, marks, chunk.tsn) {
+            continue;
+        }
+        let whole = is_whole(unfinished, half, chunk.message_id);
+        put(released, released_of(chunk, whole));
+        queue.mark_as_acked_at(place);
+    }
+}
+
+// What is told of a chunk.
+fn released_of(chunk: &ChunkPayloadData, is_message_acked: bool) -> Released
+    ensures { (whole : ℕ → Bool) → whole chunk.now.message_id ≡ is_message_acked
+        → result ≡ released_of whole chunk.now }
+{
+    Released {
+        tsn: chunk.tsn,
+        stream: chunk.stream_identifier,
+        bytes: chunk.user_data.len(),
+        nsent: chunk.nsent,
+        since: chunk.since,
+        message: chunk.message_id,
+        is_message_acked,
+        is_low: false,
+    }
+}
+
+// Takes so many chunks from the front, which have TSNs one after another.
+fn pop_run(queue: &mut OutboundQueue, first: u32, count: usize)
+    requires run { tsns queue.old.inflight.chunks
+        ≡ tsns_from first (length queue.old.inflight.chunks) }
+    requires within { count ≤ length queue.old.inflight.chunks }
+    requires few { count < 2 ^ 31 }
+    ensures { queue.new ≡ with_inflight queue.old (drop count queue.old.inflight.chunks) }
+{
+    for place in 0..count {
+        queue.pop(first.wrapping_add(place as u32));
+    }
+}
