@@ -22,6 +22,13 @@ use Rattle.sctp_halves.specs.Streams.{OpenStream, join, join_each, number, has_n
 use Rattle.sctp_halves.specs.Halves.{Sides, IsAligned, reception_of, transmission_of, stream_in, is_open, on_stream, follow_forward_tsn, after_forward}
 use Rattle.sctp_halves.proofs.Joined.{Alike, states-joined, inbounds-joined, length-joined, numbers-joined, found-inbound, inbound-changed, inbound-mapped, with_progress, progress-set}
 
+after-limits : (f : ForwardTsn) (r : Reception) → (R.after_forward f r).limits ≡ r.limits
+after-limits f r = by (R.is_stale f r)
+  where
+    by : (b : Bool) → (if b then r else R.follow_forward_tsn f r).limits ≡ r.limits
+    by true = refl
+    by false = refl
+
 -- both halves of these parts
 abbrev pub sides : Transmission → Reception → List StreamProgress → Sides
 sides t r ps = record { streams = join_each t.streams r.streams ps; flight = t.flight; cumulative_tsn = r.cumulative_tsn; beyond = r.beyond; duplicates = r.duplicates; fragment_size = t.fragment_size; max_message_size = t.max_message_size }
@@ -62,8 +69,9 @@ module _ (ns : List ℕ) (t : Transmission) (r : Reception) (ps : List StreamPro
   pub reception-is : reception_of (sides t r ps) ≡ r
   reception-is =
       let e = inbounds-joined t.streams r.streams ps alike in
-      ap (λ is. let x : Reception = record { streams = is; cumulative_tsn = r.cumulative_tsn; beyond = r.beyond; duplicates = r.duplicates; max_message_size = t.max_message_size } in x) e
-      ∙ ap (λ m. let x : Reception = record r { max_message_size = m } in x) (sym a.size)
+      ap (λ is. let x : Reception = record { streams = is; cumulative_tsn = r.cumulative_tsn; beyond = r.beyond; duplicates = r.duplicates; max_message_size = t.max_message_size; limits = None } in x) e
+      ∙ ap (λ m. let x : Reception = record r { max_message_size = m; limits = None } in x) (sym a.size)
+      ∙ ap (λ l. let x : Reception = record r { limits = l } in x) (sym a.unlimited)
 
   pub transmission-is : transmission_of (sides t r ps) ≡ t
   transmission-is = ap (λ ss. let x : Transmission = record t { streams = ss } in x) (states-joined t.streams r.streams ps alike)
@@ -109,11 +117,11 @@ module _ (ns : List ℕ) (t : Transmission) (r : Reception) (ps : List StreamPro
 
   -- ## A part that changes
 
-  pub with-receiver : (x : Reception) → Inbound.numbers_of x.streams ≡ Inbound.numbers_of r.streams → x.max_message_size ≡ r.max_message_size → IsAligned ns t x ps
-  with-receiver x same size = record { sends = a.sends; receives = a.receives ∙ sym same; progresses = a.progresses; size = size ∙ a.size }
+  pub with-receiver : (x : Reception) → Inbound.numbers_of x.streams ≡ Inbound.numbers_of r.streams → x.max_message_size ≡ r.max_message_size → x.limits ≡ r.limits → IsAligned ns t x ps
+  with-receiver x same size limits = record { sends = a.sends; receives = a.receives ∙ sym same; progresses = a.progresses; size = size ∙ a.size; unlimited = limits ∙ a.unlimited }
 
   pub with-progresses : (qs : List StreamProgress) → ns ≡ map (λ p. p.number) qs → IsAligned ns t r qs
-  with-progresses qs same = record { sends = a.sends; receives = a.receives; progresses = same; size = a.size }
+  with-progresses qs same = record { sends = a.sends; receives = a.receives; progresses = same; size = a.size; unlimited = a.unlimited }
 
   -- ## What came on a stream
 
@@ -134,7 +142,7 @@ module _ (ns : List ℕ) (t : Transmission) (r : Reception) (ps : List StreamPro
   inbound-on s f = inbound-changed s f t.streams r.streams ps (sym a.sends ∙ a.receives)
 
   pub read-numbers : (s : ℕ) (x : Reception) → x ≡ R.after_read s r → IsAligned ns t x ps
-  read-numbers s x e = with-receiver x (ap (λ (y : Reception). Inbound.numbers_of y.streams) e ∙ stays-changed Inbound.number Inbound.stream_read (λ l. refl) (Inbound.has_number s) r.streams) (ap (λ (y : Reception). y.max_message_size) e)
+  read-numbers s x e = with-receiver x (ap (λ (y : Reception). Inbound.numbers_of y.streams) e ∙ stays-changed Inbound.number Inbound.stream_read (λ l. refl) (Inbound.has_number s) r.streams) (ap (λ (y : Reception). y.max_message_size) e) (ap (λ (y : Reception). y.limits) e)
 
   pub read-sides : (s : ℕ) (x : Reception) → x ≡ R.after_read s r → sides t x ps ≡ on_stream s (on_inbound Inbound.stream_read) (sides t r ps)
   read-sides s x e = ap (λ y. sides t y ps) e ∙ ap (λ ls. let y : Sides = record (sides t r ps) { streams = ls } in y) (inbound-on s Inbound.stream_read)
@@ -156,7 +164,7 @@ module _ (ns : List ℕ) (t : Transmission) (r : Reception) (ps : List StreamPro
         by false = followed-sides
 
     pub forward-numbers : (x : Reception) → x ≡ R.after_forward f r → IsAligned ns t x ps
-    forward-numbers x e = with-receiver x (ap (λ (y : Reception). Inbound.numbers_of y.streams) e ∙ after-numbers f r) (ap (λ (y : Reception). y.max_message_size) e ∙ after-size f r)
+    forward-numbers x e = with-receiver x (ap (λ (y : Reception). Inbound.numbers_of y.streams) e ∙ after-numbers f r) (ap (λ (y : Reception). y.max_message_size) e ∙ after-size f r) (ap (λ (y : Reception). y.limits) e ∙ after-limits f r)
 
   -- ## What is recorded of a read
 

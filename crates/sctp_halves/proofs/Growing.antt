@@ -164,6 +164,9 @@ module _ (ns : List ℕ) (t : Transmission) (r : Reception) (ps : List StreamPro
   pub saved-size : saved.receiver.max_message_size ≡ r.max_message_size
   saved-size = ap (λ (y : Reception). y.max_message_size) is.receiver ∙ sym g.max_message_size ∙ sym a.size
 
+  pub saved-limits : saved.receiver.limits ≡ r.limits
+  saved-limits = ap (λ (y : Reception). y.limits) is.receiver ∙ sym a.unlimited
+
   pub saved-count : length saved.complete.items ≡ length ps
   saved-count = ap length is.complete ∙ length-mapped (λ (l : OpenStream). length l.complete) x.streams ∙ grow-count x.streams (join_each t.streams r.streams ps) g.streams ∙ count-is ns t r ps a
 

@@ -78,6 +78,7 @@ module _ (ns : List ℕ) (t : Transmission) (r : Reception) (ps : List StreamPro
     receives = is ∙ a.receives ∙ ap (λ (z : Reception). Inbound.numbers_of z.streams) (sym received);
     progresses = is ∙ a.progresses ∙ ap (map (λ p. p.number)) (sym put);
     size = ap (λ (z : Reception). z.max_message_size) received ∙ a.size ∙ ap (λ (z : Transmission). z.max_message_size) (sym sent);
+    unlimited = ap (λ (z : Reception). z.limits) received ∙ a.unlimited;
   }
 
   pub sides-same : sides x y qs ≡ sides t r ps
@@ -101,6 +102,7 @@ module _ (ns : List ℕ) (t : Transmission) (r : Reception) (ps : List StreamPro
       receives = more ∙ ap (λ ks. ks ++ s ∷ []) a.receives ∙ sym (map-more Inbound.number r.streams (Inbound.new_stream s r.max_message_size)) ∙ ap (λ (z : Reception). Inbound.numbers_of z.streams) (sym received);
       progresses = more ∙ ap (λ ks. ks ++ s ∷ []) a.progresses ∙ ap (λ n. map (λ p. p.number) ps ++ n ∷ []) (sym same) ∙ sym (map-more (λ (p : StreamProgress). p.number) ps p) ∙ ap (map (λ p. p.number)) (sym put);
       size = ap (λ (z : Reception). z.max_message_size) received ∙ a.size ∙ ap (λ (z : Transmission). z.max_message_size) (sym sent);
+      unlimited = ap (λ (z : Reception). z.limits) received ∙ a.unlimited;
     }
 
     pub opened-sides : (qs : List StreamProgress) → qs ≡ ps ++ p ∷ [] → p.complete.items ≡ [] → p.ordered ≡ 0 → p.begun ≡ 0 → p.next ≡ 0 → p.named ≡ 0 → sides x y qs ≡ opened_on s (sides t r ps)

@@ -112,7 +112,7 @@ module _ (ns : List ℕ) (t : Transmission) (r : Reception) (ps : List StreamPro
   -- ## The sender changes
 
   pub with-sender : (x : Transmission) → Outgoing.numbers_of x.streams ≡ Outgoing.numbers_of t.streams → x.max_message_size ≡ t.max_message_size → IsAligned ns x r ps
-  with-sender x same size = record { sends = a.sends ∙ sym same; receives = a.receives; progresses = a.progresses; size = a.size ∙ sym size }
+  with-sender x same size = record { sends = a.sends ∙ sym same; receives = a.receives; progresses = a.progresses; size = a.size ∙ sym size; unlimited = a.unlimited }
 
   pub sender-same : (x : Transmission) → x ≡ t → IsAligned ns x r ps
   sender-same x e = with-sender x (ap (λ (y : Transmission). Outgoing.numbers_of y.streams) e) (ap (λ (y : Transmission). y.max_message_size) e)

@@ -61,8 +61,12 @@ changed-put f (suc k) (x ∷ xs) y = ap (λ ys. x ∷ ys) (changed-put f k xs y)
 abbrev pub with_complete : ℕ → OpenStream → OpenStream
 with_complete n l = record l { complete = l.complete ++ n ∷ [] }
 
+takes-limits : (c : ChunkPayloadData) (b : Arrival) (old new : Reception) → R.Takes c b old new → new.limits ≡ old.limits
+takes-limits c (New complete) old new t = ap (λ (r : Reception). r.limits) t.after
+takes-limits c Repeat old new t = ap (λ (r : Reception). r.limits) t
+
 pub taken-aligned : (ns : List ℕ) (t : Transmission) (r : Reception) (ps : List StreamProgress) → IsAligned ns t r ps → (c : ChunkPayloadData) (b : Arrival) (x : Reception) → R.Takes c b r x → IsAligned ns t x ps
-taken-aligned ns t r ps a c b x h = let k = takes-keeps c b r x h in with-receiver ns t r ps a x k.0 k.1
+taken-aligned ns t r ps a c b x h = let k = takes-keeps c b r x h in with-receiver ns t r ps a x k.0 k.1 (takes-limits c b r x h)
 
 -- ## A chunk of the stream at a place
 

@@ -34,13 +34,14 @@ pub record Sides : Type 0 where
   pub fragment_size : ℕ
   pub max_message_size : ℕ
 
--- each part has the same streams, in the same order
+-- each part has the same streams, in the same order; the receiver has no limits
 pub record IsAligned (numbers : List ℕ) (sender : Transmission) (receiver : Reception)
     (progress : List StreamProgress) : Type 0 where
   pub sends : numbers ≡ Outgoing.numbers_of sender.streams
   pub receives : numbers ≡ Inbound.numbers_of receiver.streams
   pub progresses : numbers ≡ map (λ p. p.number) progress
   pub size : receiver.max_message_size ≡ sender.max_message_size
+  pub unlimited : receiver.limits ≡ None
 
 -- what is the sender's, and what is the receiver's
 abbrev pub transmission_of : Sides → Transmission
@@ -60,6 +61,7 @@ reception_of x =
       beyond = x.beyond;
       duplicates = x.duplicates;
       max_message_size = x.max_message_size;
+      limits = None;
     }
 
 -- nothing was opened

@@ -66,7 +66,7 @@ impl Halves {
         Halves {
             alloc,
             sender: Sender::new(alloc, first_tsn, fragment_size, max_message_size),
-            receiver: Receiver::new(alloc, first_tsn, max_message_size),
+            receiver: Receiver::new(alloc, first_tsn, max_message_size, None),
             numbers: StreamNumbers::new(alloc),
             progress: Vec::new(alloc),
         }

@@ -1,12 +1,12 @@
--- Unordered messages that are complete, and messages that are read.
+-- Messages that are kept as complete, and messages that are read.
 use Rattle.std.proofs.Common.{◌≡◌, ℕ, zero, suc, ◌+◌, ◌-◌, ◌<◌, ◌≤◌, Bool, true, false, List, [], ◌∷◌, length, take, drop, Option, Some, None, refl, ap, sym, ◌∙◌, arith, get_or}
 use Rattle.std.specs.Prelude.{if◌then◌else◌}
-use Rattle.std.specs.List.{list_all}
+use Rattle.std.specs.List.{list_all, filter}
 use Rattle.std.proofs.lemmas.Bool.{eq-eqb}
 use Rattle.std.proofs.lemmas.List.{get_or-drop, length-drop}
 use Rattle.std.proofs.lemmas.List.Folds.{list_all-append}
 use Rattle.sctp_list_lemmas.specs.Lists.{insert_before}
-use Rattle.sctp_list_lemmas.specs.Serial.{comes_before16, at_or_before16}
+use Rattle.sctp_list_lemmas.specs.Serial.{at_or_before, comes_before16, at_or_before16}
 use Rattle.sctp_list_lemmas.proofs.More.{and, both}
 use Rattle.sctp_chunks.specs.declared.chunk.chunk_payload_data.ChunkPayloadData.{ChunkPayloadData}
 use Rattle.sctp_chunks.specs.ChunkSet.{ChunkSet}
@@ -14,6 +14,7 @@ use Rattle.sctp_serial.specs.DataChunks.{chunk_before, following_tsn}
 use Rattle.sctp_serial.specs.Runs.{IsRun}
 use Rattle.sctp_reassembly.specs.reassembly_queue.Fragments.{is_complete, completes, sets_with}
 use Rattle.sctp_reassembly.specs.reassembly_queue.ReassemblyQueue.{Reassembly, ReassemblyState, set_of_run, TakesRun, BecomesComplete, is_readable, front_readable, after_read, message_among, message_read, rest_among, rest_read}
+use Rattle.sctp_reassembly.specs.reassembly_queue.Resets.{is_old_message, held_after_reset}
 use Rattle.sctp_receiver.specs.TsnFilter.{mark}
 use Rattle.sctp_receiver.specs.Inbound.{Pushes, PushesAs}
 
@@ -45,7 +46,7 @@ run-set : (xs : List ChunkPayloadData) → (set_of_run xs).chunks ≡ xs
 run-set [] = refl
 run-set (x ∷ xs) = refl
 
--- ## Unordered messages
+-- ## Messages that are kept as complete: unordered ones, and ordered ones from before a reset
 
 -- each that is kept as complete is
 abbrev pub all_complete : List ChunkSet → Bool
@@ -104,3 +105,17 @@ rest-complete q h = by q.unordered refl
     by : (us : List ChunkSet) → q.unordered ≡ us → all_complete (rest_among us q).unordered ≡ true
     by [] e = ap all_complete (after (front_readable q.next_ssn q.ordered)) ∙ h
     by (u ∷ us) e = (both (is_complete u.chunks) (all_complete us) (ap all_complete (sym e) ∙ h)).1
+
+-- ## A stream is reset
+
+-- ordered messages that move among the complete ones are complete
+moved-complete : (last : ℕ) (sets : List ChunkSet) → all_complete (filter (is_old_message last) sets) ≡ true
+moved-complete last [] = refl
+moved-complete last (s ∷ sets) = by (is_old_message last s) refl (moved-complete last sets)
+  where
+    by : (b : Bool) → is_old_message last s ≡ b → all_complete (filter (is_old_message last) sets) ≡ true → all_complete (if b then s ∷ filter (is_old_message last) sets else filter (is_old_message last) sets) ≡ true
+    by true e ih = and _ _ (both (is_complete s.chunks) (list_all (λ c. at_or_before c.tsn last) s.chunks) e).0 ih
+    by false e ih = ih
+
+pub reset-complete : (last : ℕ) (q : Reassembly) → all_complete q.unordered ≡ true → all_complete (held_after_reset last q).unordered ≡ true
+reset-complete last q h = list_all-append (λ set. is_complete set.chunks) q.unordered (filter (is_old_message last) q.ordered) ∙ and _ _ h (moved-complete last q.ordered)

@@ -4,10 +4,11 @@ use Rattle.sctp_chunks.specs.ChunkSet.{fresh}
 use Rattle.sctp_chunks.specs.declared.chunk.chunk_payload_data.PayloadProtocolIdentifier.TheVariants as identifiers
 use Rattle.sctp_chunks.specs.declared.chunk.chunk_payload_data.ChunkPayloadData.{ChunkPayloadData}
 use Rattle.sctp_list_lemmas.specs.Serial.{distance, comes_before, at_or_before, comes_before16, at_or_before16, distance16}
-use Rattle.sctp_receiver.specs.declared.receiver.refusal.ReceiverRefusal.TheVariants.{StreamUnknown, MessageTooLarge}
+use Rattle.sctp_receiver.specs.declared.receiver.limits.Limits.{Limits}
+use Rattle.sctp_receiver.specs.declared.receiver.refusal.ReceiverRefusal.TheVariants.{StreamUnknown, MessageTooLarge, TsnTooFar, WindowFull}
 use Rattle.sctp_receiver.specs.declared.receiver.arrival.Arrival.TheVariants.{New, Repeat}
 use Rattle.sctp_receiver.specs.Inbound.{new_stream, has_number, with_queue}
-use Rattle.sctp_receiver.specs.Receiver.{Reception, at_first, open_stream, data_refusal, filter_of, with_filter, repeat_tsn, TakesEach}
+use Rattle.sctp_receiver.specs.Receiver.{Reception, at_first, open_stream, data_refusal, filter_of, with_filter, repeat_tsn, TakesEach, discard_refusal, window}
 use Rattle.sctp_list_lemmas.specs.Lists.{change_where}
 use Rattle.sctp_reassembly.specs.reassembly_queue.ReassemblyQueue.{ReassemblyState, after_ordered_push}
 use Rattle.sctp_receiver.specs.TsnFilter.{Filter, with_tsn, skipped_to, gap_ack_blocks, has_come, is_opposite}
@@ -70,16 +71,16 @@ fragment tsn begins ends bytes = fresh (record {
 })
 
 -- no stream is open
-unknown : data_refusal (fragment 7 true true (1 ∷ [])) (at_first 7 2) ≡ Some StreamUnknown
+unknown : data_refusal (fragment 7 true true (1 ∷ [])) (at_first 7 2 None) ≡ Some StreamUnknown
 unfolding distance at_or_before
 unknown = refl
 
 -- a message may have two bytes
-too_large : data_refusal (fragment 7 true true (1 ∷ 2 ∷ 3 ∷ [])) (open_stream 1 (at_first 7 2)) ≡ Some MessageTooLarge
+too_large : data_refusal (fragment 7 true true (1 ∷ 2 ∷ 3 ∷ [])) (open_stream 1 (at_first 7 2 None)) ≡ Some MessageTooLarge
 unfolding distance at_or_before
 too_large = refl
 
-fits : data_refusal (fragment 7 true true (1 ∷ 2 ∷ [])) (open_stream 1 (at_first 7 2)) ≡ None
+fits : data_refusal (fragment 7 true true (1 ∷ 2 ∷ [])) (open_stream 1 (at_first 7 2 None)) ≡ None
 unfolding distance at_or_before
 fits = refl
 
@@ -100,7 +101,7 @@ abbrev taken_on : ChunkPayloadData → ReassemblyState → Reception → Recepti
 taken_on c q r = with_filter (with_tsn c.tsn (filter_of r)) (record r { streams = change_where (has_number 1) (with_queue q) r.streams })
 
 abbrev one_open : Reception
-one_open = open_stream 1 (at_first 7 2)
+one_open = open_stream 1 (at_first 7 2 None)
 
 abbrev after_datagram : Reception
 after_datagram = taken_on back at_two (repeat_tsn 7 (taken_on front at_one one_open))
@@ -129,3 +130,60 @@ up_to_eight = refl
 seven_twice : after_datagram.duplicates ≡ 7 ∷ []
 unfolding distance at_or_before comes_before at_or_before16 comes_before16 distance16
 seven_twice = refl
+
+-- ## Limits
+
+-- a window of one chunk of a byte, which counts for 201
+abbrev narrow : Limits
+narrow = record { window = 201; reach = 3 }
+
+abbrev narrow_open : Reception
+narrow_open = open_stream 1 (at_first 7 100 (Some narrow))
+
+abbrev one_byte : ℕ → ChunkPayloadData
+one_byte tsn = fragment tsn true true (1 ∷ [])
+
+-- 6 is the cumulative TSN
+too_far : data_refusal (one_byte 10) narrow_open ≡ Some TsnTooFar
+unfolding distance at_or_before
+too_far = refl
+
+too_far_to_drop : discard_refusal 10 narrow_open ≡ Some TsnTooFar
+unfolding distance at_or_before
+too_far_to_drop = refl
+
+in_reach : data_refusal (one_byte 9) narrow_open ≡ None
+unfolding distance at_or_before comes_before
+in_reach = refl
+
+-- 8 came, and fills the window
+abbrev full : Reception
+full = taken_on (one_byte 8) (after_ordered_push (one_byte 8) (new_stream 1 100).queue) narrow_open
+
+past_it : data_refusal (one_byte 9) full ≡ Some WindowFull
+unfolding distance at_or_before comes_before at_or_before16 comes_before16 distance16
+past_it = refl
+
+past_it_to_drop : discard_refusal 9 full ≡ Some WindowFull
+unfolding distance at_or_before comes_before at_or_before16 comes_before16 distance16
+past_it_to_drop = refl
+
+-- 7 fills the gap, and 8 comes again
+gap_filled : data_refusal (one_byte 7) full ≡ None
+unfolding distance at_or_before comes_before at_or_before16 comes_before16 distance16
+gap_filled = refl
+
+came_again : data_refusal (one_byte 8) full ≡ None
+unfolding distance at_or_before comes_before at_or_before16 comes_before16 distance16
+came_again = refl
+
+-- what is told of the window
+nothing_left : window full ≡ 0
+unfolding distance at_or_before comes_before at_or_before16 comes_before16 distance16
+nothing_left = refl
+
+all_left : window narrow_open ≡ 201
+all_left = refl
+
+no_limits : window (at_first 7 2 None) ≡ 4294967295
+no_limits = refl

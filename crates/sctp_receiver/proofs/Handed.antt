@@ -16,16 +16,19 @@ use Rattle.sctp_chunks.specs.ForwardTsn.{ForwardTsn}
 use Rattle.sctp_reassembly.specs.reassembly_queue.Fragments.{is_complete}
 use Rattle.sctp_reassembly.specs.reassembly_queue.ReassemblyQueue.{ReassemblyState, message_read}
 use Rattle.sctp_receiver.specs.declared.receiver.arrival.Arrival.TheVariants.{New, Repeat}
+use Rattle.sctp_receiver.specs.declared.receiver.limits.Limits.{Limits}
 use Rattle.sctp_receiver.specs.declared.receiver.inbound_streams.InboundStream.{InboundStream}
 use Rattle.sctp_receiver.specs.Inbound.{number, has_number, new_stream, with_queue, Pushes, stream_read, ssn_forwarded, named_forwarded, unassembled_forwarded}
 use Rattle.sctp_receiver.specs.Receiver.{Reception, filter_of, with_filter, stream_of, Accepts, repeat_tsn, after_discard, message_of, message_on, after_read, is_stale, follow_forward_tsn, after_forward}
+use Rattle.sctp_receiver.specs.Resets.{stream_reset}
+use Rattle.sctp_receiver.specs.Skips.{incomplete_forwarded, without_incomplete, after_forward_tsn}
 use Rattle.sctp_receiver.specs.TsnFilter.{has_come, with_tsn}
-use Rattle.sctp_receiver.specs.ReceiverRuns.{Call, opens, closes, takes, discards, reports, reports_within, reads, forwards, Message, Stand, with_message, Follows, RunsTo, at_start, AfterEachRun, AreComplete, AreOfOneMessage, WereAccepted, is_one_message, fragments_read}
+use Rattle.sctp_receiver.specs.ReceiverRuns.{Call, opens, closes, takes, discards, reports, reports_within, reads, resets, forwards, forwards_by_names, Message, Stand, with_message, Follows, RunsTo, at_start, AfterEachRun, AreComplete, AreOfOneMessage, WereAccepted, is_one_message, fragments_read}
 use Rattle.sctp_receiver.proofs.Inbounds.{pushed-number}
 use Rattle.sctp_receiver.proofs.Weights as weights
 use Rattle.sctp_receiver.proofs.Weights.{weight, message_weight}
-use Rattle.sctp_receiver.proofs.CompleteMessages.{all_complete, message_complete, pushed-complete, read-complete, rest-complete}
-use Rattle.sctp_receiver.proofs.OneMessage.{is_unmixed, message_one, pushed-unmixed, read-one, rest-unmixed, named-unmixed, unassembled-unmixed}
+use Rattle.sctp_receiver.proofs.CompleteMessages.{all_complete, message_complete, pushed-complete, read-complete, rest-complete, reset-complete}
+use Rattle.sctp_receiver.proofs.OneMessage.{is_unmixed, message_one, pushed-unmixed, read-one, rest-unmixed, named-unmixed, unassembled-unmixed, incomplete-unmixed, reset-unmixed}
 use Rattle.sctp_receiver.proofs.Forwarded.{found-mapped}
 use Rattle.sctp_serial.specs.DataChunks.{is_on}
 
@@ -95,6 +98,12 @@ names-lighten ssn = record { number = λ l. refl; weighs = λ w l. weights.named
 unassembled-lightens : (tsn : ℕ) → Lightens (unassembled_forwarded tsn)
 unassembled-lightens tsn = record { number = λ l. refl; weighs = λ w l. weights.unassembled w tsn l.queue; orderly = λ l h. let p = orderly-both l.queue h in and _ _ p.0 (unassembled-unmixed l.queue.si tsn l.queue.held p.1) }
 
+incomplete-lightens : (tsn : ℕ) → Lightens (incomplete_forwarded tsn)
+incomplete-lightens tsn = record { number = λ l. refl; weighs = λ w l. weights.incomplete w tsn l.queue; orderly = λ l h. let p = orderly-both l.queue h in and _ _ p.0 (incomplete-unmixed l.queue.si tsn l.queue.held p.1) }
+
+reset-lightens : (last : ℕ) → Lightens (stream_reset last)
+reset-lightens last = record { number = λ l. refl; weighs = λ w l. weights.reset w last l.queue; orderly = λ l h. let p = orderly-both l.queue h in and _ _ (reset-complete last l.queue.held p.0) (reset-unmixed l.queue.si last l.queue.held p.1) }
+
 lighter : (f : InboundStream → InboundStream) (o : Option InboundStream) → Lightens f → IsNoMore o (option_map f o)
 lighter f None h = same-held None
 lighter f (Some l) h = record { weighs = λ w. h.weighs w l; orderly = λ t. h.orderly l t }
@@ -127,6 +136,19 @@ followed-less st f r = by (is_stale f r)
         let ls = named_forwarded f.streams r.streams in
         then-less _ _ _ (named-less st f.streams r.streams)
         (subst (IsNoMore (find (has_number st) ls)) (sym (found-mapped st (unassembled_forwarded f.new_cumulative_tsn) (λ l. refl) ls)) (lighter (unassembled_forwarded f.new_cumulative_tsn) (find (has_number st) ls) (unassembled-lightens f.new_cumulative_tsn)))
+
+skipped-less : (st : ℕ) (f : ForwardTsn) (r : Reception) → IsNoMore (stream_of st r) (stream_of st (after_forward_tsn f r))
+skipped-less st f r = by (is_stale f r) (followed-less st f r)
+  where
+    by : (b : Bool) → IsNoMore (stream_of st r) (stream_of st (after_forward f r)) → IsNoMore (stream_of st r) (stream_of st (if b then r else without_incomplete f.new_cumulative_tsn (after_forward f r)))
+    by true less = same-held (stream_of st r)
+    by false less =
+        let ls = (after_forward f r).streams in
+        then-less _ _ _ less
+        (subst (IsNoMore (find (has_number st) ls)) (sym (found-mapped st (incomplete_forwarded f.new_cumulative_tsn) (λ l. refl) ls)) (lighter (incomplete_forwarded f.new_cumulative_tsn) (find (has_number st) ls) (incomplete-lightens f.new_cumulative_tsn)))
+
+reset-less : (st s last : ℕ) (ls : List InboundStream) → IsNoMore (find (has_number st) ls) (find (has_number st) (change_where (has_number s) (stream_reset last) ls))
+reset-less st s last ls = subst (IsNoMore (find (has_number st) ls)) (sym (found-changed s st (stream_reset last) (λ l e. refl) ls)) (lighter-one s (stream_reset last) (find (has_number st) ls) (reset-lightens last))
 
 opened-less : (st s max : ℕ) (ls : List InboundStream) → IsNoMore (find (has_number st) ls) (find (has_number st) (ls ++ new_stream s max ∷ []))
 opened-less st s max ls = subst (IsNoMore (find (has_number st) ls)) (sym (find-append (has_number st) ls (new_stream s max ∷ []))) (by (find (has_number st) ls) (s == st))
@@ -366,20 +388,22 @@ step (discards tsn) old new s f = still old new s (ap (λ (r : Reception). r.str
 step (reports_within bytes) old new s f = still old new s (ap (λ (r : Reception). r.streams) f.receiver) f.accepted f.read
 step reports old new s f = quiet old new s f.accepted f.read (λ st. subst (λ (r : Reception). IsNoMore (stream_of st old.receiver) (stream_of st r)) (sym f.receiver) (same-held (stream_of st old.receiver)))
 step (reads stream) old new s f = read-valid stream old new s f.receiver f.accepted f.read
-step (forwards g) old new s f = quiet old new s f.accepted f.read (λ st. subst (λ (r : Reception). IsNoMore (stream_of st old.receiver) (stream_of st r)) (sym f.receiver) (followed-less st g old.receiver))
+step (resets stream last) old new s f = quiet old new s f.accepted f.read (λ st. subst (λ (r : Reception). IsNoMore (stream_of st old.receiver) (stream_of st r)) (sym f.receiver) (reset-less st stream last old.receiver.streams))
+step (forwards g) old new s f = quiet old new s f.accepted f.read (λ st. subst (λ (r : Reception). IsNoMore (stream_of st old.receiver) (stream_of st r)) (sym f.receiver) (skipped-less st g old.receiver))
+step (forwards_by_names g) old new s f = quiet old new s f.accepted f.read (λ st. subst (λ (r : Reception). IsNoMore (stream_of st old.receiver) (stream_of st r)) (sym f.receiver) (followed-less st g old.receiver))
 
 run : (calls : List Call) (old new : Stand) → IsValid old → RunsTo old calls new → IsValid new
 run [] old new s e = subst IsValid (sym e) s
 run (c ∷ cs) old new s r = run cs r.0 new (step c old r.0 s r.1.0) r.1.1
 
-start : (tsn max : ℕ) → IsValid (at_start tsn max)
-start tsn max = record { holds = λ st. record { weighs = λ w. omega arith; orderly = refl }; read = refl; one = refl }
+start : (tsn max : ℕ) (limits : Option Limits) → IsValid (at_start tsn max limits)
+start tsn max limits = record { holds = λ st. record { weighs = λ w. omega arith; orderly = refl }; read = refl; one = refl }
 
 pub complete : AfterEachRun AreComplete
-complete tsn max calls s r = (run calls (at_start tsn max) s (start tsn max) r).read
+complete tsn max limits calls s r = (run calls (at_start tsn max limits) s (start tsn max limits) r).read
 
 pub alike : AfterEachRun AreOfOneMessage
-alike tsn max calls s r = (run calls (at_start tsn max) s (start tsn max) r).one
+alike tsn max limits calls s r = (run calls (at_start tsn max limits) s (start tsn max limits) r).one
 
 pub accepted : AfterEachRun WereAccepted
-accepted tsn max calls s r = λ st w. let h = ((run calls (at_start tsn max) s (start tsn max) r).holds st).weighs w in omega arith
+accepted tsn max limits calls s r = λ st w. let h = ((run calls (at_start tsn max limits) s (start tsn max limits) r).holds st).weighs w in omega arith

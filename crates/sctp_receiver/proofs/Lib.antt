@@ -4,6 +4,8 @@ pub mod FilterCalls
 pub mod Inbounds
 pub mod Forwarded
 pub mod Receptions
+pub mod RepeatedNames
+pub mod Resetting
 pub mod DataEach
 pub mod Weights
 pub mod CompleteMessages
@@ -11,4 +13,8 @@ pub mod OneMessage
 pub mod Readable
 pub mod Handed
 pub mod Closed
+pub mod CostSums
+pub mod GapCounts
+pub mod StreamCosts
+pub mod HeldBound
 mod Examples

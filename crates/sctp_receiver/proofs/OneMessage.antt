@@ -1,5 +1,5 @@
 -- The fragments that are held as one message are of one message.
-use Rattle.std.proofs.Common.{◌≡◌, ℕ, zero, suc, ◌+◌, ◌-◌, ◌<◌, ◌≤◌, Bool, true, false, List, [], ◌∷◌, ◌++◌, length, take, drop, Option, Some, None, refl, ap, sym, ◌∙◌, arith, get_or}
+use Rattle.std.proofs.Common.{◌≡◌, ℕ, zero, suc, ◌+◌, ◌-◌, ◌<◌, ◌≤◌, Bool, true, false, List, [], ◌∷◌, ◌++◌, map, length, take, drop, Option, Some, None, refl, ap, sym, ◌∙◌, arith, get_or}
 use Rattle.std.specs.Prelude.{if◌then◌else◌, not, ◌&&◌, ◌==◌}
 use Rattle.std.specs.List.{list_all, list_any, filter}
 use Rattle.std.proofs.lemmas.Bool.{eq-eqb}
@@ -15,6 +15,8 @@ use Rattle.sctp_serial.specs.DataChunks.{chunk_before, has_tsn, is_on}
 use Rattle.sctp_serial.specs.Runs.{IsRun, IsEarliestRun}
 use Rattle.sctp_reassembly.specs.reassembly_queue.Fragments.{has_ssn, with_chunk, new_set, sets_with, set_before}
 use Rattle.sctp_reassembly.specs.reassembly_queue.ReassemblyQueue.{Reassembly, ReassemblyState, set_of_run, TakesRun, BecomesComplete, is_readable, front_readable, without_first, after_read, message_among, message_read, rest_among, rest_read, is_passed, held_after_ordered_skip, held_after_unordered_skip}
+use Rattle.sctp_reassembly.specs.reassembly_queue.Resets.{is_old_message, rest_past, is_some_left, of_new_use, held_after_reset}
+use Rattle.sctp_reassembly.specs.reassembly_queue.Skips.{cannot_complete, held_after_incomplete_skip}
 use Rattle.sctp_receiver.specs.TsnFilter.{mark}
 use Rattle.sctp_receiver.specs.Inbound.{Pushes, PushesAs}
 use Rattle.sctp_receiver.specs.ReceiverRuns.{is_like, none_ends_before, is_one_message}
@@ -291,3 +293,25 @@ pub unassembled-unmixed : (si tsn : ℕ) (q : Reassembly) → is_unmixed si q �
 unassembled-unmixed si tsn q h =
     let u = parts si q h in
     and _ _ u.ordered (and _ _ u.unordered (later (is_unordered_part si) (λ x. at_or_before x.tsn tsn) q.unassembled u.unassembled))
+
+pub incomplete-unmixed : (si tsn : ℕ) (q : Reassembly) → is_unmixed si q ≡ true → is_unmixed si (held_after_incomplete_skip tsn q) ≡ true
+incomplete-unmixed si tsn q h =
+    let u = parts si q h in
+    and _ _ (those (is_ordered_set si) (λ set. not (cannot_complete tsn set)) q.ordered u.ordered) (and _ _ u.unordered u.unassembled)
+
+-- ## A stream is reset
+
+rests-ordered : (si last : ℕ) (sets : List ChunkSet) → list_all (is_ordered_set si) sets ≡ true → list_all (is_ordered_set si) (map (rest_past last) sets) ≡ true
+rests-ordered si last [] all = refl
+rests-ordered si last (s ∷ sets) all =
+    let h = both (is_ordered_set si s) (list_all (is_ordered_set si) sets) all in
+    and _ _ (those (is_ordered_part si s.ssn) (λ c. not (at_or_before c.tsn last)) s.chunks h.0) (rests-ordered si last sets h.1)
+
+pub reset-unmixed : (si last : ℕ) (q : Reassembly) → is_unmixed si q ≡ true → is_unmixed si (held_after_reset last q) ≡ true
+reset-unmixed si last q h =
+    let u = parts si q h in
+    let left : list_all (is_ordered_set si) (of_new_use last q.ordered) ≡ true = those (is_ordered_set si) (λ s. is_some_left s.chunks) (map (rest_past last) q.ordered) (rests-ordered si last q.ordered u.ordered) in
+    let messages : list_all is_message q.ordered ≡ true = all-by (is_ordered_set si) is_message (λ s t. ordered-message si s.ssn s.chunks t) q.ordered u.ordered in
+    let moved : list_all is_message (q.unordered ++ filter (is_old_message last) q.ordered) ≡ true =
+    list_all-append is_message q.unordered (filter (is_old_message last) q.ordered) ∙ and _ _ u.unordered (those is_message (is_old_message last) q.ordered messages) in
+    and _ _ left (and _ _ moved u.unassembled)

@@ -1,6 +1,7 @@
 -- What a receiver refuses, by the places of its streams and by its TSNs.
 use Rattle.std.proofs.Common.{◌≡◌, ℕ, ◌<◌, ◌≤◌, ◌^◌, true, false, List, Option, Some, None, refl, ap, sym, ◌∙◌, inl, inr, arith}
 use Rattle.std.specs.Prelude.{◌==◌, ◌||◌, ◌&&◌, not, if◌then◌else◌, is_some, MatchOption, slice_index_or}
+use Rattle.std.specs.Option.{option_or}
 use Rattle.std.proofs.lemmas.Bool.Decides.{nat_tests}
 use Rattle.std.proofs.lemmas.List.{get_or_default}
 use Rattle.sctp_list_lemmas.specs.Serial.{distance, comes_before, at_or_before}
@@ -8,17 +9,18 @@ use Rattle.sctp_list_lemmas.proofs.More.{not_both}
 use Rattle.sctp_list_lemmas.proofs.Distances.{comes_before_from, distance_cases}
 use Rattle.sctp_chunks.specs.declared.chunk.chunk_payload_data.ChunkPayloadData.{ChunkPayloadData}
 use Rattle.sctp_receiver.specs.declared.receiver.inbound_streams.InboundStream.{InboundStream}
+use Rattle.sctp_receiver.specs.declared.receiver.limits.Limits.{Limits}
 use Rattle.sctp_receiver.specs.declared.receiver.refusal.ReceiverRefusal.TheVariants.{StreamUnknown, TsnOpposite}
 use Rattle.sctp_stream.specs.Numbers.{IsOnlyPlace, IsAbsent}
 use Rattle.sctp_receiver.specs.Inbound.{number, numbers_of, has_number, new_stream, stream_read}
 use Rattle.sctp_receiver.specs.TsnFilter.{Filter, has_come, is_opposite}
-use Rattle.sctp_receiver.specs.Receiver.{Reception, stream_of, is_open, filter_of, data_refusal, stream_refusal, takes_memory, after_read}
+use Rattle.sctp_receiver.specs.Receiver.{Reception, stream_of, is_open, filter_of, data_refusal, new_refusal, stream_refusal, takes_memory, after_read}
 use Rattle.sctp_receiver.proofs.Inbounds.{stays-changed}
 use Rattle.sctp_stream.proofs.StreamPlaces.{absent-find, inside, found}
 
 -- a receiver as its parts say
-abbrev pub reception_in : List InboundStream → Filter → ℕ → Reception
-reception_in streams f max = record { streams = streams; cumulative_tsn = f.cumulative_tsn; beyond = f.beyond; duplicates = f.duplicates; max_message_size = max }
+abbrev pub reception_in : List InboundStream → Filter → ℕ → Option Limits → Reception
+reception_in streams f max limits = record { streams = streams; cumulative_tsn = f.cumulative_tsn; beyond = f.beyond; duplicates = f.duplicates; max_message_size = max; limits = limits }
 
 module _ (r : Reception) (s : ℕ) where
   pub closed : IsAbsent s (numbers_of r.streams) → stream_of s r ≡ None
@@ -38,10 +40,11 @@ pub read-numbers : (s : ℕ) (r : Reception) → numbers_of (after_read s r).str
 read-numbers s r = stays-changed number stream_read (λ l. refl) (has_number s) r.streams
 
 -- a chunk of a stream that is not open
-pub unknown : (c : ChunkPayloadData) (r : Reception) → has_come c.tsn (filter_of r) ≡ false → is_opposite c.tsn (filter_of r) ≡ false → stream_of c.stream_identifier r ≡ None → data_refusal c r ≡ Some StreamUnknown
-unknown c r fresh near closed =
-    ap (λ b. if b then None else (if is_opposite c.tsn (filter_of r) then Some TsnOpposite else stream_refusal c (stream_of c.stream_identifier r))) fresh
-    ∙ ap (λ b. if b then Some TsnOpposite else stream_refusal c (stream_of c.stream_identifier r)) near
+pub unknown : (c : ChunkPayloadData) (r : Reception) → has_come c.tsn (filter_of r) ≡ false → is_opposite c.tsn (filter_of r) ≡ false → new_refusal c.tsn r ≡ None → stream_of c.stream_identifier r ≡ None → data_refusal c r ≡ Some StreamUnknown
+unknown c r fresh near within closed =
+    ap (λ b. if b then None else (if is_opposite c.tsn (filter_of r) then Some TsnOpposite else option_or (new_refusal c.tsn r) (stream_refusal c (stream_of c.stream_identifier r)))) fresh
+    ∙ ap (λ b. if b then Some TsnOpposite else option_or (new_refusal c.tsn r) (stream_refusal c (stream_of c.stream_identifier r))) near
+    ∙ ap (λ o. option_or o (stream_refusal c (stream_of c.stream_identifier r))) within
     ∙ ap (stream_refusal c) closed
 
 pub wanted : (c : ChunkPayloadData) (r : Reception) → has_come c.tsn (filter_of r) ≡ false → is_opposite c.tsn (filter_of r) ≡ false → is_open c.stream_identifier r ≡ true → takes_memory c r ≡ true

@@ -126,11 +126,11 @@ moved c (t ∷ ts) lt h =
 -- ## A skip
 
 -- seen from a later base, at or before it is what is not farther
-before-it : (c n t : ℕ) → c < 2 ^ 32 → n < 2 ^ 32 → t < 2 ^ 32 → distance c n < 2 ^ 31 → distance c t ≤ distance c n → at_or_before t n ≡ true
+pub before-it : (c n t : ℕ) → c < 2 ^ 32 → n < 2 ^ 32 → t < 2 ^ 32 → distance c n < 2 ^ 31 → distance c t ≤ distance c n → at_or_before t n ≡ true
 unfolding at_or_before
 before-it c n t hc hn ht near le = let e = distance_rest c t n hc ht hn le in grind (arith, nat_tests)
 
-behind-it : (c n t : ℕ) → c < 2 ^ 32 → n < 2 ^ 32 → t < 2 ^ 32 → distance c t < 2 ^ 31 → distance c n < distance c t → at_or_before t n ≡ false
+pub behind-it : (c n t : ℕ) → c < 2 ^ 32 → n < 2 ^ 32 → t < 2 ^ 32 → distance c t < 2 ^ 31 → distance c n < distance c t → at_or_before t n ≡ false
 unfolding at_or_before
 behind-it c n t hc hn ht near lt = let e = distance_back c t n hc ht hn lt in grind (arith, nat_tests)
 

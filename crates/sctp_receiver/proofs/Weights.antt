@@ -12,6 +12,9 @@ use Rattle.sctp_chunks.specs.ChunkSet.{ChunkSet}
 use Rattle.sctp_serial.specs.DataChunks.{has_tsn, chunk_before}
 use Rattle.sctp_reassembly.specs.reassembly_queue.Fragments.{has_ssn, with_chunk, new_set, sets_with, set_before}
 use Rattle.sctp_reassembly.specs.reassembly_queue.ReassemblyQueue.{Reassembly, ReassemblyState, held_after_ordered_push, set_of_run, TakesRun, BecomesComplete, is_readable, front_readable, without_first, after_read, message_among, message_read, rest_among, rest_read, is_passed, after_ordered_skip, after_unordered_skip}
+use Rattle.sctp_reassembly.specs.reassembly_queue.Resets.{is_old_message, after_reset}
+use Rattle.sctp_reassembly.specs.reassembly_queue.Skips.{cannot_complete, after_incomplete_skip}
+use Rattle.sctp_reassembly.proofs.lemmas.reassembly_queue.Resets.{reset_weight}
 use Rattle.sctp_receiver.specs.Inbound.{Pushes, PushesAs}
 
 module _ (w : ChunkPayloadData → ℕ) where
@@ -122,7 +125,7 @@ module _ (w : ChunkPayloadData → ℕ) where
 
   -- ## A FORWARD-TSN comes
 
-  fewer : {A : Type 0} (f : A → ℕ) (p : A → Bool) (xs : List A) → sum_by f (filter p xs) ≤ sum_by f xs
+  pub fewer : {A : Type 0} (f : A → ℕ) (p : A → Bool) (xs : List A) → sum_by f (filter p xs) ≤ sum_by f xs
   fewer f p [] = omega arith
   fewer f p (x ∷ xs) = by (p x) (fewer f p xs)
     where
@@ -143,3 +146,14 @@ module _ (w : ChunkPayloadData → ℕ) where
 
   pub unassembled : (tsn : ℕ) (q : ReassemblyState) → weight (after_unordered_skip tsn q).held ≤ weight q.held
   unassembled tsn q = let h = later w (λ x. at_or_before x.tsn tsn) q.held.unassembled in omega arith
+
+  pub incomplete : (tsn : ℕ) (q : ReassemblyState) → weight (after_incomplete_skip tsn q).held ≤ weight q.held
+  incomplete tsn q = let h = fewer set_weight (λ set. not (cannot_complete tsn set)) q.held.ordered in omega arith
+
+  -- ## A stream is reset
+
+  pub reset : (last : ℕ) (q : ReassemblyState) → weight (after_reset last q).held ≤ weight q.held
+  reset last q =
+      let h = reset_weight last w q.held.ordered in
+      let e = sum_by-append set_weight q.held.unordered (filter (is_old_message last) q.held.ordered) in
+      omega arith

@@ -1,6 +1,7 @@
 -- The receiving half of a link as callers see it (RFC 4960 6; RFC 3758 3.6).
 use Rattle.std.specs.Prelude.{◌≡◌, ◌⊎◌, ℕ, Bool, false, not, ◌&&◌, ◌||◌, if◌then◌else◌, ◌-◌, ◌/◌, min, List, [], ◌∷◌, ◌++◌, length, map, take, drop, slice_get, Option, Some, None, is_some}
 use Rattle.std.specs.List.{find, filter}
+use Rattle.std.specs.Option.{option_or}
 use Rattle.sctp_list_lemmas.specs.Lists.{change_where}
 use Rattle.sctp_list_lemmas.specs.Serial.{at_or_before}
 use Rattle.sctp_chunks.specs.declared.chunk.chunk_payload_data.ChunkPayloadData.{ChunkPayloadData}
@@ -9,6 +10,7 @@ use Rattle.sctp_chunks.specs.ForwardTsn.{ForwardTsn}
 use Rattle.sctp_chunks.specs.SelectiveAck.{Sack}
 use Rattle.sctp_reassembly.specs.reassembly_queue.ReassemblyQueue.{ReassemblyState, is_too_large, message_read}
 use Rattle.sctp_receiver.specs.declared.receiver.inbound_streams.InboundStream.{InboundStream}
+use Rattle.sctp_receiver.specs.declared.receiver.limits.Limits.{Limits}
 use Rattle.sctp_receiver.specs.declared.receiver.refusal.ReceiverRefusal.{ReceiverRefusal}
 use Rattle.sctp_receiver.specs.declared.receiver.refusal.ReceiverRefusal.TheVariants.{StreamUnknown, TsnOpposite, MessageTooLarge, OutOfMemory}
 use Rattle.sctp_receiver.specs.declared.receiver.arrival.Arrival.{Arrival}
@@ -16,27 +18,30 @@ use Rattle.sctp_receiver.specs.declared.receiver.arrival.Arrival.TheVariants.{Ne
 use Rattle.sctp_receiver.specs.declared.receiver.arrival.Forwarded.{Forwarded}
 use Rattle.sctp_receiver.specs.declared.receiver.arrival.Forwarded.TheVariants.{Skipped, Stale}
 use Rattle.sctp_receiver.specs.Inbound.{number, has_number, new_stream, with_queue, Pushes, stream_read, named_forwarded, unassembled_forwarded}
+use Rattle.sctp_receiver.specs.Limits.{refusal_by, window_left}
 use Rattle.sctp_receiver.specs.TsnFilter.{Filter, has_come, is_opposite, with_tsn, with_duplicate, skipped_to, gap_ack_blocks}
 use Rattle.sctp_serial.specs.DataChunks.{preceding_tsn}
 
 -- the open streams in the order in which they were opened; the cumulative TSN, the TSNs that came beyond it, and those that
--- came again since the last SACK; and how long a message may be
+-- came again since the last SACK; how long a message may be, and the limits of what is taken, if there are any
 pub record Reception : Type 0 where
   pub streams : List InboundStream
   pub cumulative_tsn : ℕ
   pub beyond : List ℕ
   pub duplicates : List ℕ
   pub max_message_size : ℕ
+  pub limits : Option Limits
 
 -- nothing came: the first TSN is expected next
-abbrev pub at_first : ℕ → ℕ → Reception
-at_first tsn max =
+abbrev pub at_first : ℕ → ℕ → Option Limits → Reception
+at_first tsn max limits =
     record {
       streams = [];
       cumulative_tsn = preceding_tsn tsn;
       beyond = [];
       duplicates = [];
       max_message_size = max;
+      limits = limits;
     }
 
 -- its TSNs
@@ -70,6 +75,10 @@ close_stream s r = record r { streams = filter (λ l. not (has_number s l)) r.st
 
 -- ## DATA
 
+-- why the limits refuse a new TSN
+abbrev pub new_refusal : ℕ → Reception → Option ReceiverRefusal
+new_refusal tsn r = refusal_by r.limits tsn (filter_of r) r.streams
+
 -- why a stream does not take a chunk
 abbrev pub stream_refusal : ChunkPayloadData → Option InboundStream → Option ReceiverRefusal
 stream_refusal c None = Some StreamUnknown
@@ -80,7 +89,7 @@ abbrev pub data_refusal : ChunkPayloadData → Reception → Option ReceiverRefu
 data_refusal c r =
     if has_come c.tsn (filter_of r) then None
     else (if is_opposite c.tsn (filter_of r) then Some TsnOpposite
-    else stream_refusal c (stream_of c.stream_identifier r))
+    else option_or (new_refusal c.tsn r) (stream_refusal c (stream_of c.stream_identifier r)))
 
 -- a refusal by its reason where there is one, and for memory only where there is none
 abbrev pub IsRefusedFor : Option ReceiverRefusal → ReceiverRefusal → Type 0
@@ -153,7 +162,7 @@ takes_memory c r =
 abbrev pub discard_refusal : ℕ → Reception → Option ReceiverRefusal
 discard_refusal tsn r =
     if has_come tsn (filter_of r) then None
-    else (if is_opposite tsn (filter_of r) then Some TsnOpposite else None)
+    else (if is_opposite tsn (filter_of r) then Some TsnOpposite else new_refusal tsn r)
 
 -- its TSN came, or came again
 abbrev pub after_discard : ℕ → Reception → Reception
@@ -162,6 +171,10 @@ after_discard tsn r =
     else with_filter (with_tsn tsn (filter_of r)) r
 
 -- ## SACK
+
+-- the window to advertise: what is left of it, or the greatest u32
+abbrev pub window : Reception → ℕ
+window r = window_left r.limits r.streams
 
 -- the greatest count of blocks and duplicates in a SACK that fits its length
 abbrev pub max_sack_entries : ℕ

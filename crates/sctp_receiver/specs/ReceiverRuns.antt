@@ -1,13 +1,18 @@
 -- Runs of calls of a receiver, and what they hand out.
-use Rattle.std.specs.Prelude.{◌≡◌, ℕ, ◌≤◌, ◌==◌, Bool, true, false, not, ◌&&◌, if◌then◌else◌, List, [], ◌∷◌, ◌++◌, Option, Some, None}
+use Rattle.std.specs.Prelude.{◌≡◌, ⊤, ℕ, ◌+◌, ◌*◌, ◌^◌, ◌<◌, ◌≤◌, ◌==◌, Bool, true, false, not, ◌&&◌, if◌then◌else◌, List, [], ◌∷◌, ◌++◌, length, All, Option, Some, None}
 use Rattle.std.specs.List.{list_all, sum_by, filter}
 use Rattle.sctp_chunks.specs.declared.chunk.chunk_payload_data.ChunkPayloadData.{ChunkPayloadData}
 use Rattle.sctp_chunks.specs.ChunkSet.{ChunkSet}
 use Rattle.sctp_chunks.specs.ForwardTsn.{ForwardTsn}
 use Rattle.sctp_reassembly.specs.reassembly_queue.Fragments.{is_complete}
+use Rattle.sctp_reassembly.specs.reassembly_queue.ReassemblyQueue.{held_chunks}
 use Rattle.sctp_receiver.specs.declared.receiver.arrival.Arrival.{Arrival}
 use Rattle.sctp_receiver.specs.declared.receiver.arrival.Arrival.TheVariants.{New, Repeat}
-use Rattle.sctp_receiver.specs.Receiver.{Reception, at_first, is_open, open_stream, close_stream, Takes, after_discard, without_duplicates, after_sack_within, message_on, after_read, after_forward}
+use Rattle.sctp_receiver.specs.declared.receiver.limits.Limits.{Limits}
+use Rattle.sctp_receiver.specs.Limits.{cost_of}
+use Rattle.sctp_receiver.specs.Receiver.{Reception, at_first, is_open, open_stream, close_stream, data_refusal, arrival_of, is_told_complete, Takes, discard_refusal, after_discard, forward_refusal, without_duplicates, after_sack_within, message_on, after_read, after_forward}
+use Rattle.sctp_receiver.specs.Resets.{reset_stream, reset_refusal}
+use Rattle.sctp_receiver.specs.Skips.{after_forward_tsn}
 use Rattle.sctp_serial.specs.DataChunks.{is_on}
 
 -- ## One call
@@ -21,7 +26,9 @@ pub data Call : Type 0 where
   reports : Call
   reports_within : ℕ → Call
   reads : ℕ → Call
+  resets : ℕ → ℕ → Call
   forwards : ForwardTsn → Call
+  forwards_by_names : ForwardTsn → Call
 
 -- what it makes of the receiver, as the call ensures it
 abbrev pub Makes : Call → Reception → Reception → Type 0
@@ -32,7 +39,9 @@ Makes (discards tsn) old new = new ≡ after_discard tsn old
 Makes reports old new = new ≡ without_duplicates old
 Makes (reports_within bytes) old new = new ≡ after_sack_within bytes old
 Makes (reads stream) old new = new ≡ after_read stream old
-Makes (forwards f) old new = new ≡ after_forward f old
+Makes (resets stream last) old new = new ≡ reset_stream stream last old
+Makes (forwards f) old new = new ≡ after_forward_tsn f old
+Makes (forwards_by_names f) old new = new ≡ after_forward f old
 
 -- ## A run of calls
 
@@ -56,7 +65,9 @@ accepted_after (discards tsn) cs = cs
 accepted_after reports cs = cs
 accepted_after (reports_within bytes) cs = cs
 accepted_after (reads stream) cs = cs
+accepted_after (resets stream last) cs = cs
 accepted_after (forwards f) cs = cs
+accepted_after (forwards_by_names f) cs = cs
 
 abbrev pub with_message : ℕ → Option ChunkSet → List Message → List Message
 with_message stream None ms = ms
@@ -70,7 +81,9 @@ messages_after (closes stream) r ms = ms
 messages_after (discards tsn) r ms = ms
 messages_after reports r ms = ms
 messages_after (reports_within bytes) r ms = ms
+messages_after (resets stream last) r ms = ms
 messages_after (forwards f) r ms = ms
+messages_after (forwards_by_names f) r ms = ms
 
 -- one call, and calls one after another
 pub record Follows (c : Call) (old new : Stand) : Type 0 where
@@ -82,13 +95,15 @@ abbrev pub RunsTo : Stand → List Call → Stand → Type 0
 RunsTo old [] new = new ≡ old
 RunsTo old (c ∷ cs) new = (mid : Stand) × (Follows c old mid × RunsTo mid cs new)
 
-abbrev pub at_start : ℕ → ℕ → Stand
-at_start tsn max = record { receiver = at_first tsn max; accepted = []; read = [] }
+abbrev pub at_start : ℕ → ℕ → Option Limits → Stand
+at_start tsn max limits =
+    record { receiver = at_first tsn max limits; accepted = []; read = [] }
 
 -- P after each run of calls on a new receiver, whatever the chunks that come
 abbrev pub AfterEachRun : (Stand → Type 0) → Type 0
 AfterEachRun P =
-    (tsn max : ℕ) (calls : List Call) (s : Stand) → RunsTo (at_start tsn max) calls s → P s
+    (tsn max : ℕ) (limits : Option Limits) (calls : List Call) (s : Stand)
+    → RunsTo (at_start tsn max limits) calls s → P s
 
 -- ## The law
 
@@ -133,3 +148,52 @@ abbrev pub WereAccepted : Stand → Type 0
 WereAccepted s =
     (stream : ℕ) (weight : ChunkPayloadData → ℕ) → sum_by weight (fragments_read stream s.read)
     ≤ sum_by weight (filter (is_on stream) s.accepted)
+
+-- ## What is held at most
+
+-- a DATA chunk that is not refused has its answer; its TSN is a u32
+pub record IsAnswered (c : ChunkPayloadData) (a : Arrival) (r : Reception) : Type 0 where
+  pub fits : c.tsn < 2 ^ 32
+  pub accepted : data_refusal c r ≡ None
+  pub answer : a ≡ arrival_of c.tsn (is_told_complete a) r
+
+-- a call is not refused
+abbrev pub IsUnrefused : Call → Reception → Type 0
+IsUnrefused (takes c arrival) r = IsAnswered c arrival r
+IsUnrefused (discards tsn) r = (tsn < 2 ^ 32) × (discard_refusal tsn r ≡ None)
+IsUnrefused (resets stream last) r = reset_refusal stream last r ≡ None
+IsUnrefused (forwards f) r = (f.new_cumulative_tsn < 2 ^ 32) × (forward_refusal f r ≡ None)
+IsUnrefused (forwards_by_names f) r =
+    (f.new_cumulative_tsn < 2 ^ 32) × (forward_refusal f r ≡ None)
+IsUnrefused (opens stream) r = ⊤
+IsUnrefused (closes stream) r = ⊤
+IsUnrefused reports r = ⊤
+IsUnrefused (reports_within bytes) r = ⊤
+IsUnrefused (reads stream) r = ⊤
+
+-- calls one after another, none of which is refused
+abbrev pub RunsUnrefused : Stand → List Call → Stand → Type 0
+RunsUnrefused old [] new = new ≡ old
+RunsUnrefused old (c ∷ cs) new =
+    (mid : Stand) × ((IsUnrefused c old.receiver × Follows c old mid) × RunsUnrefused mid cs new)
+
+-- P after each such run on a new receiver with limits, of which the window is a usize
+abbrev pub AfterEachRunWithin : (Limits → Stand → Type 0) → Type 0
+AfterEachRunWithin P =
+    (tsn max : ℕ) (limits : Limits) (calls : List Call) (s : Stand) → limits.window < 2 ^ 64
+    → RunsUnrefused (at_start tsn max (Some limits)) calls s → P limits s
+
+-- how many chunks are held on all streams
+abbrev pub chunks_held : Reception → ℕ
+chunks_held r = sum_by (λ l. held_chunks l.queue.held) r.streams
+
+-- at 200 a chunk, they cost no more than the window and one chunk for each TSN within reach
+abbrev pub HoldsFewChunks : Limits → Stand → Type 0
+HoldsFewChunks l s = 200 * chunks_held s.receiver ≤ l.window + l.reach * 200
+
+-- where no chunk that was taken has more bytes than this, all that is held costs no more than the window and one such chunk
+-- for each TSN within reach
+abbrev pub CostsLittle : Limits → Stand → Type 0
+CostsLittle l s =
+    (most : ℕ) → All (λ c. length c.user_data ≤ most) s.accepted
+    → sum_by cost_of s.receiver.streams ≤ l.window + l.reach * (most + 200)

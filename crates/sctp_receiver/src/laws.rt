@@ -1,6 +1,6 @@
 //! What holds after every run of calls of a receiver: a law, the contract of a function that does nothing.
 
-ghost use Rattle.sctp_receiver.specs.ReceiverRuns.{AfterEachRun, AreComplete, AreOfOneMessage, WereAccepted};
+ghost use Rattle.sctp_receiver.specs.ReceiverRuns.{AfterEachRun, AfterEachRunWithin, AreComplete, AreOfOneMessage, CostsLittle, HoldsFewChunks, WereAccepted};
 
 /// Whatever chunks come to a receiver, and whichever streams are opened and closed, each message that it hands out is complete: its
 /// fragments have consecutive TSNs, the first begins and the last ends. They are alike: all unordered, or all ordered with one stream
@@ -12,4 +12,12 @@ pub fn messages_are_of_accepted_chunks()
     ensures complete { AfterEachRun AreComplete }
     ensures alike { AfterEachRun AreOfOneMessage }
     ensures accepted { AfterEachRun WereAccepted }
+{}
+
+/// Whatever chunks come to a receiver with limits, and whichever streams are opened, closed and read, what it holds stays within them:
+/// at 200 bytes a chunk, the chunks that are held count for no more than the window and one chunk for each TSN within reach; and with
+/// their bytes too, where each chunk that was taken has at most so many.
+pub fn what_is_held_is_bounded()
+    ensures chunks { AfterEachRunWithin HoldsFewChunks }
+    ensures bytes { AfterEachRunWithin CostsLittle }
 {}

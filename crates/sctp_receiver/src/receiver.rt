@@ -1,7 +1,9 @@
 //! The receiving half of a link (RFC 4960 6.2; RFC 3758 3.6).
 
-ghost use Rattle.std.specs.Prelude.{◌≡◌, ◌==◌, ◌⊎◌, true, false, not, None, Some, OnOk, OnErr, IfOk, IfErr, IsOk, IsOkUnless, option_map, option_copied, is_some, map, min, length, ◌-◌, ◌^◌, if◌then◌else◌};
-ghost use Rattle.sctp_receiver.specs.Inbound.{named_forwarded};
+ghost use Rattle.std.specs.Prelude.{◌≡◌, ◌==◌, ◌⊎◌, true, false, not, None, Some, OnOk, OnErr, IfOk, IfErr, IsOk, IsOkUnless, option_map, option_copied, is_some, map, min, length, slice_index_or, ◌<◌, ◌-◌, ◌^◌, if◌then◌else◌};
+ghost use Rattle.sctp_chunks.specs.declared.chunk.chunk_forward_tsn.ChunkForwardTsnStream.{ChunkForwardTsnStream};
+ghost use Rattle.sctp_list_lemmas.specs.Lists.{change_where};
+ghost use Rattle.sctp_receiver.specs.Inbound.{named_forwarded, has_number, ssn_forwarded};
 ghost use Rattle.sctp_receiver.specs.declared.receiver.refusal.ReceiverRefusal.TheVariants.{StreamOpen, StreamUnknown, OutOfMemory};
 
 pub mod arrival;
@@ -9,12 +11,15 @@ pub mod data_each;
 pub mod inbound_streams;
 pub mod limits;
 pub mod refusal;
+pub mod resetting;
 pub mod sack_out;
 pub mod saved;
+pub mod skipping;
 pub mod tsn_filter;
 
 use self::arrival::{Arrival, Forwarded};
 use self::inbound_streams::{InboundStream, InboundStreams};
+use self::limits::Limits;
 use self::refusal::ReceiverRefusal;
 use self::tsn_filter::TsnFilter;
 use sctp_base::util::sna32lte;
@@ -37,6 +42,7 @@ use std::marker::Model;
 pub struct Receiver {
     alloc: Global,
     max_message_size: u32,
+    limits: Option<Limits>,
     streams: InboundStreams,
     filter: TsnFilter,
 }
@@ -52,6 +58,7 @@ impl Model for Receiver {
       beyond = r.filter.beyond;
       duplicates = r.filter.duplicates;
       max_message_size = r.max_message_size;
+      limits = r.limits;
     } };
 }
 
@@ -63,13 +70,15 @@ impl Receiver {
     ghost use Rattle.sctp_receiver.specs.Receiver.{at_first, stream_of, is_open, open_stream, close_stream, data_refusal, IsRefusedFor, takes_memory, arrival_of, is_told_complete, Takes, discard_refusal, after_discard, message_on, readable_streams, after_read, forward_refusal, forwarded_of, after_forward};
 
     /// A receiver with no stream, to which nothing came. The first TSN is expected next, and a message may have
-    /// `max_message_size` bytes. It takes no memory.
-    pub fn new(alloc: Global, first_tsn: u32, max_message_size: u32) -> Self
-        ensures { result ≡ at_first first_tsn max_message_size }
+    /// `max_message_size` bytes. The limits stay as they are handed in; where there are none, nothing is refused for them. It takes no
+    /// memory.
+    pub fn new(alloc: Global, first_tsn: u32, max_message_size: u32, limits: Option<Limits>) -> Self
+        ensures { result ≡ at_first first_tsn max_message_size limits }
     {
         Receiver {
             alloc,
             max_message_size,
+            limits,
             streams: InboundStreams::new(alloc),
             filter: TsnFilter::new(alloc, first_tsn),
         }
@@ -100,9 +109,12 @@ impl Receiver {
 
     /// Takes a DATA chunk (RFC 4960 6.2): `New`, where its TSN is new, with whether a message of its stream became complete with it;
     /// and `Repeat`, where it came before or a FORWARD-TSN skipped it: then the next SACK reports it as a duplicate. The refusals, in
-    /// the order in which they are looked for:
+    /// the order in which they are looked for, of a TSN that did not come:
     ///
     /// - `TsnOpposite`, where the TSN is neither before nor after the cumulative one;
+    /// - `TsnTooFar`, where it lies more than the `reach` of the limits past the cumulative one;
+    /// - `WindowFull`, where it is past the highest TSN that came, and `held_bytes` is no less than the `window` of the limits: a chunk
+    ///   that fills a gap is never refused so;
     /// - `StreamUnknown`, where its stream is not open;
     /// - `MessageTooLarge`, where its message would be longer with it than a message may be;
     /// - `OutOfMemory`, where memory ran out: never in the place of another one.
@@ -125,6 +137,9 @@ impl Receiver {
         if self.filter.is_opposite(chunk.tsn) {
             return Err(ReceiverRefusal::TsnOpposite);
         }
+        if let Some(refusal) = self.new_refusal(chunk.tsn) {
+            return Err(refusal);
+        }
         let Some(place) = self.streams.place_of(chunk.stream_identifier) else {
             return Err(ReceiverRefusal::StreamUnknown);
         };
@@ -138,8 +153,8 @@ impl Receiver {
 
     /// Takes the TSN of a DATA chunk that is dropped, as one of a stream that is not open, or of a message that is too long (RFC 4960
     /// 6.5): it counts as come, and is acknowledged. `New`, with no message complete, where it is new, and `Repeat`, where it
-    /// came before: then the next SACK reports it as a duplicate. Refuses with `TsnOpposite`, where the TSN is neither before
-    /// nor after the cumulative one, and else only for memory. The receiver is as it was then.
+    /// came before: then the next SACK reports it as a duplicate. The refusals are those of `data`, but of the stream: `TsnOpposite`,
+    /// `TsnTooFar`, `WindowFull`, and `OutOfMemory` in the place of none. The receiver is as it was then.
     pub fn discard(&mut self, tsn: u32) -> Result<Arrival, ReceiverRefusal>
         ensures answer { IfOk result (λ arrival. arrival ≡ arrival_of tsn false self.old) }
         ensures ok { OnOk result (self.new ≡ after_discard tsn self.old) }
@@ -153,6 +168,9 @@ impl Receiver {
         }
         if self.filter.is_opposite(tsn) {
             return Err(ReceiverRefusal::TsnOpposite);
+        }
+        if let Some(refusal) = self.new_refusal(tsn) {
+            return Err(refusal);
         }
         self.filter.reserve_for(tsn)?;
         self.filter.accept(tsn);
@@ -215,10 +233,14 @@ impl Receiver {
         }
     }
 
-    /// Takes a FORWARD-TSN (RFC 3758 3.6): `Skipped`, where its TSN comes after the cumulative one, and `Stale`, where
-    /// it does not; then nothing changes. What it names on a stream that is not open is passed over. Refuses with
-    /// `TsnOpposite`, where its TSN is neither before nor after the cumulative one. It takes no memory.
-    pub fn forward_tsn(&mut self, chunk: &ChunkForwardTsn) -> Result<Forwarded, ReceiverRefusal>
+    /// Takes a FORWARD-TSN by what it names alone: `Skipped`, where its TSN comes after the cumulative one, and `Stale`, where
+    /// it does not; then nothing changes. What it names on a stream that is not open is passed over. An incomplete ordered message that
+    /// no name covers stays, and those behind it wait, though none of its chunks may come any more: `forward_tsn` discards it too.
+    /// Refuses with `TsnOpposite`, where its TSN is neither before nor after the cumulative one. It takes no memory.
+    pub fn forward_tsn_by_names(
+        &mut self,
+        chunk: &ChunkForwardTsn,
+    ) -> Result<Forwarded, ReceiverRefusal>
         ensures answer { IfOk result (λ forwarded. forwarded
             ≡ forwarded_of (forward_tsn_of chunk.now) self.old) }
         ensures ok { OnOk result (self.new ≡ after_forward (forward_tsn_of chunk.now) self.old) }
@@ -278,11 +300,38 @@ impl Receiver {
     }
 }
 
-// Discards what a FORWARD-TSN names, one name after another.
+// Discards what a FORWARD-TSN names, one name after another. A name that repeats the one before it changes nothing, and costs no walk.
 fn forward_named(streams: &mut InboundStreams, names: &[ChunkForwardTsnStream])
     ensures { streams.new ≡ named_forwarded names.now streams.old }
 {
-    for name in names {
-        streams.forward_ordered(name.identifier, name.sequence);
+    for place in 0..names.len() {
+        if is_repeat(names, place) {
+            continue;
+        }
+        forward_name(streams, names[place].identifier, names[place].sequence);
     }
+}
+
+// Whether a name repeats the one before it.
+fn is_repeat(names: &[ChunkForwardTsnStream], place: usize) -> bool
+    requires { place < length names.now }
+    ensures { result ≡ true → (0 < place) × ((d : ChunkForwardTsnStream)
+        → slice_index_or names.now (place - 1) d ≡ slice_index_or names.now place d) }
+{
+    if place == 0 {
+        return false;
+    }
+    let before = &names[place - 1];
+    let name = &names[place];
+    before.identifier == name.identifier && before.sequence == name.sequence
+}
+
+// Discards what one name says. Another time it would change nothing.
+fn forward_name(streams: &mut InboundStreams, stream: u16, ssn: u16)
+    ensures value { streams.new
+        ≡ change_where (has_number stream) (ssn_forwarded ssn) streams.old }
+    ensures again { change_where (has_number stream) (ssn_forwarded ssn) streams.new
+        ≡ streams.new }
+{
+    streams.forward_ordered(stream, ssn);
 }

@@ -68,7 +68,7 @@ fn three_are_open(receiver: &Receiver) -> bool {
 #[test]
 fn complete(rt: HostRuntime) {
     let alloc = rt.alloc();
-    let mut receiver = Receiver::new(alloc, 1, 100);
+    let mut receiver = Receiver::new(alloc, 1, 100, None);
     let well = two_complete(alloc, &mut receiver)
         && are_readable(&receiver, &[1, 2])
         && three_are_open(&receiver);
@@ -105,7 +105,7 @@ fn the_next_is_taken(alloc: Global, receiver: &mut Receiver) -> bool {
 #[test]
 fn discarded(rt: HostRuntime) {
     let alloc = rt.alloc();
-    let mut receiver = Receiver::new(alloc, 1, 100);
+    let mut receiver = Receiver::new(alloc, 1, 100, None);
     let well = two_are_dropped(alloc, &mut receiver);
     assert!(rt; well && the_next_is_taken(alloc, &mut receiver));
 }
@@ -124,7 +124,7 @@ fn fits(receiver: &mut Receiver, packet: usize, blocks: usize, duplicates: usize
     if packet < 28 {
         return false;
     }
-    match acknowledge(receiver, 1000, packet) {
+    match acknowledge(receiver, packet) {
         Ok(sack) => {
             sack.gap_ack_blocks.len() == blocks && sack.duplicate_tsn.len() == duplicates
         }
@@ -136,7 +136,7 @@ fn fits(receiver: &mut Receiver, packet: usize, blocks: usize, duplicates: usize
 #[test]
 fn short_sacks(rt: HostRuntime) {
     let alloc = rt.alloc();
-    let mut receiver = Receiver::new(alloc, 1, 100);
+    let mut receiver = Receiver::new(alloc, 1, 100, None);
     let well = gaps_and_repeats(alloc, &mut receiver)
         && fits(&mut receiver, 28, 0, 0)
         && fits(&mut receiver, 36, 2, 0)

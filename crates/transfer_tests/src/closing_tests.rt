@@ -180,7 +180,7 @@ fn the_middle_is_new(alloc: Global, receiver: &mut Receiver) -> bool {
 #[test]
 fn receiver_closes_the_middle(rt: HostRuntime) {
     let alloc = rt.alloc();
-    let mut receiver = Receiver::new(alloc, 1, 100);
+    let mut receiver = Receiver::new(alloc, 1, 100, None);
     let well = three_come(alloc, &mut receiver)
         && the_middle_is_closed(alloc, &mut receiver)
         && the_others_are_read(alloc, &mut receiver);

@@ -4,6 +4,7 @@ use crate::host::{Host, sends};
 use crate::sending::{highest_acked, send_again};
 use sctp_chunks::chunk::chunk_payload_data::ReliabilityType;
 use sctp_chunks::chunk::chunk_selective_ack::{ChunkSelectiveAck, GapAckBlock};
+use sctp_sender::sender::ExpiredMessage;
 use sctp_sender::sender::flight::Released;
 use sctp_sender::sender::flight::late::AbandonedMessage;
 use sctp_sender::sender::refusal::SenderRefusal;
@@ -74,6 +75,7 @@ fn is_told(alloc: Global, a: &mut Host) -> bool {
         since: Some(0),
         message: 0,
         is_message_acked: false,
+        is_low: false,
     };
     match sack(alloc, u32::MAX - 1, 2, 3) {
         Some(sack) => match a.sender.acked(&sack) {
@@ -184,6 +186,7 @@ fn is_worn(a: &mut Host) -> bool {
         stream: 1,
         number: 0,
         bytes: 2,
+        is_low: true,
     }];
     a.sender.retransmit_all();
     let well = is_abandoned(a, &[]) && is_sent_again(a, 5, 0) && is_abandoned(a, &[]);
@@ -284,4 +287,72 @@ fn settings(rt: HostRuntime) {
     let mut a = Host::new(alloc, 0, 7);
     let well = is_cut_anew(alloc, &mut a);
     assert!(rt; well && is_low_at(&mut a));
+}
+
+// Whether a SACK's answer has these chunks, each with its TSN, and whether the amount fell to the threshold with it.
+fn tells_low(a: &mut Host, sack: Option<ChunkSelectiveAck>, due: &[(u32, bool)]) -> bool {
+    let Some(sack) = sack else {
+        return false;
+    };
+    let Ok(released) = a.sender.acked(&sack) else {
+        return false;
+    };
+    let mut well = released.len() == due.len();
+    for (one, it) in released.iter().zip(due) {
+        well = well && one.tsn == it.0 && one.is_low == it.1;
+    }
+    well
+}
+
+// Of nine bytes three leave, two, then the others.
+fn is_low_once(alloc: Global, a: &mut Host) -> bool {
+    a.sender.set_buffered_amount_low_threshold(1, 4).is_ok()
+        && tells_low(a, sack(alloc, u32::MAX - 1, 2, 3), &[(0, false), (1, true)])
+        && tells_low(a, sack(alloc, 2, 1, 0), &[(u32::MAX, false), (2, false)])
+        && a.sender.buffered_amount(1) == Some(0)
+}
+
+/// With one chunk the buffered amount falls to its low threshold, and the ones behind it say no more.
+#[test]
+fn acknowledged_down_to_the_threshold(rt: HostRuntime) {
+    let alloc = rt.alloc();
+    let mut a = Host::new(alloc, u32::MAX, 7);
+    let mut b = Host::new(alloc, 7, u32::MAX);
+    let well = four_in_flight(alloc, &mut a, &mut b);
+    assert!(rt; well && is_low_once(alloc, &mut a));
+}
+
+fn is_low_abandoned(a: &mut Host) -> bool {
+    let due = |bytes: usize, is_low: bool| AbandonedMessage {
+        stream: 1,
+        number: 0,
+        bytes,
+        is_low,
+    };
+    a.sender.set_buffered_amount_low_threshold(1, 1).is_ok()
+        && a.sender.abandon(0) == Ok(due(8, true))
+        && a.sender.abandon(1) == Ok(due(0, false))
+}
+
+// A message of two bytes expires unsent behind the byte that is left.
+fn is_low_expired(alloc: Global, a: &mut Host) -> bool {
+    let timed = a.sender.set_mode(1, false, ReliabilityType::Timed, 1);
+    let well = timed.is_ok() && a.writes(alloc, b"jk");
+    a.sender.start(0);
+    let due = ExpiredMessage {
+        stream: 1,
+        bytes: 2,
+        is_low: true,
+    };
+    well && a.sender.expire(1_000_000) == Some(due) && a.sender.buffered_amount(1) == Some(1)
+}
+
+/// The buffered amount falls to its low threshold with a message that is abandoned, and with one that expires.
+#[test]
+fn abandoned_down_to_the_threshold(rt: HostRuntime) {
+    let alloc = rt.alloc();
+    let mut a = Host::new(alloc, u32::MAX, 7);
+    let mut b = Host::new(alloc, 7, u32::MAX);
+    let well = four_in_flight(alloc, &mut a, &mut b) && is_low_abandoned(&mut a);
+    assert!(rt; well && is_low_expired(alloc, &mut a));
 }

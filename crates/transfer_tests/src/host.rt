@@ -33,7 +33,7 @@ impl Host {
     pub fn new(alloc: Global, first_tsn: u32, peer_tsn: u32) -> Host {
         Host {
             sender: Sender::new(alloc, first_tsn, 3, 100),
-            receiver: Receiver::new(alloc, peer_tsn, 100),
+            receiver: Receiver::new(alloc, peer_tsn, 100, None),
         }
     }
 
@@ -122,7 +122,7 @@ pub(crate) fn sends_again(alloc: Global, from: &mut Host, to: &mut Host) -> bool
 
 /// Acknowledges what came; whether the SACK is taken.
 pub(crate) fn acknowledges(alloc: Global, from: &mut Host, to: &mut Host) -> bool {
-    match from.receiver.sack(1000) {
+    match from.receiver.sack_with(1000) {
         Ok(sack) => arrives(alloc, to, ChunkKind::SelectiveAck(sack)),
         Err(_) => false,
     }

@@ -10,6 +10,8 @@ mod flight_tests;
 #[cfg(test)]
 mod host;
 #[cfg(test)]
+mod limits_tests;
+#[cfg(test)]
 mod part;
 #[cfg(test)]
 mod receiver_tests;
@@ -19,3 +21,5 @@ mod saving_tests;
 #[cfg(test)]
 mod sender_tests;
 pub mod sending;
+#[cfg(test)]
+mod skipping_tests;

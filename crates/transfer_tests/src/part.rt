@@ -91,7 +91,7 @@ pub(crate) fn reports(
     blocks: &[(u16, u16)],
     duplicates: usize,
 ) -> bool {
-    match receiver.sack(4660) {
+    match receiver.sack_with(4660) {
         Ok(sack) => {
             let mut same = sack.gap_ack_blocks.len() == blocks.len();
             for (block, ends) in sack.gap_ack_blocks.iter().zip(blocks.iter()) {

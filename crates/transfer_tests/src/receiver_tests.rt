@@ -42,7 +42,7 @@ fn is_as_in_the_rfc(alloc: Global, receiver: &mut Receiver) -> bool {
 #[test]
 fn sack_of_the_rfc(rt: HostRuntime) {
     let alloc = rt.alloc();
-    let mut receiver = Receiver::new(alloc, 10, 100);
+    let mut receiver = Receiver::new(alloc, 10, 100, None);
     assert!(rt; is_as_in_the_rfc(alloc, &mut receiver));
 }
 
@@ -66,7 +66,7 @@ fn the_first_completes(alloc: Global, receiver: &mut Receiver) -> bool {
 #[test]
 fn fragments_come_backwards(rt: HostRuntime) {
     let alloc = rt.alloc();
-    let mut receiver = Receiver::new(alloc, u32::MAX, 100);
+    let mut receiver = Receiver::new(alloc, u32::MAX, 100, None);
     let well = two_wait(alloc, &mut receiver);
     assert!(rt; well && the_first_completes(alloc, &mut receiver));
 }
@@ -106,7 +106,7 @@ fn the_next_are_taken(alloc: Global, receiver: &mut Receiver) -> bool {
 #[test]
 fn forged_chunks(rt: HostRuntime) {
     let alloc = rt.alloc();
-    let mut receiver = Receiver::new(alloc, 1, 2);
+    let mut receiver = Receiver::new(alloc, 1, 2, None);
     let judged = streams_are_judged(alloc, &mut receiver)
         && chunks_are_judged(alloc, &mut receiver);
     assert!(rt; judged && the_next_are_taken(alloc, &mut receiver));
@@ -165,7 +165,7 @@ fn the_message_is_discarded(alloc: Global, receiver: &mut Receiver) -> bool {
 #[test]
 fn skips(rt: HostRuntime) {
     let alloc = rt.alloc();
-    let mut receiver = Receiver::new(alloc, 1, 100);
+    let mut receiver = Receiver::new(alloc, 1, 100, None);
     let well = first_and_fourth_come(alloc, &mut receiver)
         && skips_are_judged(alloc, &mut receiver);
     assert!(rt; well && the_message_is_discarded(alloc, &mut receiver));
@@ -190,6 +190,6 @@ fn three_are_answered(alloc: Global, receiver: &mut Receiver) -> bool {
 #[test]
 fn caller(rt: HostRuntime) {
     let alloc = rt.alloc();
-    let mut receiver = Receiver::new(alloc, 1, 100);
+    let mut receiver = Receiver::new(alloc, 1, 100, None);
     assert!(rt; three_are_answered(alloc, &mut receiver));
 }

@@ -3,7 +3,7 @@
 ghost use Rattle.std.specs.Prelude.{◌≡◌, ◌+◌, ◌-◌, ◌*◌, ◌≤◌, true, Some, None, OnOk, OnErr, IfOk, IfErr, length};
 ghost use Rattle.sctp_chunks.specs.SelectiveAck.{sack_of};
 ghost use Rattle.sctp_receiver.specs.declared.receiver.refusal.ReceiverRefusal.TheVariants.{OutOfMemory, StreamUnknown};
-ghost use Rattle.sctp_receiver.specs.Receiver.{Takes, after_discard, after_sack_within, arrival_of, data_refusal, sack_within};
+ghost use Rattle.sctp_receiver.specs.Receiver.{Takes, after_discard, after_sack_within, arrival_of, data_refusal, sack_within, window};
 
 use sctp_chunks::chunk::chunk_payload_data::ChunkPayloadData;
 use sctp_chunks::chunk::chunk_selective_ack::ChunkSelectiveAck;
@@ -53,21 +53,21 @@ pub fn take_or_discard(
     }
 }
 
-/// The SACK of what came, for a packet of so many bytes, of which its header takes 12 (RFC 4960 6.2).
+/// The SACK of what came, for a packet of so many bytes, of which its header takes 12 (RFC 4960 6.2). Its credit is what is left of
+/// the receiver's window.
 /// Precondition: the packet has room for a SACK with no blocks.
 pub fn acknowledge(
     receiver: &mut Receiver,
-    credit: u32,
     packet: usize,
 ) -> Result<ChunkSelectiveAck, ReceiverRefusal>
     requires { 28 ≤ packet }
     ensures sack { IfOk result
-        (λ s. sack_of s ≡ sack_within credit (packet - 12) receiver.old) }
+        (λ s. sack_of s ≡ sack_within (window receiver.old) (packet - 12) receiver.old) }
     ensures fits { IfOk result (λ s.
         28 + 4 * (length s.gap_ack_blocks.items + length s.duplicate_tsn.items) ≤ packet) }
     ensures rest { OnOk result (receiver.new ≡ after_sack_within (packet - 12) receiver.old) }
     ensures err { OnErr result (receiver.new ≡ receiver.old) }
     ensures memory { IfErr result (λ e. e ≡ OutOfMemory) }
 {
-    receiver.sack_within(credit, packet - 12)
+    receiver.sack_within(packet - 12)
 }

@@ -46,7 +46,7 @@ fn nine_are_skipped(alloc: Global, receiver: &mut Receiver) -> bool
         new_cumulative_tsn: 9,
         streams: Vec::new(alloc),
     };
-    receiver.forward_tsn(&skip) == Ok(Forwarded::Skipped)
+    receiver.forward_tsn_by_names(&skip) == Ok(Forwarded::Skipped)
 }
 
 // Whether a SACK is made, with which the duplicates are forgotten.
@@ -54,7 +54,7 @@ fn is_acknowledged(receiver: &mut Receiver) -> bool
     ensures numbers { numbers_of receiver.new.streams ≡ numbers_of receiver.old.streams }
     ensures size { receiver.new.max_message_size ≡ receiver.old.max_message_size }
 {
-    receiver.sack(4660).is_ok()
+    receiver.sack_with(4660).is_ok()
 }
 
 // A fragment, a read, a skip and a SACK.
@@ -96,7 +96,7 @@ fn is_as_before(alloc: Global, receiver: &mut Receiver) -> bool {
 #[test]
 fn saved_and_restored(rt: HostRuntime) {
     let alloc = rt.alloc();
-    let mut receiver = Receiver::new(alloc, 1, 100);
+    let mut receiver = Receiver::new(alloc, 1, 100, None);
     let well = some_come(alloc, &mut receiver)
         && is_put_back(alloc, &mut receiver)
         && is_as_before(alloc, &mut receiver);

@@ -151,6 +151,7 @@ fn its_lifetime_ends(a: &mut Host) -> bool {
         stream: 1,
         number: 0,
         bytes: 8,
+        is_low: false,
     }];
     abandons(a, 999_999, &[])
         && abandons(a, 1_000_000, &due)

@@ -10,12 +10,15 @@ ghost use Rattle.sctp_sender.specs.Abandonment.{advanced_ack_point};
 ghost use Rattle.sctp_sender.specs.Late.{after_late};
 ghost use Rattle.sctp_sender.specs.Resending.{is_to_resend};
 ghost use Rattle.sctp_sender.specs.Sender.{after_acked};
+ghost use Rattle.sctp_sender.specs.Thresholds.{fell, tells_low};
+ghost use Rattle.std.specs.List.{list_any};
 ghost use Rattle.sctp_serial.specs.DataChunks.{has_tsn};
 
 use sctp_chunks::chunk::chunk_forward_tsn::ChunkForwardTsn;
 use sctp_chunks::chunk::chunk_payload_data::ChunkPayloadData;
 use sctp_chunks::chunk::chunk_selective_ack::ChunkSelectiveAck;
 use sctp_sender::sender::Sender;
+use sctp_sender::sender::flight::Released;
 use sctp_sender::sender::refusal::SenderRefusal;
 
 /// Gives a SACK to a sender. One that claims what can't be is dropped, and nothing changes. Fails only where memory ran out.
@@ -61,6 +64,30 @@ pub fn highest_acked(
         Some(one) => Ok(Some(one.tsn)),
         None => Ok(None),
     }
+}
+
+/// Gives a SACK to a sender, and answers whether the buffered amount of a stream fell with it from above its low threshold to at most
+/// it: WebRTC tells that by the event bufferedamountlow.
+pub fn is_low_after(
+    sender: &mut Sender,
+    sack: &ChunkSelectiveAck,
+    stream: u16,
+) -> Result<bool, SenderRefusal>
+    ensures taken { OnOk result (sender.new ≡ after_acked (sack_of sack.now) sender.old) }
+    ensures low { IfOk result (λ low. low ≡ fell stream sender.old sender.new) }
+    ensures err { OnErr result (sender.new ≡ sender.old) }
+{
+    let released = sender.acked(sack)?;
+    Ok(tell_low(&released, stream))
+}
+
+// Whether one of the chunks is of the stream and says that the amount fell with it.
+fn tell_low(released: &[Released], stream: u16) -> bool
+    ensures { result ≡ list_any (tells_low stream) released.now }
+{
+    released
+        .iter()
+        .any(|one| one.stream == stream && one.is_low)
 }
 
 /// Sends the first chunk again that is marked for that, and answers it as it is noted in flight then; None where none is.

@@ -147,7 +147,7 @@ impl Halves {
         ensures sack { IfOk result (λ s. sack_of s ≡ sack credit (reception_of self.now)) }
         ensures memory { IsOkUnless result ErrOutOfMemory }
     {
-        let Ok(sack) = self.receiver.make_sack(credit) else {
+        let Ok(sack) = self.receiver.make_sack_with(credit) else {
             return Err(Error::ErrOutOfMemory);
         };
         Ok(sack)
@@ -199,7 +199,7 @@ impl Halves {
         ensures answer { result ≡ forwarded_of (forward_tsn_of chunk.now) (reception_of self.old) }
         ensures rest { self.new ≡ after_forward (forward_tsn_of chunk.now) self.old }
     {
-        match self.receiver.forward_tsn(chunk) {
+        match self.receiver.forward_tsn_by_names(chunk) {
             Ok(forwarded) => forwarded,
             Err(_) => unreachable!(),
         }

@@ -164,13 +164,13 @@ impl Halves {
             return None;
         };
         let unordered = chunk.unordered;
-        let Some((stream, bytes)) = self.sender.expire(now) else {
+        let Some(gone) = self.sender.expire(now) else {
             return None;
         };
         if !unordered {
-            self.record_unsent(stream);
+            self.record_unsent(gone.stream);
         }
-        Some((stream, bytes))
+        Some((gone.stream, gone.bytes))
     }
 
     // Of the ordered messages of a stream there is one less, where it is open.
@@ -201,7 +201,7 @@ impl Halves {
         ensures no_tail { has_tail_at self.old.flight tsn ≡ false → IsOk result }
     {
         match self.sender.abandon(tsn) {
-            Ok(gone) => Ok(gone),
+            Ok(gone) => Ok((gone.stream, gone.bytes)),
             Err(SenderRefusal::OutOfMemory) => Err(Error::ErrOutOfMemory),
             Err(_) => unreachable!(),
         }
@@ -225,7 +225,7 @@ impl Halves {
         ensures memory { IsOkUnless result ErrOutOfMemory }
     {
         match self.sender.expire_tail(now) {
-            Ok(Some(gone)) => Ok(gone),
+            Ok(Some(gone)) => Ok((gone.stream, gone.number, gone.bytes)),
             Err(SenderRefusal::OutOfMemory) => Err(Error::ErrOutOfMemory),
             _ => unreachable!(),
         }

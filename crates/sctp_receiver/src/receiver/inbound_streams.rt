@@ -1,6 +1,6 @@
 //! The streams of a receiver.
 
-ghost use Rattle.std.specs.Prelude.{◌≡◌, ◌==◌, ◌<◌, ◌++◌, ◌∷◌, ◌⊎◌, [], not, true, false, Some, None, OnOk, OnErr, IfOk, IfErr, IsOk, IsOkUnless, MatchOption, length, map, find, option_map, option_copied, slice_get, if◌then◌else◌};
+ghost use Rattle.std.specs.Prelude.{◌≡◌, ◌==◌, ◌<◌, ◌≤◌, ◌+◌, ◌-◌, ◌^◌, ◌++◌, ◌∷◌, ◌⊎◌, [], not, true, false, Some, None, OnOk, OnErr, IfOk, IfErr, IsOk, IsOkUnless, MatchOption, length, map, find, option_map, option_copied, slice_get, if◌then◌else◌};
 ghost use Rattle.std.specs.List.{filter};
 ghost use Rattle.sctp_base.specs.declared.error.Error.TheVariants.{ErrOutOfMemory};
 ghost use Rattle.sctp_list_lemmas.specs.Lists.{change_where};
@@ -8,8 +8,12 @@ ghost use Rattle.sctp_receiver.specs.declared.receiver.refusal.ReceiverRefusal.T
 ghost use Rattle.sctp_stream.specs.Numbers.{IsOnlyPlace, IsAbsent};
 ghost use Rattle.sctp_reassembly.specs.reassembly_queue.ReassemblyQueue.{is_too_large};
 ghost use Rattle.sctp_receiver.specs.Inbound.{unassembled_forwarded};
+ghost use Rattle.sctp_receiver.specs.Limits.{held_cost};
 ghost use Rattle.sctp_receiver.specs.Receiver.{readable_streams};
+ghost use Rattle.sctp_receiver.specs.Resets.{stream_reset, keeps_message};
+ghost use Rattle.sctp_receiver.specs.Skips.{incomplete_forwarded};
 
+use crate::receiver::limits::{cost_of, cost_of_each};
 use crate::receiver::refusal::ReceiverRefusal;
 use sctp_chunks::chunk::chunk_payload_data::ChunkPayloadData;
 use sctp_reassembly::chunks::Chunks;
@@ -88,25 +92,43 @@ impl InboundStream {
         self.stats.count_received(chunks.ppi(), chunks.len());
         Some(chunks)
     }
+
+    /// Resets the stream, whose old use ends with the TSN (RFC 6525 5.2.2). Its counters stay. Refuses only for memory, and only where
+    /// a complete ordered message is to be kept; the stream is as it was then.
+    pub fn reset(&mut self, last_tsn: u32) -> Result<(), ReceiverRefusal>
+        ensures ok { OnOk result (self.new ≡ stream_reset last_tsn self.old) }
+        ensures wants { OnErr result (keeps_message last_tsn (Some self.old) ≡ true) }
+        ensures err { OnErr result (self.new ≡ self.old) }
+        ensures memory { IfErr result (λ e. e ≡ OutOfMemory) }
+    {
+        Ok(self.queue.reset(last_tsn)?)
+    }
 }
 
-/// The streams of a receiver, in the order in which they were opened. Each is found at once by its number.
+/// The streams of a receiver, in the order in which they were opened. Each is found at once by its number, and the sum of what they
+/// hold is kept: of each stream up to the greatest usize, so that it can be lowered again.
 #[derive(Drop)]
 pub struct InboundStreams {
     numbers: StreamNumbers,
     items: Vec<InboundStream>,
+    cost: u128,
 }
 
 impl Model for InboundStreams {
     ghost use Rattle.std.specs.Prelude.{◌≡◌, List};
     ghost use Rattle.sctp_receiver.specs.declared.receiver.inbound_streams.InboundStream.{InboundStream};
+    ghost use Rattle.std.specs.List.{sum_by};
     ghost use Rattle.sctp_receiver.specs.Inbound.{numbers_of};
+    ghost use Rattle.sctp_receiver.specs.Limits.{cost_within};
 
     ghost Value = { List InboundStream };
 
     ghost view = { λ s. s.items.items };
 
-    ghost invariant = { λ s. s.numbers ≡ numbers_of s.items.items };
+    ghost invariant = { λ s. record {
+      numbers : s.numbers ≡ numbers_of s.items.items;
+      cost : s.cost ≡ sum_by cost_within s.items.items;
+    } };
 }
 
 impl InboundStreams {
@@ -121,7 +143,15 @@ impl InboundStreams {
         InboundStreams {
             numbers: StreamNumbers::new(alloc),
             items: Vec::new(alloc),
+            cost: 0,
         }
+    }
+
+    /// What they hold counts for, up to the greatest usize.
+    pub fn held_bytes(&self) -> usize
+        ensures { result ≡ held_cost self.now }
+    {
+        self.cost.min(usize::MAX as u128) as usize
     }
 
     /// The place of the stream with a number, None where it is not open.
@@ -186,7 +216,8 @@ impl InboundStreams {
         let Some(place) = self.numbers.place_of(stream) else {
             return;
         };
-        self.items.remove(place);
+        let closed = self.items.remove(place);
+        self.cost -= cost_of(&closed.queue) as u128;
         self.numbers.remove(stream);
     }
 
@@ -207,7 +238,11 @@ impl InboundStreams {
             (stream_refusal chunk.now (find (has_number chunk.now.stream_identifier) self.old)) e) }
         ensures err { OnErr result (self.new ≡ self.old) }
     {
-        self.items[place].push(chunk)
+        let stream = &mut self.items[place];
+        let before = cost_of(&stream.queue);
+        let pushed = stream.push(chunk);
+        self.cost = moved(self.cost, before, cost_of(&stream.queue));
+        pushed
     }
 
     /// Why the stream at a place refuses a fragment, where memory is wanting. It takes no memory.
@@ -230,7 +265,36 @@ impl InboundStreams {
         ensures rest { self.new ≡ change_where (has_number stream) stream_read self.old }
     {
         let _stream = stream;
-        self.items[place].read()
+        let inbound = &mut self.items[place];
+        let before = cost_of(&inbound.queue);
+        let message = inbound.read();
+        self.cost = moved(self.cost, before, cost_of(&inbound.queue));
+        message
+    }
+
+    /// Resets a stream, whose old use ends with the TSN (RFC 6525 5.2.2). Refuses only for memory, and only where a complete ordered
+    /// message is to be kept; the streams are as they were then.
+    /// Precondition: that stream stands at the place.
+    pub fn reset_at(
+        &mut self,
+        place: usize,
+        stream: u16,
+        last_tsn: u32,
+    ) -> Result<(), ReceiverRefusal>
+        requires { IsOnlyPlace stream (numbers_of self.old) place }
+        ensures ok { OnOk result (self.new
+            ≡ change_where (has_number stream) (stream_reset last_tsn) self.old) }
+        ensures wants { OnErr result
+            (keeps_message last_tsn (find (has_number stream) self.old) ≡ true) }
+        ensures err { OnErr result (self.new ≡ self.old) }
+        ensures memory { IfErr result (λ e. e ≡ OutOfMemory) }
+    {
+        let _number = stream;
+        let inbound = &mut self.items[place];
+        let before = cost_of(&inbound.queue);
+        let answer = inbound.reset(last_tsn);
+        self.cost = moved(self.cost, before, cost_of(&inbound.queue));
+        answer
     }
 
     /// An equal copy of each stream, in their order. Refuses only for memory.
@@ -247,6 +311,7 @@ impl InboundStreams {
         requires { numbers_of saved.items ≡ numbers_of self.old }
         ensures { self.new ≡ saved.items }
     {
+        self.cost = cost_of_each(&saved);
         self.items = saved;
     }
 
@@ -257,7 +322,10 @@ impl InboundStreams {
         let Some(place) = self.numbers.place_of(stream) else {
             return;
         };
-        self.items[place].queue.forward_tsn_for_ordered(ssn);
+        let inbound = &mut self.items[place];
+        let before = cost_of(&inbound.queue);
+        inbound.queue.forward_tsn_for_ordered(ssn);
+        self.cost = moved(self.cost, before, cost_of(&inbound.queue));
     }
 
     /// Discards the unassembled fragments of all streams up to a TSN (RFC 3758 3.6). It takes no memory.
@@ -265,7 +333,28 @@ impl InboundStreams {
         ensures { self.new ≡ map (unassembled_forwarded tsn) self.old }
     {
         forward_each(&mut self.items, tsn);
+        self.cost = cost_of_each(&self.items);
     }
+
+    /// Discards the incomplete ordered messages of all streams that miss a TSN at or before the given one (RFC 3758 3.6). It takes no
+    /// memory.
+    pub fn forward_incomplete(&mut self, tsn: u32)
+        ensures { self.new ≡ map (incomplete_forwarded tsn) self.old }
+    {
+        forward_incomplete_each(&mut self.items, tsn);
+        let cost = cost_of_each(&self.items);
+        self.cost = cost;
+    }
+}
+
+// A sum of which one term changes.
+// Precondition: the term is a part of it, and the new sum fits.
+fn moved(total: u128, before: usize, after: usize) -> u128
+    requires part { before ≤ total }
+    requires fits { total - before + after < 2 ^ 128 }
+    ensures { result ≡ total - before + after }
+{
+    total - before as u128 + after as u128
 }
 
 // An equal copy of each stream.
@@ -309,6 +398,15 @@ fn forward_each(streams: &mut Vec<InboundStream>, tsn: u32)
 {
     for place in 0..streams.len() {
         streams[place].queue.forward_tsn_for_unordered(tsn);
+    }
+}
+
+// So on each stream.
+fn forward_incomplete_each(streams: &mut Vec<InboundStream>, tsn: u32)
+    ensures { streams.new.items ≡ map (incomplete_forwarded tsn) streams.old.items }
+{
+    for place in 0..streams.len() {
+        streams[place].queue.forward_tsn_for_incomplete(tsn);
     }
 }
 

@@ -1,15 +1,14 @@
 //! What a receiver holds at most (RFC 4960 6.2, 3.3.4).
 
-ghost use Rattle.std.specs.Prelude.{◌≡◌, ◌+◌, ◌*◌, ◌-◌, ◌^◌, None, OnErr, IfOk, IfErr, IsOk, min};
+ghost use Rattle.std.specs.Prelude.{◌≡◌, ◌+◌, ◌*◌, ◌-◌, ◌^◌, min};
+ghost use Rattle.std.specs.List.{sum_by};
 ghost use Rattle.sctp_reassembly.specs.reassembly_queue.ReassemblyQueue.{held_chunks};
-ghost use Rattle.sctp_receiver.specs.Limits.{held_cost};
+ghost use Rattle.sctp_receiver.specs.Limits.{cost_within, held_cost, refusal_within};
 
 use crate::receiver::Receiver;
-use crate::receiver::arrival::Arrival;
 use crate::receiver::inbound_streams::InboundStream;
 use crate::receiver::refusal::ReceiverRefusal;
 use sctp_base::util::sna32lt;
-use sctp_chunks::chunk::chunk_payload_data::ChunkPayloadData;
 use sctp_reassembly::reassembly_queue::ReassemblyQueue;
 use sctp_serial::serial::distance;
 
@@ -26,44 +25,22 @@ pub struct Limits {
 }
 
 impl Receiver {
-    ghost use Rattle.sctp_receiver.specs.Receiver.{IsRefusedFor, arrival_of, is_told_complete, Takes};
-    ghost use Rattle.sctp_receiver.specs.Limits.{window_left, limit_refusal, refusal_within};
+    ghost use Rattle.sctp_receiver.specs.Receiver.{filter_of, new_refusal, window};
 
-    /// Takes a DATA chunk as `data` does, but not one with a new TSN that the limits refuse. The refusals, in the order in which they
-    /// are looked for; the first two of a TSN that did not come and is not opposite to the cumulative one:
-    ///
-    /// - `TsnTooFar`, where it lies more than `reach` past the cumulative one;
-    /// - `WindowFull`, where it is past the highest TSN that came, and `held_bytes` is no less than the window: a chunk that fills a
-    ///   gap is never refused so (RFC 4960 6.2);
-    /// - those of `data`.
-    ///
-    /// The receiver is as it was then. It looks at each open stream once.
-    pub fn data_within(
-        &mut self,
-        chunk: &ChunkPayloadData,
-        limits: Limits,
-    ) -> Result<Arrival, ReceiverRefusal>
-        ensures answer { IfOk result (λ arrival. arrival
-            ≡ arrival_of chunk.now.tsn (is_told_complete arrival) self.old) }
-        ensures ok { IfOk result (λ arrival. Takes chunk.now arrival self.old self.new) }
-        ensures accepted { IsOk result → refusal_within limits chunk.now self.old ≡ None }
-        ensures refused { IfErr result (λ e.
-            IsRefusedFor (refusal_within limits chunk.now self.old) e) }
-        ensures err { OnErr result (self.new ≡ self.old) }
+    // Why the limits refuse a TSN that did not come and is not opposite to the cumulative one.
+    pub(crate) fn new_refusal(&self, tsn: u32) -> Option<ReceiverRefusal>
+        ensures { result ≡ new_refusal tsn self.now }
     {
-        if let Some(refusal) = self.limit_refusal(chunk.tsn, limits) {
-            return Err(refusal);
+        match self.limits {
+            Some(limits) => self.refusal_within(limits, tsn),
+            None => None,
         }
-        self.data(chunk)
     }
 
-    /// Why the limits refuse a TSN: `TsnTooFar` or `WindowFull`, as `data_within` does, or None. It takes no memory.
-    pub fn limit_refusal(&self, tsn: u32, limits: Limits) -> Option<ReceiverRefusal>
-        ensures { result ≡ limit_refusal limits tsn self.now }
+    // Why these limits refuse it.
+    fn refusal_within(&self, limits: Limits, tsn: u32) -> Option<ReceiverRefusal>
+        ensures { result ≡ refusal_within limits tsn (filter_of self.now) self.now.streams }
     {
-        if self.filter.has_come(tsn) || self.filter.is_opposite(tsn) {
-            return None;
-        }
         if distance(self.filter.cumulative_tsn(), tsn) > limits.reach {
             return Some(ReceiverRefusal::TsnTooFar);
         }
@@ -73,17 +50,28 @@ impl Receiver {
         None
     }
 
-    /// What is held and was not read: its bytes, and `CHUNK_COST` for each chunk; the greatest usize where it is more. It looks at
-    /// each open stream once.
+    /// What is held and was not read: its bytes, and `CHUNK_COST` for each chunk; the greatest usize where it is more. The sum is kept,
+    /// and no stream is looked at.
     pub fn held_bytes(&self) -> usize
         ensures { result ≡ held_cost self.now.streams }
     {
-        cost_of_each(self.streams.as_slice())
+        self.streams.held_bytes()
     }
 
-    /// The window to advertise (RFC 4960 3.3.4): how much more of `window` bytes may be held, or the greatest u32.
-    pub fn window_left(&self, window: usize) -> u32
-        ensures { result ≡ window_left window self.now }
+    /// The window to advertise (RFC 4960 3.3.4): how much more may be held of the `window` of the limits, or the greatest u32 where it
+    /// is more, or there are no limits.
+    pub fn window(&self) -> u32
+        ensures { result ≡ window self.now }
+    {
+        match self.limits {
+            Some(limits) => self.left_of(limits.window),
+            None => u32::MAX,
+        }
+    }
+
+    // What is left of a window.
+    fn left_of(&self, window: usize) -> u32
+        ensures { result ≡ min (window - held_cost self.now.streams) (2 ^ 32 - 1) }
     {
         match u32::try_from(window.saturating_sub(self.held_bytes())) {
             Ok(left) => left,
@@ -92,19 +80,19 @@ impl Receiver {
     }
 }
 
-// What streams hold counts for, up to the greatest usize.
-fn cost_of_each(streams: &[InboundStream]) -> usize
-    ensures { result ≡ held_cost streams.now }
+// What streams hold counts for, each up to the greatest usize.
+pub(crate) fn cost_of_each(streams: &[InboundStream]) -> u128
+    ensures { result ≡ sum_by cost_within streams.now }
 {
-    let mut total = 0usize;
+    let mut total = 0u128;
     for stream in streams {
-        total = total.saturating_add(cost_of(&stream.queue));
+        total += cost_of(&stream.queue) as u128;
     }
     total
 }
 
 // What a queue holds counts for, up to the greatest usize.
-fn cost_of(queue: &ReassemblyQueue) -> usize
+pub(crate) fn cost_of(queue: &ReassemblyQueue) -> usize
     ensures { result ≡ min (queue.now.bytes + 200 * held_chunks queue.now.held) (2 ^ 64 - 1) }
 {
     queue

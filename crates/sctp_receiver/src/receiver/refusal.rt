@@ -17,6 +17,8 @@ pub enum ReceiverRefusal {
     TsnTooFar,
     /// The TSN is past the highest one that came, and nothing is left of the window (RFC 4960 6.2).
     WindowFull,
+    /// The stream can't be reset yet: chunks that were sent before the reset may still come (RFC 6525 4.4).
+    ResetInProgress,
     /// Memory ran out.
     OutOfMemory,
 }

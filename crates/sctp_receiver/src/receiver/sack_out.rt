@@ -12,11 +12,23 @@ pub const MAX_SACK_ENTRIES: usize = 16379;
 
 impl Receiver {
     ghost use Rattle.sctp_chunks.specs.SelectiveAck.{sack_of};
-    ghost use Rattle.sctp_receiver.specs.Receiver.{sack, sack_of_entries, without_duplicates, sack_within, after_sack_within};
+    ghost use Rattle.sctp_receiver.specs.Receiver.{sack, sack_of_entries, without_duplicates, sack_within, after_sack_within, window};
 
-    /// The SACK of what came; `credit` is how many bytes of user data there is room for. Gap ack blocks come first, then
-    /// as many duplicates as fit; all duplicates are forgotten. Refuses only for memory, and the receiver is as it was then.
-    pub fn sack(&mut self, credit: u32) -> Result<ChunkSelectiveAck, ReceiverRefusal>
+    /// The SACK of what came, with the `window` as its credit. Gap ack blocks come first, then as many duplicates as fit; all
+    /// duplicates are forgotten. Refuses only for memory, and the receiver is as it was then.
+    pub fn sack(&mut self) -> Result<ChunkSelectiveAck, ReceiverRefusal>
+        ensures sack { IfOk result (λ s. sack_of s ≡ sack (window self.old) self.old) }
+        ensures fits { IfOk result
+            (λ s. length s.gap_ack_blocks.items + length s.duplicate_tsn.items ≤ 16379) }
+        ensures rest { OnOk result (self.new ≡ without_duplicates self.old) }
+        ensures err { OnErr result (self.new ≡ self.old) }
+        ensures memory { IfErr result (λ e. e ≡ OutOfMemory) }
+    {
+        self.sack_with(self.window())
+    }
+
+    /// The SACK that `sack` makes, with another credit: how many bytes of user data there is room for.
+    pub fn sack_with(&mut self, credit: u32) -> Result<ChunkSelectiveAck, ReceiverRefusal>
         ensures sack { IfOk result (λ s. sack_of s ≡ sack credit self.old) }
         ensures fits { IfOk result
             (λ s. length s.gap_ack_blocks.items + length s.duplicate_tsn.items ≤ 16379) }
@@ -24,7 +36,7 @@ impl Receiver {
         ensures err { OnErr result (self.new ≡ self.old) }
         ensures memory { IfErr result (λ e. e ≡ OutOfMemory) }
     {
-        let sack = self.make_sack(credit)?;
+        let sack = self.make_sack_with(credit)?;
         self.sack_sent();
         Ok(sack)
     }
@@ -33,12 +45,9 @@ impl Receiver {
     /// duplicate 4: below 16 it has neither. Gap ack blocks come first, then as many duplicates as fit; those are forgotten, and the
     /// others are kept for the next SACK. So a SACK is no longer than the path MTU (RFC 4960 6.2). Refuses only for memory, and the
     /// receiver is as it was then. Where a duplicate did not fit, it copies the TSNs that are held.
-    pub fn sack_within(
-        &mut self,
-        credit: u32,
-        bytes: usize,
-    ) -> Result<ChunkSelectiveAck, ReceiverRefusal>
-        ensures sack { IfOk result (λ s. sack_of s ≡ sack_within credit bytes self.old) }
+    pub fn sack_within(&mut self, bytes: usize) -> Result<ChunkSelectiveAck, ReceiverRefusal>
+        ensures sack { IfOk result (λ s. sack_of s
+            ≡ sack_within (window self.old) bytes self.old) }
         ensures fits { IfOk result (λ s. 16
             + 4 * (length s.gap_ack_blocks.items + length s.duplicate_tsn.items) ≤ max 16 bytes) }
         ensures rest { OnOk result (self.new ≡ after_sack_within bytes self.old) }
@@ -46,7 +55,7 @@ impl Receiver {
         ensures memory { IfErr result (λ e. e ≡ OutOfMemory) }
     {
         let entries = (bytes.saturating_sub(16) / 4).min(MAX_SACK_ENTRIES);
-        let sack = self.sack_of_entries(credit, entries)?;
+        let sack = self.sack_of_entries(self.window(), entries)?;
         self.filter
             .forget_duplicates(self.alloc, sack.duplicate_tsn.len())?;
         Ok(sack)
@@ -54,7 +63,17 @@ impl Receiver {
 
     /// The SACK that `sack` makes, and nothing is forgotten: while it is not sent, the next one reports
     /// the same duplicates again. Refuses only for memory.
-    pub fn make_sack(&self, credit: u32) -> Result<ChunkSelectiveAck, ReceiverRefusal>
+    pub fn make_sack(&self) -> Result<ChunkSelectiveAck, ReceiverRefusal>
+        ensures sack { IfOk result (λ s. sack_of s ≡ sack (window self.now) self.now) }
+        ensures fits { IfOk result (λ s.
+            length s.gap_ack_blocks.items + length s.duplicate_tsn.items ≤ 16379) }
+        ensures memory { IfErr result (λ e. e ≡ OutOfMemory) }
+    {
+        self.make_sack_with(self.window())
+    }
+
+    /// The SACK that `make_sack` makes, with another credit.
+    pub fn make_sack_with(&self, credit: u32) -> Result<ChunkSelectiveAck, ReceiverRefusal>
         ensures sack { IfOk result (λ s. sack_of s ≡ sack credit self.now) }
         ensures fits { IfOk result (λ s.
             length s.gap_ack_blocks.items + length s.duplicate_tsn.items ≤ 16379) }
@@ -93,7 +112,7 @@ impl Receiver {
         })
     }
 
-    /// A SACK that `make_sack` made was sent: all duplicates are forgotten, those that came since it was
+    /// A SACK that `make_sack` or `make_sack_with` made was sent: all duplicates are forgotten, those that came since it was
     /// made and those that did not fit too. It takes no memory.
     pub fn sack_sent(&mut self)
         ensures { self.new ≡ without_duplicates self.old }

@@ -6,6 +6,7 @@ ghost use Rattle.sctp_receiver.specs.Inbound.{numbers_of};
 
 use crate::receiver::Receiver;
 use crate::receiver::inbound_streams::InboundStream;
+use crate::receiver::limits::Limits;
 use crate::receiver::refusal::ReceiverRefusal;
 use crate::receiver::tsn_filter::TsnFilter;
 use std::marker::Model;
@@ -16,6 +17,7 @@ pub struct SavedReceiver {
     streams: Vec<InboundStream>,
     filter: TsnFilter,
     max_message_size: u32,
+    limits: Option<Limits>,
 }
 
 impl Model for SavedReceiver {
@@ -29,6 +31,7 @@ impl Model for SavedReceiver {
       beyond = s.filter.beyond;
       duplicates = s.filter.duplicates;
       max_message_size = s.max_message_size;
+      limits = s.limits;
     } };
 }
 
@@ -45,6 +48,7 @@ impl Receiver {
             streams,
             filter,
             max_message_size: self.max_message_size,
+            limits: self.limits,
         })
     }
 
@@ -57,5 +61,6 @@ impl Receiver {
     {
         self.streams.put_back(saved.streams);
         self.filter = saved.filter;
+        self.limits = saved.limits;
     }
 }

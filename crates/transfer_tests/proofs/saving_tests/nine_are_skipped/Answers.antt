@@ -14,4 +14,4 @@ kept f old new (Ok x) ok err = ap (λ (r : Reception). numbers_of r.streams) ok 
 kept f old new (Err e) ok err = ap (λ (r : Reception). numbers_of r.streams) err
 
 pub returns-clause-numbers : goal.returns-clause-numbers
-returns-clause-numbers c = kept (record { new_cumulative_tsn = 9; streams = c.new.result.items }) c.args.receiver.now c.forward_tsn.new.self c.forward_tsn.result c.forward_tsn.ensures.ok c.forward_tsn.ensures.err
+returns-clause-numbers c = kept (record { new_cumulative_tsn = 9; streams = c.new.result.items }) c.args.receiver.now c.forward_tsn_by_names.new.self c.forward_tsn_by_names.result c.forward_tsn_by_names.ensures.ok c.forward_tsn_by_names.ensures.err

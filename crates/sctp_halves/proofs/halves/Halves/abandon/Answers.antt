@@ -10,7 +10,7 @@ pub invariant_of-self : goal.invariant_of-self
 invariant_of-self c =
     let h = c.self.inside in
     either_of c.abandon.result c.abandon.ensures.ok c.abandon.ensures.err
-    (λ r e. on-aligned h.numbers h.sender h.receiver h.progress.items c.self.invariant r.0 (less_by r.1) (after_abandonment (message_to_abandon c.args.tsn h.sender.flight) h.sender.flight) c.abandon.new.self e (λ l. refl))
+    (λ r e. on-aligned h.numbers h.sender h.receiver h.progress.items c.self.invariant r.stream (less_by r.bytes) (after_abandonment (message_to_abandon c.args.tsn h.sender.flight) h.sender.flight) c.abandon.new.self e (λ l. refl))
     (sender-same h.numbers h.sender h.receiver h.progress.items c.self.invariant c.abandon.new.self)
 
 pub returns-clause-ok : goal.returns-clause-ok
@@ -18,6 +18,6 @@ returns-clause-ok c = elim c.match-abandon.branch [
   | in-Ok w ↦
       let h = c.self.inside in
       rw (w.result-is, ← c.self.view_is)
-      (on-sides h.numbers h.sender h.receiver h.progress.items c.self.invariant w.in-Ok.gone.0 (less_by w.in-Ok.gone.1) (after_abandonment (message_to_abandon c.args.tsn h.sender.flight) h.sender.flight) c.abandon.new.self w.in-Ok.ensures.ok)
+      (on-sides h.numbers h.sender h.receiver h.progress.items c.self.invariant w.in-Ok.gone.stream (less_by w.in-Ok.gone.bytes) (after_abandonment (message_to_abandon c.args.tsn h.sender.flight) h.sender.flight) c.abandon.new.self w.in-Ok.ensures.ok)
   | in-Err-OutOfMemory w ↦ rw w.result-is tt
 ]

@@ -14,25 +14,25 @@ pub invariant_of-self-then-not-unordered : goal.invariant_of-self-then-not-unord
 invariant_of-self-then-not-unordered c =
     let h = c.self.inside in
     let q : Outbound = h.sender.flight.queue in
-    expired-aligned h.numbers h.sender h.receiver h.progress.items c.self.invariant c.in-Some-expire.bytes c.args.now c.expire.new.self c.in-Some-expire.stream (expiring c.args.now q) c.in-Some-expire.ensures.none c.in-Some-expire.ensures.some
+    expired-aligned h.numbers h.sender h.receiver h.progress.items c.self.invariant c.in-Some-expire.gone.bytes c.args.now c.expire.new.self c.in-Some-expire.gone.stream (expiring c.args.now q) c.in-Some-expire.ensures.none c.in-Some-expire.ensures.some
 
 pub invariant_of-self-else-not-unordered : goal.invariant_of-self-else-not-unordered
 invariant_of-self-else-not-unordered c =
     let h = c.self.inside in
     let q : Outbound = h.sender.flight.queue in
-    expired-aligned h.numbers h.sender h.receiver h.progress.items c.self.invariant c.in-Some-expire.bytes c.args.now c.expire.new.self c.in-Some-expire.stream (expiring c.args.now q) c.in-Some-expire.ensures.none c.in-Some-expire.ensures.some
+    expired-aligned h.numbers h.sender h.receiver h.progress.items c.self.invariant c.in-Some-expire.gone.bytes c.args.now c.expire.new.self c.in-Some-expire.gone.stream (expiring c.args.now q) c.in-Some-expire.ensures.none c.in-Some-expire.ensures.some
 
 pub returns-then-not-unordered-clause-some : goal.returns-then-not-unordered-clause-some
 returns-then-not-unordered-clause-some c =
     let h = c.self.inside in
     let q : Outbound = h.sender.flight.queue in
     rw (← c.self.view_is) (λ d e.
-    let made : (c.in-Some-expire.stream ≡ d.stream_identifier) × (c.expire.new.self ≡ S.after_expire d c.in-Some-expire.bytes c.args.now h.sender) =
-    subst (λ o. IfSome o (λ (x : ChunkPayloadData). (c.in-Some-expire.stream ≡ x.stream_identifier) × (c.expire.new.self ≡ S.after_expire x c.in-Some-expire.bytes c.args.now h.sender))) e c.in-Some-expire.ensures.some in
+    let made : (c.in-Some-expire.gone.stream ≡ d.stream_identifier) × (c.expire.new.self ≡ S.after_expire d c.in-Some-expire.gone.bytes c.args.now h.sender) =
+    subst (λ o. IfSome o (λ (x : ChunkPayloadData). (c.in-Some-expire.gone.stream ≡ x.stream_identifier) × (c.expire.new.self ≡ S.after_expire x c.in-Some-expire.gone.bytes c.args.now h.sender))) e c.in-Some-expire.ensures.some in
     let same : c.in-Some.chunk.now ≡ d = front-is c.args.now q c.in-Some.chunk.now d (c.in-Some.ensures.value ∙ ap (λ (o : Outbound). next_pending o.pending) c.outbound.ensures) e in (
       made.0,
       c.record_unsent.ensures ∙ ap (λ s. on_stream s one_less (sides c.expire.new.self h.receiver h.progress.items)) made.0
-          ∙ ordered-expired h.numbers h.sender h.receiver h.progress.items c.self.invariant c.in-Some-expire.bytes c.args.now c.expire.new.self d made.1
+          ∙ ordered-expired h.numbers h.sender h.receiver h.progress.items c.self.invariant c.in-Some-expire.gone.bytes c.args.now c.expire.new.self d made.1
           (ap (λ (x : ChunkPayloadData). x.unordered) (sym same) ∙ c.if-not-unordered.true),
     ))
 
@@ -41,10 +41,10 @@ returns-else-not-unordered-clause-some c =
     let h = c.self.inside in
     let q : Outbound = h.sender.flight.queue in
     rw (← c.self.view_is) (λ d e.
-    let made : (c.in-Some-expire.stream ≡ d.stream_identifier) × (c.expire.new.self ≡ S.after_expire d c.in-Some-expire.bytes c.args.now h.sender) =
-    subst (λ o. IfSome o (λ (x : ChunkPayloadData). (c.in-Some-expire.stream ≡ x.stream_identifier) × (c.expire.new.self ≡ S.after_expire x c.in-Some-expire.bytes c.args.now h.sender))) e c.in-Some-expire.ensures.some in
+    let made : (c.in-Some-expire.gone.stream ≡ d.stream_identifier) × (c.expire.new.self ≡ S.after_expire d c.in-Some-expire.gone.bytes c.args.now h.sender) =
+    subst (λ o. IfSome o (λ (x : ChunkPayloadData). (c.in-Some-expire.gone.stream ≡ x.stream_identifier) × (c.expire.new.self ≡ S.after_expire x c.in-Some-expire.gone.bytes c.args.now h.sender))) e c.in-Some-expire.ensures.some in
     let same : c.in-Some.chunk.now ≡ d = front-is c.args.now q c.in-Some.chunk.now d (c.in-Some.ensures.value ∙ ap (λ (o : Outbound). next_pending o.pending) c.outbound.ensures) e in (
       made.0,
-      unordered-expired h.numbers h.sender h.receiver h.progress.items c.self.invariant c.in-Some-expire.bytes c.args.now c.expire.new.self d made.1
+      unordered-expired h.numbers h.sender h.receiver h.progress.items c.self.invariant c.in-Some-expire.gone.bytes c.args.now c.expire.new.self d made.1
           (ap (λ (x : ChunkPayloadData). x.unordered) (sym same) ∙ c.if-not-unordered.false),
     ))

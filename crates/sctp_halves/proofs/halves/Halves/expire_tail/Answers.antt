@@ -10,7 +10,7 @@ pub invariant_of-self : goal.invariant_of-self
 invariant_of-self c =
     let h = c.self.inside in
     either-some c.expire_tail.result c.expire_tail.ensures.some c.expire_tail.ensures.none c.expire_tail.ensures.err
-    (λ r e. on-aligned h.numbers h.sender h.receiver h.progress.items c.self.invariant r.0 (less_by r.2) (after_abandonment (message_of (expiring_tail c.args.now h.sender.flight.queue)) h.sender.flight) c.expire_tail.new.self e (λ l. refl))
+    (λ r e. on-aligned h.numbers h.sender h.receiver h.progress.items c.self.invariant r.stream (less_by r.bytes) (after_abandonment (message_of (expiring_tail c.args.now h.sender.flight.queue)) h.sender.flight) c.expire_tail.new.self e (λ l. refl))
     (sender-same h.numbers h.sender h.receiver h.progress.items c.self.invariant c.expire_tail.new.self)
 
 pub returns-clause-ok : goal.returns-clause-ok
@@ -18,6 +18,6 @@ returns-clause-ok c = elim c.match-expire_tail.branch [
   | in-Ok-Some w ↦
       let h = c.self.inside in
       rw (w.result-is, ← c.self.view_is)
-      (on-sides h.numbers h.sender h.receiver h.progress.items c.self.invariant w.in-Ok-Some.gone.0 (less_by w.in-Ok-Some.gone.2) (after_abandonment (message_of (expiring_tail c.args.now h.sender.flight.queue)) h.sender.flight) c.expire_tail.new.self (some-of _ w.in-Ok-Some.field-0 w.in-Ok-Some.gone w.in-Ok-Some.field-0-is w.in-Ok-Some.ensures.some))
+      (on-sides h.numbers h.sender h.receiver h.progress.items c.self.invariant w.in-Ok-Some.gone.stream (less_by w.in-Ok-Some.gone.bytes) (after_abandonment (message_of (expiring_tail c.args.now h.sender.flight.queue)) h.sender.flight) c.expire_tail.new.self (some-of _ w.in-Ok-Some.field-0 w.in-Ok-Some.gone w.in-Ok-Some.field-0-is w.in-Ok-Some.ensures.some))
   | in-Err-OutOfMemory w ↦ rw w.result-is tt
 ]

@@ -7,7 +7,7 @@ use Rattle.sctp_sender.specs.Sender.{Transmission}
 use Rattle.sctp_halves.specs.declared.halves.progress.StreamProgress.{StreamProgress}
 use Rattle.sctp_halves.specs.Halves.{Grows, IsAligned}
 use Rattle.sctp_halves.proofs.Aligned.{sides, with-receiver, with-progresses}
-use Rattle.sctp_halves.proofs.Growing.{CutTo, IsCut, saved-numbers, saved-size, saved-count, cut-count, cut-more, cut-numbers, restored}
+use Rattle.sctp_halves.proofs.Growing.{CutTo, IsCut, saved-numbers, saved-size, saved-limits, saved-count, cut-count, cut-more, cut-numbers, restored}
 use Rattle.sctp_halves.proofs.halves.Halves.restore.Goals as goal
 
 pub restore-requires-clause-same : goal.restore-requires-clause-same
@@ -51,7 +51,8 @@ invariant_of-self c =
     let g = subst (Grows c.requires.0) (sym c.self.view_is) c.requires.1.1 in
     let numbers = ap (λ (r : Reception). Inbound.numbers_of r.streams) c.restore.ensures ∙ saved-numbers h.numbers h.sender h.receiver h.progress.items c.self.invariant c.requires.0 c.args.saved c.requires.1.0 g in
     let size = ap (λ (r : Reception). r.max_message_size) c.restore.ensures ∙ saved-size h.numbers h.sender h.receiver h.progress.items c.self.invariant c.requires.0 c.args.saved c.requires.1.0 g in
-    let a = with-receiver h.numbers h.sender h.receiver h.progress.items c.self.invariant c.restore.new.self numbers size in
+    let limits = ap (λ (r : Reception). r.limits) c.restore.ensures ∙ saved-limits h.numbers h.sender h.receiver h.progress.items c.self.invariant c.requires.0 c.args.saved c.requires.1.0 g in
+    let a = with-receiver h.numbers h.sender h.receiver h.progress.items c.self.invariant c.restore.new.self numbers size limits in
     let b = with-progresses h.numbers h.sender c.restore.new.self h.progress.items a k.progress.items (c.self.invariant.progresses ∙ sym (cut-numbers c.loop-place.place c.args.saved.complete.items h.progress.items k.progress.items v.cut)) in
     subst (λ ns. IsAligned ns k.sender k.receiver k.progress.items) (sym v.numbers)
     (subst (λ (t : Transmission). IsAligned h.numbers t k.receiver k.progress.items) (sym v.sender)

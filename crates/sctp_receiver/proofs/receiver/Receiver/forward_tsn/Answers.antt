@@ -1,11 +1,15 @@
-use Rattle.std.proofs.Common.{◌≡◌, ap, sym, ◌∙◌, false}
-use Rattle.sctp_list_lemmas.specs.Serial.{at_or_before}
-use Rattle.sctp_receiver.proofs.Receptions.{after}
+use Rattle.std.proofs.Common.{◌≡◌, ap, ◌∙◌}
+use Rattle.sctp_chunks.specs.ForwardTsn.{forward_tsn_of}
+use Rattle.sctp_receiver.specs.Receiver.{Reception, after_forward}
+use Rattle.sctp_receiver.specs.Skips.{has_incomplete}
+use Rattle.sctp_receiver.proofs.Receptions.{reception_in}
+use Rattle.sctp_receiver.proofs.Resetting.{none-incomplete}
 use Rattle.sctp_receiver.proofs.receiver.Receiver.forward_tsn.Goals as goal
 
-pub skip_to-requires : goal.skip_to-requires
-skip_to-requires c =
-    let tsn = c.args.chunk.now.new_cumulative_tsn in
-    let near = sym c.is_opposite.ensures.value ∙ c.if-is_opposite.false in
-    let late : at_or_before tsn c.self.inside.filter.cumulative_tsn ≡ false = ap (at_or_before tsn) (sym c.cumulative_tsn.ensures) ∙ sym c.sna32lte.ensures.value ∙ c.if-sna32lte.false in
-    after c.self.inside.filter.cumulative_tsn tsn c.is_opposite.ensures.cumulative_fits c.is_opposite.ensures.tsn_fits near late
+pub returns-in-Skipped-clause-agrees : goal.returns-in-Skipped-clause-agrees
+returns-in-Skipped-clause-agrees c = λ none.
+    let q = c.self.inside in
+    let t = c.args.chunk.now.new_cumulative_tsn in
+    let is : reception_in q.streams q.filter q.max_message_size q.limits ≡ after_forward (forward_tsn_of c.args.chunk.now) c.args.self.now = c.self.view_is ∙ c.in_ok-forwarded.ensures.ok in
+    let here = none-incomplete t q.streams (ap (λ (r : Reception). has_incomplete t r.streams) is ∙ none) in
+    ap (λ ls. reception_in ls q.filter q.max_message_size q.limits) (c.forward_incomplete.ensures ∙ here) ∙ is

@@ -1,16 +1,29 @@
-use Rattle.std.proofs.Common.{rules, ap, ◌∙◌, sym}
+use Rattle.std.proofs.Common.{rules, ◌≡◌, ap, ◌∙◌, sym, arith}
+use Rattle.std.specs.Prelude.{slice_index_or}
+use Rattle.std.specs.List.{sum_by}
+use Rattle.sctp_receiver.specs.Limits.{cost_within}
+use Rattle.sctp_receiver.proofs.CostSums.{removed-sum}
 use Rattle.sctp_receiver.specs.Inbound.{number, numbers_of}
 use Rattle.sctp_stream.proofs.StreamPlaces.{absent-those, inside, without, numbers-without}
 use Rattle.sctp_receiver.proofs.receiver.inbound_streams.InboundStreams.close.Goals as goal
 
 pub returns-in_default : goal.returns-in_default
-returns-in_default c = rw (← c.self.view_is) (absent-those number c.self.inside.items.items c.self.inside.numbers c.self.invariant c.args.stream c.in_default.ensures)
+returns-in_default c = rw (← c.self.view_is) (absent-those number c.self.inside.items.items c.self.inside.numbers c.self.invariant.numbers c.args.stream c.in_default.ensures)
 
-pub remove-requires : goal.remove-requires
-remove-requires c = let lt = inside number c.self.inside.items.items c.self.inside.numbers c.self.invariant c.args.stream c.in-Some.place c.in-Some.ensures in search rules
+pub remove-closed-requires : goal.remove-closed-requires
+remove-closed-requires c = let lt = inside number c.self.inside.items.items c.self.inside.numbers c.self.invariant.numbers c.args.stream c.in-Some.place c.in-Some.ensures in search rules
 
 pub invariant_of-self : goal.invariant_of-self
-invariant_of-self c = c.remove-2.ensures ∙ numbers-without number c.self.inside.items.items c.self.inside.numbers c.self.invariant c.args.stream c.in-Some.place c.in-Some.ensures ∙ ap numbers_of (sym c.remove.ensures.items)
+invariant_of-self c =
+    let ls = c.self.inside.items.items in
+    let lt = inside number ls c.self.inside.numbers c.self.invariant.numbers c.args.stream c.in-Some.place c.in-Some.ensures in
+    let at : c.remove-closed.result ≡ slice_index_or ls c.in-Some.place c.remove-closed.result = search rules in
+    let h = removed-sum ls c.in-Some.place c.remove-closed.result lt at in
+    let items = ap (sum_by cost_within) c.remove-closed.ensures.items in
+    record {
+      numbers = c.remove.ensures ∙ numbers-without number c.self.inside.items.items c.self.inside.numbers c.self.invariant.numbers c.args.stream c.in-Some.place c.in-Some.ensures ∙ ap numbers_of (sym c.remove-closed.ensures.items);
+      cost = omega (arith, h, items, c.self.invariant.cost, c.cost_of.ensures);
+    }
 
 pub returns : goal.returns
-returns c = rw (← c.self.view_is) (c.remove.ensures.items ∙ without number c.self.inside.items.items c.self.inside.numbers c.self.invariant c.args.stream c.in-Some.place c.in-Some.ensures)
+returns c = rw (← c.self.view_is) (c.remove-closed.ensures.items ∙ without number c.self.inside.items.items c.self.inside.numbers c.self.invariant.numbers c.args.stream c.in-Some.place c.in-Some.ensures)

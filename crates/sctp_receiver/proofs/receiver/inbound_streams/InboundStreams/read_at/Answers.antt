@@ -1,26 +1,49 @@
-use Rattle.std.proofs.Common.{sym, ap, ◌∙◌, refl}
+use Rattle.std.proofs.Common.{rules, ◌<◌, ◌^◌, sym, ap, ◌∙◌, refl, length, arith}
 use Rattle.std.specs.Prelude.{option_map}
 use Rattle.sctp_reassembly.specs.reassembly_queue.ReassemblyQueue.{at_start}
 use Rattle.sctp_stream.specs.Numbers.{IsOnlyPlace}
 use Rattle.sctp_receiver.specs.Inbound.{number, numbers_of, stream_read}
 use Rattle.sctp_receiver.specs.Receiver.{message_of}
-use Rattle.sctp_stream.proofs.StreamPlaces.{found, changed, numbers-stay}
+use Rattle.sctp_receiver.proofs.CostSums.{is-part, changed-fits, changed-sum}
+use Rattle.sctp_stream.proofs.StreamPlaces.{inside, found, changed, numbers-stay}
 use Rattle.sctp_receiver.proofs.receiver.inbound_streams.InboundStreams.read_at.Goals as goal
+
+pub moved-self-inside-requires-clause-part : goal.moved-self-inside-requires-clause-part
+moved-self-inside-requires-clause-part c =
+    let ls = c.self.inside.items.items in
+    let p : IsOnlyPlace c.args.stream (numbers_of ls) c.args.place = rw (← c.self.view_is) at c.requires in
+    let lt = inside number ls (numbers_of ls) refl c.args.stream c.args.place p in
+    let h = is-part ls c.args.place c.index_mut-inbound.result.now lt c.index_mut-inbound.ensures.value in
+    omega (arith, h, c.self.invariant.cost, c.cost_of-before.ensures)
+
+pub moved-self-inside-requires-clause-fits : goal.moved-self-inside-requires-clause-fits
+moved-self-inside-requires-clause-fits c =
+    let ls = c.self.inside.items.items in
+    let p : IsOnlyPlace c.args.stream (numbers_of ls) c.args.place = rw (← c.self.view_is) at c.requires in
+    let lt = inside number ls (numbers_of ls) refl c.args.stream c.args.place p in
+    let few : length ls < 2 ^ 64 = search rules in
+    let h = changed-fits ls c.args.place c.index_mut-inbound.result.now lt c.index_mut-inbound.ensures.value few c.read-message.new.self in
+    omega (arith, h, c.self.invariant.cost, c.cost_of-before.ensures, c.cost_of.ensures)
 
 pub invariant_of-self : goal.invariant_of-self
 invariant_of-self c =
     let ls = c.self.inside.items.items in
     let p : IsOnlyPlace c.args.stream (numbers_of ls) c.args.place = rw (← c.self.view_is) at c.requires in
-    c.self.invariant ∙ numbers-stay number ls (numbers_of ls) refl c.args.stream c.args.place p c.index_mut.result.now c.read.new.self c.index_mut.ensures.value (ap number c.read.ensures.rest)
+    let lt = inside number ls (numbers_of ls) refl c.args.stream c.args.place p in
+    let h = changed-sum ls c.args.place c.index_mut-inbound.result.now lt c.index_mut-inbound.ensures.value c.read-message.new.self in
+    record {
+      numbers = c.self.invariant.numbers ∙ numbers-stay number ls (numbers_of ls) refl c.args.stream c.args.place p c.index_mut-inbound.result.now c.read-message.new.self c.index_mut-inbound.ensures.value (ap number c.read-message.ensures.rest);
+      cost = omega (arith, h, c.moved-self-inside.ensures, c.self.invariant.cost, c.cost_of-before.ensures, c.cost_of.ensures);
+    }
 
 pub returns-clause-message : goal.returns-clause-message
 returns-clause-message c =
     let ls = c.self.inside.items.items in
     let p : IsOnlyPlace c.args.stream (numbers_of ls) c.args.place = rw (← c.self.view_is) at c.requires in
-    rw (← c.self.view_is) (c.read.ensures.message ∙ ap (λ o. option_map at_start (message_of o)) (sym (found number ls (numbers_of ls) refl c.args.stream c.args.place p c.index_mut.result.now c.index_mut.ensures.value)))
+    rw (← c.self.view_is) (c.read-message.ensures.message ∙ ap (λ o. option_map at_start (message_of o)) (sym (found number ls (numbers_of ls) refl c.args.stream c.args.place p c.index_mut-inbound.result.now c.index_mut-inbound.ensures.value)))
 
 pub returns-clause-rest : goal.returns-clause-rest
 returns-clause-rest c =
     let ls = c.self.inside.items.items in
     let p : IsOnlyPlace c.args.stream (numbers_of ls) c.args.place = rw (← c.self.view_is) at c.requires in
-    rw (← c.self.view_is) (changed number ls (numbers_of ls) refl c.args.stream c.args.place p stream_read c.index_mut.result.now c.read.new.self c.index_mut.ensures.value c.read.ensures.rest)
+    rw (← c.self.view_is) (changed number ls (numbers_of ls) refl c.args.stream c.args.place p stream_read c.index_mut-inbound.result.now c.read-message.new.self c.index_mut-inbound.ensures.value c.read-message.ensures.rest)

@@ -1,0 +1,63 @@
+-- The sum of what the streams of a receiver hold, each up to the greatest usize.
+use Rattle.std.proofs.Common.{◌≡◌, ℕ, zero, suc, ◌+◌, ◌*◌, ◌-◌, ◌<◌, ◌≤◌, ◌^◌, List, [], ◌∷◌, ◌++◌, length, take, get_or, refl, ap, sym, ◌∙◌, arith, length-set}
+use Rattle.std.specs.Prelude.{min, slice_index_or, slice_set, All}
+use Rattle.std.specs.List.{sum_by, remove}
+use Rattle.std.proofs.lemmas.List.{take_more}
+use Rattle.std.proofs.lemmas.List.Sums.{sum_by-cons, sum_by-append, sum_by-le, sum_by-set, sum_by-remove, get_or-le-sum_by}
+use Rattle.sctp_receiver.specs.declared.receiver.inbound_streams.InboundStream.{InboundStream}
+use Rattle.sctp_receiver.specs.Inbound.{new_stream}
+use Rattle.sctp_receiver.specs.Limits.{cost_of, cost_within, held_cost}
+
+capped : (m a b c : ℕ) → min b m ≡ min c m → min (a + b) m ≡ min (min a m + c) m
+capped m a b c e = omega arith
+
+-- what is held is told by the sum
+pub held-is : (ls : List InboundStream) → held_cost ls ≡ min (sum_by cost_within ls) (2 ^ 64 - 1)
+held-is [] = refl
+held-is (l ∷ ls) =
+    ap (λ n. min n (2 ^ 64 - 1)) (sum_by-cons cost_of l ls)
+    ∙ capped (2 ^ 64 - 1) (cost_of l) (sum_by cost_of ls) (sum_by cost_within ls) (held-is ls)
+    ∙ ap (λ n. min n (2 ^ 64 - 1)) (sym (sum_by-cons cost_within l ls))
+
+-- so many of them count for no more than so many times the greatest usize
+taken-bound : (i : ℕ) (ls : List InboundStream) → sum_by cost_within (take i ls) ≤ i * (2 ^ 64 - 1)
+taken-bound zero ls = omega arith
+taken-bound (suc i) [] = omega arith
+taken-bound (suc i) (l ∷ ls) = let a = sum_by-cons cost_within l (take i ls) in let ih = taken-bound i ls in omega (arith, a, ih)
+
+pub next-fits : (ls : List InboundStream) (i n total : ℕ) → i < 2 ^ 64 → n < 2 ^ 64 → total ≡ sum_by cost_within (take i ls) → total + n < 2 ^ 128
+next-fits ls i n total small fits is = let h = taken-bound i ls in omega (arith, h, small, fits, is)
+
+each-within : (ls : List InboundStream) → All (λ l. cost_within l ≤ 2 ^ 64 - 1) ls
+each-within ls = λ k d lt. omega arith
+
+pub sum-fits : (ls : List InboundStream) → length ls < 2 ^ 64 → sum_by cost_within ls < 2 ^ 128
+sum-fits ls few = let h = sum_by-le cost_within (2 ^ 64 - 1) ls (each-within ls) in omega (arith, h, few)
+
+pub opened-sum : (ls : List InboundStream) (s max : ℕ) → sum_by cost_within (ls ++ new_stream s max ∷ []) ≡ sum_by cost_within ls
+opened-sum ls s max =
+    let a = sum_by-append cost_within ls (new_stream s max ∷ []) in
+    let b = sum_by-cons cost_within (new_stream s max) [] in
+    omega (arith, a, b)
+
+-- one more is counted
+pub counted-next : (ls : List InboundStream) (i : ℕ) (x : InboundStream) → i < length ls → get_or ls i x ≡ x → sum_by cost_within (take (i + 1) ls) ≡ sum_by cost_within (take i ls) + cost_within x
+counted-next ls i x lt at =
+    let e : sum_by cost_within (take (i + 1) ls) ≡ sum_by cost_within (take i ls ++ x ∷ []) = ap (sum_by cost_within) (take_more ls i x lt ∙ ap (λ y. take i ls ++ y ∷ []) at) in
+    let a = sum_by-append cost_within (take i ls) (x ∷ []) in
+    let b = sum_by-cons cost_within x [] in
+    omega (arith, e, a, b)
+
+-- the stream at a place
+module _ (ls : List InboundStream) (k : ℕ) (x : InboundStream) (lt : k < length ls) (at : x ≡ slice_index_or ls k x) where
+  pub is-part : cost_within x ≤ sum_by cost_within ls
+  is-part = let h = get_or-le-sum_by cost_within ls k x lt in let e = ap cost_within at in omega (arith, h, e)
+
+  pub changed-sum : (y : InboundStream) → sum_by cost_within ls - cost_within x + cost_within y ≡ sum_by cost_within (slice_set ls k y)
+  changed-sum y = let h = sum_by-set cost_within ls k y x lt in let e = ap cost_within at in let p = is-part in omega (arith, h, e, p)
+
+  pub changed-fits : length ls < 2 ^ 64 → (y : InboundStream) → sum_by cost_within ls - cost_within x + cost_within y < 2 ^ 128
+  changed-fits few y = let h = sum-fits (slice_set ls k y) (omega (arith, few, length-set ls k y)) in let e = changed-sum y in omega (arith, h, e)
+
+  pub removed-sum : sum_by cost_within ls - cost_within x ≡ sum_by cost_within (remove ls k)
+  removed-sum = let h = sum_by-remove cost_within ls k x lt in let e = ap cost_within at in omega (arith, h, e)

@@ -1,0 +1,34 @@
+-- A reset of the stream at a place, and streams of which none has what a skip discards without a name.
+use Rattle.std.proofs.Common.{◌≡◌, ℕ, true, false, List, [], ◌∷◌, map, Some, refl, ap, ap₂, ◌∙◌, Result, Ok, Err}
+use Rattle.std.specs.Prelude.{find, slice_index_or, slice_set, OnOk, OnErr}
+use Rattle.std.specs.List.{list_any}
+use Rattle.sctp_list_lemmas.specs.Lists.{change_where}
+use Rattle.sctp_serial.proofs.lemmas.ListEdits.{neither}
+use Rattle.sctp_reassembly.specs.reassembly_queue.Skips.{cannot_complete}
+use Rattle.sctp_reassembly.proofs.lemmas.reassembly_queue.ByteCounts.{incomplete_agrees}
+use Rattle.sctp_stream.specs.Numbers.{IsOnlyPlace}
+use Rattle.sctp_stream.proofs.StreamPlaces.{found, changed}
+use Rattle.sctp_receiver.specs.declared.receiver.inbound_streams.InboundStream.{InboundStream}
+use Rattle.sctp_receiver.specs.Inbound.{number, numbers_of, has_number, with_queue}
+use Rattle.sctp_receiver.specs.Resets.{stream_reset, keeps_message}
+use Rattle.sctp_receiver.specs.Skips.{incomplete_forwarded, has_incomplete}
+
+module _ (s last : ℕ) (ls : List InboundStream) (k : ℕ) (p : IsOnlyPlace s (numbers_of ls) k) (x y : InboundStream) (at : x ≡ slice_index_or ls k x) where
+  pub number-kept : {T E : Type 0} (r : Result T E) → OnOk r (y ≡ stream_reset last x) → OnErr r (y ≡ x) → number y ≡ number x
+  number-kept (Ok v) ok err = ap number ok
+  number-kept (Err e) ok err = ap number err
+
+  pub resets : {T E : Type 0} (r : Result T E) → OnOk r (y ≡ stream_reset last x) → OnOk r (slice_set ls k y ≡ change_where (has_number s) (stream_reset last) ls)
+  resets (Ok v) ok = changed number ls (numbers_of ls) refl s k p (stream_reset last) x y at ok
+  resets (Err e) ok = tt
+
+  pub wanted : {T E : Type 0} (r : Result T E) → OnErr r (keeps_message last (Some x) ≡ true) → OnErr r (keeps_message last (find (has_number s) ls) ≡ true)
+  wanted (Ok v) w = tt
+  wanted (Err e) w = ap (keeps_message last) (found number ls (numbers_of ls) refl s k p x at) ∙ w
+
+-- where no stream has such a message, none changes
+pub none-incomplete : (tsn : ℕ) (ls : List InboundStream) → has_incomplete tsn ls ≡ false → map (incomplete_forwarded tsn) ls ≡ ls
+none-incomplete tsn [] h = refl
+none-incomplete tsn (l ∷ ls) h =
+    let (a, b) = neither (list_any (cannot_complete tsn) l.queue.held.ordered) (has_incomplete tsn ls) h in
+    ap₂ (λ q ms. with_queue q l ∷ ms) (incomplete_agrees tsn l.queue a) (none-incomplete tsn ls b)
