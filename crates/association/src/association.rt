@@ -1,29 +1,23 @@
-//! What stands between a path and the two halves (RFC 4960 6 and 7; RFC 3758; RFC 7496).
+//! What stands between a path and the two halves (RFC 4960 6 and 7; RFC 3758; RFC 6525; RFC 7496).
+
+mod incoming;
 
 use crate::congestion::{Congestion, PACKET};
 use crate::fault::Fault;
-use crate::outgoing::{Outgoing, data_length};
+use crate::outgoing::{Outgoing, data_length, invalid_stream};
+use crate::resetting::{REQUEST_LENGTH, RESPONSE_LENGTH, Resets};
 use crate::timer::Timer;
 use bytes::Bytes;
-use sctp_base::util::sna32lt;
-use sctp_chunks::chunk::chunk_forward_tsn::ChunkForwardTsn;
 use sctp_chunks::chunk::chunk_kind::ChunkKind;
-use sctp_chunks::chunk::chunk_payload_data::{ChunkPayloadData, PayloadProtocolIdentifier};
-use sctp_chunks::chunk::chunk_selective_ack::ChunkSelectiveAck;
+use sctp_chunks::chunk::chunk_payload_data::PayloadProtocolIdentifier;
 use sctp_reassembly::chunks::Chunks;
 use sctp_receiver::receiver::Receiver;
-use sctp_receiver::receiver::arrival::Arrival;
 use sctp_receiver::receiver::limits::Limits;
-use sctp_receiver::receiver::refusal::ReceiverRefusal;
 use sctp_sender::sender::Sender;
-use sctp_sender::sender::flight::Released;
 use std::alloc::Global;
 
 /// How many bytes of user data a fragment has: a whole one fills a packet.
 const FRAGMENT: u32 = 1172;
-
-/// How long a SACK may wait for a second packet, in nanoseconds (RFC 4960 6.2).
-const SACK_DELAY: u64 = 200_000_000;
 
 /// What may be held and not read, and how far past the cumulative TSN a TSN may lie.
 const LIMITS: Limits = Limits {
@@ -44,6 +38,11 @@ pub struct Association {
     alloc: Global,
     congestion: Congestion,
     timer: Timer,
+    resets: Resets,
+    // The stream of the last chunk that was dropped since it is not open: an ERROR is due.
+    unknown_stream: Option<u16>,
+    // How many error causes the peer told.
+    errors: usize,
     // The credit of the last SACK.
     peer_window: usize,
     // When a SACK is due.
@@ -54,13 +53,13 @@ pub struct Association {
     is_fast: bool,
 }
 
-// How many bytes were acknowledged.
-fn bytes_of(released: &[Released]) -> usize {
-    let mut sum = 0usize;
-    for one in released {
-        sum = sum.saturating_add(one.bytes);
+/// The earlier of two moments, if there is one.
+pub fn earlier(a: Option<u64>, b: Option<u64>) -> Option<u64> {
+    match (a, b) {
+        (Some(a), Some(b)) => Some(a.min(b)),
+        (Some(a), None) => Some(a),
+        (None, b) => b,
     }
-    sum
 }
 
 impl Association {
@@ -68,10 +67,13 @@ impl Association {
     pub fn new(alloc: Global, first_tsn: u32, peer_tsn: u32, peer_window: u32) -> Association {
         Association {
             sender: Sender::new(alloc, first_tsn, FRAGMENT, MESSAGE),
-            receiver: Receiver::new(alloc, peer_tsn, MESSAGE),
+            receiver: Receiver::new(alloc, peer_tsn, MESSAGE, Some(LIMITS)),
             alloc,
             congestion: Congestion::new(peer_window as usize),
             timer: Timer::new(),
+            resets: Resets::new(alloc, first_tsn, peer_tsn),
+            unknown_stream: None,
+            errors: 0,
             peer_window: peer_window as usize,
             sack_at: None,
             is_skip_due: false,
@@ -86,7 +88,7 @@ impl Association {
         Ok(())
     }
 
-    /// Writes a message; its lifetime begins.
+    /// Writes a message; its lifetime begins. Refused while the stream is to be reset.
     pub fn write(
         &mut self,
         stream: u16,
@@ -94,160 +96,47 @@ impl Association {
         bytes: &Bytes,
         now: u64,
     ) -> Result<(), Fault> {
+        if self.resets.is_asked(stream) {
+            return Err(Fault::Refused);
+        }
         self.sender.write(stream, ppi, bytes)?;
         self.sender.start(now);
         Ok(())
     }
 
+    /// Resets a stream in this direction, once the peer has acknowledged all that was written to it (RFC 8831 6.7).
+    pub fn reset(&mut self, stream: u16) -> Result<(), Fault> {
+        self.resets.ask(stream)
+    }
+
+    /// How many error causes the peer told (RFC 4960 3.3.10).
+    pub fn errors(&self) -> usize {
+        self.errors
+    }
+
     /// Reads the next message of a stream, if one is there. Where the window was used up, the peer is told that it is not.
     pub fn read(&mut self, stream: u16, now: u64) -> Result<Option<Chunks>, Fault> {
-        let was_full = self.credit() == 0;
+        let was_full = self.receiver.window() == 0;
         let message = self.receiver.read(stream)?;
-        if was_full && self.credit() != 0 {
+        if was_full && self.receiver.window() != 0 {
             self.sack_at = Some(now);
         }
         Ok(message)
     }
 
-    /// Whether all that was written is acknowledged, or abandoned and passed.
+    /// Whether all that was written is acknowledged, or abandoned and passed, and no reset is asked for.
     pub fn is_drained(&self) -> bool {
-        self.sender.chunks_in_flight() == 0 && self.sender.outbound().pending_len() == 0
+        self.sender.chunks_in_flight() == 0
+            && self.sender.outbound().pending_len() == 0
+            && self.resets.is_idle()
     }
 
     /// When `transmit` is to be called next, though nothing came; None where nothing is waited for.
     pub fn next_time(&self) -> Option<u64> {
-        match (self.timer.end(), self.sack_at) {
-            (Some(end), Some(at)) => Some(end.min(at)),
-            (Some(end), None) => Some(end),
-            (None, at) => at,
-        }
-    }
-
-    /// Takes the chunks of a packet.
-    pub fn receive(&mut self, chunks: &[ChunkKind], now: u64) -> Result<(), Fault> {
-        let mut has_data = false;
-        for chunk in chunks {
-            match chunk {
-                ChunkKind::PayloadData(data) => {
-                    has_data = true;
-                    self.take_data(data, now)?;
-                }
-                ChunkKind::SelectiveAck(sack) => self.take_sack(sack, now)?,
-                ChunkKind::ForwardTsn(skip) => self.take_skip(skip, now)?,
-                _ => {}
-            }
-        }
-        if has_data {
-            self.owe_sack(now);
-        }
-        Ok(())
-    }
-
-    // A packet with DATA came: a SACK goes at once for every second one, else after a while (RFC 4960 6.2).
-    fn owe_sack(&mut self, now: u64) {
-        self.sack_at = Some(match self.sack_at {
-            Some(_) => now,
-            None => now.saturating_add(SACK_DELAY),
-        });
-    }
-
-    // Takes a DATA chunk. What repeats, fills a gap or leaves one is acknowledged at once (RFC 4960 6.2, 6.7).
-    fn take_data(&mut self, chunk: &ChunkPayloadData, now: u64) -> Result<(), Fault> {
-        let had_gap = !self.receiver.filter().is_empty();
-        match self.receiver.data_within(chunk, LIMITS) {
-            Ok(Arrival::New { .. }) => {
-                if chunk.immediate_sack || had_gap || !self.receiver.filter().is_empty() {
-                    self.sack_at = Some(now);
-                }
-                Ok(())
-            }
-            // Dropped, where there is no room for it: the SACK says so (RFC 4960 6.2).
-            Ok(Arrival::Repeat)
-            | Err(ReceiverRefusal::WindowFull)
-            | Err(ReceiverRefusal::TsnTooFar) => {
-                self.sack_at = Some(now);
-                Ok(())
-            }
-            // Acknowledged and dropped (RFC 4960 6.5).
-            Err(ReceiverRefusal::StreamUnknown) => {
-                self.receiver.discard(chunk.tsn)?;
-                Ok(())
-            }
-            // Of no window that this association had.
-            Err(ReceiverRefusal::TsnOpposite) => Ok(()),
-            Err(e) => Err(e.into()),
-        }
-    }
-
-    // The window to advertise.
-    fn credit(&self) -> u32 {
-        self.receiver.window_left(LIMITS.window)
-    }
-
-    // Takes a FORWARD-TSN, which is acknowledged at once (RFC 3758 3.6).
-    fn take_skip(&mut self, skip: &ChunkForwardTsn, now: u64) -> Result<(), Fault> {
-        self.sack_at = Some(now);
-        match self.receiver.forward_tsn(skip) {
-            Ok(_) | Err(ReceiverRefusal::TsnOpposite) => Ok(()),
-            Err(e) => Err(e.into()),
-        }
-    }
-
-    // Takes a SACK, unless it is out of date (RFC 4960 6.2.1, 6.3.2).
-    fn take_sack(&mut self, sack: &ChunkSelectiveAck, now: u64) -> Result<(), Fault> {
-        let before = self.sender.acked_tsn();
-        if sna32lt(sack.cumulative_tsn_ack, before) {
-            return Ok(());
-        }
-        let flight = self.flight();
-        let released = self.sender.acked(sack)?;
-        self.peer_window = sack.advertised_receiver_window_credit as usize;
-        self.is_skip_due = true;
-        self.measure(&released, now);
-        let has_advanced = self.sender.acked_tsn() != before;
-        self.count_missing(sack, &released, has_advanced);
-        if has_advanced {
-            self.timer.stop();
-            let bytes = bytes_of(&released);
-            self.congestion
-                .advanced(self.sender.acked_tsn(), bytes, flight);
-        }
-        self.run_timer(now);
-        Ok(())
-    }
-
-    // Times a round trip by the last chunk that is acknowledged now and was sent once (RFC 4960 6.3.1 C4, C5).
-    fn measure(&mut self, released: &[Released], now: u64) {
-        let mut sent = None;
-        for one in released {
-            if one.nsent == 1 {
-                sent = one.since;
-            }
-        }
-        if let Some(since) = sent {
-            self.timer.measure(now.saturating_sub(since));
-        }
-    }
-
-    // Counts what is missing before the highest TSN that is acknowledged now; in fast recovery, where the cumulative TSN moved,
-    // before the highest that the SACK reports (RFC 4960 7.2.4).
-    fn count_missing(
-        &mut self,
-        sack: &ChunkSelectiveAck,
-        released: &[Released],
-        has_advanced: bool,
-    ) {
-        let (Some(block), Some(one)) = (sack.gap_ack_blocks.last(), released.last()) else {
-            return;
-        };
-        let mut before = one.tsn;
-        if has_advanced && self.congestion.is_recovering() {
-            before = sack.cumulative_tsn_ack.wrapping_add(u32::from(block.end));
-        }
-        if self.sender.add_miss_indications(before) > 0 {
-            self.congestion.lost(self.sender.next_tsn().wrapping_sub(1));
-            self.is_fast = true;
-        }
+        earlier(
+            earlier(self.timer.end(), self.sack_at),
+            self.resets.next_time(),
+        )
     }
 
     // The timer runs while a chunk is in flight; an abandoned one is until a SACK passes it (RFC 4960 6.3.2; RFC 3758 3.5).
@@ -284,6 +173,8 @@ impl Association {
         let mut packet = Outgoing::new(self.alloc);
         self.put_sack(&mut packet, now)?;
         self.put_skip(&mut packet)?;
+        self.put_error(&mut packet)?;
+        self.put_resets(&mut packet, now)?;
         self.put_lost(&mut packet, now)?;
         self.put_new(&mut packet, now)?;
         self.run_timer(now);
@@ -308,8 +199,7 @@ impl Association {
     fn put_sack(&mut self, packet: &mut Outgoing, now: u64) -> Result<(), Fault> {
         match self.sack_at {
             Some(at) if at <= now => {
-                let (credit, room) = (self.credit(), packet.room);
-                let sack = self.receiver.sack_within(credit, room)?;
+                let sack = self.receiver.sack_within(packet.room)?;
                 let entries = sack
                     .gap_ack_blocks
                     .len()
@@ -333,6 +223,33 @@ impl Association {
             packet.put(ChunkKind::ForwardTsn(skip), length)?;
         }
         self.is_skip_due = false;
+        Ok(())
+    }
+
+    // Puts the ERROR that is due (RFC 4960 6.5, 3.3.10.1).
+    fn put_error(&mut self, packet: &mut Outgoing) -> Result<(), Fault> {
+        let Some(stream) = self.unknown_stream else {
+            return Ok(());
+        };
+        let (error, length) = invalid_stream(self.alloc, stream)?;
+        if length <= packet.room {
+            packet.put(error, length)?;
+            self.unknown_stream = None;
+        }
+        Ok(())
+    }
+
+    // Puts the RE-CONFIG chunks that are due (RFC 6525 5.1, 5.2).
+    fn put_resets(&mut self, packet: &mut Outgoing, now: u64) -> Result<(), Fault> {
+        if packet.room < REQUEST_LENGTH + RESPONSE_LENGTH {
+            return Ok(());
+        }
+        if let Some(response) = self.resets.response() {
+            packet.put(response, RESPONSE_LENGTH)?;
+        }
+        if let Some(request) = self.resets.request(self.alloc, &self.sender, now)? {
+            packet.put(request, REQUEST_LENGTH)?;
+        }
         Ok(())
     }
 

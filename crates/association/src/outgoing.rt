@@ -2,7 +2,10 @@
 
 use crate::congestion::PACKET;
 use crate::fault::Fault;
+use bytes::Bytes;
+use sctp_chunks::chunk::chunk_error::ChunkError;
 use sctp_chunks::chunk::chunk_kind::ChunkKind;
+use sctp_chunks::chunk::error_cause::{ErrorCause, INVALID_STREAM_IDENTIFIER};
 use std::alloc::Global;
 
 /// The bytes of a DATA chunk before its user data.
@@ -35,4 +38,16 @@ impl Outgoing {
 /// How long a DATA chunk with so many bytes of user data is, with its padding.
 pub fn data_length(bytes: usize) -> usize {
     DATA_HEADER.saturating_add(bytes.saturating_add(3) & !3)
+}
+
+/// The ERROR that says that a stream is not open, and how long it is (RFC 4960 3.3.10.1).
+pub fn invalid_stream(alloc: Global, stream: u16) -> Result<(ChunkKind, usize), Fault> {
+    let number = stream.to_be_bytes();
+    let raw = Bytes::copy_from_slice(alloc, &[number[0], number[1], 0, 0])?;
+    let mut error_causes = Vec::new(alloc);
+    error_causes.push(ErrorCause {
+        code: INVALID_STREAM_IDENTIFIER,
+        raw,
+    })?;
+    Ok((ChunkKind::Error(ChunkError { error_causes }), 12))
 }

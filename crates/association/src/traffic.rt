@@ -1,4 +1,4 @@
-//! What is written in the test, and what is read of it.
+//! What is written, and what is read of it.
 
 use bytes::Bytes;
 use sctp_chunks::chunk::chunk_payload_data::ReliabilityType;
@@ -6,7 +6,10 @@ use sctp_reassembly::chunks::Chunks;
 use std::alloc::{AllocError, Global};
 
 /// How many messages are written to each stream.
-pub(crate) const MESSAGES: u16 = 60;
+pub(crate) const MESSAGES: u16 = 40;
+
+/// How many are written to a reliable stream after it is reset.
+pub(crate) const LATER: u16 = 12;
 
 // More than a message has.
 const LONGEST: usize = 4096;
@@ -20,7 +23,7 @@ pub(crate) struct Channel {
     pub value: u32,
 }
 
-/// The streams of the test, in the order of their numbers.
+/// The streams, in the order of their numbers; the first two are reliable.
 pub(crate) const CHANNELS: [Channel; 6] = [
     Channel {
         stream: 0,
@@ -91,6 +94,8 @@ pub(crate) fn text(alloc: Global, stream: u16, number: u16) -> Result<Bytes, All
 pub(crate) struct Inbox {
     numbers: Vec<u16>,
     is_exact: bool,
+    // The stream sequence number of the first message after the reset.
+    first_after_reset: Option<u16>,
 }
 
 impl Inbox {
@@ -99,6 +104,7 @@ impl Inbox {
         Inbox {
             numbers: Vec::new(alloc),
             is_exact: true,
+            first_after_reset: None,
         }
     }
 
@@ -114,7 +120,10 @@ impl Inbox {
         let number = u16::from_be_bytes([buffer[0], buffer[1]]);
         let due = text(alloc, stream, number)?;
         let same = buffer.get(..read) == Some(due.as_slice());
-        self.is_exact = self.is_exact && same && number < MESSAGES;
+        self.is_exact = self.is_exact && same && number < MESSAGES + LATER;
+        if number == MESSAGES {
+            self.first_after_reset = Some(message.ssn());
+        }
         match self.numbers.push(number) {
             Ok(()) => Ok(()),
             Err(_) => Err(AllocError),
@@ -135,7 +144,7 @@ impl Inbox {
     // Whether no message came twice.
     fn has_no_repeat(&self) -> bool {
         let mut well = true;
-        for number in 0..MESSAGES {
+        for number in 0..MESSAGES + LATER {
             let mut count = 0usize;
             for one in &self.numbers {
                 if *one == number {
@@ -150,10 +159,10 @@ impl Inbox {
     /// Whether what came is what the mode of the channel promises.
     pub fn is_as(&self, channel: &Channel) -> bool {
         let is_reliable = channel.reliability == ReliabilityType::Reliable;
-        let are_all = self.len() == MESSAGES as usize;
+        let are_all = self.len() == (MESSAGES + LATER) as usize;
         self.is_exact
             && self.has_no_repeat()
             && (channel.unordered || self.is_in_order())
-            && (are_all || !is_reliable)
+            && (!is_reliable || (are_all && self.first_after_reset == Some(0)))
     }
 }

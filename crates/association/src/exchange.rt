@@ -1,9 +1,9 @@
-//! Two associations over a network that loses 0, 5, 20 and 40 of 100 packets.
+//! Two associations over a network that loses packets.
 
-use crate::association::Association;
+use crate::association::{Association, earlier};
 use crate::fault::Fault;
 use crate::network::{MS, Network};
-use crate::traffic::{CHANNELS, Inbox, MESSAGES, text};
+use crate::traffic::{CHANNELS, Channel, Inbox, LATER, MESSAGES, text};
 use sctp_chunks::chunk::chunk_kind::ChunkKind;
 use sctp_chunks::chunk::chunk_payload_data::PayloadProtocolIdentifier;
 use std::alloc::Global;
@@ -13,6 +13,9 @@ const STEPS: u32 = 200_000;
 
 // More packets than a host sends at once, and more messages than it reads at once.
 const MOST: u32 = 10_000;
+
+// The stream that one host alone has opened.
+const UNKNOWN: u16 = 9;
 
 // A host: its association, and what it read on each stream.
 #[derive(Drop)]
@@ -40,14 +43,36 @@ impl Host {
         })
     }
 
-    // Writes a message to each stream.
-    fn write(&mut self, alloc: Global, number: u16, now: u64) -> Result<(), Fault> {
-        for channel in CHANNELS {
+    // Writes a message to each of these streams.
+    fn write(
+        &mut self,
+        alloc: Global,
+        channels: &[Channel],
+        number: u16,
+        now: u64,
+    ) -> Result<(), Fault> {
+        for channel in channels {
             let bytes = text(alloc, channel.stream, number)?;
             let ppi = PayloadProtocolIdentifier::Binary;
             self.association.write(channel.stream, ppi, &bytes, now)?;
         }
         Ok(())
+    }
+
+    // Asks for a reset of each of these streams.
+    fn reset(&mut self, channels: &[Channel]) -> Result<(), Fault> {
+        for channel in channels {
+            self.association.reset(channel.stream)?;
+        }
+        Ok(())
+    }
+
+    // Writes a message to a stream that the peer has not opened.
+    fn write_unknown(&mut self, alloc: Global, now: u64) -> Result<(), Fault> {
+        self.association.sender.open(UNKNOWN)?;
+        let bytes = text(alloc, UNKNOWN, 0)?;
+        let ppi = PayloadProtocolIdentifier::Binary;
+        self.association.write(UNKNOWN, ppi, &bytes, now)
     }
 
     // Gives the network all packets that are due.
@@ -113,15 +138,6 @@ struct Exchange {
     now: u64,
 }
 
-// The earlier of two moments.
-fn earlier(a: Option<u64>, b: Option<u64>) -> Option<u64> {
-    match (a, b) {
-        (Some(a), Some(b)) => Some(a.min(b)),
-        (Some(a), None) => Some(a),
-        (None, b) => b,
-    }
-}
-
 impl Exchange {
     fn new(alloc: Global, loss: u32) -> Result<Exchange, Fault> {
         Ok(Exchange {
@@ -133,10 +149,17 @@ impl Exchange {
         })
     }
 
-    // Lets both write a message to each stream.
-    fn write(&mut self, number: u16) -> Result<(), Fault> {
-        self.first.write(self.alloc, number, self.now)?;
-        self.second.write(self.alloc, number, self.now)
+    // Lets both write a message to each of these streams.
+    fn write(&mut self, channels: &[Channel], number: u16) -> Result<(), Fault> {
+        let (alloc, now) = (self.alloc, self.now);
+        self.first.write(alloc, channels, number, now)?;
+        self.second.write(alloc, channels, number, now)
+    }
+
+    // Lets both reset these streams.
+    fn reset(&mut self, channels: &[Channel]) -> Result<(), Fault> {
+        self.first.reset(channels)?;
+        self.second.reset(channels)
     }
 
     // Lets both send what is due, and time go on to what happens next.
@@ -174,29 +197,41 @@ impl Exchange {
     }
 }
 
-// Whether all goes well over a network that loses so many of 100 packets.
-fn goes_well(alloc: Global, loss: u32) -> Result<bool, Fault> {
-    let mut exchange = Exchange::new(alloc, loss)?;
-    for step in 0..STEPS {
-        if step < u32::from(MESSAGES) {
-            exchange.write(step as u16)?;
-            exchange.wait(20 * MS)?;
-        } else {
-            exchange.wait(u64::MAX)?;
+impl Exchange {
+    // Lets what was written come, until both are drained; false where that takes more steps than there are.
+    fn drain(&mut self) -> Result<bool, Fault> {
+        for _ in 0..STEPS {
+            self.wait(u64::MAX)?;
+            self.deliver()?;
+            if self.is_drained() {
+                return Ok(true);
+            }
         }
-        exchange.deliver()?;
-        if step > u32::from(MESSAGES) && exchange.is_drained() {
-            return Ok(exchange.is_served());
-        }
+        Ok(false)
     }
-    Ok(false)
+
+    // Lets both write messages with these numbers, one each 20 milliseconds, and then lets them come.
+    fn exchange(&mut self, channels: &[Channel], from: u16, to: u16) -> Result<bool, Fault> {
+        for number in from..to {
+            self.write(channels, number)?;
+            self.wait(20 * MS)?;
+            self.deliver()?;
+        }
+        self.drain()
+    }
 }
 
-/// Reliable messages all come, each once, ordered ones in order; of the others those that come are such as were written; in the
-/// end nothing waits, is in flight or is held.
-#[test]
-fn two_over_a_network_that_loses(rt: HostRuntime) {
-    for loss in [0, 5, 20, 40] {
-        assert_eq!(rt; goes_well(rt.alloc(), loss), Ok(true), "at {loss} of 100");
-    }
+/// Whether all goes well over a network that loses so many of 100 packets: reliable messages all come, each once, ordered ones in
+/// order; of the others those that come are such as were written; a stream that is reset begins with the number 0 again; a chunk
+/// of a stream that is not open is acknowledged; and in the end nothing waits, is in flight or is held.
+pub fn goes_well(alloc: Global, loss: u32) -> Result<bool, Fault> {
+    let mut exchange = Exchange::new(alloc, loss)?;
+    let reliable = CHANNELS.get(..2).unwrap_or(&[]);
+    let came = exchange.exchange(&CHANNELS, 0, MESSAGES)?;
+    exchange.reset(reliable)?;
+    let are_reset = exchange.drain()?;
+    exchange.first.write_unknown(alloc, exchange.now)?;
+    let more = exchange.exchange(reliable, MESSAGES, MESSAGES + LATER)?;
+    let is_told = loss > 0 || exchange.first.association.errors() == 1;
+    Ok(came && are_reset && more && is_told && exchange.is_served())
 }
