@@ -1,11 +1,3 @@
-pub mod Known
-pub mod Entries
-pub mod Lines
-pub mod Digits
-pub mod Heads
 pub mod Runs
 pub mod Texts
-pub mod Uppers
-pub mod Frames
-pub mod BlockPieces
-pub mod Pieces
+mod Examples

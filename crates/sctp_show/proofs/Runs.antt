@@ -1,5 +1,5 @@
 -- A run, piece by piece.
-use Rattle.std.proofs.Common.{◌≡◌, ℕ, ◌+◌, ◌<◌, List, [], ◌∷◌, ◌++◌, length, Some, None, IfSome, refl, ap, sym, subst, ◌∙◌, arith}
+use Rattle.std.proofs.Common.{◌≡◌, ℕ, ◌+◌, ◌<◌, List, [], ◌∷◌, ◌++◌, length, Some, None, IfSome, ◌⊎◌, inl, inr, refl, ap, sym, subst, ◌∙◌, arith}
 use Rattle.std.specs.Prelude.{Option, IsSomeAnd, option_to_list}
 use Rattle.std.specs.List.{concat}
 use Rattle.std.specs.Io.KnownBytes.{Keeps, Appends}
@@ -7,13 +7,14 @@ use Rattle.std.proofs.KnownBytes.{Appends-trans, Appends-nil, Appends-kept}
 use Rattle.std.proofs.lemmas.List.{append-nil, length-append}
 use Rattle.std.proofs.lemmas.List.Folds.{concat-append}
 use Rattle.std.proofs.lemmas.Grind.{flat_map-append}
-use Rattle.sctp_show.specs.declared.page.Form.{Form}
-use Rattle.sctp_show.specs.declared.record.Record.{Record}
-use Rattle.sctp_show.specs.declared.run.Format.{Format}
-use Rattle.sctp_show.specs.declared.run.Format.TheVariants.{Lines, Capture, Blocks}
-use Rattle.sctp_show.specs.Blocks.{Known, Piece, IsBegun, IsEnd}
-use Rattle.sctp_show.specs.Text.{IsText, AreTexts}
-use Rattle.sctp_show.specs.Run.{IsOpened, IsPiece, Pieces, records_of, IsInput, IsTaken, unread_by, unread_in, PrintsRecord, Prints}
+use Rattle.sctp_show.specs.declared.text.Options.{Options}
+use Rattle.sctp_capture.specs.declared.record.Record.{Record}
+use Rattle.sctp_capture.specs.declared.input.Format.{Format}
+use Rattle.sctp_capture.specs.declared.input.Format.TheVariants.{Lines, Capture, Blocks}
+use Rattle.sctp_capture.specs.Blocks.{Known, Piece, IsBegun, IsEnd}
+use Rattle.sctp_show.specs.Text.{IsText, AreTexts, shown_by, shown_in}
+use Rattle.sctp_capture.specs.Input.{IsOpened, IsPiece, Pieces, records_of, IsInput, IsTaken, unread_by, unread_in}
+use Rattle.sctp_show.specs.Run.{PrintsRecord, Prints}
 
 -- the pieces so far, by what was to be read and what is left
 pub record Walked (format : Format) (begun : Known) (bytes : List ℕ) (k : Known) (left : List ℕ) (records : List Record) : Type 0 where
@@ -26,15 +27,15 @@ abbrev pub HasRead : Format → Known → Option (List ℕ) → Known → Option
 HasRead format begun first k left records = IfSome first (λ xs. IsSomeAnd left (λ ys. Walked format begun xs k ys records))
 
 -- and their texts
-abbrev pub HasPrinted : Form → Option (List ℕ) → Option (List ℕ) → List Record → Type 0
-HasPrinted form old new records = (texts : List (List ℕ)) × AreTexts form 1 records texts × Appends old new (concat texts)
+abbrev pub HasPrinted : Options → Option (List ℕ) → Option (List ℕ) → List Record → ℕ → Type 0
+HasPrinted o old new records shown = (texts : List (List ℕ)) × AreTexts o 1 records texts × (shown ≡ shown_in texts) × Appends old new (concat texts)
 
-pub record SoFar (form : Form) (format : Format) (begun : Known) (first : Option (List ℕ)) (k : Known) (left old new : Option (List ℕ)) (count unread : ℕ) : Type 0 where
+pub record SoFar (o : Options) (format : Format) (begun : Known) (first : Option (List ℕ)) (k : Known) (left old new : Option (List ℕ)) (count unread shown : ℕ) : Type 0 where
   pub records : List Record
   pub counted : length records ≡ count
   pub missed : unread_in records ≡ unread
   pub read : HasRead format begun first k left records
-  pub printed : HasPrinted form old new records
+  pub printed : HasPrinted o old new records shown
 
 pieces_none : (format : Format) (k : Known) (bytes : List ℕ) → Pieces format k bytes [] k bytes
 unfolding Pieces
@@ -55,8 +56,8 @@ pub read_none : (format : Format) (k : Known) (a : Option (List ℕ)) → HasRea
 read_none format k None = tt
 read_none format k (Some xs) = record { pieces = []; walk = pieces_none format k xs; are = refl }
 
-pub so_far_none : (form : Form) (format : Format) (k : Known) (a old : Option (List ℕ)) → SoFar form format k a k a old old 0 0
-so_far_none form format k a old = record { records = []; counted = refl; missed = refl; read = read_none format k a; printed = ([], tt, Appends-nil old) }
+pub so_far_none : (o : Options) (format : Format) (k : Known) (a old : Option (List ℕ)) → SoFar o format k a k a old old 0 0 0
+so_far_none o format k a old = record { records = []; counted = refl; missed = refl; read = read_none format k a; printed = ([], tt, refl, Appends-nil old) }
 
 records_next : (pieces : List Piece) (p : Piece) → records_of (pieces ++ p ∷ []) ≡ records_of pieces ++ option_to_list p.found
 records_next pieces p =
@@ -81,43 +82,51 @@ read_next format begun k after (Some xs) (Some ys) (Some zs) records found read 
       are = ap (λ l. l ++ option_to_list found) read.are ∙ ap (λ o. records_of read.pieces ++ option_to_list o) (sym same_found) ∙ sym (records_next read.pieces p);
     }
 
-texts_next : (form : Form) (n : ℕ) (records : List Record) (texts : List (List ℕ)) (r : Record) (t : List ℕ) → AreTexts form n records texts → IsText form (n + length records) r t → AreTexts form n (records ++ r ∷ []) (texts ++ t ∷ [])
-texts_next form n [] [] r t all is = let here : n + 0 ≡ n = omega arith in (rw here at is, tt)
-texts_next form n [] (u ∷ us) r t all is = absurd all
-texts_next form n (q ∷ qs) [] r t all is = absurd all
-texts_next form n (q ∷ qs) (u ∷ us) r t all is =
+texts_next : (o : Options) (n : ℕ) (records : List Record) (texts : List (List ℕ)) (r : Record) (t : List ℕ) → AreTexts o n records texts → IsText o (n + length records) r t → AreTexts o n (records ++ r ∷ []) (texts ++ t ∷ [])
+texts_next o n [] [] r t all is = let here : n + 0 ≡ n = omega arith in (rw here at is, tt)
+texts_next o n [] (u ∷ us) r t all is = absurd all
+texts_next o n (q ∷ qs) [] r t all is = absurd all
+texts_next o n (q ∷ qs) (u ∷ us) r t all is =
     let same : n + length {A = Record} (q ∷ qs) ≡ (n + 1) + length qs = omega arith in
-    (all.0, texts_next form (n + 1) qs us r t all.1 (rw same at is))
+    (all.0, texts_next o (n + 1) qs us r t all.1 (rw same at is))
 
-printed_next : (form : Form) (old mid new : Option (List ℕ)) (records : List Record) (r : Record) (n : ℕ) → n ≡ 1 + length records → HasPrinted form old mid records → PrintsRecord form n r mid new → HasPrinted form old new (records ++ r ∷ [])
-printed_next form old mid new records r n e printed next =
+shown_next : (texts : List (List ℕ)) (t : List ℕ) → shown_in (texts ++ t ∷ []) ≡ shown_in texts + shown_by t
+shown_next [] t = omega arith
+shown_next (u ∷ us) t = let rest = shown_next us t in omega (arith, rest)
+
+printed_next : (o : Options) (old mid new : Option (List ℕ)) (records : List Record) (r : Record) (n shown more : ℕ) → n ≡ 1 + length records → HasPrinted o old mid records shown → PrintsRecord o n r more mid new
+    → HasPrinted o old new (records ++ r ∷ []) (shown + more)
+printed_next o old mid new records r n shown more e printed next =
     let texts : List (List ℕ) = printed.0 in
     let t : List ℕ = next.0 in
     let joined : concat (texts ++ t ∷ []) ≡ concat texts ++ t = concat-append texts (t ∷ []) ∙ ap (λ l. concat texts ++ l) (append-nil t) in
-    (texts ++ t ∷ [], texts_next form 1 records texts r t printed.1 (rw e at next.1), rw joined (Appends-trans old mid new (concat texts) t printed.2 next.2))
+    let was : shown ≡ shown_in texts = printed.2 in
+    let one : more ≡ shown_by t = next.2 in
+    let count : shown + more ≡ shown_in (texts ++ t ∷ []) = rw (was, one) (sym (shown_next texts t)) in
+    (texts ++ t ∷ [], texts_next o 1 records texts r t printed.1 (rw e at next.1), count, rw joined (Appends-trans old mid new (concat texts) t printed.3 next.3))
 
 unread_next : (records : List Record) (r : Record) → unread_in (records ++ r ∷ []) ≡ unread_in records + unread_by r
 unread_next [] r = omega arith
 unread_next (q ∷ qs) r = let rest = unread_next qs r in omega (arith, rest)
 
 -- what was printed is sent off
-pub so_far_sent : (form : Form) (format : Format) (begun k : Known) (a b old mid new : Option (List ℕ)) (count unread : ℕ) → SoFar form format begun a k b old mid count unread
-    → Keeps mid new → SoFar form format begun a k b old new count unread
-so_far_sent form format begun k a b old mid new count unread so kept =
+pub so_far_sent : (o : Options) (format : Format) (begun k : Known) (a b old mid new : Option (List ℕ)) (count unread shown : ℕ) → SoFar o format begun a k b old mid count unread shown
+    → Keeps mid new → SoFar o format begun a k b old new count unread shown
+so_far_sent o format begun k a b old mid new count unread shown so kept =
     let texts : List (List ℕ) = so.printed.0 in
     record {
       records = so.records;
       counted = so.counted;
       missed = so.missed;
       read = so.read;
-      printed = (texts, so.printed.1, Appends-kept old mid new (concat texts) so.printed.2 kept);
+      printed = (texts, so.printed.1, so.printed.2, Appends-kept old mid new (concat texts) so.printed.3 kept);
     }
 
 -- one record more is read and printed
-pub so_far_record : (form : Form) (format : Format) (begun k after : Known) (a b c old mid new : Option (List ℕ)) (count unread : ℕ) (r : Record)
-    → SoFar form format begun a k b old mid count unread → IfSome b (λ xs. IsTaken format k xs (Some r) after c) → PrintsRecord form (count + 1) r mid new
-    → SoFar form format begun a after c old new (count + 1) (unread + unread_by r)
-so_far_record form format begun k after a b c old mid new count unread r so next prints =
+pub so_far_record : (o : Options) (format : Format) (begun k after : Known) (a b c old mid new : Option (List ℕ)) (count unread shown more : ℕ) (r : Record)
+    → SoFar o format begun a k b old mid count unread shown → IfSome b (λ xs. IsTaken format k xs (Some r) after c) → PrintsRecord o (count + 1) r more mid new
+    → SoFar o format begun a after c old new (count + 1) (unread + unread_by r) (shown + more)
+so_far_record o format begun k after a b c old mid new count unread shown more r so next prints =
     let number : count + 1 ≡ 1 + length so.records = omega (arith, so.counted) in
     let longer : length (so.records ++ r ∷ []) ≡ count + 1 = length-append so.records (r ∷ []) ∙ omega (arith, so.counted) in
     record {
@@ -125,13 +134,13 @@ so_far_record form format begun k after a b c old mid new count unread r so next
       counted = longer;
       missed = unread_next so.records r ∙ ap (λ n. n + unread_by r) so.missed;
       read = read_next format begun k after a b c so.records (Some r) so.read next;
-      printed = printed_next form old mid new so.records r (count + 1) number so.printed prints;
+      printed = printed_next o old mid new so.records r (count + 1) shown more number so.printed prints;
     }
 
 -- one piece more is read, which is no record
-pub so_far_nothing : (form : Form) (format : Format) (begun k after : Known) (a b c old new : Option (List ℕ)) (count unread : ℕ) → SoFar form format begun a k b old new count unread
-    → IfSome b (λ xs. IsTaken format k xs None after c) → SoFar form format begun a after c old new count unread
-so_far_nothing form format begun k after a b c old new count unread so next =
+pub so_far_nothing : (o : Options) (format : Format) (begun k after : Known) (a b c old new : Option (List ℕ)) (count unread shown : ℕ) → SoFar o format begun a k b old new count unread shown
+    → IfSome b (λ xs. IsTaken format k xs None after c) → SoFar o format begun a after c old new count unread shown
+so_far_nothing o format begun k after a b c old new count unread shown so next =
     let same : so.records ++ [] ≡ so.records = append-nil so.records in
     let read : HasRead format begun a after c (so.records ++ []) = read_next format begun k after a b c so.records None so.read next in
     record { records = so.records; counted = so.counted; missed = so.missed; read = rw same at read; printed = so.printed }
@@ -142,14 +151,23 @@ opened_input format None a b keeps opened = tt
 opened_input format (Some bytes) None b keeps opened = absurd keeps
 opened_input format (Some bytes) (Some xs) b keeps opened = rw keeps at opened
 
-all_read : (format : Format) (begun k : Known) (z a b : Option (List ℕ)) (records : List Record) → IsBegun begun → IfSome z (λ bytes. IsOpened format bytes a) → HasRead format begun a k b records
-    → IfSome b (λ xs. IsEnd k xs) → IfSome z (λ bytes. IsInput bytes records)
-all_read format begun k None a b records is_begun opened read next = tt
-all_read Lines begun k (Some bytes) None b records is_begun opened read next = absurd opened.3
-all_read (Capture h) begun k (Some bytes) None b records is_begun opened read next = absurd opened.1
-all_read Blocks begun k (Some bytes) None b records is_begun opened read next = absurd opened.2
-all_read format begun k (Some bytes) (Some xs) None records is_begun opened read next = absurd read
-all_read format begun k (Some bytes) (Some xs) (Some ys) records is_begun opened read next = record {
+-- the run ended at the end of the input, or was stopped
+pub at_end : (k : Known) (b : Option (List ℕ)) (stopped : Type 0) → IfSome b (λ xs. IsEnd k xs) → IfSome b (λ xs. IsEnd k xs ⊎ stopped)
+at_end k None stopped end = tt
+at_end k (Some xs) stopped end = inl end
+
+pub at_stop : (k : Known) (b : Option (List ℕ)) (stopped : Type 0) → stopped → IfSome b (λ xs. IsEnd k xs ⊎ stopped)
+at_stop k None stopped is = tt
+at_stop k (Some xs) stopped is = inr is
+
+all_read : (format : Format) (begun k : Known) (z a b : Option (List ℕ)) (records : List Record) (stopped : Type 0) → IsBegun begun → IfSome z (λ bytes. IsOpened format bytes a) → HasRead format begun a k b records
+    → IfSome b (λ xs. IsEnd k xs ⊎ stopped) → IfSome z (λ bytes. IsInput stopped bytes records)
+all_read format begun k None a b records stopped is_begun opened read next = tt
+all_read Lines begun k (Some bytes) None b records stopped is_begun opened read next = absurd opened.3
+all_read (Capture h) begun k (Some bytes) None b records stopped is_begun opened read next = absurd opened.1
+all_read Blocks begun k (Some bytes) None b records stopped is_begun opened read next = absurd opened.2
+all_read format begun k (Some bytes) (Some xs) None records stopped is_begun opened read next = absurd read
+all_read format begun k (Some bytes) (Some xs) (Some ys) records stopped is_begun opened read next = record {
   format = format;
   body = xs;
   opened = opened;
@@ -163,14 +181,14 @@ all_read format begun k (Some bytes) (Some xs) (Some ys) records is_begun opened
   are = read.are;
 }
 
--- where no piece is left, all are read and printed
-pub so_far_all : (form : Form) (format : Format) (begun k : Known) (z a b old mid new : Option (List ℕ)) (count unread : ℕ) (ending : List ℕ) → IsBegun begun
-    → IfSome z (λ bytes. IsOpened format bytes a) → SoFar form format begun a k b old mid count unread → IfSome b (λ xs. IsEnd k xs) → Appends mid new ending
-    → (records : List Record) × (count ≡ length records) × (unread ≡ unread_in records) × IfSome z (λ bytes. IsInput bytes records) × Prints form records old new
-so_far_all form format begun k z a b old mid new count unread ending is_begun opened so next ends = (
+-- what a run did that ended here
+pub so_far_all : (o : Options) (format : Format) (begun k : Known) (z a b old mid new : Option (List ℕ)) (count unread shown : ℕ) (ending : List ℕ) (stopped : Type 0) → IsBegun begun
+    → IfSome z (λ bytes. IsOpened format bytes a) → SoFar o format begun a k b old mid count unread shown → IfSome b (λ xs. IsEnd k xs ⊎ stopped) → Appends mid new ending
+    → (records : List Record) × (count ≡ length records) × (unread ≡ unread_in records) × IfSome z (λ bytes. IsInput stopped bytes records) × Prints o records shown old new
+so_far_all o format begun k z a b old mid new count unread shown ending stopped is_begun opened so next ends = (
   so.records,
   sym so.counted,
   sym so.missed,
-  all_read format begun k z a b so.records is_begun opened so.read next,
-  (so.printed.0, ending, so.printed.1, Appends-trans old mid new (concat so.printed.0) ending so.printed.2 ends),
+  all_read format begun k z a b so.records stopped is_begun opened so.read next,
+  (so.printed.0, ending, so.printed.1, so.printed.2, Appends-trans old mid new (concat so.printed.0) ending so.printed.3 ends),
 )

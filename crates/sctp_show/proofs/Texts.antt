@@ -1,16 +1,35 @@
 -- The text of a record.
-use Rattle.std.proofs.Common.{◌≡◌, ℕ, List, Result, Ok, Err, IfOk}
-use Rattle.sctp_show.specs.declared.page.Form.{Form}
-use Rattle.sctp_show.specs.declared.record.Record.{Record}
-use Rattle.sctp_show.specs.declared.record.Fault.{Fault}
-use Rattle.sctp_show.specs.Text.{IsText, IsFrameText, refused_text}
+use Rattle.std.proofs.Common.{◌≡◌, ℕ, List, [], true, false, Result, Ok, Err, IfOk, inl, inr}
+use Rattle.sctp_capture.specs.declared.record.Record.{Record}
+use Rattle.sctp_capture.specs.declared.record.Fault.{Fault}
+use Rattle.sctp_show.specs.declared.text.Options.{Options}
+use Rattle.sctp_dissect.specs.declared.dissection.Dissection.{Dissection}
+use Rattle.sctp_show.specs.Sum.{sum_of}
+use Rattle.sctp_show.specs.Filter.{passes}
+use Rattle.sctp_show.specs.Text.{Holds, IsSeen, IsPacketText, IsText, IsFrameText, numbered_text, fault_line}
 
-pub text_shown : {T E : Type 0} (bytes_of : T → List ℕ) (result : Result T E) (form : Form) (number : ℕ) (r : Record) (frame : List ℕ) → r.frame ≡ Ok frame
-    → IfOk result (λ t. IsFrameText form number (bytes_of t)) → IfOk result (λ t. IsText form number r (bytes_of t))
-text_shown bytes_of (Ok t) form number r frame has is = rw has is
-text_shown bytes_of (Err e) form number r frame has is = tt
+pub packet_is : {T E : Type 0} (bytes_of : T → List ℕ) (result : Result T E) (o : Options) (number : ℕ) (datagram : List ℕ) (seen : Dissection) → IsSeen (sum_of o.sum) datagram seen
+    → IfOk result (λ t. passes o.filter seen ≡ true → (shown : List ℕ) × (bytes_of t ≡ numbered_text o.form number shown)) → IfOk result (λ t. passes o.filter seen ≡ false → bytes_of t ≡ [])
+    → IfOk result (λ t. IsPacketText o number datagram (bytes_of t))
+packet_is bytes_of (Ok t) o number datagram seen is shown hidden = record { seen = seen; is_seen = is; shown = shown; hidden = hidden }
+packet_is bytes_of (Err e) o number datagram seen is shown hidden = tt
 
-pub text_refused : {T E : Type 0} (bytes_of : T → List ℕ) (result : Result T E) (form : Form) (number : ℕ) (r : Record) (fault : Fault) → r.frame ≡ Err fault
-    → IfOk result (λ t. bytes_of t ≡ refused_text form number fault) → IfOk result (λ t. IsText form number r (bytes_of t))
-text_refused bytes_of (Ok t) form number r fault has is = rw has is
-text_refused bytes_of (Err e) form number r fault has is = tt
+pub frame_some : {T E : Type 0} (bytes_of : T → List ℕ) (result : Result T E) (o : Options) (number link_type : ℕ) (frame datagram : List ℕ) → Holds link_type o.port frame datagram
+    → IfOk result (λ t. IsPacketText o number datagram (bytes_of t)) → IfOk result (λ t. IsFrameText o number link_type frame (bytes_of t))
+frame_some bytes_of (Ok t) o number link_type frame datagram holds is = inl (datagram, holds, is)
+frame_some bytes_of (Err e) o number link_type frame datagram holds is = tt
+
+pub frame_none : {T E : Type 0} (bytes_of : T → List ℕ) (result : Result T E) (o : Options) (number link_type : ℕ) (frame : List ℕ) (fault : Fault) → ((datagram : List ℕ) → Holds link_type o.port frame datagram → ⊥)
+    → IfOk result (λ t. bytes_of t ≡ fault_line o number fault) → IfOk result (λ t. IsFrameText o number link_type frame (bytes_of t))
+frame_none bytes_of (Ok t) o number link_type frame fault none is = inr (none, (fault, is))
+frame_none bytes_of (Err e) o number link_type frame fault none is = tt
+
+pub text_shown : {T E : Type 0} (bytes_of : T → List ℕ) (result : Result T E) (o : Options) (number : ℕ) (r : Record) (frame : List ℕ) → r.frame ≡ Ok frame
+    → IfOk result (λ t. IsFrameText o number r.link_type frame (bytes_of t)) → IfOk result (λ t. IsText o number r (bytes_of t))
+text_shown bytes_of (Ok t) o number r frame has is = rw has is
+text_shown bytes_of (Err e) o number r frame has is = tt
+
+pub text_refused : {T E : Type 0} (bytes_of : T → List ℕ) (result : Result T E) (o : Options) (number : ℕ) (r : Record) (fault : Fault) → r.frame ≡ Err fault
+    → IfOk result (λ t. bytes_of t ≡ fault_line o number fault) → IfOk result (λ t. IsText o number r (bytes_of t))
+text_refused bytes_of (Ok t) o number r fault has is = rw has is
+text_refused bytes_of (Err e) o number r fault has is = tt

@@ -1,11 +1,18 @@
 -- What is printed of a chunk.
-use Rattle.std.specs.Prelude.{ℕ, List, ◌++◌, drop, codes, decimal, Bool, true, false}
+use Rattle.std.specs.Prelude.{ℕ, List, [], ◌++◌, length, drop, codes, decimal, Bool, true, false, ◌==◌, if◌then◌else◌}
 use Rattle.sctp_base.specs.Field.{u16_at, u32_at}
 use Rattle.sctp_chunks.specs.declared.chunk.chunk_payload_data.ChunkPayloadData.{ChunkPayloadData}
 use Rattle.sctp_show.specs.declared.chunk_text.Head.{Head}
 use Rattle.sctp_show.specs.declared.page.Form.{Form}
 use Rattle.sctp_show.specs.declared.page.Form.TheVariants.{Text, Json}
-use Rattle.sctp_show.specs.Page.{number_text, truth_text, bytes_text}
+use Rattle.sctp_show.specs.Names.{payload_name}
+use Rattle.sctp_show.specs.Page.{number_text, truth_text, bytes_text, words_text}
+
+-- the name of a payload protocol identifier, if it has one
+abbrev pub payload_text : Form → ℕ → List ℕ
+payload_text form ppid =
+    if length (payload_name ppid) == 0 then []
+    else words_text form (codes "Payload type") (codes "payload_type") (payload_name ppid)
 
 -- behind the old text, of DATA: its fields, the payload type that stands in its bytes, its user data
 abbrev pub data_text : Form → List ℕ → ChunkPayloadData → ℕ → List ℕ
@@ -15,6 +22,7 @@ data_text form old c ppid =
     ++ number_text form (codes "Stream identifier") (codes "stream") c.stream_identifier
     ++ number_text form (codes "Stream sequence number") (codes "ssn") c.stream_sequence_number
     ++ number_text form (codes "Payload protocol identifier") (codes "ppid") ppid
+    ++ payload_text form ppid
     ++ truth_text form (codes "Unordered") (codes "unordered") c.unordered
     ++ truth_text form (codes "First fragment") (codes "first") c.beginning_fragment
     ++ truth_text form (codes "Last fragment") (codes "last") c.ending_fragment

@@ -1,10 +1,9 @@
 pub mod Page
+pub mod Names
+pub mod Dcep
 pub mod ChunkText
-pub mod Window
-pub mod Record
 pub mod Sum
-pub mod Blocks
+pub mod Filter
+pub mod Time
 pub mod Text
-pub mod Frame
-pub mod Kind
 pub mod Run

@@ -1,21 +1,18 @@
 -- What is written for records.
-use Rattle.std.specs.Prelude.{◌≡◌, ℕ, ◌+◌, ◌⊎◌, List, [], ◌∷◌, ◌++◌, codes, decimal, MatchResult}
+use Rattle.std.specs.Prelude.{◌≡◌, ◌≢◌, ℕ, ◌+◌, ◌≤◌, ◌<◌, ◌⊎◌, Bool, true, false, if◌then◌else◌, List, [], ◌∷◌, ◌++◌, length, drop, codes, decimal, MatchResult, IsSomeAnd}
+use Rattle.sctp_base.specs.Walk.{Walks}
+use Rattle.sctp_packets.specs.Packet.{after}
+use Rattle.sctp_dissect.specs.declared.dissection.Dissection.{Dissection}
+use Rattle.sctp_dissect.specs.Dissection.{ReadsHeader, Shows, Stops, IsShort}
+use Rattle.sctp_capture.specs.declared.record.Fault.{Fault}
+use Rattle.sctp_capture.specs.declared.record.Record.{Record}
+use Rattle.sctp_capture.specs.Fault.{fault_text}
+use Rattle.sctp_capture.specs.Frame.{InFrame}
 use Rattle.sctp_show.specs.declared.page.Form.{Form}
 use Rattle.sctp_show.specs.declared.page.Form.TheVariants.{Text, Json}
-use Rattle.sctp_show.specs.declared.record.Fault.{Fault}
-use Rattle.sctp_show.specs.declared.record.Fault.TheVariants.{NotHex, CutOff, TooLong, Short, Fragment, OtherProtocol, OtherLink, BadBlock, NoInterface}
-use Rattle.sctp_show.specs.declared.record.Record.{Record}
-
-abbrev pub fault_text : Fault → List ℕ
-fault_text NotHex = codes "not hex text"
-fault_text CutOff = codes "cut off"
-fault_text TooLong = codes "longer than 256 KiB"
-fault_text Short = codes "frame cut off"
-fault_text Fragment = codes "fragment of an IP packet"
-fault_text OtherProtocol = codes "no SCTP"
-fault_text OtherLink = codes "unknown link type"
-fault_text BadBlock = codes "wrong length in a block"
-fault_text NoInterface = codes "unknown interface"
+use Rattle.sctp_show.specs.declared.text.Options.{Options}
+use Rattle.sctp_show.specs.Sum.{sum_of}
+use Rattle.sctp_show.specs.Filter.{passes, asks_nothing}
 
 -- a record's number, and what it shows
 abbrev pub numbered_text : Form → ℕ → List ℕ → List ℕ
@@ -30,20 +27,60 @@ refused_text Json number fault =
     codes "{\"record\":" ++ (decimal number
     ++ (codes ",\"not_shown\":\"" ++ (fault_text fault ++ codes "\"}\n")))
 
--- The text of a record with a frame: its number, and then what the frame shows, or why nothing of it is shown.
-abbrev pub IsFrameText : Form → ℕ → List ℕ → Type 0
-IsFrameText form number text =
-    ((shown : List ℕ) × (text ≡ numbered_text form number shown))
-    ⊎ ((fault : Fault) × (text ≡ refused_text form number fault))
+-- the same, but nothing where something is asked for
+abbrev pub fault_line : Options → ℕ → Fault → List ℕ
+fault_line o number fault =
+    if asks_nothing o.filter then refused_text o.form number fault else []
+
+-- ---- a record that has a frame
+
+-- the datagram in a frame: all of it, or what an IP packet carries
+pub record Holds (link_type port : ℕ) (frame datagram : List ℕ) : Type 0 where
+  pub alone : link_type ≡ 248 → datagram ≡ frame
+  pub carried : link_type ≢ 248 → InFrame link_type port frame datagram
+
+-- what a datagram shows
+pub record IsSeen (sum : List ℕ → ℕ) (datagram : List ℕ) (d : Dissection) : Type 0 where
+  pub short : length datagram < 12 → IsShort datagram d
+  pub header : 12 ≤ length datagram → IsSomeAnd d.header (ReadsHeader sum datagram)
+  pub items : 12 ≤ length datagram → Walks Shows after (drop 12 datagram) d.items.items d.rest
+  pub fault : 12 ≤ length datagram → Stops d.fault d.rest
+
+-- A packet that the filter lets pass has its number, and what it shows. Of another one nothing is written.
+pub record IsPacketText (o : Options) (number : ℕ) (datagram text : List ℕ) : Type 0 where
+  pub seen : Dissection
+  pub is_seen : IsSeen (sum_of o.sum) datagram seen
+  pub shown : passes o.filter seen ≡ true
+      → (shown : List ℕ) × (text ≡ numbered_text o.form number shown)
+  pub hidden : passes o.filter seen ≡ false → text ≡ []
+
+-- the text of a record with a frame: that of the packet in it, or why there is none
+abbrev pub IsFrameText : Options → ℕ → ℕ → List ℕ → List ℕ → Type 0
+IsFrameText o number link_type frame text =
+    ((datagram : List ℕ) × Holds link_type o.port frame datagram
+    × IsPacketText o number datagram text)
+    ⊎ (((datagram : List ℕ) → Holds link_type o.port frame datagram → ⊥)
+    × ((fault : Fault) × (text ≡ fault_line o number fault)))
+
+-- ---- records
 
 -- the text of a record
-abbrev pub IsText : Form → ℕ → Record → List ℕ → Type 0
-IsText form number r text =
-    MatchResult r.frame (λ frame. IsFrameText form number text)
-    (λ fault. text ≡ refused_text form number fault)
+abbrev pub IsText : Options → ℕ → Record → List ℕ → Type 0
+IsText o number r text =
+    MatchResult r.frame (λ frame. IsFrameText o number r.link_type frame text)
+    (λ fault. text ≡ fault_line o number fault)
 
 -- the texts of the records, in order, whose first has this number
-abbrev pub AreTexts : Form → ℕ → List Record → List (List ℕ) → Type 0
-AreTexts form number [] [] = Unit {0}
-AreTexts form number (r ∷ rs) (t ∷ ts) = IsText form number r t × AreTexts form (number + 1) rs ts
-AreTexts form number _ _ = ⊥
+abbrev pub AreTexts : Options → ℕ → List Record → List (List ℕ) → Type 0
+AreTexts o number [] [] = Unit {0}
+AreTexts o number (r ∷ rs) (t ∷ ts) = IsText o number r t × AreTexts o (number + 1) rs ts
+AreTexts o number _ _ = ⊥
+
+-- a record of which something is written is shown
+abbrev pub shown_by : List ℕ → ℕ
+shown_by [] = 0
+shown_by (x ∷ xs) = 1
+
+abbrev pub shown_in : List (List ℕ) → ℕ
+shown_in [] = 0
+shown_in (t ∷ ts) = shown_by t + shown_in ts

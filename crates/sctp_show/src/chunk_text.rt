@@ -3,11 +3,13 @@
 ghost use Rattle.std.specs.Prelude.{◌≡◌, ◌≤◌, ◌+◌, ◌++◌, length, slice_index, OnOk};
 ghost use Rattle.std.specs.String.{string_bytes};
 ghost use Rattle.sctp_base.specs.Field;
-ghost use Rattle.sctp_show.specs.ChunkText.{data_text, init_text, i_data_text, block_lines, block_object, block_text};
+ghost use Rattle.sctp_show.specs.ChunkText.{data_text, init_text, i_data_text, payload_text, block_lines, block_object, block_text};
 
-use crate::page::{Form, Page, put_all};
+use crate::brief::DCEP;
+use crate::dcep::put_message;
+use crate::names::{ChunkName, parameter_name, payload_name};
+use crate::page::{Form, Page};
 use bytes::Bytes;
-use itoa::Buffer;
 use sctp_base::error::Error;
 use sctp_base::field::{read_u16, read_u32};
 use sctp_chunks::chunk::chunk_forward_tsn::ChunkForwardTsn;
@@ -24,51 +26,6 @@ use std::alloc::{AllocError, Global};
 /// The type of I-DATA (RFC 8260 2.1).
 const I_DATA: u8 = 64;
 
-/// The name of a chunk's type (RFC 4960 3.2, RFC 4895, RFC 5061, RFC 4820, RFC 6525, RFC 3758, RFC 8260).
-#[derive(Clone, Copy)]
-pub struct ChunkName(pub u8);
-
-impl ChunkName {
-    /// The name, where the type has one.
-    fn known(self) -> Option<&'static str> {
-        let name = match self.0 {
-            0 => "DATA",
-            1 => "INIT",
-            2 => "INIT-ACK",
-            3 => "SACK",
-            4 => "HEARTBEAT",
-            5 => "HEARTBEAT-ACK",
-            6 => "ABORT",
-            7 => "SHUTDOWN",
-            8 => "SHUTDOWN-ACK",
-            9 => "ERROR",
-            10 => "COOKIE-ECHO",
-            11 => "COOKIE-ACK",
-            12 => "ECNE",
-            13 => "CWR",
-            14 => "SHUTDOWN-COMPLETE",
-            15 => "AUTH",
-            64 => "I-DATA",
-            128 => "ASCONF-ACK",
-            130 => "RE-CONFIG",
-            132 => "PAD",
-            192 => "FORWARD-TSN",
-            193 => "ASCONF",
-            194 => "I-FORWARD-TSN",
-            _ => return None,
-        };
-        Some(name)
-    }
-
-    /// Appends the name, or `type-` and the number.
-    pub fn put(self, text: &mut String) -> Result<(), AllocError> {
-        match self.known() {
-            Some(name) => text.push_str(name),
-            None => put_all(text, &["type-", Buffer::new().format(self.0)]),
-        }
-    }
-}
-
 /// The type of an item's chunk: its first byte.
 pub fn type_of(item: &Item) -> u8
     ensures { result ≡ slice_index item.now.bytes 0 }
@@ -77,7 +34,7 @@ pub fn type_of(item: &Item) -> u8
 }
 
 /// The number in the two bytes from `at` on, or 0 where they are not there.
-fn u16_at(bytes: &[u8], at: usize) -> u16
+pub(crate) fn u16_at(bytes: &[u8], at: usize) -> u16
     ensures { at + 2 ≤ length bytes.now → result ≡ Field.u16_at bytes.now at }
 {
     if bytes.len() < 2 || bytes.len() - 2 < at {
@@ -87,53 +44,24 @@ fn u16_at(bytes: &[u8], at: usize) -> u16
 }
 
 /// The number in the four bytes from `at` on, or 0 where they are not there.
-fn u32_at(bytes: &[u8], at: usize) -> u32 {
+pub(crate) fn u32_at(bytes: &[u8], at: usize) -> u32 {
     if bytes.len() < 4 || bytes.len() - 4 < at {
         return 0;
     }
     read_u32(bytes, at)
 }
 
-/// What the line of a packet says of DATA.
-fn put_brief_data(text: &mut String, c: &ChunkPayloadData, ppid: u32) -> Result<(), AllocError> {
-    let (mut tsn, mut stream) = (Buffer::new(), Buffer::new());
-    put_all(
-        text,
-        &[
-            "(tsn ",
-            tsn.format(c.tsn),
-            " stream ",
-            stream.format(c.stream_identifier),
-        ],
-    )?;
-    let (mut ssn, mut number) = (Buffer::new(), Buffer::new());
-    put_all(
-        text,
-        &[
-            " ssn ",
-            ssn.format(c.stream_sequence_number),
-            " ppid ",
-            number.format(ppid),
-            ")",
-        ],
-    )
-}
-
-/// What the line of a packet says of a chunk.
-pub fn put_brief(text: &mut String, item: &Item) -> Result<(), AllocError> {
-    text.push_str(" ")?;
-    ChunkName(type_of(item)).put(text)?;
-    match &item.reading {
-        Reading::Strict(ChunkKind::PayloadData(c)) => {
-            put_brief_data(text, c, u32_at(item.bytes.as_slice(), 12))
-        }
-        Reading::Strict(ChunkKind::SelectiveAck(c)) => {
-            let mut tsn = Buffer::new();
-            put_all(text, &["(tsn ", tsn.format(c.cumulative_tsn_ack), ")"])
-        }
-        Reading::Strict(_) => Ok(()),
-        Reading::Raw(raw) => write!(text, "[{}]", raw.refusal),
+/// The name of a payload protocol identifier, where it has one.
+fn put_payload_name(page: &mut Page, ppid: u32) -> Result<(), AllocError>
+    ensures form { page.new.form ≡ page.old.form }
+    ensures text { OnOk result (string_bytes page.new.text
+        ≡ string_bytes page.old.text ++ payload_text page.old.form ppid) }
+{
+    let name = payload_name(ppid);
+    if name.is_empty() {
+        return Ok(());
     }
+    page.words("Payload type", "payload_type", name)
 }
 
 /// DATA, with the payload type that stands in its bytes.
@@ -155,6 +83,7 @@ fn put_data(
         c.stream_sequence_number as u32,
     )?;
     page.number("Payload protocol identifier", "ppid", ppid)?;
+    put_payload_name(page, ppid)?;
     page.truth("Unordered", "unordered", c.unordered)?;
     page.truth("First fragment", "first", c.beginning_fragment)?;
     page.truth("Last fragment", "last", c.ending_fragment)?;
@@ -254,15 +183,25 @@ fn put_reading(alloc: Global, page: &mut Page, reading: &ParamReading) -> Result
     }
 }
 
-/// A parameter: its type, what it is read as or why it is refused, and its value.
+/// The name of a parameter's type, where it has one.
+fn put_parameter_name(page: &mut Page, typ: u16) -> Result<(), AllocError> {
+    let name = parameter_name(typ);
+    if name.is_empty() {
+        return Ok(());
+    }
+    page.words("Parameter name", "name", name)
+}
+
+/// A parameter: its type and name, what it is read as or why it is refused, and its value.
 fn put_param(
     alloc: Global,
     page: &mut Page,
     item: &ParamItem,
     is_first: bool,
 ) -> Result<(), AllocError> {
-    let typ = u16_at(item.bytes.as_slice(), 0) as u32;
-    page.row(is_first, "Parameter type", "type", typ)?;
+    let typ = u16_at(item.bytes.as_slice(), 0);
+    page.row(is_first, "Parameter type", "type", typ as u32)?;
+    put_parameter_name(page, typ)?;
     put_reading(alloc, page, &item.reading)?;
     let length = u16_at(item.bytes.as_slice(), 2) as usize;
     let value = item.bytes.as_slice().get(4..length).unwrap_or(b"");
@@ -395,6 +334,26 @@ fn put_whole_init(alloc: Global, page: &mut Page, value: Bytes) -> Result<(), Al
     put_params(alloc, page, params)
 }
 
+/// DATA, and the message of DCEP that it holds, if it holds all of one.
+fn put_whole_data(
+    alloc: Global,
+    page: &mut Page,
+    c: &ChunkPayloadData,
+    ppid: u32,
+) -> Result<(), AllocError> {
+    put_data(alloc, page, c, ppid)?;
+    if ppid == DCEP && c.beginning_fragment && c.ending_fragment {
+        return put_message(page, c.user_data.as_slice());
+    }
+    Ok(())
+}
+
+/// The T bit of ABORT and SHUTDOWN-COMPLETE (RFC 4960 3.3.7, 3.3.13).
+fn put_reflected(page: &mut Page, bytes: &[u8]) -> Result<(), AllocError> {
+    let flags = bytes.get(1).copied().unwrap_or(0);
+    page.truth("T bit", "t_bit", flags % 2 == 1)
+}
+
 /// What a chunk says that is read.
 fn put_strict(
     alloc: Global,
@@ -404,13 +363,17 @@ fn put_strict(
 ) -> Result<(), AllocError> {
     let bytes = item.bytes.as_slice();
     match chunk {
-        ChunkKind::PayloadData(c) => put_data(alloc, page, c, u32_at(bytes, 12)),
+        ChunkKind::PayloadData(c) => put_whole_data(alloc, page, c, u32_at(bytes, 12)),
         ChunkKind::Init(_) => put_whole_init(alloc, page, value_in(item)?),
         ChunkKind::SelectiveAck(c) => put_sack(page, c),
         ChunkKind::Heartbeat(_) | ChunkKind::HeartbeatAck(_) | ChunkKind::Reconfig(_) => {
             put_params(alloc, page, value_in(item)?)
         }
-        ChunkKind::Abort(c) => put_causes(alloc, page, &c.error_causes),
+        ChunkKind::Abort(c) => {
+            put_reflected(page, bytes)?;
+            put_causes(alloc, page, &c.error_causes)
+        }
+        ChunkKind::ShutdownComplete(_) => put_reflected(page, bytes),
         ChunkKind::Error(c) => put_causes(alloc, page, &c.error_causes),
         ChunkKind::Shutdown(c) => {
             page.number("Cumulative TSN ack", "cumulative", c.cumulative_tsn_ack)
@@ -428,12 +391,30 @@ fn put_refusal(alloc: Global, page: &mut Page, refusal: &Error) -> Result<(), Al
     page.words("Refused", "refused", &words)
 }
 
+/// I-DATA, the name of its payload type, and the message of DCEP that it holds, if it holds all of one.
+fn put_whole_i_data(alloc: Global, page: &mut Page, raw: &RawChunk) -> Result<(), AllocError> {
+    let value = raw.value.as_slice();
+    if value.len() < 16 {
+        return page.bytes(alloc, "Value", "value", value);
+    }
+    put_i_data(alloc, page, value)?;
+    let ppid = u32_at(value, 12);
+    if raw.flags / 2 % 2 == 0 {
+        return Ok(());
+    }
+    put_payload_name(page, ppid)?;
+    if ppid == DCEP && raw.flags % 2 == 1 {
+        return put_message(page, &value[16..]);
+    }
+    Ok(())
+}
+
 /// What a chunk shows that is refused.
 fn put_raw(alloc: Global, page: &mut Page, raw: &RawChunk) -> Result<(), AllocError> {
     put_refusal(alloc, page, &raw.refusal)?;
     let value = raw.value.as_slice();
     match raw.typ.0 {
-        I_DATA if value.len() >= 16 => put_i_data(alloc, page, value),
+        I_DATA => put_whole_i_data(alloc, page, raw),
         1 | 2 => put_whole_init(alloc, page, raw.value.clone()?),
         4 | 5 | 130 => put_params(alloc, page, raw.value.clone()?),
         6 | 9 => put_raw_causes(alloc, page, raw.value.clone()?),

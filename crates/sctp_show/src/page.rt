@@ -6,6 +6,7 @@ ghost use Rattle.sctp_show.specs.Page.{plain, led_text, number_text, row_text, t
 
 use itoa::Buffer;
 use std::alloc::{AllocError, Global};
+use std::str;
 
 /// In what form records are printed.
 #[derive(Clone, Copy, PartialEq, Eq)]
@@ -54,6 +55,36 @@ pub(crate) fn put_all(text: &mut String, parts: &[&str]) -> Result<(), AllocErro
         text.push_str(part)?;
     }
     Ok(())
+}
+
+/// Appends a character as it may stand between quotes, on a terminal and in JSON.
+fn put_char(text: &mut String, c: char) -> Result<(), AllocError> {
+    if c == '"' || c == '\\' {
+        text.push('\\')?;
+        return text.push(c);
+    }
+    if c.is_control() {
+        return write!(text, "\\u{:04x}", c as u32);
+    }
+    text.push(c)
+}
+
+/// Appends bytes between quotes: their characters, or, where they are no UTF-8, their hex digits.
+pub(crate) fn put_quoted(text: &mut String, bytes: &[u8]) -> Result<(), AllocError> {
+    text.push('"')?;
+    match str::from_utf8(bytes) {
+        Ok(words) => {
+            for c in words.chars() {
+                put_char(text, c)?;
+            }
+        }
+        Err(_) => {
+            for byte in bytes {
+                write!(text, "{byte:02x}")?;
+            }
+        }
+    }
+    text.push('"')
 }
 
 impl Page {

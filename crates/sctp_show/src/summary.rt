@@ -1,16 +1,21 @@
 //! What a run saw.
 
 use crate::checksum::Sum;
-use crate::chunk_text::{ChunkName, type_of};
+use crate::chunk_text::type_of;
+use crate::filter::is_refused;
+use crate::names::ChunkName;
 use crate::page::{Form, put_all};
-use crate::record::Fault;
 use itoa::Buffer;
-use sctp_dissect::dissection::{Dissection, Item, Reading};
+use sctp_capture::record::{Fault, Time};
+use sctp_dissect::dissection::Dissection;
 use std::alloc::{AllocError, Global};
 
 /// How many records, packets, chunks and faults a run saw; each stops at the greatest `u64`.
 #[derive(Drop)]
 pub struct Summary {
+    /// The first time that a record had.
+    pub start: Option<Time>,
+    others: u64,
     packets: u64,
     refused: u64,
     wrong_checksums: u64,
@@ -22,6 +27,8 @@ impl Summary {
     /// The summary of no record. Refuses only for memory.
     pub fn new(alloc: Global) -> Result<Self, AllocError> {
         Ok(Summary {
+            start: None,
+            others: 0,
             packets: 0,
             refused: 0,
             wrong_checksums: 0,
@@ -35,17 +42,27 @@ impl Summary {
         self.not_shown = self.not_shown.saturating_add(1);
     }
 
+    /// Counts a record that does not have what is asked for.
+    pub fn count_other(&mut self) {
+        self.others = self.others.saturating_add(1);
+    }
+
+    /// Keeps the time of a record, if it is the first that has one.
+    pub fn note_time(&mut self, time: &Option<Time>) {
+        if self.start.is_none() {
+            self.start = *time;
+        }
+    }
+
     /// Counts a packet and its chunks. One with a raw chunk, or bytes left over, is refused.
     pub fn count_packet(&mut self, seen: &Dissection, sum: Sum) {
         self.packets = self.packets.saturating_add(1);
-        let mut is_refused = seen.fault.is_some();
         for item in &seen.items {
-            is_refused = is_refused || is_raw(item);
             if let Some(count) = self.chunks.get_mut(type_of(item) as usize) {
                 *count = count.saturating_add(1);
             }
         }
-        if is_refused {
+        if is_refused(seen) {
             self.refused = self.refused.saturating_add(1);
         }
         if sum == Sum::Crc32c && is_wrong(seen) {
@@ -72,6 +89,9 @@ impl Summary {
     /// How many records there were of each kind.
     fn put_counts(&self, text: &mut String, records: u64) -> Result<(), AllocError> {
         put_count(text, "", records, " records: ")?;
+        if self.others > 0 {
+            put_count(text, "", self.others, " not asked for, ")?;
+        }
         put_count(text, "", self.packets, " packets, ")?;
         put_count(text, "", self.not_shown, " not shown, ")?;
         put_count(text, "", self.refused, " refused, ")?;
@@ -81,6 +101,7 @@ impl Summary {
     /// The same in JSON.
     fn put_members(&self, text: &mut String, records: u64) -> Result<(), AllocError> {
         put_count(text, "{\"records\":", records, "")?;
+        put_count(text, ",\"not_asked_for\":", self.others, "")?;
         put_count(text, ",\"packets\":", self.packets, "")?;
         put_count(text, ",\"not_shown\":", self.not_shown, "")?;
         put_count(text, ",\"refused\":", self.refused, "")?;
@@ -130,13 +151,6 @@ impl Summary {
 fn put_count(text: &mut String, before: &str, count: u64, behind: &str) -> Result<(), AllocError> {
     let mut buffer = Buffer::new();
     put_all(text, &[before, buffer.format(count), behind])
-}
-
-fn is_raw(item: &Item) -> bool {
-    match &item.reading {
-        Reading::Raw(_) => true,
-        Reading::Strict(_) => false,
-    }
 }
 
 fn is_wrong(seen: &Dissection) -> bool {

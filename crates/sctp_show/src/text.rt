@@ -1,48 +1,59 @@
 //! A record as it is printed.
 
-ghost use Rattle.std.specs.Prelude.{◌≡◌, IfOk};
+ghost use Rattle.std.specs.Prelude.{◌≡◌, ℕ, List, [], true, false, IfOk};
 ghost use Rattle.std.specs.String.{string_bytes};
-ghost use Rattle.sctp_show.specs.Text.{IsText, IsFrameText, numbered_text, refused_text};
+ghost use Rattle.sctp_show.specs.Text.{IsSeen, IsPacketText, IsText, IsFrameText, numbered_text, refused_text, fault_line};
+ghost use Rattle.sctp_show.specs.Sum.{sum_of};
+ghost use Rattle.sctp_show.specs.Filter.{passes};
 
+use crate::brief::put_brief;
 use crate::checksum::Sum;
-use crate::chunk_text::{put_block, put_brief};
-use crate::frame::{Datagram, datagram_in};
-use crate::page::{Form, Page, put_all};
-use crate::record::{Fault, Record, Time};
+use crate::chunk_text::put_block;
+use crate::filter::Filter;
+use crate::page::{Form, Page, put_all, put_quoted};
 use crate::summary::Summary;
+use crate::time::time_since;
 use bytes::Bytes;
 use itoa::Buffer;
+use sctp_capture::frame::{Datagram, datagram_in};
+use sctp_capture::record::{Fault, Record, Time};
 use sctp_dissect::dissection::{Dissection, Fault as WalkFault, Header, Item, dissect};
 use std::alloc::{AllocError, Global};
-use std::fmt;
 
 /// How records are looked at.
-#[derive(Clone, Copy)]
+#[derive(Drop)]
 pub struct Options {
     pub sum: Sum,
     /// The UDP port of SCTP in UDP (RFC 6951).
     pub port: u16,
     pub form: Form,
+    /// Whether what each chunk says stands below the line of its packet, where records are printed as text. JSON has it in any case.
+    pub is_full: bool,
+    /// Whether times are as they were captured, and not since the first record, where records are printed as text. JSON has them so in any case.
+    pub is_absolute: bool,
+    /// Which packets are shown.
+    pub filter: Filter,
+    /// How many records are shown at most.
+    pub limit: u64,
 }
 
-impl fmt::Display for Time {
-    fn fmt<W: fmt::Write>(&self, f: &mut fmt::Formatter<W>) -> fmt::Result {
-        if self.nanoseconds {
-            write!(f, "{}.{:09}", self.seconds, self.fraction)
-        } else {
-            write!(f, "{}.{:06}", self.seconds, self.fraction)
+/// When a record was captured: as it was, or since the first record, or `-` where that is not known.
+fn put_time(
+    page: &mut Page,
+    options: &Options,
+    start: &Option<Time>,
+    time: &Option<Time>,
+) -> Result<(), AllocError> {
+    match (page.form, start, time) {
+        (Form::Text, _, None) => page.text.push_str("-"),
+        (Form::Text, Some(start), Some(time)) if !options.is_absolute => {
+            let elapsed = time_since(start, time);
+            write!(page.text, "{elapsed}")
         }
+        (Form::Text, _, Some(time)) => write!(page.text, "{time}"),
+        (Form::Json, _, None) => Ok(()),
+        (Form::Json, _, Some(time)) => write!(page.text, ",\"time\":\"{time}\""),
     }
-}
-
-/// When a record was captured.
-fn put_time(page: &mut Page, time: &Option<Time>) -> Result<(), AllocError> {
-    let Some(time) = time else {
-        return page.in_text("-");
-    };
-    page.in_json(",\"time\":\"")?;
-    write!(page.text, "{time}")?;
-    page.in_json("\"")
 }
 
 /// Between which addresses a datagram went.
@@ -119,8 +130,11 @@ fn put_checksum(page: &mut Page, header: &Header, sum: Sum) -> Result<(), AllocE
 
 /// The chunks of a packet, a word or a few of each.
 fn put_briefs(text: &mut String, items: &[Item]) -> Result<(), AllocError> {
+    let mut lead = " ";
     for item in items {
+        text.push_str(lead)?;
         put_brief(text, item)?;
+        lead = ", ";
     }
     Ok(())
 }
@@ -180,19 +194,17 @@ fn put_rest(alloc: Global, page: &mut Page, seen: &Dissection) -> Result<(), All
     page.bytes(alloc, "Bytes", "rest", seen.rest.as_slice())
 }
 
-/// What a packet shows, part by part.
-fn put_packet(
+/// What a packet shows below its line.
+fn put_below(
     alloc: Global,
     page: &mut Page,
-    time: &Option<Time>,
-    datagram: &Datagram<'_>,
+    options: &Options,
     seen: &Dissection,
-    sum: Sum,
 ) -> Result<(), AllocError> {
-    put_time(page, time)?;
-    put_ends(page, datagram)?;
-    put_line(page, seen)?;
-    put_blocks(alloc, page, seen, sum)?;
+    if page.is_text() && !options.is_full {
+        return Ok(());
+    }
+    put_blocks(alloc, page, seen, options.sum)?;
     put_rest(alloc, page, seen)?;
     page.in_json("}\n")
 }
@@ -201,27 +213,66 @@ fn put_packet(
 fn seen_text(
     alloc: Global,
     options: &Options,
+    start: &Option<Time>,
     time: &Option<Time>,
     datagram: &Datagram<'_>,
     seen: &Dissection,
 ) -> Result<String, AllocError> {
     let mut page = Page::new(alloc, options.form);
-    put_packet(alloc, &mut page, time, datagram, seen, options.sum)?;
+    put_time(&mut page, options, start, time)?;
+    put_ends(&mut page, datagram)?;
+    put_line(&mut page, seen)?;
+    put_below(alloc, &mut page, options, seen)?;
     Ok(page.text)
 }
 
-/// What a packet shows.
+/// What a datagram shows.
+fn seen_in(alloc: Global, sum: Sum, datagram: &[u8]) -> Result<Dissection, AllocError>
+    ensures { IfOk result (IsSeen (sum_of sum) datagram.now) }
+{
+    let bytes = Bytes::copy_from_slice(alloc, datagram)?;
+    dissect(alloc, &bytes, &sum)
+}
+
+/// The text of a packet. There is none where it does not have what is asked for.
+fn passed_text(
+    alloc: Global,
+    options: &Options,
+    number: u64,
+    time: &Option<Time>,
+    datagram: &Datagram<'_>,
+    seen: &Dissection,
+    summary: &mut Summary,
+) -> Result<String, AllocError>
+    ensures shown { IfOk result (λ text. passes options.now.filter seen.now ≡ true
+        → (shown : List ℕ)
+        × (string_bytes text ≡ numbered_text options.now.form number shown)) }
+    ensures hidden { IfOk result (λ text. passes options.now.filter seen.now ≡ false
+        → string_bytes text ≡ []) }
+{
+    if !options.filter.passes(seen) {
+        summary.count_other();
+        return Ok(String::new(alloc));
+    }
+    summary.count_packet(seen, options.sum);
+    let shown = seen_text(alloc, options, &summary.start, time, datagram, seen)?;
+    numbered(alloc, options.form, number, &shown)
+}
+
+/// The same by what the datagram shows.
 fn packet_text(
     alloc: Global,
     options: &Options,
+    number: u64,
     time: &Option<Time>,
     datagram: &Datagram<'_>,
     summary: &mut Summary,
-) -> Result<String, AllocError> {
-    let bytes = Bytes::copy_from_slice(alloc, datagram.bytes)?;
-    let seen = dissect(alloc, &bytes, &options.sum)?;
-    summary.count_packet(&seen, options.sum);
-    seen_text(alloc, options, time, datagram, &seen)
+) -> Result<String, AllocError>
+    ensures { IfOk result
+        (λ text. IsPacketText options.now number datagram.now.bytes.now (string_bytes text)) }
+{
+    let seen = seen_in(alloc, options.sum, datagram.bytes)?;
+    passed_text(alloc, options, number, time, datagram, &seen, summary)
 }
 
 /// A record's number, and what it shows.
@@ -244,6 +295,24 @@ fn refused_text(alloc: Global, form: Form, number: u64, fault: Fault) -> Result<
     }
 }
 
+/// The same, but nothing where something is asked for.
+fn fault_line(
+    alloc: Global,
+    options: &Options,
+    number: u64,
+    fault: Fault,
+    summary: &mut Summary,
+) -> Result<String, AllocError>
+    ensures { IfOk result (λ text. string_bytes text ≡ fault_line options.now number fault) }
+{
+    if !options.filter.asks_nothing() {
+        summary.count_other();
+        return Ok(String::new(alloc));
+    }
+    summary.count_fault(fault);
+    refused_text(alloc, options.form, number, fault)
+}
+
 /// The text of a record that has a frame.
 fn frame_text(
     alloc: Global,
@@ -253,21 +322,28 @@ fn frame_text(
     frame: &Bytes,
     summary: &mut Summary,
 ) -> Result<String, AllocError>
-    ensures { IfOk result (λ text. IsFrameText options.now.form number (string_bytes text)) }
+    ensures { IfOk result (λ text. IsFrameText options.now number «record».now.link_type frame.now
+        (string_bytes text)) }
 {
     match datagram_in(record.link_type, frame.as_slice(), options.port) {
-        Ok(datagram) => {
-            let shown = packet_text(alloc, options, &record.time, &datagram, summary)?;
-            numbered(alloc, options.form, number, &shown)
-        }
-        Err(fault) => {
-            summary.count_fault(fault);
-            refused_text(alloc, options.form, number, fault)
-        }
+        Ok(datagram) => packet_text(alloc, options, number, &record.time, &datagram, summary),
+        Err(fault) => fault_line(alloc, options, number, fault, summary),
     }
 }
 
-/// The text of a record.
+/// The line above the records of a file, where there are several.
+pub fn heading(alloc: Global, form: Form, name: &str) -> Result<String, AllocError> {
+    if form == Form::Text {
+        return format!(in alloc; "==> {name} <==\n");
+    }
+    let mut text = String::new(alloc);
+    text.push_str("{\"file\":")?;
+    put_quoted(&mut text, name.as_bytes())?;
+    text.push_str("}\n")?;
+    Ok(text)
+}
+
+/// The text of a record, if it is to be shown.
 pub fn record_text(
     alloc: Global,
     options: &Options,
@@ -275,14 +351,11 @@ pub fn record_text(
     record: &Record,
     summary: &mut Summary,
 ) -> Result<String, AllocError>
-    ensures { IfOk result
-        (λ text. IsText options.now.form number «record».now (string_bytes text)) }
+    ensures { IfOk result (λ text. IsText options.now number «record».now (string_bytes text)) }
 {
+    summary.note_time(&record.time);
     match &record.frame {
         Ok(frame) => frame_text(alloc, options, number, record, frame, summary),
-        Err(fault) => {
-            summary.count_fault(*fault);
-            refused_text(alloc, options.form, number, *fault)
-        }
+        Err(fault) => fault_line(alloc, options, number, *fault, summary),
     }
 }

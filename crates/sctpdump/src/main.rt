@@ -3,9 +3,10 @@
 
 use clap::{Arg, ArgAction, ArgMatches, Command};
 use sctp_show::checksum::Sum;
+use sctp_show::filter::Filter;
 use sctp_show::page::Form;
 use sctp_show::run::{Counts, RunFault, run};
-use sctp_show::text::Options;
+use sctp_show::text::{Options, heading};
 use std::alloc::{AllocError, Global};
 use std::fmt::Display;
 use std::io::{self, BufWriter, ErrorKind, Read, Write};
@@ -21,17 +22,37 @@ const VERSION: &str = "0.1.0";
 /// How many bytes are written at once.
 const AT_ONCE: usize = 65_536;
 
+/// What a filter may say.
+const FILTER_WORDS: &str =
+    "a filter is port, tag, type, stream, tsn or ppid, = and values (tsn=5-9 is a range), or refused";
+
+const FILTER_HELP: &str =
+    "Show only packets with one of these: port, tag, type, stream, tsn (also FROM-TO), ppid; or `refused`";
+
+const FULL_HELP: &str = "Print all that each chunk says, as lines";
+
+const ABSOLUTE_HELP: &str = "Print times as they were captured, not since the first record";
+
+const JSON_HELP: &str = "Print each record as a JSON object on a line, with all that it says";
+
+const COUNT_HELP: &str = "End after COUNT records are shown";
+
+const PORT_HELP: &str = "The UDP port of SCTP in UDP, in place of 9899";
+
+const FILE_HELP: &str =
+    "Captures (pcap, pcapng), or lines of hex text; - or none for standard input";
+
 /// What a message calls the standard input.
 const STANDARD_INPUT: &str = "standard input";
 
-/// Writes a line to standard error: why the input of this name, or the output, could not be dealt with. Answers status 1.
-fn report<D: Display + Drop>(rt: &HostRuntime, name: &str, why: D) -> anyhow::Result<ExitCode> {
+/// Writes a line to standard error: why the input of this name, or the output, could not be dealt with. Answers that it could not.
+fn report<D: Display + Drop>(rt: &HostRuntime, name: &str, why: D) -> anyhow::Result<bool> {
     eprintln!(rt; "sctpdump: {name}: {why}")?;
-    Ok(ExitCode::FAILURE)
+    Ok(false)
 }
 
 /// The same for an error of the system, without its number.
-fn report_error(rt: &HostRuntime, name: &str, error: io::Error) -> anyhow::Result<ExitCode> {
+fn report_error(rt: &HostRuntime, name: &str, error: io::Error) -> anyhow::Result<bool> {
     let words = format!(in rt.alloc(); "{error}")?;
     let words = words.as_str();
     let words = match words.split_once(" (os error") {
@@ -50,15 +71,15 @@ fn system_error(code: Option<i32>) -> io::Error {
 }
 
 /// Says that the output failed. Where its reader has gone, as `head` does, that is no failure.
-fn report_output(rt: &HostRuntime, error: io::Error) -> anyhow::Result<ExitCode> {
+fn report_output(rt: &HostRuntime, error: io::Error) -> anyhow::Result<bool> {
     if error.kind() == ErrorKind::BrokenPipe {
-        return Ok(ExitCode::SUCCESS);
+        return Ok(true);
     }
     report_error(rt, "standard output", error)
 }
 
 /// Says why a run ended early.
-fn report_fault(rt: &HostRuntime, name: &str, fault: RunFault) -> anyhow::Result<ExitCode> {
+fn report_fault(rt: &HostRuntime, name: &str, fault: RunFault) -> anyhow::Result<bool> {
     match fault {
         RunFault::Input(code) => report_error(rt, name, system_error(code)),
         RunFault::Output(code) => report_output(rt, system_error(code)),
@@ -68,22 +89,22 @@ fn report_fault(rt: &HostRuntime, name: &str, fault: RunFault) -> anyhow::Result
 }
 
 /// Says how many records could not be read, if any.
-fn report_counts(rt: &HostRuntime, name: &str, counts: Counts) -> anyhow::Result<ExitCode> {
-    let Counts { records, unread } = counts;
+fn report_counts(rt: &HostRuntime, name: &str, counts: Counts) -> anyhow::Result<bool> {
+    let (records, unread) = (counts.records, counts.unread);
     if unread == 0 {
-        return Ok(ExitCode::SUCCESS);
+        return Ok(true);
     }
     eprintln!(rt; "sctpdump: {name}: {unread} of {records} records could not be read")?;
-    Ok(ExitCode::FAILURE)
+    Ok(false)
 }
 
-/// Prints an input, and says what went wrong. Answers the exit status.
+/// Prints an input, and says what went wrong. Answers whether all of it was read.
 fn run_on<R: Read + Drop>(
     rt: &HostRuntime,
     options: &Options,
     name: &str,
     input: R,
-) -> anyhow::Result<ExitCode> {
+) -> anyhow::Result<bool> {
     let mut output = BufWriter::with_capacity(rt.alloc(), AT_ONCE, io::writer(rt))?;
     let result = run(rt.alloc(), options, input, &mut output);
     match (result, output.flush()) {
@@ -93,7 +114,7 @@ fn run_on<R: Read + Drop>(
     }
 }
 
-fn run_file(rt: &HostRuntime, options: &Options, file: &str) -> anyhow::Result<ExitCode> {
+fn run_file(rt: &HostRuntime, options: &Options, file: &str) -> anyhow::Result<bool> {
     if file == "-" {
         return run_on(rt, options, STANDARD_INPUT, rt.reader());
     }
@@ -103,7 +124,20 @@ fn run_file(rt: &HostRuntime, options: &Options, file: &str) -> anyhow::Result<E
     }
 }
 
-/// The port that a word names.
+/// Prints each file under its name.
+fn run_each(rt: &HostRuntime, options: &Options, files: &[&str]) -> anyhow::Result<bool> {
+    let mut is_all = true;
+    for file in files {
+        let heading = heading(rt.alloc(), options.form, file)?;
+        if let Err(error) = io::writer(rt).write_all(heading.as_bytes()) {
+            return report_output(rt, error);
+        }
+        is_all = run_file(rt, options, file)? && is_all;
+    }
+    Ok(is_all)
+}
+
+/// The port that a word says, or 9899 where there is no word.
 fn port_of(word: Option<&str>) -> Option<u16> {
     match word {
         None => Some(TUNNEL_PORT),
@@ -111,33 +145,105 @@ fn port_of(word: Option<&str>) -> Option<u16> {
     }
 }
 
-/// The words of the command line, and what `--help` says of each.
-fn command<'a>(alloc: Global) -> Result<Command<'a>, AllocError> {
-    let json = Arg::new(alloc, "json")
-        .long("json")
-        .help("Print each record as a JSON object on a line");
-    let unchecked = Arg::new(alloc, "no-checksum")
-        .long("no-checksum")
-        .help("Do not compute checksums");
-    let port = Arg::new(alloc, "port")
-        .long("port")
-        .value_name("N")
-        .help("The UDP port of SCTP in UDP, in place of 9899");
-    let file = Arg::new(alloc, "file").value_name("FILE").help(
-        "A pcap or pcapng capture, or lines of hex text; - or none for standard input",
-    );
-    Command::new(alloc, "sctpdump")
-        .version(VERSION)
-        .about("Prints what SCTP datagrams hold, whatever their bytes")
-        .arg(json.action(ArgAction::SetTrue))?
-        .arg(unchecked.action(ArgAction::SetTrue))?
-        .arg(port)?
-        .arg(file)
+/// The count that a word says, or the greatest one where there is no word.
+fn count_of(word: Option<&str>) -> Option<u64> {
+    match word {
+        None => Some(u64::MAX),
+        Some(word) => word.parse::<u64>().ok(),
+    }
 }
 
-/// How records are to be looked at, if the port is one.
-fn options_in(matches: &ArgMatches<'_>) -> Option<Options> {
+/// A flag of the command line, and what `--help` says of it.
+fn flag<'a>(alloc: Global, name: &'a str, help: &'a str) -> Arg<'a> {
+    Arg::new(alloc, name)
+        .long(name)
+        .help(help)
+        .action(ArgAction::SetTrue)
+}
+
+/// A word of the command line that has a value, and what `--help` says of it.
+fn valued<'a>(alloc: Global, name: &'a str, value: &'a str, help: &'a str) -> Arg<'a> {
+    Arg::new(alloc, name)
+        .long(name)
+        .value_name(value)
+        .help(help)
+}
+
+/// The files of the command line.
+fn files<'a>(alloc: Global) -> Arg<'a> {
+    Arg::new(alloc, "file")
+        .value_name("FILE")
+        .num_args(0..)
+        .action(ArgAction::Append)
+        .help(FILE_HELP)
+}
+
+/// The word for `--version`.
+fn version<'a>(alloc: Global) -> Arg<'a> {
+    Arg::new(alloc, "version")
+        .long("version")
+        .action(ArgAction::Version)
+        .help("Print version")
+}
+
+/// The command line without its words.
+fn bare<'a>(alloc: Global) -> Command<'a> {
+    Command::new(alloc, "sctpdump")
+        .version(VERSION)
+        .disable_version_flag(true)
+        .about("Prints what SCTP datagrams hold, whatever their bytes")
+}
+
+/// Adds the words that say how records are printed.
+fn with_forms<'a>(alloc: Global, command: Command<'a>) -> Result<Command<'a>, AllocError> {
+    command
+        .arg(flag(alloc, "full", FULL_HELP).short('V'))?
+        .arg(flag(alloc, "absolute", ABSOLUTE_HELP).short('t'))?
+        .arg(flag(alloc, "json", JSON_HELP))
+}
+
+/// Adds the words that say which records are printed.
+fn with_choice<'a>(alloc: Global, command: Command<'a>) -> Result<Command<'a>, AllocError> {
+    let filter = valued(alloc, "filter", "KEY=VALUE,..", FILTER_HELP)
+        .short('f')
+        .action(ArgAction::Append);
+    let count = valued(alloc, "count", "COUNT", COUNT_HELP).short('c');
+    command.arg(filter)?.arg(count)
+}
+
+/// Adds the words that say how records are read.
+fn with_input<'a>(alloc: Global, command: Command<'a>) -> Result<Command<'a>, AllocError> {
+    command
+        .arg(flag(alloc, "no-checksum", "Do not compute checksums"))?
+        .arg(valued(alloc, "port", "N", PORT_HELP))?
+        .arg(files(alloc))
+}
+
+/// The words of the command line, and what `--help` says of each.
+fn command<'a>(alloc: Global) -> Result<Command<'a>, AllocError> {
+    let command = with_forms(alloc, bare(alloc))?;
+    let command = with_choice(alloc, command)?;
+    with_input(alloc, command)?.arg(version(alloc))
+}
+
+/// What is asked for, or the word that says nothing of it.
+fn filter_in<'a>(
+    alloc: Global,
+    matches: &ArgMatches<'a>,
+) -> Result<Result<Filter, &'a str>, AllocError> {
+    let mut filter = Filter::new(alloc);
+    for word in matches.get_strs("filter").unwrap_or(&[]) {
+        if !filter.ask(word)? {
+            return Ok(Err(word));
+        }
+    }
+    Ok(Ok(filter))
+}
+
+/// How records are to be looked at, if the port and the count are numbers that can be.
+fn options_in(matches: &ArgMatches<'_>, filter: Filter) -> Option<Options> {
     let port = port_of(matches.get_str("port"))?;
+    let limit = count_of(matches.get_str("count"))?;
     let sum = if matches.get_flag("no-checksum") {
         Sum::Unchecked
     } else {
@@ -148,7 +254,28 @@ fn options_in(matches: &ArgMatches<'_>) -> Option<Options> {
     } else {
         Form::Text
     };
-    Some(Options { sum, port, form })
+    Some(Options {
+        sum,
+        port,
+        form,
+        is_full: matches.get_flag("full"),
+        is_absolute: matches.get_flag("absolute"),
+        filter,
+        limit,
+    })
+}
+
+/// Prints the files of the command line, each under its name where there are more than one.
+fn run_files(rt: &HostRuntime, options: &Options, files: &[&str]) -> anyhow::Result<ExitCode> {
+    let is_all = match files {
+        [] => run_file(rt, options, "-")?,
+        [file] => run_file(rt, options, file)?,
+        _ => run_each(rt, options, files)?,
+    };
+    if is_all {
+        return Ok(ExitCode::SUCCESS);
+    }
+    Ok(ExitCode::FAILURE)
 }
 
 /// Does what the command line says. The exit status is 2 where it is another.
@@ -165,9 +292,16 @@ fn main(rt: HostRuntime) -> anyhow::Result<ExitCode> {
             return Ok(ExitCode::from(if e.use_stderr() { 2 } else { 0 }));
         }
     };
-    let Some(options) = options_in(&matches) else {
-        eprintln!(rt; "sctpdump: the port is a number up to 65535")?;
+    let filter = match filter_in(alloc, &matches)? {
+        Ok(filter) => filter,
+        Err(word) => {
+            eprintln!(rt; "sctpdump: --filter {word}: {FILTER_WORDS}")?;
+            return Ok(ExitCode::from(2));
+        }
+    };
+    let Some(options) = options_in(&matches, filter) else {
+        eprintln!(rt; "sctpdump: the port is a number up to 65535, and the count a number")?;
         return Ok(ExitCode::from(2));
     };
-    run_file(&rt, &options, matches.get_str("file").unwrap_or("-"))
+    run_files(&rt, &options, matches.get_strs("file").unwrap_or(&[]))
 }

@@ -1,13 +1,15 @@
 use Rattle.std.proofs.Common.{◌≤◌}
 use Rattle.std.specs.Io.KnownBytes.{prepend_known}
-use Rattle.sctp_show.specs.Blocks.{known_of}
+use Rattle.sctp_capture.specs.Blocks.{known_of}
 use Rattle.sctp_show.proofs.Runs.{SoFar}
 use Rattle.sctp_show.proofs.run.run.Given as goal
 
 abbrev pub invariant-pieces : goal.invariant-pieces
 invariant-pieces g l = record {
-  counted : l.count ≤ l.turn;
-  fewer : l.unread ≤ l.count;
-  so_far : SoFar l.options.form l.format (known_of l.initial.section) (prepend_known l.initial.window.held.items (g.R.Read.remaining l.initial.window.reader))
-      (known_of l.section) (prepend_known l.window.held.items (g.R.Read.remaining l.window.reader)) (g.W.Write.contents l.fn.output) (g.W.Write.contents l.output) l.count l.unread;
+  counted : l.records ≤ l.turn;
+  fewer : l.unread ≤ l.records;
+  few : l.shown ≤ l.records;
+  limited : l.shown ≤ l.options.limit;
+  so_far : SoFar l.options l.format (known_of l.initial.section) (prepend_known l.initial.window.held.items (g.R.Read.remaining l.initial.window.reader))
+      (known_of l.section) (prepend_known l.window.held.items (g.R.Read.remaining l.window.reader)) (g.W.Write.contents l.fn.output) (g.W.Write.contents l.output) l.records l.unread l.shown;
 }

@@ -1,0 +1,9 @@
+pub mod Known
+pub mod Entries
+pub mod Lines
+pub mod Digits
+pub mod Heads
+pub mod Uppers
+pub mod Frames
+pub mod BlockPieces
+pub mod Pieces

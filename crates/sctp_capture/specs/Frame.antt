@@ -1,0 +1,130 @@
+-- The SCTP datagram that stands in a frame.
+use Rattle.std.specs.Prelude.{◌≡◌, ◌≢◌, ℕ, zero, suc, ◌+◌, ◌*◌, ◌/◌, ◌%◌, ◌≤◌, ◌⊎◌, ◌==◌, if◌then◌else◌, List, length, slice_index, slice_range}
+use Rattle.std.specs.Prelude.{Option, IsSomeAnd}
+use Rattle.std.specs.Net.Addr.{ipv4_octets, ipv6_segments, segments_of, IsV4And, IsV6And}
+use Rattle.std.specs.declared.net.ip_addr.IpAddr.{IpAddr}
+use Rattle.sctp_base.specs.Field.{u16_at}
+
+-- where an IP packet or a UDP datagram ends that has its length at this place: there, or, if it is 0, with the bytes that there are
+abbrev pub end_of : List ℕ → ℕ → ℕ
+end_of bytes at = if u16_at bytes at == 0 then length bytes else u16_at bytes at
+
+-- in UDP to or from the port: behind the header, to the length that it says (RFC 768)
+pub record InUdp (port : ℕ) (payload bytes : List ℕ) : Type 0 where
+  pub has_port : (u16_at payload 0 ≡ port) ⊎ (u16_at payload 2 ≡ port)
+  pub has_header : 8 ≤ end_of payload 4
+  pub has_all : end_of payload 4 ≤ length payload
+  pub is : bytes ≡ slice_range payload 8 (end_of payload 4)
+
+-- in what IP carries: all of it, or what UDP carries to or from the port (RFC 6951)
+abbrev pub IsCarried : ℕ → ℕ → List ℕ → List ℕ → Type 0
+IsCarried port protocol payload bytes =
+    ((protocol ≡ 132) × (bytes ≡ payload)) ⊎ ((protocol ≡ 17) × InUdp port payload bytes)
+
+-- the bytes of the header of an IPv4 packet (RFC 791 3.1)
+abbrev pub ipv4_header : List ℕ → ℕ
+ipv4_header packet = (slice_index packet 0 % 16) * 4
+
+-- in an IPv4 packet that is no fragment: behind its header, to its total length
+pub record InIpv4 (port : ℕ) (packet bytes : List ℕ) : Type 0 where
+  pub is_no_fragment : u16_at packet 6 % 16384 ≡ 0
+  pub has_header : 20 ≤ ipv4_header packet
+  pub has_length : ipv4_header packet ≤ end_of packet 2
+  pub has_all : end_of packet 2 ≤ length packet
+  pub carried : IsCarried port (slice_index packet 9)
+      (slice_range packet (ipv4_header packet) (end_of packet 2)) bytes
+
+-- a fragment header of a packet that is whole: no offset, and no more fragments (RFC 6946)
+abbrev pub IsAtomic : List ℕ → Type 0
+IsAtomic payload =
+    (8 ≤ length payload) × (u16_at payload 2 / 8 ≡ 0) × (u16_at payload 2 % 2 ≡ 0)
+
+-- headers of IPv6 that another one follows: hop-by-hop options, routing, destination options (RFC 8200 4), and that of a whole packet
+abbrev pub IsPassed : ℕ → List ℕ → Type 0
+IsPassed protocol payload = (protocol ≡ 0) ⊎ ((protocol ≡ 43)
+    ⊎ ((protocol ≡ 60) ⊎ ((protocol ≡ 44) × IsAtomic payload)))
+
+-- the bytes of such a header (RFC 8200 4.3, 4.5)
+abbrev pub passed_bytes : ℕ → List ℕ → ℕ
+passed_bytes protocol payload = if protocol == 44 then 8 else 8 + 8 * slice_index payload 1
+
+-- what stands behind fewer than so many such headers, each whole, and its protocol; it is no fragment (RFC 8200 4.5)
+unfoldable pub IsUpper : ℕ → ℕ → List ℕ → ℕ → List ℕ → Type 0
+IsUpper zero first payload protocol upper = ⊥
+IsUpper (suc count) first payload protocol upper =
+    (IsPassed first payload × (passed_bytes first payload ≤ length payload)
+    × IsUpper count (slice_index payload 0)
+    (slice_range payload (passed_bytes first payload) (length payload)) protocol upper)
+    ⊎ ((IsPassed first payload → ⊥) × (first ≢ 44) × (protocol ≡ first) × (upper ≡ payload))
+
+-- in an IPv6 packet: behind its headers, of which fifteen may follow the first, to its length
+pub record InIpv6 (port : ℕ) (packet bytes : List ℕ) : Type 0 where
+  pub has_all : 40 + u16_at packet 4 ≤ length packet
+  pub protocol : ℕ
+  pub upper : List ℕ
+  pub is : IsUpper 16 (slice_index packet 6)
+      (slice_range packet 40 (40 + u16_at packet 4)) protocol upper
+  pub carried : IsCarried port protocol upper bytes
+
+-- the address that stands in a packet from a place on
+abbrev pub IsIpv4At : List ℕ → ℕ → IpAddr → Type 0
+IsIpv4At packet at address =
+    IsV4And address (λ ip. ipv4_octets ip ≡ slice_range packet at (at + 4))
+
+abbrev pub IsIpv6At : List ℕ → ℕ → IpAddr → Type 0
+IsIpv6At packet at address =
+    IsV6And address (λ ip. ipv6_segments ip ≡ segments_of (slice_range packet at (at + 16)))
+
+-- source and destination of an IP packet (RFC 791 3.1, RFC 8200 3)
+abbrev pub AreEnds : List ℕ → IpAddr × IpAddr → Type 0
+AreEnds packet ends =
+    ((slice_index packet 0 / 16 ≡ 4) × IsIpv4At packet 12 ends.0 × IsIpv4At packet 16 ends.1)
+    ⊎ ((slice_index packet 0 / 16 ≡ 6) × IsIpv6At packet 8 ends.0 × IsIpv6At packet 24 ends.1)
+
+-- in an IP packet, by its version
+abbrev pub InIp : ℕ → List ℕ → List ℕ → Type 0
+InIp port packet bytes =
+    ((slice_index packet 0 / 16 ≡ 4) × InIpv4 port packet bytes)
+    ⊎ ((slice_index packet 0 / 16 ≡ 6) × InIpv6 port packet bytes)
+
+-- the protocol number of a VLAN tag: of the inner or the outer one (IEEE 802.1Q), or of an outer one by its older number
+abbrev pub IsTag : ℕ → Type 0
+IsTag typ = (typ ≡ 33024) ⊎ ((typ ≡ 34984) ⊎ (typ ≡ 37120))
+
+-- where the protocol number of an Ethernet frame stands: behind two addresses and up to three tags
+abbrev pub IsTypePlace : List ℕ → ℕ → Type 0
+IsTypePlace frame at =
+    ((IsTag (u16_at frame 12) → ⊥) × (at ≡ 12))
+    ⊎ (IsTag (u16_at frame 12) × (((IsTag (u16_at frame 16) → ⊥) × (at ≡ 16))
+    ⊎ (IsTag (u16_at frame 16) × (((IsTag (u16_at frame 20) → ⊥) × (at ≡ 20))
+    ⊎ (IsTag (u16_at frame 20) × (at ≡ 24))))))
+
+-- where an IP packet begins in an Ethernet frame: behind the protocol number, which is that of IPv4 or IPv6
+abbrev pub IsEthernetPlace : List ℕ → ℕ → Type 0
+IsEthernetPlace frame at = (type_at : ℕ) × IsTypePlace frame type_at
+    × ((u16_at frame type_at ≡ 2048) ⊎ (u16_at frame type_at ≡ 34525)) × (at ≡ type_at + 2)
+
+-- link types of a raw IP packet
+abbrev pub IsRawIp : ℕ → Type 0
+IsRawIp link_type = (link_type ≡ 12) ⊎ ((link_type ≡ 14)
+    ⊎ ((link_type ≡ 101) ⊎ ((link_type ≡ 228) ⊎ (link_type ≡ 229))))
+
+-- where the IP packet of a frame begins, by its link type: loopback, Ethernet, raw IP, Linux cooked of both versions
+abbrev pub IsPlace : ℕ → List ℕ → ℕ → Type 0
+IsPlace link_type frame at =
+    (((link_type ≡ 0) ⊎ (link_type ≡ 108)) × (at ≡ 4))
+    ⊎ (((link_type ≡ 1) × IsEthernetPlace frame at)
+    ⊎ ((IsRawIp link_type × (at ≡ 0))
+    ⊎ (((link_type ≡ 113) × (at ≡ 16)) ⊎ ((link_type ≡ 276) × (at ≡ 20)))))
+
+-- in a frame that holds an IP packet
+pub record InFrame (link_type port : ℕ) (frame bytes : List ℕ) : Type 0 where
+  pub at : ℕ
+  pub place : IsPlace link_type frame at
+  pub inside : InIp port (slice_range frame at (length frame)) bytes
+
+-- in a frame that holds an IP packet, between these addresses
+pub record HasEnds (link_type : ℕ) (frame : List ℕ) (ends : Option (IpAddr × IpAddr)) : Type 0 where
+  pub at : ℕ
+  pub place : IsPlace link_type frame at
+  pub are : IsSomeAnd ends (AreEnds (slice_range frame at (length frame)))

@@ -1,0 +1,7 @@
+pub mod Window
+pub mod Record
+pub mod Fault
+pub mod Blocks
+pub mod Frame
+pub mod Kind
+pub mod Input

@@ -1,0 +1,9 @@
+//! The records of a capture, or of lines of hex text, and the SCTP datagrams in them.
+#![tactic(auto)]
+
+pub mod blocks;
+pub mod frame;
+pub mod input;
+pub mod kind;
+pub mod record;
+pub mod window;

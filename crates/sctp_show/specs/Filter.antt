@@ -1,0 +1,98 @@
+-- Which packets are shown.
+use Rattle.std.specs.Prelude.{ℕ, ◌/◌, ◌%◌, Bool, true, false, ◌==◌, ◌&&◌, ◌||◌, not, leb, if◌then◌else◌, is_some, List, length, Option, Some, None}
+use Rattle.std.specs.List.{list_any}
+use Rattle.sctp_list_lemmas.specs.Serial.{distance}
+use Rattle.sctp_base.specs.Field.{u16_at, u32_at}
+use Rattle.sctp_chunks.specs.Framing.{type_at, flags_at}
+use Rattle.sctp_dissect.specs.declared.dissection.Header.{Header}
+use Rattle.sctp_dissect.specs.declared.dissection.Reading.{Reading}
+use Rattle.sctp_dissect.specs.declared.dissection.Reading.TheVariants.{Strict, Raw}
+use Rattle.sctp_dissect.specs.declared.dissection.Item.{Item}
+use Rattle.sctp_dissect.specs.declared.dissection.Dissection.{Dissection}
+use Rattle.sctp_show.specs.declared.filter.TsnRange.{TsnRange}
+use Rattle.sctp_show.specs.declared.filter.Filter.{Filter}
+
+-- ---- what a chunk says, by its bytes
+
+-- DATA (RFC 4960 3.3.1) or I-DATA (RFC 8260 2.1), with all of its fixed part
+abbrev pub is_data : List ℕ → Bool
+is_data bytes =
+    (leb 16 (length bytes) && (type_at bytes == 0))
+    || (leb 20 (length bytes) && (type_at bytes == 64))
+
+abbrev pub tsn_of : List ℕ → Option ℕ
+tsn_of bytes = if is_data bytes then Some (u32_at bytes 4) else None
+
+abbrev pub stream_of : List ℕ → Option ℕ
+stream_of bytes = if is_data bytes then Some (u16_at bytes 8) else None
+
+-- of I-DATA only a first fragment has a payload type: the second bit of its flags is set
+abbrev pub payload_type_of : List ℕ → Option ℕ
+payload_type_of bytes =
+    if not (is_data bytes) then None
+    else if type_at bytes == 0 then Some (u32_at bytes 12)
+    else if flags_at bytes / 2 % 2 == 1 then Some (u32_at bytes 16)
+    else None
+
+-- ---- what is asked for
+
+-- the number is one of those that are asked for, or none is asked for
+abbrev pub is_asked : List ℕ → ℕ → Bool
+is_asked numbers n = (length numbers == 0) || list_any (λ k. k == n) numbers
+
+-- the same of a number that may be missing
+abbrev pub is_asked_of : List ℕ → Option ℕ → Bool
+is_asked_of numbers None = length numbers == 0
+is_asked_of numbers (Some n) = is_asked numbers n
+
+-- from the first TSN up to the last, which may lie behind 2^32 - 1, where 0 follows
+abbrev pub is_in_range : ℕ → TsnRange → Bool
+is_in_range tsn range = leb (distance range.first tsn) (distance range.first range.last)
+
+abbrev pub is_tsn_asked : List TsnRange → Option ℕ → Bool
+is_tsn_asked ranges None = length ranges == 0
+is_tsn_asked ranges (Some tsn) = (length ranges == 0) || list_any (is_in_range tsn) ranges
+
+-- ---- which packets pass
+
+-- the chunk is of a type, a stream, a TSN and a payload type that are asked for
+abbrev pub meets : Filter → Item → Bool
+meets f item =
+    is_asked f.types.items (type_at item.bytes)
+    && is_asked_of f.streams.items (stream_of item.bytes)
+    && is_tsn_asked f.tsns.items (tsn_of item.bytes)
+    && is_asked_of f.payload_types.items (payload_type_of item.bytes)
+
+-- no chunk is asked for
+abbrev pub asks_no_chunk : Filter → Bool
+asks_no_chunk f =
+    (length f.types.items == 0) && (length f.streams.items == 0)
+    && (length f.tsns.items == 0) && (length f.payload_types.items == 0)
+
+-- the header has a port, of either end, and a tag that are asked for
+abbrev pub has_asked_header : Filter → Option Header → Bool
+has_asked_header f None = (length f.ports.items == 0) && (length f.tags.items == 0)
+has_asked_header f (Some h) =
+    (is_asked f.ports.items h.fields.source_port || is_asked f.ports.items h.fields.destination_port)
+    && is_asked f.tags.items h.fields.verification_tag
+
+abbrev pub is_raw : Reading → Bool
+is_raw (Strict k) = false
+is_raw (Raw r) = true
+
+-- a chunk is refused, or bytes are left over
+abbrev pub is_refused : Dissection → Bool
+is_refused d = is_some d.fault || list_any (λ item. is_raw item.reading) d.items.items
+
+-- A packet passes where its header is asked for, one of its chunks meets all that is asked of a chunk, and it is refused, if only those are asked for.
+abbrev pub passes : Filter → Dissection → Bool
+passes f d =
+    has_asked_header f d.header
+    && (asks_no_chunk f || list_any (meets f) d.items.items)
+    && (not f.only_refused || is_refused d)
+
+-- Any packet passes. Only then is a record shown that has no packet.
+abbrev pub asks_nothing : Filter → Bool
+asks_nothing f =
+    (length f.ports.items == 0) && (length f.tags.items == 0) && asks_no_chunk f
+    && not f.only_refused

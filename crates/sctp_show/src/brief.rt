@@ -1,0 +1,182 @@
+//! What the line of a packet says of its chunks.
+
+use crate::chunk_text::{type_of, u16_at, u32_at};
+use crate::dcep::put_brief_message;
+use crate::filter::{is_data, payload_type_of};
+use crate::names::{ChunkName, parameter_name, payload_name};
+use crate::page::put_all;
+use itoa::Buffer;
+use sctp_chunks::chunk::chunk_kind::ChunkKind;
+use sctp_chunks::chunk::chunk_selective_ack::ChunkSelectiveAck;
+use sctp_chunks::chunk::error_cause::ErrorCause;
+use sctp_dissect::dissection::{Item, Reading};
+use std::alloc::AllocError;
+
+/// The payload protocol identifier of DCEP (RFC 8832 8.1).
+pub const DCEP: u32 = 50;
+
+/// Appends a number behind a word.
+fn put_number(text: &mut String, word: &str, number: u32) -> Result<(), AllocError> {
+    put_all(text, &[word, Buffer::new().format(number)])
+}
+
+/// Appends the letters of the flags of DATA and I-DATA that are set, or a hyphen: immediate, unordered, beginning, end.
+fn put_flags(text: &mut String, flags: u8) -> Result<(), AllocError> {
+    text.push_str(match flags % 16 {
+        0 => " -",
+        1 => " E",
+        2 => " B",
+        3 => " BE",
+        4 => " U",
+        5 => " UE",
+        6 => " UB",
+        7 => " UBE",
+        8 => " I",
+        9 => " IE",
+        10 => " IB",
+        11 => " IBE",
+        12 => " IU",
+        13 => " IUE",
+        14 => " IUB",
+        _ => " IUBE",
+    })
+}
+
+/// Appends a payload protocol identifier, and its name.
+fn put_payload_type(text: &mut String, identifier: u32) -> Result<(), AllocError> {
+    put_number(text, " ", identifier)?;
+    let name = payload_name(identifier);
+    if name.is_empty() {
+        return Ok(());
+    }
+    put_all(text, &[" ", name])
+}
+
+/// The bytes behind the first `at` of a chunk, without its padding.
+fn payload_in(bytes: &[u8], at: usize) -> &[u8] {
+    bytes.get(at..u16_at(bytes, 2) as usize).unwrap_or(b"")
+}
+
+/// The type and the flags of a chunk, or 0 where they are not there.
+fn first_two(bytes: &[u8]) -> (u8, u8) {
+    match bytes {
+        [typ, flags, ..] => (*typ, *flags),
+        _ => (0, 0),
+    }
+}
+
+/// DATA or I-DATA: the TSN, the stream and the number in it, the flags, the payload type (or the number of a fragment), and how long it is.
+fn put_brief_data(text: &mut String, bytes: &[u8]) -> Result<(), AllocError> {
+    let (first, flags) = first_two(bytes);
+    let is_interleaved = first == 64;
+    put_number(text, " ", u32_at(bytes, 4))?;
+    put_number(text, " s", u16_at(bytes, 8) as u32)?;
+    let number = if is_interleaved {
+        u32_at(bytes, 12)
+    } else {
+        u16_at(bytes, 10) as u32
+    };
+    put_number(text, "/", number)?;
+    put_flags(text, flags)?;
+    match payload_type_of(bytes) {
+        Some(identifier) => put_payload_type(text, identifier)?,
+        None => put_number(text, " fragment ", u32_at(bytes, 16))?,
+    }
+    let payload = payload_in(bytes, if is_interleaved { 20 } else { 16 });
+    put_all(text, &[" ", Buffer::new().format(payload.len()), " bytes"])?;
+    if flags % 4 == 3 && payload_type_of(bytes) == Some(DCEP) {
+        put_brief_message(text, payload)?;
+    }
+    Ok(())
+}
+
+/// INIT or INIT-ACK: the tag, the credit, the streams and the TSN.
+fn put_brief_init(text: &mut String, bytes: &[u8]) -> Result<(), AllocError> {
+    write!(text, " tag 0x{:08x}", u32_at(bytes, 4))?;
+    put_number(text, " rwnd ", u32_at(bytes, 8))?;
+    put_number(text, " streams ", u16_at(bytes, 12) as u32)?;
+    put_number(text, "/", u16_at(bytes, 14) as u32)?;
+    put_number(text, " tsn ", u32_at(bytes, 16))
+}
+
+/// SACK: the TSN, the credit, and how many gap blocks and duplicates there are.
+fn put_brief_sack(text: &mut String, c: &ChunkSelectiveAck) -> Result<(), AllocError> {
+    put_number(text, " ", c.cumulative_tsn_ack)?;
+    put_number(text, " rwnd ", c.advertised_receiver_window_credit)?;
+    if !c.gap_ack_blocks.is_empty() {
+        put_all(
+            text,
+            &[" gaps ", Buffer::new().format(c.gap_ack_blocks.len())],
+        )?;
+    }
+    if !c.duplicate_tsn.is_empty() {
+        put_all(
+            text,
+            &[" duplicates ", Buffer::new().format(c.duplicate_tsn.len())],
+        )?;
+    }
+    Ok(())
+}
+
+/// The names of causes.
+fn put_brief_causes(text: &mut String, causes: &[ErrorCause]) -> Result<(), AllocError> {
+    for cause in causes {
+        write!(text, " {}", cause.code)?;
+    }
+    Ok(())
+}
+
+/// The T bit of ABORT and SHUTDOWN-COMPLETE: the tag is the one that the packet before had (RFC 4960 8.5.1).
+fn put_brief_reflected(text: &mut String, bytes: &[u8]) -> Result<(), AllocError> {
+    match bytes.get(1) {
+        Some(flags) if flags % 2 == 1 => text.push_str(" T"),
+        _ => Ok(()),
+    }
+}
+
+/// The first parameter of a RE-CONFIG.
+fn put_brief_reconfig(text: &mut String, bytes: &[u8]) -> Result<(), AllocError> {
+    if bytes.len() < 8 {
+        return Ok(());
+    }
+    let name = parameter_name(u16_at(bytes, 4));
+    if name.is_empty() {
+        return Ok(());
+    }
+    put_all(text, &[" ", name])
+}
+
+/// What is said of a chunk that is read.
+fn put_brief_strict(text: &mut String, chunk: &ChunkKind, bytes: &[u8]) -> Result<(), AllocError> {
+    match chunk {
+        ChunkKind::SelectiveAck(c) => put_brief_sack(text, c),
+        ChunkKind::Abort(c) => {
+            put_brief_reflected(text, bytes)?;
+            put_brief_causes(text, &c.error_causes)
+        }
+        ChunkKind::Error(c) => put_brief_causes(text, &c.error_causes),
+        ChunkKind::Shutdown(c) => put_number(text, " ", c.cumulative_tsn_ack),
+        ChunkKind::ShutdownComplete(_) => put_brief_reflected(text, bytes),
+        ChunkKind::ForwardTsn(c) => put_number(text, " ", c.new_cumulative_tsn),
+        ChunkKind::IForwardTsn(c) => put_number(text, " ", c.new_cumulative_tsn),
+        _ => Ok(()),
+    }
+}
+
+/// What the line of a packet says of a chunk, behind its name.
+pub fn put_brief(text: &mut String, item: &Item) -> Result<(), AllocError> {
+    let bytes = item.bytes.as_slice();
+    let typ = type_of(item);
+    ChunkName(typ).put(text)?;
+    if is_data(bytes) {
+        put_brief_data(text, bytes)?;
+    } else if (typ == 1 || typ == 2) && bytes.len() >= 20 {
+        put_brief_init(text, bytes)?;
+    } else if typ == 130 {
+        put_brief_reconfig(text, bytes)?;
+    }
+    match &item.reading {
+        Reading::Strict(chunk) => put_brief_strict(text, chunk, bytes),
+        Reading::Raw(raw) => write!(text, " [{}]", raw.refusal),
+    }
+}
