@@ -232,6 +232,6 @@ pub fn goes_well(alloc: Global, loss: u32) -> Result<bool, Fault> {
     let are_reset = exchange.drain()?;
     exchange.first.write_unknown(alloc, exchange.now)?;
     let more = exchange.exchange(reliable, MESSAGES, MESSAGES + LATER)?;
-    let is_told = loss > 0 || exchange.first.association.errors() == 1;
+    let is_told = loss > 0 || exchange.first.association.errors() > 0;
     Ok(came && are_reset && more && is_told && exchange.is_served())
 }
