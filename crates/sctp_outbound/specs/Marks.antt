@@ -1,5 +1,6 @@
 -- What marks make of a chunk.
-use Rattle.std.specs.Prelude.{ℕ, Bool, true, false, not, ◌&&◌, ◌==◌, [], Option}
+use Rattle.std.specs.Prelude.{◌≡◌, ℕ, ◌≤◌, Bool, true, false, not, ◌&&◌, ◌==◌, List, [], Option, length, take, drop}
+use Rattle.std.specs.List.{list_any}
 use Rattle.sctp_chunks.specs.declared.chunk.chunk_payload_data.ChunkPayloadData.{ChunkPayloadData}
 use Rattle.sctp_outbound.specs.declared.payload_queue.held.Mark.{Mark}
 use Rattle.sctp_outbound.specs.declared.payload_queue.held.Mark.TheVariants.{Acknowledged, Abandoned, Retransmit, Nsent, Since, MissIndicator}
@@ -7,6 +8,10 @@ use Rattle.sctp_outbound.specs.declared.payload_queue.held.Mark.TheVariants.{Ack
 -- acknowledged: its bytes are gone
 abbrev pub as_acknowledged : ChunkPayloadData → ChunkPayloadData
 as_acknowledged c = record c { acked = true; retransmit = false; user_data = [] }
+
+-- the acknowledgement is taken back: it is not acknowledged, and has these bytes
+abbrev pub as_taken_back : List ℕ → ChunkPayloadData → ChunkPayloadData
+as_taken_back bytes c = record c { acked = false; user_data = bytes }
 
 -- of a message that is abandoned: its bytes are gone
 abbrev pub as_abandoned : ChunkPayloadData → ChunkPayloadData
@@ -40,3 +45,10 @@ is_outstanding c = not c.acked && not c.abandoned
 -- whether the chunk is a fragment of the message
 abbrev pub is_of : ℕ → ChunkPayloadData → Bool
 is_of message c = c.message_id == message
+
+-- the chunks of the message stand from a place on and before another
+pub record IsBetween (message start end : ℕ) (chunks : List ChunkPayloadData) : Type 0 where
+  pub order : start ≤ end
+  pub inside : end ≤ length chunks
+  pub before : list_any (is_of message) (take start chunks) ≡ false
+  pub behind : list_any (is_of message) (drop end chunks) ≡ false

@@ -4,9 +4,10 @@ ghost use Rattle.std.specs.Prelude.{◌≡◌, ◌==◌, ℕ, Bool, ◌⊎◌, �
 ghost use Rattle.std.specs.Option.{option_map};
 ghost use Rattle.std.specs.List.{list_any};
 ghost use Rattle.sctp_chunks.specs.Reliability.{is_past};
+ghost use Rattle.sctp_chunks.specs.declared.chunk.chunk_payload_data.ChunkPayloadData.{ChunkPayloadData};
 ghost use Rattle.sctp_base.specs.declared.error.Error.TheVariants.{ErrOutOfMemory};
 ghost use Rattle.sctp_list_lemmas.specs.Lists.{change_where};
-ghost use Rattle.sctp_outbound.specs.Marks.{is_outstanding};
+ghost use Rattle.sctp_outbound.specs.Marks.{IsBetween, is_of, is_outstanding};
 ghost use Rattle.sctp_outbound.specs.pending_queue.PendingQueue as pending;
 ghost use Rattle.sctp_outbound.specs.pending_queue.Whole.{GoesOn, IsMessageOrNone, partially_sent, waits};
 ghost use Rattle.sctp_serial.specs.Window.{SpansOneWindow, is_held};
@@ -19,6 +20,7 @@ mod waiting;
 use self::message::{is_message_or_none, is_room_for};
 use crate::payload_queue::{PayloadQueue, is_outstanding};
 use crate::pending_queue::PendingQueue;
+use bytes::Bytes;
 use sctp_base::error::Result;
 use sctp_chunks::chunk::chunk_payload_data::ChunkPayloadData;
 use std::alloc::Global;
@@ -58,7 +60,7 @@ impl Model for OutboundQueue {
 }
 
 impl OutboundQueue {
-    ghost use Rattle.sctp_outbound.specs.Marks.{as_acknowledged, with_retransmit, with_nsent, with_since, with_miss_indicator};
+    ghost use Rattle.sctp_outbound.specs.Marks.{as_acknowledged, as_taken_back, with_retransmit, with_nsent, with_since, with_miss_indicator};
     ghost use Rattle.sctp_outbound.specs.outbound_queue.OutboundQueue.{Outbound, new_outbound, total_bytes, with_inflight, with_message, has_room, all_started, sent_peeked, sent_next, abandon_chunks, tsn_after, to_abandon, abandoned_of, tsn_after_of, has_tail, expiring, expired_of, expiring_tail, message_of, late_tsns, after_sends};
     ghost use Rattle.sctp_outbound.specs.payload_queue.PayloadQueue.{front_with, without_front};
 
@@ -253,6 +255,41 @@ impl OutboundQueue {
         ensures no_tail { has_tail (to_abandon
             (find (has_tsn tsn) self.old.inflight.chunks)) self.old ≡ false → IsOk result }
     {
+        let len = self.inflight.len();
+        self.abandon_between(tsn, 0, len, next_tsn)
+    }
+
+    /// As `abandon`, and of what is in flight it looks only at the places from `start` on and before `end`, beside a search for the TSN.
+    /// Precondition: as for `abandon`, and the chunks in flight of the TSN's message stand there.
+    pub fn abandon_between(
+        &mut self,
+        tsn: u32,
+        start: usize,
+        end: usize,
+        next_tsn: &mut u32,
+    ) -> Result<Option<(u16, usize)>>
+        requires fresh { is_held self.old.inflight.chunks next_tsn.old ≡ false }
+        requires window { SpansOneWindow self.old.inflight.chunks next_tsn.old }
+        requires between { (c : ChunkPayloadData)
+            → find (has_tsn tsn) self.old.inflight.chunks ≡ Some c
+            → IsBetween c.message_id start end self.old.inflight.chunks }
+        ensures answer { IfOk result (λ r. option_map (λ a. a.0) r
+            ≡ option_map (λ c. c.stream_identifier) (find (has_tsn tsn) self.old.inflight.chunks)) }
+        ensures released { IfOk result (λ r. total_bytes self.new + released_of r
+            ≡ total_bytes self.old) }
+        ensures ok { OnOk result (self.new ≡ abandoned_of
+            (to_abandon (find (has_tsn tsn) self.old.inflight.chunks)) next_tsn.old self.old) }
+        ensures raised { OnOk result (next_tsn.new ≡ tsn_after_of
+            (to_abandon (find (has_tsn tsn) self.old.inflight.chunks)) next_tsn.old self.old) }
+        // the next TSN is the same while a message stays partially sent
+        ensures half { OnOk result ((next_tsn.new ≡ next_tsn.old)
+            ⊎ (partially_sent self.new.pending ≡ None)) }
+        ensures err { OnErr result ((self.new ≡ self.old) × (next_tsn.new ≡ next_tsn.old)) }
+        ensures memory { IsOkUnless result ErrOutOfMemory }
+        ensures succeeds { 0 < self.old.inflight.room → IsOk result }
+        ensures no_tail { has_tail (to_abandon
+            (find (has_tsn tsn) self.old.inflight.chunks)) self.old ≡ false → IsOk result }
+    {
         let Some(chunk) = self.inflight.get(tsn) else {
             return Ok(None);
         };
@@ -261,12 +298,22 @@ impl OutboundQueue {
             return Ok(Some((stream_identifier, 0)));
         }
         let message_id = chunk.message_id;
-        let bytes = self.abandon_message(message_id, next_tsn)?;
+        let bytes = self.abandon_message(message_id, start, end, next_tsn)?;
         Ok(Some((stream_identifier, bytes)))
     }
 
-    // Abandons a message, and answers the bytes that left. It grows first, and only for a tail.
-    fn abandon_message(&mut self, message_id: u64, next_tsn: &mut u32) -> Result<usize>
+    // Abandons a message, whose chunks in flight stand between two places, and answers the bytes that left. Where some of it waits, it is
+    // the partially sent one. It grows first, and only for a tail.
+    fn abandon_message(
+        &mut self,
+        message_id: u64,
+        start: usize,
+        end: usize,
+        next_tsn: &mut u32,
+    ) -> Result<usize>
+        requires between { IsBetween message_id start end self.old.inflight.chunks }
+        requires half { waits message_id self.old.pending ≡ true
+            → partially_sent self.old.pending ≡ Some message_id }
         requires fresh { is_held self.old.inflight.chunks next_tsn.old ≡ false }
         requires window { SpansOneWindow self.old.inflight.chunks next_tsn.old }
         ensures released { IfOk result (λ bytes. total_bytes self.new + bytes
@@ -278,18 +325,19 @@ impl OutboundQueue {
         ensures succeeds { 0 < self.old.inflight.room → IsOk result }
         ensures no_tail { waits message_id self.old.pending ≡ false → IsOk result }
     {
-        if !self.pending.contains_message(message_id) {
-            return Ok(self.inflight.abandon_message(message_id));
+        if !self.rest_waits(message_id) {
+            return Ok(self.inflight.abandon_between(message_id, start, end));
         }
         self.inflight.reserve(1)?;
         let tsn = *next_tsn;
-        let bytes = self.abandon_with_tail(message_id, tsn);
+        let bytes = self.abandon_with_tail(message_id, (start, end), tsn);
         *next_tsn = tsn.wrapping_add(1);
         Ok(bytes)
     }
 
     // Abandons a message with a tail. There is room for its terminal chunk.
-    fn abandon_with_tail(&mut self, message_id: u64, tsn: u32) -> usize
+    fn abandon_with_tail(&mut self, message_id: u64, places: (usize, usize), tsn: u32) -> usize
+        requires between { IsBetween message_id places.0 places.1 self.old.inflight.chunks }
         requires tail { waits message_id self.old.pending ≡ true }
         requires room { 0 < self.old.inflight.room }
         requires fresh { is_held self.old.inflight.chunks tsn ≡ false }
@@ -297,7 +345,8 @@ impl OutboundQueue {
         ensures released { total_bytes self.new + result ≡ total_bytes self.old }
         ensures abandoned { self.new ≡ abandon_chunks message_id tsn self.old }
     {
-        let in_flight = self.inflight.abandon_message(message_id);
+        let (start, end) = places;
+        let in_flight = self.inflight.abandon_between(message_id, start, end);
         let (pending, last) = self.pending.remove_message(message_id);
         let Some(mut mark) = last else { unreachable!() };
         mark.tsn = tsn;
@@ -394,7 +443,8 @@ impl OutboundQueue {
         }
         let stream_identifier = chunk.stream_identifier;
         let message_id = chunk.message_id;
-        let bytes = self.abandon_message(message_id, next_tsn)?;
+        let len = self.inflight.len();
+        let bytes = self.abandon_message(message_id, 0, len, next_tsn)?;
         Ok(Some((stream_identifier, message_id, bytes)))
     }
 
@@ -410,12 +460,23 @@ impl OutboundQueue {
         let mut tsns = Vec::new(alloc);
         for place in 0..self.inflight.len() {
             let chunk = self.inflight.at(place);
-            if !is_late(chunk, &self.pending, now) {
+            if !self.is_late(chunk, now) {
                 continue;
             }
             tsns.push(chunk.tsn)?;
         }
         Ok(tsns)
+    }
+
+    // Whether a chunk in flight is past its deadline, not abandoned, and not acknowledged or of a message with an unsent tail.
+    fn is_late(&self, chunk: &ChunkPayloadData, now: u64) -> bool
+        requires { list_any (is_of chunk.now.message_id) self.now.inflight.chunks ≡ true }
+        ensures { result ≡ is_late now self.now.pending chunk.now }
+    {
+        self.are_whole();
+        !chunk.abandoned
+            && is_past(chunk.deadline, now)
+            && (!chunk.acked || self.rest_waits(chunk.message_id))
     }
 
     /// The chunk in flight with this TSN.
@@ -464,6 +525,23 @@ impl OutboundQueue {
         ensures left { total_bytes self.new + result ≡ total_bytes self.old }
     {
         self.inflight.mark_as_acked_at(place)
+    }
+
+    /// Takes back the acknowledgement of the chunk in flight at a place, as where a peer reports it no more (RFC 4960 6.2.1 D iv): it
+    /// is not acknowledged, and has these bytes again. It takes no memory.
+    /// Precondition: the place has a chunk, and the bytes that wait and are in flight, with these, are fewer than 2^64.
+    pub fn take_back_at(&mut self, place: usize, user_data: Bytes)
+        requires place { place < length self.old.inflight.chunks }
+        requires bytes { total_bytes self.old + length user_data < 2 ^ 64 }
+        ensures back { (d : _) → self.new ≡ with_inflight self.old
+            (slice_set self.old.inflight.chunks place
+            (as_taken_back user_data (slice_index_or self.old.inflight.chunks place d))) }
+        ensures counted { (d : _)
+            → total_bytes self.new
+            + length (slice_index_or self.old.inflight.chunks place d).user_data
+            ≡ total_bytes self.old + length user_data }
+    {
+        self.inflight.take_back_at(place, user_data);
     }
 
     /// Flags each chunk in flight that is neither acknowledged nor abandoned to be
@@ -640,13 +718,4 @@ fn is_expired_tail(chunk: &ChunkPayloadData, now: u64) -> bool
     ensures { result ≡ is_expired_tail now chunk.now }
 {
     !chunk.beginning_fragment && !chunk.payload_type.is_dcep() && is_past(chunk.deadline, now)
-}
-
-// Whether the chunk in flight is past its deadline, not abandoned, and not acknowledged or of a message with an unsent tail.
-fn is_late(chunk: &ChunkPayloadData, pending: &PendingQueue, now: u64) -> bool
-    ensures { result ≡ is_late now pending.now chunk.now }
-{
-    !chunk.abandoned
-        && is_past(chunk.deadline, now)
-        && (!chunk.acked || pending.contains_message(chunk.message_id))
 }

@@ -10,7 +10,7 @@ ghost use Rattle.sctp_list_lemmas.specs.Lists.{change_where};
 ghost use Rattle.sctp_serial.specs.Turns.{IsWithinDigits};
 ghost use Rattle.sctp_serial.specs.Window.{IsSerial, IsPlaceFor, IsHeldAt, IsWindow, SpansOneWindow, is_held, is_new};
 ghost use Rattle.sctp_serial.specs.DataChunks.{has_tsn, bytes_of};
-ghost use Rattle.sctp_outbound.specs.Marks.{is_outstanding};
+ghost use Rattle.sctp_outbound.specs.Marks.{IsBetween, is_outstanding};
 ghost use Rattle.sctp_outbound.specs.payload_queue.Blocks.{IsFirstAfter, IsRunUntil, Reports, gap_offsets, ends_of, is_offset, gap_text};
 
 pub mod held;
@@ -18,6 +18,7 @@ mod window;
 
 use self::held::{Held, Mark};
 use self::window::{are_within_half, span_one_window};
+use bytes::Bytes;
 use sctp_base::error::Result;
 use sctp_base::util::{sna32lt, sna32lte};
 use sctp_chunks::chunk::chunk_payload_data::ChunkPayloadData;
@@ -244,7 +245,7 @@ pub(crate) fn is_outstanding(chunk: &ChunkPayloadData) -> bool
 
 impl PayloadQueue {
     ghost use Rattle.sctp_outbound.specs.payload_queue.PayloadQueue.{Payload, with_chunks, push_chunk, add_duplicate, front_with, without_front, without, past};
-    ghost use Rattle.sctp_outbound.specs.Marks.{with_mark, as_acknowledged, as_abandoned, with_retransmit, with_nsent, with_since, with_miss_indicator, is_of};
+    ghost use Rattle.sctp_outbound.specs.Marks.{with_mark, as_acknowledged, as_taken_back, as_abandoned, with_retransmit, with_nsent, with_since, with_miss_indicator, is_of};
 
     /// A queue of nothing. It takes no memory.
     pub fn new(alloc: Global) -> Self
@@ -461,9 +462,21 @@ impl PayloadQueue {
             ≡ with_chunks self.old (change_where (is_of message_id) as_abandoned self.old.chunks) }
         ensures left { bytes_of self.new.chunks + result ≡ bytes_of self.old.chunks }
     {
+        let len = self.held.len();
+        self.abandon_between(message_id, 0, len)
+    }
+
+    /// The same, and it looks only at the places from `start` on and before `end`.
+    /// Precondition: the chunks of the message stand there.
+    pub(crate) fn abandon_between(&mut self, message_id: u64, start: usize, end: usize) -> usize
+        requires { IsBetween message_id start end self.old.chunks }
+        ensures abandoned { self.new
+            ≡ with_chunks self.old (change_where (is_of message_id) as_abandoned self.old.chunks) }
+        ensures left { bytes_of self.new.chunks + result ≡ bytes_of self.old.chunks }
+    {
         let mut turns = Turns::new();
         let before = self.n_bytes;
-        for place in 0..self.held.len() {
+        for place in start..end {
             if self.held.look(place, &mut turns).message_id != message_id {
                 continue;
             }
@@ -611,6 +624,27 @@ impl PayloadQueue {
         let left = self.held.mark(place, Mark::Acknowledged, &mut Turns::new());
         self.n_bytes -= left;
         left
+    }
+
+    /// Takes back the acknowledgement of the chunk at a place, without a search: it has these bytes again. It takes no memory.
+    /// Precondition: the place has a chunk, and the bytes of all are fewer than 2^64 with these.
+    pub fn take_back_at(&mut self, place: usize, user_data: Bytes)
+        requires place { place < length self.old.chunks }
+        requires bytes { bytes_of self.old.chunks + length user_data < 2 ^ 64 }
+        ensures back { (d : _) → self.new ≡ with_chunks self.old (slice_set self.old.chunks place
+            (as_taken_back user_data (slice_index_or self.old.chunks place d))) }
+        // no other chunk has its TSN
+        ensures alone { (d : _) → self.new ≡ with_chunks self.old (change_where
+            (has_tsn (slice_index_or self.old.chunks place d).tsn)
+            (as_taken_back user_data) self.old.chunks) }
+        ensures counted { (d : _)
+            → bytes_of self.new.chunks
+            + length (slice_index_or self.old.chunks place d).user_data
+            ≡ bytes_of self.old.chunks + length user_data }
+    {
+        let len = user_data.len();
+        let had = self.held.take_back(place, user_data, &mut Turns::new());
+        self.n_bytes = self.n_bytes - had + len;
     }
 
     /// Whether the TSN is held; the chunk is to be sent again then, or not, as `retransmit` says.

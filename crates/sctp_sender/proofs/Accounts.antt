@@ -10,11 +10,11 @@ use Rattle.sctp_outbound.proofs.lemmas.pending_queue.Waiting.{bytes_of-change_wh
 use Rattle.sctp_serial.specs.DataChunks.{bytes_of, has_tsn}
 use Rattle.sctp_sender.specs.Resending.{can_miss, missed, sent_again}
 use Rattle.sctp_sender.specs.Sender.{Transmission}
-use Rattle.sctp_sender.specs.SenderRuns.{AfterEachRun, Call, Follows, IsAccounted, Ledger, Makes, RunsTo, at_start, held_by_sender, abandons, abandons_late, closes, marks, misses, opens, released_by, resends, resends_at, reserves, resets, sends, sets_low, sets_mode, sets_size, starts, takes_sack, writes, written_by}
+use Rattle.sctp_sender.specs.SenderRuns.{AfterEachRun, Call, Follows, IsAccounted, Ledger, Makes, RunsTo, at_start, held_by_sender, abandons, abandons_late, closes, keeps_reported, marks, misses, opens, released_by, resends, resends_at, reserves, resets, sends, sets_low, sets_mode, sets_size, starts, taken_back_by, takes_back, takes_sack, writes, written_by}
 use Rattle.sctp_sender.proofs.Amounts.{started-bytes}
 
 -- what a call makes of the bytes that wait and are in flight
-moves : (c : Call) (old new : Transmission) → Makes c old new → held_by_sender new + released_by c ≡ held_by_sender old + written_by c
+moves : (c : Call) (old new : Transmission) → Makes c old new → held_by_sender new + released_by c ≡ held_by_sender old + written_by c + taken_back_by c
 moves (opens stream) old new m = let e = ap held_by_sender m in omega (arith, e)
 moves (closes stream) old new m = let e = ap held_by_sender m in omega (arith, e)
 moves (sets_mode stream unordered reliability value) old new m = let e = ap held_by_sender m in omega (arith, e)
@@ -48,9 +48,11 @@ moves sends old new m = omega (arith, m)
 moves (abandons bytes) old new m = omega (arith, m)
 moves (abandons_late gone) old new m = omega (arith, m)
 moves (takes_sack gone) old new m = omega (arith, m)
+moves keeps_reported old new m = let e = ap held_by_sender m in omega (arith, e)
+moves (takes_back back) old new m = omega (arith, m)
 
 next : (c : Call) (old new : Ledger) → Follows c old new → IsAccounted old → IsAccounted new
-next c old new f a = let m = moves c old.sender new.sender f.sender in omega (arith, m, f.written, f.released, a)
+next c old new f a = let m = moves c old.sender new.sender f.sender in omega (arith, m, f.written, f.released, f.taken_back, a)
 
 run : (cs : List Call) (old new : Ledger) → RunsTo old cs new → IsAccounted old → IsAccounted new
 run [] old new r a = subst IsAccounted (sym r) a

@@ -1,12 +1,13 @@
 -- Worked examples, by computation.
-use Rattle.std.proofs.Common.{◌≡◌, ℕ, Bool, true, false, List, [], ◌∷◌, map, option_map, find, Some, refl, ap, sym}
+use Rattle.std.proofs.Common.{◌≡◌, ℕ, Bool, true, false, List, [], ◌∷◌, map, option_map, find, Option, Some, None, refl, ap, sym}
+use Rattle.sctp_list_lemmas.specs.Serial.{at_or_before, comes_before, distance}
 use Rattle.sctp_chunks.specs.ChunkSet.{fresh}
 use Rattle.sctp_chunks.specs.declared.chunk.chunk_payload_data.PayloadProtocolIdentifier.TheVariants as identifiers
 use Rattle.sctp_chunks.specs.declared.chunk.chunk_payload_data.ChunkPayloadData.{ChunkPayloadData}
 use Rattle.sctp_chunks.specs.declared.chunk.chunk_payload_data.PayloadProtocolIdentifier.{PayloadProtocolIdentifier}
 use Rattle.sctp_chunks.specs.declared.chunk.chunk_payload_data.ReliabilityType.TheVariants.{Rexmit}
 use Rattle.sctp_outbound.specs.Marks.{as_acknowledged, as_abandoned}
-use Rattle.std.specs.Prelude.{◌==◌}
+use Rattle.std.specs.Prelude.{◌==◌, ◌&&◌, not}
 use Rattle.std.specs.List.{list_any}
 use Rattle.std.proofs.lemmas.Bool.{false≢true}
 use Rattle.sctp_chunks.specs.declared.chunk.chunk_selective_ack.GapAckBlock.{GapAckBlock}
@@ -14,7 +15,9 @@ use Rattle.sctp_sender.specs.Reporting.{after_blocks, goes_from_to}
 use Rattle.sctp_sender.specs.SideBySide.{StandSideBySide}
 use Rattle.sctp_sender.specs.Flight as flight
 use Rattle.sctp_sender.specs.Flight.{Flight}
+use Rattle.sctp_chunks.specs.SelectiveAck.{Sack}
 use Rattle.sctp_sender.specs.Abandonment.{advanced_ack_point}
+use Rattle.sctp_sender.specs.Keeping.{coming_back, kept_after, told_back, with_restored}
 use Rattle.sctp_sender.specs.Late.{late_order, leaving_each}
 use Rattle.sctp_sender.specs.Resending.{after_misses, is_to_resend, thirds, worn_tsns}
 use Rattle.sctp_sender.specs.declared.sender.flight.Released.{Released}
@@ -134,3 +137,44 @@ together = (λ h. refl, (λ h. absurd (false≢true h), tt))
 -- of the message 7 one chunk stands behind one of 9
 torn : StandSideBySide (7 ∷ 9 ∷ 7 ∷ []) → ⊥
 torn s = false≢true (sym (ap (λ (n : ℕ). n == 9) (s.0 refl)))
+
+-- ## What is kept, and taken back
+
+abbrev up_to : ℕ → List GapAckBlock → Sack
+up_to tsn reported = record { cumulative_tsn_ack = tsn; advertised_receiver_window_credit = 0; gap_ack_blocks = reported; duplicate_tsn = [] }
+
+-- 103 to 106 are in flight, each with one byte
+abbrev four : Flight
+four = in_flight (fragment 103 true true (3 ∷ []) ∷ fragment 104 true true (4 ∷ []) ∷ fragment 105 true true (5 ∷ []) ∷ fragment 106 true true (6 ∷ []) ∷ [])
+
+-- 104 and 105 are reported, and kept
+abbrev reported_two : Flight
+reported_two = flight.after_sack (up_to 102 (block 2 3 ∷ [])) four
+
+abbrev kept_two : List (Option (List ℕ))
+kept_two = None ∷ Some (4 ∷ []) ∷ Some (5 ∷ []) ∷ []
+
+kept : kept_after (up_to 102 (block 2 3 ∷ [])) four [] ≡ kept_two
+unfolding distance comes_before at_or_before
+kept = refl
+
+-- 105 alone is reported: 104 comes back with its byte, and 103, which was not reported, does not
+abbrev back : List (Option (List ℕ))
+back = None ∷ Some (4 ∷ []) ∷ None ∷ []
+
+comes : coming_back (up_to 102 (block 3 3 ∷ [])) reported_two kept_two ≡ back
+unfolding distance comes_before at_or_before
+comes = refl
+
+told : told_back back reported_two.queue.inflight.chunks ≡ record { tsn = 104; stream = 1; bytes = 1; message = 0 } ∷ []
+unfolding distance comes_before at_or_before
+told = refl
+
+outstanding : option_map (λ (c : ChunkPayloadData). c.user_data) (find (λ c. not c.acked && c.tsn == 104) (with_restored back reported_two).queue.inflight.chunks) ≡ Some (4 ∷ [])
+unfolding distance comes_before at_or_before
+outstanding = refl
+
+-- up to 104 all is acknowledged: 105 alone is kept on
+passed : kept_after (up_to 104 (block 1 1 ∷ [])) reported_two kept_two ≡ Some (5 ∷ []) ∷ []
+unfolding distance comes_before at_or_before
+passed = refl

@@ -12,12 +12,18 @@ pub mod Flights
 pub mod SenderStreams
 pub mod Amounts
 pub mod Names
+pub mod Pairs
 pub mod Points
 pub mod Skips
 pub mod Lates
+pub mod Places
+pub mod Ends
 pub mod Worn
 pub mod Settled
 pub mod Accounts
+pub mod FarNumbers
 pub mod Closed
+pub mod Keepings
+pub mod TakenBacks
 pub mod Lows
 mod Examples

@@ -49,7 +49,7 @@ module _ {A : Type 0} (p : A → Bool) (x : A) where
 
 -- ## One chunk more
 
-last-push : (xs : List ChunkPayloadData) (c : ChunkPayloadData) → last_of (xs ++ c ∷ []) ≡ Some c
+pub last-push : (xs : List ChunkPayloadData) (c : ChunkPayloadData) → last_of (xs ++ c ∷ []) ≡ Some c
 last-push [] c = refl
 last-push (x ∷ []) c = refl
 last-push (x ∷ y ∷ ys) c = last-push (y ∷ ys) c

@@ -1,5 +1,5 @@
 -- How far a FORWARD-TSN can go.
-use Rattle.std.proofs.Common.{◌≡◌, ℕ, zero, suc, ◌+◌, ◌<◌, ◌≤◌, ◌%◌, ◌^◌, Bool, true, false, List, [], ◌∷◌, ◌++◌, length, take, drop, get_or, Option, Some, None, refl, ap, sym, ◌∙◌, arith}
+use Rattle.std.proofs.Common.{◌≡◌, ℕ, zero, suc, ◌+◌, ◌<◌, ◌≤◌, ◌%◌, ◌^◌, Bool, true, false, List, [], ◌∷◌, ◌++◌, length, take, get_or, slice_get, Option, Some, None, refl, ap, sym, ◌∙◌, arith}
 use Rattle.std.specs.Prelude.{if◌then◌else◌, find, option_map, unwrap_or}
 use Rattle.std.specs.List.{filter}
 use Rattle.sctp_list_lemmas.specs.Serial.{distance}
@@ -8,7 +8,8 @@ use Rattle.sctp_chunks.specs.declared.chunk.chunk_payload_data.ChunkPayloadData.
 use Rattle.sctp_serial.specs.DataChunks.{has_tsn, following_tsn, preceding_tsn}
 use Rattle.sctp_sender.specs.Flight.{Flight, IsContiguous}
 use Rattle.sctp_sender.specs.Abandonment.{advanced_ack_point, ahead, is_kept, is_named}
-use Rattle.sctp_sender.proofs.Runs.{IsRunFrom, found-at, tsn-at}
+use Rattle.sctp_sender.proofs.Runs.{tsn-at}
+use Rattle.sctp_sender.proofs.Walks.{read-of}
 
 pub found-place : (p : ChunkPayloadData → Bool) (cs : List ChunkPayloadData) (x : ChunkPayloadData) → find p cs ≡ Some x → (k : ℕ) × (k < length cs) × (x ≡ get_or cs k x)
 found-place p [] x e = cc
@@ -38,35 +39,8 @@ point-within f inv = by (find is_kept f.queue.inflight.chunks) refl
         omega (arith, d, h.1)
 
 -- one chunk more is looked at
-pub more-named : (cs : List ChunkPayloadData) (first i : ℕ) (x : ChunkPayloadData) (b : Bool) → first < 2 ^ 32 → IsRunFrom first cs → length cs < 2 ^ 31 → i < length cs → find (has_tsn ((first + i) % 2 ^ 32)) cs ≡ Some x → is_named x ≡ b → filter is_named (take (i + 1) cs) ≡ filter is_named (take i cs) ++ (if b then x ∷ [] else [])
-more-named cs first i x b small run few lt is named =
-    let at = found-at cs first i x small run few lt in
-    let here : get_or cs i x ≡ x = cc in
-    those-more is_named cs i x lt ∙ ap (λ (y : ChunkPayloadData). filter is_named (take i cs) ++ (if is_named y then y ∷ [] else [])) here
+pub more-named : (cs : List ChunkPayloadData) (i : ℕ) (x : ChunkPayloadData) (b : Bool) → slice_get cs i ≡ Some x → is_named x ≡ b → filter is_named (take (i + 1) cs) ≡ filter is_named (take i cs) ++ (if b then x ∷ [] else [])
+more-named cs i x b is named =
+    let read = read-of cs i x is in
+    those-more is_named cs i x read.0 ∙ ap (λ (y : ChunkPayloadData). filter is_named (take i cs) ++ (if is_named y then y ∷ [] else [])) (sym read.1)
     ∙ ap (λ t. filter is_named (take i cs) ++ (if t then x ∷ [] else [])) named
-
--- ## The first that is not abandoned
-
-next-of : (cs : List ChunkPayloadData) (i : ℕ) (d : ChunkPayloadData) → i < length cs → drop i cs ≡ get_or cs i d ∷ drop (i + 1) cs
-next-of [] i d lt = absurd (omega (arith, lt))
-next-of (c ∷ cs) zero d lt = refl
-next-of (c ∷ cs) (suc i) d lt =
-    let next : suc i + 1 ≡ suc (i + 1) = omega arith in
-    next-of cs i d (omega (arith, lt)) ∙ ap (λ k. get_or cs i d ∷ drop k (c ∷ cs)) (sym next)
-
-module _ (cs : List ChunkPayloadData) (first i : ℕ) (x : ChunkPayloadData) (small : first < 2 ^ 32) (run : IsRunFrom first cs) (few : length cs < 2 ^ 31) (lt : i < length cs) (is : find (has_tsn ((first + i) % 2 ^ 32)) cs ≡ Some x) where
-  here : get_or cs i x ≡ x
-  here = let at = found-at cs first i x small run few lt in cc
-
-  looked : (b : Bool) → is_kept x ≡ b → find is_kept (drop i cs) ≡ (if b then Some x else find is_kept (drop (i + 1) cs))
-  looked b e =
-      ap (find is_kept) (next-of cs i x lt ∙ ap (λ y. y ∷ drop (i + 1) cs) here)
-      ∙ ap (λ k. if k then Some x else find is_kept (drop (i + 1) cs)) e
-
-  pub kept-here : is_kept x ≡ true → Some ((first + i) % 2 ^ 32) ≡ option_map (λ c. c.tsn) (find is_kept (drop i cs))
-  kept-here e =
-      let tsn : x.tsn ≡ (first + i) % 2 ^ 32 = ap (λ (c : ChunkPayloadData). c.tsn) (sym here) ∙ tsn-at cs first i x small run lt in
-      ap Some (sym tsn) ∙ sym (ap (option_map (λ c. c.tsn)) (looked true e))
-
-  pub passed-here : is_kept x ≡ false → find is_kept (drop i cs) ≡ find is_kept (drop (i + 1) cs)
-  passed-here e = looked false e

@@ -1,15 +1,16 @@
 -- Messages that are abandoned, and the FORWARD-TSN that says so (RFC 3758 3.5).
-use Rattle.std.specs.Prelude.{◌≡◌, ℕ, ◌+◌, ◌*◌, ◌<◌, Bool, true, false, length, get_or, ◌==◌, ◌&&◌, not, nat_lt, nat_le, take, if◌then◌else◌, List, [], ◌∷◌, Option, Some, None, option_map, unwrap_or}
+use Rattle.std.specs.Prelude.{◌≡◌, ℕ, ◌+◌, ◌-◌, ◌*◌, ◌<◌, ◌≤◌, Bool, true, false, length, map, get_or, slice_index_or, ◌==◌, ◌&&◌, not, nat_lt, nat_le, take, if◌then◌else◌, List, [], ◌∷◌, Option, Some, None, option_map, unwrap_or}
 use Rattle.std.specs.List.{find, filter}
 use Rattle.sctp_list_lemmas.specs.Serial.{distance}
 use Rattle.sctp_chunks.specs.declared.chunk.chunk_payload_data.ChunkPayloadData.{ChunkPayloadData}
 use Rattle.sctp_chunks.specs.declared.chunk.chunk_forward_tsn.ChunkForwardTsnStream.{ChunkForwardTsnStream}
 use Rattle.sctp_outbound.specs.pending_queue.PendingQueue.{last_of}
+use Rattle.sctp_outbound.specs.pending_queue.Whole.{ends}
 use Rattle.sctp_serial.specs.Window.{is_held}
 use Rattle.sctp_sender.specs.declared.sender.refusal.SenderRefusal.{SenderRefusal}
 use Rattle.sctp_sender.specs.declared.sender.refusal.SenderRefusal.TheVariants.{NotInFlight, TsnsUsedUp}
 use Rattle.sctp_sender.specs.Flight.{Flight, has_tail_at, may_send}
-use Rattle.sctp_serial.specs.DataChunks.{preceding_tsn, is_on}
+use Rattle.sctp_serial.specs.DataChunks.{has_tsn, preceding_tsn, is_on}
 
 -- why the message of a TSN is not abandoned: the TSN is not in flight, or its terminal chunk would need one TSN too many
 abbrev pub abandon_refusal : ℕ → Flight → Option SenderRefusal
@@ -46,8 +47,36 @@ is_named c = c.abandoned && not c.unordered
 abbrev pub named_up_to : ℕ → Flight → List ChunkPayloadData
 named_up_to tsn f = filter is_named (take (ahead f tsn) f.queue.inflight.chunks)
 
+-- it is there, and ends its message
+abbrev pub ends_in : Option ChunkPayloadData → Bool
+ends_in None = false
+ends_in (Some c) = c.ending_fragment
+
+-- a FORWARD-TSN can go there, and the chunk there ends a message
+abbrev pub is_end : ℕ → Flight → Bool
+is_end tsn f = can_skip_to tsn f && ends_in (find (has_tsn tsn) f.queue.inflight.chunks)
+
+-- the last of the chunks in flight up to a TSN that ends its message
+abbrev pub last_end : ℕ → Flight → Option ChunkPayloadData
+last_end tsn f = last_of (filter ends (take (ahead f tsn) f.queue.inflight.chunks))
+
+-- where a FORWARD-TSN up to a TSN goes: to the last TSN up to there at which a message ends; nowhere where one can't go to the TSN
+abbrev pub skip_end : ℕ → Flight → Option ℕ
+skip_end tsn f = if can_skip_to tsn f then option_map (λ c. c.tsn) (last_end tsn f) else None
+
+-- of the first `count` chunks the last that ends a message has the place before `end`; `end` is 0 where none does
+pub record IsLastEnd (end count : ℕ) (chunks : List ChunkPayloadData) : Type 0 where
+  pub within : end ≤ count
+  pub ended : 0 < end → (d : ChunkPayloadData)
+      → ends (slice_index_or chunks (end - 1) d) ≡ true
+  pub last : (k : ℕ) (d : ChunkPayloadData) → end < k → k ≤ count
+      → ends (slice_index_or chunks (k - 1) d) ≡ false
+
 abbrev pub is_pair_of : ℕ → ChunkForwardTsnStream → Bool
 is_pair_of s p = p.identifier == s
+
+abbrev pub streams_of : List ChunkForwardTsnStream → List ℕ
+streams_of pairs = map (λ p. p.identifier) pairs
 
 abbrev pub pair_of : ChunkPayloadData → ChunkForwardTsnStream
 pair_of c = record { identifier = c.stream_identifier; sequence = c.stream_sequence_number }

@@ -1,7 +1,9 @@
 pub mod Flight
+pub mod Numbers
 pub mod Reporting
 pub mod SideBySide
 pub mod Outgoing
+pub mod Keeping
 pub mod Sender
 pub mod Abandonment
 pub mod Late

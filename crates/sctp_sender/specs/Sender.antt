@@ -1,5 +1,6 @@
 -- The sending half of a link as callers see it (RFC 4960 6.1, 6.2.1, 6.9).
-use Rattle.std.specs.Prelude.{ℕ, ◌+◌, ◌^◌, Bool, not, ◌||◌, nat_lt, if◌then◌else◌, List, [], ◌∷◌, ◌++◌, Option, Some, None, is_some}
+use Rattle.std.specs.Prelude.{ℕ, ◌+◌, ◌^◌, Bool, not, ◌&&◌, ◌||◌, nat_lt, if◌then◌else◌, List, [], ◌∷◌, ◌++◌, Option, Some, None, is_some}
+use Rattle.std.specs.Option.{option_map}
 use Rattle.std.specs.List.{find, filter}
 use Rattle.sctp_list_lemmas.specs.Lists.{change_where}
 use Rattle.sctp_chunks.specs.declared.chunk.chunk_payload_data.ChunkPayloadData.{ChunkPayloadData}
@@ -9,23 +10,32 @@ use Rattle.sctp_chunks.specs.declared.chunk.chunk_payload_data.ReliabilityType.{
 use Rattle.sctp_chunks.specs.SelectiveAck.{Sack}
 use Rattle.sctp_outbound.specs.outbound_queue.OutboundQueue.{Outbound, with_message, total_bytes, expired_of}
 use Rattle.sctp_stream.specs.declared.stream.StreamState.{StreamState}
+use Rattle.sctp_sender.specs.declared.sender.flight.keeping.TakenBack.{TakenBack}
 use Rattle.sctp_sender.specs.declared.sender.refusal.SenderRefusal.{SenderRefusal}
 use Rattle.sctp_sender.specs.declared.sender.refusal.SenderRefusal.TheVariants.{StreamUnknown, MessageTooLarge, QueueFull}
-use Rattle.sctp_sender.specs.Flight.{Flight, with_queue, at_first, after_sack, released_by, after_abandonment}
+use Rattle.sctp_sender.specs.Flight.{Flight, with_queue, at_first, after_sack, released_by, is_outdated, sack_refusal, after_abandonment}
+use Rattle.sctp_sender.specs.Keeping.{after_returns, bytes_back, coming_back, kept_after, told_back, with_restored}
 use Rattle.sctp_sender.specs.Outgoing.{has_number, with_mode, fragments_with_mode, wrote, after_releases, less_by, after_expiry}
 use Rattle.sctp_stream.specs.Stream.{new_stream}
 
 -- the open streams in the order in which they were opened; what waits and what is in flight; how long a fragment is, and how
--- long a message may be
+-- long a message may be; and what is kept of the chunks in flight that gap ack blocks reported, where the sender keeps them
 pub record Transmission : Type 0 where
   pub streams : List StreamState
   pub flight : Flight
   pub fragment_size : ℕ
   pub max_message_size : ℕ
+  pub kept : Option (List (Option (List ℕ)))
 
 abbrev pub with_nothing : ℕ → ℕ → ℕ → Transmission
 with_nothing tsn size max =
-    record { streams = []; flight = at_first tsn; fragment_size = size; max_message_size = max }
+    record {
+      streams = [];
+      flight = at_first tsn;
+      fragment_size = size;
+      max_message_size = max;
+      kept = None;
+    }
 
 abbrev pub stream_of : ℕ → Transmission → Option StreamState
 stream_of s t = find (has_number s) t.streams
@@ -84,7 +94,43 @@ after_acked s t =
     record t {
       streams = after_releases (released_by s t.flight) t.streams;
       flight = after_sack s t.flight;
+      kept = option_map (kept_after s t.flight) t.kept;
     }
+
+-- ## Taking back (RFC 4960 6.2.1 D iv)
+
+-- from here on the user data of chunks that gap ack blocks report is kept
+abbrev pub keeping : Transmission → Transmission
+keeping t = record t { kept = Some [] }
+
+-- what comes back, where something is kept
+abbrev pub back_by : Sack → Flight → Option (List (Option (List ℕ))) → List (Option (List ℕ))
+back_by s f None = []
+back_by s f (Some ks) = coming_back s f ks
+
+-- the chunks that the SACK takes back, in order of TSNs
+abbrev pub taken_back_by : Sack → Transmission → List TakenBack
+taken_back_by s t = told_back (back_by s t.flight t.kept) t.flight.queue.inflight.chunks
+
+-- they are outstanding again, and each stream has so much more
+abbrev pub after_take_back : Sack → Transmission → Transmission
+after_take_back s t =
+    record t {
+      streams = after_returns (taken_back_by s t) t.streams;
+      flight = with_restored (back_by s t.flight t.kept) t.flight;
+    }
+
+-- the refusal of the SACK, or that there are too many bytes
+abbrev pub or_full : Option SenderRefusal → Bool → Option SenderRefusal
+or_full (Some e) fits = Some e
+or_full None fits = if fits then None else Some QueueFull
+
+-- none where nothing is kept, or the SACK is out of date
+abbrev pub take_back_refusal : Sack → Transmission → Option SenderRefusal
+take_back_refusal s t =
+    if is_some t.kept && not (is_outdated s t.flight) then or_full (sack_refusal s t.flight)
+    (nat_lt (total_bytes t.flight.queue + bytes_back (taken_back_by s t)) (2 ^ 64))
+    else None
 
 -- ## Abandoning
 

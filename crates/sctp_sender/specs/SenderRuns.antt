@@ -6,10 +6,12 @@ use Rattle.sctp_chunks.specs.declared.chunk.chunk_payload_data.ReliabilityType.{
 use Rattle.sctp_outbound.specs.outbound_queue.OutboundQueue.{all_started, total_bytes}
 use Rattle.sctp_sender.specs.declared.sender.flight.late.AbandonedMessage.{AbandonedMessage}
 use Rattle.sctp_sender.specs.declared.sender.flight.Released.{Released}
+use Rattle.sctp_sender.specs.declared.sender.flight.keeping.TakenBack.{TakenBack}
 use Rattle.sctp_sender.specs.Flight.{resent, with_queue, with_room}
-use Rattle.sctp_sender.specs.Sender.{Transmission, open_stream, close_stream, with_flight, with_mode_on, with_nothing}
+use Rattle.sctp_sender.specs.Sender.{Transmission, open_stream, close_stream, keeping, with_flight, with_mode_on, with_nothing}
 use Rattle.sctp_sender.specs.Resending.{after_misses, all_marked, resent_at}
 use Rattle.sctp_sender.specs.Settings.{reset_on, with_fragment_size, with_low_on}
+use Rattle.sctp_sender.specs.Keeping.{bytes_back}
 use Rattle.sctp_sender.specs.Totals.{bytes_in}
 
 -- ## One call
@@ -34,7 +36,7 @@ pub data Call : Type 0 where
   misses : ℕ → Call
   -- `write`
   writes : List ℕ → Call
-  -- `send_next`, `send_next_tsn`
+  -- `send_next`, `send_next_tsn`, `send_next_tsn_unbounded`
   sends : Call
   -- `abandon`, `expire`, `expire_tail`: so many bytes leave, none where the call answers None
   abandons : ℕ → Call
@@ -42,6 +44,10 @@ pub data Call : Type 0 where
   abandons_late : List AbandonedMessage → Call
   -- `acked`
   takes_sack : List Released → Call
+  -- `keep_reported`
+  keeps_reported : Call
+  -- `take_back`
+  takes_back : List TakenBack → Call
 
 abbrev pub held_by_sender : Transmission → ℕ
 held_by_sender t = total_bytes t.flight.queue
@@ -71,6 +77,8 @@ Makes sends old new = held_by_sender new ≡ held_by_sender old
 Makes (abandons bytes) old new = held_by_sender new + bytes ≡ held_by_sender old
 Makes (abandons_late gone) old new = held_by_sender new + bytes_of_all gone ≡ held_by_sender old
 Makes (takes_sack gone) old new = held_by_sender new + bytes_in gone ≡ held_by_sender old
+Makes keeps_reported old new = new ≡ keeping old
+Makes (takes_back back) old new = held_by_sender new ≡ held_by_sender old + bytes_back back
 
 abbrev pub written_by : Call → ℕ
 written_by (writes bytes) = length bytes
@@ -82,26 +90,33 @@ released_by (abandons_late gone) = bytes_of_all gone
 released_by (takes_sack gone) = bytes_in gone
 released_by _ = 0
 
+abbrev pub taken_back_by : Call → ℕ
+taken_back_by (takes_back back) = bytes_back back
+taken_back_by _ = 0
+
 -- ## A run of calls
 
--- the sender, how many bytes were written, and how many the calls answered that left
+-- the sender, how many bytes were written, how many the calls answered that left, and how many that came back
 pub record Ledger : Type 0 where
   pub sender : Transmission
   pub written : ℕ
   pub released : ℕ
+  pub taken_back : ℕ
 
 -- one call, and calls one after another
 pub record Follows (c : Call) (old new : Ledger) : Type 0 where
   pub sender : Makes c old.sender new.sender
   pub written : new.written ≡ old.written + written_by c
   pub released : new.released ≡ old.released + released_by c
+  pub taken_back : new.taken_back ≡ old.taken_back + taken_back_by c
 
 abbrev pub RunsTo : Ledger → List Call → Ledger → Type 0
 RunsTo old [] new = new ≡ old
 RunsTo old (c ∷ cs) new = (mid : Ledger) × (Follows c old mid × RunsTo mid cs new)
 
 abbrev pub at_start : ℕ → ℕ → ℕ → Ledger
-at_start tsn size max = record { sender = with_nothing tsn size max; written = 0; released = 0 }
+at_start tsn size max =
+    record { sender = with_nothing tsn size max; written = 0; released = 0; taken_back = 0 }
 
 -- P after each run of calls on a new sender
 abbrev pub AfterEachRun : (Ledger → Type 0) → Type 0
@@ -111,6 +126,6 @@ AfterEachRun P =
 
 -- ## The law
 
--- each byte that was written waits, is in flight, or was answered as one that left
+-- each byte that was written waits, is in flight, or was answered as one that left; one that came back leaves once more
 abbrev pub IsAccounted : Ledger → Type 0
-IsAccounted l = l.written ≡ held_by_sender l.sender + l.released
+IsAccounted l = l.written + l.taken_back ≡ held_by_sender l.sender + l.released

@@ -1,9 +1,16 @@
-//! What holds after every run of calls of a sender: a law, the contract of a function that does nothing.
+//! What holds of every sender, or after every run of its calls: laws, each the contract of a function that does nothing.
 
+ghost use Rattle.sctp_sender.specs.Numbers.{NumbersTell};
 ghost use Rattle.sctp_sender.specs.SenderRuns.{AfterEachRun, IsAccounted};
 
 /// After every run of calls of a sender, the bytes of the writes that it accepted are as many as those that wait, those in
 /// flight, and those that its calls answered as gone, together.
 pub fn each_written_byte_is_accounted_for()
     ensures { AfterEachRun IsAccounted }
+{}
+
+/// Where the ordered chunks of each stream were numbered in turn, as `write` numbers them, `SsnsUsedUp` hangs on the numbers alone: a
+/// message whose number is 2^14 or more past that of the first one in flight has 2^14 chunks of its stream in flight before it.
+pub fn numbers_alone_bound_what_is_begun()
+    ensures { NumbersTell }
 {}

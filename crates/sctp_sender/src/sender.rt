@@ -1,6 +1,7 @@
 //! The sending half of a link (RFC 4960 6.1, 6.2.1, 6.9).
 
 ghost use Rattle.std.specs.Prelude.{◌≡◌, ◌≢◌, ◌==◌, ◌<◌, ◌≤◌, ◌⊎◌, ℕ, Bool, true, false, not, None, Some, OnOk, OnErr, IfOk, IfErr, IfSome, IsOk, IsOkUnless, ◌+◌, option_map, option_copied, option_to_list, is_some, map, find, length, if◌then◌else◌};
+ghost use Rattle.std.specs.Option.{option_or};
 ghost use Rattle.std.specs.List.{count_by, list_any, sum_by};
 ghost use Rattle.sctp_sender.specs.Outgoing.{after_releases};
 ghost use Rattle.sctp_sender.specs.Thresholds.{with_lows};
@@ -9,6 +10,7 @@ ghost use Rattle.sctp_sender.specs.declared.sender.refusal.SenderRefusal.TheVari
 
 mod abandonment;
 pub mod flight;
+mod keeping;
 mod outbound_streams;
 pub mod refusal;
 mod resending;
@@ -16,6 +18,7 @@ mod settings;
 pub mod total;
 mod walking;
 
+use self::flight::keeping::Kept;
 use self::flight::late::AbandonedMessage;
 use self::flight::{InFlight, Released};
 use self::outbound_streams::OutboundStreams;
@@ -52,10 +55,11 @@ pub struct Sender {
     max_message_size: u32,
     streams: OutboundStreams,
     flight: InFlight,
+    kept: Option<Kept>,
 }
 
 impl Model for Sender {
-    ghost use Rattle.std.specs.Prelude.{◌<◌, ◌≤◌};
+    ghost use Rattle.std.specs.Prelude.{◌<◌, ◌≤◌, option_map};
     ghost use Rattle.sctp_sender.specs.Sender.{Transmission};
     ghost use Rattle.sctp_sender.specs.Totals.{IsAllSettled};
 
@@ -66,6 +70,7 @@ impl Model for Sender {
       flight = s.flight;
       fragment_size = s.fragment_size;
       max_message_size = s.max_message_size;
+      kept = option_map (λ k. k.items) s.kept;
     } };
 
     ghost invariant = { λ s. (0 < s.fragment_size) × (s.fragment_size ≤ 65519)
@@ -81,6 +86,7 @@ impl Sender {
     ghost use Rattle.sctp_serial.specs.Window.{is_held};
     ghost use Rattle.sctp_sender.specs.Flight.{with_queue, with_room, may_send, next_after_send, resent, is_outdated, sack_refusal, released_by, message_to_abandon, has_tail_at};
     ghost use Rattle.sctp_sender.specs.Abandonment.{abandon_refusal};
+    ghost use Rattle.sctp_sender.specs.Numbers.{send_refusal};
     ghost use Rattle.sctp_sender.specs.Outgoing.{fragments_with_mode};
     ghost use Rattle.sctp_sender.specs.Totals.{bytes_in};
     ghost use Rattle.sctp_sender.specs.Sender.{with_nothing, stream_of, is_open, open_stream, close_stream, with_mode_on, with_flight, write_refusal, written_to, after_acked, after_abandon, after_expire};
@@ -99,6 +105,7 @@ impl Sender {
             max_message_size,
             streams: OutboundStreams::new(alloc),
             flight: InFlight::new(alloc, first_tsn),
+            kept: None,
         }
     }
 
@@ -216,9 +223,57 @@ impl Sender {
     }
 
     /// Sends the fragment that is next: gives it the next TSN, puts it in flight, and answers the DATA chunk as it is noted there,
-    /// sent once at `now`; None where nothing waits. Lifetimes start; `now` is in nanoseconds. Refuses with `TsnsUsedUp`, where
-    /// something waits and 2^31 - 1 chunks are in flight, and for memory. The sender is as it was then.
+    /// sent once at `now`; None where nothing waits. Lifetimes start; `now` is in nanoseconds. The refusals, in the order in which they
+    /// are looked for, and only where something waits: `TsnsUsedUp`, where 2^31 - 1 chunks are in flight; `SsnsUsedUp`, where it begins
+    /// an ordered message whose number is 2^14 or more past that of the first ordered chunk of its stream in flight (RFC 4960 6.5, 6.6;
+    /// RFC 1982): it goes on waiting, and all ordered ones behind it; and memory. The sender is as it was then, and no lifetime starts.
     pub fn send_next(&mut self, now: u64) -> Result<Option<ChunkPayloadData>, SenderRefusal>
+        ensures answer { IfOk result (λ sent. sent
+            ≡ option_map (as_sent self.old.flight.next_tsn now)
+            (next_pending (all_started now self.old.flight.queue).pending)) }
+        ensures noted { IfOk result (λ sent. IfSome sent
+            (λ c. find (has_tsn self.old.flight.next_tsn) self.new.flight.queue.inflight.chunks
+            ≡ Some c)) }
+        ensures nothing { next_pending self.old.flight.queue.pending ≡ None
+            → IfOk result (λ sent. sent ≡ None) }
+        ensures ok { OnOk result (self.new
+            ≡ with_flight (record self.old.flight {
+              queue = sent_next self.old.flight.queue
+                  self.old.flight.next_tsn now;
+              next_tsn = next_after_send self.old.flight;
+            }) self.old) }
+        ensures bytes { OnOk result (total_bytes self.new.flight.queue
+            ≡ total_bytes self.old.flight.queue) }
+        ensures accepted { IsOk result → send_refusal self.old.flight ≡ None }
+        ensures refused { IfErr result
+            (λ e. ((e ≡ OutOfMemory) × (send_refusal self.old.flight ≡ None))
+            ⊎ (send_refusal self.old.flight ≡ Some e)) }
+        ensures idle { next_pending self.old.flight.queue.pending ≡ None → IsOk result }
+        ensures err { OnErr result (self.new ≡ self.old) }
+    {
+        self.test_next()?;
+        self.copy_and_send(now)
+    }
+
+    // Whether the fragment that is next may be sent.
+    fn test_next(&self) -> Result<(), SenderRefusal>
+        ensures accepted { OnOk result (send_refusal self.now.flight ≡ None) }
+        ensures refused { IfErr result (λ e. send_refusal self.now.flight ≡ Some e) }
+    {
+        let Some(chunk) = self.flight.queue().peek_pending() else {
+            return Ok(());
+        };
+        if !self.flight.may_send() {
+            return Err(SenderRefusal::TsnsUsedUp);
+        }
+        if self.flight.is_too_far(chunk) {
+            return Err(SenderRefusal::SsnsUsedUp);
+        }
+        Ok(())
+    }
+
+    // Sends the fragment that is next, whatever its number, and answers a copy of it as it is noted in flight.
+    fn copy_and_send(&mut self, now: u64) -> Result<Option<ChunkPayloadData>, SenderRefusal>
         ensures answer { IfOk result (λ sent. sent
             ≡ option_map (as_sent self.old.flight.next_tsn now)
             (next_pending (all_started now self.old.flight.queue).pending)) }
@@ -243,11 +298,11 @@ impl Sender {
         ensures err { OnErr result (self.new ≡ self.old) }
     {
         let Some(mut chunk) = self.copy_next()? else {
-            self.send_next_tsn(now)?;
+            self.send_next_tsn_unbounded(now)?;
             return Ok(None);
         };
         let tsn = self.flight.next_tsn();
-        self.send_next_tsn(now)?;
+        self.send_next_tsn_unbounded(now)?;
         let Some(noted) = self.flight.queue().get(tsn) else {
             unreachable!()
         };
@@ -291,6 +346,38 @@ impl Sender {
     /// As `send_next`, but answers the TSN alone: `outbound().get` lends the chunk. So within the room of `reserve` it takes
     /// no memory; `send_next` takes what a copy of the chunk wants.
     pub fn send_next_tsn(&mut self, now: u64) -> Result<Option<u32>, SenderRefusal>
+        ensures answer { IfOk result (λ sent. sent
+            ≡ option_map (λ _. self.old.flight.next_tsn)
+            (next_pending self.old.flight.queue.pending)) }
+        ensures noted { next_pending self.old.flight.queue.pending ≢ None → OnOk result
+            (find (has_tsn self.old.flight.next_tsn) self.new.flight.queue.inflight.chunks
+            ≡ option_map (as_sent self.old.flight.next_tsn now)
+            (next_pending (all_started now self.old.flight.queue).pending)) }
+        ensures ok { OnOk result (self.new
+            ≡ with_flight (record self.old.flight {
+              queue = sent_next self.old.flight.queue
+                  self.old.flight.next_tsn now;
+              next_tsn = next_after_send self.old.flight;
+            }) self.old) }
+        ensures bytes { OnOk result (total_bytes self.new.flight.queue
+            ≡ total_bytes self.old.flight.queue) }
+        ensures accepted { IsOk result → send_refusal self.old.flight ≡ None }
+        ensures refused { IfErr result
+            (λ e. ((e ≡ OutOfMemory) × (send_refusal self.old.flight ≡ None))
+            ⊎ (send_refusal self.old.flight ≡ Some e)) }
+        ensures succeeds { 0 < self.old.flight.queue.inflight.room
+            → send_refusal self.old.flight ≡ None → IsOk result }
+        ensures idle { next_pending self.old.flight.queue.pending ≡ None → IsOk result }
+        ensures err { OnErr result (self.new ≡ self.old) }
+    {
+        self.test_next()?;
+        self.send_next_tsn_unbounded(now)
+    }
+
+    /// As `send_next_tsn`, however far the numbers of ordered messages go: for a caller that sees to it that its receiver can still tell
+    /// them apart. Refuses, only where something waits, with `TsnsUsedUp`, where 2^31 - 1 chunks are in flight, and for memory, but not
+    /// within the room of `reserve`. The sender is as it was then.
+    pub fn send_next_tsn_unbounded(&mut self, now: u64) -> Result<Option<u32>, SenderRefusal>
         ensures answer { IfOk result (λ sent. sent
             ≡ option_map (λ _. self.old.flight.next_tsn)
             (next_pending self.old.flight.queue.pending)) }
@@ -472,7 +559,9 @@ impl Sender {
         ensures outdated { is_outdated (sack_of sack.now) self.old.flight ≡ true → IsOk result }
         ensures err { OnErr result (self.new ≡ self.old) }
     {
+        let kept = self.kept_after(sack)?;
         let mut released = self.flight.acked(self.alloc, sack)?;
+        keep(&mut self.kept, kept);
         release_each(&mut self.streams, &mut released);
         Ok(released)
     }
@@ -546,6 +635,16 @@ fn is_full(queue: &OutboundQueue, len: usize) -> bool
     match queue.pending_bytes().checked_add(queue.inflight_bytes()) {
         Some(held) => held.checked_add(len).is_none(),
         None => true,
+    }
+}
+
+// Keeps what is kept now, where that changes.
+fn keep(place: &mut Option<Kept>, now: Option<Kept>)
+    ensures { option_map (λ k. k.items) place.new ≡ option_or (option_map (λ k. k.items) now)
+        (option_map (λ k. k.items) place.old) }
+{
+    if now.is_some() {
+        *place = now;
     }
 }
 

@@ -257,8 +257,9 @@ impl StreamState {
         self.raise_buffered(len)
     }
 
-    // Counts bytes that wait, and says whether they reach the high threshold now.
-    fn raise_buffered(&mut self, len: usize) -> bool
+    /// Adds bytes to the buffered amount, which stops at the greatest usize, and says whether it rose from under to at least the high
+    /// threshold: those of a write, or those that a peer no longer acknowledges. It takes no memory.
+    pub fn raise_buffered(&mut self, len: usize) -> bool
         ensures high { result ≡ rises_high self.old len }
         ensures rest { self.new
             ≡ record self.old { buffered_amount = count_up self.old.buffered_amount len } }

@@ -4,3 +4,4 @@ pub mod Messages
 pub mod SideBySide
 pub mod Outbounds
 pub mod Sendable
+pub mod Rest

@@ -4,3 +4,4 @@ pub mod Gaps
 pub mod Marked
 pub mod Payloads
 pub mod Search
+pub mod Between

@@ -1,8 +1,8 @@
 //! Which messages wait.
 
-ghost use Rattle.std.specs.Prelude.{◌≡◌, is_some};
+ghost use Rattle.std.specs.Prelude.{◌≡◌, Some, is_some, true};
 ghost use Rattle.sctp_outbound.specs.outbound_queue.OutboundQueue.{expiring_tail};
-ghost use Rattle.sctp_outbound.specs.pending_queue.Whole.{IsSendable, waits};
+ghost use Rattle.sctp_outbound.specs.pending_queue.Whole.{IsSendable, partially_sent, waits};
 
 use super::{OutboundQueue, is_expired_tail};
 
@@ -12,6 +12,19 @@ impl OutboundQueue {
         ensures { result ≡ waits message_id self.now.pending }
     {
         self.pending.contains_message(message_id)
+    }
+
+    /// Whether a fragment of the message with this number waits, told by what is in front alone.
+    /// Precondition: where one waits, the message is partially sent, as each that is in flight (`are_whole`).
+    pub fn rest_waits(&self, message_id: u64) -> bool
+        requires { waits message_id self.now.pending ≡ true
+            → partially_sent self.now.pending ≡ Some message_id }
+        ensures { result ≡ waits message_id self.now.pending }
+    {
+        match self.pending.peek() {
+            Some(chunk) => chunk.message_id == message_id,
+            None => false,
+        }
     }
 
     /// Whether the message in front is partially sent and past its deadline, so that `expire_pending_tail` abandons its rest.

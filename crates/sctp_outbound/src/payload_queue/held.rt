@@ -1,9 +1,10 @@
-//! Held chunks, in one deque. `look` and `mark` take a turn; `front_tsn` and the edits take none.
+//! Held chunks, in one deque. `look`, `mark` and `take_back` take a turn; `front_tsn` and the edits take none.
 
 ghost use Rattle.std.specs.Prelude.{◌≡◌, ◌==◌, ◌+◌, ◌-◌, ◌<◌, ◌≤◌, [], ◌∷◌, length, max, insert, remove, slice_get, slice_index_or, slice_set, OnOk, OnErr, IfSome, IfNone, IsOk, IsOkUnless};
 ghost use Rattle.std.specs.Option.{option_map};
 ghost use Rattle.sctp_base.specs.declared.error.Error.TheVariants.{ErrOutOfMemory};
 
+use bytes::Bytes;
 use sctp_base::error::Result;
 use sctp_chunks::chunk::chunk_payload_data::ChunkPayloadData;
 use sctp_serial::turns::Turns;
@@ -49,7 +50,7 @@ impl Model for Held {
 
 impl Held {
     ghost use Rattle.sctp_outbound.specs.Stored.{with_chunks};
-    ghost use Rattle.sctp_outbound.specs.Marks.{with_mark};
+    ghost use Rattle.sctp_outbound.specs.Marks.{as_taken_back, with_mark};
 
     /// No chunks. It takes no memory.
     pub fn new(alloc: Global) -> Self
@@ -199,6 +200,24 @@ impl Held {
                 0
             }
         }
+    }
+
+    /// Takes back the acknowledgement of the chunk at a place, which is a turn: it has these bytes then. Answers how many it had.
+    /// Precondition: the place has one.
+    pub(crate) fn take_back(&mut self, place: usize, user_data: Bytes, turns: &mut Turns) -> usize
+        requires { place < length self.old.chunks }
+        ensures changed { (d : _) → self.new ≡ with_chunks self.old (slice_set self.old.chunks place
+            (as_taken_back user_data (slice_index_or self.old.chunks place d))) }
+        ensures had { (d : _)
+            → result ≡ length (slice_index_or self.old.chunks place d).user_data }
+        ensures turn { turns.new ≡ turns.old + 1 }
+    {
+        turns.tick();
+        let chunk = &mut self.chunks[place];
+        let len = chunk.user_data.len();
+        chunk.acked = false;
+        chunk.user_data = user_data;
+        len
     }
 }
 

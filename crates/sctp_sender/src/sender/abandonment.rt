@@ -1,11 +1,10 @@
 //! What a sender abandons, and how its peer learns of it (RFC 3758 3.5).
 
-ghost use Rattle.std.specs.Prelude.{◌≡◌, ℕ, ◌+◌, ◌*◌, ◌<◌, ◌≤◌, ◌⊎◌, [], true, false, None, OnOk, OnErr, IfOk, IfErr, IfSome, IsOk, is_some, length, nat_lt};
+ghost use Rattle.std.specs.Prelude.{◌≡◌, ℕ, ◌+◌, ◌*◌, ◌<◌, ◌≤◌, ◌⊎◌, [], true, false, None, OnOk, OnErr, IfOk, IfErr, IfSome, IsOk, is_some, length, option_map};
 ghost use Rattle.std.specs.List.{count_by, list_any, sum_by};
 ghost use Rattle.sctp_sender.specs.declared.sender.refusal.SenderRefusal.TheVariants.{OutOfMemory, TsnsUsedUp};
 ghost use Rattle.sctp_sender.specs.Late.{after_leaving};
 ghost use Rattle.sctp_sender.specs.Thresholds.{with_message_lows};
-ghost use Rattle.sctp_serial.specs.DataChunks.{following_tsn};
 
 use super::Sender;
 use super::flight::late::AbandonedMessage;
@@ -16,7 +15,7 @@ use sctp_chunks::chunk::chunk_forward_tsn::ChunkForwardTsn;
 impl Sender {
     ghost use Rattle.sctp_outbound.specs.outbound_queue.OutboundQueue.{late_tsns, total_bytes};
     ghost use Rattle.sctp_sender.specs.Flight.{may_send};
-    ghost use Rattle.sctp_sender.specs.Abandonment.{Name, advanced_ack_point, ahead, can_skip_to, named_up_to};
+    ghost use Rattle.sctp_sender.specs.Abandonment.{Name, advanced_ack_point, named_up_to, skip_end};
     ghost use Rattle.sctp_sender.specs.Late.{after_late, after_worn, late_order, leaving_each, with_tail, worn_order};
     ghost use Rattle.sctp_sender.specs.Resending.{worn_tsns};
     ghost use Rattle.sctp_sender.specs.Thresholds.{fell, tells_message_low};
@@ -94,34 +93,32 @@ impl Sender {
         self.flight.advanced_ack_point()
     }
 
-    /// The FORWARD-TSN that is to be sent (RFC 3758 3.5 C3, C4), as `forward_tsn_to` the `advanced_ack_point`; None where
-    /// that is not past what is acknowledged. Refuses only for memory, and takes none where it answers None.
+    /// The FORWARD-TSN that is to be sent (RFC 3758 3.5 C3, C4), as `forward_tsn_to` the `advanced_ack_point`; None where no message
+    /// ends past what is acknowledged and up to there. Refuses only for memory, and takes none where it answers None.
     pub fn forward_tsn(&self) -> Result<Option<ChunkForwardTsn>, SenderRefusal>
-        ensures some { IfOk result (λ r. is_some r
-            ≡ nat_lt 0 (ahead self.now.flight (advanced_ack_point self.now.flight))) }
-        ensures tsn { IfOk result (λ r. IfSome r
-            (λ c. c.new_cumulative_tsn ≡ advanced_ack_point self.now.flight)) }
+        ensures tsn { IfOk result (λ r. option_map (λ c. c.new_cumulative_tsn) r
+            ≡ skip_end (advanced_ack_point self.now.flight) self.now.flight) }
         ensures names { IfOk result (λ r. IfSome r
-            (λ c. Name c.streams.items (named_up_to
-            (advanced_ack_point self.now.flight) self.now.flight))) }
-        ensures idle { nat_lt 0 (ahead self.now.flight (advanced_ack_point self.now.flight))
-            ≡ false → IsOk result }
+            (λ c. Name c.streams.items (named_up_to c.new_cumulative_tsn self.now.flight))) }
+        ensures idle { skip_end (advanced_ack_point self.now.flight) self.now.flight ≡ None
+            → IsOk result }
         ensures memory { IfErr result (λ e. e ≡ OutOfMemory) }
     {
         self.forward_tsn_to(self.advanced_ack_point())
     }
 
-    /// The FORWARD-TSN up to a TSN (RFC 3758 3.5 C4). Of each stream that has an ordered chunk up to there which is abandoned it
-    /// names the stream sequence number of the last one, once; unordered messages have no number, and are not named, as they
-    /// are by the Rust crate. None where the TSN is not past what is acknowledged, or lies beyond `advanced_ack_point`.
-    /// A chunk has room for 16,381 names, a packet for fewer: go to an earlier TSN where there are more.
+    /// The FORWARD-TSN up to a TSN (RFC 3758 3.5 C4), or to the last TSN before it at which a message ends: were a message cut, the peer
+    /// could be sent the rest of it, and take that for what it still misses. Of each stream that has an ordered chunk up to there which
+    /// is abandoned it names the stream sequence number of the last one, once; unordered messages have no number, and are not named, as
+    /// they are by the Rust crate. None where no message ends up to there, and where the TSN is not past what is acknowledged, or lies
+    /// beyond `advanced_ack_point`. A chunk has room for 16,381 names, a packet for fewer: `forward_tsn_within` goes as far as they fit.
     /// Refuses only for memory, and takes none where it answers None.
     pub fn forward_tsn_to(&self, tsn: u32) -> Result<Option<ChunkForwardTsn>, SenderRefusal>
-        ensures some { IfOk result (λ r. is_some r ≡ can_skip_to tsn self.now.flight) }
-        ensures tsn { IfOk result (λ r. IfSome r (λ c. c.new_cumulative_tsn ≡ tsn)) }
+        ensures tsn { IfOk result (λ r. option_map (λ c. c.new_cumulative_tsn) r
+            ≡ skip_end tsn self.now.flight) }
         ensures names { IfOk result (λ r. IfSome r
-            (λ c. Name c.streams.items (named_up_to tsn self.now.flight))) }
-        ensures idle { can_skip_to tsn self.now.flight ≡ false → IsOk result }
+            (λ c. Name c.streams.items (named_up_to c.new_cumulative_tsn self.now.flight))) }
+        ensures idle { skip_end tsn self.now.flight ≡ None → IsOk result }
         ensures memory { IfErr result (λ e. e ≡ OutOfMemory) }
     {
         self.flight.forward_tsn_to(self.alloc, tsn)
@@ -129,25 +126,26 @@ impl Sender {
 }
 
 impl Sender {
-    ghost use Rattle.sctp_sender.specs.Abandonment.{IsTooLong, Name, advanced_ack_point, ahead, can_skip_to, named_up_to};
+    ghost use Rattle.sctp_sender.specs.Abandonment.{IsTooLong, Name, advanced_ack_point, ahead, can_skip_to, is_end, named_up_to};
 
     /// As `forward_tsn`, as far as the names fit into a chunk of so many bytes, as of what is left of a packet (RFC 4960 6.10): 8 for
-    /// its header and its TSN, and 4 a name. It goes to `advanced_ack_point`, or to the last TSN before whose chunk is not longer. None
-    /// where there is nothing to tell, or the chunk to the first TSN would be longer. Refuses only for memory, and takes none where
-    /// there is nothing to tell.
+    /// its header and its TSN, and 4 a name. It goes to a TSN at which a message ends, and a chunk to each later such TSN would be
+    /// longer. None where there is no such TSN. Refuses only for memory, and takes none where there is nothing to tell.
     pub fn forward_tsn_within(&self, bytes: usize) -> Result<Option<ChunkForwardTsn>, SenderRefusal>
         ensures past { IfOk result (λ r. IfSome r
             (λ c. can_skip_to c.new_cumulative_tsn self.now.flight ≡ true)) }
+        ensures ended { IfOk result (λ r. IfSome r
+            (λ c. is_end c.new_cumulative_tsn self.now.flight ≡ true)) }
         ensures names { IfOk result (λ r. IfSome r
             (λ c. Name c.streams.items (named_up_to c.new_cumulative_tsn self.now.flight))) }
         ensures fits { IfOk result (λ r. IfSome r
             (λ c. 8 + 4 * length c.streams.items ≤ bytes)) }
         ensures furthest { IfOk result (λ r. IfSome r
-            (λ c. (c.new_cumulative_tsn ≡ advanced_ack_point self.now.flight)
-            ⊎ IsTooLong bytes (following_tsn c.new_cumulative_tsn) self.now.flight)) }
+            (λ c. (t : ℕ) → is_end t self.now.flight ≡ true
+            → (ahead self.now.flight t ≤ ahead self.now.flight c.new_cumulative_tsn)
+            ⊎ IsTooLong bytes t self.now.flight)) }
         ensures none { IfOk result (λ r. r ≡ None
-            → (ahead self.now.flight (advanced_ack_point self.now.flight) ≡ 0)
-            ⊎ IsTooLong bytes (following_tsn self.now.flight.acked_tsn) self.now.flight) }
+            → (t : ℕ) → is_end t self.now.flight ≡ true → IsTooLong bytes t self.now.flight) }
         ensures idle { ahead self.now.flight (advanced_ack_point self.now.flight) ≡ 0
             → IsOk result }
         ensures memory { IfErr result (λ e. e ≡ OutOfMemory) }

@@ -5,7 +5,11 @@ ghost use Rattle.sctp_chunks.specs.declared.chunk.chunk_payload_data.ChunkPayloa
 ghost use Rattle.sctp_sender.specs.declared.sender.refusal.SenderRefusal.TheVariants.{OutOfMemory};
 ghost use Rattle.sctp_serial.specs.DataChunks.{bytes_of, has_tsn};
 
+pub mod keeping;
 pub mod late;
+mod numbers;
+mod pairs;
+mod places;
 mod reporting;
 mod resending;
 mod skipping;
@@ -209,7 +213,10 @@ impl InFlight {
         ensures no_tail { has_tail_at self.old tsn ≡ false → IsOk result }
     {
         self.queue.are_whole();
-        let abandoned = self.queue.abandon(tsn, &mut self.next_tsn)?;
+        let (start, end) = self.places_of(tsn);
+        let abandoned = self
+            .queue
+            .abandon_between(tsn, start, end, &mut self.next_tsn)?;
         Ok(abandoned)
     }
 

@@ -9,6 +9,7 @@ ghost use Rattle.sctp_serial.specs.DataChunks.{bytes_of};
 ghost use Rattle.sctp_sender.specs.declared.sender.refusal.SenderRefusal.TheVariants.{OutOfMemory};
 ghost use Rattle.sctp_stream.specs.Numbers.{IsOnlyPlace, IsAbsent};
 ghost use Rattle.sctp_stream.specs.Stream.{falls_low};
+ghost use Rattle.sctp_sender.specs.Keeping.{more_by};
 ghost use Rattle.sctp_sender.specs.Outgoing.{with_reliability, with_size, wrote, after_expiry, less_by};
 
 use crate::sender::refusal::SenderRefusal;
@@ -219,6 +220,16 @@ impl OutboundStreams {
         lower(&mut self.items[place], bytes)
     }
 
+    /// Adds bytes to the amount of a stream, where it is open. It takes no memory.
+    pub fn raise(&mut self, stream: u16, bytes: usize)
+        ensures { self.new ≡ change_where (has_number stream) (more_by bytes) self.old }
+    {
+        let Some(place) = self.numbers.place_of(stream) else {
+            return;
+        };
+        raise(&mut self.items[place], bytes);
+    }
+
     /// Takes a message that was not sent off its stream, where it is open, and says whether its amount fell from above its low
     /// threshold to at most it. It takes no memory.
     pub fn expire(&mut self, stream: u16, unordered: bool, bytes: usize) -> bool
@@ -242,6 +253,13 @@ fn lower(state: &mut StreamState, bytes: usize) -> bool
     let was_above = state.buffered_amount() > threshold;
     state.lower_buffered(bytes);
     bytes > 0 && was_above && state.buffered_amount() <= threshold
+}
+
+// Adds bytes to the amount of a stream.
+fn raise(state: &mut StreamState, bytes: usize)
+    ensures { state.new ≡ more_by bytes state.old }
+{
+    state.raise_buffered(bytes);
 }
 
 // Counts a write that was accepted.

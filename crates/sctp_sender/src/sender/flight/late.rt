@@ -172,8 +172,9 @@ impl InFlight {
     pub fn has_tail_at(&self, tsn: u32) -> bool
         ensures { result ≡ has_tail_at self.now tsn }
     {
+        self.queue.are_whole();
         match self.queue.get(tsn) {
-            Some(chunk) => !chunk.abandoned && self.queue.waits(chunk.message_id),
+            Some(chunk) => !chunk.abandoned && self.queue.rest_waits(chunk.message_id),
             None => false,
         }
     }

@@ -59,20 +59,13 @@ impl InFlight {
         ensures outdated { is_outdated (sack_of sack.now) self.old ≡ true → IsOk result }
     {
         let mut released = Vec::new(alloc);
-        if sna32lt(sack.cumulative_tsn_ack, self.acked_tsn) {
+        if !self.is_current(sack)? {
             return Ok(released);
         }
         let count = distance(self.acked_tsn, sack.cumulative_tsn_ack) as usize;
-        let in_flight = self.queue.inflight_len();
-        if in_flight < count {
-            return Err(SenderRefusal::InflightQueueTsnPop);
-        }
-        if !are_within(&sack.gap_ack_blocks, in_flight - count) {
-            return Err(SenderRefusal::TsnRequestNotExist);
-        }
         let marks = marks_of(alloc, &sack.gap_ack_blocks)?;
         // what lies behind is not reported
-        let reach = in_flight.min(count + marks.len());
+        let reach = self.queue.inflight_len().min(count + marks.len());
         if released.reserve(reach).is_err() {
             return Err(SenderRefusal::OutOfMemory);
         }
@@ -91,6 +84,28 @@ impl InFlight {
         pop_run(&mut self.queue, self.acked_tsn.wrapping_add(1), count);
         self.acked_tsn = sack.cumulative_tsn_ack;
         Ok(released)
+    }
+
+    /// Whether a SACK is not out of date. Refuses what `acked` refuses, but not for memory: it takes none.
+    pub fn is_current(&self, sack: &ChunkSelectiveAck) -> Result<bool, SenderRefusal>
+        ensures answer { IfOk result (λ current. current
+            ≡ not (is_outdated (sack_of sack.now) self.now)) }
+        ensures accepted { IsOk result → sack_refusal (sack_of sack.now) self.now ≡ None }
+        ensures refused { IfErr result (λ e. sack_refusal (sack_of sack.now) self.now ≡ Some e) }
+        ensures outdated { is_outdated (sack_of sack.now) self.now ≡ true → IsOk result }
+    {
+        if sna32lt(sack.cumulative_tsn_ack, self.acked_tsn) {
+            return Ok(false);
+        }
+        let count = distance(self.acked_tsn, sack.cumulative_tsn_ack) as usize;
+        let in_flight = self.queue.inflight_len();
+        if in_flight < count {
+            return Err(SenderRefusal::InflightQueueTsnPop);
+        }
+        if !are_within(&sack.gap_ack_blocks, in_flight - count) {
+            return Err(SenderRefusal::TsnRequestNotExist);
+        }
+        Ok(true)
     }
 }
 
@@ -114,7 +129,7 @@ fn is_within(block: &GapAckBlock, left: usize) -> bool
 }
 
 // For each distance up to the greatest that a block reports, whether one does. Each block and each distance is looked at once.
-fn marks_of(alloc: Global, blocks: &[GapAckBlock]) -> Result<Vec<bool>, SenderRefusal>
+pub(super) fn marks_of(alloc: Global, blocks: &[GapAckBlock]) -> Result<Vec<bool>, SenderRefusal>
     ensures marks { IfOk result (λ marks. Marks marks.items blocks.now) }
     ensures count { IfOk result (λ marks. length marks.items ≡ after_blocks blocks.now) }
     ensures small { IfOk result (λ marks. length marks.items ≤ 2 ^ 16) }
@@ -190,7 +205,7 @@ fn after_block(block: &GapAckBlock) -> u32
 }
 
 // Whether a SACK reports the TSN, where the distances that it reports are marked.
-fn is_reported(sack: &ChunkSelectiveAck, marks: &[bool], tsn: u32) -> bool
+pub(super) fn is_reported(sack: &ChunkSelectiveAck, marks: &[bool], tsn: u32) -> bool
     requires { Marks marks.now (sack_of sack.now).gap_ack_blocks }
     ensures { (c : ChunkPayloadData)
         → c.tsn ≡ tsn → c.acked ≡ false → result ≡ reports_anew (sack_of sack.now) c }
@@ -203,7 +218,7 @@ fn is_reported(sack: &ChunkSelectiveAck, marks: &[bool], tsn: u32) -> bool
 }
 
 // The first place from this one on from where no chunk in flight is of the message of one before it.
-fn message_end(queue: &OutboundQueue, reach: usize) -> usize
+pub(super) fn message_end(queue: &OutboundQueue, reach: usize) -> usize
     requires { reach ≤ length queue.now.inflight.chunks }
     ensures from { reach ≤ result }
     ensures to { result ≤ length queue.now.inflight.chunks }
@@ -222,7 +237,7 @@ fn message_end(queue: &OutboundQueue, reach: usize) -> usize
 }
 
 // Whether the chunk at a place is of another message than the one before it.
-fn begins_another(queue: &OutboundQueue, place: usize) -> bool
+pub(super) fn begins_another(queue: &OutboundQueue, place: usize) -> bool
     requires some { 0 < place }
     requires in_range { place < length queue.now.inflight.chunks }
     ensures { result ≡ true → (d : ChunkPayloadData)

@@ -1,72 +1,74 @@
 //! The TSNs that need not be sent again, and the FORWARD-TSN that says so (RFC 3758 3.5).
 
-ghost use Rattle.std.specs.Prelude.{◌≡◌, ◌+◌, ◌*◌, ◌<◌, ◌≤◌, ◌^◌, ◌⊎◌, ◌++◌, ◌∷◌, [], List, true, false, None, OnOk, IfOk, IfErr, IfSome, IsOk, is_some, find, option_map, length, take};
+ghost use Rattle.std.specs.Prelude.{◌≡◌, ℕ, ◌+◌, ◌-◌, ◌*◌, ◌<◌, ◌≤◌, ◌⊎◌, ◌++◌, ◌∷◌, [], List, true, false, None, OnOk, IfOk, IfErr, IfSome, IsOk, find, option_map, length, slice_index_or, take};
 ghost use Rattle.std.specs.List.{filter};
 ghost use Rattle.sctp_chunks.specs.declared.chunk.chunk_payload_data.ChunkPayloadData.{ChunkPayloadData};
 ghost use Rattle.sctp_sender.specs.declared.sender.refusal.SenderRefusal.TheVariants.{OutOfMemory};
-ghost use Rattle.sctp_sender.specs.Flight.{tsns_from};
-ghost use Rattle.sctp_sender.specs.Abandonment.{IsFirstPair, IsMore, IsNoPair, Name, is_kept, is_named};
+ghost use Rattle.sctp_sender.specs.Abandonment.{IsLastEnd, IsMore, IsNoPair, Name, is_kept, is_named};
 ghost use Rattle.sctp_chunks.specs.declared.chunk.chunk_forward_tsn.ChunkForwardTsnStream.{ChunkForwardTsnStream};
-ghost use Rattle.sctp_serial.specs.DataChunks.{following_tsn, tsns};
+ghost use Rattle.sctp_outbound.specs.pending_queue.Whole.{ends};
 
 use super::InFlight;
+use super::pairs::Pairs;
 use crate::sender::refusal::SenderRefusal;
 use sctp_chunks::chunk::chunk_forward_tsn::{ChunkForwardTsn, ChunkForwardTsnStream};
 use sctp_chunks::chunk::chunk_payload_data::ChunkPayloadData;
 use sctp_outbound::outbound_queue::OutboundQueue;
 use sctp_serial::serial::distance;
-use sctp_stream::stream_numbers::put;
 use std::alloc::Global;
 
 impl InFlight {
-    ghost use Rattle.sctp_sender.specs.Abandonment.{advanced_ack_point, can_skip_to, named_up_to};
+    ghost use Rattle.sctp_sender.specs.Abandonment.{advanced_ack_point, named_up_to, skip_end};
 
     /// The greatest TSN such that the message of it and of each in flight before it is abandoned: RFC 3758 3.5 calls it the
     /// Advanced.Peer.Ack.Point. The TSN up to which all was acknowledged, where none in flight is passed.
     pub fn advanced_ack_point(&self) -> u32
         ensures { result ≡ advanced_ack_point self.now }
     {
-        let first = self.acked_tsn.wrapping_add(1);
-        match first_kept(&self.queue, first) {
+        match first_kept(&self.queue) {
             Some(tsn) => tsn.wrapping_sub(1),
             None => self.next_tsn.wrapping_sub(1),
         }
     }
 
-    /// The FORWARD-TSN up to a TSN (RFC 3758 3.5 C4): of each stream that has an ordered chunk up to there which is abandoned,
-    /// it names the number of the last one. None where the TSN is not past what is acknowledged, or lies beyond
-    /// `advanced_ack_point`. Refuses only for memory, and takes none where it answers None.
+    /// The FORWARD-TSN up to a TSN (RFC 3758 3.5 C4), or to the last TSN before it at which a message ends: a peer that is told of
+    /// some fragments of a message may be sent the others still. Of each stream that has an ordered chunk up to there which is abandoned
+    /// it names the number of the last one. None where no message ends up to there, and where the TSN is not past what is acknowledged,
+    /// or lies beyond `advanced_ack_point`. Refuses only for memory, and takes none where it answers None.
     pub fn forward_tsn_to(
         &self,
         alloc: Global,
         tsn: u32,
     ) -> Result<Option<ChunkForwardTsn>, SenderRefusal>
-        ensures some { IfOk result (λ r. is_some r ≡ can_skip_to tsn self.now) }
-        ensures tsn { IfOk result (λ r. IfSome r (λ c. c.new_cumulative_tsn ≡ tsn)) }
+        ensures tsn { IfOk result (λ r. option_map (λ c. c.new_cumulative_tsn) r
+            ≡ skip_end tsn self.now) }
         ensures names { IfOk result (λ r. IfSome r
-            (λ c. Name c.streams.items (named_up_to tsn self.now))) }
-        ensures idle { can_skip_to tsn self.now ≡ false → IsOk result }
+            (λ c. Name c.streams.items (named_up_to c.new_cumulative_tsn self.now))) }
+        ensures idle { skip_end tsn self.now ≡ None → IsOk result }
         ensures memory { IfErr result (λ e. e ≡ OutOfMemory) }
     {
         let ahead = distance(self.acked_tsn, tsn);
         if ahead == 0 || ahead > distance(self.acked_tsn, self.advanced_ack_point()) {
             return Ok(None);
         }
-        let first = self.acked_tsn.wrapping_add(1);
-        let streams = pairs_of(alloc, &self.queue, first, ahead as usize)?;
+        let count = up_to_end(&self.queue, ahead as usize);
+        if count == 0 {
+            return Ok(None);
+        }
+        let streams = pairs_of(alloc, &self.queue, count)?;
         Ok(Some(ChunkForwardTsn {
-            new_cumulative_tsn: tsn,
+            new_cumulative_tsn: self.acked_tsn.wrapping_add(count as u32),
             streams,
         }))
     }
 }
 
 impl InFlight {
-    ghost use Rattle.sctp_sender.specs.Abandonment.{IsTooLong, advanced_ack_point, ahead, can_skip_to, named_up_to};
+    ghost use Rattle.sctp_sender.specs.Abandonment.{IsTooLong, advanced_ack_point, ahead, can_skip_to, is_end, named_up_to};
 
-    /// As `forward_tsn_to`, as far as the names fit into a chunk of so many bytes: 8 for its header and its TSN, and 4 a name. It
-    /// goes to `advanced_ack_point`, or to a TSN before, where a chunk to the next one would be longer. None where there is nothing
-    /// to tell, or the chunk to the first TSN would be longer. Refuses only for memory, and not where there is nothing to tell.
+    /// As `forward_tsn_to` the `advanced_ack_point`, as far as the names fit into a chunk of so many bytes: 8 for its header and its TSN,
+    /// and 4 a name. It goes to a TSN at which a message ends, and a chunk to each later one would be longer. None where there is no
+    /// such TSN. Refuses only for memory, and not where there is nothing to tell.
     pub fn forward_tsn_within(
         &self,
         alloc: Global,
@@ -74,16 +76,17 @@ impl InFlight {
     ) -> Result<Option<ChunkForwardTsn>, SenderRefusal>
         ensures past { IfOk result (λ r. IfSome r
             (λ c. can_skip_to c.new_cumulative_tsn self.now ≡ true)) }
+        ensures ended { IfOk result (λ r. IfSome r
+            (λ c. is_end c.new_cumulative_tsn self.now ≡ true)) }
         ensures names { IfOk result (λ r. IfSome r
             (λ c. Name c.streams.items (named_up_to c.new_cumulative_tsn self.now))) }
         ensures fits { IfOk result (λ r. IfSome r
             (λ c. 8 + 4 * length c.streams.items ≤ bytes)) }
-        ensures furthest { IfOk result (λ r. IfSome r
-            (λ c. (c.new_cumulative_tsn ≡ advanced_ack_point self.now)
-            ⊎ IsTooLong bytes (following_tsn c.new_cumulative_tsn) self.now)) }
-        ensures none { IfOk result (λ r. r ≡ None
-            → (ahead self.now (advanced_ack_point self.now) ≡ 0)
-            ⊎ IsTooLong bytes (following_tsn self.now.acked_tsn) self.now) }
+        ensures furthest { IfOk result (λ r. IfSome r (λ c. (t : ℕ) → is_end t self.now ≡ true
+            → (ahead self.now t ≤ ahead self.now c.new_cumulative_tsn)
+            ⊎ IsTooLong bytes t self.now)) }
+        ensures none { IfOk result (λ r. r ≡ None → (t : ℕ) → is_end t self.now ≡ true
+            → IsTooLong bytes t self.now) }
         ensures idle { ahead self.now (advanced_ack_point self.now) ≡ 0 → IsOk result }
         ensures memory { IfErr result (λ e. e ≡ OutOfMemory) }
     {
@@ -91,9 +94,8 @@ impl InFlight {
         if bytes < 8 {
             return Ok(None);
         }
-        let first = self.acked_tsn.wrapping_add(1);
         let room = (bytes - 8) / 4;
-        let (count, streams) = pairs_within(alloc, &self.queue, first, most as usize, room)?;
+        let (count, streams) = pairs_to_end(alloc, &self.queue, most as usize, room)?;
         if count == 0 {
             return Ok(None);
         }
@@ -104,43 +106,84 @@ impl InFlight {
     }
 }
 
-// The first TSN in flight, from this one on, whose message is not abandoned.
-fn first_kept(queue: &OutboundQueue, first: u32) -> Option<u32>
-    requires run { tsns queue.now.inflight.chunks
-        ≡ tsns_from first (length queue.now.inflight.chunks) }
-    requires few { length queue.now.inflight.chunks < 2 ^ 31 }
+// Of the first chunks in flight, so many, how many there are up to the last that ends a message.
+fn up_to_end(queue: &OutboundQueue, count: usize) -> usize
+    requires { count ≤ length queue.now.inflight.chunks }
+    ensures { IsLastEnd result count queue.now.inflight.chunks }
+{
+    let mut end = count;
+    while end > 0 {
+        let Some(chunk) = queue.inflight_at(end - 1) else {
+            unreachable!()
+        };
+        if chunk.ending_fragment {
+            return end;
+        }
+        end -= 1;
+    }
+    0
+}
+
+// As `pairs_within`, of as many chunks that the last of them ends a message, where there are any.
+fn pairs_to_end(
+    alloc: Global,
+    queue: &OutboundQueue,
+    most: usize,
+    room: usize,
+) -> Result<(usize, Vec<ChunkForwardTsnStream>), SenderRefusal>
+    requires { most ≤ length queue.now.inflight.chunks }
+    ensures count { IfOk result (λ r. r.0 ≤ most) }
+    ensures ended { IfOk result (λ r. 0 < r.0 → (d : ChunkPayloadData)
+        → ends (slice_index_or queue.now.inflight.chunks (r.0 - 1) d) ≡ true) }
+    ensures names { IfOk result (λ r. Name r.1.items
+        (filter is_named (take r.0 queue.now.inflight.chunks))) }
+    ensures fits { IfOk result (λ r. length r.1.items ≤ room) }
+    ensures furthest { IfOk result (λ r. (k : ℕ) (d : ChunkPayloadData) → r.0 < k → k ≤ most
+        → ends (slice_index_or queue.now.inflight.chunks (k - 1) d) ≡ true
+        → IsMore room (filter is_named (take k queue.now.inflight.chunks))) }
+    ensures idle { most ≡ 0 → IsOk result }
+    ensures memory { IfErr result (λ e. e ≡ OutOfMemory) }
+{
+    let mut left = most;
+    loop {
+        let (count, pairs) = pairs_within(alloc, queue, left, room)?;
+        let end = up_to_end(queue, count);
+        if end == count {
+            return Ok((count, pairs));
+        }
+        left = end;
+    }
+}
+
+// The first TSN in flight whose message is not abandoned.
+fn first_kept(queue: &OutboundQueue) -> Option<u32>
     ensures { result ≡ option_map (λ c. c.tsn) (find is_kept queue.now.inflight.chunks) }
 {
     for place in 0..queue.inflight_len() {
-        let tsn = first.wrapping_add(place as u32);
-        let Some(chunk) = queue.get(tsn) else {
+        let Some(chunk) = queue.inflight_at(place) else {
             unreachable!()
         };
         if !chunk.abandoned {
-            return Some(tsn);
+            return Some(chunk.tsn);
         }
     }
     None
 }
 
-// The pairs of the first chunks in flight, so many, whose TSNs follow one another.
+// The pairs of the first chunks in flight, so many.
 fn pairs_of(
     alloc: Global,
     queue: &OutboundQueue,
-    first: u32,
     count: usize,
 ) -> Result<Vec<ChunkForwardTsnStream>, SenderRefusal>
-    requires run { tsns queue.now.inflight.chunks
-        ≡ tsns_from first (length queue.now.inflight.chunks) }
-    requires few { length queue.now.inflight.chunks < 2 ^ 31 }
-    requires within { count ≤ length queue.now.inflight.chunks }
+    requires { count ≤ length queue.now.inflight.chunks }
     ensures ok { IfOk result (λ pairs. Name pairs.items
         (filter is_named (take count queue.now.inflight.chunks))) }
     ensures memory { IfErr result (λ e. e ≡ OutOfMemory) }
 {
-    let mut pairs = Vec::new(alloc);
+    let mut pairs = Pairs::new(alloc);
     for place in 0..count {
-        let Some(chunk) = queue.get(first.wrapping_add(place as u32)) else {
+        let Some(chunk) = queue.inflight_at(place) else {
             unreachable!()
         };
         if !is_named(chunk) {
@@ -148,21 +191,17 @@ fn pairs_of(
         }
         name(&mut pairs, chunk)?;
     }
-    Ok(pairs)
+    Ok(pairs.into_items())
 }
 
 // Of the first chunks in flight, so many at most, as many as have no more pairs than there is room for, and their pairs.
 fn pairs_within(
     alloc: Global,
     queue: &OutboundQueue,
-    first: u32,
     most: usize,
     room: usize,
 ) -> Result<(usize, Vec<ChunkForwardTsnStream>), SenderRefusal>
-    requires run { tsns queue.now.inflight.chunks
-        ≡ tsns_from first (length queue.now.inflight.chunks) }
-    requires few { length queue.now.inflight.chunks < 2 ^ 31 }
-    requires within { most ≤ length queue.now.inflight.chunks }
+    requires { most ≤ length queue.now.inflight.chunks }
     ensures count { IfOk result (λ r. r.0 ≤ most) }
     ensures names { IfOk result (λ r. Name r.1.items
         (filter is_named (take r.0 queue.now.inflight.chunks))) }
@@ -172,9 +211,9 @@ fn pairs_within(
     ensures idle { most ≡ 0 → IsOk result }
     ensures memory { IfErr result (λ e. e ≡ OutOfMemory) }
 {
-    let mut pairs = Vec::new(alloc);
+    let mut pairs = Pairs::new(alloc);
     for place in 0..most {
-        let Some(chunk) = queue.get(first.wrapping_add(place as u32)) else {
+        let Some(chunk) = queue.inflight_at(place) else {
             unreachable!()
         };
         if !is_named(chunk) {
@@ -182,10 +221,10 @@ fn pairs_within(
         }
         let fits = name_within(&mut pairs, chunk, room)?;
         if !fits {
-            return Ok((place, pairs));
+            return Ok((place, pairs.into_items()));
         }
     }
-    Ok((most, pairs))
+    Ok((most, pairs.into_items()))
 }
 
 // Whether it is an ordered chunk of a message that is abandoned.
@@ -196,71 +235,49 @@ fn is_named(chunk: &ChunkPayloadData) -> bool
 }
 
 // The pair of a chunk's stream gets the chunk's number.
-fn name(
-    pairs: &mut Vec<ChunkForwardTsnStream>,
-    chunk: &ChunkPayloadData,
-) -> Result<(), SenderRefusal>
-    ensures ok { OnOk result ((cs : List ChunkPayloadData) → Name pairs.old.items cs
-        → Name pairs.new.items (cs ++ chunk.now ∷ [])) }
+fn name(pairs: &mut Pairs, chunk: &ChunkPayloadData) -> Result<(), SenderRefusal>
+    ensures ok { OnOk result ((cs : List ChunkPayloadData) → Name pairs.old cs
+        → Name pairs.new (cs ++ chunk.now ∷ [])) }
     ensures memory { IfErr result (λ e. e ≡ OutOfMemory) }
 {
     let pair = ChunkForwardTsnStream {
         identifier: chunk.stream_identifier,
         sequence: chunk.stream_sequence_number,
     };
-    if let Some(place) = place_of(pairs, pair.identifier) {
-        pairs[place] = pair;
+    if let Some(place) = pairs.place_of(pair.identifier) {
+        pairs.set(place, pair);
         return Ok(());
     }
-    if pairs.reserve(1).is_err() {
-        return Err(SenderRefusal::OutOfMemory);
-    }
-    put(pairs, pair);
+    pairs.push(pair)?;
     Ok(())
 }
 
 // The same, where there is room for so many pairs; whether there was.
 fn name_within(
-    pairs: &mut Vec<ChunkForwardTsnStream>,
+    pairs: &mut Pairs,
     chunk: &ChunkPayloadData,
     room: usize,
 ) -> Result<bool, SenderRefusal>
-    requires { length pairs.old.items ≤ room }
+    requires { length pairs.old ≤ room }
     ensures named { IfOk result (λ fits. fits ≡ true → (cs : List ChunkPayloadData)
-        → Name pairs.old.items cs → Name pairs.new.items (cs ++ chunk.now ∷ [])) }
-    ensures room { OnOk result (length pairs.new.items ≤ room) }
-    ensures full { IfOk result (λ fits. fits ≡ false → (pairs.new.items ≡ pairs.old.items)
-        × IsNoPair chunk.now.stream_identifier pairs.old.items (length pairs.old.items)
-        × (length pairs.old.items ≡ room)) }
+        → Name pairs.old cs → Name pairs.new (cs ++ chunk.now ∷ [])) }
+    ensures room { OnOk result (length pairs.new ≤ room) }
+    ensures full { IfOk result (λ fits. fits ≡ false → (pairs.new ≡ pairs.old)
+        × IsNoPair chunk.now.stream_identifier pairs.old (length pairs.old)
+        × (length pairs.old ≡ room)) }
     ensures memory { IfErr result (λ e. e ≡ OutOfMemory) }
 {
     let pair = ChunkForwardTsnStream {
         identifier: chunk.stream_identifier,
         sequence: chunk.stream_sequence_number,
     };
-    if let Some(at) = place_of(pairs, pair.identifier) {
-        pairs[at] = pair;
+    if let Some(at) = pairs.place_of(pair.identifier) {
+        pairs.set(at, pair);
         return Ok(true);
     }
     if pairs.len() == room {
         return Ok(false);
     }
-    if pairs.reserve(1).is_err() {
-        return Err(SenderRefusal::OutOfMemory);
-    }
-    put(pairs, pair);
+    pairs.push(pair)?;
     Ok(true)
-}
-
-// Where the first pair of a stream stands, None where there is none.
-fn place_of(pairs: &[ChunkForwardTsnStream], stream: u16) -> Option<usize>
-    ensures some { IfSome result (λ k. IsFirstPair stream pairs.now k) }
-    ensures none { result ≡ None → IsNoPair stream pairs.now (length pairs.now) }
-{
-    for place in 0..pairs.len() {
-        if pairs[place].identifier == stream {
-            return Some(place);
-        }
-    }
-    None
 }

@@ -1,4 +1,5 @@
 use Rattle.std.proofs.Common.{◌≡◌, ◌+◌, ◌<◌, ◌≤◌, ap, sym, ◌∙◌, true, false, subst, inr, None, rules, arith, length}
+use Rattle.std.specs.Option.{option_map}
 use Rattle.sctp_outbound.specs.pending_queue.Whole.{IsMessageOrNone}
 use Rattle.sctp_outbound.specs.outbound_queue.OutboundQueue.{total_bytes}
 use Rattle.sctp_sender.specs.Flight.{Flight}
@@ -11,18 +12,18 @@ use Rattle.sctp_sender.proofs.sender.Sender.write.Goals as goal
 
 pub returns-in_default-clause-refused : goal.returns-in_default-clause-refused
 returns-in_default-clause-refused c =
-    let t : Transmission = record { streams = c.self.inside.streams; flight = c.self.inside.flight; fragment_size = c.self.inside.fragment_size; max_message_size = c.self.inside.max_message_size } in
+    let t : Transmission = record { streams = c.self.inside.streams; flight = c.self.inside.flight; fragment_size = c.self.inside.fragment_size; max_message_size = c.self.inside.max_message_size; kept = option_map (λ k. k.items) c.self.inside.kept } in
     inr (rw (← c.self.view_is) (unknown c.args.stream (length c.args.bytes.now) t (closed c.self.inside.streams c.args.stream c.in_default.ensures)))
 
 pub returns-then-len-self-clause-refused : goal.returns-then-len-self-clause-refused
 returns-then-len-self-clause-refused c =
-    let t : Transmission = record { streams = c.self.inside.streams; flight = c.self.inside.flight; fragment_size = c.self.inside.fragment_size; max_message_size = c.self.inside.max_message_size } in
+    let t : Transmission = record { streams = c.self.inside.streams; flight = c.self.inside.flight; fragment_size = c.self.inside.fragment_size; max_message_size = c.self.inside.max_message_size; kept = option_map (λ k. k.items) c.self.inside.kept } in
     let open' : is_open c.args.stream t ≡ true = open-at c.self.inside.streams c.args.stream c.in-Some.place c.in-Some.ensures in
     inr (rw (← c.self.view_is) (too-large c.args.stream (length c.args.bytes.now) t open' (omega (arith, c.if-len-self.true, c.len-len.ensures.value))))
 
 pub returns-then-is_full-clause-refused : goal.returns-then-is_full-clause-refused
 returns-then-is_full-clause-refused c =
-    let t : Transmission = record { streams = c.self.inside.streams; flight = c.self.inside.flight; fragment_size = c.self.inside.fragment_size; max_message_size = c.self.inside.max_message_size } in
+    let t : Transmission = record { streams = c.self.inside.streams; flight = c.self.inside.flight; fragment_size = c.self.inside.fragment_size; max_message_size = c.self.inside.max_message_size; kept = option_map (λ k. k.items) c.self.inside.kept } in
     let open' : is_open c.args.stream t ≡ true = open-at c.self.inside.streams c.args.stream c.in-Some.place c.in-Some.ensures in
     let le : length c.args.bytes.now ≤ t.max_message_size = omega (arith, c.if-len-self.false, c.len-len.ensures.value) in
     let room : is_full (length c.args.bytes.now) t ≡ true = ap (λ n. is_full_of n t.flight.queue) (sym c.len-len.ensures.value) ∙ ap (is_full_of c.len-len.result) (sym c.queue.ensures) ∙ sym c.is_full.ensures ∙ c.if-is_full.true in
@@ -30,7 +31,7 @@ returns-then-is_full-clause-refused c =
 
 pub returns-then-len-eq0-clause-accepted : goal.returns-then-len-eq0-clause-accepted
 returns-then-len-eq0-clause-accepted c =
-    let t : Transmission = record { streams = c.self.inside.streams; flight = c.self.inside.flight; fragment_size = c.self.inside.fragment_size; max_message_size = c.self.inside.max_message_size } in
+    let t : Transmission = record { streams = c.self.inside.streams; flight = c.self.inside.flight; fragment_size = c.self.inside.fragment_size; max_message_size = c.self.inside.max_message_size; kept = option_map (λ k. k.items) c.self.inside.kept } in
     let open' : is_open c.args.stream t ≡ true = open-at c.self.inside.streams c.args.stream c.in-Some.place c.in-Some.ensures in
     let le : length c.args.bytes.now ≤ t.max_message_size = omega (arith, c.if-len-self.false, c.len-len.ensures.value) in
     let room : is_full (length c.args.bytes.now) t ≡ false = ap (λ n. is_full_of n t.flight.queue) (sym c.len-len.ensures.value) ∙ ap (is_full_of c.len-len.result) (sym c.queue.ensures) ∙ sym c.is_full.ensures ∙ c.if-is_full.false in
@@ -39,7 +40,7 @@ returns-then-len-eq0-clause-accepted c =
 
 pub returns-in_err-chunks-clause-refused : goal.returns-in_err-chunks-clause-refused
 returns-in_err-chunks-clause-refused c =
-    let t : Transmission = record { streams = c.self.inside.streams; flight = c.self.inside.flight; fragment_size = c.self.inside.fragment_size; max_message_size = c.self.inside.max_message_size } in
+    let t : Transmission = record { streams = c.self.inside.streams; flight = c.self.inside.flight; fragment_size = c.self.inside.fragment_size; max_message_size = c.self.inside.max_message_size; kept = option_map (λ k. k.items) c.self.inside.kept } in
     let open' : is_open c.args.stream t ≡ true = open-at c.self.inside.streams c.args.stream c.in-Some.place c.in-Some.ensures in
     let le : length c.args.bytes.now ≤ t.max_message_size = omega (arith, c.if-len-self.false, c.len-len.ensures.value) in
     let room : is_full (length c.args.bytes.now) t ≡ false = ap (λ n. is_full_of n t.flight.queue) (sym c.len-len.ensures.value) ∙ ap (is_full_of c.len-len.result) (sym c.queue.ensures) ∙ sym c.is_full.ensures ∙ c.if-is_full.false in
@@ -54,7 +55,7 @@ push-requires-clause-message c =
 
 pub returns-in_err-push-clause-refused : goal.returns-in_err-push-clause-refused
 returns-in_err-push-clause-refused c =
-    let t : Transmission = record { streams = c.self.inside.streams; flight = c.self.inside.flight; fragment_size = c.self.inside.fragment_size; max_message_size = c.self.inside.max_message_size } in
+    let t : Transmission = record { streams = c.self.inside.streams; flight = c.self.inside.flight; fragment_size = c.self.inside.fragment_size; max_message_size = c.self.inside.max_message_size; kept = option_map (λ k. k.items) c.self.inside.kept } in
     let open' : is_open c.args.stream t ≡ true = open-at c.self.inside.streams c.args.stream c.in-Some.place c.in-Some.ensures in
     let le : length c.args.bytes.now ≤ t.max_message_size = omega (arith, c.if-len-self.false, c.len-len.ensures.value) in
     let room : is_full (length c.args.bytes.now) t ≡ false = ap (λ n. is_full_of n t.flight.queue) (sym c.len-len.ensures.value) ∙ ap (is_full_of c.len-len.result) (sym c.queue.ensures) ∙ sym c.is_full.ensures ∙ c.if-is_full.false in
@@ -63,7 +64,7 @@ returns-in_err-push-clause-refused c =
 
 pub returns-clause-accepted : goal.returns-clause-accepted
 returns-clause-accepted c =
-    let t : Transmission = record { streams = c.self.inside.streams; flight = c.self.inside.flight; fragment_size = c.self.inside.fragment_size; max_message_size = c.self.inside.max_message_size } in
+    let t : Transmission = record { streams = c.self.inside.streams; flight = c.self.inside.flight; fragment_size = c.self.inside.fragment_size; max_message_size = c.self.inside.max_message_size; kept = option_map (λ k. k.items) c.self.inside.kept } in
     let open' : is_open c.args.stream t ≡ true = open-at c.self.inside.streams c.args.stream c.in-Some.place c.in-Some.ensures in
     let le : length c.args.bytes.now ≤ t.max_message_size = omega (arith, c.if-len-self.false, c.len-len.ensures.value) in
     let room : is_full (length c.args.bytes.now) t ≡ false = ap (λ n. is_full_of n t.flight.queue) (sym c.len-len.ensures.value) ∙ ap (is_full_of c.len-len.result) (sym c.queue.ensures) ∙ sym c.is_full.ensures ∙ c.if-is_full.false in
@@ -72,7 +73,7 @@ returns-clause-accepted c =
 
 pub returns-in_default-clause-idle : goal.returns-in_default-clause-idle
 returns-in_default-clause-idle c = λ len none.
-    let t : Transmission = record { streams = c.self.inside.streams; flight = c.self.inside.flight; fragment_size = c.self.inside.fragment_size; max_message_size = c.self.inside.max_message_size } in
+    let t : Transmission = record { streams = c.self.inside.streams; flight = c.self.inside.flight; fragment_size = c.self.inside.fragment_size; max_message_size = c.self.inside.max_message_size; kept = option_map (λ k. k.items) c.self.inside.kept } in
     let here : write_refusal c.args.stream 0 t ≡ None = rw (← c.self.view_is) at none in
     refused-not c.args.stream (length c.args.bytes.now) t _ (unknown c.args.stream (length c.args.bytes.now) t (closed c.self.inside.streams c.args.stream c.in_default.ensures)) len here
 
@@ -81,7 +82,7 @@ returns-then-len-self-clause-idle c = λ len none. absurd (omega (arith, c.if-le
 
 pub returns-then-is_full-clause-idle : goal.returns-then-is_full-clause-idle
 returns-then-is_full-clause-idle c = λ len none.
-    let t : Transmission = record { streams = c.self.inside.streams; flight = c.self.inside.flight; fragment_size = c.self.inside.fragment_size; max_message_size = c.self.inside.max_message_size } in
+    let t : Transmission = record { streams = c.self.inside.streams; flight = c.self.inside.flight; fragment_size = c.self.inside.fragment_size; max_message_size = c.self.inside.max_message_size; kept = option_map (λ k. k.items) c.self.inside.kept } in
     let open' : is_open c.args.stream t ≡ true = open-at c.self.inside.streams c.args.stream c.in-Some.place c.in-Some.ensures in
     let le : length c.args.bytes.now ≤ t.max_message_size = omega (arith, c.if-len-self.false, c.len-len.ensures.value) in
     let room : is_full (length c.args.bytes.now) t ≡ true = ap (λ n. is_full_of n t.flight.queue) (sym c.len-len.ensures.value) ∙ ap (is_full_of c.len-len.result) (sym c.queue.ensures) ∙ sym c.is_full.ensures ∙ c.if-is_full.true in

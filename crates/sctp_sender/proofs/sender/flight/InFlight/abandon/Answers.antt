@@ -1,5 +1,7 @@
-use Rattle.std.proofs.Common.{◌≡◌, true, refl, arith}
+use Rattle.std.proofs.Common.{◌≡◌, true, Some, refl, sym, subst, arith}
 use Rattle.std.specs.Prelude.{find}
+use Rattle.sctp_chunks.specs.declared.chunk.chunk_payload_data.ChunkPayloadData.{ChunkPayloadData}
+use Rattle.sctp_outbound.specs.Marks.{IsBetween}
 use Rattle.sctp_serial.specs.DataChunks.{has_tsn, following_tsn}
 use Rattle.sctp_outbound.specs.outbound_queue.OutboundQueue.{has_tail, to_abandon}
 use Rattle.sctp_sender.specs.Flight.{Flight, may_send}
@@ -7,13 +9,13 @@ use Rattle.sctp_sender.proofs.InLine.{abandoned-in-line, found-half}
 use Rattle.sctp_sender.proofs.Flights.{fresh, window, after-abandoning}
 use Rattle.sctp_sender.proofs.sender.flight.InFlight.abandon.Goals as goal
 
-pub abandon-requires-clause-fresh : goal.abandon-requires-clause-fresh
-abandon-requires-clause-fresh c =
+pub abandon_between-requires-clause-fresh : goal.abandon_between-requires-clause-fresh
+abandon_between-requires-clause-fresh c =
     let f : Flight = record { queue = c.self.inside.queue; next_tsn = c.self.inside.next_tsn; acked_tsn = c.self.inside.acked_tsn } in
     fresh f c.self.invariant
 
-pub abandon-requires-clause-window : goal.abandon-requires-clause-window
-abandon-requires-clause-window c =
+pub abandon_between-requires-clause-window : goal.abandon_between-requires-clause-window
+abandon_between-requires-clause-window c =
     let f : Flight = record { queue = c.self.inside.queue; next_tsn = c.self.inside.next_tsn; acked_tsn = c.self.inside.acked_tsn } in
     window f c.self.invariant
 
@@ -21,5 +23,9 @@ pub invariant_of-self-2 : goal.invariant_of-self-2
 invariant_of-self-2 c =
     let f : Flight = record { queue = c.self.inside.queue; next_tsn = c.self.inside.next_tsn; acked_tsn = c.self.inside.acked_tsn } in
     let room : has_tail (to_abandon (find (has_tsn c.args.tsn) f.queue.inflight.chunks)) f.queue ≡ true → may_send f ≡ true = rw (← c.self.view_is) at c.requires in
-    after-abandoning f _ c.abandon.new.self c.abandon.new.next_tsn c.self.invariant room c.in_ok-abandoned.ensures.ok c.in_ok-abandoned.ensures.raised
-    (abandoned-in-line f.queue (following_tsn f.acked_tsn) (omega arith) c.self.invariant.few c.self.invariant.run c.are_whole.ensures c.self.invariant.side_by_side (to_abandon (find (has_tsn c.args.tsn) f.queue.inflight.chunks)) f.next_tsn (let next = c.self.invariant.next in omega (arith, next)) (found-half f.queue c.are_whole.ensures c.args.tsn (find (has_tsn c.args.tsn) f.queue.inflight.chunks) refl) c.abandon.new.self c.in_ok-abandoned.ensures.ok)
+    after-abandoning f _ c.abandon_between.new.self c.abandon_between.new.next_tsn c.self.invariant room c.in_ok-abandoned.ensures.ok c.in_ok-abandoned.ensures.raised
+    (abandoned-in-line f.queue (following_tsn f.acked_tsn) (omega arith) c.self.invariant.few c.self.invariant.run c.are_whole.ensures c.self.invariant.side_by_side (to_abandon (find (has_tsn c.args.tsn) f.queue.inflight.chunks)) f.next_tsn (let next = c.self.invariant.next in omega (arith, next)) (found-half f.queue c.are_whole.ensures c.args.tsn (find (has_tsn c.args.tsn) f.queue.inflight.chunks) refl) c.abandon_between.new.self c.in_ok-abandoned.ensures.ok)
+
+pub abandon_between-requires-clause-between : goal.abandon_between-requires-clause-between
+abandon_between-requires-clause-between c =
+    subst (λ (g : Flight). (x : ChunkPayloadData) → find (has_tsn c.args.tsn) g.queue.inflight.chunks ≡ Some x → IsBetween x.message_id c.places_of-start.result.0 c.places_of-start.result.1 g.queue.inflight.chunks) (sym c.self.view_is) c.places_of-start.ensures

@@ -5,6 +5,6 @@ use Rattle.sctp_sender.proofs.sender.flight.skipping.pairs_within.Given as goal
 
 abbrev pub invariant-loop-place : goal.invariant-loop-place
 invariant-loop-place l = record {
-  names : Name l.pairs.items (filter is_named (take l.place l.queue.inflight.chunks));
-  fits : length l.pairs.items ≤ l.room;
+  names : Name l.pairs (filter is_named (take l.place l.queue.inflight.chunks));
+  fits : length l.pairs ≤ l.room;
 }

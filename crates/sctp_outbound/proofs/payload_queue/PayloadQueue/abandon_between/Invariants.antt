@@ -3,7 +3,7 @@ use Rattle.sctp_list_lemmas.specs.Lists.{change_where}
 use Rattle.sctp_outbound.specs.Marks.{is_of, as_abandoned}
 use Rattle.sctp_serial.specs.Window.{IsSerial}
 use Rattle.sctp_serial.specs.DataChunks.{bytes_of}
-use Rattle.sctp_outbound.proofs.payload_queue.PayloadQueue.abandon_message.Given as goal
+use Rattle.sctp_outbound.proofs.payload_queue.PayloadQueue.abandon_between.Given as goal
 
 abbrev pub invariant-loop-place : goal.invariant-loop-place
 invariant-loop-place l = record {

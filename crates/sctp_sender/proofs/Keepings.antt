@@ -1,0 +1,281 @@
+-- What is kept place by place, and what comes back.
+use Rattle.std.proofs.Common.{◌≡◌, ℕ, zero, suc, ◌+◌, ◌-◌, ◌<◌, ◌≤◌, ◌%◌, ◌^◌, Bool, true, false, List, [], ◌∷◌, ◌++◌, length, length-append, map, take, drop, get_or, set, Option, Some, None, inl, inr, refl, ap, sym, subst, ◌∙◌, arith}
+use Rattle.std.specs.Prelude.{if◌then◌else◌, ◌&&◌, is_some, not, min, nat_lt}
+use Rattle.std.specs.List.{list_all, sum_by}
+use Rattle.std.proofs.lemmas.Bool.{cases_lt, false≢true}
+use Rattle.std.proofs.lemmas.Bool.Decides.{nat_tests}
+use Rattle.std.proofs.lemmas.List.{append_assoc, drop-append-le, drop-take, get_or-drop, get_or_past, length-take-le, take-append-le, take_more}
+use Rattle.std.proofs.lemmas.List.Sums.{sum_by-append, sum_by-cons}
+use Rattle.std.proofs.lemmas.Option.{none-some}
+use Rattle.std.proofs.Math.Seq.{take-length}
+use Rattle.sctp_chunks.specs.declared.chunk.chunk_payload_data.ChunkPayloadData.{ChunkPayloadData}
+use Rattle.sctp_chunks.specs.SelectiveAck.{Sack}
+use Rattle.sctp_outbound.specs.Marks.{as_taken_back}
+use Rattle.sctp_outbound.specs.pending_queue.Whole.{partially_sent}
+use Rattle.sctp_serial.specs.DataChunks.{bytes_of, following_tsn}
+use Rattle.sctp_sender.specs.declared.sender.flight.keeping.TakenBack.{TakenBack}
+use Rattle.sctp_sender.specs.declared.sender.refusal.SenderRefusal.{SenderRefusal}
+use Rattle.sctp_sender.specs.declared.sender.refusal.SenderRefusal.TheVariants.{InflightQueueTsnPop, TsnRequestNotExist}
+use Rattle.sctp_sender.specs.Flight.{Flight, IsContiguous, count_acked, is_outdated, is_within, reports, sack_refusal, tsns_from}
+use Rattle.sctp_sender.specs.Keeping.{back_each, back_of, bytes_back, keep, keep_each, kept_after, kept_from, restored, restored_with, told_back, told_of, trimmed, with_restored}
+use Rattle.sctp_sender.specs.Reporting.{after_blocks}
+use Rattle.sctp_sender.specs.SideBySide.{StandSideBySide, number_of_half}
+use Rattle.sctp_sender.specs.Totals.{AreSettled, IsAllSettled}
+use Rattle.sctp_sender.proofs.Runs.{any_chunk}
+use Rattle.sctp_sender.proofs.Sacks.{beyond}
+
+-- ## As far as something is kept
+
+full : (k : Option (List ℕ)) (ks : List (Option (List ℕ))) (bytes : List ℕ) → kept_from k (ks ++ Some bytes ∷ []) ≡ k ∷ ks ++ Some bytes ∷ []
+full (Some b) ks bytes = refl
+full None [] bytes = refl
+full None (k ∷ ks) bytes = refl
+
+pub trimmed-kept : (ks : List (Option (List ℕ))) (bytes : List ℕ) → trimmed (ks ++ Some bytes ∷ []) ≡ ks ++ Some bytes ∷ []
+trimmed-kept [] bytes = refl
+trimmed-kept (k ∷ ks) bytes = ap (kept_from k) (trimmed-kept ks bytes) ∙ full k ks bytes
+
+pub trimmed-none : (ks : List (Option (List ℕ))) → trimmed (ks ++ None ∷ []) ≡ trimmed ks
+trimmed-none [] = refl
+trimmed-none (k ∷ ks) = ap (kept_from k) (trimmed-none ks)
+
+nothing : (ks : List (Option (List ℕ))) → ((n : ℕ) → get_or ks n None ≡ None) → trimmed ks ≡ []
+nothing [] none = refl
+nothing (k ∷ ks) none = ap (λ j. kept_from j (trimmed ks)) (none 0) ∙ ap (kept_from None) (nothing ks (λ n. none (suc n)))
+
+-- nothing is kept behind the first so many
+pub trimmed-front : (n : ℕ) (ks : List (Option (List ℕ))) → ((m : ℕ) → n ≤ m → get_or ks m None ≡ None) → trimmed ks ≡ trimmed (take n ks)
+trimmed-front zero ks none = nothing ks (λ m. none m (omega arith))
+trimmed-front (suc n) [] none = refl
+trimmed-front (suc n) (k ∷ ks) none = ap (kept_from k) (trimmed-front n ks (λ m le. none (suc m) (omega (arith, le))))
+
+-- the front that is used
+pub record IsUsed (used : ℕ) (ks : List (Option (List ℕ))) : Type 0 where
+  pub trims : trimmed ks ≡ take used ks
+  pub within : used ≤ length ks
+
+-- with one place more, of which something is kept, or nothing
+pub used-more : (used : ℕ) (ks : List (Option (List ℕ))) (k : Option (List ℕ)) → IsUsed used ks → IsUsed (if is_some k then length (ks ++ k ∷ []) else used) (ks ++ k ∷ [])
+used-more used ks None u = record {
+  trims = trimmed-none ks ∙ u.trims ∙ sym (take-append-le used ks (None ∷ []) u.within);
+  within = let n = length-append ks (None ∷ []) in omega (arith, n, u.within);
+}
+used-more used ks (Some bytes) u = record { trims = trimmed-kept ks bytes ∙ sym (take-length (ks ++ Some bytes ∷ [])); within = omega arith }
+
+-- ## What is kept of each
+
+pub none-yet : {X : Type 0} (n : ℕ) (xs : List X) → drop n (take n xs) ≡ []
+none-yet zero xs = refl
+none-yet (suc n) [] = refl
+none-yet (suc n) (x ∷ xs) = none-yet n xs
+
+module _ (s : Sack) where
+  pub length-keep_each : (cs : List ChunkPayloadData) (ks : List (Option (List ℕ))) → length (keep_each s cs ks) ≡ length cs
+  length-keep_each [] ks = refl
+  length-keep_each (c ∷ cs) [] = ap suc (length-keep_each cs [])
+  length-keep_each (c ∷ cs) (k ∷ ks) = ap suc (length-keep_each cs ks)
+
+  pub kept-at : (cs : List ChunkPayloadData) (ks : List (Option (List ℕ))) (i : ℕ) (d : ChunkPayloadData) → i < length cs → get_or (keep_each s cs ks) i None ≡ keep s (get_or cs i d) (get_or ks i None)
+  kept-at [] ks i d lt = absurd (omega (arith, lt))
+  kept-at (c ∷ cs) [] zero d lt = refl
+  kept-at (c ∷ cs) [] (suc i) d lt = kept-at cs [] i d (omega (arith, lt))
+  kept-at (c ∷ cs) (k ∷ ks) zero d lt = refl
+  kept-at (c ∷ cs) (k ∷ ks) (suc i) d lt = kept-at cs ks i d (omega (arith, lt))
+
+  -- one place more
+  pub keep-more : (cs : List ChunkPayloadData) (ks : List (Option (List ℕ))) (start i : ℕ) (c : ChunkPayloadData) (k : Option (List ℕ)) → start ≤ i → i < length cs → c ≡ get_or cs i c → k ≡ keep s c (get_or ks i None) → drop start (take (i + 1) (keep_each s cs ks)) ≡ drop start (take i (keep_each s cs ks)) ++ k ∷ []
+  keep-more cs ks start i c k le lt here is =
+      let all : List (Option (List ℕ)) = keep_each s cs ks in
+      let n = length-keep_each cs ks in
+      let less : i < length all = omega (arith, n, lt) in
+      let front = length-take-le i all (omega (arith, less)) in
+      ap (drop start) (take_more all i None less) ∙ drop-append-le start (take i all) (get_or all i None ∷ []) (omega (arith, front, le))
+      ∙ ap (λ x. drop start (take i all) ++ x ∷ []) (kept-at cs ks i c lt ∙ ap (λ x. keep s x (get_or ks i None)) (sym here) ∙ sym is)
+
+  -- ## What comes back of each
+
+  pub length-back_each : (cs : List ChunkPayloadData) (ks : List (Option (List ℕ))) → length (back_each s cs ks) ≤ length cs
+  length-back_each cs [] = omega arith
+  length-back_each [] (k ∷ ks) = omega arith
+  length-back_each (c ∷ cs) (k ∷ ks) = let h = length-back_each cs ks in omega arith
+
+  pub back-more : (cs : List ChunkPayloadData) (ks : List (Option (List ℕ))) (i : ℕ) (c : ChunkPayloadData) (b : Option (List ℕ)) → i < length cs → i < length ks → c ≡ get_or cs i c → b ≡ back_of s c (get_or ks i None) → back_each s cs (take (i + 1) ks) ≡ back_each s cs (take i ks) ++ b ∷ []
+  back-more cs [] i c b lt less here is = absurd (omega (arith, less))
+  back-more [] (k ∷ ks) i c b lt less here is = absurd (omega (arith, lt))
+  back-more (x ∷ cs) (k ∷ ks) zero c b lt less here is = ap (λ y. y ∷ []) (ap (λ y. back_of s y k) (sym here) ∙ sym is)
+  back-more (x ∷ cs) (k ∷ ks) (suc i) c b lt less here is =
+      let next : suc i + 1 ≡ suc (i + 1) = omega arith in
+      ap (λ n. back_each s (x ∷ cs) (take n (k ∷ ks))) next ∙ ap (λ ys. back_of s x k ∷ ys) (back-more cs ks i c b (omega (arith, lt)) (omega (arith, less)) here is)
+
+  pub back-all : (n : ℕ) (cs : List ChunkPayloadData) (ks : List (Option (List ℕ))) → min (length ks) (length cs) ≤ n → back_each s cs (take n ks) ≡ back_each s cs ks
+  back-all zero cs [] le = refl
+  back-all (suc n) cs [] le = refl
+  back-all zero [] (k ∷ ks) le = refl
+  back-all (suc n) [] (k ∷ ks) le = refl
+  back-all zero (c ∷ cs) (k ∷ ks) le = absurd (omega (arith, le))
+  back-all (suc n) (c ∷ cs) (k ∷ ks) le = ap (λ ys. back_of s c k ∷ ys) (back-all n cs ks (omega (arith, le)))
+
+-- ## Of a chunk that is acknowledged, and not abandoned
+
+pub reported-open : (reported acked abandoned : Bool) → acked ≡ true → abandoned ≡ false → ((acked && not abandoned) && not reported) ≡ not reported
+reported-open reported acked abandoned e f = ap (λ b. (b && not abandoned) && not reported) e ∙ ap (λ b. not b && not reported) f
+
+-- ## What is told
+
+pub told-more : (bs : List (Option (List ℕ))) (cs : List ChunkPayloadData) (i : ℕ) (c : ChunkPayloadData) (b : Option (List ℕ)) → i < length bs → i < length cs → c ≡ get_or cs i c → b ≡ get_or bs i None → told_back (take (i + 1) bs) cs ≡ told_back (take i bs) cs ++ told_of b c
+told-more [] cs i c b less lt here is = absurd (omega (arith, less))
+told-more (x ∷ bs) [] i c b less lt here is = absurd (omega (arith, lt))
+told-more (x ∷ bs) (y ∷ cs) zero c b less lt here is = ap (λ z. told_of z y ++ []) (sym is) ∙ ap (λ z. told_of b z ++ []) (sym here) ∙ nil (told_of b c)
+  where
+    nil : (ts : List TakenBack) → ts ++ [] ≡ ts
+    nil [] = refl
+    nil (t ∷ ts) = ap (λ us. t ∷ us) (nil ts)
+told-more (x ∷ bs) (y ∷ cs) (suc i) c b less lt here is =
+    let next : suc i + 1 ≡ suc (i + 1) = omega arith in
+    ap (λ n. told_back (take n (x ∷ bs)) (y ∷ cs)) next ∙ ap (λ ts. told_of x y ++ ts) (told-more bs cs i c b (omega (arith, less)) (omega (arith, lt)) here is)
+    ∙ rw append_assoc refl
+
+-- ## Restored
+
+-- how many bytes come back at a place, and at all
+abbrev pub size : Option (List ℕ) → ℕ
+size None = 0
+size (Some bytes) = length bytes
+
+abbrev pub weight : List (Option (List ℕ)) → ℕ
+weight bs = sum_by size bs
+
+pub told-weight : (bs : List (Option (List ℕ))) (cs : List ChunkPayloadData) → length bs ≤ length cs → bytes_back (told_back bs cs) ≡ weight bs
+told-weight [] cs le = refl
+told-weight (b ∷ bs) [] le = absurd (omega (arith, le))
+told-weight (b ∷ bs) (c ∷ cs) le = by b (told-weight bs cs (omega (arith, le)))
+  where
+    by : (x : Option (List ℕ)) → bytes_back (told_back bs cs) ≡ weight bs → bytes_back (told_of x c ++ told_back bs cs) ≡ weight (x ∷ bs)
+    by None h = let e = sum_by-cons size None bs in omega (arith, e, h)
+    by (Some bytes) h =
+        let r : TakenBack = record { tsn = c.tsn; stream = c.stream_identifier; bytes = length bytes; message = c.message_id } in
+        let e = sum_by-cons size (Some bytes) bs in
+        let f = sum_by-cons (λ (t : TakenBack). t.bytes) r (told_back bs cs) in
+        omega (arith, e, f, h)
+
+pub weight-last : (bs : List (Option (List ℕ))) (b : Option (List ℕ)) → weight (bs ++ b ∷ []) ≡ weight bs + size b
+weight-last bs b = let e = sum_by-append size bs (b ∷ []) in let f = sum_by-cons size b [] in omega (arith, e, f)
+
+pub length-restored : (bs : List (Option (List ℕ))) (cs : List ChunkPayloadData) → length (restored bs cs) ≡ length cs
+length-restored [] cs = refl
+length-restored (b ∷ bs) [] = refl
+length-restored (b ∷ bs) (c ∷ cs) = ap suc (length-restored bs cs)
+
+pub map-restored : {B : Type 0} (f : ChunkPayloadData → B) → ((bytes : List ℕ) (c : ChunkPayloadData) → f (as_taken_back bytes c) ≡ f c) → (bs : List (Option (List ℕ))) (cs : List ChunkPayloadData) → map f (restored bs cs) ≡ map f cs
+map-restored f same [] cs = refl
+map-restored f same (b ∷ bs) [] = refl
+map-restored f same (None ∷ bs) (c ∷ cs) = ap (λ ys. f c ∷ ys) (map-restored f same bs cs)
+map-restored {B} f same (Some bytes ∷ bs) (c ∷ cs) = ap (λ (y : B). y ∷ map f (restored bs cs)) (same bytes c) ∙ ap (λ ys. f c ∷ ys) (map-restored f same bs cs)
+
+pub none-left : (bs : List (Option (List ℕ))) (cs : List ChunkPayloadData) → length bs ≡ 0 → restored bs cs ≡ cs
+none-left [] cs n = refl
+none-left (b ∷ bs) cs n = absurd (omega (arith, n))
+
+-- from the last place on
+pub restored-none : (bs : List (Option (List ℕ))) (cs : List ChunkPayloadData) → restored (bs ++ None ∷ []) cs ≡ restored bs cs
+restored-none [] [] = refl
+restored-none [] (c ∷ cs) = refl
+restored-none (b ∷ bs) [] = refl
+restored-none (b ∷ bs) (c ∷ cs) = ap (λ ys. restored_with b c ∷ ys) (restored-none bs cs)
+
+pub restored-last : (bs : List (Option (List ℕ))) (bytes : List ℕ) (cs : List ChunkPayloadData) (d : ChunkPayloadData) → length bs < length cs → restored (bs ++ Some bytes ∷ []) cs ≡ restored bs (set cs (length bs) (as_taken_back bytes (get_or cs (length bs) d)))
+restored-last bs bytes [] d lt = absurd (omega (arith, lt))
+restored-last [] bytes (c ∷ cs) d lt = refl
+restored-last (b ∷ bs) bytes (c ∷ cs) d lt = ap (λ ys. restored_with b c ∷ ys) (restored-last bs bytes cs d (omega (arith, lt)))
+
+-- ## In flight
+
+pub restored-contiguous : (bs : List (Option (List ℕ))) (f : Flight) → IsContiguous f → IsContiguous (with_restored bs f)
+restored-contiguous bs f inv =
+    let cs = f.queue.inflight.chunks in
+    let n = length-restored bs cs in
+    record {
+      in_range = inv.in_range;
+      run = map-restored (λ c. c.tsn) (λ bytes c. refl) bs cs ∙ inv.run ∙ ap (tsns_from (following_tsn f.acked_tsn)) (sym n);
+      next = inv.next ∙ ap (λ k. (f.acked_tsn + 1 + k) % 2 ^ 32) (sym n);
+      few = omega (arith, n, inv.few);
+      side_by_side = subst (λ ms. StandSideBySide (ms ++ number_of_half (partially_sent f.queue.pending))) (sym (map-restored (λ c. c.message_id) (λ bytes c. refl) bs cs)) inv.side_by_side;
+    }
+
+-- a SACK that is taken reports no more cumulatively than is in flight
+pub taken-within : (s : Sack) (f : Flight) → sack_refusal s f ≡ None → is_outdated s f ≡ false → count_acked s f ≤ length f.queue.inflight.chunks
+taken-within s f taken current = by (nat_lt (length f.queue.inflight.chunks) (count_acked s f)) refl (ap (λ b. if b then None else rest) (sym current) ∙ taken)
+  where
+    rest : Option SenderRefusal
+    rest = if nat_lt (length f.queue.inflight.chunks) (count_acked s f) then Some InflightQueueTsnPop
+        else (if list_all (is_within (length f.queue.inflight.chunks - count_acked s f)) s.gap_ack_blocks then None else Some TsnRequestNotExist)
+
+    by : (b : Bool) → nat_lt (length f.queue.inflight.chunks) (count_acked s f) ≡ b → rest ≡ None → count_acked s f ≤ length f.queue.inflight.chunks
+    by false e h = grind (arith, nat_tests, e)
+    by true e h = absurd (none-some InflightQueueTsnPop (sym h ∙ ap (λ b. if b then Some InflightQueueTsnPop else (if list_all (is_within (length f.queue.inflight.chunks - count_acked s f)) s.gap_ack_blocks then None else Some TsnRequestNotExist)) e))
+
+module _ (f : Flight) (inv : IsContiguous f) (s : Sack) (fits : s.cumulative_tsn_ack < 2 ^ 32) (ks : List (Option (List ℕ))) (end : ℕ) (far : (k : ℕ) → end ≤ k → k < length f.queue.inflight.chunks → (length ks ≤ k) × (count_acked s f + after_blocks s.gap_ack_blocks ≤ k)) where
+  abbrev all : List (Option (List ℕ))
+  all = keep_each s f.queue.inflight.chunks ks
+
+  -- behind the end nothing is kept
+  nothing-behind : (k : ℕ) → end ≤ k → get_or all k None ≡ None
+  nothing-behind k le = elim (cases_lt k (length f.queue.inflight.chunks)) [
+    | inl lt ↦
+        let c : ChunkPayloadData = get_or f.queue.inflight.chunks k any_chunk in
+        let b = far k le lt in
+        kept-at s f.queue.inflight.chunks ks k any_chunk lt
+        ∙ ap (λ r. if r then Some c.user_data else get_or ks k None) (beyond f inv s fits k any_chunk b.1 lt)
+        ∙ get_or_past ks k None b.0
+    | inr ge ↦ get_or_past all k None (let n = length-keep_each s f.queue.inflight.chunks ks in omega (arith, n, ge))
+  ]
+
+  pub kept-is : is_outdated s f ≡ false → count_acked s f ≤ end → trimmed (drop (count_acked s f) (take end all)) ≡ kept_after s f ks
+  kept-is current le =
+      let n : ℕ = count_acked s f in
+      let same : n + (end - n) ≡ end = omega (arith, le) in
+      ap (λ k. trimmed (drop n (take k all))) (sym same) ∙ ap trimmed (drop-take n (end - n) all)
+      ∙ sym (trimmed-front (end - n) (drop n all) (λ k h. get_or-drop n all k None ∙ nothing-behind (n + k) (omega (arith, h, le))))
+      ∙ ap (λ b. if b then ks else trimmed (drop n all)) (sym current)
+
+-- ## What comes back has bytes
+
+pub restored-settled : (bs : List (Option (List ℕ))) (cs : List ChunkPayloadData) → AreSettled cs → AreSettled (restored bs cs)
+restored-settled [] cs a = a
+restored-settled (b ∷ bs) [] a = a
+restored-settled (None ∷ bs) (c ∷ cs) a = (a.0, restored-settled bs cs a.1)
+restored-settled (Some bytes ∷ bs) (c ∷ cs) a = ((λ e. absurd (false≢true e)), restored-settled bs cs a.1)
+
+module _ (s : Sack) where
+  -- what comes back of a chunk is all that it has then
+  pub back-bytes : (cs : List ChunkPayloadData) (ks : List (Option (List ℕ))) → AreSettled cs → bytes_of (restored (back_each s cs ks) cs) ≡ bytes_of cs + weight (back_each s cs ks)
+  back-bytes cs [] a = omega arith
+  back-bytes [] (k ∷ ks) a = refl
+  back-bytes (c ∷ cs) (k ∷ ks) a = by c.acked c.abandoned (reports s c) k a.0 (back-bytes cs ks a.1)
+    where
+      more : List (Option (List ℕ))
+      more = back_each s cs ks
+
+      none : bytes_of (restored more cs) ≡ bytes_of cs + weight more → bytes_of (c ∷ restored more cs) ≡ bytes_of (c ∷ cs) + weight (None ∷ more)
+      none h =
+          let a = sum_by-cons (λ (x : ChunkPayloadData). length x.user_data) c (restored more cs) in
+          let b = sum_by-cons (λ (x : ChunkPayloadData). length x.user_data) c cs in
+          let w = sum_by-cons size None more in
+          omega (arith, a, b, w, h)
+
+      some : (bytes : List ℕ) → length c.user_data ≡ 0 → bytes_of (restored more cs) ≡ bytes_of cs + weight more → bytes_of (as_taken_back bytes c ∷ restored more cs) ≡ bytes_of (c ∷ cs) + weight (Some bytes ∷ more)
+      some bytes z h =
+          let a = sum_by-cons (λ (x : ChunkPayloadData). length x.user_data) (as_taken_back bytes c) (restored more cs) in
+          let b = sum_by-cons (λ (x : ChunkPayloadData). length x.user_data) c cs in
+          let w = sum_by-cons size (Some bytes) more in
+          omega (arith, a, b, w, z, h)
+
+      by : (acked abandoned reported : Bool) (k : Option (List ℕ)) → (acked ≡ true → length c.user_data ≡ 0) → bytes_of (restored more cs) ≡ bytes_of cs + weight more → (let b : Option (List ℕ) = if (acked && not abandoned) && not reported then k else None in bytes_of (restored_with b c ∷ restored more cs) ≡ bytes_of (c ∷ cs) + weight (b ∷ more))
+      by false abandoned reported k z h = none h
+      by true true reported k z h = none h
+      by true false true k z h = none h
+      by true false false None z h = none h
+      by true false false (Some bytes) z h = some bytes (z refl) h
+
+pub restored-all-settled : (bs : List (Option (List ℕ))) (f : Flight) → IsAllSettled f.queue → IsAllSettled (with_restored bs f).queue
+restored-all-settled bs f a = record { ordered = a.ordered; unordered = a.unordered; inflight = restored-settled bs f.queue.inflight.chunks a.inflight }

@@ -1,0 +1,65 @@
+-- What was taken back can be sent again.
+use Rattle.std.proofs.Common.{◌≡◌, ℕ, zero, suc, ◌<◌, Bool, true, false, List, [], ◌∷◌, length, get_or, Option, Some, None, refl, ap, sym, ◌∙◌, arith}
+use Rattle.std.specs.Prelude.{◌&&◌, not, find, if◌then◌else◌}
+use Rattle.std.specs.List.{All}
+use Rattle.std.proofs.lemmas.Bool.{false≢true}
+use Rattle.std.proofs.lemmas.Option.{none-some}
+use Rattle.sctp_chunks.specs.declared.chunk.chunk_payload_data.ChunkPayloadData.{ChunkPayloadData}
+use Rattle.sctp_chunks.specs.SelectiveAck.{Sack}
+use Rattle.sctp_outbound.specs.Marks.{as_taken_back}
+use Rattle.sctp_serial.specs.DataChunks.{following_tsn, has_tsn}
+use Rattle.sctp_sender.specs.declared.sender.flight.keeping.TakenBack.{TakenBack}
+use Rattle.sctp_sender.specs.Flight.{Flight, IsContiguous, can_resend, is_outstanding_in, reports}
+use Rattle.sctp_sender.specs.Keeping.{back_each, restored, restored_with, takes_back, told_back, with_restored}
+use Rattle.sctp_sender.proofs.Keepings.{length-restored, restored-contiguous}
+use Rattle.sctp_sender.proofs.Runs.{found-at, tsn-at}
+
+abbrev told_at : ChunkPayloadData → List ℕ → TakenBack
+told_at c bytes = record { tsn = c.tsn; stream = c.stream_identifier; bytes = length bytes; message = c.message_id }
+
+-- what holds of each place with which something comes back holds of all that is told
+told-all : (P : TakenBack → Type 0) (bs : List (Option (List ℕ))) (cs : List ChunkPayloadData) → ((i : ℕ) (d : ChunkPayloadData) (bytes : List ℕ) → i < length cs → get_or bs i None ≡ Some bytes → P (told_at (get_or cs i d) bytes)) → All P (told_back bs cs)
+told-all P [] cs h k d lt = absurd (omega (arith, lt))
+told-all P (b ∷ bs) [] h k d lt = absurd (omega (arith, lt))
+told-all P (None ∷ bs) (c ∷ cs) h k d lt = told-all P bs cs (λ i x bytes less e. h (suc i) x bytes (omega (arith, less)) e) k d lt
+told-all P (Some bytes ∷ bs) (c ∷ cs) h zero d lt = h 0 c bytes (omega arith) refl
+told-all P (Some bytes ∷ bs) (c ∷ cs) h (suc k) d lt = told-all P bs cs (λ i x more less e. h (suc i) x more (omega (arith, less)) e) k d (omega (arith, lt))
+
+restored-at : (bs : List (Option (List ℕ))) (cs : List ChunkPayloadData) (i : ℕ) (d : ChunkPayloadData) (bytes : List ℕ) → i < length cs → get_or bs i None ≡ Some bytes → get_or (restored bs cs) i d ≡ as_taken_back bytes (get_or cs i d)
+restored-at [] cs i d bytes lt e = absurd (none-some bytes e)
+restored-at (b ∷ bs) [] i d bytes lt e = absurd (omega (arith, lt))
+restored-at (b ∷ bs) (c ∷ cs) zero d bytes lt e = ap (λ k. restored_with k c) e
+restored-at (b ∷ bs) (c ∷ cs) (suc i) d bytes lt e = restored-at bs cs i d bytes (omega (arith, lt)) e
+
+module _ (s : Sack) where
+  passes : (b : Bool) (k : Option (List ℕ)) (bytes : List ℕ) → (if b then k else None) ≡ Some bytes → b ≡ true
+  passes true k bytes e = refl
+  passes false k bytes e = absurd (none-some bytes e)
+
+  back-at : (cs : List ChunkPayloadData) (ks : List (Option (List ℕ))) (i : ℕ) (d : ChunkPayloadData) (bytes : List ℕ) → get_or (back_each s cs ks) i None ≡ Some bytes → takes_back s (get_or cs i d) ≡ true
+  back-at cs [] i d bytes e = absurd (none-some bytes e)
+  back-at [] (k ∷ ks) i d bytes e = absurd (none-some bytes e)
+  back-at (c ∷ cs) (k ∷ ks) zero d bytes e = passes (takes_back s c) k bytes e
+  back-at (c ∷ cs) (k ∷ ks) (suc i) d bytes e = back-at cs ks i d bytes e
+
+  open' : (acked abandoned reported : Bool) → ((acked && not abandoned) && not reported) ≡ true → not abandoned ≡ true
+  open' true true reported e = absurd (false≢true e)
+  open' true false reported e = refl
+  open' false abandoned reported e = absurd (false≢true e)
+
+  pub outstanding : (f : Flight) → IsContiguous f → (ks bs : List (Option (List ℕ))) → bs ≡ back_each s f.queue.inflight.chunks ks → All (λ r. can_resend r.tsn (with_restored bs f) ≡ true) (told_back bs f.queue.inflight.chunks)
+  outstanding f inv ks bs is = told-all (λ r. can_resend r.tsn (with_restored bs f) ≡ true) bs cs here
+    where
+      cs : List ChunkPayloadData
+      cs = f.queue.inflight.chunks
+
+      here : (i : ℕ) (d : ChunkPayloadData) (bytes : List ℕ) → i < length cs → get_or bs i None ≡ Some bytes → is_outstanding_in (find (has_tsn (get_or cs i d).tsn) (restored bs cs)) ≡ true
+      here i d bytes lt e =
+          let after = restored-contiguous bs f inv in
+          let n = length-restored bs cs in
+          let tsn = tsn-at cs (following_tsn f.acked_tsn) i d (omega arith) inv.run lt in
+          let found = found-at (restored bs cs) (following_tsn f.acked_tsn) i d (omega arith) after.run after.few (omega (arith, n, lt)) in
+          let back = back-at cs ks i d bytes (ap (λ xs. get_or xs i None) (sym is) ∙ e) in
+          ap (λ t. is_outstanding_in (find (has_tsn t) (restored bs cs))) tsn
+          ∙ ap is_outstanding_in (found ∙ ap Some (restored-at bs cs i d bytes lt e))
+          ∙ open' (get_or cs i d).acked (get_or cs i d).abandoned (reports s (get_or cs i d)) back

@@ -1,0 +1,10 @@
+use Rattle.std.proofs.Common.{◌≡◌, ◌+◌, ◌^◌, ◌<◌, take}
+use Rattle.sctp_outbound.specs.outbound_queue.OutboundQueue.{total_bytes}
+use Rattle.sctp_sender.specs.Keeping.{bytes_back}
+use Rattle.sctp_sender.proofs.sender.keeping.is_room_for.Given as goal
+
+abbrev pub invariant-loop-one : goal.invariant-loop-one
+invariant-loop-one l = record {
+  sum : l.all ≡ total_bytes l.queue + bytes_back (take l.one-index l.told);
+  fits : l.all < 2 ^ 64;
+}

@@ -1,0 +1,21 @@
+use Rattle.std.proofs.Common.{◌+◌, List, drop, ap, sym, ◌∙◌}
+use Rattle.std.proofs.lemmas.List.{at_drop_more, drop_all}
+use Rattle.sctp_stream.specs.declared.stream.StreamState.{StreamState}
+use Rattle.sctp_sender.specs.declared.sender.flight.keeping.TakenBack.{TakenBack}
+use Rattle.sctp_sender.specs.Keeping.{after_returns}
+use Rattle.sctp_sender.proofs.sender.keeping.return_each.Goals as goal
+
+-- any chunk, where a look-up asks for one to fall back on
+abbrev any_one : TakenBack
+any_one = record { tsn = 0; stream = 0; bytes = 0; message = 0 }
+
+pub loop-one-preserved : goal.loop-one-preserved
+loop-one-preserved c =
+    let rs = c.args.told.now in
+    let i = c.loop-one.one-index in
+    c.loop-one.invariant ∙ at_drop_more (λ ts. after_returns ts c.loop-one.streams) rs i any_one c.loop-one-test.true ∙ ap (λ (ls : List StreamState). after_returns (drop (i + 1) rs) ls) (sym c.raise.ensures)
+
+pub returns : goal.returns
+returns c =
+    let none = drop_all c.loop-one.one-index c.args.told.now c.loop-one-test.false in
+    sym (c.loop-one.invariant ∙ ap (λ ts. after_returns ts c.loop-one.streams) none)

@@ -1,0 +1,107 @@
+-- What a sender keeps of the chunks that gap ack blocks reported, and what a SACK takes back of that (RFC 4960 6.2.1 D iv).
+use Rattle.std.specs.Prelude.{ℕ, Bool, not, ◌&&◌, if◌then◌else◌, List, [], ◌∷◌, ◌++◌, length, drop, Option, Some, None}
+use Rattle.std.specs.List.{sum_by}
+use Rattle.sctp_list_lemmas.specs.Lists.{change_where}
+use Rattle.sctp_chunks.specs.declared.chunk.chunk_payload_data.ChunkPayloadData.{ChunkPayloadData}
+use Rattle.sctp_chunks.specs.SelectiveAck.{Sack}
+use Rattle.sctp_outbound.specs.Marks.{as_taken_back}
+use Rattle.sctp_outbound.specs.outbound_queue.OutboundQueue.{with_inflight}
+use Rattle.sctp_stream.specs.Stats.{count_up}
+use Rattle.sctp_stream.specs.declared.stream.StreamState.{StreamState}
+use Rattle.sctp_sender.specs.declared.sender.flight.keeping.TakenBack.{TakenBack}
+use Rattle.sctp_sender.specs.Flight.{Flight, count_acked, is_outdated, reports, reports_anew, with_queue}
+use Rattle.sctp_sender.specs.Outgoing.{has_number}
+
+-- ## What is kept, place by place in flight: the user data of a chunk, or nothing; and nothing behind the list
+
+-- of this place and those behind it, as far as something is kept
+abbrev pub kept_from : Option (List ℕ) → List (Option (List ℕ)) → List (Option (List ℕ))
+kept_from None [] = []
+kept_from None (k ∷ ks) = None ∷ k ∷ ks
+kept_from (Some bytes) ks = Some bytes ∷ ks
+
+-- as far as something is kept
+abbrev pub trimmed : List (Option (List ℕ)) → List (Option (List ℕ))
+trimmed [] = []
+trimmed (k ∷ ks) = kept_from k (trimmed ks)
+
+-- a chunk that a SACK reports anew: its user data; any other: what was kept of it before
+abbrev pub keep : Sack → ChunkPayloadData → Option (List ℕ) → Option (List ℕ)
+keep s c k = if reports_anew s c then Some c.user_data else k
+
+abbrev pub keep_each : Sack → List ChunkPayloadData → List (Option (List ℕ))
+    → List (Option (List ℕ))
+keep_each s [] ks = []
+keep_each s (c ∷ cs) [] = keep s c None ∷ keep_each s cs []
+keep_each s (c ∷ cs) (k ∷ ks) = keep s c k ∷ keep_each s cs ks
+
+-- what is kept after a SACK: nothing of what it reports cumulatively
+abbrev pub kept_after : Sack → Flight → List (Option (List ℕ)) → List (Option (List ℕ))
+kept_after s f ks =
+    if is_outdated s f then ks
+    else trimmed (drop (count_acked s f) (keep_each s f.queue.inflight.chunks ks))
+
+-- ## What comes back
+
+-- an earlier SACK reported the chunk, its message is not abandoned, and this one does not report it
+abbrev pub takes_back : Sack → ChunkPayloadData → Bool
+takes_back s c = (c.acked && not c.abandoned) && not (reports s c)
+
+-- what is kept of it comes back, if it is so
+abbrev pub back_of : Sack → ChunkPayloadData → Option (List ℕ) → Option (List ℕ)
+back_of s c k = if takes_back s c then k else None
+
+abbrev pub back_each : Sack → List ChunkPayloadData → List (Option (List ℕ))
+    → List (Option (List ℕ))
+back_each s cs [] = []
+back_each s [] (k ∷ ks) = []
+back_each s (c ∷ cs) (k ∷ ks) = back_of s c k ∷ back_each s cs ks
+
+-- by a SACK that is out of date nothing
+abbrev pub coming_back : Sack → Flight → List (Option (List ℕ)) → List (Option (List ℕ))
+coming_back s f ks = if is_outdated s f then [] else back_each s f.queue.inflight.chunks ks
+
+-- the chunk is outstanding again, with what comes back of it
+abbrev pub restored_with : Option (List ℕ) → ChunkPayloadData → ChunkPayloadData
+restored_with None c = c
+restored_with (Some bytes) c = as_taken_back bytes c
+
+abbrev pub restored : List (Option (List ℕ)) → List ChunkPayloadData → List ChunkPayloadData
+restored [] cs = cs
+restored (b ∷ bs) [] = []
+restored (b ∷ bs) (c ∷ cs) = restored_with b c ∷ restored bs cs
+
+abbrev pub with_restored : List (Option (List ℕ)) → Flight → Flight
+with_restored bs f =
+    with_queue f (with_inflight f.queue (restored bs f.queue.inflight.chunks))
+
+-- ## What is told of it
+
+abbrev pub told_of : Option (List ℕ) → ChunkPayloadData → List TakenBack
+told_of None c = []
+told_of (Some bytes) c =
+    record {
+      tsn = c.tsn;
+      stream = c.stream_identifier;
+      bytes = length bytes;
+      message = c.message_id;
+    } ∷ []
+
+abbrev pub told_back : List (Option (List ℕ)) → List ChunkPayloadData → List TakenBack
+told_back [] cs = []
+told_back (b ∷ bs) [] = []
+told_back (b ∷ bs) (c ∷ cs) = told_of b c ++ told_back bs cs
+
+-- the bytes of all
+abbrev pub bytes_back : List TakenBack → ℕ
+bytes_back rs = sum_by (λ r. r.bytes) rs
+
+-- so many bytes wait and are in flight again, up to the greatest usize
+abbrev pub more_by : ℕ → StreamState → StreamState
+more_by bytes l = record l { buffered_amount = count_up l.buffered_amount bytes }
+
+-- each stream has more by what came back of it, one chunk after another
+abbrev pub after_returns : List TakenBack → List StreamState → List StreamState
+after_returns [] ls = ls
+after_returns (r ∷ rs) ls =
+    after_returns rs (change_where (has_number r.stream) (more_by r.bytes) ls)
