@@ -11,7 +11,7 @@ use Rattle.sctp_receiver.specs.declared.receiver.refusal.ReceiverRefusal.{Receiv
 use Rattle.sctp_receiver.specs.declared.receiver.refusal.ReceiverRefusal.TheVariants.{OutOfMemory}
 use Rattle.sctp_receiver.specs.declared.receiver.inbound_streams.InboundStream.{InboundStream}
 use Rattle.sctp_receiver.specs.Inbound.{numbers_of, number, has_number, with_queue}
-use Rattle.sctp_receiver.specs.Receiver.{Reception, Takes, TakesFirst, TakesEach, StopsAt, IsRefusedFor, data_refusal}
+use Rattle.sctp_receiver.specs.Receiver.{Reception, Takes, TakesFirst, TakesEach, StopsAt, IsRefusedFor, arrival_refusal}
 use Rattle.sctp_receiver.proofs.Inbounds.{pushed-number}
 
 -- one more is taken
@@ -55,6 +55,6 @@ each-keeps (c ∷ cs) (b ∷ bs) old new t =
     (others.0 ∙ one.0, others.1 ∙ one.1)
 
 -- the next one is refused, or memory ran out
-pub stops : (cs : List ChunkPayloadData) (bs : List Arrival) (i : ℕ) (c : ChunkPayloadData) (old mid : Reception) (e : ReceiverRefusal) → TakesEach (take i cs) bs old mid → slice_get cs i ≡ Some c → IsRefusedFor (data_refusal c mid) e → (e ≡ OutOfMemory) ⊎ StopsAt cs old e
+pub stops : (cs : List ChunkPayloadData) (bs : List Arrival) (i : ℕ) (c : ChunkPayloadData) (old mid : Reception) (e : ReceiverRefusal) → TakesEach (take i cs) bs old mid → slice_get cs i ≡ Some c → IsRefusedFor (arrival_refusal c mid) e → (e ≡ OutOfMemory) ⊎ StopsAt cs old e
 stops cs bs i c old mid e t at (inl h) = inl h.0
 stops cs bs i c old mid e t at (inr h) = inr (record { count = i; arrivals = bs; mid = mid; taken = t; chunk = c; next = at; refused = h })

@@ -1,16 +1,19 @@
 -- Worked examples, by computation.
 use Rattle.std.proofs.Common.{◌≡◌, ℕ, Bool, true, false, List, [], ◌∷◌, Some, None, refl}
 use Rattle.sctp_chunks.specs.ChunkSet.{fresh}
+use Rattle.sctp_chunks.specs.ForwardTsn.{ForwardTsn}
 use Rattle.sctp_chunks.specs.declared.chunk.chunk_payload_data.PayloadProtocolIdentifier.TheVariants as identifiers
 use Rattle.sctp_chunks.specs.declared.chunk.chunk_payload_data.ChunkPayloadData.{ChunkPayloadData}
 use Rattle.sctp_list_lemmas.specs.Serial.{distance, comes_before, at_or_before, comes_before16, at_or_before16, distance16}
 use Rattle.sctp_receiver.specs.declared.receiver.limits.Limits.{Limits}
-use Rattle.sctp_receiver.specs.declared.receiver.refusal.ReceiverRefusal.TheVariants.{StreamUnknown, MessageTooLarge, TsnTooFar, WindowFull}
+use Rattle.sctp_receiver.specs.declared.receiver.refusal.ReceiverRefusal.TheVariants.{StreamUnknown, MessageTooLarge, TsnTooFar, WindowFull, SsnTooFar, NamedStreamUnknown, NamedSsnTooFar}
 use Rattle.sctp_receiver.specs.declared.receiver.arrival.Arrival.TheVariants.{New, Repeat}
 use Rattle.sctp_receiver.specs.Inbound.{new_stream, has_number, with_queue}
-use Rattle.sctp_receiver.specs.Receiver.{Reception, at_first, open_stream, data_refusal, filter_of, with_filter, repeat_tsn, TakesEach, discard_refusal, window}
+use Rattle.sctp_receiver.specs.Receiver.{Reception, at_first, open_stream, data_refusal, arrival_refusal, filter_of, with_filter, repeat_tsn, TakesEach, discard_refusal, window}
 use Rattle.sctp_list_lemmas.specs.Lists.{change_where}
-use Rattle.sctp_reassembly.specs.reassembly_queue.ReassemblyQueue.{ReassemblyState, after_ordered_push}
+use Rattle.sctp_reassembly.specs.reassembly_queue.ReassemblyQueue.{Reassembly, ReassemblyState, after_ordered_push}
+use Rattle.sctp_receiver.specs.Ssns.{lowest_ssn, is_ssn_too_far, is_name_too_far}
+use Rattle.sctp_receiver.specs.Skips.{skip_refusal, past_closed_refusal}
 use Rattle.sctp_receiver.specs.TsnFilter.{Filter, with_tsn, skipped_to, gap_ack_blocks, has_come, is_opposite}
 
 -- TSNs 15, 14 and 17 came beyond 12: so RFC 4960 3.3.4 shows its blocks
@@ -187,3 +190,75 @@ all_left = refl
 
 no_limits : window (at_first 7 2 None) ≡ 4294967295
 no_limits = refl
+
+-- ## Stream sequence numbers
+
+-- message 0 is complete, and a FORWARD-TSN went past the messages up to 9
+abbrev below_ten : Reassembly
+below_ten = record (after_ordered_push (one_byte 7) (new_stream 1 100).queue).held { next_ssn = 10 }
+
+lowest : lowest_ssn below_ten ≡ 0
+unfolding at_or_before16 comes_before16 distance16
+lowest = refl
+
+-- once it is read the next number is the lowest one
+lowest_read : lowest_ssn (record below_ten { ordered = [] }) ≡ 10
+lowest_read = refl
+
+last_near : is_ssn_too_far 32767 below_ten ≡ false
+unfolding at_or_before16 comes_before16 distance16
+last_near = refl
+
+first_far : is_ssn_too_far 32768 below_ten ≡ true
+unfolding at_or_before16 comes_before16 distance16
+first_far = refl
+
+-- past a complete message names end one earlier; the last 2^14 numbers before it are of old names
+last_name : is_name_too_far 32766 below_ten ≡ false
+unfolding at_or_before16 comes_before16 distance16
+last_name = refl
+
+past_complete : is_name_too_far 32767 below_ten ≡ true
+unfolding at_or_before16 comes_before16 distance16
+past_complete = refl
+
+may_be_old : is_name_too_far 49151 below_ten ≡ true
+unfolding at_or_before16 comes_before16 distance16
+may_be_old = refl
+
+is_old : is_name_too_far 49152 below_ten ≡ false
+unfolding at_or_before16 comes_before16 distance16
+is_old = refl
+
+past_nothing : is_name_too_far 32767 (new_stream 1 100).queue.held ≡ false
+unfolding at_or_before16 comes_before16 distance16
+past_nothing = refl
+
+-- of 32,770 messages of one fragment the last one comes first
+abbrev last_of_many : ChunkPayloadData
+last_of_many = record (fragment 32770 true true (1 ∷ [])) { stream_sequence_number = 32769 }
+
+last_first : arrival_refusal last_of_many (open_stream 1 (at_first 1 100 None)) ≡ Some SsnTooFar
+unfolding distance at_or_before comes_before at_or_before16 comes_before16 distance16
+last_first = refl
+
+-- a FORWARD-TSN that names a stream that is not open, and one that names too far ahead on one that is
+abbrev skip_naming : ℕ → ℕ → ForwardTsn
+skip_naming stream ssn = record { new_cumulative_tsn = 9; streams = record { identifier = stream; sequence = ssn } ∷ [] }
+
+closed_named : skip_refusal (skip_naming 2 0) (open_stream 1 (at_first 1 100 None)) ≡ Some NamedStreamUnknown
+unfolding distance at_or_before comes_before at_or_before16 comes_before16 distance16
+closed_named = refl
+
+closed_passed : past_closed_refusal (skip_naming 2 0) (open_stream 1 (at_first 1 100 None)) ≡ None
+unfolding distance at_or_before comes_before at_or_before16 comes_before16 distance16
+closed_passed = refl
+
+far_named : skip_refusal (skip_naming 1 32768) (open_stream 1 (at_first 1 100 None)) ≡ Some NamedSsnTooFar
+unfolding distance at_or_before comes_before at_or_before16 comes_before16 distance16
+far_named = refl
+
+-- a stale one is not refused
+stale_named : skip_refusal (skip_naming 2 0) (at_first 10 100 None) ≡ None
+unfolding distance at_or_before comes_before at_or_before16 comes_before16 distance16
+stale_named = refl

@@ -11,6 +11,7 @@ pub mod Weights
 pub mod CompleteMessages
 pub mod OneMessage
 pub mod Readable
+pub mod Ssns
 pub mod Handed
 pub mod Closed
 pub mod CostSums

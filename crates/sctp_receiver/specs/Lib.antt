@@ -3,6 +3,7 @@ pub mod Inbound
 pub mod Receiver
 pub mod Refusals
 pub mod Limits
+pub mod Ssns
 pub mod Resets
 pub mod Skips
 pub mod ReceiverRuns

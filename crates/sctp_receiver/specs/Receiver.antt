@@ -12,13 +12,14 @@ use Rattle.sctp_reassembly.specs.reassembly_queue.ReassemblyQueue.{ReassemblySta
 use Rattle.sctp_receiver.specs.declared.receiver.inbound_streams.InboundStream.{InboundStream}
 use Rattle.sctp_receiver.specs.declared.receiver.limits.Limits.{Limits}
 use Rattle.sctp_receiver.specs.declared.receiver.refusal.ReceiverRefusal.{ReceiverRefusal}
-use Rattle.sctp_receiver.specs.declared.receiver.refusal.ReceiverRefusal.TheVariants.{StreamUnknown, TsnOpposite, MessageTooLarge, OutOfMemory}
+use Rattle.sctp_receiver.specs.declared.receiver.refusal.ReceiverRefusal.TheVariants.{StreamUnknown, TsnOpposite, SsnTooFar, MessageTooLarge, OutOfMemory}
 use Rattle.sctp_receiver.specs.declared.receiver.arrival.Arrival.{Arrival}
 use Rattle.sctp_receiver.specs.declared.receiver.arrival.Arrival.TheVariants.{New, Repeat}
 use Rattle.sctp_receiver.specs.declared.receiver.arrival.Forwarded.{Forwarded}
 use Rattle.sctp_receiver.specs.declared.receiver.arrival.Forwarded.TheVariants.{Skipped, Stale}
 use Rattle.sctp_receiver.specs.Inbound.{number, has_number, new_stream, with_queue, Pushes, stream_read, named_forwarded, unassembled_forwarded}
 use Rattle.sctp_receiver.specs.Limits.{refusal_by, window_left}
+use Rattle.sctp_receiver.specs.Ssns.{is_too_far_on}
 use Rattle.sctp_receiver.specs.TsnFilter.{Filter, has_come, is_opposite, with_tsn, with_duplicate, skipped_to, gap_ack_blocks}
 use Rattle.sctp_serial.specs.DataChunks.{preceding_tsn}
 
@@ -84,12 +85,18 @@ abbrev pub stream_refusal : ChunkPayloadData → Option InboundStream → Option
 stream_refusal c None = Some StreamUnknown
 stream_refusal c (Some l) = if is_too_large c l.queue then Some MessageTooLarge else None
 
--- why a chunk is not taken: of one whose TSN came nothing but that is told
+-- why a chunk is not taken, whatever its stream sequence number: of one whose TSN came nothing but that is told
 abbrev pub data_refusal : ChunkPayloadData → Reception → Option ReceiverRefusal
 data_refusal c r =
     if has_come c.tsn (filter_of r) then None
     else (if is_opposite c.tsn (filter_of r) then Some TsnOpposite
     else option_or (new_refusal c.tsn r) (stream_refusal c (stream_of c.stream_identifier r)))
+
+-- the same, with a test first: an ordered chunk with a new TSN, whose number can't be told from one that was read
+abbrev pub arrival_refusal : ChunkPayloadData → Reception → Option ReceiverRefusal
+arrival_refusal c r =
+    if not (has_come c.tsn (filter_of r)) && is_too_far_on c (stream_of c.stream_identifier r)
+    then Some SsnTooFar else data_refusal c r
 
 -- a refusal by its reason where there is one, and for memory only where there is none
 abbrev pub IsRefusedFor : Option ReceiverRefusal → ReceiverRefusal → Type 0
@@ -128,7 +135,7 @@ Takes c Repeat old new = new ≡ repeat_tsn c.tsn old
 
 -- several, one after another: none is refused, and each has its answer
 pub record TakesFirst (c : ChunkPayloadData) (a : Arrival) (old mid : Reception) : Type 0 where
-  pub accepted : data_refusal c old ≡ None
+  pub accepted : arrival_refusal c old ≡ None
   pub answer : a ≡ arrival_of c.tsn (is_told_complete a) old
   pub taken : Takes c a old mid
 
@@ -148,7 +155,7 @@ pub record StopsAt (cs : List ChunkPayloadData) (old : Reception)
   pub taken : TakesEach (take count cs) arrivals old mid
   pub chunk : ChunkPayloadData
   pub next : slice_get cs count ≡ Some chunk
-  pub refused : data_refusal chunk mid ≡ Some e
+  pub refused : arrival_refusal chunk mid ≡ Some e
 
 -- whether memory may be asked for: a duplicate is to be noted, or a fragment to be kept
 abbrev pub takes_memory : ChunkPayloadData → Reception → Bool

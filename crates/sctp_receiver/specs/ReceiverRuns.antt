@@ -17,7 +17,8 @@ use Rattle.sctp_serial.specs.DataChunks.{is_on}
 
 -- ## One call
 
--- a call that is not refused, with its arguments and whether the chunk was new; a refused one changes nothing
+-- a call that is not refused, with its arguments and whether the chunk was new; a refused one changes nothing. A call that tests
+-- stream sequence numbers or names first makes the same step as the one that does not
 pub data Call : Type 0 where
   opens : ℕ → Call
   closes : ℕ → Call

@@ -15,6 +15,7 @@ pub mod resetting;
 pub mod sack_out;
 pub mod saved;
 pub mod skipping;
+mod ssns;
 pub mod tsn_filter;
 
 use self::arrival::{Arrival, Forwarded};
@@ -65,9 +66,10 @@ impl Model for Receiver {
 impl Receiver {
     ghost use Rattle.sctp_chunks.specs.ForwardTsn.{forward_tsn_of};
     ghost use Rattle.sctp_reassembly.specs.reassembly_queue.ReassemblyQueue.{at_start};
-    ghost use Rattle.sctp_receiver.specs.TsnFilter.{mark};
+    ghost use Rattle.sctp_receiver.specs.Ssns.{is_kept_on};
+    ghost use Rattle.sctp_receiver.specs.TsnFilter.{has_come, mark};
     ghost use Rattle.sctp_serial.specs.DataChunks.{bytes_of};
-    ghost use Rattle.sctp_receiver.specs.Receiver.{at_first, stream_of, is_open, open_stream, close_stream, data_refusal, IsRefusedFor, takes_memory, arrival_of, is_told_complete, Takes, discard_refusal, after_discard, message_on, readable_streams, after_read, forward_refusal, forwarded_of, after_forward};
+    ghost use Rattle.sctp_receiver.specs.Receiver.{at_first, filter_of, stream_of, is_open, open_stream, close_stream, data_refusal, arrival_refusal, IsRefusedFor, takes_memory, arrival_of, is_told_complete, Takes, discard_refusal, after_discard, message_on, readable_streams, after_read, forward_refusal, forwarded_of, after_forward};
 
     /// A receiver with no stream, to which nothing came. The first TSN is expected next, and a message may have
     /// `max_message_size` bytes. The limits stay as they are handed in; where there are none, nothing is refused for them. It takes no
@@ -111,6 +113,9 @@ impl Receiver {
     /// and `Repeat`, where it came before or a FORWARD-TSN skipped it: then the next SACK reports it as a duplicate. The refusals, in
     /// the order in which they are looked for, of a TSN that did not come:
     ///
+    /// - `SsnTooFar`, where it is ordered, its stream is open, and its stream sequence number lies 2^15 or more, modulo 2^16, past the
+    ///   lowest one that is still to be read (RFC 1982 3.2; RFC 4960 6.5, 6.6). That is the number expected next, or the first one of
+    ///   the complete messages before it that were not read, which a FORWARD-TSN went past;
     /// - `TsnOpposite`, where the TSN is neither before nor after the cumulative one;
     /// - `TsnTooFar`, where it lies more than the `reach` of the limits past the cumulative one;
     /// - `WindowFull`, where it is past the highest TSN that came, and `held_bytes` is no less than the `window` of the limits: a chunk
@@ -119,8 +124,33 @@ impl Receiver {
     /// - `MessageTooLarge`, where its message would be longer with it than a message may be;
     /// - `OutOfMemory`, where memory ran out: never in the place of another one.
     ///
-    /// The receiver is as it was then. The chunk that is expected next passes no filter.
+    /// The receiver is as it was then. So no message is lost in silence: an ordered chunk that is taken as new is kept, unless a
+    /// FORWARD-TSN went past its message (`kept`). The chunk that is expected next passes no filter.
     pub fn data(&mut self, chunk: &ChunkPayloadData) -> Result<Arrival, ReceiverRefusal>
+        ensures answer { IfOk result (λ arrival. arrival
+            ≡ arrival_of chunk.now.tsn (is_told_complete arrival) self.old) }
+        ensures ok { IfOk result (λ arrival. Takes chunk.now arrival self.old self.new) }
+        ensures accepted { IsOk result → arrival_refusal chunk.now self.old ≡ None }
+        ensures kept { IsOk result → has_come chunk.now.tsn (filter_of self.old) ≡ false
+            → is_kept_on chunk.now (stream_of chunk.now.stream_identifier self.old) ≡ true }
+        ensures refused { IfErr result
+            (λ e. IsRefusedFor (arrival_refusal chunk.now self.old) e) }
+        ensures wants { IfErr result (λ e. e ≡ OutOfMemory
+            → takes_memory chunk.now self.old ≡ true) }
+        ensures err { OnErr result (self.new ≡ self.old) }
+    {
+        if self.is_new_too_far(chunk) {
+            return Err(ReceiverRefusal::SsnTooFar);
+        }
+        self.data_with_any_ssn(chunk)
+    }
+
+    /// Takes a DATA chunk as `data` does, but for `SsnTooFar`: an ordered one of any stream sequence number, as a replay of a record
+    /// may want it. Its TSN counts as come where it is not kept too, because its number comes before the next one.
+    pub fn data_with_any_ssn(
+        &mut self,
+        chunk: &ChunkPayloadData,
+    ) -> Result<Arrival, ReceiverRefusal>
         ensures answer { IfOk result (λ arrival. arrival
             ≡ arrival_of chunk.now.tsn (is_told_complete arrival) self.old) }
         ensures ok { IfOk result (λ arrival. Takes chunk.now arrival self.old self.new) }
@@ -233,10 +263,10 @@ impl Receiver {
         }
     }
 
-    /// Takes a FORWARD-TSN by what it names alone: `Skipped`, where its TSN comes after the cumulative one, and `Stale`, where
-    /// it does not; then nothing changes. What it names on a stream that is not open is passed over. An incomplete ordered message that
-    /// no name covers stays, and those behind it wait, though none of its chunks may come any more: `forward_tsn` discards it too.
-    /// Refuses with `TsnOpposite`, where its TSN is neither before nor after the cumulative one. It takes no memory.
+    /// Takes a FORWARD-TSN by what it names alone, as a replay of a record may want it: `Skipped`, where its TSN comes after the
+    /// cumulative one, and `Stale`, where it does not; then nothing changes. No name is tested, and what it names on a stream that is not
+    /// open is passed over. An incomplete ordered message that no name covers stays, and those behind it wait, though none of its chunks
+    /// may come any more: `forward_tsn` discards it too. Refuses with `TsnOpposite`, where its TSN is neither before nor after the cumulative one. It takes no memory.
     pub fn forward_tsn_by_names(
         &mut self,
         chunk: &ChunkForwardTsn,

@@ -17,6 +17,14 @@ pub enum ReceiverRefusal {
     TsnTooFar,
     /// The TSN is past the highest one that came, and nothing is left of the window (RFC 4960 6.2).
     WindowFull,
+    /// The stream sequence number of an ordered chunk lies half the circle or more past the lowest one that is still to be read, so
+    /// that it can't be told from one that was read (RFC 1982 3.2; RFC 4960 6.5).
+    SsnTooFar,
+    /// A FORWARD-TSN names a stream that is not open (RFC 3758 3.6).
+    NamedStreamUnknown,
+    /// A FORWARD-TSN names a stream sequence number that can't be told from one that was read, or past which a complete message would
+    /// be lost (RFC 1982 3.2; RFC 3758 3.6).
+    NamedSsnTooFar,
     /// The stream can't be reset yet: chunks that were sent before the reset may still come (RFC 6525 4.4).
     ResetInProgress,
     /// Memory ran out.

@@ -2,7 +2,7 @@ use Rattle.std.proofs.Common.{rules, ◌≡◌, ◌<◌, ◌+◌, ◌∙◌, ap,
 use Rattle.std.proofs.lemmas.List.{take_more}
 use Rattle.sctp_chunks.specs.declared.chunk.chunk_payload_data.ChunkPayloadData.{ChunkPayloadData}
 use Rattle.sctp_receiver.specs.declared.receiver.arrival.Arrival.{Arrival}
-use Rattle.sctp_receiver.specs.Receiver.{TakesEach, TakesFirst, data_refusal}
+use Rattle.sctp_receiver.specs.Receiver.{TakesEach, TakesFirst, arrival_refusal}
 use Rattle.std.specs.Prelude.{slice_get}
 use Rattle.std.proofs.lemmas.Option.{slice_get_read}
 use Rattle.sctp_receiver.proofs.DataEach.{takes-more, takes-keeps, stops}
@@ -21,7 +21,7 @@ loop-chunk-preserved c =
     let a = c.in_ok-arrival.arrival in
     let lt : i < length cs = omega (arith, c.loop-chunk-test.true) in
     let same : get_or cs i x ≡ x = search rules in
-    let accepted : data_refusal x old ≡ None = search rules in
+    let accepted : arrival_refusal x old ≡ None = search rules in
     let items : c.push.new.self.items ≡ c.loop-chunk.arrivals.items ++ a ∷ [] = search rules in
     let keeps = takes-keeps x a old new c.in_ok-arrival.ensures.ok in
     let first : TakesFirst x a old new = record { accepted = accepted; answer = c.in_ok-arrival.ensures.answer; taken = c.in_ok-arrival.ensures.ok } in

@@ -4,7 +4,7 @@ use Rattle.sctp_receiver.specs.Receiver.{Reception, after_forward}
 use Rattle.sctp_receiver.specs.Skips.{has_incomplete}
 use Rattle.sctp_receiver.proofs.Receptions.{reception_in}
 use Rattle.sctp_receiver.proofs.Resetting.{none-incomplete}
-use Rattle.sctp_receiver.proofs.receiver.Receiver.forward_tsn.Goals as goal
+use Rattle.sctp_receiver.proofs.receiver.Receiver.forward_tsn_past_closed.Goals as goal
 
 pub returns-in-Skipped-clause-agrees : goal.returns-in-Skipped-clause-agrees
 returns-in-Skipped-clause-agrees c = λ none.

@@ -4,7 +4,7 @@ use Rattle.sctp_receiver.specs.declared.receiver.refusal.ReceiverRefusal.{Receiv
 use Rattle.sctp_receiver.specs.declared.receiver.refusal.ReceiverRefusal.TheVariants.{OutOfMemory}
 use Rattle.sctp_receiver.specs.Receiver.{new_refusal}
 use Rattle.sctp_receiver.proofs.Receptions.{reception_in, closed, unknown, open-at, wanted}
-use Rattle.sctp_receiver.proofs.receiver.Receiver.data.Goals as goal
+use Rattle.sctp_receiver.proofs.receiver.Receiver.data_with_any_ssn.Goals as goal
 
 pub returns-in_default-place_of-clause-refused : goal.returns-in_default-place_of-clause-refused
 returns-in_default-place_of-clause-refused c =
