@@ -74,7 +74,9 @@ module _ (ns : List ℕ) (t : Transmission) (r : Reception) (ps : List StreamPro
       ∙ ap (λ l. let x : Reception = record r { limits = l } in x) (sym a.unlimited)
 
   pub transmission-is : transmission_of (sides t r ps) ≡ t
-  transmission-is = ap (λ ss. let x : Transmission = record t { streams = ss } in x) (states-joined t.streams r.streams ps alike)
+  transmission-is =
+      ap (λ ss. let x : Transmission = record t { streams = ss; kept = None } in x) (states-joined t.streams r.streams ps alike)
+      ∙ ap (λ k. let x : Transmission = record t { kept = k } in x) (sym a.forgets)
 
   -- ## A stream by its number
 
@@ -118,10 +120,10 @@ module _ (ns : List ℕ) (t : Transmission) (r : Reception) (ps : List StreamPro
   -- ## A part that changes
 
   pub with-receiver : (x : Reception) → Inbound.numbers_of x.streams ≡ Inbound.numbers_of r.streams → x.max_message_size ≡ r.max_message_size → x.limits ≡ r.limits → IsAligned ns t x ps
-  with-receiver x same size limits = record { sends = a.sends; receives = a.receives ∙ sym same; progresses = a.progresses; size = size ∙ a.size; unlimited = limits ∙ a.unlimited }
+  with-receiver x same size limits = record { sends = a.sends; receives = a.receives ∙ sym same; progresses = a.progresses; size = size ∙ a.size; unlimited = limits ∙ a.unlimited; forgets = a.forgets }
 
   pub with-progresses : (qs : List StreamProgress) → ns ≡ map (λ p. p.number) qs → IsAligned ns t r qs
-  with-progresses qs same = record { sends = a.sends; receives = a.receives; progresses = same; size = a.size; unlimited = a.unlimited }
+  with-progresses qs same = record { sends = a.sends; receives = a.receives; progresses = same; size = a.size; unlimited = a.unlimited; forgets = a.forgets }
 
   -- ## What came on a stream
 

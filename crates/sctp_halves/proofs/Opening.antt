@@ -54,10 +54,6 @@ same-numbers : (ns : List ℕ) → ns ≡ map (λ n. n) ns
 same-numbers [] = refl
 same-numbers (n ∷ ns) = ap (λ ms. n ∷ ms) (same-numbers ns)
 
-map-more : {A : Type 0} (f : A → ℕ) (xs : List A) (y : A) → map f (xs ++ y ∷ []) ≡ map f xs ++ f y ∷ []
-map-more f [] y = refl
-map-more f (x ∷ xs) y = ap (λ ns. f x ∷ ns) (map-more f xs y)
-
 pub number-undone : (s : ℕ) (ns ms : List ℕ) → IsAbsent s ns → ms ≡ filter (is_other s) (ns ++ s ∷ []) → ms ≡ ns
 number-undone s ns ms absent e =
     e ∙ undone (λ n. n) ns s s refl (λ k z. absent k (ap (λ ks. slice_get ks k) (same-numbers ns) ∙ z))
@@ -79,6 +75,7 @@ module _ (ns : List ℕ) (t : Transmission) (r : Reception) (ps : List StreamPro
     progresses = is ∙ a.progresses ∙ ap (map (λ p. p.number)) (sym put);
     size = ap (λ (z : Reception). z.max_message_size) received ∙ a.size ∙ ap (λ (z : Transmission). z.max_message_size) (sym sent);
     unlimited = ap (λ (z : Reception). z.limits) received ∙ a.unlimited;
+    forgets = ap (λ (z : Transmission). z.kept) sent ∙ a.forgets;
   }
 
   pub sides-same : sides x y qs ≡ sides t r ps
@@ -96,15 +93,6 @@ module _ (ns : List ℕ) (t : Transmission) (r : Reception) (ps : List StreamPro
   -- ## The stream is open
 
   module _ (x : Transmission) (y : Reception) (p : StreamProgress) (sent : x ≡ S.open_stream s t) (received : y ≡ R.open_stream s r) where
-    pub opened-aligned : (ms : List ℕ) (qs : List StreamProgress) → ms ≡ ns ++ s ∷ [] → qs ≡ ps ++ p ∷ [] → p.number ≡ s → IsAligned ms x y qs
-    opened-aligned ms qs more put same = record {
-      sends = more ∙ ap (λ ks. ks ++ s ∷ []) a.sends ∙ sym (map-more Outgoing.number t.streams (new_stream s t.fragment_size t.max_message_size Unknown)) ∙ ap (λ (z : Transmission). Outgoing.numbers_of z.streams) (sym sent);
-      receives = more ∙ ap (λ ks. ks ++ s ∷ []) a.receives ∙ sym (map-more Inbound.number r.streams (Inbound.new_stream s r.max_message_size)) ∙ ap (λ (z : Reception). Inbound.numbers_of z.streams) (sym received);
-      progresses = more ∙ ap (λ ks. ks ++ s ∷ []) a.progresses ∙ ap (λ n. map (λ p. p.number) ps ++ n ∷ []) (sym same) ∙ sym (map-more (λ (p : StreamProgress). p.number) ps p) ∙ ap (map (λ p. p.number)) (sym put);
-      size = ap (λ (z : Reception). z.max_message_size) received ∙ a.size ∙ ap (λ (z : Transmission). z.max_message_size) (sym sent);
-      unlimited = ap (λ (z : Reception). z.limits) received ∙ a.unlimited;
-    }
-
     pub opened-sides : (qs : List StreamProgress) → qs ≡ ps ++ p ∷ [] → p.complete.items ≡ [] → p.ordered ≡ 0 → p.begun ≡ 0 → p.next ≡ 0 → p.named ≡ 0 → sides x y qs ≡ opened_on s (sides t r ps)
     opened-sides qs put w o b n m =
         let fresh : (p.complete.items, (p.ordered, (p.begun, (p.next, p.named)))) ≡ ([], (0, (0, (0, 0)))) = cc in

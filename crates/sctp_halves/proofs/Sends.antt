@@ -14,6 +14,7 @@ use Rattle.sctp_sender.specs.declared.sender.flight.Released.{Released}
 use Rattle.sctp_sender.specs.declared.sender.refusal.SenderRefusal.{SenderRefusal}
 use Rattle.sctp_sender.specs.declared.sender.refusal.SenderRefusal.TheVariants.{StreamUnknown}
 use Rattle.sctp_sender.specs.Flight.{Flight, after_sack, released_by}
+use Rattle.sctp_sender.specs.Keeping.{kept_after}
 use Rattle.sctp_sender.specs.Outgoing as Outgoing
 use Rattle.sctp_receiver.specs.Receiver as R
 use Rattle.sctp_receiver.specs.Receiver.{Reception}
@@ -111,26 +112,27 @@ both-told (Some l) x y sent read e f sends reads =
 module _ (ns : List ℕ) (t : Transmission) (r : Reception) (ps : List StreamProgress) (a : IsAligned ns t r ps) where
   -- ## The sender changes
 
-  pub with-sender : (x : Transmission) → Outgoing.numbers_of x.streams ≡ Outgoing.numbers_of t.streams → x.max_message_size ≡ t.max_message_size → IsAligned ns x r ps
-  with-sender x same size = record { sends = a.sends ∙ sym same; receives = a.receives; progresses = a.progresses; size = a.size ∙ sym size; unlimited = a.unlimited }
+  pub with-sender : (x : Transmission) → Outgoing.numbers_of x.streams ≡ Outgoing.numbers_of t.streams → x.max_message_size ≡ t.max_message_size → x.kept ≡ t.kept → IsAligned ns x r ps
+  with-sender x same size kept = record { sends = a.sends ∙ sym same; receives = a.receives; progresses = a.progresses; size = a.size ∙ sym size; unlimited = a.unlimited; forgets = kept ∙ a.forgets }
 
   pub sender-same : (x : Transmission) → x ≡ t → IsAligned ns x r ps
-  sender-same x e = with-sender x (ap (λ (y : Transmission). Outgoing.numbers_of y.streams) e) (ap (λ (y : Transmission). y.max_message_size) e)
+  sender-same x e = with-sender x (ap (λ (y : Transmission). Outgoing.numbers_of y.streams) e) (ap (λ (y : Transmission). y.max_message_size) e) (ap (λ (y : Transmission). y.kept) e)
 
   module _ (n : ℕ) (f : StreamState → StreamState) (g : Flight) (x : Transmission) (e : x ≡ (let y : Transmission = record t { streams = change_where (Outgoing.has_number n) f t.streams; flight = g } in y)) where
     pub on-aligned : ((s : StreamState) → (f s).stream_identifier ≡ s.stream_identifier) → IsAligned ns x r ps
-    on-aligned same = with-sender x (ap (λ (y : Transmission). Outgoing.numbers_of y.streams) e ∙ stays f same (Outgoing.has_number n) t.streams) (ap (λ (y : Transmission). y.max_message_size) e)
+    on-aligned same = with-sender x (ap (λ (y : Transmission). Outgoing.numbers_of y.streams) e ∙ stays f same (Outgoing.has_number n) t.streams) (ap (λ (y : Transmission). y.max_message_size) e) (ap (λ (y : Transmission). y.kept) e)
 
     pub on-sides : sides x r ps ≡ with_flight g (on_stream n (on_state f) (sides t r ps))
     on-sides = ap (λ y. sides y r ps) e ∙ ap (λ ls. let y : Sides = record (sides t r ps) { streams = ls; flight = g } in y) (state-changed n f t.streams r.streams ps)
 
   pub counted-aligned : (x : Transmission) (o : Option ChunkPayloadData) (g : ChunkPayloadData → Flight) → ((c : ChunkPayloadData) → o ≡ Some c → x ≡ S.with_flight (g c) t) → (o ≡ None → x ≡ t) → IsAligned ns x r ps
   counted-aligned x None g some none = sender-same x (none refl)
-  counted-aligned x (Some c) g some none = with-sender x (ap (λ (y : Transmission). Outgoing.numbers_of y.streams) (some c refl)) (ap (λ (y : Transmission). y.max_message_size) (some c refl))
+  counted-aligned x (Some c) g some none = with-sender x (ap (λ (y : Transmission). Outgoing.numbers_of y.streams) (some c refl)) (ap (λ (y : Transmission). y.max_message_size) (some c refl)) (ap (λ (y : Transmission). y.kept) (some c refl))
 
   module _ (s : Sack) (x : Transmission) (e : x ≡ S.after_acked s t) where
     pub acked-aligned : IsAligned ns x r ps
     acked-aligned = with-sender x (ap (λ (y : Transmission). Outgoing.numbers_of y.streams) e ∙ released-stays (released_by s t.flight) t.streams) (ap (λ (y : Transmission). y.max_message_size) e)
+        (ap (λ (y : Transmission). y.kept) e ∙ ap (option_map (kept_after s t.flight)) a.forgets ∙ sym a.forgets)
 
     pub acked-sides : sides x r ps ≡ sack_taken s (sides t r ps)
     acked-sides = ap (λ y. sides y r ps) e ∙ ap (λ ls. let y : Sides = record (sides t r ps) { streams = ls; flight = after_sack s t.flight } in y) (released-joined (released_by s t.flight) t.streams r.streams ps)

@@ -1,6 +1,6 @@
 -- A DATA chunk that is taken: its stream's queue, and whether a message became complete by it.
 use Rattle.std.proofs.Common.{◌≡◌, ℕ, zero, suc, List, [], ◌∷◌, ◌++◌, Bool, true, false, Some, refl, ap, sym, ◌∙◌, subst}
-use Rattle.std.specs.Prelude.{◌&&◌, slice_index_or, slice_set, find, if◌then◌else◌, option_map}
+use Rattle.std.specs.Prelude.{◌&&◌, slice_index_or, slice_set, if◌then◌else◌, option_map}
 use Rattle.std.proofs.lemmas.List.{get_or_default}
 use Rattle.sctp_list_lemmas.specs.Lists.{change_at}
 use Rattle.sctp_chunks.specs.declared.chunk.chunk_payload_data.ChunkPayloadData.{ChunkPayloadData}
@@ -44,14 +44,6 @@ told c complete old new p = by c.unordered refl p
     }
 
 -- ## Lists
-
-found-has : {A : Type 0} (p : A → Bool) (xs : List A) (x : A) → find p xs ≡ Some x → p x ≡ true
-found-has p [] x e = cc
-found-has {A} p (l ∷ ls) x e = by (p l) refl e (found-has p ls x)
-  where
-    by : (b : Bool) → p l ≡ b → (if b then Some l else find p ls) ≡ Some x → (find p ls ≡ Some x → p x ≡ true) → p x ≡ true
-    by true h f rest = let same : l ≡ x = cc in subst (λ y. p y ≡ true) same h
-    by false h f rest = rest f
 
 changed-put : {A : Type 0} (f : A → A) (k : ℕ) (xs : List A) (y : A) → change_at f k (slice_set xs k y) ≡ slice_set xs k (f y)
 changed-put f k [] y = refl

@@ -34,7 +34,8 @@ pub record Sides : Type 0 where
   pub fragment_size : ℕ
   pub max_message_size : ℕ
 
--- each part has the same streams, in the same order; the receiver has no limits
+-- each part has the same streams, in the same order; the receiver has no limits, and the sender keeps nothing of what gap ack blocks
+-- report
 pub record IsAligned (numbers : List ℕ) (sender : Transmission) (receiver : Reception)
     (progress : List StreamProgress) : Type 0 where
   pub sends : numbers ≡ Outgoing.numbers_of sender.streams
@@ -42,6 +43,7 @@ pub record IsAligned (numbers : List ℕ) (sender : Transmission) (receiver : Re
   pub progresses : numbers ≡ map (λ p. p.number) progress
   pub size : receiver.max_message_size ≡ sender.max_message_size
   pub unlimited : receiver.limits ≡ None
+  pub forgets : sender.kept ≡ None
 
 -- what is the sender's, and what is the receiver's
 abbrev pub transmission_of : Sides → Transmission
@@ -51,6 +53,7 @@ transmission_of x =
       flight = x.flight;
       fragment_size = x.fragment_size;
       max_message_size = x.max_message_size;
+      kept = None;
     }
 
 abbrev pub reception_of : Sides → Reception

@@ -11,6 +11,5 @@ pub mod FilledDatagrams
 pub mod Lent
 pub mod InLine
 pub mod SlotsGoOn
-pub mod LastSlot
 pub mod Begun
 pub mod BegunRun

@@ -1,12 +1,11 @@
 -- What a stream still has to send or to see acknowledged, and the bytes of it that slots hold.
-use Rattle.std.specs.Prelude.{ℕ, ◌+◌, Bool, true, false, ◌&&◌, ◌||◌, not, ◌==◌, if◌then◌else◌, List, [], ◌∷◌}
+use Rattle.std.specs.Prelude.{ℕ, ◌+◌, Bool, true, false, ◌&&◌, ◌||◌, not, ◌==◌, if◌then◌else◌}
 use Rattle.sctp_list_lemmas.specs.Kept.{total_over}
 use Rattle.sctp_model.specs.declared.event.Event.{Event}
 use Rattle.sctp_model.specs.declared.event.Event.TheVariants as E
 use Rattle.sctp_model.specs.LinkRecord.{LinkRecord, Report}
 use Rattle.sctp_model.specs.Messages.{message_at, slot_at, message_of, slots_where}
 use Rattle.sctp_model.specs.Amounts.{is_expired_or_abandoned, slot_bytes, pending_bytes, in_flight_bytes, on_stream}
-use Rattle.sctp_model.specs.Changes.{after_abandon}
 use Rattle.sctp_model.specs.Reports.{reports}
 
 -- the bytes of a stream that are pending or in flight: what `buffered_amount` says of it where it is open
@@ -16,18 +15,6 @@ amount w t = on_stream w t (pending_bytes w) + on_stream w t (in_flight_bytes w)
 -- the bytes of message n that are pending or in flight: those that abandoning it releases
 abbrev pub held_bytes : LinkRecord → ℕ → ℕ
 held_bytes w n = pending_bytes w n + in_flight_bytes w n
-
--- what is released as these messages are abandoned one after another
-abbrev pub released_along : LinkRecord → List ℕ → ℕ
-released_along w [] = 0
-released_along w (n ∷ ns) = held_bytes w n + released_along (after_abandon w n) ns
-
--- of that, what is of stream t
-abbrev pub released_along_on : LinkRecord → ℕ → List ℕ → ℕ
-released_along_on w t [] = 0
-released_along_on w t (n ∷ ns) =
-    (if (message_at w n).stream == t then held_bytes w n else 0)
-    + released_along_on (after_abandon w n) t ns
 
 -- an event that writes nothing, gives nothing up and acknowledges nothing
 abbrev pub keeps_amounts : Event → Bool

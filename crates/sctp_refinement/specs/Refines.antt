@@ -10,14 +10,12 @@ use Rattle.sctp_chunks.specs.ChunkSet.{fresh}
 use Rattle.sctp_outbound.specs.payload_queue.PayloadQueue.{Payload}
 use Rattle.sctp_outbound.specs.pending_queue.PendingQueue.{Pending}
 use Rattle.sctp_outbound.specs.outbound_queue.OutboundQueue.{Outbound}
-use Rattle.sctp_reassembly.specs.reassembly_queue.ReassemblyQueue.{ReassemblyState}
 use Rattle.sctp_outbound.specs.declared.pending_queue.Selected.{Selected}
 use Rattle.sctp_model.specs.LinkRecord.{LinkRecord}
-use Rattle.sctp_model.specs.Messages.{message_at, message_of, tsn_of, stream_at, messages_where, is_partially_sent, sent_of, fragment_count, deadline_of}
+use Rattle.sctp_model.specs.Messages.{message_at, message_of, tsn_of, messages_where, is_partially_sent, sent_of, fragment_count, deadline_of}
 use Rattle.sctp_model.specs.Amounts.{is_expired_or_abandoned}
 use Rattle.sctp_model.specs.Contents.{data_fields, chunk_at}
-use Rattle.sctp_model.specs.Queues.{FilterRecord, InFlightChunk, in_flight_at, is_cleared, filter_of, PendingFragment, PendingRecord}
-use Rattle.sctp_refinement.specs.Holds.{reassembly_of}
+use Rattle.sctp_model.specs.Queues.{FilterRecord, InFlightChunk, in_flight_at, is_cleared, PendingFragment, PendingRecord}
 
 -- ## What waits to be sent
 
@@ -139,16 +137,6 @@ pub record RefinesOutbound (w : LinkRecord) (q : Outbound) : Type 0 where
 abbrev pub filter_held : ℕ → Payload → FilterRecord
 filter_held cumulative q =
     record { cumulative = cumulative; held = map (λ c. c.tsn) q.chunks; duplicates = q.duplicates }
-
--- ## The link's queues
-
--- what the queues hold is what the record says; the reassembly queue of a stream is there where the stream is open
-pub record Refines (w : LinkRecord) (sending : Outbound) (cumulative : ℕ) (seen : Payload)
-    (queues : ℕ → Option ReassemblyState) : Type 0 where
-  pub outbound : RefinesOutbound w sending
-  pub filter : filter_held cumulative seen ≡ filter_of w
-  pub reassembly : (s : ℕ) (q : ReassemblyState) → queues s ≡ Some q → q.held ≡ reassembly_of w s
-  pub open_streams : (s : ℕ) → is_some (queues s) ≡ is_some (stream_at w s)
 
 -- ## What a lent outbound queue shows
 

@@ -105,7 +105,7 @@ impl Halves {
             unreachable!()
         };
         self.progress[place].complete.reserve(1)?;
-        let Ok(arrival) = self.receiver.data(chunk) else {
+        let Ok(arrival) = self.receiver.data_with_any_ssn(chunk) else {
             return Err(Error::ErrOutOfMemory);
         };
         if completes(chunk, arrival) {

@@ -101,7 +101,7 @@ impl Halves {
         requires room { 0 < self.old.flight.queue.inflight.room }
         ensures { self.new ≡ with_flight (flight_after_send now self.old.flight) self.old }
     {
-        match self.sender.send_next_tsn(now) {
+        match self.sender.send_next_tsn_unbounded(now) {
             Ok(_) => {}
             Err(_) => unreachable!(),
         }

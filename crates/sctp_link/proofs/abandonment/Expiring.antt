@@ -56,9 +56,6 @@ shown-past_deadline now c (Some d) e some = by (outbound.is_expired now d) some
     by false z = cc
 
 module _ (sum : List ℕ → ℕ) (x : State) (l : IsLinked sum x) (now : ℕ) where
-  abbrev w : LinkRecord
-  w = x.recorded
-
   abbrev v : LinkRecord
   v = after x.recorded (E.Expire now)
 

@@ -90,10 +90,6 @@ no-run from p k le = elim (cases_lt k from) [
     above : (a b : Bool) → b ≡ false → (a && b) ≡ false
     above a b e = rw e (and-none a)
 
--- none yet
-pub run-none : (acked : ℕ → Bool) (from k : ℕ) → acked k ≡ and_run acked from from k
-run-none acked from k = sym (ap (λ b. acked k || b) (no-run from from k (omega arith)) ∙ or-none (acked k))
-
 -- all of them
 pub run-all : (acked : ℕ → Bool) (from p to : ℕ) → to ≤ p → p ≤ max from to → (k : ℕ) → and_run acked from p k ≡ and_run acked from to k
 run-all acked from p to le reach k = elim (cases_lt to from) [

@@ -99,9 +99,6 @@ module _ (sum : List ℕ → ℕ) (x : State) (l : IsLinked sum x) (credit : ℕ
     pub told-count : length s.duplicate_tsn ≡ min (16379 - length s.gap_ack_blocks) (length w.duplicates)
     told-count = told-length ∙ ap (min (16379 - length s.gap_ack_blocks)) repeats-count
 
-    pub told-some : length s.duplicate_tsn ≤ length w.duplicates
-    told-some = omega (arith, told-count)
-
     pub told-is : s.duplicate_tsn ≡ take (length s.duplicate_tsn) x.filter.duplicates
     told-is = told-most ∙ sym (take-min (16379 - length s.gap_ack_blocks) (length s.duplicate_tsn) x.filter.duplicates told-length)
 

@@ -15,22 +15,13 @@ use Rattle.sctp_model.specs.LinkRecord.{LinkRecord}
 use Rattle.sctp_refinement.specs.Amount.{unacked_on, stream_of_slot, bytes_at}
 use Rattle.sctp_refinement.specs.Refines.{sending_of, IsInFlight}
 use Rattle.sctp_refinement.proofs.amounts.StreamAmounts.{same-turned}
-use Rattle.sctp_halves.specs.Streams.{OpenStream, has_number, less_by, after_releases, stream_numbers}
+use Rattle.sctp_halves.specs.Streams.{OpenStream, has_number, less_by, after_releases}
 use Rattle.sctp_link.specs.Acking.{Acks}
 use Rattle.sctp_refinement.proofs.sending.InFlight.{head_of, tail_of}
 
 -- a stream with another buffered amount
 abbrev pub with_amount : ℕ → OpenStream → OpenStream
 with_amount n l = record l { state = record l.state { buffered_amount = n } }
-
--- no number changes
-pub numbers-less : (ls : List OpenStream) (s n : ℕ) → stream_numbers (change_where (has_number s) (less_by n) ls) ≡ stream_numbers ls
-numbers-less [] s n = refl
-numbers-less (l ∷ ls) s n = ap (λ k. k ∷ stream_numbers (change_where (has_number s) (less_by n) ls)) (one (has_number s l)) ∙ ap (λ ks. l.state.stream_identifier ∷ ks) (numbers-less ls s n)
-  where
-    one : (b : Bool) → (if b then less_by n l else l).state.stream_identifier ≡ l.state.stream_identifier
-    one true = refl
-    one false = refl
 
 -- bytes go off the amount of the streams of a number
 streams-less : (ls : List OpenStream) (s n k : ℕ) (d : OpenStream) → k < length ls → slice_index_or (change_where (has_number s) (less_by n) ls) k d ≡ with_amount ((slice_index_or ls k d).state.buffered_amount - (if s == (slice_index_or ls k d).state.stream_identifier then n else 0)) (slice_index_or ls k d)
@@ -56,10 +47,6 @@ released_on t (r ∷ rs) = (if r.stream == t then r.bytes else 0) + released_on 
 pub length-released : (rs : List Released) (ls : List OpenStream) → length (after_releases rs ls) ≡ length ls
 length-released [] ls = refl
 length-released (r ∷ rs) ls = length-released rs (change_where (has_number r.stream) (less_by r.bytes) ls) ∙ length-change_where (has_number r.stream) (less_by r.bytes) ls
-
-pub numbers-released : (rs : List Released) (ls : List OpenStream) → stream_numbers (after_releases rs ls) ≡ stream_numbers ls
-numbers-released [] ls = refl
-numbers-released (r ∷ rs) ls = numbers-released rs (change_where (has_number r.stream) (less_by r.bytes) ls) ∙ numbers-less ls r.stream r.bytes
 
 pub released-at : (rs : List Released) (ls : List OpenStream) (k : ℕ) (d : OpenStream) → k < length ls → slice_index_or (after_releases rs ls) k d ≡ with_amount ((slice_index_or ls k d).state.buffered_amount - released_on (slice_index_or ls k d).state.stream_identifier rs) (slice_index_or ls k d)
 released-at [] ls k d lt = let none : (slice_index_or ls k d).state.buffered_amount ≡ (slice_index_or ls k d).state.buffered_amount - 0 = omega arith in ap (λ m. with_amount m (slice_index_or ls k d)) none

@@ -1,5 +1,5 @@
 -- What a read makes of a link.
-use Rattle.std.proofs.Common.{◌≡◌, ℕ, zero, suc, ◌+◌, ◌<◌, Bool, true, false, List, [], ◌∷◌, length, map, drop, Some, None, refl, ap, sym, ◌∙◌, inl, inr, arith, length-append}
+use Rattle.std.proofs.Common.{◌≡◌, ℕ, zero, suc, ◌+◌, ◌<◌, Bool, true, false, List, [], ◌∷◌, length, map, drop, Some, None, refl, ap, sym, ◌∙◌, inl, inr, arith, length-append, ◌-◌, ◌^◌, ◌%◌}
 use Rattle.std.specs.Prelude.{◌⊎◌, ◌==◌, ◌&&◌, is_some, if◌then◌else◌, find, unwrap_or, slice_index_or, slice_set, Option, option_map}
 use Rattle.std.specs.List.{list_any}
 use Rattle.std.proofs.Math.Path.{subst}
@@ -47,16 +47,21 @@ use Rattle.sctp_receiver.specs.Inbound.{count_read, stream_read}
 use Rattle.sctp_stream.specs.declared.stream.DataChannelStats.{DataChannelStats}
 use Rattle.sctp_stream.specs.declared.stream.StreamState.{StreamState}
 use Rattle.sctp_link.specs.Linked.{State, IsLinked, IsOpenStream, stats_of}
-use Rattle.sctp_link.specs.Records.{message_record, stream_record}
+use Rattle.sctp_link.specs.Records.{message_record, stream_record, progress_of}
 use Rattle.sctp_stream.specs.Stats.{with_received}
 use Rattle.sctp_link.proofs.sender.Beginning.{index_kept}
 use Rattle.sctp_link.specs.Places.{IsApart}
-use Rattle.sctp_link.proofs.upkeep.Apart.{differ, each-set, number-found, streams-set}
-use Rattle.sctp_link.proofs.upkeep.StreamPlaces.{apart-set, changed-found}
+use Rattle.sctp_link.proofs.upkeep.Apart.{differ, each-set, number-found, streams-set, map-set}
+use Rattle.sctp_link.proofs.upkeep.StreamPlaces.{apart-set, changed-found, placed}
 use Rattle.sctp_link.proofs.upkeep.Facts.{facts, over}
 use Rattle.sctp_link.proofs.upkeep.StreamsAfter.{stream-then, linked-then}
 use Rattle.sctp_link.proofs.upkeep.Lookups.{some-open, none-open}
 use Rattle.sctp_stream.proofs.StreamPlaces.{map-set_same}
+use Rattle.sctp_model.specs.Contents.{chunk_at}
+use Rattle.sctp_link.specs.declared.link.Link.TheInside.{Inside}
+use Rattle.sctp_link.specs.declared.record.Slot.{Slot}
+use Rattle.sctp_link.specs.Fields.{record_in, state_in}
+use Rattle.sctp_link.proofs.receiver.Hears.{lead-slot, lead-number, messages-made, message-raw, kept-raw}
 
 -- set twice
 set-set : {A : Type 0} (xs : List A) (i : ℕ) (a b : A) → slice_set (slice_set xs i a) i b ≡ slice_set xs i b
@@ -395,3 +400,76 @@ open-there w s open_streams same ok = by (find (has_number s) open_streams) refl
     by : (o : Option OpenStream) → find (has_number s) open_streams ≡ o → (t : OpenStream) × (find (has_number s) open_streams ≡ Some t)
     by None e = absurd (never-shut w s open_streams same ok e)
     by (Some t) e = (t, e)
+
+-- ## The message that a link is handed
+
+-- a stream stands at a place of the open ones
+pub record IsPlaced (s : ℕ) (ls : List OpenStream) : Type 0 where
+  pub at : ℕ
+  pub d : OpenStream
+  pub lt : at < length ls
+  pub is : find (has_number s) ls ≡ Some d
+  pub here : slice_index_or ls at d ≡ d
+  pub found : (e : OpenStream) → find (has_number s) ls ≡ Some (slice_index_or ls at e)
+
+abbrev pub marked : Message → Message
+marked m = record m { read = true }
+
+-- the message n, which the slot y is of, is kept as m, and marked as read
+pub record IsHanded {C : Type 0} (a : Inside C) (n : ℕ) (y : Slot) (m : Message) : Type 0 where
+  pub message : message_at (record_in a) n ≡ message_record m
+  pub index : m.index ≡ index_kept (state_in a).progress n
+  pub marks : map message_record (slice_set a.messages.items y.message (marked m)) ≡ change_at mark_read n (record_in a).messages
+  pub progress : map progress_of (slice_set a.messages.items y.message (marked m)) ≡ map progress_of a.messages.items
+
+module _ {C : Type 0} (sum : List ℕ → ℕ) (a : Inside C) (l : IsLinked sum (state_in a)) (s : ℕ) where
+  pub placed-at : refusal_of (record_in a) (E.Read s) ≡ None → IsPlaced s a.halves.streams
+  placed-at ok =
+      let t = open-there (record_in a) s a.halves.streams refl ok in
+      let place = placed s a.halves.streams t.0 t.1 in
+      record {
+        at = place.0;
+        d = t.0;
+        lt = place.1.0;
+        is = t.1;
+        here = place.1.1 t.0;
+        found = λ e. t.1 ∙ ap (λ l. Some l) (sym (place.1.1 e));
+      }
+
+  module _ (p : IsPlaced s a.halves.streams) where
+    pub none-handed : None ≡ option_map at_start (message_read p.d.inbound.queue.held) → message_read (slice_index_or a.halves.streams p.at p.d).inbound.queue.held ≡ None
+    none-handed told = ap (λ (y : OpenStream). message_read y.inbound.queue.held) p.here ∙ none-mapped (message_read p.d.inbound.queue.held) told
+
+    pub some-handed : (r : Chunks) → Some r ≡ option_map at_start (message_read p.d.inbound.queue.held) → message_read (slice_index_or a.halves.streams p.at p.d).inbound.queue.held ≡ Some r.set
+    some-handed r told = ap (λ (y : OpenStream). message_read y.inbound.queue.held) p.here ∙ some-mapped (message_read p.d.inbound.queue.held) r told
+
+    module _ (r : Chunks) (e : message_read (slice_index_or a.halves.streams p.at p.d).inbound.queue.held ≡ Some r.set) where
+      abbrev pub handed : ℕ
+      handed = (read-is sum (state_in a) l s p.at p.d refl p.lt p.found r.set e).0
+
+      pub slot-handed : (d : ChunkPayloadData) → ((slice_index_or r.set.chunks 0 d).tsn + (2 ^ 32 - a.first_tsn)) % 2 ^ 32 < length a.slots.items
+      slot-handed d =
+          lead-slot sum (state_in a) l a.slots.items a.messages.items refl refl handed r.set.chunks d
+          (hands-begins sum (state_in a) l s p.at p.d refl p.lt p.found r.set e) (hands sum (state_in a) l s p.at p.d refl p.lt p.found r.set e).made
+
+      pub handed-made : handed < length a.messages.items
+      handed-made = omega (arith, (hands sum (state_in a) l s p.at p.d refl p.lt p.found r.set e).made, messages-made sum (state_in a) l a.slots.items a.messages.items refl refl)
+
+      -- the slot y is that of the first TSN
+      module _ (first : ℕ) (first_is : (d : ChunkPayloadData) → first ≡ (slice_index_or r.set.chunks 0 d).tsn) (y : Slot) (y_is : y ≡ slice_index_or a.slots.items ((first + (2 ^ 32 - a.first_tsn)) % 2 ^ 32) y) where
+        pub number-handed : y.message ≡ handed
+        number-handed =
+            let d = chunk_at (record_in a) 0 in
+            lead-number sum (state_in a) l a.slots.items a.messages.items refl refl handed r.set.chunks d
+            (hands-begins sum (state_in a) l s p.at p.d refl p.lt p.found r.set e) (hands sum (state_in a) l s p.at p.d refl p.lt p.found r.set e).made
+            y (y_is ∙ ap (λ t. slice_index_or a.slots.items ((t + (2 ^ 32 - a.first_tsn)) % 2 ^ 32) y) (first_is d))
+
+        pub message-handed : (m : Message) → m ≡ slice_index_or a.messages.items y.message m → IsHanded a handed y m
+        message-handed m is =
+            let here : m ≡ slice_index_or a.messages.items handed m = is ∙ ap (λ i. slice_index_or a.messages.items i m) number-handed in
+            record {
+              message = message-raw sum (state_in a) l a.slots.items a.messages.items refl refl handed m handed-made ∙ ap message_record (sym here);
+              index = ap (λ (t : Message). t.index) here ∙ sym (kept-raw sum (state_in a) l a.slots.items a.messages.items refl refl refl handed m handed-made);
+              marks = ap (λ i. map message_record (slice_set a.messages.items i (marked m))) number-handed ∙ map-set message_record mark_read a.messages.items handed (marked m) m handed-made (ap (λ (t : Message). message_record (marked t)) here);
+              progress = map-set_same progress_of a.messages.items y.message (marked m) m (ap progress_of is);
+            }

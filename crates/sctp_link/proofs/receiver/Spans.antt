@@ -16,7 +16,6 @@ use Rattle.sctp_model.proofs.sender.Network
 use Rattle.sctp_model.proofs.receiver.Arrivals.{new-unseen}
 use Rattle.sctp_model.proofs.receiver.ValidRun.{span-fits, span-open}
 use Rattle.sctp_refinement.proofs.arriving.Arrival
-use Rattle.sctp_refinement.proofs.arriving.Arrival.{with_arrived}
 use Rattle.sctp_refinement.proofs.arriving.Carried.{Carried, noted, by_step}
 use Rattle.sctp_refinement.proofs.arriving.SlotArrives.{repeated}
 use Rattle.sctp_refinement.proofs.arriving.SpanEnds.{only-slot, all-streams, fits-span}
@@ -29,6 +28,13 @@ use Rattle.sctp_link.proofs.upkeep.Facts.{facts}
 use Rattle.sctp_link.proofs.receiver.Received.{all-carried}
 use Rattle.sctp_model.proofs.receiver.Spans.{greatest-append, least-append}
 use Rattle.sctp_refinement.specs.Naming.{lowest_held, highest_held}
+use Rattle.sctp_link.specs.declared.link.Link.TheInside.{Inside}
+use Rattle.sctp_link.specs.declared.record.Message.{Message}
+use Rattle.sctp_link.specs.declared.record.Slot.{Slot}
+use Rattle.sctp_link.specs.Fields.{record_in, state_in}
+use Rattle.sctp_link.specs.Records.{message_record}
+use Rattle.sctp_link.proofs.sender.Beginning.{index_kept}
+use Rattle.sctp_link.proofs.receiver.Hears.{come-message, slots-made, messages-made, slot-raw, message-raw, kept-raw}
 
 -- ## What slots add
 
@@ -201,9 +207,6 @@ module _ (w : LinkRecord) (ps : List ℕ) (all : spans_fit w [] ≡ true) (carri
   slots-fit : spans_fit w ms ≡ true → (p : ℕ) → list_any (λ q. q == p) ps ≡ true → slot_fits w ps p ≡ true
   slots-fit e p there = step (is_new w p && (message_at w (message_of w p)).ordered)
     where
-      s : ℕ
-      s = (message_at w (message_of w p)).stream
-
       step : (b : Bool) → (if b then fits w (added_on w (message_at w (message_of w p)).stream ps) (message_at w (message_of w p)).stream else true) ≡ true
       step false = refl
       step true = fits-span w (message_at w (message_of w p)).stream (added_on w (message_at w (message_of w p)).stream ps) (span-open w (message_at w (message_of w p)).stream ms e (ap is_some (any-carried (Carried w) ps carried p there).known.1))
@@ -307,3 +310,35 @@ pub at-place : (ps : List ℕ) (i q : ℕ) → slice_get ps i ≡ Some q → sli
 at-place [] i q e = cc
 at-place (p ∷ ps) zero q e = cc
 at-place (p ∷ ps) (suc i) q e = at-place ps i q e
+
+-- ## The message of a slot, as a link keeps it
+
+-- the place has a slot, which is of a message that is there
+pub record IsKept {C : Type 0} (a : Inside C) (p : ℕ) : Type 0 where
+  pub carried : Carried (record_in a) p
+  pub inside : p < length a.slots.items
+  pub made : message_of (record_in a) p < length a.messages.items
+
+module _ {C : Type 0} (sum : List ℕ → ℕ) (a : Inside C) (l : IsLinked sum (state_in a)) (p : ℕ) where
+  pub kept-at : LiesSomewhere (record_in a) p → IsKept a p
+  kept-at lies =
+      let c = lying sum (state_in a) l p lies in
+      record {
+        carried = c;
+        inside = omega (arith, c.made, slots-made sum (state_in a) l a.slots.items a.messages.items refl refl);
+        made = omega (arith, come-message sum (state_in a) l p c, messages-made sum (state_in a) l a.slots.items a.messages.items refl refl);
+      }
+
+  module _ (k : IsKept a p) (y : Slot) (y_is : y ≡ slice_index_or a.slots.items p y) where
+    pub number-kept : y.message ≡ message_of (record_in a) p
+    number-kept = ap (λ (t : Slot). t.message) y_is ∙ sym (ap (λ t. t.message) (slot-raw sum (state_in a) l a.slots.items a.messages.items refl refl p y k.inside))
+
+    pub message-kept : (m : Message) → m ≡ slice_index_or a.messages.items y.message m → message_at (record_in a) (message_of (record_in a) p) ≡ message_record m
+    message-kept m is =
+        message-raw sum (state_in a) l a.slots.items a.messages.items refl refl (message_of (record_in a) p) m k.made
+        ∙ ap message_record (sym (is ∙ ap (λ i. slice_index_or a.messages.items i m) number-kept))
+
+    pub index-kept : (m : Message) → m ≡ slice_index_or a.messages.items y.message m → index_kept (state_in a).progress (message_of (record_in a) p) ≡ m.index
+    index-kept m is =
+        kept-raw sum (state_in a) l a.slots.items a.messages.items refl refl refl (message_of (record_in a) p) m k.made
+        ∙ ap (λ (t : Message). t.index) (sym (is ∙ ap (λ i. slice_index_or a.messages.items i m) number-kept))

@@ -1,22 +1,14 @@
 -- A message is begun: what its stream counts then, and the index that it takes.
-use Rattle.std.proofs.Common.{◌≡◌, ℕ, zero, suc, ◌+◌, ◌<◌, ◌^◌, Bool, true, false, List, [], ◌∷◌, ◌++◌, length, map, Option, Some, None, refl, ap, sym, ◌∙◌, arith}
+use Rattle.std.proofs.Common.{◌≡◌, ℕ, zero, suc, ◌+◌, ◌<◌, Bool, true, false, List, [], ◌∷◌, ◌++◌, length, map, Some, refl, ap, ◌∙◌, arith}
 use Rattle.std.specs.Prelude.{if◌then◌else◌, ◌==◌, ◌&&◌, find, slice_index_or}
 use Rattle.std.proofs.Math.Path.{subst}
 use Rattle.sctp_list_lemmas.specs.Lists.{change_where}
-use Rattle.sctp_list_lemmas.proofs.Passing.{length-kept-le}
-use Rattle.sctp_list_lemmas.proofs.More.{not_both}
-use Rattle.sctp_model.specs.Messages.{is_open}
 use Rattle.sctp_model.proofs.sender.Shape.{shape}
-use Rattle.sctp_refinement.specs.Indexes.{is_begun_on, begun_on}
 use Rattle.sctp_refinement.proofs.sending.Begun.{Indexed}
 use Rattle.sctp_refinement.proofs.amounts.StreamAmounts.{same-turned}
-use Rattle.sctp_halves.specs.Streams.{OpenStream, begun_in, begun_of, has_number, stream_numbers, with_begun}
-use Rattle.sctp_link.specs.Linked.{State, IsLinked, IsOpenStream}
+use Rattle.sctp_halves.specs.Streams.{OpenStream, has_number, stream_numbers, with_begun}
+use Rattle.sctp_link.specs.Linked.{State, IsLinked}
 use Rattle.sctp_link.specs.Records.{stream_record}
-use Rattle.sctp_link.proofs.upkeep.Apart.{number-found}
-use Rattle.sctp_link.proofs.upkeep.Bounds.{messages-few}
-use Rattle.sctp_link.proofs.upkeep.Facts.{facts}
-use Rattle.sctp_link.proofs.upkeep.Lookups.{none-open}
 
 -- the index that a link keeps of each message
 abbrev pub index_kept : List (ℕ × ℕ) → ℕ → ℕ
@@ -84,14 +76,3 @@ found-one P s (x ∷ ls) h l e = step (x.state.stream_identifier == s) e (λ z. 
     step : (b : Bool) → (if b then Some x else find (has_number s) ls) ≡ Some l → (find (has_number s) ls ≡ Some l → P l) → P l
     step true z ih = let same : x ≡ l = cc in subst P same (h 0 x (omega arith))
     step false z ih = ih z
-
-module _ (sum : List ℕ → ℕ) (x : State) (l : IsLinked sum x) (s : ℕ) (streams : x.recorded.streams ≡ map stream_record x.open_streams) (opened : is_open x.recorded s ≡ true) where
-  pub begun-is : begun_of s x.open_streams ≡ begun_on x.recorded s
-  begun-is = by (find (has_number s) x.open_streams) refl
-    where
-      by : (o : Option OpenStream) → find (has_number s) x.open_streams ≡ o → begun_in o ≡ begun_on x.recorded s
-      by None e = absurd (not_both (sym (none-open x.recorded s x.open_streams streams e) ∙ opened))
-      by (Some y) e = (found-one (IsOpenStream x.recorded) s x.open_streams l.open_streams y e).begun ∙ ap (begun_on x.recorded) (number-found s x.open_streams y e)
-
-  pub begun-few : begun_of s x.open_streams + 1 < 2 ^ 64
-  begun-few = omega (arith, begun-is, length-kept-le (is_begun_on x.recorded s) 0 (length x.recorded.messages), messages-few x.recorded.setup x.recorded (facts sum x l).sane)

@@ -1,7 +1,6 @@
 -- The fragments of a write are one message, and wait as the record says.
-use Rattle.std.proofs.Common.{◌≡◌, ℕ, ◌+◌, ◌-◌, ◌*◌, ◌<◌, ◌≤◌, ◌%◌, ◌^◌, Bool, false, List, [], ◌∷◌, ◌++◌, length, map, Some, refl, ap, sym, ◌∙◌, arith}
+use Rattle.std.proofs.Common.{◌≡◌, ℕ, ◌+◌, ◌-◌, ◌<◌, ◌%◌, ◌^◌, Bool, false, List, [], ◌∷◌, ◌++◌, length, map, Some, refl, ap, sym, ◌∙◌, arith}
 use Rattle.std.specs.Prelude.{◌==◌, not, slice_index_or}
-use Rattle.std.proofs.Math.Path.{subst}
 use Rattle.sctp_chunks.specs.ChunkSet.{fresh}
 use Rattle.sctp_chunks.specs.PayloadTypes.{is_ordered}
 use Rattle.sctp_list_lemmas.specs.Kept.{numbers_from}
@@ -10,7 +9,6 @@ use Rattle.sctp_chunks.specs.declared.chunk.chunk_payload_data.ChunkPayloadData.
 use Rattle.sctp_chunks.specs.declared.chunk.chunk_payload_data.PayloadProtocolIdentifier.{PayloadProtocolIdentifier}
 use Rattle.sctp_outbound.specs.outbound_queue.OutboundQueue.{with_message_id}
 use Rattle.sctp_sender.specs.Outgoing.{fragments_with_mode}
-use Rattle.sctp_serial.specs.DataChunks.{bytes_of}
 use Rattle.sctp_model.specs.LinkRecord.{LinkRecord, StreamRecord}
 use Rattle.sctp_model.specs.Messages.{message_of, fragment_count, ordered_before}
 use Rattle.sctp_model.specs.Changes.{message_on}
@@ -19,8 +17,6 @@ use Rattle.sctp_refinement.proofs.sending.Waiting
 use Rattle.sctp_refinement.proofs.sending.Written
 use Rattle.sctp_stream.specs.declared.stream.StreamState.{StreamState}
 use Rattle.sctp_stream.specs.Stream.{pieces_of}
-use Rattle.sctp_link.proofs.sender.Outgoing.{piece-short}
-use Rattle.sctp_link.proofs.upkeep.Bounds.{bytes-few}
 use Rattle.sctp_list_lemmas.proofs.Getting.{map-twice}
 use Rattle.sctp_sender.proofs.SenderStreams.{made, fragments-made}
 
@@ -29,11 +25,6 @@ use Rattle.sctp_sender.proofs.SenderStreams.{made, fragments-made}
 map-same : {A B : Type 0} (f g : A → B) → ((x : A) → f x ≡ g x) → (xs : List A) → map f xs ≡ map g xs
 map-same f g e [] = refl
 map-same f g e (x ∷ xs) = ap (λ y. y ∷ map f xs) (e x) ∙ ap (λ l. g x ∷ l) (map-same f g e xs)
-
-pub fragments-few : (s : StreamState) (ppi : PayloadProtocolIdentifier) (bytes : List ℕ) → s.max_payload_size ≤ 65519 → bytes_of (fragments_with_mode s ppi bytes) ≤ 65519 * length (pieces_of s bytes)
-fragments-few s ppi bytes small =
-    let few = bytes-few (made s ppi bytes) (λ i. omega (arith, piece-short (length bytes) s.max_payload_size bytes i, small)) 0 (length (pieces_of s bytes)) in
-    subst (λ cs. bytes_of cs ≤ 65519 * length (pieces_of s bytes)) (sym (fragments-made s ppi bytes)) few
 
 -- ## As the record has them
 

@@ -4,12 +4,10 @@ use Rattle.std.specs.Prelude.{◌==◌, if◌then◌else◌, slice_index_or, fin
 use Rattle.sctp_list_lemmas.proofs.More.{not_both}
 use Rattle.sctp_chunks.specs.declared.chunk.chunk_payload_data.ReliabilityType.{ReliabilityType}
 use Rattle.sctp_model.specs.declared.event.Event.TheVariants as E
-use Rattle.sctp_model.specs.declared.event.LinkRefusal.TheVariants.{StreamUnknown}
 use Rattle.sctp_model.specs.LinkRecord.{LinkRecord}
 use Rattle.sctp_model.specs.Messages.{is_open}
 use Rattle.sctp_model.specs.Changes.{after_mode, with_mode}
 use Rattle.sctp_model.specs.Steps.{refusal_of, reply_to}
-use Rattle.sctp_model.proofs.sender.SenderRun.{unless-holds}
 use Rattle.sctp_refinement.proofs.arriving.Opened
 use Rattle.sctp_refinement.proofs.acknowledging.QuietSender.{outbound-same, same-self}
 use Rattle.sctp_list_lemmas.specs.Lists.{change_where}
@@ -30,9 +28,6 @@ found-open x s streams open' none = not_both (sym (ap is_some none) ∙ open-fou
 module _ (sum : List ℕ → ℕ) (x : State) (l : IsLinked sum x) (s : ℕ) (unordered : Bool) (reliability : ReliabilityType) (value : ℕ) (ok : refusal_of x.recorded (E.Mode s unordered reliability value) ≡ None) (streams : x.recorded.streams ≡ map stream_record x.open_streams) where
   abbrev v : LinkRecord
   v = after_mode x.recorded s unordered reliability value
-
-  pub mode-open : is_open x.recorded s ≡ true
-  mode-open = (unless-holds (is_open x.recorded s) StreamUnknown None ok).0
 
   kept : (t : OpenStream) → IsOpenStream x.recorded t → IsOpenStream v t
   kept t i =

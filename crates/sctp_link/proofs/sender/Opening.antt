@@ -46,9 +46,6 @@ streams-more s size largest ls = map-append stream_record ls (new_open_stream s 
 -- ## The event
 
 module _ (sum : List ℕ → ℕ) (x : State) (l : IsLinked sum x) (s : ℕ) (ok : refusal_of x.recorded (E.Open s) ≡ None) (streams : x.recorded.streams ≡ map stream_record x.open_streams) where
-  abbrev w : LinkRecord
-  w = x.recorded
-
   abbrev v : LinkRecord
   v = after_open x.recorded s
 

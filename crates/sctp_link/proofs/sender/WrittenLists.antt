@@ -4,7 +4,6 @@ use Rattle.std.specs.Prelude.{◌==◌, ◌||◌, not, if◌then◌else◌, nat_
 use Rattle.std.proofs.Math.Path.{subst}
 use Rattle.std.proofs.lemmas.List.{map-append}
 use Rattle.std.proofs.lemmas.Bool.Decides.{nat_tests}
-use Rattle.sctp_list_lemmas.specs.Lists.{pieces}
 use Rattle.sctp_list_lemmas.proofs.Getting.{length-mapped}
 use Rattle.sctp_list_lemmas.proofs.Passing.{length-kept-le}
 use Rattle.sctp_chunks.specs.declared.chunk.chunk_payload_data.PayloadProtocolIdentifier.{PayloadProtocolIdentifier}
@@ -13,7 +12,6 @@ use Rattle.sctp_model.specs.declared.event.Event.TheVariants as E
 use Rattle.sctp_model.specs.declared.event.LinkRefusal.{LinkRefusal}
 use Rattle.sctp_model.specs.declared.event.LinkRefusal.TheVariants.{StreamUnknown, MessageTooLarge, TsnsUsedUp}
 use Rattle.sctp_model.specs.Reply as R
-use Rattle.sctp_model.specs.LinkRecord.{LinkRecord}
 use Rattle.sctp_model.specs.Messages.{is_open}
 use Rattle.sctp_model.specs.Changes.{after_write}
 use Rattle.sctp_model.specs.Steps.{refusal_of, unless, IsRight, fragments_in, fragments_accepted}
@@ -29,7 +27,6 @@ use Rattle.sctp_halves.specs.Streams.{OpenStream, has_number, written_of, wrote_
 use Rattle.sctp_link.proofs.upkeep.StreamPlaces.{placed}
 use Rattle.sctp_link.specs.declared.record.Message.{Message}
 use Rattle.sctp_link.specs.Records.{stream_record, message_record, progress_of}
-use Rattle.sctp_stream.specs.Stream.{pieces_of}
 use Rattle.sctp_link.specs.OpenStreams.{message_written}
 use Rattle.sctp_link.specs.Linked.{State, IsOpenStream, IsLinked}
 use Rattle.sctp_link.proofs.upkeep.Facts.{facts}
@@ -37,7 +34,6 @@ use Rattle.sctp_link.proofs.upkeep.Frames.{moved}
 use Rattle.sctp_link.proofs.sender.Modes.{found-open}
 use Rattle.sctp_link.proofs.upkeep.Bounds.{queued-few, messages-few}
 use Rattle.sctp_link.proofs.sender.Writing
-use Rattle.sctp_sender.proofs.SenderStreams.{fragments-made}
 
 -- a list that is not empty
 pub some-bytes : (bytes : List ℕ) (b : Bool) → b ≡ (length bytes == 0) → b ≡ false → 0 < length bytes
@@ -53,9 +49,6 @@ state-found s (l ∷ ls) = step (l.state.stream_identifier == s) (state-found s 
     step false e = e
 
 module _ (sum : List ℕ → ℕ) (x : State) (l : IsLinked sum x) (s : ℕ) (ppi : PayloadProtocolIdentifier) (bytes : List ℕ) (some : 0 < length bytes) (ok : refusal_of x.recorded (E.Write s ppi bytes) ≡ None) (streams : x.recorded.streams ≡ map stream_record x.open_streams) where
-  abbrev w : LinkRecord
-  w = x.recorded
-
   pub write-found : find (has_number s) x.open_streams ≡ None → ⊥
   write-found none = found-open x s streams (write-open x.recorded s ppi bytes ok) none
 
@@ -65,17 +58,6 @@ module _ (sum : List ℕ → ℕ) (x : State) (l : IsLinked sum x) (s : ℕ) (pp
       by : (bytes : List ℕ) → 0 < length bytes → refusal_of x.recorded (E.Write s ppi bytes) ≡ None → x.written + length bytes < 2 ^ 47
       by [] some ok = absurd (omega arith)
       by (b ∷ bs) some ok = let few = Writing.few sum x l s ppi b bs ok streams in omega (arith, few, l.written)
-
-  pub write-short : fragments_in x.recorded bytes < 2 ^ 31
-  write-short =
-      let large : Option LinkRefusal = unless (nat_lt (fragments_accepted x.recorded + fragments_in x.recorded bytes) (2 ^ 31)) TsnsUsedUp None in
-      let a = (unless-holds (is_open x.recorded s) StreamUnknown (unless (nat_le (length bytes) x.recorded.setup.largest) MessageTooLarge large) ok).1 in
-      let b = (unless-holds (nat_le (length bytes) x.recorded.setup.largest) MessageTooLarge large a).1 in
-      let c = (unless-holds (nat_lt (fragments_accepted x.recorded + fragments_in x.recorded bytes) (2 ^ 31)) TsnsUsedUp None b).0 in
-      below (fragments_accepted x.recorded) (fragments_in x.recorded bytes) c
-    where
-      below : (a b : ℕ) → nat_lt (a + b) (2 ^ 31) ≡ true → b < 2 ^ 31
-      below a b e = let lt : a + b < 2 ^ 31 = grind (arith, nat_tests) in omega (arith, lt)
 
   pub fits-64 : (n : ℕ) → n ≡ length bytes → x.written + n < 2 ^ 64
   fits-64 n e = omega (arith, write-few, e)
@@ -98,9 +80,6 @@ module _ (sum : List ℕ → ℕ) (x : State) (l : IsLinked sum x) (s : ℕ) (pp
   module _ (m : OpenStream) (here : find (has_number s) x.open_streams ≡ Some m) where
     i : IsOpenStream x.recorded m
     i = let p = placed s x.open_streams m here in subst (IsOpenStream x.recorded) (p.1.1 m) (l.open_streams p.0 m p.1.0)
-
-    pub count-is : length (pieces_of m.state bytes) ≡ fragments_in x.recorded bytes
-    count-is = ap (λ k. length (pieces (length bytes) k bytes)) i.size
 
     -- there is one more number for an ordered message
     pub next-short : m.ordered + 1 < 2 ^ 64

@@ -1,5 +1,5 @@
 -- A FORWARD-TSN is made: what it may name, what it says, and the link after it.
-use Rattle.std.proofs.Common.{◌≡◌, ℕ, zero, suc, ◌+◌, ◌<◌, ◌≤◌, ◌^◌, true, false, List, [], ◌∷◌, ◌++◌, length, map, None, refl, ap, sym, ◌∙◌, inl, inr, arith, not}
+use Rattle.std.proofs.Common.{◌≡◌, ℕ, ◌+◌, ◌<◌, ◌≤◌, ◌^◌, true, false, List, [], ◌∷◌, ◌++◌, length, map, None, refl, ap, sym, ◌∙◌, inl, inr, arith, not}
 use Rattle.std.specs.Prelude.{◌⊎◌, ◌&&◌, nat_le, nat_lt, slice_get, slice_index_or, Some}
 use Rattle.std.specs.List.{list_all}
 use Rattle.std.proofs.Math.Path.{subst}
@@ -69,11 +69,6 @@ accepted w upto names ok =
     let e = a.0 in
     let f = c.1 in
     record { made = grind (arith, nat_tests); can = c.0; few = grind (arith, nat_tests) }
-
-pub names-made : (w : LinkRecord) (upto : ℕ) (names : List ℕ) → list_all (can_name w upto) names ≡ true → (i d : ℕ) → i < length names → slice_index_or names i d < length w.messages
-names-made w upto [] e i d lt = absurd (omega arith)
-names-made w upto (n ∷ ns) e zero d lt = let t = (both (nat_lt n (length w.messages)) _ (both (can_name w upto n) (list_all (can_name w upto) ns) e).0).0 in grind (arith, nat_tests)
-names-made w upto (n ∷ ns) e (suc i) d lt = names-made w upto ns (both (can_name w upto n) (list_all (can_name w upto) ns) e).1 i d (omega arith)
 
 -- so many names fit
 pub skip-short : (f : ForwardTsn) → length f.streams ≤ 16381 → 4 + length (forward_tsn_value f) < 2 ^ 16

@@ -16,8 +16,6 @@ use Rattle.sctp_halves.specs.Streams.{OpenStream, has_number, stream_numbers}
 use Rattle.sctp_link.specs.Records.{stream_record}
 use Rattle.sctp_serial.proofs.lemmas.ListEdits.{neither}
 
--- ## Numbers
-
 -- ## Open streams
 
 -- a stream is found by its number in the record where it is in the link

@@ -1,12 +1,10 @@
 -- How much can have been written.
-use Rattle.std.proofs.Common.{◌≡◌, ℕ, zero, suc, ◌+◌, ◌*◌, ◌<◌, ◌≤◌, ◌^◌, List, [], ◌∷◌, length, map, drop, refl, arith}
+use Rattle.std.proofs.Common.{◌≡◌, ℕ, zero, suc, ◌+◌, ◌*◌, ◌<◌, ◌≤◌, ◌^◌, List, [], ◌∷◌, length, drop, refl, arith}
 use Rattle.std.specs.Prelude.{◌==◌}
 use Rattle.std.proofs.lemmas.List.{length-drop}
-use Rattle.std.proofs.lemmas.List.Sums.{sum_by-cons}
 use Rattle.sctp_list_lemmas.specs.Kept.{numbers_where, always, total_over, numbers_from}
 use Rattle.sctp_list_lemmas.specs.Lists.{pieces}
 use Rattle.sctp_list_lemmas.proofs.Totals.{total-wider, total-le}
-use Rattle.sctp_chunks.specs.declared.chunk.chunk_payload_data.ChunkPayloadData.{ChunkPayloadData}
 use Rattle.sctp_serial.specs.DataChunks.{bytes_of}
 use Rattle.sctp_outbound.specs.outbound_queue.OutboundQueue.{total_bytes}
 use Rattle.sctp_model.specs.LinkRecord.{Setup, LinkRecord}
@@ -71,8 +69,3 @@ amount-few sum x t l =
     let b = over sum x (λ w. (t : ℕ) → on_stream w t (written_bytes w) ≡ on_stream w t (pending_bytes w) + on_stream w t (in_flight_bytes w) + on_stream w t (released_bytes w)) l (balances x.recorded.setup l.history l.setup l.stands.run).1 t in
     let wide = total-wider (written_bytes x.recorded) (λ n. (message_at x.recorded n).stream == t) always 0 (length x.recorded.messages) (λ k a b e. refl) in
     omega (arith, b, wide)
-
--- chunks of short fragments
-pub bytes-few : (h : ℕ → ChunkPayloadData) → ((i : ℕ) → length (h i).user_data ≤ 65519) → (from count : ℕ) → bytes_of (map h (numbers_where always from count)) ≤ 65519 * count
-bytes-few h short from zero = omega arith
-bytes-few h short from (suc count) = omega (arith, short from, bytes-few h short (from + 1) count, sum_by-cons (λ (c : ChunkPayloadData). length c.user_data) (h from) (map h (numbers_where always (from + 1) count)))

@@ -5,16 +5,14 @@ use Rattle.std.proofs.lemmas.Bool.{lt-ltb, le-leb}
 use Rattle.std.proofs.lemmas.List.{get_or-map}
 use Rattle.sctp_list_lemmas.proofs.Getting.{length-mapped}
 use Rattle.sctp_model.specs.LinkRecord.{LinkRecord}
-use Rattle.sctp_model.specs.LinkRecord as W
 use Rattle.sctp_model.specs.Queues.{is_cleared}
-use Rattle.sctp_model.specs.Messages.{message_at, message_of, slot_at, no_slot, no_message}
+use Rattle.sctp_model.specs.Messages.{message_at, message_of, slot_at, no_slot}
 use Rattle.sctp_model.specs.Contents.{Contents, contents_of, contents_in, datagram}
 use Rattle.sctp_model.specs.Steps.{can_resend}
 use Rattle.sctp_link.specs.declared.record.Datagram.{Datagram}
-use Rattle.sctp_link.specs.declared.record.Message.{Message}
 use Rattle.sctp_link.specs.declared.record.Slot.{Slot}
 use Rattle.sctp_link.specs.Linked.{State, IsLinked}
-use Rattle.sctp_link.specs.Records.{datagram_record, slot_record, message_record}
+use Rattle.sctp_link.specs.Records.{datagram_record, slot_record}
 use Rattle.sctp_link.specs.Encodings.{datagram_encoding}
 use Rattle.sctp_link.proofs.upkeep.Facts.{facts}
 
@@ -51,16 +49,6 @@ slot-message sum x xs p s l slots lt is =
     let same : slot_at x.recorded p ≡ slot_record s = ap (λ ys. slice_index_or ys p no_slot) slots ∙ get_or-map slot_record xs p s no_slot within ∙ ap slot_record (sym is) in
     let made = (facts sum x l).sane.sender.made p lt in
     (same, omega (arith, made, ap (λ t. t.message) same))
-
--- a slot is acknowledged, or its message abandoned
-pub cleared-is : (sum : List ℕ → ℕ) (x : State) (ms : List Message) (xs : List Slot) (p : ℕ) (s : Slot) (m : Message) → IsLinked sum x → x.recorded.messages ≡ map message_record ms → x.recorded.slots ≡ map slot_record xs → p < length x.recorded.slots → s ≡ slice_index_or xs p s → m ≡ slice_index_or ms s.message m
-    → (s.acknowledged || m.abandoned) ≡ is_cleared x.recorded p
-cleared-is sum x ms xs p s m l messages slots lt is im =
-    let r = slot-message sum x xs p s l slots lt is in
-    let within : s.message < length ms = omega (arith, r.1, ap length messages, length-mapped message_record ms) in
-    let same : message_at x.recorded s.message ≡ message_record m = ap (λ ys. slice_index_or ys s.message no_message) messages ∙ get_or-map message_record ms s.message m no_message within ∙ ap message_record (sym im) in
-    ap (λ b. s.acknowledged || b) (sym (ap (λ t. t.abandoned) same))
-    ∙ sym (ap (λ (t : W.Slot). t.acknowledged || (message_at x.recorded t.message).abandoned) r.0)
 
 -- one that is neither, among those in flight, can be sent again
 pub can-resend : (w : LinkRecord) (p : ℕ) → w.taken ≤ p → p < length w.slots → can_resend w p ≡ not (is_cleared w p)

@@ -46,15 +46,6 @@ changed-found s ls a f k d lt e = sym (change_where-only (has_number s) f ls k d
     at-any : (c : OpenStream) → (slice_index_or ls k c).state.stream_identifier ≡ s
     at-any c = ap (λ (l : OpenStream). l.state.stream_identifier) (any ls k c d lt) ∙ e
 
--- where none was found, none is changed
-pub changed-none : (f : OpenStream → OpenStream) (ls : List OpenStream) (s : ℕ) → find (has_number s) ls ≡ None → ls ≡ change_where (has_number s) f ls
-changed-none f [] s none = refl
-changed-none f (l ∷ ls) s none = step (l.state.stream_identifier == s) none (λ h. changed-none f ls s h)
-  where
-    step : (b : Bool) → (if b then Some l else find (has_number s) ls) ≡ None → (find (has_number s) ls ≡ None → ls ≡ change_where (has_number s) f ls) → l ∷ ls ≡ (if b then f l else l) ∷ change_where (has_number s) f ls
-    step true h ih = cc
-    step false h ih = ap (λ xs. l ∷ xs) (ih h)
-
 -- ## No number twice
 
 -- no number changes

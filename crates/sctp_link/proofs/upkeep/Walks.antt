@@ -1,13 +1,7 @@
--- A walk over a list to its first element that passes a test, and walks that change each element of it, or of its tail.
-use Rattle.std.proofs.Common.{◌≡◌, ◌<◌, ◌≤◌, ◌+◌, ◌-◌, ℕ, zero, suc, Bool, true, false, List, [], ◌∷◌, ◌++◌, length, get_or, set, take, drop, map, find, Some, refl, sym, ap, ◌∙◌, arith}
+-- Walks that change each element of a list, or of its tail.
+use Rattle.std.proofs.Common.{◌≡◌, ◌<◌, ◌≤◌, ◌+◌, ◌-◌, ℕ, List, ◌++◌, length, get_or, set, take, drop, map, refl, sym, ap, ◌∙◌, arith}
 use Rattle.std.proofs.lemmas.List.{get_or_default, get_or-append_right, set-append_right, length-take-le, length-drop, length-append, take-append-drop, append-nil, take_all, drop_all}
 use Rattle.std.proofs.lemmas.List.Edits.{map_over_more}
-
-module _ {X : Type 0} (p : X → Bool) where
-  pub find_first : (xs : List X) (i : ℕ) (d : X) → i < length xs → ((k : ℕ) (d : X) → k < i → p (get_or xs k d) ≡ false) → p (get_or xs i d) ≡ true → find p xs ≡ Some (get_or xs i d)
-  find_first [] i d lt before here = absurd (omega (arith, lt))
-  find_first (x ∷ xs) zero d lt before here = rw here refl
-  find_first (x ∷ xs) (suc i) d lt before here = rw (before 0 x (omega arith)) (find_first xs i d (omega (arith, lt)) (λ k d lt. before (suc k) d (omega arith)) here)
 
 module _ {X : Type 0} (f : X → X) where
   -- one place of a walk that changes each element

@@ -20,9 +20,6 @@ use Rattle.sctp_list_lemmas.proofs.Totals.{total-plus, total-append, total-split
 
 -- ## A message
 
-fragment_length : LinkRecord → ℕ → ℕ → ℕ
-fragment_length w n i = length (Messages.fragment_at w n i)
-
 -- the bytes in its slots are those of its first fragments
 pub slots-bytes : (w : LinkRecord) (n : ℕ) → Sender (shape w) → total_over (Amounts.slot_bytes w n) (Messages.slots_of w n) ≡ total_over (λ i. length (Messages.fragment_at w n i)) (numbers_from 0 (Messages.sent_of w n))
 slots-bytes w n s =

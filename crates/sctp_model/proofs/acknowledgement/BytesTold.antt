@@ -9,7 +9,6 @@ use Rattle.sctp_list_lemmas.proofs.More.{fails, not_both, both, and, kept-short,
 use Rattle.sctp_model.proofs.sender.Sender.{Sender}
 use Rattle.sctp_model.specs.declared.event.Event.{Event}
 use Rattle.sctp_model.specs.declared.event.Event.TheVariants as E
-use Rattle.sctp_model.specs.Reply.{Reply}
 use Rattle.sctp_model.specs.Reply as R
 use Rattle.sctp_model.specs.LinkRecord.{Setup, Datagram, Data, Forward, Sack, LinkRecord}
 use Rattle.sctp_model.specs.Messages
@@ -185,9 +184,6 @@ released-acked w (Some (Data ps)) = omega arith
 released-acked w (Some (Forward upto names)) = omega arith
 released-acked w (Some (Sack r)) = omega (arith, less)
   where
-    v : LinkRecord
-    v = Changes.after_acked w (Some (Sack r))
-
     acked : (p : ℕ) → p < length w.slots → acknowledged_at w p ≡ true → acknowledged_at (Changes.after_acked w (Some (Sack r))) p ≡ true
     acked p lt e = ap (λ y. y.acknowledged) (numbered-at (Changes.acknowledged_by r) 0 p w.slots Messages.no_slot lt) ∙ ap (λ b. b || reports r (0 + p)) e
 

@@ -7,10 +7,9 @@ use Rattle.sctp_list_lemmas.specs.Kept.{numbers_where}
 use Rattle.sctp_list_lemmas.proofs.Passing.{kept-same}
 use Rattle.sctp_list_lemmas.proofs.More.{fails, both, and}
 use Rattle.sctp_list_lemmas.proofs.Alls
-use Rattle.sctp_model.specs.LinkRecord.{LinkRecord}
 use Rattle.sctp_model.specs.Log
 use Rattle.sctp_model.specs.Log.{LogEntry, SlotReceived, SkipReceived, SackMade}
-use Rattle.sctp_model.proofs.sender.Shape.{Shape, shape, has, sent, parts}
+use Rattle.sctp_model.proofs.sender.Shape.{Shape, has, sent, parts}
 use Rattle.sctp_model.proofs.sender.Sender.{Sender}
 use Rattle.sctp_model.proofs.sender.Grows.{Grows, parts-grown}
 use Rattle.sctp_model.proofs.receiver.View.{View, come_count, all_come, complete_at}
@@ -27,9 +26,6 @@ slots_in x n = numbers_where (has x n) 0 x.slots
 
 abbrev pub complete_in : Shape → List LogEntry → ℕ → Bool
 complete_in x log n = (sent x n == parts x n) && (if (x.message n).ordered then list_all (Log.arrived_new log) (slots_in x n) else Log.were_complete (slots_in x n) log)
-
-pub complete-is : (w : LinkRecord) (log : List LogEntry) (n : ℕ) → Log.is_complete_by w log n ≡ complete_in (shape w) log n
-complete-is w log n = refl
 
 -- all of these slots have arrived, and no skip covered one
 abbrev pub all_now : List LogEntry → List ℕ → Bool
@@ -146,12 +142,6 @@ complete-later x y a b g log f n lt = step (cases_lt (sent x n) (sent y n))
         ap (λ l. both-ways y l (parts y n) (y.message n).ordered) same
         ∙ ap (λ k. both-ways y (slots_in x n) k (y.message n).ordered) (parts-grown x y g n lt)
         ∙ ap (both-ways y (slots_in x n) (parts x n)) ordered-is
-
--- a message without slots is not complete
-pub complete-none : (x : Shape) (log : List LogEntry) (n : ℕ) → sent x n ≡ 0 → 0 < parts x n → complete_in x log n ≡ false
-complete-none x log n z pos =
-    let e : (sent x n == parts x n) ≡ false = (let l : sent x n < parts x n = omega (arith, z, pos) in grind (arith, nat_tests)) in
-    ap (λ c. c && (if (x.message n).ordered then list_all (Log.arrived_new log) (slots_in x n) else Log.were_complete (slots_in x n) log)) e
 
 -- ## By the record
 

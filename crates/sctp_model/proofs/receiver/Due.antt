@@ -65,9 +65,6 @@ take-kept p q idx from (suc count) i b top t places = step (p from) refl i t
     later : (k : ℕ) → from + 1 ≤ k → k - from ≡ suc (k - (from + 1))
     later k le = omega arith
 
-    test : ℕ → Bool
-    test k = p k && (q k && nat_lt (idx k) top)
-
     step : (c : Bool) → p from ≡ c → (i : ℕ) → top ≡ b + i
         → ((j c : ℕ) → top ≡ c + j → ((k : ℕ) → from + 1 ≤ k → k < from + 1 + count → p k ≡ true → idx k ≡ c + length (numbers_where p (from + 1) (k - (from + 1)))) → filter q (take j (numbers_where p (from + 1) count)) ≡ numbers_where (λ k. p k && (q k && nat_lt (idx k) top)) (from + 1) count)
         → filter q (take i (if c then from ∷ numbers_where p (from + 1) count else numbers_where p (from + 1) count)) ≡ numbers_where (λ k. p k && (q k && nat_lt (idx k) top)) from (suc count)

@@ -1,15 +1,14 @@
 -- The ordered messages of a stream, by index, and the one that is expected next.
 use Rattle.std.proofs.Common.{◌≡◌, ℕ, ◌+◌, ◌-◌, ◌<◌, ◌≤◌, true, false, length, drop, get_or, refl, ap, sym, ◌∙◌, inl, inr, arith, zero-add}
 use Rattle.std.specs.Prelude.{◌⊎◌, ◌==◌, ◌&&◌, not}
-use Rattle.std.proofs.Math.Nat.{eq-or-lt_of_le}
 use Rattle.std.proofs.lemmas.Bool.{cases_lt}
 use Rattle.sctp_list_lemmas.specs.Kept.{numbers_where, leading}
 use Rattle.sctp_list_lemmas.proofs.Passing.{length-kept-lt}
-use Rattle.sctp_list_lemmas.proofs.More.{both, and}
+use Rattle.sctp_list_lemmas.proofs.More.{both}
 use Rattle.sctp_list_lemmas.proofs.Places.{leading-passes, leading-stops, leading-le, leading-is, get-drop, length-dropped, kept-get, kept-place}
 use Rattle.sctp_model.proofs.sender.Shape.{Shape, on, index}
 use Rattle.sctp_model.proofs.receiver.View.{View, line, next}
-use Rattle.sctp_list_lemmas.proofs.Cases.{same-yes, same-is, negated}
+use Rattle.sctp_list_lemmas.proofs.Cases.{same-is}
 
 -- ## Indexes
 
@@ -18,12 +17,6 @@ on-stream x s n h = same-is (x.message n).stream s (both ((x.message n).stream =
 
 pub on-ordered : (x : Shape) (s n : ℕ) → on x s n ≡ true → (x.message n).ordered ≡ true
 on-ordered x s n h = (both (x.message n).ordered (not (x.message n).expired) (both ((x.message n).stream == s) ((x.message n).ordered && not (x.message n).expired) h).1).0
-
-pub on-alive : (x : Shape) (s n : ℕ) → on x s n ≡ true → (x.message n).expired ≡ false
-on-alive x s n h = negated (x.message n).expired (both (x.message n).ordered (not (x.message n).expired) (both ((x.message n).stream == s) ((x.message n).ordered && not (x.message n).expired) h).1).1
-
-pub on-is : (x : Shape) (n : ℕ) → (x.message n).ordered ≡ true → (x.message n).expired ≡ false → on x (x.message n).stream n ≡ true
-on-is x n o e = and ((x.message n).stream == (x.message n).stream) ((x.message n).ordered && not (x.message n).expired) (same-yes (x.message n).stream) (and (x.message n).ordered (not (x.message n).expired) o (ap not e))
 
 pub index_on : (x : Shape) (s n : ℕ) → on x s n ≡ true → index x n ≡ length (numbers_where (on x s) 0 n)
 index_on x s n h = ap (λ r. length (numbers_where (on x r) 0 n)) (on-stream x s n h)
@@ -38,17 +31,6 @@ index-same x s j k a b e = step (cases_lt j k) (cases_lt k j)
     step (inl l) t = absurd (omega (arith, index-lt x s j k a b l))
     step (inr g) (inl l) = absurd (omega (arith, index-lt x s k j b a l))
     step (inr g) (inr h) = omega arith
-
-pub index-lt_back : (x : Shape) (s j k : ℕ) → on x s j ≡ true → on x s k ≡ true → index x j < index x k → j < k
-index-lt_back x s j k a b lt = step (cases_lt j k)
-  where
-    by : (k ≡ j) ⊎ (k < j) → j < k
-    by (inl e) = absurd (omega (arith, ap (index x) e))
-    by (inr l) = absurd (omega (arith, index-lt x s k j b a l))
-
-    step : (j < k) ⊎ (k ≤ j) → j < k
-    step (inl l) = l
-    step (inr g) = by (eq-or-lt_of_le g)
 
 pub line-at : (v : View) (s n d : ℕ) → n < v.x.count → on v.x s n ≡ true → get_or (line v s) (index v.x n) d ≡ n
 line-at v s n d lt h = ap (λ i. get_or (line v s) i d) (index_on v.x s n h) ∙ kept-get (on v.x s) 0 v.x.count n n d (omega arith) lt h

@@ -13,7 +13,7 @@ use Rattle.sctp_model.specs.Messages
 use Rattle.sctp_model.specs.Receiver.{is_new}
 use Rattle.sctp_model.specs.Changes
 use Rattle.sctp_model.specs.Log
-use Rattle.sctp_model.specs.Log.{LogEntry, SlotReceived, SkipReceived, SackMade}
+use Rattle.sctp_model.specs.Log.{LogEntry, SlotReceived, SkipReceived}
 use Rattle.sctp_model.specs.Laws.{AllDifferent}
 use Rattle.sctp_model.proofs.sender.Shape.{has, on, sent, parts}
 use Rattle.sctp_model.proofs.sender.Sender.{Sender}
@@ -316,9 +316,6 @@ module _ (v : View) (log : List LogEntry) (p : ℕ) (s : Sender v.x) (h : Comple
 agrees-still : (u v : View) (coming : LogEntry) (log : List LogEntry) → CompleteMessages.Hears u log → CompleteMessages.Hears v (coming ∷ log) → v.x ≡ u.x → Sender u.x → Complete u log → ((n : ℕ) → n < u.x.count → complete_at v n ≡ complete_at u n) → ((n : ℕ) → CompleteMessages.due v n ≡ true → CompleteMessages.due u n ≡ true) → (n : ℕ) → n < u.x.count → complete_at v n ≡ CompleteMessages.complete_in u.x (coming ∷ log) n
 agrees-still u v coming log heard heard' e s h same less n lt = by (u.x.message n).ordered refl
   where
-    s' : Sender v.x
-    s' = subst Sender (sym e) s
-
     le : sent v.x n ≤ parts v.x n
     le = subst (λ y. sent y n ≤ parts y n) (sym e) (s.within n lt)
 

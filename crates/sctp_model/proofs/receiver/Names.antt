@@ -1,4 +1,4 @@
-use Rattle.std.proofs.Common.{◌≡◌, ℕ, ◌+◌, ◌<◌, Bool, true, false, List, [], ◌∷◌, ◌++◌, length, map, Some, refl, ap, sym, ◌∙◌, arith}
+use Rattle.std.proofs.Common.{◌≡◌, ℕ, ◌+◌, ◌<◌, Bool, true, false, List, [], ◌∷◌, ◌++◌, map, Some, refl, ap, sym, ◌∙◌, arith}
 use Rattle.std.specs.Prelude.{if◌then◌else◌, ◌==◌, ◌&&◌, not}
 use Rattle.std.proofs.Math.Path.{subst}
 use Rattle.std.specs.List.{filter}
@@ -20,7 +20,7 @@ use Rattle.sctp_model.proofs.sender.Network.{NamesFit, names-grown, same-slot}
 use Rattle.sctp_model.proofs.receiver.Events.{Keeps, run-keeps}
 use Rattle.sctp_model.proofs.receiver.Arrivals.{Heard, heard-keeps, counts-heard, with_arrived}
 use Rattle.sctp_model.proofs.receiver.View
-use Rattle.sctp_model.proofs.receiver.View.{View, view, named_more}
+use Rattle.sctp_model.proofs.receiver.View.{View, view}
 use Rattle.sctp_model.proofs.receiver.Indexes.{on-stream}
 
 -- What was named last on a stream is what the skips that counted named.
@@ -96,14 +96,6 @@ closed-none setup w upto t (n ∷ ns) g f e =
 
 pub view-skip : (setup : Setup) (w : LinkRecord) (upto : ℕ) (names : List ℕ) → Sane setup w → NamesFit (shape w) upto names → view (record w { skipped = upto + 1; streams = map (Changes.named_by w names) w.streams }) ≡ View.skipped_in (view w) upto names
 view-skip setup w upto names g f = View.view-skipped w upto names (λ t e. closed-none setup w upto t names g f e)
-
--- the view where a message is noted as complete or not
-pub view-complete_noted : (setup : Setup) (w : LinkRecord) (n : ℕ) → Sane setup w → n < length w.messages → view (Changes.note_completion w n) ≡ (if Changes.becomes_complete w n then View.noted_in (view w) (Messages.message_at w n).stream n else view w)
-view-complete_noted setup w n g lt = step (Changes.becomes_complete w n)
-  where
-    step : (b : Bool) → view (if b then Changes.stream_changed w (Messages.message_at w n).stream (Changes.with_complete n) else w) ≡ (if b then View.noted_in (view w) (Messages.message_at w n).stream n else view w)
-    step true = View.view-noted w (Messages.message_at w n).stream n (g.known n lt)
-    step false = refl
 
 record Both (w : LinkRecord) (log : List LogEntry) : Type 0 where
   heard : Heard w log

@@ -225,9 +225,6 @@ ordered-skipped v upto names a f le o = record {
   named_is = λ s. all s names f (v.named s) (old s (o.named_is s));
 }
   where
-    v' : View
-    v' = skipped_in v upto names
-
     grown : (s x : ℕ) (ns : List ℕ) → x ≤ greatest x (map (λ n. index v.x n + 1) ns)
     grown s x [] = omega arith
     grown s x (n ∷ ns) = let g = grown s (max x (index v.x n + 1)) ns in omega (arith, g)

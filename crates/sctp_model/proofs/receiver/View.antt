@@ -9,7 +9,6 @@ use Rattle.sctp_chunks.specs.declared.chunk.chunk_payload_data.ReliabilityType.{
 use Rattle.sctp_model.specs.LinkRecord.{StreamRecord, Sack, Report, LinkRecord}
 use Rattle.sctp_model.specs.Messages
 use Rattle.sctp_model.specs.Messages.{no_stream, no_slot, no_message, stream_at, stream_of}
-use Rattle.sctp_model.specs.Receiver
 use Rattle.sctp_model.specs.Receiver.{arrived_at, greatest}
 use Rattle.sctp_model.specs.Changes
 use Rattle.sctp_model.proofs.sender.Shape.{Shape, shape, has, parts, on, index}
@@ -59,18 +58,6 @@ next_read v s = or_else (first_of (v.complete s)) (first_of (filter (λ n. not (
 
 abbrev pub held : View → ℕ → ℕ → Bool
 held v s n = on v.x s n && (not (v.read n) && (nat_lt 0 (come_count v n) && (complete_at v n || nat_le (v.named s) (index v.x n))))
-
-run-is : (w : LinkRecord) (s : ℕ) → Receiver.run_of w s ≡ run (view w) s
-run-is w s = refl
-
-next-is : (w : LinkRecord) (s : ℕ) → Receiver.next_of w s ≡ next (view w) s
-next-is w s = refl
-
-held-is : (w : LinkRecord) (s n : ℕ) → Receiver.is_held w s n ≡ held (view w) s n
-held-is w s n = refl
-
-next_read-is : (w : LinkRecord) (s : ℕ) → Receiver.next_read w s ≡ next_read (view w) s
-next_read-is w s = refl
 
 -- ## Changes of a view
 

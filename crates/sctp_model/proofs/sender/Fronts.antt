@@ -37,12 +37,6 @@ alive-unsent x n s lt z = fails (x.message n).abandoned (λ e. absurd (omega (ar
 pub front-takes : (x : Shape) (n : ℕ) → Sender x → front_of x ≡ Some n → Takes x n
 front-takes x n s e = first (first_of (numbers_where (half x) 0 x.count)) (first-kept (half x) x.count) e
   where
-    U : ℕ → Bool
-    U k = unsent x k && not (x.message k).ordered
-
-    O : ℕ → Bool
-    O k = unsent x k && (x.message k).ordered
-
     absent : ((j : ℕ) → j < x.count → half x j ≡ false) → (k : ℕ) → half x k ≡ true → k ≡ n
     absent no' k h = absurd (not_both (sym (no' k (half-made x k s h)) ∙ h))
 

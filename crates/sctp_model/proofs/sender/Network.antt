@@ -13,7 +13,7 @@ use Rattle.sctp_chunks.specs.ChunkSet.{fresh}
 use Rattle.sctp_model.specs.declared.event.Event.{Event}
 use Rattle.sctp_model.specs.declared.event.Event.TheVariants as E
 use Rattle.sctp_model.specs.declared.event.LinkRefusal.TheVariants.{NotInFlight, SkipUnassigned, SkipNames}
-use Rattle.sctp_model.specs.LinkRecord.{Setup, Datagram, Forward, Sack, LinkRecord, start}
+use Rattle.sctp_model.specs.LinkRecord.{Setup, Datagram, Forward, Sack, LinkRecord}
 use Rattle.sctp_model.specs.LinkRecord as W
 use Rattle.sctp_model.specs.Messages
 use Rattle.sctp_model.specs.Receiver
@@ -199,9 +199,6 @@ fit-at x (c ∷ ds) (suc k) d a e = fit-at x ds k d a.1 e
 fit-kept : (w v : LinkRecord) → Sender (shape w) → Grows (shape w) (shape v) → v.network ≡ w.network → AllFit (shape w) w.network → AllFit (shape v) v.network
 fit-kept w v s g e a = subst (AllFit (shape v)) (sym e) (all-grown (shape w) (shape v) s g w.network a)
 
-fit-more : (w v : LinkRecord) (d : Datagram) → Sender (shape w) → Grows (shape w) (shape v) → v.network ≡ w.network ++ d ∷ [] → Fits (shape v) d → AllFit (shape w) w.network → AllFit (shape v) v.network
-fit-more w v d s g e f a = subst (AllFit (shape v)) (sym e) (all-fit-append (shape v) w.network (d ∷ []) (all-grown (shape w) (shape v) s g w.network a) (f, tt))
-
 -- ## What a send adds
 
 -- the slots that a send adds have fragments
@@ -371,9 +368,6 @@ said m size place i tsn =
       payload_type = m.ppi;
       user_data = slice_index_or (pieces (length m.bytes) size m.bytes) i [];
     }
-
-chunk-is : (w : LinkRecord) (p : ℕ) → chunk_at w p ≡ fresh (said (as_written ((shape w).message ((shape w).slot p).message)) (shape w).size (index (shape w) ((shape w).slot p).message) ((shape w).slot p).fragment (Messages.tsn_of w p))
-chunk-is w p = refl
 
 -- the number of a message in its stream
 place-stays : (x y : Shape) → Grows x y → (n : ℕ) → 0 < sent x n → (m : MessagePart) (size i tsn : ℕ) → m.ordered ≡ (x.message n).ordered → said m size (index y n) i tsn ≡ said m size (index x n) i tsn

@@ -1,12 +1,11 @@
 -- What the sender's laws speak of: messages and slots without the flags that the receiver and the network set.
-use Rattle.std.proofs.Common.{◌≡◌, ℕ, ◌+◌, Bool, List, length, Option, refl}
+use Rattle.std.proofs.Common.{ℕ, ◌+◌, Bool, List, length, Option}
 use Rattle.std.specs.Prelude.{if◌then◌else◌, ◌==◌, ◌&&◌, ◌||◌, not, nat_lt}
 use Rattle.sctp_list_lemmas.specs.Kept.{numbers_where, first_of, or_else}
 use Rattle.sctp_list_lemmas.specs.Lists.{pieces}
 use Rattle.sctp_chunks.specs.declared.chunk.chunk_payload_data.PayloadProtocolIdentifier.{PayloadProtocolIdentifier}
 use Rattle.sctp_model.specs.LinkRecord.{Message, Slot, LinkRecord}
-use Rattle.sctp_model.specs.Messages
-use Rattle.sctp_model.specs.Messages.{message_at, slot_at, no_message, no_slot}
+use Rattle.sctp_model.specs.Messages.{message_at, slot_at}
 
 -- a message as it was written, and whether it expired or was abandoned
 pub record MessagePart : Type 0 where
@@ -70,25 +69,12 @@ front_of x =
     (or_else (first_of (numbers_where (λ n. unsent x n && not (x.message n).ordered) 0 x.count))
     (first_of (numbers_where (λ n. unsent x n && (x.message n).ordered) 0 x.count)))
 
-sent-is : (w : LinkRecord) (n : ℕ) → Messages.sent_of w n ≡ sent (shape w) n
-sent-is w n = refl
-
-front-is : (w : LinkRecord) → Messages.front w ≡ front_of (shape w)
-front-is w = refl
-
-index-is : (w : LinkRecord) (n : ℕ) → Messages.index_of w n ≡ index (shape w) n
-index-is w n = refl
-
 -- ## Changes of a shape
 
 -- one more slot
 abbrev pub slotted : Shape → ℕ → Bool → Shape
 slotted x n is_terminal_chunk =
     record x { slots = x.slots + 1; slot = λ p. if p == x.slots then record { message = n; fragment = sent x n; is_terminal_chunk = is_terminal_chunk } else x.slot p }
-
--- another message n
-abbrev pub flagged : Shape → ℕ → (MessagePart → MessagePart) → Shape
-flagged x n f = record x { message = λ k. if k == n then f (x.message k) else x.message k }
 
 -- one more message
 abbrev pub written : Shape → MessagePart → Shape

@@ -360,7 +360,3 @@ module _ (w : LinkRecord) (n : ℕ) (s : Sender (shape w)) (pos : 0 < sent_of w 
       by : (b : Bool) → (if b then following_tsn (tsn_of w (length w.slots)) else tsn_of w (length w.slots)) ≡ tsn_of (message_changed (if b then with_slot w n true else w) n mark_abandoned) (length (message_changed (if b then with_slot w n true else w) n mark_abandoned).slots)
       by true = (let g : (tsn_of w (length w.slots) + 1) % 2 ^ 32 ≡ tsn_of w (suc (length w.slots)) = omega arith in g) ∙ ap (tsn_of w) (sym many)
       by false = refl
-
-  -- it takes room only where a tail was, and then nothing of it waits any more
-  pub room-abandoned : (tsn : ℕ) (q : Outbound) → RefinesOutbound w q → is_partially_sent w n ≡ false → (queue.abandon_chunks n tsn q).inflight.room ≡ q.inflight.room
-  room-abandoned tsn q t e = ap (λ o. (with_terminal_chunk o tsn (payload.with_chunks q.inflight (change_where (is_of n) as_abandoned q.inflight.chunks))).room) (last-removed w n q.pending made-message t.pending ∙ ap (λ c. if c then Some (waiting_at w n (fragment_count w n - 1)) else None) (rest-is ∙ e))

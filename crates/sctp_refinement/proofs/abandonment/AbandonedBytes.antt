@@ -1,23 +1,20 @@
 -- The bytes that leave, by what the queue holds before and after.
-use Rattle.std.proofs.Common.{◌≡◌, ℕ, ◌+◌, ◌-◌, ◌<◌, ◌^◌, length, Some, None, refl, ap, sym, ◌∙◌, arith}
-use Rattle.std.specs.Prelude.{if◌then◌else◌, ◌==◌, find}
+use Rattle.std.proofs.Common.{◌≡◌, ℕ, ◌-◌, ◌<◌, ◌^◌, length, None, refl, ap, arith}
+use Rattle.std.specs.Prelude.{find}
 use Rattle.sctp_serial.specs.DataChunks.{has_tsn}
-use Rattle.sctp_outbound.specs.outbound_queue.OutboundQueue.{Outbound, total_bytes, to_abandon, abandoned_of, message_of, expiring_tail, late_tsns}
+use Rattle.sctp_outbound.specs.outbound_queue.OutboundQueue.{Outbound, total_bytes, to_abandon, abandoned_of, message_of, expiring_tail}
 use Rattle.sctp_model.specs.declared.event.Event.TheVariants as E
 use Rattle.sctp_model.specs.LinkRecord.{LinkRecord, Setup}
-use Rattle.sctp_model.specs.Messages
-use Rattle.sctp_model.specs.Messages.{message_at, place_of, tsn_of}
+use Rattle.sctp_model.specs.Messages.{tsn_of}
 use Rattle.sctp_model.specs.Amounts.{growth}
-use Rattle.sctp_model.specs.Changes.{tailing}
 use Rattle.sctp_model.specs.Steps.{History, record_of, IsRun, refusal_of, after}
 use Rattle.sctp_model.specs.Laws.{IsSetup}
 use Rattle.sctp_model.proofs.sender.SenderRun.{sane-run}
-use Rattle.sctp_refinement.specs.Amount.{amount}
 use Rattle.sctp_refinement.specs.Refines.{RefinesOutbound}
 use Rattle.sctp_refinement.proofs.sending.Fragments.{going-run}
 use Rattle.sctp_refinement.proofs.sending.KindsRun.{taken-run}
-use Rattle.sctp_refinement.proofs.abandonment.Released.{growth-by_queues, growth-abandon, growth-tail, amount-abandon, amount-tail}
-use Rattle.sctp_refinement.proofs.abandonment.AbandonedEvents.{refines-abandon, refines-tail, refines-late, given_all}
+use Rattle.sctp_refinement.proofs.abandonment.Released.{growth-by_queues}
+use Rattle.sctp_refinement.proofs.abandonment.AbandonedEvents.{refines-abandon, refines-tail}
 
 module _ (setup : Setup) (h : History) (is : IsSetup setup) (run : IsRun setup h) (q : Outbound) (t : RefinesOutbound (record_of setup h) q) where
   abbrev w : LinkRecord
@@ -34,11 +31,6 @@ module _ (setup : Setup) (h : History) (is : IsSetup setup) (run : IsRun setup h
     pub bytes-abandon : growth w (after w (E.Abandon tsn)) ≡ total_bytes q - total_bytes r
     bytes-abandon = growth-by_queues setup h is run (E.Abandon tsn) ok refl q r t (refines-abandon setup w tsn q (sane-run setup h run) first fits ok t)
 
-    pub stream-abandon : (s : ℕ) → amount (after w (E.Abandon tsn)) s + (if (message_at w (Messages.message_of w (place_of w tsn))).stream == s then total_bytes q - total_bytes r else 0) ≡ amount w s
-    stream-abandon s =
-        ap (λ b. amount (after w (E.Abandon tsn)) s + (if (message_at w (Messages.message_of w (place_of w tsn))).stream == s then b else 0)) (sym bytes-abandon ∙ growth-abandon setup w tsn (sane-run setup h run) ok is)
-        ∙ amount-abandon setup w tsn (sane-run setup h run) ok s
-
   -- a Tail
   module _ (now : ℕ) where
     abbrev u : Outbound
@@ -46,12 +38,3 @@ module _ (setup : Setup) (h : History) (is : IsSetup setup) (run : IsRun setup h
 
     pub bytes-tail : growth w (after w (E.Tail now)) ≡ total_bytes q - total_bytes u
     bytes-tail = growth-by_queues setup h is run (E.Tail now) refl refl q u t (refines-tail setup w now q (going-run setup h run) (taken-run setup h is run) t)
-
-    pub stream-tail : (n : ℕ) → tailing w now ≡ Some n → (s : ℕ) → amount (after w (E.Tail now)) s + (if (message_at w n).stream == s then total_bytes q - total_bytes u else 0) ≡ amount w s
-    stream-tail n e s =
-        ap (λ b. amount (after w (E.Tail now)) s + (if (message_at w n).stream == s then b else 0)) (sym bytes-tail ∙ growth-tail setup w now n (sane-run setup h run) is e)
-        ∙ amount-tail setup w now n (sane-run setup h run) e s
-
-  -- a Late: in all; of a stream each TSN is an Abandon
-  pub bytes-late : (now : ℕ) → growth w (after w (E.Late now)) ≡ total_bytes q - total_bytes (given_all (late_tsns now q) (tsn_of w (length w.slots)) q).1
-  bytes-late now = growth-by_queues setup h is run (E.Late now) refl refl q (given_all (late_tsns now q) (tsn_of w (length w.slots)) q).1 t (refines-late setup w now q (sane-run setup h run) (taken-run setup h is run) t).0

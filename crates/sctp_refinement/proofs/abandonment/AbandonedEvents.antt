@@ -1,6 +1,6 @@
 -- Abandon, Tail and Late leave an outbound queue that refines the record.
-use Rattle.std.proofs.Common.{◌≡◌, ℕ, zero, suc, ◌+◌, ◌-◌, ◌<◌, ◌≤◌, ◌%◌, ◌^◌, Bool, true, false, List, [], ◌∷◌, length, map, Option, Some, None, refl, ap, sym, ◌∙◌, inl, inr, arith, length-append}
-use Rattle.std.specs.Prelude.{◌⊎◌, if◌then◌else◌, ◌==◌, ◌&&◌, ◌||◌, not, nat_lt, nat_le, fold, find}
+use Rattle.std.proofs.Common.{◌≡◌, ℕ, zero, suc, ◌+◌, ◌-◌, ◌<◌, ◌≤◌, ◌^◌, Bool, true, false, List, [], ◌∷◌, length, map, Option, Some, None, refl, ap, sym, ◌∙◌, inl, inr, arith, length-append}
+use Rattle.std.specs.Prelude.{◌⊎◌, if◌then◌else◌, ◌==◌, ◌&&◌, ◌||◌, not, nat_lt, nat_le, find}
 use Rattle.std.proofs.Math.Path.{subst}
 use Rattle.std.proofs.lemmas.Bool.{cases_lt}
 use Rattle.std.proofs.lemmas.Bool.Decides.{nat_tests}
@@ -9,8 +9,7 @@ use Rattle.sctp_chunks.specs.Reliability.{is_past, is_timed}
 use Rattle.sctp_chunks.specs.PayloadTypes.{is_dcep}
 use Rattle.sctp_list_lemmas.specs.Kept.{numbers_where, always}
 use Rattle.sctp_list_lemmas.proofs.Passing.{kept-skip}
-use Rattle.sctp_list_lemmas.proofs.More.{both, and, fails, not_both}
-use Rattle.sctp_list_lemmas.proofs.Cases.{same-yes}
+use Rattle.sctp_list_lemmas.proofs.More.{both, and}
 use Rattle.sctp_list_lemmas.proofs.Getting.{get-snoc_old}
 use Rattle.sctp_chunks.specs.declared.chunk.chunk_payload_data.ChunkPayloadData.{ChunkPayloadData}
 use Rattle.sctp_serial.specs.DataChunks.{has_tsn}
@@ -25,7 +24,7 @@ use Rattle.sctp_model.specs.Changes.{after_abandon, with_slot, message_changed, 
 use Rattle.sctp_model.specs.Steps.{refusal_of, after}
 use Rattle.sctp_model.proofs.sender.Shape.{shape}
 use Rattle.sctp_model.proofs.sender.Sender.{Sender}
-use Rattle.sctp_model.proofs.sender.SenderSteps.{of-half, is-half, half-one}
+use Rattle.sctp_model.proofs.sender.SenderSteps.{of-half, is-half}
 use Rattle.sctp_model.proofs.sender.SenderRun.{Sane, sane-abandoned, unless-holds}
 use Rattle.sctp_model.proofs.sender.Fronts.{slot-sent}
 use Rattle.sctp_model.proofs.sender.Few.{few}
@@ -34,8 +33,8 @@ use Rattle.sctp_refinement.proofs.sending.InFlight.{Found, found-in}
 use Rattle.sctp_refinement.proofs.sending.Sent.{FrontIs, front_is}
 use Rattle.sctp_refinement.proofs.sending.Fragments.{idle, shown}
 use Rattle.sctp_refinement.proofs.sending.KindsRun.{Going}
-use Rattle.sctp_refinement.proofs.abandonment.Abandoned.{refines-abandoned, tsn-abandoned, room-abandoned, waits-half}
-use Rattle.sctp_refinement.proofs.abandonment.AbandonedLate.{abandoned-again, late-order, half-still}
+use Rattle.sctp_refinement.proofs.abandonment.Abandoned.{refines-abandoned, tsn-abandoned, waits-half}
+use Rattle.sctp_refinement.proofs.abandonment.AbandonedLate.{abandoned-again}
 
 -- ## A TSN in flight
 
@@ -90,29 +89,6 @@ module _ (setup : Setup) (w : LinkRecord) (p : ℕ) (q : Outbound) (g : Sane set
       by : (b : Bool) → (message_at w owner).abandoned ≡ b → has_tail chosen q ≡ is_partially_sent w owner
       by true e = ap (λ o. has_tail o q) (chosen-is true e) ∙ dead (nat_lt 0 (sent_of w owner)) (nat_lt (sent_of w owner) (fragment_count w owner)) (message_at w owner).abandoned e
       by false e = ap (λ o. has_tail o q) (chosen-is false e) ∙ waits-half w owner g.sender pos q t
-
-  -- room for the one terminal chunk is kept until it is taken
-  pub room-tsn : (0 < q.inflight.room) ⊎ ((k : ℕ) → is_partially_sent w k ≡ false) → (0 < (abandoned_of chosen upcoming q).inflight.room) ⊎ ((k : ℕ) → is_partially_sent (after_abandon w owner) k ≡ false)
-  room-tsn r = by (is_partially_sent w owner) refl r
-    where
-      left : (a b : Bool) → a ≡ false → (a && b) ≡ false
-      left true b e = cc
-      left false b e = refl
-
-      gone : (k : ℕ) → is_partially_sent w owner ≡ true → is_partially_sent (after_abandon w owner) k ≡ false
-      gone k h = half-still w owner k ∙ fails (is_partially_sent w k && not (k == owner)) (λ z.
-          let a = both (is_partially_sent w k) (not (k == owner)) z in
-          let e : k ≡ owner = half-one (shape w) k owner g.sender a.0 h in
-          not_both (ap not (sym (ap (λ j. k == j) (sym e) ∙ same-yes k)) ∙ a.1))
-
-      same : (b : Bool) → (message_at w owner).abandoned ≡ b → is_partially_sent w owner ≡ false → (abandoned_of chosen upcoming q).inflight.room ≡ q.inflight.room
-      same true e h = ap (λ o. (abandoned_of o upcoming q).inflight.room) (chosen-is true e)
-      same false e h = ap (λ o. (abandoned_of o upcoming q).inflight.room) (chosen-is false e) ∙ room-abandoned w owner g.sender pos upcoming q t h
-
-      by : (b : Bool) → is_partially_sent w owner ≡ b → (0 < q.inflight.room) ⊎ ((k : ℕ) → is_partially_sent w k ≡ false) → (0 < (abandoned_of chosen upcoming q).inflight.room) ⊎ ((k : ℕ) → is_partially_sent (after_abandon w owner) k ≡ false)
-      by true h r = inr (λ k. gone k h)
-      by false h (inl room) = inl (omega (arith, room, same (message_at w owner).abandoned refl h))
-      by false h (inr none) = inr (λ k. half-still w owner k ∙ left (is_partially_sent w k) (not (k == owner)) (none k))
 
 -- ## Abandon
 
@@ -238,56 +214,9 @@ abandoning-next setup w v n pos g = record {
     slot-same true p lt = get-snoc_old v.slots new p no_slot (λ e. omega arith)
     slot-same false p lt = refl
 
--- one late slot
-module _ (setup : Setup) (w v : LinkRecord) (p : ℕ) (q : Outbound) (g : IsAbandoning setup w v) (low : w.taken ≤ p) (high : p < length w.slots) (t : RefinesOutbound v q) where
-  same-tsn : tsn_of v p ≡ tsn_of w p
-  same-tsn = ap (λ s. (s.first + p) % 2 ^ 32) g.first
-
-  same-message : message_of v p ≡ message_of w p
-  same-message = ap (λ x. x.message) (g.slot p high)
-
-  low' : v.taken ≤ p
-  low' = omega (arith, low, g.taken)
-
-  high' : p < length v.slots
-  high' = omega (arith, high, g.more)
-
-  abbrev late : Option ℕ
-  late = to_abandon (find (has_tsn (tsn_of w p)) q.inflight.chunks)
-
-  pub refines-late_slot : RefinesOutbound (after_abandon v (message_of w p)) (abandoned_of late (tsn_of v (length v.slots)) q)
-  refines-late_slot =
-      subst (λ n. RefinesOutbound (after_abandon v n) (abandoned_of late (tsn_of v (length v.slots)) q)) same-message
-      (subst (λ k. RefinesOutbound (after_abandon v (message_of v p)) (abandoned_of (to_abandon (find (has_tsn k) q.inflight.chunks)) (tsn_of v (length v.slots)) q)) same-tsn (refines-tsn setup v p q g.sane low' high' t))
-
-  pub next-late_slot : tsn_after_of late (tsn_of v (length v.slots)) q ≡ tsn_of (after_abandon v (message_of w p)) (length (after_abandon v (message_of w p)).slots)
-  next-late_slot =
-      subst (λ n. tsn_after_of late (tsn_of v (length v.slots)) q ≡ tsn_of (after_abandon v n) (length (after_abandon v n).slots)) same-message
-      (subst (λ k. tsn_after_of (to_abandon (find (has_tsn k) q.inflight.chunks)) (tsn_of v (length v.slots)) q ≡ tsn_of (after_abandon v (message_of v p)) (length (after_abandon v (message_of v p)).slots)) same-tsn (next-tsn setup v p q g.sane low' high' t))
-
-  pub abandoning-late_slot : IsAbandoning setup w (after_abandon v (message_of w p))
-  abandoning-late_slot = abandoning-next setup w v (message_of w p) (subst (λ n. 0 < sent_of v n) same-message (slot-sent (shape v) p g.sane.sender high')) g
-
--- the queue's own loop: each TSN in turn
-abbrev pub given_all : List ℕ → ℕ → Outbound → ℕ × Outbound
-given_all [] next q = (next, q)
-given_all (tsn ∷ tsns) next q = given_all tsns (tsn_after_of (to_abandon (find (has_tsn tsn) q.inflight.chunks)) next q) (abandoned_of (to_abandon (find (has_tsn tsn) q.inflight.chunks)) next q)
-
 abbrev pub AllInFlight : LinkRecord → List ℕ → Type 0
 AllInFlight w [] = Unit {0}
 AllInFlight w (p ∷ ps) = (w.taken ≤ p) × (p < length w.slots) × AllInFlight w ps
-
-abbrev pub RefinesNext : LinkRecord → ℕ × Outbound → Type 0
-RefinesNext v o = RefinesOutbound v o.1 × (o.0 ≡ tsn_of v (length v.slots))
-
-pub refines-all : (setup : Setup) (w : LinkRecord) (ps : List ℕ) (v : LinkRecord) (next : ℕ) (q : Outbound) → AllInFlight w ps → IsAbandoning setup w v → next ≡ tsn_of v (length v.slots) → RefinesOutbound v q → RefinesNext (fold after_abandon v (map (message_of w) ps)) (given_all (map (tsn_of w) ps) next q)
-refines-all setup w [] v next q a g e t = (t, e)
-refines-all setup w (p ∷ ps) v next q a g e t =
-    let late = to_abandon (find (has_tsn (tsn_of w p)) q.inflight.chunks) in
-    refines-all setup w ps (after_abandon v (message_of w p)) (tsn_after_of late next q) (abandoned_of late next q) a.2
-    (abandoning-late_slot setup w v p q g a.0 a.1 t)
-    (ap (λ k. tsn_after_of late k q) e ∙ next-late_slot setup w v p q g a.0 a.1 t)
-    (subst (λ k. RefinesOutbound (after_abandon v (message_of w p)) (abandoned_of late k q)) (sym e) (refines-late_slot setup w v p q g a.0 a.1 t))
 
 -- ## Which slots are late
 
@@ -359,10 +288,3 @@ late-in_flight w now = all 0 (length w.slots)
         by : (b : Bool) → is_late w now from ≡ b → AllInFlight w (numbers_where (is_late w now) (from + 1) count) → AllInFlight w (if b then from ∷ numbers_where (is_late w now) (from + 1) count else numbers_where (is_late w now) (from + 1) count)
         by true e r = let o = one from e in (o.0, o.1, r)
         by false e r = r
-
--- a Late abandons each TSN that the queue lists, in turn
-pub refines-late : (setup : Setup) (w : LinkRecord) (now : ℕ) (q : Outbound) → Sane setup w → w.taken ≤ length w.slots → RefinesOutbound w q → RefinesNext (after w (E.Late now)) (given_all (late_tsns now q) (tsn_of w (length w.slots)) q)
-refines-late setup w now q g made t =
-    subst (λ v. RefinesNext v (given_all (late_tsns now q) (tsn_of w (length w.slots)) q)) (sym (late-order setup w now g))
-    (subst (λ l. RefinesNext (fold after_abandon w (map (message_of w) (late_slots w now))) (given_all l (tsn_of w (length w.slots)) q)) (sym (late-tsns w now q g.sender made t))
-    (refines-all setup w (late_slots w now) w (tsn_of w (length w.slots)) q (late-in_flight w now) (abandoning-first setup w g) refl t))

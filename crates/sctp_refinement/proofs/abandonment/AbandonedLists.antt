@@ -35,9 +35,6 @@ pub those-gathered : (w : LinkRecord) (t p : ℕ → Bool) (from count : ℕ) �
 those-gathered w t p from zero = refl
 those-gathered w t p from (suc count) = by (p from) (t from) refl (those-gathered w t p (from + 1) count)
   where
-    rest : List ChunkPayloadData
-    rest = flat_map (waiting_of w) (numbers_where (λ k. p k && t k) (from + 1) count)
-
     by : (a b : Bool) → t from ≡ b → filter (λ c. t c.message_id) (flat_map (waiting_of w) (numbers_where p (from + 1) count)) ≡ flat_map (waiting_of w) (numbers_where (λ k. p k && t k) (from + 1) count)
         → filter (λ c. t c.message_id) (flat_map (waiting_of w) (if a then from ∷ numbers_where p (from + 1) count else numbers_where p (from + 1) count)) ≡ flat_map (waiting_of w) (if a && b then from ∷ numbers_where (λ k. p k && t k) (from + 1) count else numbers_where (λ k. p k && t k) (from + 1) count)
     by false b e ih = ih

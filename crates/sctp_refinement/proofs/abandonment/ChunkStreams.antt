@@ -1,46 +1,22 @@
 -- Of which stream a chunk is that a call looks up: in flight, even where its bytes are gone, or in front of what waits.
-use Rattle.std.proofs.Common.{◌≡◌, ℕ, ◌-◌, ◌<◌, ◌≤◌, ◌^◌, Bool, true, false, List, map, length, Option, Some, None, refl, ap, sym, ◌∙◌, arith}
+use Rattle.std.proofs.Common.{◌≡◌, ℕ, ◌-◌, ◌<◌, ◌≤◌, ◌^◌, Bool, true, false, length, Option, Some, None, refl, ap, sym, ◌∙◌, arith}
 use Rattle.std.specs.Prelude.{if◌then◌else◌, nat_lt, nat_le, find, option_map}
 use Rattle.std.proofs.lemmas.Bool.Decides.{nat_tests}
-use Rattle.sctp_list_lemmas.specs.Kept.{numbers_where, always, numbers_from}
 use Rattle.sctp_list_lemmas.proofs.More.{both}
 use Rattle.sctp_chunks.specs.declared.chunk.chunk_payload_data.ChunkPayloadData.{ChunkPayloadData}
 use Rattle.sctp_serial.specs.DataChunks.{has_tsn}
 use Rattle.sctp_outbound.specs.pending_queue.PendingQueue.{next_pending}
-use Rattle.sctp_outbound.specs.outbound_queue.OutboundQueue.{Outbound, passing, expiring, expiring_tail}
+use Rattle.sctp_outbound.specs.outbound_queue.OutboundQueue.{Outbound, passing, expiring_tail}
 use Rattle.sctp_outbound.specs.outbound_queue.OutboundQueue as queue
-use Rattle.sctp_model.specs.declared.event.Event.TheVariants as E
-use Rattle.sctp_model.specs.declared.event.LinkRefusal.TheVariants.{NotInFlight}
 use Rattle.sctp_model.specs.LinkRecord.{LinkRecord, Setup}
 use Rattle.sctp_model.specs.Messages.{message_at, message_of, front, sent_of, is_in_flight, tsn_of, place_of}
-use Rattle.sctp_model.specs.Changes.{tailing}
-use Rattle.sctp_model.specs.Steps.{refusal_of}
-use Rattle.sctp_model.proofs.sender.SenderRun.{Sane, unless-holds}
+use Rattle.sctp_model.proofs.sender.SenderRun.{Sane}
 use Rattle.sctp_model.proofs.sender.Few.{few}
-use Rattle.sctp_refinement.specs.Amount.{stream_of_slot}
-use Rattle.sctp_refinement.specs.Refines.{waiting_at, sending_of, sending_at, sending_by, IsInFlight, RefinesOutbound}
+use Rattle.sctp_refinement.specs.Refines.{waiting_at, RefinesOutbound}
 use Rattle.sctp_refinement.proofs.sending.InFlight.{Found, found-in}
 use Rattle.sctp_refinement.proofs.sending.Fragments.{idle, shown}
 use Rattle.sctp_refinement.proofs.sending.KindsRun.{Going}
-use Rattle.sctp_refinement.proofs.abandonment.AbandonedEvents.{tail-is}
 use Rattle.sctp_list_lemmas.proofs.Cases.{some-same}
-use Rattle.sctp_list_lemmas.proofs.Getting.{map-twice}
-
--- ## In flight
-
--- the chunk that is found is that of its slot
-pub found-is : (w : LinkRecord) (p : ℕ) (q : Outbound) (c : ChunkPayloadData) → length w.slots < 2 ^ 31 → w.taken ≤ p → p < length w.slots → RefinesOutbound w q → find (has_tsn (tsn_of w p)) q.inflight.chunks ≡ Some c → sending_of c ≡ sending_at w p
-found-is w p q c short low high t e =
-    let f : Found w p q.inflight.chunks = found-in w p (omega (arith, high, short)) q.inflight.chunks w.taken (length w.slots - w.taken) (omega (arith, low, high, short)) low (omega (arith, low, high)) t.in_flight in
-    ap sending_of (some-same (sym e ∙ f.is)) ∙ f.says
-
--- the streams of all that is in flight, while acknowledgements are taken and else
-pub streams-by : (w : LinkRecord) (acked : ℕ → Bool) (from count : ℕ) (cs : List ChunkPayloadData) → IsInFlight w acked from count cs → map (λ c. c.stream_identifier) cs ≡ map (stream_of_slot w) (numbers_where always from count)
-streams-by w acked from count cs e =
-    sym (map-twice (λ s. s.stream) sending_of cs) ∙ ap (map (λ s. s.stream)) e ∙ map-twice (λ s. s.stream) (λ k. sending_by w (acked k) k) (numbers_where always from count)
-
-pub streams-in_flight : (w : LinkRecord) (q : Outbound) → RefinesOutbound w q → map (λ c. c.stream_identifier) q.inflight.chunks ≡ map (stream_of_slot w) (numbers_from w.taken (length w.slots - w.taken))
-streams-in_flight w q t = sym (map-twice (λ s. s.stream) sending_of q.inflight.chunks) ∙ ap (map (λ s. s.stream)) t.in_flight ∙ map-twice (λ s. s.stream) (sending_at w) (numbers_from w.taken (length w.slots - w.taken))
 
 -- ## The chunk of a TSN in flight
 
@@ -57,27 +33,11 @@ module _ (setup : Setup) (w : LinkRecord) (tsn : ℕ) (q : Outbound) (g : Sane s
   high : p < length w.slots
   high = let a = (both (nat_le w.taken p) (nat_lt p (length w.slots)) flies).1 in grind (arith, nat_tests)
 
-  -- it is that of the TSN's slot
-  pub flying-is : (c : ChunkPayloadData) → find (has_tsn tsn) q.inflight.chunks ≡ Some c → sending_of c ≡ sending_at w (place_of w tsn)
-  flying-is c e = found-is w p q c (few setup w g) low high t (ap (λ k. find (has_tsn k) q.inflight.chunks) back ∙ e)
-
-  -- of its message
-  pub flying-message : (c : ChunkPayloadData) → find (has_tsn tsn) q.inflight.chunks ≡ Some c → c.message_id ≡ message_of w (place_of w tsn)
-  flying-message c e = ap (λ s. s.chunk.message) (flying-is c e)
-
-  -- and of its message's stream, whether or not its bytes are gone
-  pub flying-stream : (c : ChunkPayloadData) → find (has_tsn tsn) q.inflight.chunks ≡ Some c → c.stream_identifier ≡ (message_at w (message_of w (place_of w tsn))).stream
-  flying-stream c e = ap (λ s. s.stream) (flying-is c e)
-
   -- there is one, so the call answers that stream
   pub flying-answer : option_map (λ c. c.stream_identifier) (find (has_tsn tsn) q.inflight.chunks) ≡ Some (message_at w (message_of w (place_of w tsn))).stream
   flying-answer =
       let f : Found w p q.inflight.chunks = found-in w p (omega (arith, high, few setup w g)) q.inflight.chunks w.taken (length w.slots - w.taken) (omega (arith, low, high, few setup w g)) low (omega (arith, low, high)) t.in_flight in
       ap (λ k. option_map (λ c. c.stream_identifier) (find (has_tsn k) q.inflight.chunks)) (sym back) ∙ ap (option_map (λ c. c.stream_identifier)) f.is ∙ ap (λ s. Some s.stream) f.says
-
--- so too where an Abandon is accepted
-pub abandon-stream : (setup : Setup) (w : LinkRecord) (tsn : ℕ) (q : Outbound) (c : ChunkPayloadData) → Sane setup w → w.setup.first < 2 ^ 32 → tsn < 2 ^ 32 → refusal_of w (E.Abandon tsn) ≡ None → RefinesOutbound w q → find (has_tsn tsn) q.inflight.chunks ≡ Some c → c.stream_identifier ≡ (message_at w (message_of w (place_of w tsn))).stream
-abandon-stream setup w tsn q c g first fits ok t e = flying-stream setup w tsn q g first fits (unless-holds (is_in_flight w (place_of w tsn)) NotInFlight None ok).0 t c e
 
 -- ## In front of what waits
 
@@ -116,18 +76,6 @@ passed p (Some d) c e = by (p d) e
     by true h = h
     by false h = cc
 
--- the message in front, past its deadline, wholly unsent
-pub expiring-stream : (setup : Setup) (w : LinkRecord) (now : ℕ) (q : Outbound) (c : ChunkPayloadData) → Going setup w → RefinesOutbound w q → expiring now q ≡ Some c → c.stream_identifier ≡ (message_at w c.message_id).stream
-expiring-stream setup w now q c g t e = peeked-stream setup w q c g t (passed (queue.is_expired now) (next_pending q.pending) c e)
-
 -- the rest of a message in front, past its deadline
 pub tail-stream : (setup : Setup) (w : LinkRecord) (now : ℕ) (q : Outbound) (c : ChunkPayloadData) → Going setup w → RefinesOutbound w q → expiring_tail now q ≡ Some c → c.stream_identifier ≡ (message_at w c.message_id).stream
 tail-stream setup w now q c g t e = peeked-stream setup w q c g t (passed (queue.is_expired_tail now) (next_pending q.pending) c e)
-
--- so a Tail answers the stream and the number of the message that the record abandons
-pub tail-answer : (setup : Setup) (w : LinkRecord) (now : ℕ) (q : Outbound) → Going setup w → RefinesOutbound w q → option_map {U = ℕ × ℕ} (λ c. (c.stream_identifier, c.message_id)) (expiring_tail now q) ≡ option_map {U = ℕ × ℕ} (λ n. ((message_at w n).stream, n)) (tailing w now)
-tail-answer setup w now q g t = by (expiring_tail now q) refl ∙ ap (option_map {U = ℕ × ℕ} (λ n. ((message_at w n).stream, n))) (tail-is setup w now q g t)
-  where
-    by : (o : Option ChunkPayloadData) → expiring_tail now q ≡ o → option_map {U = ℕ × ℕ} (λ c. (c.stream_identifier, c.message_id)) o ≡ option_map {U = ℕ × ℕ} (λ n. ((message_at w n).stream, n)) (queue.message_of o)
-    by None e = refl
-    by (Some c) e = ap (λ s. Some (let a : ℕ × ℕ = (s, c.message_id) in a)) (tail-stream setup w now q c g t e)

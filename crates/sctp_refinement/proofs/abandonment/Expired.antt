@@ -22,7 +22,7 @@ use Rattle.sctp_outbound.specs.outbound_queue.OutboundQueue as outbound
 use Rattle.sctp_outbound.specs.outbound_queue.OutboundQueue.{Outbound, expired_of, is_expired, passing}
 use Rattle.sctp_model.specs.declared.event.Event.TheVariants as E
 use Rattle.sctp_model.specs.LinkRecord.{LinkRecord, Message, Setup}
-use Rattle.sctp_model.specs.Messages.{message_at, slot_at, message_of, messages_where, front, is_ordered_on, ordered_before, index_of, ssn_of, fragment_count, fragment_at, has_fragment, sent_of, is_partially_sent, is_unsent, is_past_deadline, deadline_of, no_message}
+use Rattle.sctp_model.specs.Messages.{message_at, message_of, messages_where, front, is_ordered_on, ordered_before, ssn_of, fragment_count, fragment_at, sent_of, is_partially_sent, is_unsent, is_past_deadline, deadline_of, no_message}
 use Rattle.sctp_model.specs.Messages
 use Rattle.sctp_model.specs.Amounts.{is_expired_or_abandoned}
 use Rattle.sctp_model.specs.Changes.{mark_expired, message_changed, after_expire, expiring, front_if}
@@ -75,9 +75,6 @@ closed-none false s = refl
 module _ (setup : Setup) (w : LinkRecord) (n : ℕ) (g : Going setup w) (is : front w ≡ Some n) (un : is_unsent w n ≡ true) where
   abbrev pub v : LinkRecord
   v = message_changed w n mark_expired
-
-  abbrev m : Message
-  m = message_at w n
 
   f : FrontIs w n
   f = front_is w g.sane.sender g.turns n is

@@ -26,16 +26,6 @@ use Rattle.sctp_refinement.specs.Amount.{held_bytes}
 use Rattle.sctp_refinement.proofs.abandonment.ExpiredLists.{lower}
 use Rattle.sctp_refinement.proofs.abandonment.Expired.{expiring-is, expiring-front, refines-expire, before-all}
 
--- ## The message
-
--- the number of the queue's message is that of the record's
-pub number-is : (setup : Setup) (w : LinkRecord) (now : ℕ) (q : Outbound) → 0 < w.setup.size → Going setup w → RefinesOutbound w q → outbound.message_of (outbound.expiring now q) ≡ expiring w now
-number-is setup w now q size g t = ap outbound.message_of (expiring-is setup w now q size g t) ∙ by (expiring w now)
-  where
-    by : (o : Option ℕ) → outbound.message_of (option_map (λ n. waiting_at w n 0) o) ≡ o
-    by None = refl
-    by (Some n) = refl
-
 -- ## The answer
 
 -- what the call answers, as a reply

@@ -1,6 +1,6 @@
 -- What is released as messages are abandoned, by the record and by what the queues hold.
-use Rattle.std.proofs.Common.{◌≡◌, ℕ, ◌+◌, ◌-◌, ◌<◌, Bool, true, false, List, [], ◌∷◌, length, Option, Some, None, refl, ap, sym, ◌∙◌, arith}
-use Rattle.std.specs.Prelude.{if◌then◌else◌, ◌==◌, ◌&&◌, fold}
+use Rattle.std.proofs.Common.{◌≡◌, ℕ, ◌+◌, ◌-◌, ◌<◌, Bool, true, false, ◌∷◌, length, Option, Some, None, refl, ap, sym, ◌∙◌, arith}
+use Rattle.std.specs.Prelude.{if◌then◌else◌, ◌==◌, ◌&&◌}
 use Rattle.sctp_list_lemmas.specs.Kept.{always}
 use Rattle.sctp_list_lemmas.proofs.More.{both}
 use Rattle.sctp_list_lemmas.proofs.Totals.{total-plus}
@@ -11,22 +11,21 @@ use Rattle.sctp_model.specs.declared.event.LinkRefusal.TheVariants.{NotInFlight}
 use Rattle.sctp_model.specs.LinkRecord.{Setup, LinkRecord}
 use Rattle.sctp_model.specs.Messages.{message_at, message_of, place_of, front, is_unsent, is_partially_sent, is_in_flight, is_past_deadline}
 use Rattle.sctp_model.specs.Amounts.{in_all, written_bytes, released_bytes, growth}
-use Rattle.sctp_model.specs.Changes.{late_messages, after_abandon, after_expire, expiring, front_if, tailing, after_tail}
+use Rattle.sctp_model.specs.Changes.{after_abandon, after_expire, expiring, front_if, tailing, after_tail}
 use Rattle.sctp_model.specs.Steps.{History, record_of, IsRun, refusal_of, reply_to, after}
 use Rattle.sctp_model.specs.Laws.{IsSetup}
 use Rattle.sctp_model.proofs.sender.Shape.{shape, sent}
 use Rattle.sctp_model.proofs.sender.SenderSteps.{of-half}
-use Rattle.sctp_model.proofs.sender.SenderRun.{Sane, AllSent, sent-all, late-sent, sane-run, sane-after, sane-abandoned, in-flight-sent, unless-holds}
+use Rattle.sctp_model.proofs.sender.SenderRun.{Sane, sane-run, sane-after, sane-abandoned, in-flight-sent, unless-holds}
 use Rattle.sctp_model.proofs.sender.Slots.{sent-made}
 use Rattle.sctp_model.proofs.sender.Fronts.{front-takes}
 use Rattle.sctp_model.proofs.sender.Moves
-use Rattle.sctp_model.proofs.sender.Moves.{Quiet}
 use Rattle.sctp_model.proofs.acknowledgement.Bytes.{balance, balances, size-some}
 use Rattle.sctp_model.proofs.acknowledgement.BytesTold.{count-abandoned}
-use Rattle.sctp_refinement.specs.Amount.{amount, held_bytes, released_along, released_along_on}
+use Rattle.sctp_refinement.specs.Amount.{amount, held_bytes}
 use Rattle.sctp_refinement.specs.Counts.{is_write}
 use Rattle.sctp_refinement.specs.Refines.{RefinesOutbound}
-use Rattle.sctp_refinement.proofs.abandonment.NothingHeld.{amount-abandoned, amount-expired, held-in-abandoned, held-in-expired}
+use Rattle.sctp_refinement.proofs.abandonment.NothingHeld.{amount-expired, held-in-abandoned, held-in-expired}
 use Rattle.sctp_refinement.proofs.amounts.InFlightBytes.{in-flight-bytes}
 use Rattle.sctp_refinement.proofs.amounts.MessageSums.{sum-same}
 use Rattle.sctp_refinement.proofs.amounts.PendingBytes.{pending-bytes}
@@ -98,10 +97,6 @@ module _ (setup : Setup) (w : LinkRecord) (now n : ℕ) (g : Sane setup w) where
       let held : in_all v (held_bytes v) + held_bytes w n ≡ in_all w (held_bytes w) = ap (λ o. in_all (after_expire w o) (held_bytes (after_expire w o)) + held_bytes w n) e ∙ held-in-expired w n (made-front setup w (λ n. is_unsent w n && is_past_deadline w now n) n g e) in
       omega (arith, balance-in setup w is g, balance-in setup v is (sane-after setup w (E.Expire now) refl g), written-as w v (told-after setup w (E.Expire now) g refl), held)
 
-  -- a Tail takes what the partially sent front holds
-  pub amount-tail : tailing w now ≡ Some n → (t : ℕ) → amount (after w (E.Tail now)) t + (if (message_at w n).stream == t then held_bytes w n else 0) ≡ amount w t
-  amount-tail e t = ap (λ o. amount (after_tail w o) t + (if (message_at w n).stream == t then held_bytes w n else 0)) e ∙ amount-abandoned w n t (made-front setup w (λ n. is_partially_sent w n && is_past_deadline w now n) n g e)
-
   pub growth-tail : IsSetup setup → tailing w now ≡ Some n → growth w (after w (E.Tail now)) ≡ held_bytes w n
   growth-tail is e =
       let c = (chosen w (λ n. is_partially_sent w n && is_past_deadline w now n) (front w) n e).1 in
@@ -118,25 +113,5 @@ module _ (setup : Setup) (w : LinkRecord) (tsn : ℕ) (g : Sane setup w) (ok : r
   sent-gone : 0 < sent (shape w) gone
   sent-gone = in-flight-sent setup w (place_of w tsn) g (unless-holds (is_in_flight w (place_of w tsn)) NotInFlight None ok).0
 
-  pub amount-abandon : (t : ℕ) → amount (after w (E.Abandon tsn)) t + (if (message_at w gone).stream == t then held_bytes w gone else 0) ≡ amount w t
-  amount-abandon t = amount-abandoned w gone t (sent-made (shape w) gone g.sender sent-gone)
-
   pub growth-abandon : IsSetup setup → growth w (after w (E.Abandon tsn)) ≡ held_bytes w gone
   growth-abandon is = omega (arith, released-abandoned setup w gone is g sent-gone)
-
--- ## Late
-
-released-fold : (setup : Setup) (ns : List ℕ) (w : LinkRecord) → IsSetup setup → Sane setup w → AllSent w ns → in_all (fold after_abandon w ns) (released_bytes (fold after_abandon w ns)) ≡ in_all w (released_bytes w) + released_along w ns
-released-fold setup [] w is g a = omega arith
-released-fold setup (n ∷ ns) w is g a = omega (arith, released-abandoned setup w n is g a.0, released-fold setup ns (after_abandon w n) is (sane-abandoned setup w n g a.0) (sent-all w n ns a.1))
-
-amount-fold : (setup : Setup) (ns : List ℕ) (w : LinkRecord) (t : ℕ) → Sane setup w → AllSent w ns → amount (fold after_abandon w ns) t + released_along_on w t ns ≡ amount w t
-amount-fold setup [] w t g a = omega arith
-amount-fold setup (n ∷ ns) w t g a = omega (arith, amount-abandoned w n t (sent-made (shape w) n g.sender a.0), amount-fold setup ns (after_abandon w n) t (sane-abandoned setup w n g a.0) (sent-all w n ns a.1))
-
--- a Late takes what its messages hold, one after another
-pub growth-late : (setup : Setup) (w : LinkRecord) (now : ℕ) → IsSetup setup → Sane setup w → growth w (after w (E.Late now)) ≡ released_along w (late_messages w now)
-growth-late setup w now is g = omega (arith, released-fold setup (late_messages w now) w is g (late-sent setup w now g))
-
-pub amount-late : (setup : Setup) (w : LinkRecord) (now t : ℕ) → Sane setup w → amount (after w (E.Late now)) t + released_along_on w t (late_messages w now) ≡ amount w t
-amount-late setup w now t g = amount-fold setup (late_messages w now) w t g (late-sent setup w now g)

@@ -14,12 +14,7 @@ use Rattle.sctp_model.proofs.sender.Shape.{sent}
 use Rattle.sctp_model.proofs.sender.Shapes
 use Rattle.sctp_refinement.specs.Refines.{sending_by, IsInFlight, sending_at, sendings_of, selected_of, waiting_of, waiting_where, waits_ordered, waits_unordered, RefinesOutbound}
 use Rattle.sctp_refinement.proofs.sending.Waiting
-use Rattle.sctp_refinement.proofs.sending.Waiting.{Alike, gathered-same}
-
--- ## One slot
-
-sending-is : (w : LinkRecord) (p : ℕ) → sending_at w p ≡ sending_by w (slot_at w p).acknowledged p
-sending-is w p = refl
+use Rattle.sctp_refinement.proofs.sending.Waiting.{gathered-same}
 
 -- ## The record
 

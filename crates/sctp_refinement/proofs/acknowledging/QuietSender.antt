@@ -70,12 +70,6 @@ sending_by s m ssn x p = record {
   says = unless_gone (x.acknowledged || m.abandoned) (data_of (fresh (chunk_by s m ssn x.fragment ((s.first + p) % 2 ^ 32))));
 }
 
-waiting-is : (w : LinkRecord) (n i : ℕ) → waiting_at w n i ≡ waiting_by w.setup (unread (message_at w n)) (ssn_of w n) n i
-waiting-is w n i = refl
-
-sending-is : (w : LinkRecord) (p : ℕ) → sending_at w p ≡ sending_by w.setup (unread (message_at w (message_of w p))) (ssn_of w (message_of w p)) (unarrived (slot_at w p)) p
-sending-is w p = refl
-
 module _ (w v : LinkRecord) (s : SameToSender w v) where
   before-same : (t n : ℕ) → ordered_before v t n ≡ ordered_before w t n
   before-same t n = ap length (kept-same (is_ordered_on v t) (is_ordered_on w t) 0 n (λ k a b. ap (λ m. (m.stream == t) && (m.ordered && not m.expired)) (s.message k)))

@@ -5,10 +5,9 @@ use Rattle.std.specs.Prelude.{if◌then◌else◌, ◌==◌, ◌&&◌, ◌||◌,
 use Rattle.sctp_list_lemmas.specs.Kept.{numbers_where, always, numbers_from, total_over}
 use Rattle.sctp_list_lemmas.specs.Lists.{pieces}
 use Rattle.sctp_list_lemmas.proofs.Passing.{kept-same}
-use Rattle.sctp_list_lemmas.proofs.More.{fails}
-use Rattle.sctp_list_lemmas.proofs.Cases.{by_same, same-yes, same-is, or-none, and-true}
+use Rattle.sctp_list_lemmas.proofs.Cases.{and-true}
 use Rattle.sctp_list_lemmas.proofs.Getting.{numbered-at}
-use Rattle.sctp_list_lemmas.proofs.Totals.{total-none, total-one, total-plus, total-split, total-where, total-kept_same}
+use Rattle.sctp_list_lemmas.proofs.Totals.{total-none, total-plus, total-split, total-where, total-kept_same}
 use Rattle.sctp_model.specs.LinkRecord.{LinkRecord, Report, Sack}
 use Rattle.sctp_model.specs.Messages.{message_at, slot_at, message_of, messages_where, slots_where, has_fragment, no_slot}
 use Rattle.sctp_model.specs.Amounts.{is_expired_or_abandoned, slot_bytes, in_all, on_stream, written_bytes, pending_bytes, in_flight_bytes, released_bytes, growth}
@@ -76,48 +75,6 @@ pub amount-is : (w : LinkRecord) (t : ℕ) → Sender (shape w) → amount w t �
 amount-is w t s = ap (λ k. on_stream w t (pending_bytes w) + k) (in-flight-on w t s)
 
 -- ## Marks
-
-marked-where : (w : LinkRecord) (acked c : ℕ → Bool) (p : ℕ) → acked p ≡ false → p < length w.slots → total_over (bytes_at w) (slots_where w (λ k. not (acked k || (k == p)) && c k)) + (if c p then bytes_at w p else 0) ≡ total_over (bytes_at w) (slots_where w (λ k. not (acked k) && c k))
-marked-where w acked c p e lt =
-    let one = total-one (λ k. if not (acked k || (k == p)) && c k then bytes_at w k else 0) (λ k. if not (acked k) && c k then bytes_at w k else 0) p (if c p then bytes_at w p else 0) 0 (length w.slots) (omega arith) (omega arith)
-    (λ k ne. ap (λ b. if not (acked k || b) && c k then bytes_at w k else 0) (fails (k == p) (λ h. ne (same-is k p h))) ∙ ap (λ b. if not b && c k then bytes_at w k else 0) (or-none (acked k)))
-    (ap (λ b. (if not (acked p || b) && c p then bytes_at w p else 0) + (if c p then bytes_at w p else 0)) (same-yes p) ∙ here (acked p) (c p) e) in
-    omega (arith, one, total-where (bytes_at w) (λ k. not (acked k || (k == p)) && c k) 0 (length w.slots), total-where (bytes_at w) (λ k. not (acked k) && c k) 0 (length w.slots))
-  where
-    here : (a d : Bool) → a ≡ false → (if not (a || true) && d then bytes_at w p else 0) + (if d then bytes_at w p else 0) ≡ (if not a && d then bytes_at w p else 0)
-    here true d h = cc
-    here false d h = zero-add (if d then bytes_at w p else 0)
-
--- one more slot is acknowledged: its bytes leave
-pub unacked-marked : (w : LinkRecord) (acked : ℕ → Bool) (p : ℕ) → acked p ≡ false → p < length w.slots → bytes_but_for w (λ k. acked k || (k == p)) + bytes_at w p ≡ bytes_but_for w acked
-unacked-marked w acked p e lt =
-    let a = kept-same (λ k. not (acked k || (k == p)) && true) (λ k. not (acked k || (k == p))) 0 (length w.slots) (λ k i j. and-true (not (acked k || (k == p)))) in
-    let b = kept-same (λ k. not (acked k) && true) (λ k. not (acked k)) 0 (length w.slots) (λ k i j. and-true (not (acked k))) in
-    ap (λ l. total_over (bytes_at w) l + bytes_at w p) (sym a) ∙ marked-where w acked always p e lt ∙ ap (total_over (bytes_at w)) b
-
--- they leave its stream
-pub unacked_on-marked : (w : LinkRecord) (acked : ℕ → Bool) (p t : ℕ) → acked p ≡ false → p < length w.slots → unacked_on w (λ k. acked k || (k == p)) t + (if stream_of_slot w p == t then bytes_at w p else 0) ≡ unacked_on w acked t
-unacked_on-marked w acked p t e lt = marked-where w acked (λ k. stream_of_slot w k == t) p e lt
-
--- so too where it was acknowledged before: then none leave
-marked-again : (w : LinkRecord) (acked c : ℕ → Bool) (p : ℕ) → acked p ≡ true → numbers_where (λ k. not (acked k || (k == p)) && c k) 0 (length w.slots) ≡ numbers_where (λ k. not (acked k) && c k) 0 (length w.slots)
-marked-again w acked c p e = kept-same (λ k. not (acked k || (k == p)) && c k) (λ k. not (acked k) && c k) 0 (length w.slots) (λ k i j. ap (λ b. not b && c k) (by_same {P = (acked k || (k == p)) ≡ acked k} k p
-    (λ z. let a : acked k ≡ true = ap acked z ∙ e in ap (λ b. b || (k == p)) a ∙ sym a)
-    (λ ne f. ap (λ b. acked k || b) f ∙ or-none (acked k))))
-
-pub unacked-taken : (w : LinkRecord) (acked : ℕ → Bool) (p : ℕ) → p < length w.slots → bytes_but_for w (λ k. acked k || (k == p)) + (if acked p then 0 else bytes_at w p) ≡ bytes_but_for w acked
-unacked-taken w acked p lt = by (acked p) refl
-  where
-    always-too : (a : ℕ → Bool) → numbers_where (λ k. not (a k) && true) 0 (length w.slots) ≡ numbers_where (λ k. not (a k)) 0 (length w.slots)
-    always-too a = kept-same (λ k. not (a k) && true) (λ k. not (a k)) 0 (length w.slots) (λ k i j. and-true (not (a k)))
-
-    by : (b : Bool) → acked p ≡ b → bytes_but_for w (λ k. acked k || (k == p)) + (if b then 0 else bytes_at w p) ≡ bytes_but_for w acked
-    by true e = let z = ap (total_over (bytes_at w)) (sym (always-too (λ k. acked k || (k == p))) ∙ marked-again w acked always p e ∙ always-too acked) in omega (arith, z)
-    by false e = unacked-marked w acked p e lt
-
--- a fragment's slot holds its bytes, where its message neither expired nor was abandoned
-pub bytes_at-alive : (w : LinkRecord) (p : ℕ) → (slot_at w p).is_terminal_chunk ≡ false → is_expired_or_abandoned w (message_of w p) ≡ false → bytes_at w p ≡ slot_bytes w (message_of w p) p
-bytes_at-alive w p e f = ap (λ b. if b || is_expired_or_abandoned w (message_of w p) then 0 else slot_bytes w (message_of w p) p) e ∙ ap (λ b. if b then 0 else slot_bytes w (message_of w p) p) f
 
 -- what is acknowledged may be told by another test that agrees
 pub unacked-same : (w : LinkRecord) (a b : ℕ → Bool) → ((k : ℕ) → k < length w.slots → a k ≡ b k) → bytes_but_for w a ≡ bytes_but_for w b
@@ -197,7 +154,3 @@ module _ (w : LinkRecord) (r : Report) where
   -- that much the released bytes grow
   pub growth-acked : Sender (shape w) → growth w v ≡ bytes_but_for w (acknowledged_at w) - bytes_but_for w (acknowledged_then w r)
   growth-acked s = omega (arith, released-acked s)
-
-  -- and the bytes in flight shrink
-  pub growth-in_flight : Sender (shape w) → growth w v ≡ in_all w (in_flight_bytes w) - in_all v (in_flight_bytes v)
-  growth-in_flight s = omega (arith, growth-acked s, in-flight-in w s, in-flight-in v (sender-acked s), unacked-acked)

@@ -164,9 +164,3 @@ then-below w r p before lt = by (cases_lt p w.taken)
     by : (p < w.taken) ⊎ (w.taken ≤ p) → acknowledged_then w r p ≡ true
     by (inl l) = or-left (acknowledged_at w p) (reports r p) (before p l)
     by (inr g) = let low : p < r.cumulative = omega (arith, lt, g) in let z : nat_lt p r.cumulative ≡ true = grind (arith, nat_tests) in or-right (acknowledged_at w p) (reports r p) (or-left (nat_lt p r.cumulative) _ z)
-
--- once what it reports is marked and what it acknowledges cumulatively is popped, the queue holds the bytes that are not acknowledged then
-pub bytes-acked : (setup : Setup) (h : History) → IsSetup setup → IsRun setup h → (r : Report) (cs : List ChunkPayloadData) → max (record_of setup h).taken r.cumulative ≤ length (record_of setup h).slots → IsInFlight (record_of setup h) (acknowledged_then (record_of setup h) r) (max (record_of setup h).taken r.cumulative) (length (record_of setup h).slots - max (record_of setup h).taken r.cumulative) cs → bytes_of cs ≡ bytes_but_for (record_of setup h) (acknowledged_then (record_of setup h) r)
-bytes-acked setup h is run r cs le e =
-    let w = record_of setup h in
-    bytes-unacked w (acknowledged_then w r) cs (max w.taken r.cumulative) (sane-run setup h run).sender le (λ p lt. then-below w r p (taken-acknowledged setup h is run) lt) e

@@ -1,6 +1,6 @@
 -- What an arrival leaves as it was, and what it changes.
 use Rattle.std.proofs.Common.{◌≡◌, ℕ, ◌+◌, ◌-◌, ◌<◌, ◌≤◌, ◌^◌, Bool, true, false, length, map, refl, ap, sym, ◌∙◌, inl, inr, arith}
-use Rattle.std.specs.Prelude.{◌⊎◌, if◌then◌else◌, ◌==◌, ◌&&◌, ◌||◌, not, nat_lt, nat_le}
+use Rattle.std.specs.Prelude.{◌⊎◌, ◌==◌, not, nat_lt}
 use Rattle.std.proofs.lemmas.Bool.{cases_lt}
 use Rattle.std.proofs.lemmas.Bool.Decides.{nat_tests}
 use Rattle.std.proofs.lemmas.Grind.{common_steps}
@@ -15,8 +15,8 @@ use Rattle.sctp_model.specs.Queues.{set_of}
 use Rattle.sctp_list_lemmas.proofs.Passing.{kept-same, kept-skip, map-kept-same, map-kept-inserted}
 use Rattle.sctp_list_lemmas.proofs.Round.{comes_before-tsn}
 use Rattle.sctp_model.specs.LinkRecord.{LinkRecord}
-use Rattle.sctp_model.specs.Messages.{message_at, slot_at, message_of, stream_of, no_slot, is_ordered_on, index_of, fragment_count, has_fragment}
-use Rattle.sctp_model.specs.Receiver.{arrived_at, arrived_of, has_arrived, is_complete_message, is_unread, is_held}
+use Rattle.sctp_model.specs.Messages.{slot_at, message_of, no_slot, fragment_count, has_fragment}
+use Rattle.sctp_model.specs.Receiver.{arrived_at, arrived_of, has_arrived, is_held}
 use Rattle.sctp_model.specs.Changes.{mark_arrived}
 use Rattle.sctp_model.specs.Valid.{IsLaid, Valid}
 use Rattle.sctp_list_lemmas.proofs.More.{fails, not_both, both, same_test, length-changed, changed-same, changed-other, changed-keeps, kept-short, length-kept-one_more}
@@ -26,9 +26,6 @@ abbrev pub with_arrived : LinkRecord → ℕ → LinkRecord
 with_arrived w p = record w { slots = change_at mark_arrived p w.slots }
 
 -- ## A slot of a message
-
-pub IsOf : LinkRecord → ℕ → ℕ → Type 0
-IsOf w n p = message_of w p ≡ n
 
 pub of_message : (w : LinkRecord) (n p : ℕ) → has_fragment w n p ≡ true → message_of w p ≡ n
 of_message w n p e = let h : (message_of w p == n) ≡ true = (both (message_of w p == n) (not (slot_at w p).is_terminal_chunk) e).0 in grind (arith, nat_tests)
@@ -161,11 +158,6 @@ arrived_of-here w p lt new fragment =
     let in' : has_come (with_arrived w p) n p ≡ true = rw (has_fragment-arrived w p n p, arrived-here w p lt, has-fragment w p fragment) refl in
     ap (λ c. length (numbers_where (has_come (with_arrived w p) n) 0 c)) (count-arrived w p)
     ∙ length-kept-one_more (has_come w n) (has_come (with_arrived w p) n) p 0 (length w.slots) out in' (omega arith) (omega arith) (λ k a b ne. sym (has_come-other w p n k ne))
-
--- what is held, by the count of its arrived fragments
-abbrev pub held_with : LinkRecord → ℕ → ℕ → ℕ → Bool
-held_with w s n a =
-    is_ordered_on w s n && (is_unread w n && (nat_lt 0 a && ((if (message_at w n).ordered then a == fragment_count w n else is_complete_message w n) || nat_le (stream_of w s).named (index_of w n))))
 
 pub is_held-elsewhere : (w : LinkRecord) (p s n : ℕ) → (message_of w p ≡ n → ⊥) → is_held (with_arrived w p) s n ≡ is_held w s n
 is_held-elsewhere w p s n ne = rw (arrived_of-elsewhere w p n ne) refl

@@ -10,15 +10,12 @@ use Rattle.sctp_list_lemmas.proofs.More.{both, and, length-kept-positive}
 use Rattle.sctp_list_lemmas.proofs.Cases.{same-yes, same-is, or-left, or-right}
 use Rattle.sctp_chunks.specs.declared.chunk.chunk_payload_data.ChunkPayloadData.{ChunkPayloadData}
 use Rattle.sctp_chunks.specs.ChunkSet.{ChunkSet}
-use Rattle.sctp_model.specs.LinkRecord.{Setup, LinkRecord, StreamRecord}
+use Rattle.sctp_model.specs.LinkRecord.{LinkRecord, StreamRecord}
 use Rattle.sctp_model.specs.Messages.{message_at, slot_at, message_of, stream_of, is_ordered_on, index_of, fragment_count, has_fragment, tsn_of, place_of}
 use Rattle.sctp_model.specs.Receiver.{arrived_of, has_arrived, is_held, is_complete_message, held_on, next_of, least, greatest, fits}
 use Rattle.sctp_model.specs.Changes.{stream_changed, with_complete, receive_slot}
 use Rattle.sctp_model.specs.Contents.{chunk_at}
 use Rattle.sctp_model.specs.Queues.{set_of, complete_set_of}
-use Rattle.sctp_model.specs.Steps.{History, record_of, IsRun}
-use Rattle.sctp_model.specs.Laws.{IsSetup}
-use Rattle.sctp_model.proofs.sender.SenderRun.{sane-run}
 use Rattle.sctp_model.proofs.sender.Shape.{shape}
 use Rattle.sctp_model.proofs.sender.SenderSteps.{of-has}
 use Rattle.sctp_model.proofs.sender.Made.{place-back}
@@ -143,8 +140,6 @@ all-streams w p t u more a = by_step (λ v. list_all (λ r. u r.stream) v.stream
     new true = mapped w.streams a
     new false = same w.streams a
 
--- ## The test
-
 -- ## The ends
 
 least-from : (f : ℕ → ℕ) (p : ℕ → Bool) (from count x : ℕ) → ((k : ℕ) → from ≤ k → k < from + count → p k ≡ true → x ≤ f k) → least x (map f (numbers_where p from count)) ≡ x
@@ -195,14 +190,6 @@ lowest-front w s d some = least-front (index_of w) (is_held w s) 0 (length w.mes
 -- and the greatest at the back
 pub highest-back : (w : LinkRecord) (s d : ℕ) → 0 < length (held_on w s) → highest_held w s ≡ max (next_of w s) (index_of w (slice_index_or (held_on w s) (length (held_on w s) - 1) d))
 highest-back w s d some = greatest-back (index_of w) (is_held w s) 0 (length w.messages) (next_of w s) (length (held_on w s) - 1) d (held-rise w s) (omega (arith, some))
-
-pub ends-some : (w : LinkRecord) (s a : ℕ) (rest : List ℕ) → held_on w s ≡ a ∷ rest → (lowest_held w s ≡ min (next_of w s) (index_of w a)) × (highest_held w s ≡ max (next_of w s) (index_of w (slice_index_or (a ∷ rest) (length rest) a)))
-ends-some w s a rest e =
-    let some : 0 < length (held_on w s) = omega (arith, ap length e) in
-    let last : length (a ∷ rest) - 1 ≡ length rest = omega arith in (
-      lowest-front w s a some ∙ ap (λ l. min (next_of w s) (index_of w (slice_index_or l 0 a))) e,
-      highest-back w s a some ∙ ap (λ l. max (next_of w s) (index_of w (slice_index_or l (length l - 1) a))) e ∙ ap (λ i. max (next_of w s) (index_of w (slice_index_or (a ∷ rest) i a))) last,
-    )
 
 -- ## Where a set begins
 
@@ -272,7 +259,3 @@ complete-begins w s n valid more first e =
     let b = begins-kept w n (has_come w n) first valid.few (λ k h. (Arrival.come w n k h).0) some in
     begins-kept w n (has_fragment w n) first valid.few (λ k h. h)
     (length-kept-positive (has_fragment w n) b.place 0 (length w.slots) (omega arith) (omega (arith, b.made)) (ap (λ m. has_fragment w m b.place) (sym b.of) ∙ Arrival.has-fragment w b.place b.fragment))
-
--- in every history
-pub first-run : (setup : Setup) (h : History) → IsSetup setup → IsRun setup h → (record_of setup h).setup.first < 2 ^ 32
-first-run setup h is run = rw (ap (λ t. t.first) (sane-run setup h run).setup_is) is.first

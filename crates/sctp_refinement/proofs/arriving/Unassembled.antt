@@ -17,7 +17,6 @@ use Rattle.sctp_model.specs.Queues.{is_unassembled}
 use Rattle.sctp_model.specs.Valid.{Valid, ValidUnassembled}
 use Rattle.sctp_list_lemmas.proofs.More.{not_both, both, and}
 use Rattle.sctp_refinement.proofs.arriving.Arrival
-use Rattle.sctp_refinement.proofs.arriving.Arrival.{with_arrived}
 use Rattle.sctp_list_lemmas.proofs.Cases.{negated}
 use Rattle.sctp_list_lemmas.proofs.Places.{kept-place}
 
@@ -100,9 +99,6 @@ pub record IsCompleteRun (w : LinkRecord) (q : ℕ → Bool) (first count : ℕ)
   pub first_is : length (numbers_where q 0 base) ≡ first
 
 module _ (w : LinkRecord) (q : ℕ → Bool) (first count : ℕ) (valid : Valid w) (more : ValidUnassembled w) (datagram_received : (k : ℕ) → q k ≡ true → has_fragment w (message_of w k) k ≡ true) (run : IsRun (map (chunk_at w) (numbers_where q 0 (length w.slots))) first count) where
-  abbrev places : List ℕ
-  places = numbers_where q 0 (length w.slots)
-
   abbrev at : ℕ → ℕ
   at i = get_or (numbers_where q 0 (length w.slots)) (first + i) 0
 

@@ -24,7 +24,6 @@ use Rattle.sctp_refinement.proofs.reading.Line.{on-ordered}
 use Rattle.sctp_refinement.proofs.arriving.Arrival
 use Rattle.sctp_refinement.proofs.arriving.Arrival.{with_arrived, kept-window}
 use Rattle.sctp_refinement.proofs.arriving.Stays
-use Rattle.sctp_refinement.proofs.arriving.Stays.{by_place}
 use Rattle.sctp_refinement.proofs.skipping.Skips.{next_past}
 use Rattle.sctp_refinement.proofs.skipping.SkipStep.{then_by, find-map, find-passes}
 use Rattle.sctp_refinement.proofs.arriving.Unassembled.{length-map, length-kept-all}
@@ -187,9 +186,6 @@ module _ (w : LinkRecord) (s p : ℕ) (r : StreamRecord) (valid : Valid w) (more
 
   abbrev others : ℕ
   others = length w.slots - (base + count)
-
-  front : List ℕ
-  front = numbers_where q 0 base
 
   pub step : receive_slot w p ≡ u
   step =

@@ -1,7 +1,6 @@
 -- The ordered messages of a stream, by index, and the one that is expected next.
 use Rattle.std.proofs.Common.{◌≡◌, ℕ, ◌+◌, ◌-◌, ◌<◌, ◌≤◌, ◌%◌, ◌^◌, Bool, true, false, length, drop, get_or, refl, ap, sym, ◌∙◌, inl, inr, arith, zero-add}
 use Rattle.std.specs.Prelude.{◌⊎◌, ◌==◌, ◌&&◌, not}
-use Rattle.std.proofs.Math.Nat.{eq-or-lt_of_le}
 use Rattle.std.proofs.lemmas.Bool.{cases_lt}
 use Rattle.std.proofs.lemmas.Bool.Decides.{nat_tests}
 use Rattle.std.proofs.lemmas.Grind.{common_steps}
@@ -12,8 +11,6 @@ use Rattle.sctp_model.specs.Messages.{message_at, stream_of, is_ordered_on, inde
 use Rattle.sctp_model.specs.Receiver.{next_of}
 use Rattle.sctp_list_lemmas.proofs.More.{not_both, both}
 use Rattle.sctp_list_lemmas.proofs.Places.{leading-passes, leading-stops, leading-le, leading-is, get-drop, length-dropped, kept-get, kept-place}
-
--- ## Lists
 
 -- ## Indexes
 
@@ -36,17 +33,6 @@ index-same w s j k a b e = step (cases_lt j k) (cases_lt k j)
     step (inl l) t = absurd (omega (arith, index-lt w s j k a b l))
     step (inr g) (inl l) = absurd (omega (arith, index-lt w s k j b a l))
     step (inr g) (inr h) = omega arith
-
-pub index-lt_back : (w : LinkRecord) (s j k : ℕ) → is_ordered_on w s j ≡ true → is_ordered_on w s k ≡ true → index_of w j < index_of w k → j < k
-index-lt_back w s j k a b lt = step (cases_lt j k)
-  where
-    step : (j < k) ⊎ (k ≤ j) → j < k
-    step (inl l) = l
-    step (inr g) = by (eq-or-lt_of_le g)
-      where
-        by : (k ≡ j) ⊎ (k < j) → j < k
-        by (inl e) = absurd (omega (arith, ap (index_of w) e))
-        by (inr l) = absurd (omega (arith, index-lt w s k j b a l))
 
 pub ssn_on : (w : LinkRecord) (s n : ℕ) → is_ordered_on w s n ≡ true → ssn_of w n ≡ index_of w n % 2 ^ 16
 ssn_on w s n on = rw (on-ordered w s n on) refl
@@ -83,9 +69,6 @@ next_unread w s k on e =
     let count = length (leading (read_at w) (drop named line)) in
     let at : get_or (drop named line) count 0 ≡ k = get-drop named line count (index_of w k) 0 e ∙ line-at w s k 0 on in
     rw at at (leading-stops (read_at w) (drop named line) 0 (omega (arith, length-dropped named line, index-short w s k on, e)))
-
-pub named_le : (w : LinkRecord) (s : ℕ) → (stream_of w s).named ≤ next_of w s
-named_le w s = omega arith
 
 -- the next one is settled by what is read before it and what is not at it
 pub next_is : (w : LinkRecord) (s x : ℕ) → (stream_of w s).named ≤ x → x ≤ length (ordered_on w s) → ((k : ℕ) → (stream_of w s).named ≤ k → k < x → (message_at w (get_or (ordered_on w s) k 0)).read ≡ true) → (x < length (ordered_on w s) → (message_at w (get_or (ordered_on w s) x 0)).read ≡ false) → next_of w s ≡ x

@@ -25,7 +25,6 @@ use Rattle.sctp_model.proofs.sender.Moves.{Quiet}
 use Rattle.sctp_model.proofs.receiver.Known.{still-of}
 use Rattle.sctp_model.proofs.receiver.Ordered
 use Rattle.sctp_model.proofs.receiver.Received.{received-run}
-use Rattle.sctp_model.proofs.receiver.ValidRun.{record_is_valid}
 use Rattle.sctp_model.proofs.receiver.View
 use Rattle.sctp_model.proofs.receiver.View.{view}
 use Rattle.sctp_refinement.specs.Holds.{reassembly_of}
@@ -136,13 +135,6 @@ module _ (w : LinkRecord) (s : ℕ) (r : StreamRecord) (valid : Valid w) (more :
       by None f = let z : Some set ≡ None = sym e ∙ none-read f in cc
       by (Some n) f = let z : Some set ≡ Some (handed_out w n) = sym e ∙ NextRead.message-is w s r valid more sp open' ∙ ap (map_option (handed_out w)) f in (n, f, cc)
 
--- in every history, on an open stream
-pub reads-run : (setup : Setup) (h : History) (s n : ℕ) (r : StreamRecord) → IsSetup setup → IsRun setup h → stream_at (record_of setup h) s ≡ Some r → next_read (record_of setup h) s ≡ Some n → ReadsComplete (record_of setup h) s n ⊎ ReadsOrdered (record_of setup h) s n
-reads-run setup h s n r is run open' = let k = record_is_valid setup h is run in reads-one (record_of setup h) s r k.valid k.unassembled (k.near s) open' n
-
-pub none-run : (setup : Setup) (h : History) (s : ℕ) (r : StreamRecord) → IsSetup setup → IsRun setup h → stream_at (record_of setup h) s ≡ Some r → (message_read (reassembly_of (record_of setup h) s) ≡ None) ↔ (next_read (record_of setup h) s ≡ None)
-none-run setup h s r is run open' = let k = record_is_valid setup h is run in none (record_of setup h) s r k.valid k.unassembled (k.near s) open'
-
 -- ## The other events leave the index expected next
 
 -- all but arrivals and reads
@@ -163,9 +155,6 @@ next-taken w (Some (Sack r)) t = refl
 pub next-same : (setup : Setup) (h : History) (e : Event) (t : ℕ) → IsSetup setup → IsRun setup h → refusal_of (record_of setup h) e ≡ None → KeepsNext e → next_of (after (record_of setup h) e) t ≡ next_of (record_of setup h) t
 next-same setup h e t is run ok keeps = by e ok keeps
   where
-    w : LinkRecord
-    w = record_of setup h
-
     quiet : (e : Event) → refusal_of (record_of setup h) e ≡ None → Quiet (record_of setup h) (after (record_of setup h) e) → next_of (after (record_of setup h) e) t ≡ next_of (record_of setup h) t
     quiet e ok q =
         let g = sane-run setup h run in

@@ -133,9 +133,6 @@ module _ (w : LinkRecord) (s n : ℕ) (valid : Valid w) (sp : IsSpan w s []) (d 
       upto f j b (inl z) = ap (is_held (with_read w n) s) z ∙ held-now w n s n-made
       upto f j b (inr l) = held-read w n s j (λ z. omega arith) ∙ f.first j (omega arith) l
 
-  read_at : LinkRecord → ℕ → Bool
-  read_at v k = (message_at v k).read
-
   stays-read : (k : ℕ) → (message_at w k).read ≡ true → (message_at (with_read w n) k).read ≡ true
   stays-read k e = by_place {C = (message_at (with_read w n) k).read ≡ true} k n (λ ne. rw (message-other w n k ne) e) (λ z. rw z (read-now w n n-made))
 

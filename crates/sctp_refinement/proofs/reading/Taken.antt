@@ -45,12 +45,6 @@ due w s n e =
     let le : nat_le (index_of w n) (next_of w s) ≡ true = c.1 in
     record { on = a.0; unread = negated (message_at w n).read b.0; complete = c.0; le = grind (arith, nat_tests) }
 
-pub is-due : (w : LinkRecord) (s n : ℕ) → IsDue w s n → is_due w s n ≡ true
-is-due w s n d =
-    and (is_ordered_on w s n) (is_unread w n && (is_complete_message w n && nat_le (index_of w n) (next_of w s))) d.on
-    (and (is_unread w n) (is_complete_message w n && nat_le (index_of w n) (next_of w s)) (ap not d.unread)
-    (and (is_complete_message w n) (nat_le (index_of w n) (next_of w s)) d.complete (let le = d.le in grind (arith, nat_tests))))
-
 pub held : (w : LinkRecord) (s n : ℕ) → is_held w s n ≡ true → IsHeld w s n
 held w s n e =
     let a = both (is_ordered_on w s n) (is_unread w n && (nat_lt 0 (arrived_of w n) && (is_complete_message w n || nat_le (stream_of w s).named (index_of w n)))) e in

@@ -7,7 +7,7 @@ use Rattle.sctp_list_lemmas.specs.Kept.{numbers_where}
 use Rattle.sctp_list_lemmas.proofs.Passing.{kept-same, kept-snoc_out, length-kept-le}
 use Rattle.sctp_list_lemmas.proofs.More.{fails, both, and, same_test, length-kept-one_more, kept-short}
 use Rattle.sctp_list_lemmas.proofs.Cases.{by_same, same-yes, same-is, negated}
-use Rattle.sctp_model.proofs.sender.Shape.{Shape, MessagePart, sent, on, index, slotted, written, abandoned_at, expired_at}
+use Rattle.sctp_model.proofs.sender.Shape.{Shape, MessagePart, sent, on, index, slotted, written}
 use Rattle.sctp_model.proofs.sender.Sender.{Sender, sent-slotted}
 use Rattle.sctp_model.proofs.sender.SenderSteps.{Takes, sent-other, sent-here}
 use Rattle.sctp_model.proofs.sender.SenderEnds.{sent-none, message-old}
@@ -73,12 +73,6 @@ begun-written x m s k =
         let pos : 0 < sent x x.count = grind (arith, nat_tests) in
         absurd (omega (arith, pos, sent-none x x.count k (omega arith)))
 
-pub begun-abandoned : (x : Shape) (n s : ℕ) → begun (abandoned_at x n) s ≡ begun x s
-begun-abandoned x n s = refl
-
-pub begun-expired : (x : Shape) (n s : ℕ) → begun (expired_at x n) s ≡ begun x s
-begun-expired x n s = refl
-
 -- a terminal chunk is no fragment
 pub begun-marked : (x : Shape) (n s : ℕ) → begun (slotted x n true) s ≡ begun x s
 begun-marked x n s = ap length (kept-same (begins_on (slotted x n true) s) (begins_on x s) 0 x.count (λ j a b. ap (λ c. ((x.message j).stream == s) && ((x.message j).ordered && nat_lt 0 c)) (marked j)))
@@ -94,9 +88,6 @@ begun-marked x n s = ap length (kept-same (begins_on (slotted x n true) s) (begi
 pub begun-taken : (x : Shape) (n s : ℕ) → n < x.count → begun (slotted x n false) s ≡ begun x s + (if ((x.message n).stream == s) && ((x.message n).ordered && (sent x n == 0)) then 1 else 0)
 begun-taken x n s lt = by ((x.message n).stream == s) (x.message n).ordered (sent x n == 0) refl refl refl
   where
-    y : Shape
-    y = slotted x n false
-
     elsewhere : (k : ℕ) → (k ≡ n → ⊥) → begins_on (slotted x n false) s k ≡ begins_on x s k
     elsewhere k ne = ap (λ c. ((x.message k).stream == s) && ((x.message k).ordered && nat_lt 0 c)) (sent-other x n false k (λ e. ne (sym e)))
 

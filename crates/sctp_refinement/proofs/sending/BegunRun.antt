@@ -1,24 +1,22 @@
 -- Indexes as they are given out, at each event.
-use Rattle.std.proofs.Common.{◌≡◌, ℕ, ◌+◌, ◌<◌, Bool, true, false, List, [], ◌∷◌, Option, Some, None, refl, ap, sym, ◌∙◌, arith, length}
+use Rattle.std.proofs.Common.{◌≡◌, ℕ, ◌+◌, Bool, true, false, List, [], ◌∷◌, Option, Some, None, refl, ap, sym, ◌∙◌, arith, length}
 use Rattle.std.specs.Prelude.{if◌then◌else◌, ◌==◌, ◌&&◌, slice_get, fold, nat_lt}
-use Rattle.std.proofs.Math.Path.{subst}
 use Rattle.sctp_model.specs.declared.event.Event.{Event}
 use Rattle.sctp_model.specs.declared.event.Event.TheVariants as E
-use Rattle.sctp_model.specs.LinkRecord.{Setup, LinkRecord, start}
+use Rattle.sctp_model.specs.LinkRecord.{Setup, LinkRecord}
 use Rattle.sctp_model.specs.Messages
 use Rattle.sctp_model.specs.Receiver
 use Rattle.sctp_model.specs.Changes
 use Rattle.sctp_model.specs.Steps.{refusal_of, after}
 use Rattle.sctp_model.proofs.sender.Shape.{Shape, shape, message_part, sent, slotted, abandoned_at, expired_at, written}
 use Rattle.sctp_model.proofs.sender.Shapes
-use Rattle.sctp_model.proofs.sender.Sender.{Sender, sent-slotted}
+use Rattle.sctp_model.proofs.sender.Sender.{sent-slotted}
 use Rattle.sctp_model.proofs.sender.SenderRun.{Sane}
-use Rattle.sctp_model.proofs.sender.Fronts.{front-takes, slot-sent}
 use Rattle.sctp_model.proofs.sender.Network.{extends-after, same-received, same-taken, same-read}
 use Rattle.sctp_list_lemmas.proofs.Passing.{kept-none}
 use Rattle.sctp_list_lemmas.proofs.More.{fails, not_both, both}
 use Rattle.sctp_list_lemmas.proofs.Cases.{same-is}
-use Rattle.sctp_refinement.proofs.sending.Begun.{begins_on, begun, begun-written, begun-marked, begun-taken, Indexed, indexed-grown, indexed-taken}
+use Rattle.sctp_refinement.proofs.sending.Begun.{begins_on, begun, begun-written, begun-marked, Indexed, indexed-grown}
 
 -- no fragment is sent
 pub record NoneSent (x y : Shape) : Type 0 where
@@ -97,10 +95,6 @@ pub record Counted (w : LinkRecord) (f : ℕ → ℕ) (b : ℕ → ℕ) : Type 0
   pub indexed : Indexed (shape w) f
   pub begun : (s : ℕ) → b s ≡ begun (shape w) s
 
--- what it is worth
-pub index-is : (w : LinkRecord) (f b : ℕ → ℕ) (n : ℕ) → Counted w f b → 0 < Messages.sent_of w n → (Messages.message_at w n).ordered ≡ true → f n ≡ Messages.index_of w n
-index-is w f b n c pos o = c.indexed.is n pos o
-
 -- every event but a Send keeps it, an Expire too
 pub counted-after : (setup : Setup) (w : LinkRecord) (e : Event) (f b : ℕ → ℕ) → refusal_of w e ≡ None → Sane setup w → SendsNone e → Counted w f b → Counted (after w e) f b
 counted-after setup w e f b ok g no' c =
@@ -110,48 +104,7 @@ counted-after setup w e f b ok g no' c =
       begun = λ s. c.begun s ∙ sym (k.begun s);
     }
 
--- so does the start of lifetimes with which a Send begins
-counted-as : (w v : LinkRecord) (f b : ℕ → ℕ) (x : Shape) → shape v ≡ x → Indexed x f → ((s : ℕ) → b s ≡ begun x s) → Counted v f b
-counted-as w v f b x e i h = record { indexed = subst (λ z. Indexed z f) (sym e) i; begun = λ s. h s ∙ ap (λ z. begun z s) (sym e) }
-
-pub counted-started : (w : LinkRecord) (now : ℕ) (f b : ℕ → ℕ) → Counted w f b → Counted (Changes.after_start w now) f b
-counted-started w now f b c = counted-as w (Changes.after_start w now) f b (shape w) (Shapes.shape-started w now) c.indexed c.begun
-
--- the first fragment of an ordered message takes the next index of its stream
-pub counted-fragment : (setup : Setup) (w : LinkRecord) (n : ℕ) (f b g d : ℕ → ℕ) → Sane setup w → Messages.front w ≡ Some n
-    → ((k : ℕ) → (k ≡ n → ⊥) → g k ≡ f k) → g n ≡ (if (Messages.message_at w n).ordered && (Messages.sent_of w n == 0) then b (Messages.message_at w n).stream else f n)
-    → ((s : ℕ) → d s ≡ b s + (if ((Messages.message_at w n).stream == s) && ((Messages.message_at w n).ordered && (Messages.sent_of w n == 0)) then 1 else 0))
-    → Counted w f b → Counted (Changes.send_fragment w) g d
-counted-fragment setup w n f b g d sane is others here more c =
-    subst (λ o. Counted (Changes.send_fragment_of w o) g d) (sym is)
-    (counted-as w (Changes.with_slot w n false) g d (slotted (shape w) n false) (Shapes.shape-slot w n false)
-    (indexed-taken (shape w) n f g sane.sender (front-takes (shape w) n sane.sender is) others
-    (here ∙ ap (λ k. if (Messages.message_at w n).ordered && (Messages.sent_of w n == 0) then k else f n) (c.begun (Messages.message_at w n).stream)) c.indexed)
-    (λ s. more s ∙ ap (λ k. k + (if ((Messages.message_at w n).stream == s) && ((Messages.message_at w n).ordered && (Messages.sent_of w n == 0)) then 1 else 0)) (c.begun s)
-    ∙ sym (begun-taken (shape w) n s (front-takes (shape w) n sane.sender is).made)))
-
--- a new link
-pub counted-none : (setup : Setup) → Counted (start setup) (λ n. 0) (λ s. 0)
-counted-none setup = record { indexed = record { is = λ n pos o. absurd (omega arith); low = λ n. omega arith }; begun = λ s. refl }
-
--- the index of a message that has a slot: of one that comes, of one that is held, of one that is read
-pub index-slot : (w : LinkRecord) (f b : ℕ → ℕ) (p : ℕ) → Sender (shape w) → Counted w f b → p < length w.slots → (Messages.message_at w (Messages.message_of w p)).ordered ≡ true → f (Messages.message_of w p) ≡ Messages.index_of w (Messages.message_of w p)
-index-slot w f b p s c lt o = c.indexed.is (Messages.message_of w p) (slot-sent (shape w) p s lt) o
-
--- what reads the same is as good
-pub counted-same : (w : LinkRecord) (f b g d : ℕ → ℕ) → ((n : ℕ) → g n ≡ f n) → ((s : ℕ) → d s ≡ b s) → Counted w f b → Counted w g d
-counted-same w f b g d e h c = record {
-  indexed = record { is = λ n pos o. e n ∙ c.indexed.is n pos o; low = λ n. omega (arith, e n, c.indexed.low n) };
-  begun = λ s. h s ∙ c.begun s;
-}
-
 -- ## By stream
-
--- a fragment adds one to its stream where it is the first of an ordered message
-pub begun-fragment : (setup : Setup) (w : LinkRecord) (n s : ℕ) → Sane setup w → Messages.front w ≡ Some n → begun (shape (Changes.send_fragment w)) s ≡ begun (shape w) s + (if ((Messages.message_at w n).stream == s) && ((Messages.message_at w n).ordered && (Messages.sent_of w n == 0)) then 1 else 0)
-begun-fragment setup w n s g is =
-    ap (λ o. begun (shape (Changes.send_fragment_of w o)) s) is ∙ ap (λ x. begun x s) (Shapes.shape-slot w n false)
-    ∙ begun-taken (shape w) n s (front-takes (shape w) n g.sender is).made
 
 -- a stream that is not open has begun nothing
 pub begun-closed : (setup : Setup) (w : LinkRecord) (s : ℕ) → Sane setup w → Messages.is_open w s ≡ false → begun (shape w) s ≡ 0

@@ -88,9 +88,6 @@ fills-more w z n c cs fr is f = record {
   says = ap (λ d. d ∷ map data_of cs) (is ∙ sym first) ∙ ap (λ l. data_of (chunk_at z (length w.slots)) ∷ l) rest;
 }
   where
-    v : LinkRecord
-    v = with_slot w n false
-
     new : Slot
     new = record { message = n; fragment = sent_of w n; is_terminal_chunk = false; arrived = false; acknowledged = false }
 

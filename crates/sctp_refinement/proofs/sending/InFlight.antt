@@ -1,5 +1,5 @@
 -- What is in flight: a chunk looked up, marks that the record does not know, and room for the next TSN.
-use Rattle.std.proofs.Common.{◌≡◌, ℕ, zero, suc, ◌+◌, ◌<◌, ◌≤◌, ◌^◌, Bool, true, false, List, [], ◌∷◌, map, Option, Some, refl, ap, sym, ◌∙◌, arith}
+use Rattle.std.proofs.Common.{◌≡◌, ℕ, zero, suc, ◌+◌, ◌<◌, ◌≤◌, ◌^◌, Bool, true, false, List, [], ◌∷◌, map, Some, refl, ap, sym, ◌∙◌, arith}
 use Rattle.std.specs.Prelude.{if◌then◌else◌, ◌==◌, ◌||◌, find}
 use Rattle.std.proofs.lemmas.Bool.Decides.{nat_tests}
 use Rattle.sctp_list_lemmas.specs.Kept.{numbers_where, always}
@@ -8,8 +8,8 @@ use Rattle.sctp_list_lemmas.proofs.More.{not_both, same_test}
 use Rattle.sctp_list_lemmas.proofs.Round.{tsn}
 use Rattle.sctp_chunks.specs.declared.chunk.chunk_payload_data.ChunkPayloadData.{ChunkPayloadData}
 use Rattle.sctp_chunks.specs.PayloadData.{data_of}
-use Rattle.sctp_outbound.specs.Marks.{with_retransmit, with_nsent, with_since, with_miss_indicator}
-use Rattle.sctp_serial.specs.DataChunks.{has_tsn, tsns}
+use Rattle.sctp_outbound.specs.Marks.{with_nsent}
+use Rattle.sctp_serial.specs.DataChunks.{has_tsn}
 use Rattle.sctp_outbound.specs.outbound_queue.OutboundQueue.{Outbound, with_inflight}
 use Rattle.sctp_model.specs.LinkRecord.{LinkRecord}
 use Rattle.sctp_model.specs.Messages.{tsn_of}
@@ -29,17 +29,6 @@ head_of (s ∷ ss) d = s
 abbrev pub tail_of : List Sending → List Sending
 tail_of [] = []
 tail_of (s ∷ ss) = ss
-
--- the TSNs in flight
-pub tsns-are : (w : LinkRecord) (cs : List ChunkPayloadData) (from count : ℕ) → map sending_of cs ≡ map (sending_at w) (numbers_where always from count) → tsns cs ≡ map (tsn w.setup.first) (numbers_where always from count)
-tsns-are w [] from zero e = refl
-tsns-are w [] from (suc count) e = cc
-tsns-are w (c ∷ cs) from zero e = cc
-tsns-are w (c ∷ cs) from (suc count) e =
-    let head : sending_of c ≡ sending_at w from = ap (λ l. head_of l (sending_of c)) e in
-    ap (λ s. s.chunk.tsn ∷ tsns cs) head ∙ ap (λ l. tsn w.setup.first from ∷ l) (tsns-are w cs (from + 1) count (ap tail_of e))
-
--- ## Room for the next TSN
 
 -- ## A chunk looked up
 
@@ -93,12 +82,3 @@ refines-marked w q t f same h = record { pending = h.pending; in_flight = marked
 
 pub nsent-quiet : (n : ℕ) (c : ChunkPayloadData) → sending_of (with_nsent n c) ≡ sending_of c
 nsent-quiet n c = refl
-
-pub since-quiet : (since : Option ℕ) (c : ChunkPayloadData) → sending_of (with_since since c) ≡ sending_of c
-since-quiet since c = refl
-
-pub retransmit-quiet : (b : Bool) (c : ChunkPayloadData) → sending_of (with_retransmit b c) ≡ sending_of c
-retransmit-quiet b c = refl
-
-pub missing-quiet : (n : ℕ) (c : ChunkPayloadData) → sending_of (with_miss_indicator n c) ≡ sending_of c
-missing-quiet n c = refl

@@ -89,12 +89,6 @@ module _ (w : LinkRecord) (s : Sender (shape w)) (turns : KindsInTurn w) (n : �
   neither true false e h = cc
   neither false b e h = refl
 
-  U : ℕ → Bool
-  U k = is_unsent w k && not (message_at w k).ordered
-
-  O : ℕ → Bool
-  O k = is_unsent w k && (message_at w k).ordered
-
   third : ((j : ℕ) → j < length w.messages → is_partially_sent w j ≡ false) → ((j : ℕ) → j < length w.messages → (is_unsent w j && not (message_at w j).ordered) ≡ false) → (o : Option ℕ) → FirstOf (λ k. is_unsent w k && (message_at w k).ordered) (length w.messages) o → o ≡ Some n → FrontIs w n
   third no' none None f e = cc
   third no' none (Some k) f e =

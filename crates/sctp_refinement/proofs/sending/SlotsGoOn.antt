@@ -46,9 +46,6 @@ half-last x p s e mark lt alive =
 goes-slotted : (x : Shape) (n : ℕ) (m : Bool) → Sender x → ((k : ℕ) → half x k ≡ true → k ≡ n) → (m ≡ false → (x.message n).abandoned ≡ false) → AllGoOn x → AllGoOn (slotted x n m)
 goes-slotted x n m s alone alive g p lt mark short = by_last {P = GoesOn (slotted x n m) p} p x.slots lt old new
   where
-    y : Shape
-    y = slotted x n m
-
     old : p < x.slots → GoesOn (slotted x n m) p
     old l =
         let here = slot-old x n p m l in
@@ -94,10 +91,6 @@ goes-expired x n g p lt mark short = let o = g p lt mark short in record { same 
 
 -- ## Each event keeps it
 
--- a record whose shape has it
-Goes : LinkRecord → Type 0
-Goes w = AllGoOn (shape w)
-
 goes-as : (x y : Shape) → y ≡ x → AllGoOn x → AllGoOn y
 goes-as x y e g = subst AllGoOn (sym e) g
 
@@ -124,9 +117,6 @@ goes-sent setup w now (Some n) s g =
 goes-gone : (setup : Setup) (w : LinkRecord) (n : ℕ) → Sane setup w → AllGoOn (shape w) → AllGoOn (shape (Changes.after_abandon w n))
 goes-gone setup w n s g = step (Messages.is_partially_sent w n) refl
   where
-    x : Shape
-    x = shape w
-
     last : (m : Bool) → m ≡ true → (p : ℕ) → p + 1 ≡ (slotted (shape w) n m).slots → ((slotted (shape w) n m).slot p).is_terminal_chunk ≡ false → ⊥
     last m t p e mark =
         let at : p ≡ (shape w).slots = omega (arith, e) in

@@ -12,7 +12,7 @@ use Rattle.sctp_list_lemmas.proofs.Cases.{same-yes, same-is, or-left, or-right, 
 use Rattle.sctp_model.specs.LinkRecord.{LinkRecord, StreamRecord, Forward}
 use Rattle.sctp_model.specs.Messages.{message_at, stream_at, stream_of, is_ordered_on, index_of, ssn_of, tsn_of}
 use Rattle.sctp_model.specs.Receiver.{cumulative, is_complete_message, is_held, held_on, next_of, least, greatest, fits, spans_fit}
-use Rattle.sctp_model.specs.Changes.{named_by, skip_counts, receive_skip}
+use Rattle.sctp_model.specs.Changes.{named_by, skip_counts}
 use Rattle.sctp_model.specs.Steps.{arrival_fits}
 use Rattle.sctp_model.specs.Valid.{IsSpan, Valid}
 use Rattle.sctp_model.proofs.receiver.ValidRun.{span-fits}
@@ -339,10 +339,6 @@ pub stale-fits : (w : LinkRecord) (upto : ℕ) (names : List ℕ) → skip_count
 stale-fits w upto names stale fits' =
     ap (λ b. spans_fit w (if b then names else []) && spans_fit (if b then with_skip w upto names else w) (if b then names else [])) stale
     ∙ and (spans_fit w []) (spans_fit w []) fits' fits'
-
--- a stale one changes nothing
-pub stale-step : (w : LinkRecord) (upto : ℕ) (names : List ℕ) → skip_counts w upto ≡ false → receive_skip w upto names ≡ w
-stale-step w upto names stale = ap (λ b. if b then with_skip w upto names else w) stale
 
 -- ## What the queue is after it
 

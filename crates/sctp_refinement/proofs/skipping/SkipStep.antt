@@ -55,9 +55,6 @@ find-passes t (r ∷ rs) x e = step (r.stream == t) refl e (λ h. find-passes t 
     step true h e ih = let same : r ≡ x = cc in ap (λ r. r.stream) (sym same) ∙ (let s : r.stream ≡ t = grind (arith, nat_tests) in s)
     step false h e ih = ih e
 
-pub found-skip : (w : LinkRecord) (upto : ℕ) (names : List ℕ) (t : ℕ) → stream_at (with_skip w upto names) t ≡ then_by (named_by w names) (stream_at w t)
-found-skip w upto names t = find-map (named_by w names) (λ r. refl) t w.streams
-
 complete-frame : (w : LinkRecord) (upto : ℕ) (names : List ℕ) (t : ℕ) → (stream_of (with_skip w upto names) t).complete ≡ (stream_of w t).complete
 complete-frame w upto names t = ap (λ o. (unwrap_or o (no_stream t)).complete) (find-map (named_by w names) (λ r. refl) t w.streams) ∙ same (stream_at w t)
   where

@@ -42,9 +42,6 @@ queue_past w s named =
 pub next_past-is : (w : LinkRecord) (s named : ℕ) → Valid w → (stream_of w s).named ≤ named → next_past w s named ≡ max (next_of w s) named
 next_past-is w s named valid le = step (cases_lt (next_of w s) named)
   where
-    line : List ℕ
-    line = ordered_on w s
-
     beyond : next_of w s < named → 0 < length (drop named (ordered_on w s)) → read_at w (get_or (drop named (ordered_on w s)) 0 0) ≡ false
     beyond l lt =
         let at = index-at w s named (omega (arith, lt, length-dropped named (ordered_on w s))) in

@@ -2,14 +2,14 @@
 use Rattle.std.proofs.Common.{◌≡◌, ℕ, ◌<◌, ◌≤◌, ◌^◌, ◌%◌, Bool, true, false, List, [], ◌∷◌, length, map, Some, refl, ap, sym, ◌∙◌, inl, inr}
 use Rattle.std.specs.Prelude.{◌⊎◌, if◌then◌else◌}
 use Rattle.sctp_model.specs.LinkRecord.{LinkRecord, StreamRecord}
-use Rattle.sctp_model.specs.Messages.{stream_at, is_ordered_on, index_of, ssn_of, tsn_of}
+use Rattle.sctp_model.specs.Messages.{stream_at, is_ordered_on, index_of, ssn_of}
 use Rattle.sctp_model.specs.Receiver.{cumulative}
 use Rattle.sctp_model.specs.Valid.{IsSpan, Valid}
-use Rattle.sctp_reassembly.specs.reassembly_queue.ReassemblyQueue.{held_after_ordered_skips, held_after_unordered_skip}
+use Rattle.sctp_reassembly.specs.reassembly_queue.ReassemblyQueue.{held_after_ordered_skips}
 use Rattle.sctp_refinement.specs.Holds.{reassembly_of}
 use Rattle.sctp_refinement.specs.Naming.{on_stream, end_named}
 use Rattle.sctp_refinement.proofs.reading.Line
-use Rattle.sctp_refinement.proofs.skipping.SkipStep.{with_skip, skipped, once-is}
+use Rattle.sctp_refinement.proofs.skipping.SkipStep.{with_skip, once-is}
 use Rattle.sctp_refinement.proofs.skipping.SkipSpans.{IsLast, last-named, none-named, named-last, gone_forward, gone-last}
 
 -- the SSN of each is its index
@@ -33,9 +33,3 @@ skips-in-turn w s upto names r valid lt counts open' before after' =
     step (inr last) =
         once-is w s upto names r valid lt counts open' before after' last.number last.on last.among (named-last w s names last)
         ∙ sym (gone-last w s (end_named w s names) (on_stream w s names) (reassembly_of w s) last)
-
--- what the queue is after the skip
-pub queue-skips : (w : LinkRecord) (s upto : ℕ) (names : List ℕ) (r : StreamRecord) → Valid w → upto < length w.slots → cumulative w ≤ upto → stream_at w s ≡ Some r → IsSpan w s (map (index_of w) (on_stream w s names)) → IsSpan (with_skip w upto names) s (map (index_of w) (on_stream w s names)) → reassembly_of (with_skip w upto names) s ≡ held_after_unordered_skip (tsn_of w upto) (held_after_ordered_skips (map (λ n. index_of w n % 2 ^ 16) (on_stream w s names)) (reassembly_of w s))
-queue-skips w s upto names r valid lt counts open' before after' =
-    skipped w s upto names r valid lt counts open' before after'
-    ∙ ap (λ is. held_after_unordered_skip (tsn_of w upto) (held_after_ordered_skips is (reassembly_of w s))) (ssns-are w s names)

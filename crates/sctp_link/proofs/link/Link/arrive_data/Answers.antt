@@ -29,7 +29,6 @@ read_data-requires g c =
     let k = c.args.k in
     let ds = c.self.inside.network.items in
     let lies : (places : List ℕ) × (slice_get w.network k ≡ Some (Data places)) = rw (← c.self.view_is) at c.requires.lies in
-    let none : refusal_of w (E.Arrive k) ≡ None = rw (← c.self.view_is) at c.requires.none in
     let ps = lies.0 in
     (said w ps, says-data sum x k ps ds c.index.result.now l refl refl lies.1 c.index.ensures)
 
@@ -49,13 +48,9 @@ index-requires-2 g c =
 pub unreachable-requires : goal.unreachable-requires
 unreachable-requires g c =
     let w = record_in c.self.inside in
-    let sum = g.C.Checksum.sum c.self.inside.checksum in
-    let x = state_in c.self.inside in
-    let l = c.self.invariant in
     let k = c.args.k in
     let ds = c.self.inside.network.items in
     let lies : (places : List ℕ) × (slice_get w.network k ≡ Some (Data places)) = rw (← c.self.view_is) at c.requires.lies in
-    let none : refusal_of w (E.Arrive k) ≡ None = rw (← c.self.view_is) at c.requires.none in
     let ps = lies.0 in
     never-other c.index-2.result.now.kind ps c.in_default.not-Data (kind-data ds k c.index-2.result.now ps lies.1 c.index-2.ensures)
 

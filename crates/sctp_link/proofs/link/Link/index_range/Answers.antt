@@ -1,13 +1,15 @@
-use Rattle.std.proofs.Common.{◌≡◌, ℕ, ap, sym, ◌∙◌, ◌<◌, ◌-◌, true, Some, refl, arith, length}
-use Rattle.std.specs.Prelude.{find, min, max, slice_index_or}
+use Rattle.std.proofs.Common.{◌≡◌, ℕ, ap, sym, ◌∙◌, ◌<◌, ◌-◌, true, List, Some, refl, arith, length}
+use Rattle.std.specs.Prelude.{find, min, max, option_map, slice_index_or}
 use Rattle.std.specs.VecDeque.{deque_len}
 use Rattle.sctp_list_lemmas.proofs.More.{not_both}
+use Rattle.sctp_chunks.specs.ChunkSet.{ChunkSet}
 use Rattle.sctp_reassembly.specs.reassembly_queue.ReassemblyQueue.{ReassemblyState}
 use Rattle.sctp_model.specs.Messages.{is_open, index_of}
 use Rattle.sctp_model.specs.Receiver.{held_on, is_held}
 use Rattle.sctp_model.specs.Queues.{set_of}
 use Rattle.sctp_halves.specs.Streams.{OpenStream, has_number}
 use Rattle.sctp_link.specs.Fields.{record_in, state_in}
+use Rattle.sctp_link.specs.Linked.{State, IsLinked}
 use Rattle.sctp_link.proofs.upkeep.Lookups.{none-open}
 use Rattle.sctp_link.proofs.upkeep.StreamPlaces.{placed}
 use Rattle.sctp_link.proofs.receiver.Hears.{none-told, told-next, told-queue, ends-empty, set-held, low-front, high-back, none-there}
@@ -18,142 +20,92 @@ unreachable-requires g c =
     let o : is_open (record_in c.self.inside) c.args.stream ≡ true = rw (← c.self.view_is) at c.requires in
     not_both (sym (none-open (record_in c.self.inside) c.args.stream c.self.inside.halves.streams refl (none-told (find (has_number c.args.stream) c.self.inside.halves.streams) c.in_default.ensures)) ∙ o)
 
+-- What a link tells of a stream: where it stands, which index is expected next, and the ordered sets that are held.
+record IsTold (x : State) (s next : ℕ) (sets : List ChunkSet) : Type 0 where
+  at : ℕ
+  d : OpenStream
+  lt : at < length x.open_streams
+  found : find (has_number s) x.open_streams ≡ Some (slice_index_or x.open_streams at d)
+  next_is : next ≡ (slice_index_or x.open_streams at d).next
+  held : sets ≡ (slice_index_or x.open_streams at d).inbound.queue.held.ordered
+
+told-at : (x : State) (s next : ℕ) (q : ReassemblyState) {sets : List ChunkSet} → Some next ≡ option_map (λ l. l.next) (find (has_number s) x.open_streams) → Some q ≡ option_map (λ l. l.inbound.queue) (find (has_number s) x.open_streams) → sets ≡ q.held.ordered → IsTold x s next sets
+told-at x s next q next_told queue_told sets_are =
+    let told = told-next (find (has_number s) x.open_streams) next next_told in
+    let place = placed s x.open_streams told.0 told.1.0 in
+    let is : slice_index_or x.open_streams place.0 told.0 ≡ told.0 = place.1.1 told.0 in
+    record {
+      at = place.0;
+      d = told.0;
+      lt = place.1.0;
+      found = told.1.0 ∙ ap (λ l. Some l) (sym is);
+      next_is = told.1.1 ∙ ap (λ (l : OpenStream). l.next) (sym is);
+      held = sets_are ∙ ap (λ (r : ReassemblyState). r.held.ordered) (told-queue (find (has_number s) x.open_streams) told.0 q told.1.0 queue_told) ∙ ap (λ (l : OpenStream). l.inbound.queue.held.ordered) (sym is);
+    }
+
+-- The set at a place is of the message that is held there.
+set-told : (sum : List ℕ → ℕ) (x : State) (l : IsLinked sum x) (s next : ℕ) (sets : List ChunkSet) (t : IsTold x s next sets) (i : ℕ) (e : ChunkSet) → i < length sets → e ≡ slice_index_or sets i e → (is_held x.recorded s (slice_index_or (held_on x.recorded s) i 0) ≡ true) × (e ≡ set_of x.recorded (slice_index_or (held_on x.recorded s) i 0))
+set-told sum x l s next sets t i e lt is =
+    let h = set-held sum x l t.at s t.d t.lt t.found i e (omega (arith, lt, ap length t.held)) in
+    (h.0, is ∙ ap (λ ys. slice_index_or ys i e) t.held ∙ h.1)
+
 pub returns-in_default-front-clause-low : goal.returns-in_default-front-clause-low
 returns-in_default-front-clause-low g c =
-    let w = record_in c.self.inside in
-    let sum = g.C.Checksum.sum c.self.inside.checksum in
     let x = state_in c.self.inside in
-    let s = c.args.stream in
-    let open_streams = c.self.inside.halves.streams in
-    let told = told-next (find (has_number s) open_streams) c.in-Some.next c.in-Some.ensures in
-    let d = told.0 in
-    let place = placed s open_streams d told.1.0 in
-    let at = place.0 in
-    let lt : at < length open_streams = place.1.0 in
-    let is : slice_index_or open_streams at d ≡ d = place.1.1 d in
-    let found : find (has_number s) open_streams ≡ Some (slice_index_or open_streams at d) = told.1.0 ∙ ap (λ l. Some l) (sym is) in
-    let next : c.in-Some.next ≡ (slice_index_or open_streams at d).next = told.1.1 ∙ ap (λ (l : OpenStream). l.next) (sym is) in
-    let queue = told-queue (find (has_number s) open_streams) d c.in-Some-reassembly.queue.now told.1.0 c.in-Some-reassembly.ensures in
-    let held = c.ordered-held.ensures ∙ ap (λ (q : ReassemblyState). q.held.ordered) queue ∙ ap (λ (l : OpenStream). l.inbound.queue.held.ordered) (sym is) in
-    let empty : length (slice_index_or open_streams at d).inbound.queue.held.ordered ≡ 0 = omega (arith, ap length held, none-there (deque_len c.ordered-held.result.now) c.in_default-front.ensures.variant.1) in
-    rw (← c.self.view_is) (next ∙ (ends-empty sum x c.self.invariant at s d lt found empty).0)
+    let t = told-at x c.args.stream c.in-Some.next c.in-Some-reassembly.queue.now c.in-Some.ensures c.in-Some-reassembly.ensures c.ordered-held.ensures in
+    let empty : length (slice_index_or x.open_streams t.at t.d).inbound.queue.held.ordered ≡ 0 = omega (arith, ap length t.held, none-there (deque_len c.ordered-held.result.now) c.in_default-front.ensures.variant.1) in
+    rw (← c.self.view_is) (t.next_is ∙ (ends-empty (g.C.Checksum.sum c.self.inside.checksum) x c.self.invariant t.at c.args.stream t.d t.lt t.found empty).0)
 
 pub returns-in_default-front-clause-high : goal.returns-in_default-front-clause-high
 returns-in_default-front-clause-high g c =
-    let w = record_in c.self.inside in
-    let sum = g.C.Checksum.sum c.self.inside.checksum in
     let x = state_in c.self.inside in
-    let s = c.args.stream in
-    let open_streams = c.self.inside.halves.streams in
-    let told = told-next (find (has_number s) open_streams) c.in-Some.next c.in-Some.ensures in
-    let d = told.0 in
-    let place = placed s open_streams d told.1.0 in
-    let at = place.0 in
-    let lt : at < length open_streams = place.1.0 in
-    let is : slice_index_or open_streams at d ≡ d = place.1.1 d in
-    let found : find (has_number s) open_streams ≡ Some (slice_index_or open_streams at d) = told.1.0 ∙ ap (λ l. Some l) (sym is) in
-    let next : c.in-Some.next ≡ (slice_index_or open_streams at d).next = told.1.1 ∙ ap (λ (l : OpenStream). l.next) (sym is) in
-    let queue = told-queue (find (has_number s) open_streams) d c.in-Some-reassembly.queue.now told.1.0 c.in-Some-reassembly.ensures in
-    let held = c.ordered-held.ensures ∙ ap (λ (q : ReassemblyState). q.held.ordered) queue ∙ ap (λ (l : OpenStream). l.inbound.queue.held.ordered) (sym is) in
-    let empty : length (slice_index_or open_streams at d).inbound.queue.held.ordered ≡ 0 = omega (arith, ap length held, none-there (deque_len c.ordered-held.result.now) c.in_default-front.ensures.variant.1) in
-    rw (← c.self.view_is) (next ∙ (ends-empty sum x c.self.invariant at s d lt found empty).1)
+    let t = told-at x c.args.stream c.in-Some.next c.in-Some-reassembly.queue.now c.in-Some.ensures c.in-Some-reassembly.ensures c.ordered-held.ensures in
+    let empty : length (slice_index_or x.open_streams t.at t.d).inbound.queue.held.ordered ≡ 0 = omega (arith, ap length t.held, none-there (deque_len c.ordered-held.result.now) c.in_default-front.ensures.variant.1) in
+    rw (← c.self.view_is) (t.next_is ∙ (ends-empty (g.C.Checksum.sum c.self.inside.checksum) x c.self.invariant t.at c.args.stream t.d t.lt t.found empty).1)
 
 pub index_of-requires : goal.index_of-requires
 index_of-requires g c =
-    let w = record_in c.self.inside in
     let sum = g.C.Checksum.sum c.self.inside.checksum in
     let x = state_in c.self.inside in
-    let s = c.args.stream in
-    let open_streams = c.self.inside.halves.streams in
-    let told = told-next (find (has_number s) open_streams) c.in-Some.next c.in-Some.ensures in
-    let d = told.0 in
-    let place = placed s open_streams d told.1.0 in
-    let at = place.0 in
-    let lt : at < length open_streams = place.1.0 in
-    let is : slice_index_or open_streams at d ≡ d = place.1.1 d in
-    let found : find (has_number s) open_streams ≡ Some (slice_index_or open_streams at d) = told.1.0 ∙ ap (λ l. Some l) (sym is) in
-    let next : c.in-Some.next ≡ (slice_index_or open_streams at d).next = told.1.1 ∙ ap (λ (l : OpenStream). l.next) (sym is) in
-    let queue = told-queue (find (has_number s) open_streams) d c.in-Some-reassembly.queue.now told.1.0 c.in-Some-reassembly.ensures in
-    let held = c.ordered-held.ensures ∙ ap (λ (q : ReassemblyState). q.held.ordered) queue ∙ ap (λ (l : OpenStream). l.inbound.queue.held.ordered) (sym is) in
-    let first = c.in-Some-front.first.now in
-    let some : 0 < length (slice_index_or open_streams at d).inbound.queue.held.ordered = omega (arith, ap length held, c.in-Some-front.ensures.variant.0 refl) in
-    let h = set-held sum x c.self.invariant at s d lt found 0 first some in
-    let set_is = c.in-Some-front.ensures.lookup ∙ ap (λ ys. slice_index_or ys 0 first) held ∙ h.1 in
-    rw (← c.self.view_is) (s, slice_index_or (held_on w s) 0 0, h.0, set_is)
+    let sets = c.ordered-held.result.now.items in
+    let t = told-at x c.args.stream c.in-Some.next c.in-Some-reassembly.queue.now c.in-Some.ensures c.in-Some-reassembly.ensures c.ordered-held.ensures in
+    let some : 0 < length sets = omega (arith, c.in-Some-front.ensures.variant.0 refl) in
+    let h = set-told sum x c.self.invariant c.args.stream c.in-Some.next sets t 0 c.in-Some-front.first.now some c.in-Some-front.ensures.lookup in
+    rw (← c.self.view_is) (c.args.stream, slice_index_or (held_on x.recorded c.args.stream) 0 0, h.0, h.1)
 
 pub index_of-requires-2 : goal.index_of-requires-2
 index_of-requires-2 g c =
-    let w = record_in c.self.inside in
     let sum = g.C.Checksum.sum c.self.inside.checksum in
     let x = state_in c.self.inside in
-    let s = c.args.stream in
-    let open_streams = c.self.inside.halves.streams in
-    let told = told-next (find (has_number s) open_streams) c.in-Some.next c.in-Some.ensures in
-    let d = told.0 in
-    let place = placed s open_streams d told.1.0 in
-    let at = place.0 in
-    let lt : at < length open_streams = place.1.0 in
-    let is : slice_index_or open_streams at d ≡ d = place.1.1 d in
-    let found : find (has_number s) open_streams ≡ Some (slice_index_or open_streams at d) = told.1.0 ∙ ap (λ l. Some l) (sym is) in
-    let next : c.in-Some.next ≡ (slice_index_or open_streams at d).next = told.1.1 ∙ ap (λ (l : OpenStream). l.next) (sym is) in
-    let queue = told-queue (find (has_number s) open_streams) d c.in-Some-reassembly.queue.now told.1.0 c.in-Some-reassembly.ensures in
-    let held = c.ordered-held.ensures ∙ ap (λ (q : ReassemblyState). q.held.ordered) queue ∙ ap (λ (l : OpenStream). l.inbound.queue.held.ordered) (sym is) in
+    let sets = c.ordered-held.result.now.items in
+    let t = told-at x c.args.stream c.in-Some.next c.in-Some-reassembly.queue.now c.in-Some.ensures c.in-Some-reassembly.ensures c.ordered-held.ensures in
+    let some : 0 < length sets = omega (arith, c.in-Some-front.ensures.variant.0 refl) in
+    let many : deque_len c.ordered-held.result.now ≡ length sets = omega arith in
     let last = c.in-Some-back.last.now in
-    let count = length (slice_index_or open_streams at d).inbound.queue.held.ordered in
-    let some : 0 < count = omega (arith, ap length held, c.in-Some-front.ensures.variant.0 refl) in
-    let less : count - 1 < count = omega (arith, some) in
-    let many : deque_len c.ordered-held.result.now ≡ count = omega (arith, ap length held) in
-    let h = set-held sum x c.self.invariant at s d lt found (count - 1) last less in
-    let set_is = c.in-Some-back.ensures.lookup ∙ ap (λ ys. slice_index_or ys (deque_len c.ordered-held.result.now - 1) last) held ∙ ap (λ k. slice_index_or (slice_index_or open_streams at d).inbound.queue.held.ordered (k - 1) last) many ∙ h.1 in
-    rw (← c.self.view_is) (s, slice_index_or (held_on w s) (count - 1) 0, h.0, set_is)
+    let h = set-told sum x c.self.invariant c.args.stream c.in-Some.next sets t (length sets - 1) last (omega (arith, some)) (c.in-Some-back.ensures.lookup ∙ ap (λ k. slice_index_or sets (k - 1) last) many) in
+    rw (← c.self.view_is) (c.args.stream, slice_index_or (held_on x.recorded c.args.stream) (length sets - 1) 0, h.0, h.1)
 
 pub returns-clause-low : goal.returns-clause-low
 returns-clause-low g c =
-    let w = record_in c.self.inside in
     let sum = g.C.Checksum.sum c.self.inside.checksum in
     let x = state_in c.self.inside in
-    let s = c.args.stream in
-    let open_streams = c.self.inside.halves.streams in
-    let told = told-next (find (has_number s) open_streams) c.in-Some.next c.in-Some.ensures in
-    let d = told.0 in
-    let place = placed s open_streams d told.1.0 in
-    let at = place.0 in
-    let lt : at < length open_streams = place.1.0 in
-    let is : slice_index_or open_streams at d ≡ d = place.1.1 d in
-    let found : find (has_number s) open_streams ≡ Some (slice_index_or open_streams at d) = told.1.0 ∙ ap (λ l. Some l) (sym is) in
-    let next : c.in-Some.next ≡ (slice_index_or open_streams at d).next = told.1.1 ∙ ap (λ (l : OpenStream). l.next) (sym is) in
-    let queue = told-queue (find (has_number s) open_streams) d c.in-Some-reassembly.queue.now told.1.0 c.in-Some-reassembly.ensures in
-    let held = c.ordered-held.ensures ∙ ap (λ (q : ReassemblyState). q.held.ordered) queue ∙ ap (λ (l : OpenStream). l.inbound.queue.held.ordered) (sym is) in
-    let first = c.in-Some-front.first.now in
-    let some : 0 < length (slice_index_or open_streams at d).inbound.queue.held.ordered = omega (arith, ap length held, c.in-Some-front.ensures.variant.0 refl) in
-    let h = set-held sum x c.self.invariant at s d lt found 0 first some in
-    let set_is = c.in-Some-front.ensures.lookup ∙ ap (λ ys. slice_index_or ys 0 first) held ∙ h.1 in
-    let index_told : (s n : ℕ) → is_held w s n ≡ true → first ≡ set_of w n → c.index_of.result ≡ index_of w n = rw (← c.self.view_is) at c.index_of.ensures in
-    rw (← c.self.view_is) (c.min-low.ensures ∙ ap (λ n. min n c.index_of.result) next ∙ low-front sum x c.self.invariant at s d lt found c.index_of.result some (index_told s (slice_index_or (held_on w s) 0 0) h.0 set_is))
+    let sets = c.ordered-held.result.now.items in
+    let t = told-at x c.args.stream c.in-Some.next c.in-Some-reassembly.queue.now c.in-Some.ensures c.in-Some-reassembly.ensures c.ordered-held.ensures in
+    let some : 0 < length sets = omega (arith, c.in-Some-front.ensures.variant.0 refl) in
+    let h = set-told sum x c.self.invariant c.args.stream c.in-Some.next sets t 0 c.in-Some-front.first.now some c.in-Some-front.ensures.lookup in
+    let told : (s n : ℕ) → is_held x.recorded s n ≡ true → c.in-Some-front.first.now ≡ set_of x.recorded n → c.index_of.result ≡ index_of x.recorded n = rw (← c.self.view_is) at c.index_of.ensures in
+    rw (← c.self.view_is) (c.min-low.ensures ∙ ap (λ n. min n c.index_of.result) t.next_is ∙ low-front sum x c.self.invariant t.at c.args.stream t.d t.lt t.found c.index_of.result (omega (arith, some, ap length t.held)) (told c.args.stream (slice_index_or (held_on x.recorded c.args.stream) 0 0) h.0 h.1))
 
 pub returns-clause-high : goal.returns-clause-high
 returns-clause-high g c =
-    let w = record_in c.self.inside in
     let sum = g.C.Checksum.sum c.self.inside.checksum in
     let x = state_in c.self.inside in
-    let s = c.args.stream in
-    let open_streams = c.self.inside.halves.streams in
-    let told = told-next (find (has_number s) open_streams) c.in-Some.next c.in-Some.ensures in
-    let d = told.0 in
-    let place = placed s open_streams d told.1.0 in
-    let at = place.0 in
-    let lt : at < length open_streams = place.1.0 in
-    let is : slice_index_or open_streams at d ≡ d = place.1.1 d in
-    let found : find (has_number s) open_streams ≡ Some (slice_index_or open_streams at d) = told.1.0 ∙ ap (λ l. Some l) (sym is) in
-    let next : c.in-Some.next ≡ (slice_index_or open_streams at d).next = told.1.1 ∙ ap (λ (l : OpenStream). l.next) (sym is) in
-    let queue = told-queue (find (has_number s) open_streams) d c.in-Some-reassembly.queue.now told.1.0 c.in-Some-reassembly.ensures in
-    let held = c.ordered-held.ensures ∙ ap (λ (q : ReassemblyState). q.held.ordered) queue ∙ ap (λ (l : OpenStream). l.inbound.queue.held.ordered) (sym is) in
+    let sets = c.ordered-held.result.now.items in
+    let t = told-at x c.args.stream c.in-Some.next c.in-Some-reassembly.queue.now c.in-Some.ensures c.in-Some-reassembly.ensures c.ordered-held.ensures in
+    let some : 0 < length sets = omega (arith, c.in-Some-front.ensures.variant.0 refl) in
+    let many : deque_len c.ordered-held.result.now ≡ length sets = omega arith in
     let last = c.in-Some-back.last.now in
-    let count = length (slice_index_or open_streams at d).inbound.queue.held.ordered in
-    let some : 0 < count = omega (arith, ap length held, c.in-Some-front.ensures.variant.0 refl) in
-    let less : count - 1 < count = omega (arith, some) in
-    let many : deque_len c.ordered-held.result.now ≡ count = omega (arith, ap length held) in
-    let h = set-held sum x c.self.invariant at s d lt found (count - 1) last less in
-    let set_is = c.in-Some-back.ensures.lookup ∙ ap (λ ys. slice_index_or ys (deque_len c.ordered-held.result.now - 1) last) held ∙ ap (λ k. slice_index_or (slice_index_or open_streams at d).inbound.queue.held.ordered (k - 1) last) many ∙ h.1 in
-    let index_told : (s n : ℕ) → is_held w s n ≡ true → last ≡ set_of w n → c.index_of-2.result ≡ index_of w n = rw (← c.self.view_is) at c.index_of-2.ensures in
-    rw (← c.self.view_is) (c.max-high.ensures ∙ ap (λ n. max n c.index_of-2.result) next ∙ high-back sum x c.self.invariant at s d lt found c.index_of-2.result some (index_told s (slice_index_or (held_on w s) (count - 1) 0) h.0 set_is))
+    let h = set-told sum x c.self.invariant c.args.stream c.in-Some.next sets t (length sets - 1) last (omega (arith, some)) (c.in-Some-back.ensures.lookup ∙ ap (λ k. slice_index_or sets (k - 1) last) many) in
+    let told : (s n : ℕ) → is_held x.recorded s n ≡ true → last ≡ set_of x.recorded n → c.index_of-2.result ≡ index_of x.recorded n = rw (← c.self.view_is) at c.index_of-2.ensures in
+    let is = told c.args.stream (slice_index_or (held_on x.recorded c.args.stream) (length sets - 1) 0) h.0 h.1 in
+    rw (← c.self.view_is) (c.max-high.ensures ∙ ap (λ n. max n c.index_of-2.result) t.next_is ∙ high-back sum x c.self.invariant t.at c.args.stream t.d t.lt t.found c.index_of-2.result (omega (arith, some, ap length t.held)) (is ∙ ap (λ (ys : List ChunkSet). index_of x.recorded (slice_index_or (held_on x.recorded c.args.stream) (length ys - 1) 0)) t.held))

@@ -1,77 +1,49 @@
-use Rattle.std.proofs.Common.{◌≡◌, ap, sym, ◌∙◌, ◌<◌, ◌-◌, true, false, refl, arith, length}
-use Rattle.std.specs.Prelude.{slice_index_or, is_some, if◌then◌else◌, nat_lt, ◌&&◌}
+use Rattle.std.proofs.Common.{◌≡◌, ap, sym, ◌∙◌, ◌-◌, true, false, arith}
+use Rattle.std.specs.Prelude.{is_some, if◌then◌else◌, nat_lt, ◌&&◌}
 use Rattle.sctp_model.specs.Messages.{message_at, message_of, is_open}
 use Rattle.sctp_model.specs.Receiver.{is_new, least, greatest, fits}
-use Rattle.sctp_link.specs.declared.record.Slot.{Slot}
-use Rattle.sctp_link.specs.Fields.{record_in, state_in}
-use Rattle.sctp_link.specs.Records.{message_record}
+use Rattle.sctp_link.specs.Fields.{record_in}
 use Rattle.sctp_link.specs.Receiving.{LiesSomewhere, added_on}
-use Rattle.sctp_link.proofs.receiver.Hears.{come-message, slots-made, messages-made, slot-raw, message-raw}
-use Rattle.sctp_link.proofs.receiver.Spans.{lying, fits-ends}
+use Rattle.sctp_link.proofs.receiver.Spans.{kept-at, number-kept, message-kept, fits-ends}
 use Rattle.sctp_list_lemmas.proofs.Cases.{and-none}
 use Rattle.sctp_link.proofs.link.Link.slot_fits.Goals as goal
 use Rattle.sctp_refinement.specs.Naming.{lowest_held, highest_held}
 
 pub index-requires : goal.index-requires
 index-requires g c =
-    let w = record_in c.self.inside in
-    let sum = g.C.Checksum.sum c.self.inside.checksum in
-    let x = state_in c.self.inside in
-    let l = c.self.invariant in
-    let p = c.args.place in
-    let slots = c.self.inside.slots.items in
-    let messages = c.self.inside.messages.items in
-    let lies : LiesSomewhere w p = rw (← c.self.view_is) at c.requires.place in
-    let car = lying sum x l p lies in
-    let inside : p < length slots = omega (arith, car.made, slots-made sum x l slots messages refl refl) in
-    omega (arith, inside)
+    let a = c.self.inside in
+    let sum = g.C.Checksum.sum a.checksum in
+    let lies : LiesSomewhere (record_in a) c.args.place = rw (← c.self.view_is) at c.requires.place in
+    let k = kept-at sum a c.self.invariant c.args.place lies in
+    omega (arith, k.inside)
 
 pub index-message-requires : goal.index-message-requires
 index-message-requires g c =
-    let w = record_in c.self.inside in
-    let sum = g.C.Checksum.sum c.self.inside.checksum in
-    let x = state_in c.self.inside in
-    let l = c.self.invariant in
-    let p = c.args.place in
-    let slots = c.self.inside.slots.items in
-    let messages = c.self.inside.messages.items in
-    let lies : LiesSomewhere w p = rw (← c.self.view_is) at c.requires.place in
-    let car = lying sum x l p lies in
-    let inside : p < length slots = omega (arith, car.made, slots-made sum x l slots messages refl refl) in
-    let made : message_of w p < length messages = omega (arith, come-message sum x l p car, messages-made sum x l slots messages refl refl) in
-    let number : c.index.result.now.message ≡ message_of w p = ap (λ (t : Slot). t.message) c.index.ensures ∙ sym (ap (λ t. t.message) (slot-raw sum x l slots messages refl refl p c.index.result.now inside)) in
-    omega (arith, number, made)
+    let a = c.self.inside in
+    let sum = g.C.Checksum.sum a.checksum in
+    let lies : LiesSomewhere (record_in a) c.args.place = rw (← c.self.view_is) at c.requires.place in
+    let k = kept-at sum a c.self.invariant c.args.place lies in
+    let number = number-kept sum a c.self.invariant c.args.place k c.index.result.now c.index.ensures in
+    omega (arith, number, k.made)
 
 pub is_new-requires : goal.is_new-requires
 is_new-requires g c =
-    let w = record_in c.self.inside in
-    let sum = g.C.Checksum.sum c.self.inside.checksum in
-    let x = state_in c.self.inside in
-    let l = c.self.invariant in
-    let p = c.args.place in
-    let slots = c.self.inside.slots.items in
-    let messages = c.self.inside.messages.items in
-    let lies : LiesSomewhere w p = rw (← c.self.view_is) at c.requires.place in
-    let car = lying sum x l p lies in
-    let inside : p < length slots = omega (arith, car.made, slots-made sum x l slots messages refl refl) in
-    rw (← c.self.view_is) car.made
+    let a = c.self.inside in
+    let sum = g.C.Checksum.sum a.checksum in
+    let lies : LiesSomewhere (record_in a) c.args.place = rw (← c.self.view_is) at c.requires.place in
+    let k = kept-at sum a c.self.invariant c.args.place lies in
+    rw (← c.self.view_is) k.carried.made
 
 pub returns-then-not-message : goal.returns-then-not-message
 returns-then-not-message g c =
     let w = record_in c.self.inside in
-    let sum = g.C.Checksum.sum c.self.inside.checksum in
-    let x = state_in c.self.inside in
-    let l = c.self.invariant in
     let p = c.args.place in
-    let slots = c.self.inside.slots.items in
-    let messages = c.self.inside.messages.items in
-    let lies : LiesSomewhere w p = rw (← c.self.view_is) at c.requires.place in
-    let car = lying sum x l p lies in
-    let inside : p < length slots = omega (arith, car.made, slots-made sum x l slots messages refl refl) in
-    let made : message_of w p < length messages = omega (arith, come-message sum x l p car, messages-made sum x l slots messages refl refl) in
-    let number : c.index.result.now.message ≡ message_of w p = ap (λ (t : Slot). t.message) c.index.ensures ∙ sym (ap (λ t. t.message) (slot-raw sum x l slots messages refl refl p c.index.result.now inside)) in
+    let a = c.self.inside in
+    let sum = g.C.Checksum.sum a.checksum in
+    let lies : LiesSomewhere (record_in a) c.args.place = rw (← c.self.view_is) at c.requires.place in
+    let k = kept-at sum a c.self.invariant c.args.place lies in
     let m = c.index-message.result.now in
-    let m_is : message_at w (message_of w p) ≡ message_record m = message-raw sum x l slots messages refl refl (message_of w p) m made ∙ ap message_record (sym (c.index-message.ensures ∙ ap (λ k. slice_index_or messages k m) number)) in
+    let m_is = message-kept sum a c.self.invariant c.args.place k c.index.result.now c.index.ensures m c.index-message.ensures in
     let ps = c.args.places.now in
     let n = message_of w p in
     let test = fits w (added_on w (message_at w n).stream ps) (message_at w n).stream in
@@ -81,19 +53,7 @@ returns-then-not-message g c =
 pub returns-then-not-is_new : goal.returns-then-not-is_new
 returns-then-not-is_new g c =
     let w = record_in c.self.inside in
-    let sum = g.C.Checksum.sum c.self.inside.checksum in
-    let x = state_in c.self.inside in
-    let l = c.self.invariant in
     let p = c.args.place in
-    let slots = c.self.inside.slots.items in
-    let messages = c.self.inside.messages.items in
-    let lies : LiesSomewhere w p = rw (← c.self.view_is) at c.requires.place in
-    let car = lying sum x l p lies in
-    let inside : p < length slots = omega (arith, car.made, slots-made sum x l slots messages refl refl) in
-    let made : message_of w p < length messages = omega (arith, come-message sum x l p car, messages-made sum x l slots messages refl refl) in
-    let number : c.index.result.now.message ≡ message_of w p = ap (λ (t : Slot). t.message) c.index.ensures ∙ sym (ap (λ t. t.message) (slot-raw sum x l slots messages refl refl p c.index.result.now inside)) in
-    let m = c.index-message.result.now in
-    let m_is : message_at w (message_of w p) ≡ message_record m = message-raw sum x l slots messages refl refl (message_of w p) m made ∙ ap message_record (sym (c.index-message.ensures ∙ ap (λ k. slice_index_or messages k m) number)) in
     let ps = c.args.places.now in
     let n = message_of w p in
     let test = fits w (added_on w (message_at w n).stream ps) (message_at w n).stream in
@@ -104,38 +64,25 @@ returns-then-not-is_new g c =
 pub index_range-range-requires : goal.index_range-range-requires
 index_range-range-requires g c =
     let w = record_in c.self.inside in
-    let sum = g.C.Checksum.sum c.self.inside.checksum in
-    let x = state_in c.self.inside in
-    let l = c.self.invariant in
-    let p = c.args.place in
-    let slots = c.self.inside.slots.items in
-    let messages = c.self.inside.messages.items in
-    let lies : LiesSomewhere w p = rw (← c.self.view_is) at c.requires.place in
-    let car = lying sum x l p lies in
-    let inside : p < length slots = omega (arith, car.made, slots-made sum x l slots messages refl refl) in
-    let made : message_of w p < length messages = omega (arith, come-message sum x l p car, messages-made sum x l slots messages refl refl) in
-    let number : c.index.result.now.message ≡ message_of w p = ap (λ (t : Slot). t.message) c.index.ensures ∙ sym (ap (λ t. t.message) (slot-raw sum x l slots messages refl refl p c.index.result.now inside)) in
+    let a = c.self.inside in
+    let sum = g.C.Checksum.sum a.checksum in
+    let lies : LiesSomewhere (record_in a) c.args.place = rw (← c.self.view_is) at c.requires.place in
+    let k = kept-at sum a c.self.invariant c.args.place lies in
     let m = c.index-message.result.now in
-    let m_is : message_at w (message_of w p) ≡ message_record m = message-raw sum x l slots messages refl refl (message_of w p) m made ∙ ap message_record (sym (c.index-message.ensures ∙ ap (λ k. slice_index_or messages k m) number)) in
-    let open' : is_open w m.stream ≡ true = ap (λ t. is_open w t.stream) (sym m_is) ∙ ap is_some car.known.1 in
+    let m_is = message-kept sum a c.self.invariant c.args.place k c.index.result.now c.index.ensures m c.index-message.ensures in
+    let open' : is_open w m.stream ≡ true = ap (λ t. is_open w t.stream) (sym m_is) ∙ ap is_some k.carried.known.1 in
     rw (← c.self.view_is) open'
 
 pub returns : goal.returns
 returns g c =
     let w = record_in c.self.inside in
-    let sum = g.C.Checksum.sum c.self.inside.checksum in
-    let x = state_in c.self.inside in
-    let l = c.self.invariant in
     let p = c.args.place in
-    let slots = c.self.inside.slots.items in
-    let messages = c.self.inside.messages.items in
-    let lies : LiesSomewhere w p = rw (← c.self.view_is) at c.requires.place in
-    let car = lying sum x l p lies in
-    let inside : p < length slots = omega (arith, car.made, slots-made sum x l slots messages refl refl) in
-    let made : message_of w p < length messages = omega (arith, come-message sum x l p car, messages-made sum x l slots messages refl refl) in
-    let number : c.index.result.now.message ≡ message_of w p = ap (λ (t : Slot). t.message) c.index.ensures ∙ sym (ap (λ t. t.message) (slot-raw sum x l slots messages refl refl p c.index.result.now inside)) in
+    let a = c.self.inside in
+    let sum = g.C.Checksum.sum a.checksum in
+    let lies : LiesSomewhere (record_in a) c.args.place = rw (← c.self.view_is) at c.requires.place in
+    let k = kept-at sum a c.self.invariant c.args.place lies in
     let m = c.index-message.result.now in
-    let m_is : message_at w (message_of w p) ≡ message_record m = message-raw sum x l slots messages refl refl (message_of w p) m made ∙ ap message_record (sym (c.index-message.ensures ∙ ap (λ k. slice_index_or messages k m) number)) in
+    let m_is = message-kept sum a c.self.invariant c.args.place k c.index.result.now c.index.ensures m c.index-message.ensures in
     let ps = c.args.places.now in
     let n = message_of w p in
     let test = fits w (added_on w (message_at w n).stream ps) (message_at w n).stream in
