@@ -14,6 +14,7 @@ use sctp_reassembly::chunks::Chunks;
 use sctp_receiver::receiver::Receiver;
 use sctp_receiver::receiver::limits::Limits;
 use sctp_sender::sender::Sender;
+use sctp_sender::sender::refusal::SenderRefusal;
 use std::alloc::Global;
 
 /// How many bytes of user data a fragment has: a whole one fills a packet.
@@ -295,8 +296,10 @@ impl Association {
             if !fits || !self.has_room(bytes, flight) || data_length(bytes) > packet.room {
                 break;
             }
-            let Some(chunk) = self.sender.send_next(now)? else {
-                break;
+            let chunk = match self.sender.send_next(now) {
+                Ok(Some(chunk)) => chunk,
+                Ok(None) | Err(SenderRefusal::SsnsUsedUp) => break,
+                Err(e) => return Err(Fault::from(e)),
             };
             flight = flight.saturating_add(bytes);
             packet.put(ChunkKind::PayloadData(chunk), data_length(bytes))?;

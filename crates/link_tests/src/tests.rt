@@ -339,6 +339,16 @@ fn lends(link: &Link<Zero>) -> bool {
         && link.buffered_amount(2).is_none()
 }
 
+/// The bytes that a stream holds are those that came, no repeated ones, until they are read.
+fn holds_none_once_read(link: &mut Link<Zero>) -> bool {
+    comes_again(link, 0)
+        && held(link, 1) == Some(4)
+        && arrives(link, 1)
+        && held(link, 1) == Some(7)
+        && hands_out(link, 1, b"abcdefg")
+        && held(link, 1) == Some(0)
+}
+
 /// Sends a message of three fragments; the first and the last arrive.
 fn all_but_the_middle(alloc: Global, link: &mut Link<Zero>) -> bool {
     sent(alloc, link, &[b"abcdefg"], 3) && arrives(link, 0) && arrives(link, 2)
@@ -348,7 +358,8 @@ fn all_but_the_middle(alloc: Global, link: &mut Link<Zero>) -> bool {
 fn lent_queues_and_ledger(rt: HostRuntime) {
     let alloc = rt.alloc();
     let mut link = Link::new(alloc, 10, 3, 100, Zero);
-    assert!(rt; all_but_the_middle(alloc, &mut link) && lends(&link));
+    let well = all_but_the_middle(alloc, &mut link) && lends(&link);
+    assert!(rt; well && holds_none_once_read(&mut link));
 }
 
 /// Whether stream 1 takes this message of this kind.
@@ -495,6 +506,34 @@ fn resent_bytes_count_once(rt: HostRuntime) {
     let alloc = rt.alloc();
     let mut link = Link::new(alloc, 10, 3, 100, Zero);
     assert!(rt; second_is_sent_again(alloc, &mut link) && counted_once(&mut link));
+}
+
+/// Whether the chunk in flight with this TSN was sent so often, the first time at this moment in nanoseconds.
+fn is_noted(link: &Link<Zero>, tsn: u32, nsent: u32, since: u64) -> bool {
+    match link.outbound().get(tsn) {
+        Some(chunk) => chunk.nsent == nsent && chunk.since == Some(since),
+        None => false,
+    }
+}
+
+fn sends_at_moments(alloc: Global, link: &mut Link<Zero>) -> bool {
+    sent(alloc, link, &[b"abcdef"], 0)
+        && does(link, Event::Send { now: 7 })
+        && does(link, Event::Send { now: 9 })
+        && is_noted(link, 10, 1, 7)
+        && is_noted(link, 11, 1, 9)
+}
+
+fn first_is_counted_again(link: &mut Link<Zero>) -> bool {
+    does(link, Event::Resend { tsn: 10 }) && is_noted(link, 10, 2, 7) && is_noted(link, 11, 1, 9)
+}
+
+/// A Send notes its moment and counts one; a Resend counts one more, of its chunk alone, and leaves the moment.
+#[test]
+fn sends_are_counted(rt: HostRuntime) {
+    let alloc = rt.alloc();
+    let mut link = Link::new(alloc, 10, 3, 100, Zero);
+    assert!(rt; sends_at_moments(alloc, &mut link) && first_is_counted_again(&mut link));
 }
 
 fn write_on(alloc: Global, stream: u16, bytes: &[u8]) -> Result<Event, AllocError> {

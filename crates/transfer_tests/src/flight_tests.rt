@@ -356,3 +356,36 @@ fn abandoned_down_to_the_threshold(rt: HostRuntime) {
     let well = four_in_flight(alloc, &mut a, &mut b) && is_low_abandoned(&mut a);
     assert!(rt; well && is_low_expired(alloc, &mut a));
 }
+
+// Whether the FORWARD-TSN up to a TSN goes to this one, if anywhere.
+fn goes_to(a: &Host, tsn: u32, due: Option<u32>) -> bool {
+    match a.sender.forward_tsn_to(tsn) {
+        Ok(Some(skip)) => due == Some(skip.new_cumulative_tsn),
+        Ok(None) => due.is_none(),
+        Err(_) => false,
+    }
+}
+
+// Of three fragments and one, the message of three is abandoned, then the other.
+fn ends_with_a_message(a: &mut Host) -> bool {
+    let well = goes_to(a, 1, None)
+        && a.sender.abandon(0).is_ok()
+        && goes_to(a, u32::MAX, None)
+        && goes_to(a, 0, None)
+        && goes_to(a, 1, Some(1))
+        && goes_to(a, 2, None);
+    well && a.sender.abandon(2).is_ok()
+        && goes_to(a, 0, None)
+        && goes_to(a, 1, Some(1))
+        && goes_to(a, 2, Some(2))
+}
+
+/// A FORWARD-TSN goes to the end of a message, never inside one (RFC 3758 3.5).
+#[test]
+fn skips_complete_messages(rt: HostRuntime) {
+    let alloc = rt.alloc();
+    let mut a = Host::new(alloc, u32::MAX, 7);
+    let mut b = Host::new(alloc, 7, u32::MAX);
+    let well = four_in_flight(alloc, &mut a, &mut b);
+    assert!(rt; well && ends_with_a_message(&mut a));
+}

@@ -4,11 +4,15 @@
 #[cfg(test)]
 mod arrival_tests;
 #[cfg(test)]
+mod bound_tests;
+#[cfg(test)]
 mod closing_tests;
 #[cfg(test)]
 mod flight_tests;
 #[cfg(test)]
 mod host;
+#[cfg(test)]
+mod keeping_tests;
 #[cfg(test)]
 mod limits_tests;
 #[cfg(test)]
@@ -23,3 +27,5 @@ mod sender_tests;
 pub mod sending;
 #[cfg(test)]
 mod skipping_tests;
+#[cfg(test)]
+mod ssn_tests;

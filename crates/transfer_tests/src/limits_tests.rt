@@ -1,6 +1,6 @@
 //! A receiver with limits: what it refuses for them, and the window that it tells (RFC 4960 6.2).
 
-use crate::part::{comes_again, is_new, reads, refusal};
+use crate::part::{comes_again, is_new, numbered, reads, refusal};
 use sctp_receiver::receiver::Receiver;
 use sctp_receiver::receiver::arrival::Arrival;
 use sctp_receiver::receiver::limits::Limits;
@@ -50,7 +50,7 @@ fn it_is_emptied(alloc: Global, receiver: &mut Receiver) -> bool {
         && holds(receiver, 202, 200)
         && reads(receiver, b"ab")
         && holds(receiver, 0, 402)
-        && is_new(alloc, receiver, 6, WHOLE, b"a")
+        && numbered(alloc, receiver, 6, 1) == Ok(Arrival::New { complete: true })
 }
 
 /// A window of two chunks.

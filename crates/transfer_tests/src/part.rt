@@ -2,6 +2,7 @@
 
 use bytes::Bytes;
 use sctp_base::error::Error;
+use sctp_chunks::chunk::chunk_forward_tsn::{ChunkForwardTsn, ChunkForwardTsnStream};
 use sctp_chunks::chunk::chunk_payload_data::{ChunkPayloadData, PayloadProtocolIdentifier};
 use sctp_receiver::receiver::Receiver;
 use sctp_receiver::receiver::arrival::Arrival;
@@ -50,6 +51,40 @@ pub(crate) fn is_new(
         Ok(chunk) => matches!(receiver.data(&chunk), Ok(Arrival::New { .. })),
         Err(_) => false,
     }
+}
+
+/// What a receiver makes of such a chunk that is a message with a stream sequence number.
+pub(crate) fn numbered(
+    alloc: Global,
+    receiver: &mut Receiver,
+    tsn: u32,
+    ssn: u16,
+) -> Result<Arrival, ReceiverRefusal> {
+    match chunk(alloc, tsn, true, true, b"a") {
+        Ok(one) => receiver.data(&ChunkPayloadData {
+            stream_sequence_number: ssn,
+            ..one
+        }),
+        Err(_) => Err(ReceiverRefusal::OutOfMemory),
+    }
+}
+
+/// A FORWARD-TSN up to a TSN that names a stream and a stream sequence number.
+pub(crate) fn named(
+    alloc: Global,
+    tsn: u32,
+    identifier: u16,
+    sequence: u16,
+) -> Result<ChunkForwardTsn, Error> {
+    let mut streams = Vec::new(alloc);
+    streams.push(ChunkForwardTsnStream {
+        identifier,
+        sequence,
+    })?;
+    Ok(ChunkForwardTsn {
+        new_cumulative_tsn: tsn,
+        streams,
+    })
 }
 
 /// Whether a receiver had the TSN of such a chunk.

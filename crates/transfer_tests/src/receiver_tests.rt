@@ -121,8 +121,8 @@ fn names(skip: &mut ChunkForwardTsn, identifier: u16) -> bool {
     skip.streams.push(stream).is_ok()
 }
 
-/// Whether a receiver says this of a FORWARD-TSN up to a TSN, which names the message 0 of stream 1 and one of a stream that
-/// is not open.
+/// Whether a receiver that passes over closed streams says this of a FORWARD-TSN up to a TSN, which names the message 0 of stream 1
+/// and one of a stream that is not open.
 fn forwards(
     alloc: Global,
     receiver: &mut Receiver,
@@ -133,7 +133,7 @@ fn forwards(
         new_cumulative_tsn: tsn,
         streams: Vec::new(alloc),
     };
-    names(&mut skip, 9) && names(&mut skip, 1) && receiver.forward_tsn(&skip) == due
+    names(&mut skip, 9) && names(&mut skip, 1) && receiver.forward_tsn_past_closed(&skip) == due
 }
 
 fn first_and_fourth_come(alloc: Global, receiver: &mut Receiver) -> bool {

@@ -3,7 +3,7 @@
 ghost use Rattle.std.specs.Prelude.{◌≡◌, ◌+◌, ◌-◌, ◌*◌, ◌≤◌, true, Some, None, OnOk, OnErr, IfOk, IfErr, length};
 ghost use Rattle.sctp_chunks.specs.SelectiveAck.{sack_of};
 ghost use Rattle.sctp_receiver.specs.declared.receiver.refusal.ReceiverRefusal.TheVariants.{OutOfMemory, StreamUnknown};
-ghost use Rattle.sctp_receiver.specs.Receiver.{Takes, after_discard, after_sack_within, arrival_of, data_refusal, sack_within, window};
+ghost use Rattle.sctp_receiver.specs.Receiver.{Takes, after_discard, after_sack_within, arrival_of, arrival_refusal, sack_within, window};
 
 use sctp_chunks::chunk::chunk_payload_data::ChunkPayloadData;
 use sctp_chunks::chunk::chunk_selective_ack::ChunkSelectiveAck;
@@ -17,7 +17,7 @@ pub fn take_chunk(
     receiver: &mut Receiver,
     chunk: &ChunkPayloadData,
 ) -> Result<bool, ReceiverRefusal>
-    ensures taken { data_refusal chunk.now receiver.old ≡ None → IfOk result (λ complete.
+    ensures taken { arrival_refusal chunk.now receiver.old ≡ None → IfOk result (λ complete.
         Takes chunk.now (arrival_of chunk.now.tsn complete receiver.old)
         receiver.old receiver.new) }
     ensures err { OnErr result (receiver.new ≡ receiver.old) }
@@ -37,9 +37,9 @@ pub fn take_or_discard(
     receiver: &mut Receiver,
     chunk: &ChunkPayloadData,
 ) -> Result<bool, ReceiverRefusal>
-    ensures taken { data_refusal chunk.now receiver.old ≡ None
+    ensures taken { arrival_refusal chunk.now receiver.old ≡ None
         → IfOk result (λ known. known ≡ true) }
-    ensures dropped { data_refusal chunk.now receiver.old ≡ Some StreamUnknown
+    ensures dropped { arrival_refusal chunk.now receiver.old ≡ Some StreamUnknown
         → OnOk result (receiver.new ≡ after_discard chunk.now.tsn receiver.old) }
     ensures err { OnErr result (receiver.new ≡ receiver.old) }
 {

@@ -1,15 +1,15 @@
 //! A caller of a sender.
 
-ghost use Rattle.std.specs.Prelude.{◌≡◌, ◌-◌, None, Some, OnErr, OnOk, IfErr, IfOk, IfSome, IsOk, find, length, option_map, slice_get};
+ghost use Rattle.std.specs.Prelude.{◌≡◌, ◌-◌, ◌⊎◌, None, Some, OnErr, OnOk, IfErr, IfOk, IfSome, IsOk, find, length, option_map, slice_get};
 ghost use Rattle.sctp_chunks.specs.SelectiveAck.{sack_of};
 ghost use Rattle.sctp_chunks.specs.declared.chunk.chunk_payload_data.ChunkPayloadData.{ChunkPayloadData};
 ghost use Rattle.sctp_sender.specs.declared.sender.refusal.SenderRefusal.{SenderRefusal};
 ghost use Rattle.sctp_sender.specs.declared.sender.refusal.SenderRefusal.TheVariants.{OutOfMemory};
 ghost use Rattle.sctp_sender.specs.Flight.{released_by, sack_refusal};
-ghost use Rattle.sctp_sender.specs.Abandonment.{advanced_ack_point};
+ghost use Rattle.sctp_sender.specs.Abandonment.{advanced_ack_point, skip_end};
 ghost use Rattle.sctp_sender.specs.Late.{after_late};
 ghost use Rattle.sctp_sender.specs.Resending.{is_to_resend};
-ghost use Rattle.sctp_sender.specs.Sender.{after_acked};
+ghost use Rattle.sctp_sender.specs.Sender.{after_acked, after_take_back, taken_back_by};
 ghost use Rattle.sctp_sender.specs.Thresholds.{fell, tells_low};
 ghost use Rattle.std.specs.List.{list_any};
 ghost use Rattle.sctp_serial.specs.DataChunks.{has_tsn};
@@ -19,6 +19,7 @@ use sctp_chunks::chunk::chunk_payload_data::ChunkPayloadData;
 use sctp_chunks::chunk::chunk_selective_ack::ChunkSelectiveAck;
 use sctp_sender::sender::Sender;
 use sctp_sender::sender::flight::Released;
+use sctp_sender::sender::flight::keeping::TakenBack;
 use sctp_sender::sender::refusal::SenderRefusal;
 
 /// Gives a SACK to a sender. One that claims what can't be is dropped, and nothing changes. Fails only where memory ran out.
@@ -37,11 +38,28 @@ pub fn take_sack(sender: &mut Sender, sack: &ChunkSelectiveAck) -> Result<(), Se
     }
 }
 
+/// Gives a SACK to a sender that keeps what was reported (RFC 4960 6.2.1 D iv): what it no longer reports is outstanding again, and
+/// answered; then what it reports is acknowledged. Where that is refused for memory, what came back stays so.
+pub fn take_back_and_acknowledge(
+    sender: &mut Sender,
+    sack: &ChunkSelectiveAck,
+) -> Result<Vec<TakenBack>, SenderRefusal>
+    ensures back { IfOk result (λ back. back.items ≡ taken_back_by (sack_of sack.now) sender.old) }
+    ensures taken { OnOk result (sender.new
+        ≡ after_acked (sack_of sack.now) (after_take_back (sack_of sack.now) sender.old)) }
+    ensures err { OnErr result ((sender.new ≡ sender.old)
+        ⊎ (sender.new ≡ after_take_back (sack_of sack.now) sender.old)) }
+{
+    let back = sender.take_back(sack)?;
+    sender.acked(sack)?;
+    Ok(back)
+}
+
 /// Abandons what is late, and answers the FORWARD-TSN that the peer is to be sent then, if there is one.
 pub fn abandon_late(sender: &mut Sender, now: u64) -> Result<Option<ChunkForwardTsn>, SenderRefusal>
     ensures late { OnOk result (sender.new ≡ after_late now sender.old) }
-    ensures tsn { IfOk result (λ r. IfSome r
-        (λ c. c.new_cumulative_tsn ≡ advanced_ack_point sender.new.flight)) }
+    ensures tsn { IfOk result (λ r. option_map (λ c. c.new_cumulative_tsn) r
+        ≡ skip_end (advanced_ack_point sender.new.flight) sender.new.flight) }
 {
     sender.expire_late(now)?;
     sender.forward_tsn()

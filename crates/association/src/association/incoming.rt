@@ -66,10 +66,11 @@ impl Association {
                 }
                 Ok(())
             }
-            // Dropped, where there is no room for it: the SACK says so (RFC 4960 6.2).
+            // Dropped, where there is no room for it, or too much before it is still to be read: the SACK says so (RFC 4960 6.2).
             Ok(Arrival::Repeat)
             | Err(ReceiverRefusal::WindowFull)
-            | Err(ReceiverRefusal::TsnTooFar) => {
+            | Err(ReceiverRefusal::TsnTooFar)
+            | Err(ReceiverRefusal::SsnTooFar) => {
                 self.sack_at = Some(now);
                 Ok(())
             }
@@ -103,11 +104,12 @@ impl Association {
         Ok(())
     }
 
-    // Takes a FORWARD-TSN, which is acknowledged at once (RFC 3758 3.6).
+    // Takes a FORWARD-TSN, which is acknowledged at once (RFC 3758 3.6). As chunks of streams that are not open are dropped, so are
+    // names of these. One that names too far ahead comes again.
     fn take_skip(&mut self, skip: &ChunkForwardTsn, now: u64) -> Result<(), Fault> {
         self.sack_at = Some(now);
-        match self.receiver.forward_tsn(skip) {
-            Ok(_) | Err(ReceiverRefusal::TsnOpposite) => Ok(()),
+        match self.receiver.forward_tsn_past_closed(skip) {
+            Ok(_) | Err(ReceiverRefusal::TsnOpposite | ReceiverRefusal::NamedSsnTooFar) => Ok(()),
             Err(e) => Err(e.into()),
         }
     }

@@ -1,0 +1,55 @@
+//! How far the numbers of ordered messages in flight go.
+
+use bytes::Bytes;
+use sctp_chunks::chunk::chunk_payload_data::PayloadProtocolIdentifier;
+use sctp_chunks::chunk::chunk_selective_ack::ChunkSelectiveAck;
+use sctp_sender::sender::Sender;
+use sctp_sender::sender::refusal::SenderRefusal;
+use std::alloc::Global;
+
+// Whether a message of one byte is taken, and sent.
+fn is_sent(sender: &mut Sender, stream: u16, byte: &Bytes) -> bool {
+    sender
+        .write(stream, PayloadProtocolIdentifier::Binary, byte)
+        .is_ok()
+        && matches!(sender.send_next_tsn(0), Ok(Some(_)))
+}
+
+// Whether 2^14 messages are sent, of which the first has the TSN 1, a further one waits, and that of another stream does so behind it.
+fn is_bounded(sender: &mut Sender, byte: &Bytes) -> bool {
+    let mut well = sender.open(1).is_ok() && sender.open(2).is_ok();
+    for _ in 0..1 << 14 {
+        well = well && is_sent(sender, 1, byte);
+    }
+    well && !is_sent(sender, 1, byte)
+        && !is_sent(sender, 2, byte)
+        && matches!(sender.send_next_tsn(0), Err(SenderRefusal::SsnsUsedUp))
+        && matches!(sender.send_next(0), Err(SenderRefusal::SsnsUsedUp))
+        && sender.chunks_in_flight() == 1 << 14
+}
+
+// Whether both are sent once the first one is acknowledged, and no other first.
+fn goes_on(alloc: Global, sender: &mut Sender) -> bool {
+    let sack = ChunkSelectiveAck {
+        cumulative_tsn_ack: 1,
+        advertised_receiver_window_credit: 1000,
+        gap_ack_blocks: Vec::new(alloc),
+        duplicate_tsn: Vec::new(alloc),
+    };
+    sender.acked(&sack).is_ok()
+        && matches!(sender.send_next(0), Ok(Some(_)))
+        && matches!(sender.send_next_tsn(0), Ok(Some(_)))
+        && matches!(sender.send_next_tsn(0), Ok(None))
+}
+
+/// 2^14 ordered messages of a stream are in flight at most; the next one waits until the first is acknowledged.
+#[test]
+fn bounded(rt: HostRuntime) {
+    let alloc = rt.alloc();
+    let mut sender = Sender::new(alloc, 1, 3, 100);
+    let well = match Bytes::copy_from_slice(alloc, b"a") {
+        Ok(byte) => is_bounded(&mut sender, &byte) && goes_on(alloc, &mut sender),
+        Err(_) => false,
+    };
+    assert!(rt; well);
+}

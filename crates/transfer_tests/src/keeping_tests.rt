@@ -1,0 +1,174 @@
+//! A sender that keeps what was reported in gaps, and a peer that takes such a report back (RFC 4960 6.2.1 D iv).
+
+use crate::host::{Host, sends};
+use sctp_chunks::chunk::chunk_selective_ack::{ChunkSelectiveAck, GapAckBlock};
+use sctp_sender::sender::flight::keeping::TakenBack;
+use sctp_sender::sender::refusal::SenderRefusal;
+use std::alloc::Global;
+
+// The SACK up to a TSN with one block.
+fn sack(alloc: Global, tsn: u32, start: u16, end: u16) -> Option<ChunkSelectiveAck> {
+    let mut sack = ChunkSelectiveAck {
+        cumulative_tsn_ack: tsn,
+        advertised_receiver_window_credit: 1000,
+        gap_ack_blocks: Vec::new(alloc),
+        duplicate_tsn: Vec::new(alloc),
+    };
+    match sack.gap_ack_blocks.push(GapAckBlock { start, end }) {
+        Ok(()) => Some(sack),
+        Err(_) => None,
+    }
+}
+
+// Two hosts, of which the first has the TSNs 4294967295, 0, 1, 2 in flight: three bytes, three, two, one.
+fn four_in_flight(alloc: Global, a: &mut Host, b: &mut Host) -> bool {
+    let mut well = a.opens() && b.opens() && a.writes(alloc, b"abcdefgh") && a.writes(alloc, b"i");
+    for _ in 0..4 {
+        well = well && sends(alloc, a, b, true);
+    }
+    well
+}
+
+// A SACK comes: whether it takes back these chunks, and whether so many bytes are in flight and buffered before it is taken, and
+// after.
+fn comes(
+    a: &mut Host,
+    sack: Option<ChunkSelectiveAck>,
+    due: &[TakenBack],
+    bytes: (usize, usize),
+) -> bool {
+    let Some(sack) = sack else {
+        return false;
+    };
+    let Ok(back) = a.sender.take_back(&sack) else {
+        return false;
+    };
+    let before = a.sender.bytes_in_flight() == bytes.0
+        && a.sender.buffered_amount(1) == Some(bytes.0);
+    let taken = a.sender.acked(&sack).is_ok();
+    back.as_slice() == due
+        && before
+        && taken
+        && a.sender.bytes_in_flight() == bytes.1
+        && a.sender.buffered_amount(1) == Some(bytes.1)
+}
+
+fn back(tsn: u32, bytes: usize) -> TakenBack {
+    TakenBack {
+        tsn,
+        stream: 1,
+        bytes,
+        message: 0,
+    }
+}
+
+// The second chunk and the third are reported, then the third alone, then the fourth alone.
+fn are_taken_back(alloc: Global, a: &mut Host) -> bool {
+    comes(a, sack(alloc, u32::MAX - 1, 2, 3), &[], (9, 4))
+        && comes(a, sack(alloc, u32::MAX - 1, 3, 3), &[back(0, 3)], (7, 7))
+        && comes(a, sack(alloc, u32::MAX - 1, 4, 4), &[back(1, 2)], (9, 8))
+}
+
+// Whether the chunk with a TSN is sent again with these bytes.
+fn is_resent(a: &mut Host, tsn: u32, text: &[u8]) -> bool {
+    match a.sender.resend(tsn, 5) {
+        Ok(chunk) => chunk.tsn == tsn && chunk.user_data.as_slice() == text,
+        Err(_) => false,
+    }
+}
+
+fn are_resent(a: &mut Host) -> bool {
+    is_resent(a, 0, b"def") && is_resent(a, 1, b"gh")
+}
+
+/// What a SACK no longer reports is outstanding again with its bytes, and can be sent again.
+#[test]
+fn taken_back(rt: HostRuntime) {
+    let alloc = rt.alloc();
+    let mut a = Host::new(alloc, u32::MAX, 7);
+    let mut b = Host::new(alloc, 7, u32::MAX);
+    let well = a.sender.keep_reported().is_ok() && four_in_flight(alloc, &mut a, &mut b);
+    assert!(rt; well && are_taken_back(alloc, &mut a) && are_resent(&mut a));
+}
+
+// Whether the first chunk that is marked has this TSN.
+fn is_first_marked(a: &Host, tsn: u32) -> bool {
+    match a.sender.next_to_retransmit() {
+        Some(chunk) => chunk.tsn == tsn,
+        None => false,
+    }
+}
+
+// Three SACKs that report a later chunk mark the first two, and the third one, which was taken back.
+fn are_missed(a: &mut Host) -> bool {
+    a.sender.add_miss_indications(2) == 0
+        && a.sender.add_miss_indications(2) == 0
+        && a.sender.add_miss_indications(2) == 3
+        && is_resent(a, u32::MAX, b"abc")
+        && is_first_marked(a, 0)
+}
+
+// All but the last one, which is reported, are marked.
+fn are_marked(a: &mut Host) -> bool {
+    a.sender.retransmit_all();
+    is_first_marked(a, u32::MAX) && is_resent(a, u32::MAX, b"abc") && is_first_marked(a, 0)
+}
+
+/// What was taken back counts as missing like any chunk (RFC 4960 7.2.4), and the timer marks it (RFC 4960 6.3.3).
+#[test]
+fn missed_after_it_was_taken_back(rt: HostRuntime) {
+    let alloc = rt.alloc();
+    let mut a = Host::new(alloc, u32::MAX, 7);
+    let mut b = Host::new(alloc, 7, u32::MAX);
+    let well = a.sender.keep_reported().is_ok()
+        && four_in_flight(alloc, &mut a, &mut b)
+        && are_taken_back(alloc, &mut a);
+    assert!(rt; well && are_missed(&mut a) && are_marked(&mut a));
+}
+
+// An abandoned message stays so; what the cumulative TSN passes is gone.
+fn is_passed(alloc: Global, a: &mut Host) -> bool {
+    comes(a, sack(alloc, u32::MAX - 1, 2, 4), &[], (9, 3))
+        && a.sender.abandon(0).is_ok()
+        && comes(
+            a,
+            sack(alloc, u32::MAX, 1, 0),
+            &[TakenBack {
+                tsn: 2,
+                stream: 1,
+                bytes: 1,
+                message: 1,
+            }],
+            (1, 1),
+        )
+        && comes(a, sack(alloc, 2, 1, 0), &[], (1, 0))
+        && a.sender.keep_reported().is_ok()
+}
+
+/// What is abandoned does not come back.
+#[test]
+fn abandoned_for_good(rt: HostRuntime) {
+    let alloc = rt.alloc();
+    let mut a = Host::new(alloc, u32::MAX, 7);
+    let mut b = Host::new(alloc, 7, u32::MAX);
+    let well = a.sender.keep_reported().is_ok() && four_in_flight(alloc, &mut a, &mut b);
+    assert!(rt; well && is_passed(alloc, &mut a));
+}
+
+// Nothing comes back; what was reported can't be sent again.
+fn is_gone(alloc: Global, a: &mut Host) -> bool {
+    a.sender.keep_reported() == Err(SenderRefusal::ChunksInFlight)
+        && comes(a, sack(alloc, u32::MAX - 1, 2, 3), &[], (9, 4))
+        && comes(a, sack(alloc, u32::MAX - 1, 4, 4), &[], (4, 3))
+        && a.sender.resend(0, 5).is_err()
+}
+
+/// A sender keeps nothing unless it is told to before it sends.
+#[test]
+fn not_kept(rt: HostRuntime) {
+    let alloc = rt.alloc();
+    let mut a = Host::new(alloc, u32::MAX, 7);
+    let mut b = Host::new(alloc, 7, u32::MAX);
+    let well = four_in_flight(alloc, &mut a, &mut b);
+    assert!(rt; well && is_gone(alloc, &mut a));
+}
