@@ -1,0 +1,177 @@
+-- A worked session, by computation: a message of one byte is written, sent, taken, read and acknowledged.
+use Rattle.std.proofs.Common.{◌≡◌, ℕ, true, false, List, [], ◌∷◌, None, refl, ap, arith}
+use Rattle.sctp_list_lemmas.specs.Lists.{change_where}
+use Rattle.sctp_list_lemmas.specs.Serial.{at_or_before, at_or_before16, comes_before, comes_before16, distance, distance16}
+use Rattle.sctp_list_lemmas.proofs.Cases.{some-same}
+use Rattle.sctp_chunks.specs.declared.chunk.chunk_payload_data.ChunkPayloadData.{ChunkPayloadData}
+use Rattle.sctp_chunks.specs.declared.chunk.chunk_payload_data.PayloadProtocolIdentifier.TheVariants.{Binary, Unknown}
+use Rattle.sctp_chunks.specs.ChunkSet.{fresh}
+use Rattle.sctp_chunks.specs.PayloadData.{Data}
+use Rattle.sctp_chunks.specs.SelectiveAck.{Sack}
+use Rattle.sctp_outbound.specs.outbound_queue.OutboundQueue.{sent_next}
+use Rattle.sctp_receiver.specs.declared.receiver.arrival.Arrival.TheVariants.{New}
+use Rattle.sctp_receiver.specs.Inbound as inbound
+use Rattle.sctp_receiver.specs.Receiver as receiver
+use Rattle.sctp_receiver.specs.Receiver.{Reception}
+use Rattle.sctp_reassembly.specs.reassembly_queue.ReassemblyQueue.{after_ordered_push}
+use Rattle.sctp_sender.specs.declared.sender.flight.Released.{Released}
+use Rattle.sctp_sender.specs.Flight.{released_by}
+use Rattle.sctp_sender.specs.Sender.{Transmission, after_acked, open_stream, with_flight, with_nothing, written_to}
+use Rattle.sctp_sender.specs.SenderRuns.{held_by_sender}
+use Rattle.sctp_sender.specs.Thresholds.{with_lows}
+use Rattle.sctp_stream.specs.Stream.{new_stream}
+use Rattle.sctp_delivery.specs.ReceiverCalls as incoming
+use Rattle.sctp_delivery.specs.ReceiverCalls.{reads, reports, takes}
+use Rattle.sctp_delivery.specs.SenderCalls as outgoing
+use Rattle.sctp_delivery.specs.SenderCalls.{Write, data_chunk, made_after, sends, takes_sack, writes, written_after}
+use Rattle.sctp_delivery.specs.Session.{Call, ReceiverFollows, RunsTo, SenderFollows, Session, at_start, of_receiver, of_sender}
+
+-- a sender of fragments of up to 1,200 bytes, with stream 1 open and one byte written
+abbrev waiting : Transmission
+waiting =
+    written_to (new_stream 1 1200 65536 Unknown) 1 Binary (7 ∷ []) (open_stream 1 (with_nothing 10 1200 65536))
+
+-- a write counts, but for one of no bytes
+counts : written_after (writes 1 Binary (7 ∷ [])) [] ≡ record { stream = 1; payload_type = Binary; bytes = 7 ∷ [] } ∷ []
+counts = refl
+
+empty : written_after (writes 1 Binary []) [] ≡ []
+empty = refl
+
+abbrev first_chunk : List ℕ → Data
+first_chunk bytes = record {
+  unordered = false;
+  beginning_fragment = true;
+  ending_fragment = true;
+  immediate_sack = false;
+  tsn = 10;
+  stream_identifier = 1;
+  stream_sequence_number = 0;
+  payload_type = Binary;
+  user_data = bytes;
+}
+
+-- the chunk that is sent has the first TSN and the byte
+sent : made_after (sends 5) waiting [] ≡ data_chunk (first_chunk (7 ∷ [])) ∷ []
+sent = refl
+
+-- where nothing waits none is made
+idle : made_after (sends 5) (with_nothing 10 1200 65536) [] ≡ []
+idle = refl
+
+-- ## The session
+
+abbrev start : Session
+start = at_start 10 1200 65536 65536 None
+
+abbrev sending : Transmission → Session → Session
+sending t s = record s { sending = record s.sending { sender = t } }
+
+abbrev receiving : Reception → Session → Session
+receiving r s = record s { receiving = record s.receiving { receiver = r } }
+
+abbrev opened : Session
+opened = sending (open_stream 1 start.sending.sender) start
+
+opens : SenderFollows (outgoing.opens 1) start opened
+opens = record { handed = tt; step = record { sender = refl; written = refl; released = refl; taken_back = refl }; exact = tt; accepted = refl; after = refl }
+
+abbrev one_write : Write
+one_write = record { stream = 1; payload_type = Binary; bytes = 7 ∷ [] }
+
+abbrev written : Session
+written = record opened { sending = record opened.sending { sender = waiting; written = 1 }; written = one_write ∷ [] }
+
+writes-one : SenderFollows (writes 1 Binary (7 ∷ [])) opened written
+writes-one = record {
+  handed = tt;
+  step = record { sender = refl; written = refl; released = refl; taken_back = refl };
+  exact = ((λ e. cc), λ p l e. ap (λ x. written_to x 1 Binary (7 ∷ []) opened.sending.sender) (some-same e));
+  accepted = refl;
+  after = refl;
+}
+
+abbrev in_flight : Session
+in_flight = record (sending (with_flight (record waiting.flight { queue = sent_next waiting.flight.queue 10 5; next_tsn = 11 }) waiting) written) { made = data_chunk (first_chunk (7 ∷ [])) ∷ [] }
+
+sends-one : SenderFollows (sends 5) written in_flight
+sends-one = record { handed = tt; step = record { sender = refl; written = refl; released = refl; taken_back = refl }; exact = refl; accepted = refl; after = refl }
+
+-- the receiver opens the stream too
+abbrev both_open : Session
+both_open = receiving (receiver.open_stream 1 start.receiving.receiver) in_flight
+
+opens-too : ReceiverFollows (incoming.opens 1) in_flight both_open
+opens-too = record { handed = tt; step = record { receiver = (refl, refl); accepted = refl; read = refl }; accepted = tt; after = refl }
+
+-- the chunk as reading its packet leaves it
+abbrev chunk : ChunkPayloadData
+chunk = fresh (first_chunk (7 ∷ []))
+
+abbrev taken : Session
+taken =
+    let r = both_open.receiving.receiver in
+    record both_open {
+      receiving = record both_open.receiving {
+        receiver = receiver.with_filter (record (receiver.filter_of r) { cumulative_tsn = 10 }) (record r { streams = change_where (inbound.has_number 1) (inbound.with_queue (after_ordered_push chunk (inbound.new_stream 1 65536).queue)) r.streams });
+        accepted = chunk ∷ [];
+      };
+    }
+
+takes-one : ReceiverFollows (takes chunk (New true)) both_open taken
+unfolding at_or_before at_or_before16 comes_before comes_before16 distance distance16
+takes-one = record {
+  handed = (0, omega arith, refl);
+  step = record {
+    receiver = record { stream = inbound.new_stream 1 65536; found = refl; queue = after_ordered_push chunk (inbound.new_stream 1 65536).queue; pushed = (refl, refl); after = refl };
+    accepted = refl;
+    read = refl;
+  };
+  accepted = (refl, refl);
+  after = refl;
+}
+
+abbrev has_read : Session
+has_read = record taken { receiving = record taken.receiving { receiver = receiver.after_read 1 taken.receiving.receiver; read = record { stream = 1; fragments = chunk ∷ [] } ∷ [] } }
+
+reads-one : ReceiverFollows (reads 1) taken has_read
+unfolding at_or_before at_or_before16 comes_before comes_before16 distance distance16
+reads-one = record { handed = tt; step = record { receiver = refl; accepted = refl; read = refl }; accepted = refl; after = refl }
+
+abbrev one_sack : Sack
+one_sack = record { cumulative_tsn_ack = 10; advertised_receiver_window_credit = 1000; gap_ack_blocks = []; duplicate_tsn = [] }
+
+abbrev reported : Session
+reported = record has_read { sacks = one_sack ∷ [] }
+
+reports-one : ReceiverFollows (reports 1000) has_read reported
+reports-one = record { handed = tt; step = record { receiver = refl; accepted = refl; read = refl }; accepted = tt; after = refl }
+
+abbrev gone : List Released
+gone = with_lows (released_by one_sack in_flight.sending.sender.flight) in_flight.sending.sender.streams
+
+abbrev acknowledged : Session
+acknowledged = record reported { sending = record reported.sending { sender = after_acked one_sack in_flight.sending.sender; released = 1 } }
+
+takes-sack : SenderFollows (takes_sack one_sack gone) reported acknowledged
+unfolding at_or_before at_or_before16 comes_before comes_before16 distance distance16
+takes-sack = record {
+  handed = (0, omega arith, refl);
+  step = record { sender = refl; written = refl; released = refl; taken_back = refl };
+  exact = refl;
+  accepted = refl;
+  after = refl;
+}
+
+abbrev calls : List Call
+calls =
+    of_sender (outgoing.opens 1) ∷ of_sender (writes 1 Binary (7 ∷ [])) ∷ of_sender (sends 5) ∷ of_receiver (incoming.opens 1)
+    ∷ of_receiver (takes chunk (New true)) ∷ of_receiver (reads 1) ∷ of_receiver (reports 1000) ∷ of_sender (takes_sack one_sack gone) ∷ []
+
+session : RunsTo start calls acknowledged
+session = (opened, (opens, (written, (writes-one, (in_flight, (sends-one, (both_open, (opens-too, (taken, (takes-one, (has_read, (reads-one, (reported, (reports-one, (acknowledged, (takes-sack, refl))))))))))))))))
+
+-- nothing is held any more
+drained : held_by_sender acknowledged.sending.sender ≡ 0
+unfolding at_or_before at_or_before16 comes_before comes_before16 distance distance16
+drained = refl

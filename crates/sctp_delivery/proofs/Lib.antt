@@ -1,0 +1,3 @@
+pub mod SameData
+pub mod Sessions
+mod Examples

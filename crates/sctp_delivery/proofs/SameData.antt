@@ -1,0 +1,99 @@
+-- DATA chunks with the same wire fields, by a test.
+use Rattle.std.proofs.Common.{◌≡◌, ℕ, Bool, true, false, List, [], ◌∷◌, refl, ap, sym, ◌∙◌}
+use Rattle.std.specs.Prelude.{◌==◌, ◌&&◌}
+use Rattle.sctp_list_lemmas.proofs.Cases.{same-is, same-yes}
+use Rattle.sctp_list_lemmas.proofs.More.{and, both}
+use Rattle.sctp_chunks.specs.declared.chunk.chunk_payload_data.PayloadProtocolIdentifier.{PayloadProtocolIdentifier}
+use Rattle.sctp_chunks.specs.declared.chunk.chunk_payload_data.PayloadProtocolIdentifier.TheVariants.{Dcep, String, Binary, StringEmpty, BinaryEmpty, Unknown}
+use Rattle.sctp_chunks.specs.PayloadData.{Data, payload_type_from, payload_type_number}
+
+abbrev pub are_same_bytes : List ℕ → List ℕ → Bool
+are_same_bytes [] [] = true
+are_same_bytes (x ∷ xs) (y ∷ ys) = (x == y) && are_same_bytes xs ys
+are_same_bytes [] (y ∷ ys) = false
+are_same_bytes (x ∷ xs) [] = false
+
+abbrev pub are_same_flags : Bool → Bool → Bool
+are_same_flags true b = b
+are_same_flags false true = false
+are_same_flags false false = true
+
+-- the same TSN, stream, number, flags, payload type and user data
+abbrev pub is_same : Data → Data → Bool
+is_same x y =
+    (x.tsn == y.tsn) && ((x.stream_identifier == y.stream_identifier)
+    && ((x.stream_sequence_number == y.stream_sequence_number)
+    && (are_same_flags x.unordered y.unordered
+    && (are_same_flags x.beginning_fragment y.beginning_fragment
+    && (are_same_flags x.ending_fragment y.ending_fragment
+    && (are_same_flags x.immediate_sack y.immediate_sack
+    && ((payload_type_number x.payload_type == payload_type_number y.payload_type)
+    && are_same_bytes x.user_data y.user_data)))))))
+
+same-bytes : (xs : List ℕ) → are_same_bytes xs xs ≡ true
+same-bytes [] = refl
+same-bytes (x ∷ xs) = and (x == x) (are_same_bytes xs xs) (same-yes x) (same-bytes xs)
+
+bytes-same : (xs ys : List ℕ) → are_same_bytes xs ys ≡ true → xs ≡ ys
+bytes-same [] [] e = refl
+bytes-same [] (y ∷ ys) e = cc
+bytes-same (x ∷ xs) [] e = cc
+bytes-same (x ∷ xs) (y ∷ ys) e =
+    let b = both (x == y) (are_same_bytes xs ys) e in
+    ap (λ z. z ∷ xs) (same-is x y b.0) ∙ ap (λ zs. y ∷ zs) (bytes-same xs ys b.1)
+
+same-flags : (b : Bool) → are_same_flags b b ≡ true
+same-flags true = refl
+same-flags false = refl
+
+flags-same : (a b : Bool) → are_same_flags a b ≡ true → a ≡ b
+flags-same true b e = sym e
+flags-same false true e = e
+flags-same false false e = refl
+
+type-again : (p : PayloadProtocolIdentifier) → payload_type_from (payload_type_number p) ≡ p
+unfolding payload_type_from payload_type_number
+type-again Dcep = refl
+type-again String = refl
+type-again Binary = refl
+type-again StringEmpty = refl
+type-again BinaryEmpty = refl
+type-again Unknown = refl
+
+types-same : (p q : PayloadProtocolIdentifier) → (payload_type_number p == payload_type_number q) ≡ true → p ≡ q
+types-same p q e = sym (type-again p) ∙ (ap payload_type_from (same-is (payload_type_number p) (payload_type_number q) e) ∙ type-again q)
+
+pub same-itself : (d : Data) → is_same d d ≡ true
+same-itself d =
+    and _ _ (same-yes d.tsn) (and _ _ (same-yes d.stream_identifier) (and _ _ (same-yes d.stream_sequence_number)
+    (and _ _ (same-flags d.unordered) (and _ _ (same-flags d.beginning_fragment) (and _ _ (same-flags d.ending_fragment)
+    (and _ _ (same-flags d.immediate_sack) (and _ _ (same-yes (payload_type_number d.payload_type)) (same-bytes d.user_data))))))))
+
+pub same-data : (x y : Data) → is_same x y ≡ true → x ≡ y
+same-data x y e =
+    let a = both _ _ e in
+    let b = both _ _ a.1 in
+    let c = both _ _ b.1 in
+    let d = both _ _ c.1 in
+    let f = both _ _ d.1 in
+    let g = both _ _ f.1 in
+    let h = both _ _ g.1 in
+    let i = both _ _ h.1 in
+    let tsns = same-is x.tsn y.tsn a.0 in
+    let streams = same-is x.stream_identifier y.stream_identifier b.0 in
+    let numbers = same-is x.stream_sequence_number y.stream_sequence_number c.0 in
+    let unordered = flags-same x.unordered y.unordered d.0 in
+    let begins = flags-same x.beginning_fragment y.beginning_fragment f.0 in
+    let ends = flags-same x.ending_fragment y.ending_fragment g.0 in
+    let at_once = flags-same x.immediate_sack y.immediate_sack h.0 in
+    let types = types-same x.payload_type y.payload_type i.0 in
+    let bytes = bytes-same x.user_data y.user_data i.1 in
+    ap (λ v. record x { unordered = v }) unordered
+    ∙ (ap (λ v. record x { unordered = y.unordered; beginning_fragment = v }) begins
+    ∙ (ap (λ v. record x { unordered = y.unordered; beginning_fragment = y.beginning_fragment; ending_fragment = v }) ends
+    ∙ (ap (λ v. record x { unordered = y.unordered; beginning_fragment = y.beginning_fragment; ending_fragment = y.ending_fragment; immediate_sack = v }) at_once
+    ∙ (ap (λ v. record x { unordered = y.unordered; beginning_fragment = y.beginning_fragment; ending_fragment = y.ending_fragment; immediate_sack = y.immediate_sack; tsn = v }) tsns
+    ∙ (ap (λ v. record x { unordered = y.unordered; beginning_fragment = y.beginning_fragment; ending_fragment = y.ending_fragment; immediate_sack = y.immediate_sack; tsn = y.tsn; stream_identifier = v }) streams
+    ∙ (ap (λ v. record x { unordered = y.unordered; beginning_fragment = y.beginning_fragment; ending_fragment = y.ending_fragment; immediate_sack = y.immediate_sack; tsn = y.tsn; stream_identifier = y.stream_identifier; stream_sequence_number = v }) numbers
+    ∙ (ap (λ v. record x { unordered = y.unordered; beginning_fragment = y.beginning_fragment; ending_fragment = y.ending_fragment; immediate_sack = y.immediate_sack; tsn = y.tsn; stream_identifier = y.stream_identifier; stream_sequence_number = y.stream_sequence_number; payload_type = v }) types
+    ∙ (ap (λ v. record x { unordered = y.unordered; beginning_fragment = y.beginning_fragment; ending_fragment = y.ending_fragment; immediate_sack = y.immediate_sack; tsn = y.tsn; stream_identifier = y.stream_identifier; stream_sequence_number = y.stream_sequence_number; payload_type = y.payload_type; user_data = v }) bytes))))))))

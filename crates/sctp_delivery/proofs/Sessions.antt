@@ -1,0 +1,265 @@
+-- What holds of every session of two hosts.
+use Rattle.std.proofs.Common.{◌≡◌, ℕ, ◌+◌, Bool, true, false, List, [], ◌∷◌, ◌++◌, length, Option, Some, None, refl, ap, sym, ◌∙◌, arith, subst}
+use Rattle.std.specs.Prelude.{◌==◌, ◌||◌, if◌then◌else◌, All, Contains, slice_index_or}
+use Rattle.std.specs.List.{list_all, list_any, sum_by, filter}
+use Rattle.std.proofs.lemmas.List.Folds.{list_any_at, Any-from_list_any}
+use Rattle.std.proofs.lemmas.List.Sums.{sum_by-cons, sum_by-append, AllPass-from_list_all}
+use Rattle.sctp_list_lemmas.proofs.Cases.{same-yes}
+use Rattle.sctp_list_lemmas.proofs.More.{and, both}
+use Rattle.sctp_chunks.specs.declared.chunk.chunk_payload_data.ChunkPayloadData.{ChunkPayloadData}
+use Rattle.sctp_chunks.specs.PayloadData.{Data, data_of}
+use Rattle.sctp_receiver.specs.declared.receiver.arrival.Arrival.TheVariants.{New, Repeat}
+use Rattle.sctp_receiver.specs.ReceiverRuns as receiver_runs
+use Rattle.sctp_receiver.specs.ReceiverRuns.{Message, Stand, fragments_read}
+use Rattle.sctp_receiver.proofs.Handed as handed
+use Rattle.sctp_sender.specs.Sender.{Transmission}
+use Rattle.sctp_sender.specs.SenderRuns as sender_runs
+use Rattle.sctp_sender.specs.SenderRuns.{taken_back_by, written_by}
+use Rattle.sctp_sender.proofs.Accounts as accounts
+use Rattle.sctp_serial.specs.DataChunks.{is_on}
+use Rattle.sctp_delivery.proofs.SameData.{is_same, same-data, same-itself}
+use Rattle.sctp_delivery.specs.ReceiverCalls as incoming
+use Rattle.sctp_delivery.specs.ReceiverCalls.{ReceiverCall}
+use Rattle.sctp_delivery.specs.SenderCalls as outgoing
+use Rattle.sctp_delivery.specs.SenderCalls.{Made, SenderCall, Write, abandons, data_chunk, expires, expires_late, expires_rexmit, expires_tail, forward_tsn, forwards, made_after, next_chunk, opens, resends, sends, sets_mode, starts, takes_sack, with_chunk, writes, written_after}
+use Rattle.sctp_delivery.specs.Session.{AfterEachSession, AreMade, AreMessages, AreRuns, Call, IsAccounted, ReceiverFollows, RunsTo, SenderFollows, Session, at_start, bytes_written, of_receiver, of_sender}
+
+-- ## Each host by itself
+
+abbrev pub sender_calls : List Call → List sender_runs.Call
+sender_calls [] = []
+sender_calls (of_sender call ∷ cs) = outgoing.as_run call ∷ sender_calls cs
+sender_calls (of_receiver call ∷ cs) = sender_calls cs
+
+abbrev pub receiver_calls : List Call → List receiver_runs.Call
+receiver_calls [] = []
+receiver_calls (of_sender call ∷ cs) = receiver_calls cs
+receiver_calls (of_receiver call ∷ cs) = incoming.as_run call ∷ receiver_calls cs
+
+pub sender-runs : (cs : List Call) (old new : Session) → RunsTo old cs new → sender_runs.RunsTo old.sending (sender_calls cs) new.sending
+sender-runs [] old new r = ap (λ (s : Session). s.sending) r
+sender-runs (of_sender call ∷ cs) old new r = (r.0.sending, (r.1.0.step, sender-runs cs r.0 new r.1.1))
+sender-runs (of_receiver call ∷ cs) old new r =
+    subst (λ l. sender_runs.RunsTo l (sender_calls cs) new.sending) (ap (λ (s : Session). s.sending) r.1.0.after) (sender-runs cs r.0 new r.1.1)
+
+pub receiver-runs : (cs : List Call) (old new : Session) → RunsTo old cs new → receiver_runs.RunsTo old.receiving (receiver_calls cs) new.receiving
+receiver-runs [] old new r = ap (λ (s : Session). s.receiving) r
+receiver-runs (of_receiver call ∷ cs) old new r = (r.0.receiving, (r.1.0.step, receiver-runs cs r.0 new r.1.1))
+receiver-runs (of_sender call ∷ cs) old new r =
+    subst (λ l. receiver_runs.RunsTo l (receiver_calls cs) new.receiving) (ap (λ (s : Session). s.receiving) r.1.0.after) (receiver-runs cs r.0 new r.1.1)
+
+pub runs : AfterEachSession AreRuns
+runs tsn size max most limits cs s r =
+    let start = at_start tsn size max most limits in
+    ((tsn, size, max, sender_calls cs, sender-runs cs start s r), (tsn, most, limits, receiver_calls cs, receiver-runs cs start s r))
+
+-- ## Bytes
+
+written-more : (call : SenderCall) (ws : List Write) → sum_by (λ (w : Write). length w.bytes) (written_after call ws) ≡ sum_by (λ (w : Write). length w.bytes) ws + written_by (outgoing.as_run call)
+written-more (writes stream ppi []) ws = omega arith
+written-more (writes stream ppi (b ∷ bs)) ws =
+    let e = sum_by-cons (λ (w : Write). length w.bytes) (record { stream = stream; payload_type = ppi; bytes = b ∷ bs }) ws in omega (arith, e)
+written-more (opens stream) ws = omega arith
+written-more (sets_mode stream unordered reliability value) ws = omega arith
+written-more (starts now) ws = omega arith
+written-more (sends now) ws = omega arith
+written-more (resends tsn now c) ws = omega arith
+written-more (abandons tsn a) ws = omega arith
+written-more (expires now m) ws = omega arith
+written-more (expires_tail now m) ws = omega arith
+written-more (expires_late now gone) ws = omega arith
+written-more (expires_rexmit gone) ws = omega arith
+written-more (forwards tsn f) ws = omega arith
+written-more (takes_sack sack gone) ws = omega arith
+
+none-back : (call : SenderCall) → taken_back_by (outgoing.as_run call) ≡ 0
+none-back (writes stream ppi bytes) = refl
+none-back (opens stream) = refl
+none-back (sets_mode stream unordered reliability value) = refl
+none-back (starts now) = refl
+none-back (sends now) = refl
+none-back (resends tsn now c) = refl
+none-back (abandons tsn a) = refl
+none-back (expires now m) = refl
+none-back (expires_tail now m) = refl
+none-back (expires_late now gone) = refl
+none-back (expires_rexmit gone) = refl
+none-back (forwards tsn f) = refl
+none-back (takes_sack sack gone) = refl
+
+-- what is counted is what was written, and nothing came back
+record IsCounted (s : Session) : Type 0 where
+  written : bytes_written s ≡ s.sending.written
+  back : s.sending.taken_back ≡ 0
+
+counted : (cs : List Call) (old new : Session) → RunsTo old cs new → IsCounted old → IsCounted new
+counted [] old new r h = subst IsCounted (sym r) h
+counted (of_sender call ∷ cs) old new r h = counted cs r.0 new r.1.1 (record {
+  written =
+      let e = ap bytes_written r.1.0.after in
+      let m = written-more call old.written in
+      let n = r.1.0.step.written in
+      let o = h.written in
+      omega (arith, e, m, n, o);
+  back = let n = r.1.0.step.taken_back in let z = none-back call in let o = h.back in omega (arith, n, z, o);
+})
+counted (of_receiver call ∷ cs) old new r h = counted cs r.0 new r.1.1 (record {
+  written =
+      let e = ap bytes_written r.1.0.after in
+      let l = ap (λ (s : Session). s.sending.written) r.1.0.after in
+      let o = h.written in
+      omega (arith, e, l, o);
+  back = ap (λ (s : Session). s.sending.taken_back) r.1.0.after ∙ h.back;
+})
+
+pub accounted : AfterEachSession IsAccounted
+accounted tsn size max most limits cs s r =
+    let start = at_start tsn size max most limits in
+    let law = accounts.accounted tsn size max (sender_calls cs) s.sending (sender-runs cs start s r) in
+    let c = counted cs start s r (record { written = refl; back = refl }) in
+    let w = c.written in
+    let b = c.back in
+    omega (arith, law, w, b)
+
+-- ## Tests of lists
+
+every : {A : Type 0} (p q : A → Bool) → ((x : A) → p x ≡ true → q x ≡ true) → (xs : List A) → list_all p xs ≡ true → list_all q xs ≡ true
+every p q h [] e = refl
+every p q h (x ∷ xs) e = let b = both (p x) (list_all p xs) e in and (q x) (list_all q xs) (h x b.0) (every p q h xs b.1)
+
+or-more : (a b : Bool) → b ≡ true → (a || b) ≡ true
+or-more true b e = refl
+or-more false b e = e
+
+-- 1 where the test fails
+abbrev fails : (ChunkPayloadData → Bool) → ChunkPayloadData → ℕ
+fails p c = if p c then 0 else 1
+
+none-fails : (p q : ChunkPayloadData → Bool) (cs : List ChunkPayloadData) → list_all p cs ≡ true → sum_by (fails p) (filter q cs) ≡ 0
+none-fails p q [] e = refl
+none-fails p q (c ∷ cs) e = let b = both (p c) (list_all p cs) e in by (q c) b.0 (none-fails p q cs b.1)
+  where
+    by : (b : Bool) → p c ≡ true → sum_by (fails p) (filter q cs) ≡ 0 → sum_by (fails p) (if b then c ∷ filter q cs else filter q cs) ≡ 0
+    by true h rest =
+        let more = sum_by-cons (fails p) c (filter q cs) in
+        let one : fails p c ≡ 0 = ap (λ b. if b then 0 else 1) h in
+        omega (arith, more, one, rest)
+    by false h rest = rest
+
+all-pass : (p : ChunkPayloadData → Bool) (cs : List ChunkPayloadData) → sum_by (fails p) cs ≡ 0 → list_all p cs ≡ true
+all-pass p [] e = refl
+all-pass p (c ∷ cs) e = by (p c) refl (all-pass p cs)
+  where
+    more : sum_by (fails p) (c ∷ cs) ≡ fails p c + sum_by (fails p) cs
+    more = sum_by-cons (fails p) c cs
+
+    by : (b : Bool) → p c ≡ b → (sum_by (fails p) cs ≡ 0 → list_all p cs ≡ true) → list_all p (c ∷ cs) ≡ true
+    by true h rest = and (p c) (list_all p cs) h (rest (omega (arith, e, more)))
+    by false h rest = let one : fails p c ≡ 1 = ap (λ b. if b then 0 else 1) h in absurd (omega (arith, e, more, one))
+
+each-read : (p : ChunkPayloadData → Bool) (ms : List Message) → ((st : ℕ) → sum_by (fails p) (fragments_read st ms) ≡ 0) → list_all (λ m. list_all p m.fragments) ms ≡ true
+each-read p [] h = refl
+each-read p (m ∷ ms) h = and (list_all p m.fragments) (list_all (λ x. list_all p x.fragments) ms) first (each-read p ms rest)
+  where
+    joined : sum_by (fails p) (m.fragments ++ fragments_read m.stream ms) ≡ 0
+    joined = ap (λ b. sum_by (fails p) (if b then m.fragments ++ fragments_read m.stream ms else fragments_read m.stream ms)) (sym (same-yes m.stream)) ∙ h m.stream
+
+    first : list_all p m.fragments ≡ true
+    first = let s = sum_by-append (fails p) m.fragments (fragments_read m.stream ms) in all-pass p m.fragments (omega (arith, joined, s))
+
+    by : (st : ℕ) (b : Bool) → sum_by (fails p) (if b then m.fragments ++ fragments_read st ms else fragments_read st ms) ≡ 0 → sum_by (fails p) (fragments_read st ms) ≡ 0
+    by st true e = let s = sum_by-append (fails p) m.fragments (fragments_read st ms) in omega (arith, e, s)
+    by st false e = e
+
+    rest : (st : ℕ) → sum_by (fails p) (fragments_read st ms) ≡ 0
+    rest st = by st (m.stream == st) (h st)
+
+-- ## Chunks
+
+-- it is this DATA chunk
+abbrev is_made_so : Data → Made → Bool
+is_made_so d (data_chunk x) = is_same d x
+is_made_so d (forward_tsn f) = false
+
+found : (p : Made → Bool) (ms : List Made) (x : Made) → p x ≡ true → Contains ms x → list_any p ms ≡ true
+found p ms x e h = list_any_at p ms h.0 x h.1 (ap p h.2 ∙ e)
+
+-- whether a chunk was made
+abbrev made_among : List Made → ChunkPayloadData → Bool
+made_among ms c = list_any (is_made_so (data_of c)) ms
+
+more-made : (p : Made → Bool) (call : SenderCall) (t : Transmission) (ms : List Made) → list_any p ms ≡ true → list_any p (made_after call t ms) ≡ true
+more-made p (sends now) t ms e = by (next_chunk now t)
+  where
+    by : (o : Option ChunkPayloadData) → list_any p (with_chunk o ms) ≡ true
+    by None = e
+    by (Some c) = or-more (p (data_chunk (data_of c))) (list_any p ms) e
+more-made p (resends tsn now c) t ms e = or-more _ _ e
+more-made p (forwards tsn f) t ms e = or-more (p (forward_tsn f)) (list_any p ms) e
+more-made p (opens stream) t ms e = e
+more-made p (sets_mode stream unordered reliability value) t ms e = e
+more-made p (writes stream ppi bytes) t ms e = e
+more-made p (starts now) t ms e = e
+more-made p (abandons tsn a) t ms e = e
+more-made p (expires now m) t ms e = e
+more-made p (expires_tail now m) t ms e = e
+more-made p (expires_late now gone) t ms e = e
+more-made p (expires_rexmit gone) t ms e = e
+more-made p (takes_sack sack gone) t ms e = e
+
+-- each chunk that was taken was made
+abbrev IsTakenMade : Session → Type 0
+IsTakenMade s = list_all (made_among s.made) s.receiving.accepted ≡ true
+
+kept-made : (call : ReceiverCall) (old new : Session) → ReceiverFollows call old new → new.receiving.accepted ≡ old.receiving.accepted → IsTakenMade old → IsTakenMade new
+kept-made call old new f e h =
+    ap (λ ms. list_all (made_among ms) new.receiving.accepted) (ap (λ (s : Session). s.made) f.after)
+    ∙ (ap (list_all (made_among old.made)) e ∙ h)
+
+taken-made : (call : ReceiverCall) (old new : Session) → ReceiverFollows call old new → IsTakenMade old → IsTakenMade new
+taken-made (incoming.takes c (New told)) old new f h =
+    ap (λ ms. list_all (made_among ms) new.receiving.accepted) (ap (λ (s : Session). s.made) f.after)
+    ∙ (ap (list_all (made_among old.made)) f.step.accepted
+    ∙ and _ _ (found (is_made_so (data_of c)) old.made (data_chunk (data_of c)) (same-itself (data_of c)) f.handed) h)
+taken-made (incoming.takes c Repeat) old new f h = kept-made (incoming.takes c Repeat) old new f f.step.accepted h
+taken-made (incoming.opens stream) old new f h = kept-made (incoming.opens stream) old new f f.step.accepted h
+taken-made (incoming.follows g) old new f h = kept-made (incoming.follows g) old new f f.step.accepted h
+taken-made (incoming.reports credit) old new f h = kept-made (incoming.reports credit) old new f f.step.accepted h
+taken-made (incoming.reads stream) old new f h = kept-made (incoming.reads stream) old new f f.step.accepted h
+
+sent-made : (call : SenderCall) (old new : Session) → SenderFollows call old new → IsTakenMade old → IsTakenMade new
+sent-made call old new f h =
+    ap (λ (s : Session). list_all (made_among s.made) s.receiving.accepted) f.after
+    ∙ every (made_among old.made) (made_among (made_after call old.sending.sender old.made)) (λ c. more-made (is_made_so (data_of c)) call old.sending.sender old.made) old.receiving.accepted h
+
+all-made : (cs : List Call) (old new : Session) → RunsTo old cs new → IsTakenMade old → IsTakenMade new
+all-made [] old new r h = subst IsTakenMade (sym r) h
+all-made (of_sender call ∷ cs) old new r h = all-made cs r.0 new r.1.1 (sent-made call old r.0 r.1.0 h)
+all-made (of_receiver call ∷ cs) old new r h = all-made cs r.0 new r.1.1 (taken-made call old r.0 r.1.0 h)
+
+so-made : (d : Data) (x : Made) → is_made_so d x ≡ true → x ≡ data_chunk d
+so-made d (data_chunk x) e = ap data_chunk (sym (same-data d x e))
+so-made d (forward_tsn f) e = cc
+
+found-made : (ms : List Made) (d : Data) → list_any (is_made_so d) ms ≡ true → Contains ms (data_chunk d)
+found-made ms d e =
+    let a = Any-from_list_any (is_made_so d) ms e in
+    subst (Contains ms) (so-made d a.1 a.4) (a.0, a.2, a.3)
+
+all-found : (ms : List Made) (read : List Message) → list_all (λ m. list_all (made_among ms) m.fragments) read ≡ true → All (λ m. All (λ c. Contains ms (data_chunk (data_of c))) m.fragments) read
+all-found ms read e k d l =
+    let m = slice_index_or read k d in
+    let h = AllPass-from_list_all (λ (x : Message). list_all (made_among ms) x.fragments) read e k d l in
+    λ i c n. found-made ms (data_of (slice_index_or m.fragments i c)) (AllPass-from_list_all (made_among ms) m.fragments h i c n)
+
+pub made : AfterEachSession AreMade
+made tsn size max most limits cs s r =
+    let start = at_start tsn size max most limits in
+    let law = handed.accepted tsn most limits (receiver_calls cs) s.receiving (receiver-runs cs start s r) in
+    let taken = all-made cs start s r refl in
+    all-found s.made s.receiving.read (each-read (made_among s.made) s.receiving.read (λ st. let l = law st (fails (made_among s.made)) in let z = none-fails (made_among s.made) (is_on st) s.receiving.accepted taken in omega (arith, l, z)))
+
+pub messages : AfterEachSession AreMessages
+messages tsn size max most limits cs s r =
+    let run = receiver-runs cs (at_start tsn size max most limits) s r in
+    (handed.complete tsn most limits (receiver_calls cs) s.receiving run, handed.alike tsn most limits (receiver_calls cs) s.receiving run)

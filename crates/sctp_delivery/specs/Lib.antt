@@ -1,0 +1,3 @@
+pub mod SenderCalls
+pub mod ReceiverCalls
+pub mod Session

@@ -1,0 +1,50 @@
+-- What a call of a receiver makes, and what it reports.
+use Rattle.std.specs.Prelude.{◌≡◌, ⊤, ℕ, true, List, ◌∷◌, None}
+use Rattle.sctp_chunks.specs.declared.chunk.chunk_payload_data.ChunkPayloadData.{ChunkPayloadData}
+use Rattle.sctp_chunks.specs.ForwardTsn.{ForwardTsn}
+use Rattle.sctp_chunks.specs.SelectiveAck.{Sack}
+use Rattle.sctp_receiver.specs.declared.receiver.arrival.Arrival.{Arrival}
+use Rattle.sctp_receiver.specs.Receiver.{Reception, arrival_of, arrival_refusal, is_open, is_told_complete, sack}
+use Rattle.sctp_receiver.specs.ReceiverRuns as runs
+use Rattle.sctp_receiver.specs.ReceiverRuns.{Makes}
+use Rattle.sctp_receiver.specs.Skips.{skip_refusal}
+
+-- a call that is not refused, with its arguments and its answer where that is not settled by them
+pub data ReceiverCall : Type 0 where
+  opens : ℕ → ReceiverCall
+  -- `data`
+  takes : ChunkPayloadData → Arrival → ReceiverCall
+  -- `forward_tsn`
+  follows : ForwardTsn → ReceiverCall
+  -- `sack_with`: its credit, which is the `window` where `sack` is called
+  reports : ℕ → ReceiverCall
+  reads : ℕ → ReceiverCall
+
+-- the call as runs of a receiver have it
+abbrev pub as_run : ReceiverCall → runs.Call
+as_run (opens stream) = runs.opens stream
+as_run (takes c arrival) = runs.takes c arrival
+as_run (follows f) = runs.forwards f
+as_run (reports credit) = runs.reports
+as_run (reads stream) = runs.reads stream
+
+-- what the call found, and what it answers
+abbrev pub IsAccepted : ReceiverCall → Reception → Type 0
+IsAccepted (opens stream) r = ⊤
+IsAccepted (takes c arrival) r =
+    (arrival_refusal c r ≡ None) × (arrival ≡ arrival_of c.tsn (is_told_complete arrival) r)
+IsAccepted (follows f) r = skip_refusal f r ≡ None
+IsAccepted (reports credit) r = ⊤
+IsAccepted (reads stream) r = is_open stream r ≡ true
+
+-- one call
+abbrev pub ReceiverMakes : ReceiverCall → Reception → Reception → Type 0
+ReceiverMakes call old new = Makes (as_run call) old new × IsAccepted call old
+
+-- the wire fields of the SACKs that were made, the last one first
+abbrev pub reports_after : ReceiverCall → Reception → List Sack → List Sack
+reports_after (reports credit) r sacks = sack credit r ∷ sacks
+reports_after (opens stream) r sacks = sacks
+reports_after (takes c arrival) r sacks = sacks
+reports_after (follows f) r sacks = sacks
+reports_after (reads stream) r sacks = sacks

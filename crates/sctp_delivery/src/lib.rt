@@ -1,0 +1,7 @@
+//! Two hosts: a sender, a receiver, and a network between them that loses, delays, repeats and reorders.
+#![tactic(auto)]
+
+pub mod drained;
+pub mod laws;
+pub mod receiver_steps;
+pub mod sender_steps;
