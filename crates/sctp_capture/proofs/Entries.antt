@@ -47,6 +47,7 @@ more_entry h held more r is holds =
     let second = number_more h.order held more 4 (omega (arith, long)) in
     record {
       link_type = is.link_type;
+      direction = is.direction;
       short = λ less. absurd (omega (arith, less, longer, long));
       time = λ _. rw (first, second) (is.time long);
       too_long = λ _. rw span (is.too_long long);

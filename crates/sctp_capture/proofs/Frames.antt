@@ -2,32 +2,38 @@
 use Rattle.std.proofs.Common.{◌≡◌, ℕ, ◌+◌, ◌-◌, ◌/◌, ◌<◌, ◌≤◌, ◌⊎◌, inl, inr, List, length, slice_range, Result, Ok, Err, IfErr, arith}
 use Rattle.std.specs.Prelude.{slice_index}
 use Rattle.std.proofs.lemmas.Grind.{common_steps}
-use Rattle.sctp_capture.specs.Frame.{InIpv4, InIpv6, InIp, IsTypePlace, IsEthernetPlace, IsRawIp, IsPlace}
+use Rattle.sctp_capture.specs.Frame.{InUdp, IsCarried, InIpv4, InIpv6, InIp, IsTypePlace, IsEthernetPlace, IsRawIp, IsPlace}
 
 -- what holds with no look at the error
 pub of_err : {T E : Type 0} (r : Result T E) (P : E → Type 0) → ((y : E) → P y) → IfErr r P
 of_err (Ok x) P f = tt
 of_err (Err y) P f = f y
 
--- the version of a packet leaves one form
-pub only_ipv4 : (port : ℕ) (packet bytes : List ℕ) → slice_index packet 0 / 16 ≡ 4 → InIp port packet bytes → InIpv4 port packet bytes
-only_ipv4 port packet bytes e (inl it) = it.1
-only_ipv4 port packet bytes e (inr it) = absurd (omega (arith, e, it.0))
+-- the protocol of UDP leaves one form
+pub only_udp : (port protocol : ℕ) (payload : List ℕ) (cut : ℕ) (bytes : List ℕ) (missing : ℕ) → protocol ≡ 17 → IsCarried port protocol payload cut bytes missing
+    → InUdp port payload cut bytes missing
+only_udp port protocol payload cut bytes missing e (inl it) = absurd (omega (arith, e, it.0))
+only_udp port protocol payload cut bytes missing e (inr it) = it.1
 
-pub only_ipv6 : (port : ℕ) (packet bytes : List ℕ) → slice_index packet 0 / 16 ≡ 6 → InIp port packet bytes → InIpv6 port packet bytes
-only_ipv6 port packet bytes e (inl it) = absurd (omega (arith, e, it.0))
-only_ipv6 port packet bytes e (inr it) = it.1
+-- the version of a packet leaves one form
+pub only_ipv4 : (port : ℕ) (packet bytes : List ℕ) (missing : ℕ) → slice_index packet 0 / 16 ≡ 4 → InIp port packet bytes missing → InIpv4 port packet bytes missing
+only_ipv4 port packet bytes missing e (inl it) = it.1
+only_ipv4 port packet bytes missing e (inr it) = absurd (omega (arith, e, it.0))
+
+pub only_ipv6 : (port : ℕ) (packet bytes : List ℕ) (missing : ℕ) → slice_index packet 0 / 16 ≡ 6 → InIp port packet bytes missing → InIpv6 port packet bytes missing
+only_ipv6 port packet bytes missing e (inl it) = absurd (omega (arith, e, it.0))
+only_ipv6 port packet bytes missing e (inr it) = it.1
 
 -- no packet is shorter than the header of IPv4
-pub has_header : (port : ℕ) (packet bytes : List ℕ) → InIp port packet bytes → 20 ≤ length packet
-has_header port packet bytes (inl it) = omega (arith, it.1.has_header, it.1.has_length, it.1.has_all)
-has_header port packet bytes (inr it) = omega (arith, it.1.has_all)
+pub has_header : (port : ℕ) (packet bytes : List ℕ) (missing : ℕ) → InIp port packet bytes missing → 20 ≤ length packet
+has_header port packet bytes missing (inl it) = it.1.long
+has_header port packet bytes missing (inr it) = omega (arith, it.1.long)
 
-pub no_room : (port : ℕ) (frame bytes : List ℕ) (at : ℕ) → length frame < at + 20
-    → InIp port (slice_range frame at (length frame)) bytes → ⊥
-no_room port frame bytes at short it =
+pub no_room : (port : ℕ) (frame bytes : List ℕ) (missing at : ℕ) → length frame < at + 20
+    → InIp port (slice_range frame at (length frame)) bytes missing → ⊥
+no_room port frame bytes missing at short it =
     let all : length (slice_range frame at (length frame)) ≡ length frame - at = grind (arith, common_steps) in
-    let long = has_header port (slice_range frame at (length frame)) bytes it in omega (arith, all, short, long)
+    let long = has_header port (slice_range frame at (length frame)) bytes missing it in omega (arith, all, short, long)
 
 -- the place of Ethernet is the only one for its link type
 pub only_ethernet : (link_type : ℕ) (frame : List ℕ) (at : ℕ) → link_type ≡ 1 → IsPlace link_type frame at → IsEthernetPlace frame at

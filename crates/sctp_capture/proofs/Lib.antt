@@ -2,6 +2,7 @@ pub mod Known
 pub mod Entries
 pub mod Lines
 pub mod Digits
+pub mod Leads
 pub mod Heads
 pub mod Uppers
 pub mod Frames

@@ -1,6 +1,8 @@
 -- Lines of bytes of which some are held.
 use Rattle.std.proofs.Common.{◌≡◌, ℕ, ◌+◌, ◌<◌, ◌≤◌, Bool, true, false, zero, suc, List, [], ◌∷◌, ◌++◌, length, take, drop, slice_index, None, Some, IfSome, refl, ap, sym, ◌∙◌, inl, inr, arith, add-one}
-use Rattle.std.specs.Prelude.{Option, ◌≢◌, ◌⊎◌, ◌==◌, IsSomeAnd}
+use Rattle.std.specs.Prelude.{Option, ◌≢◌, ◌⊎◌, ◌==◌, IsSomeAnd, MatchResult, Ok, Err}
+use Rattle.hex.specs.Hex.{decode_of}
+use Rattle.sctp_capture.specs.declared.record.Fault.TheVariants.{NotHex}
 use Rattle.std.specs.Io.KnownBytes.{Keeps, IsAtEnd, prepend_known}
 use Rattle.std.proofs.lemmas.Bool.{cases_lt}
 use Rattle.std.proofs.lemmas.Bool.Decides.{nat_tests}
@@ -9,6 +11,7 @@ use lib.Seq.{drop-append-le}
 use Rattle.std.proofs.Math.Seq.{drop-append_seam}
 use Rattle.sctp_capture.specs.declared.record.Record.{Record}
 use Rattle.sctp_capture.specs.Window.{Drops}
+use Rattle.sctp_capture.specs.Lead.{lead_of, said_in}
 use Rattle.sctp_capture.specs.Record.{line_in, after_line, digits_in, HoldsLine, IsLine, IsBlankLine, IsLineFound}
 
 line_feed : (x : ℕ) (xs : List ℕ) → x ≡ 10 → line_in (x ∷ xs) ≡ []
@@ -47,10 +50,26 @@ line_front [] = (omega arith, refl)
 line_front (x ∷ xs) = front_by (x == 10) x xs refl (line_front xs)
 
 -- a line without digits says nothing
-pub blank_front : (bytes digits : List ℕ) (n : ℕ) → n ≡ length (line_in bytes) → digits ≡ digits_in (take n bytes) → length digits ≡ 0 → digits_in (line_in bytes) ≡ []
+pub blank_front : (bytes digits : List ℕ) (n : ℕ) → n ≡ length (line_in bytes) → digits ≡ digits_in (said_in (take n bytes)) → length digits ≡ 0 → digits_in (said_in (line_in bytes)) ≡ []
 blank_front bytes digits n is says none =
     let front : line_in bytes ≡ take n bytes = (line_front bytes).1 ∙ ap (λ k. take k bytes) (sym is) in
-    ap digits_in front ∙ sym says ∙ nil_from_length digits none
+    ap (λ l. digits_in (said_in l)) front ∙ sym says ∙ nil_from_length digits none
+
+-- a line with digits is the record that they and its lead say
+pub line_is : (bytes digits : List ℕ) (n : ℕ) (r : Record) → n ≡ length (line_in bytes) → n ≤ 524288 → digits ≡ digits_in (said_in (take n bytes)) → 0 < length digits
+    → r.link_type ≡ 248 → r.time ≡ (lead_of (take n bytes)).time → r.direction ≡ (lead_of (take n bytes)).direction
+    → MatchResult (decode_of digits) (λ frame. r.frame ≡ Ok frame) (λ _. r.frame ≡ Err NotHex) → IsLine bytes r
+line_is bytes digits n r is short says some link_type time direction text =
+    let front : line_in bytes ≡ take n bytes = (line_front bytes).1 ∙ ap (λ k. take k bytes) (sym is) in
+    let same : digits ≡ digits_in (said_in (line_in bytes)) = says ∙ ap (λ l. digits_in (said_in l)) (sym front) in
+    record {
+      link_type = link_type;
+      too_long = λ long. absurd (omega (arith, long, short, is));
+      time = λ _. rw front time;
+      direction = λ _. rw front direction;
+      some = λ _. rw (← same) some;
+      text = λ _. rw (← same) text;
+    }
 
 -- ---- more bytes behind
 
@@ -81,7 +100,14 @@ line_joined (x ∷ xs) more = joined_by (x == 10) x xs more refl (line_joined xs
 cut_is_line : (held more : List ℕ) (r : Record) → IsLine held r → length (line_in held) < length held → IsLine (held ++ more) r
 cut_is_line held more r is lt =
     let same = (line_cut held more lt).0 in
-    record { link_type = is.link_type; time = is.time; too_long = rw same is.too_long; some = rw same is.some; text = rw same is.text }
+    record {
+      link_type = is.link_type;
+      too_long = rw same is.too_long;
+      time = rw same is.time;
+      direction = rw same is.direction;
+      some = rw same is.some;
+      text = rw same is.text;
+    }
 
 -- a line that is read of what is held is that of all the bytes
 pub more_line : (held more : List ℕ) (r : Record) → IsLine held r → HoldsLine held → IsLine (held ++ more) r
@@ -93,8 +119,9 @@ more_line held more r is (inr long) = elim (cases_lt (length (line_in held)) (le
       let far : 524288 < length (line_in (held ++ more)) = rw (same, length-append) (omega (arith, long)) in
       record {
         link_type = is.link_type;
-        time = is.time;
         too_long = λ _. is.too_long (omega (arith, long, le));
+        time = λ short. absurd (omega (arith, far, short));
+        direction = λ short. absurd (omega (arith, far, short));
         some = λ short. absurd (omega (arith, far, short));
         text = λ short. absurd (omega (arith, far, short));
       }

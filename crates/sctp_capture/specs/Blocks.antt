@@ -89,6 +89,7 @@ ticks_at order block = number_at order block 12 * 4294967296 + number_at order b
 -- a packet with an interface, a time and a length of its own
 pub record IsEnhanced (interfaces : List Interface) (h : BlockHead) (block : List ℕ)
     (r : Record) : Type 0 where
+  pub direction : r.direction ≡ None
   pub short : length block < 32 → r.frame ≡ Err BadBlock
   pub unknown : 32 ≤ length block → length interfaces ≤ interface_number h block → r.frame
       ≡ Err NoInterface
@@ -108,6 +109,7 @@ simple_length order i block room =
 -- a packet of the first interface, with no time
 pub record IsSimple (interfaces : List Interface) (order : Order) (block : List ℕ)
     (r : Record) : Type 0 where
+  pub direction : r.direction ≡ None
   pub short : length block < 16 → r.frame ≡ Err BadBlock
   pub unknown : 16 ≤ length block → interfaces ≡ [] → r.frame ≡ Err NoInterface
   pub whole : (i : Interface) (room : ℕ) → slice_get interfaces 0 ≡ Some i → room + 16

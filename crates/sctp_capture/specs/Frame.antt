@@ -1,38 +1,58 @@
 -- The SCTP datagram that stands in a frame.
-use Rattle.std.specs.Prelude.{◌≡◌, ◌≢◌, ℕ, zero, suc, ◌+◌, ◌*◌, ◌/◌, ◌%◌, ◌≤◌, ◌⊎◌, ◌==◌, if◌then◌else◌, List, length, slice_index, slice_range}
+use Rattle.std.specs.Prelude.{◌≡◌, ◌≢◌, ℕ, zero, suc, ◌+◌, ◌-◌, ◌*◌, ◌/◌, ◌%◌, ◌≤◌, ◌⊎◌, ◌==◌, if◌then◌else◌, min, List, length, slice_index, slice_range}
 use Rattle.std.specs.Prelude.{Option, IsSomeAnd}
 use Rattle.std.specs.Net.Addr.{ipv4_octets, ipv6_segments, segments_of, IsV4And, IsV6And}
 use Rattle.std.specs.declared.net.ip_addr.IpAddr.{IpAddr}
 use Rattle.sctp_base.specs.Field.{u16_at}
 
--- where an IP packet or a UDP datagram ends that has its length at this place: there, or, if it is 0, with the bytes that there are
-abbrev pub end_of : List ℕ → ℕ → ℕ
-end_of bytes at = if u16_at bytes at == 0 then length bytes else u16_at bytes at
+-- where an IP packet or a UDP datagram ends that has its length at this place: there, or, if it is 0, with the bytes that it is in
+abbrev pub end_of : List ℕ → ℕ → ℕ → ℕ
+end_of bytes at whole = if u16_at bytes at == 0 then whole else u16_at bytes at
 
--- in UDP to or from the port: behind the header, to the length that it says (RFC 768)
-pub record InUdp (port : ℕ) (payload bytes : List ℕ) : Type 0 where
+-- what a frame holds of the bytes up to this end, where a capture cuts frames, and how many of them it does not hold
+abbrev pub held_to : ℕ → List ℕ → ℕ
+held_to end bytes = min end (length bytes)
+
+abbrev pub cut_to : ℕ → List ℕ → ℕ
+cut_to end bytes = end - length bytes
+
+-- where the UDP datagram ends that a payload begins, so many bytes of which are cut off (RFC 768)
+abbrev pub udp_end : List ℕ → ℕ → ℕ
+udp_end payload cut = end_of payload 4 (length payload + cut)
+
+-- in UDP to or from the port: behind the header, to the length that it says
+pub record InUdp (port : ℕ) (payload : List ℕ) (cut : ℕ) (bytes : List ℕ) (missing : ℕ) : Type 0 where
+  pub long : 8 ≤ length payload
   pub has_port : (u16_at payload 0 ≡ port) ⊎ (u16_at payload 2 ≡ port)
-  pub has_header : 8 ≤ end_of payload 4
-  pub has_all : end_of payload 4 ≤ length payload
-  pub is : bytes ≡ slice_range payload 8 (end_of payload 4)
+  pub has_header : 8 ≤ udp_end payload cut
+  pub has_all : udp_end payload cut ≤ length payload + cut
+  pub is : bytes ≡ slice_range payload 8 (held_to (udp_end payload cut) payload)
+  pub is_missing : missing ≡ cut_to (udp_end payload cut) payload
 
--- in what IP carries: all of it, or what UDP carries to or from the port (RFC 6951)
-abbrev pub IsCarried : ℕ → ℕ → List ℕ → List ℕ → Type 0
-IsCarried port protocol payload bytes =
-    ((protocol ≡ 132) × (bytes ≡ payload)) ⊎ ((protocol ≡ 17) × InUdp port payload bytes)
+-- in what IP carries: all of it, or what UDP carries to or from the port (RFC 6951). So many bytes are cut off, and so many of the datagram are missing.
+abbrev pub IsCarried : ℕ → ℕ → List ℕ → ℕ → List ℕ → ℕ → Type 0
+IsCarried port protocol payload cut bytes missing =
+    ((protocol ≡ 132) × (bytes ≡ payload) × (missing ≡ cut))
+    ⊎ ((protocol ≡ 17) × InUdp port payload cut bytes missing)
 
 -- the bytes of the header of an IPv4 packet (RFC 791 3.1)
 abbrev pub ipv4_header : List ℕ → ℕ
 ipv4_header packet = (slice_index packet 0 % 16) * 4
 
+-- where an IPv4 packet ends, by its total length
+abbrev pub ipv4_end : List ℕ → ℕ
+ipv4_end packet = end_of packet 2 (length packet)
+
 -- in an IPv4 packet that is no fragment: behind its header, to its total length
-pub record InIpv4 (port : ℕ) (packet bytes : List ℕ) : Type 0 where
+pub record InIpv4 (port : ℕ) (packet bytes : List ℕ) (missing : ℕ) : Type 0 where
+  pub long : 20 ≤ length packet
   pub is_no_fragment : u16_at packet 6 % 16384 ≡ 0
   pub has_header : 20 ≤ ipv4_header packet
-  pub has_length : ipv4_header packet ≤ end_of packet 2
-  pub has_all : end_of packet 2 ≤ length packet
+  pub is_held : ipv4_header packet ≤ length packet
+  pub has_length : ipv4_header packet ≤ ipv4_end packet
   pub carried : IsCarried port (slice_index packet 9)
-      (slice_range packet (ipv4_header packet) (end_of packet 2)) bytes
+      (slice_range packet (ipv4_header packet) (held_to (ipv4_end packet) packet))
+      (cut_to (ipv4_end packet) packet) bytes missing
 
 -- a fragment header of a packet that is whole: no offset, and no more fragments (RFC 6946)
 abbrev pub IsAtomic : List ℕ → Type 0
@@ -57,14 +77,18 @@ IsUpper (suc count) first payload protocol upper =
     (slice_range payload (passed_bytes first payload) (length payload)) protocol upper)
     ⊎ ((IsPassed first payload → ⊥) × (first ≢ 44) × (protocol ≡ first) × (upper ≡ payload))
 
+-- where an IPv6 packet ends, by its length
+abbrev pub ipv6_end : List ℕ → ℕ
+ipv6_end packet = 40 + u16_at packet 4
+
 -- in an IPv6 packet: behind its headers, of which fifteen may follow the first, to its length
-pub record InIpv6 (port : ℕ) (packet bytes : List ℕ) : Type 0 where
-  pub has_all : 40 + u16_at packet 4 ≤ length packet
+pub record InIpv6 (port : ℕ) (packet bytes : List ℕ) (missing : ℕ) : Type 0 where
+  pub long : 40 ≤ length packet
   pub protocol : ℕ
   pub upper : List ℕ
   pub is : IsUpper 16 (slice_index packet 6)
-      (slice_range packet 40 (40 + u16_at packet 4)) protocol upper
-  pub carried : IsCarried port protocol upper bytes
+      (slice_range packet 40 (held_to (ipv6_end packet) packet)) protocol upper
+  pub carried : IsCarried port protocol upper (cut_to (ipv6_end packet) packet) bytes missing
 
 -- the address that stands in a packet from a place on
 abbrev pub IsIpv4At : List ℕ → ℕ → IpAddr → Type 0
@@ -82,10 +106,10 @@ AreEnds packet ends =
     ⊎ ((slice_index packet 0 / 16 ≡ 6) × IsIpv6At packet 8 ends.0 × IsIpv6At packet 24 ends.1)
 
 -- in an IP packet, by its version
-abbrev pub InIp : ℕ → List ℕ → List ℕ → Type 0
-InIp port packet bytes =
-    ((slice_index packet 0 / 16 ≡ 4) × InIpv4 port packet bytes)
-    ⊎ ((slice_index packet 0 / 16 ≡ 6) × InIpv6 port packet bytes)
+abbrev pub InIp : ℕ → List ℕ → List ℕ → ℕ → Type 0
+InIp port packet bytes missing =
+    ((slice_index packet 0 / 16 ≡ 4) × InIpv4 port packet bytes missing)
+    ⊎ ((slice_index packet 0 / 16 ≡ 6) × InIpv6 port packet bytes missing)
 
 -- the protocol number of a VLAN tag: of the inner or the outer one (IEEE 802.1Q), or of an outer one by its older number
 abbrev pub IsTag : ℕ → Type 0
@@ -117,11 +141,11 @@ IsPlace link_type frame at =
     ⊎ ((IsRawIp link_type × (at ≡ 0))
     ⊎ (((link_type ≡ 113) × (at ≡ 16)) ⊎ ((link_type ≡ 276) × (at ≡ 20)))))
 
--- in a frame that holds an IP packet
-pub record InFrame (link_type port : ℕ) (frame bytes : List ℕ) : Type 0 where
+-- in a frame that holds an IP packet, or as much of one as its capture kept: so many bytes of the datagram are missing
+pub record InFrame (link_type port : ℕ) (frame bytes : List ℕ) (missing : ℕ) : Type 0 where
   pub at : ℕ
   pub place : IsPlace link_type frame at
-  pub inside : InIp port (slice_range frame at (length frame)) bytes
+  pub inside : InIp port (slice_range frame at (length frame)) bytes missing
 
 -- in a frame that holds an IP packet, between these addresses
 pub record HasEnds (link_type : ℕ) (frame : List ℕ) (ends : Option (IpAddr × IpAddr)) : Type 0 where

@@ -10,6 +10,7 @@ use Rattle.sctp_capture.specs.declared.record.Head.{Head}
 use Rattle.sctp_capture.specs.declared.record.Time.{Time}
 use Rattle.sctp_capture.specs.declared.record.Fault.TheVariants.{NotHex, CutOff, TooLong}
 use Rattle.sctp_capture.specs.declared.record.Record.{Record}
+use Rattle.sctp_capture.specs.Lead.{lead_of, said_in}
 use Rattle.sctp_capture.specs.declared.blocks.Taken.{Taken}
 use Rattle.sctp_capture.specs.declared.blocks.Taken.TheVariants as taken
 
@@ -46,6 +47,7 @@ time_at h bytes =
 -- the entry that the bytes begin with: its frame is refused where it is cut off, or longer than 256 KiB
 pub record IsEntry (h : Head) (bytes : List ℕ) (r : Record) : Type 0 where
   pub link_type : r.link_type ≡ h.link_type
+  pub direction : r.direction ≡ None
   pub short : length bytes < 16 → (r.time ≡ None) × (r.frame ≡ Err CutOff)
   pub time : 16 ≤ length bytes → r.time ≡ Some (time_at h bytes)
   pub too_long : 16 ≤ length bytes → 16 + 262144 < entry_span h bytes → r.frame ≡ Err TooLong
@@ -82,19 +84,22 @@ digits_in [] = []
 digits_in (x ∷ xs) =
     if x == 35 then [] else if is_blank x then digits_in xs else x ∷ digits_in xs
 
--- the line that the bytes begin with: its frame is what its hex text says, or refused
+-- the line that the bytes begin with: its frame is what its hex text says, or refused; when and whither it went is what its lead says
 pub record IsLine (bytes : List ℕ) (r : Record) : Type 0 where
   pub link_type : r.link_type ≡ 248
-  pub time : r.time ≡ None
-  pub too_long : 524288 < length (line_in bytes) → r.frame ≡ Err TooLong
-  pub some : length (line_in bytes) ≤ 524288 → 0 < length (digits_in (line_in bytes))
+  pub too_long : 524288 < length (line_in bytes)
+      → (r.time ≡ None) × (r.direction ≡ None) × (r.frame ≡ Err TooLong)
+  pub time : length (line_in bytes) ≤ 524288 → r.time ≡ (lead_of (line_in bytes)).time
+  pub direction : length (line_in bytes) ≤ 524288
+      → r.direction ≡ (lead_of (line_in bytes)).direction
+  pub some : length (line_in bytes) ≤ 524288 → 0 < length (digits_in (said_in (line_in bytes)))
   pub text : length (line_in bytes) ≤ 524288
-      → MatchResult (decode_of (digits_in (line_in bytes))) (λ frame. r.frame ≡ Ok frame)
-      (λ _. r.frame ≡ Err NotHex)
+      → MatchResult (decode_of (digits_in (said_in (line_in bytes))))
+      (λ frame. r.frame ≡ Ok frame) (λ _. r.frame ≡ Err NotHex)
 
--- the line says nothing: it is empty, or blanks and a comment
+-- the line says nothing: behind its lead it is empty, or blanks and a comment
 abbrev pub IsBlankLine : List ℕ → Type 0
-IsBlankLine bytes = (length (line_in bytes) ≤ 524288) × (digits_in (line_in bytes) ≡ [])
+IsBlankLine bytes = (length (line_in bytes) ≤ 524288) × (digits_in (said_in (line_in bytes)) ≡ [])
 
 -- the record that a line is, if it says anything
 abbrev pub IsLineFound : List ℕ → Option Record → Type 0

@@ -92,10 +92,12 @@ impl Section {
 
 /// A record that has no frame.
 fn refused(fault: Fault) -> Record
-    ensures { result.frame ≡ Err fault }
+    ensures frame { result.frame ≡ Err fault }
+    ensures direction { result.direction ≡ None }
 {
     Record {
         time: None,
+        direction: None,
         link_type: 0,
         frame: Err(fault),
     }
@@ -281,6 +283,7 @@ fn read_enhanced(
     let low = read_number(order, block, 16) as u64;
     Ok(Record {
         time: time_of(interface.units, high * 4_294_967_296 + low),
+        direction: None,
         link_type: interface.link_type,
         frame: Ok(Bytes::copy_from_slice(alloc, &block[28..28 + length])?),
     })
@@ -307,6 +310,7 @@ fn read_simple(
     }
     Ok(Record {
         time: None,
+        direction: None,
         link_type: interface.link_type,
         frame: Ok(Bytes::copy_from_slice(alloc, &block[12..12 + length])?),
     })

@@ -1,7 +1,7 @@
 //! The SCTP datagram inside a frame.
 
-ghost use Rattle.std.specs.Prelude.{◌≡◌, ◌≢◌, ◌↔◌, ◌+◌, ◌≤◌, ◌<◌, ℕ, List, length, slice_range, IsTrue, IfOk, IfErr, IsOkAnd, IsSomeAnd, None};
-ghost use Rattle.sctp_capture.specs.Frame.{IsCarried, end_of, InIpv4, IsAtomic, IsPassed, passed_bytes, IsUpper, InIpv6, InIp, IsTag, IsTypePlace, IsEthernetPlace, IsPlace, InFrame, IsIpv4At, IsIpv6At, AreEnds, HasEnds};
+ghost use Rattle.std.specs.Prelude.{◌≡◌, ◌≢◌, ◌↔◌, ◌+◌, ◌≤◌, ◌<◌, ◌^◌, ℕ, List, length, slice_range, IsTrue, IfOk, IfErr, IsOkAnd, IsSomeAnd, None};
+ghost use Rattle.sctp_capture.specs.Frame.{InUdp, IsCarried, end_of, held_to, cut_to, InIpv4, IsAtomic, IsPassed, passed_bytes, IsUpper, InIpv6, InIp, IsTag, IsTypePlace, IsEthernetPlace, IsPlace, InFrame, IsIpv4At, IsIpv6At, AreEnds, HasEnds};
 ghost use Rattle.sctp_base.specs.Field;
 
 use crate::record::Fault;
@@ -21,42 +21,81 @@ const MAX_HEADERS: usize = 16;
 pub struct Datagram<'a> {
     pub ends: Option<(IpAddr, IpAddr)>,
     pub bytes: &'a [u8],
+    /// How many of its bytes are missing at the end, as in a capture that cuts frames.
+    pub missing: usize,
 }
 
-/// Where an IP packet or a UDP datagram ends that has its length at this place: there, or, if it is 0, with the bytes that there are, as
+/// Where an IP packet or a UDP datagram ends that has its length at this place: there, or, if it is 0, with the bytes that it is in, as
 /// where a network card cuts a large packet into segments.
 /// Precondition: the length is there.
-fn end_of(bytes: &[u8], at: usize) -> usize
+fn end_of(bytes: &[u8], at: usize, whole: usize) -> usize
     requires { at + 2 ≤ length bytes.now }
-    ensures { result ≡ end_of bytes.now at }
+    ensures is { result ≡ end_of bytes.now at whole }
+    ensures few { result < 65536 + whole }
 {
     let length = read_u16(bytes, at) as usize;
     if length == 0 {
-        return bytes.len();
+        return whole;
     }
     length
 }
 
-/// The SCTP datagram in what IP carries: all of it, or what UDP carries to or from the port (RFC 6951).
-fn inside_transport(protocol: u8, payload: &[u8], port: u16) -> Result<&[u8], Fault>
-    ensures found { IfOk result (λ bytes. IsCarried port protocol payload.now bytes.now) }
-    ensures refused { IfErr result
-        (λ _. (bytes : List ℕ) → IsCarried port protocol payload.now bytes → ⊥) }
+/// What a frame holds of the bytes up to this end.
+fn held_to(end: usize, bytes: &[u8]) -> usize
+    ensures { result ≡ held_to end bytes.now }
 {
-    if protocol == SCTP {
-        return Ok(payload);
-    }
-    if protocol != UDP {
-        return Err(Fault::OtherProtocol);
-    }
+    end.min(bytes.len())
+}
+
+/// How many of the bytes up to this end a frame does not hold.
+fn cut_to(end: usize, bytes: &[u8]) -> usize
+    ensures { result ≡ cut_to end bytes.now }
+{
+    end.saturating_sub(bytes.len())
+}
+
+/// The SCTP datagram in UDP to or from the port (RFC 6951), and how many of its bytes are missing. So many are cut off behind the payload.
+fn inside_udp(payload: &[u8], cut: usize, port: u16) -> Result<(&[u8], usize), Fault>
+    requires { cut < 2 ^ 17 }
+    ensures found { IfOk result (λ x. InUdp port payload.now cut x.0.now x.1) }
+    ensures refused { IfErr result
+        (λ _. (bytes : List ℕ) → (missing : ℕ) → InUdp port payload.now cut bytes missing → ⊥) }
+{
     if payload.len() < 8 {
         return Err(Fault::Short);
     }
     if read_u16(payload, 0) != port && read_u16(payload, 2) != port {
         return Err(Fault::OtherProtocol);
     }
-    let end = end_of(payload, 4);
-    payload.get(8..end).ok_or(Fault::Short)
+    let whole = payload.len() + cut;
+    let end = end_of(payload, 4, whole);
+    if end < 8 || end > whole {
+        return Err(Fault::Short);
+    }
+    Ok((&payload[8..held_to(end, payload)], cut_to(end, payload)))
+}
+
+/// The SCTP datagram in what IP carries, and how many of its bytes are missing: all of it, or what UDP carries. So many bytes are cut off
+/// behind the payload.
+fn inside_transport(
+    protocol: u8,
+    payload: &[u8],
+    cut: usize,
+    port: u16,
+) -> Result<(&[u8], usize), Fault>
+    requires { cut < 2 ^ 17 }
+    ensures found { IfOk result (λ x. IsCarried port protocol payload.now cut x.0.now x.1) }
+    ensures refused { IfErr result
+        (λ _. (bytes : List ℕ) → (missing : ℕ)
+        → IsCarried port protocol payload.now cut bytes missing → ⊥) }
+{
+    if protocol == SCTP {
+        return Ok((payload, cut));
+    }
+    if protocol == UDP {
+        return inside_udp(payload, cut, port);
+    }
+    Err(Fault::OtherProtocol)
 }
 
 /// The address in four bytes.
@@ -70,8 +109,9 @@ fn ipv4_at(packet: &[u8], at: usize) -> IpAddr
 }
 
 fn inside_ipv4(packet: &[u8], port: u16) -> Result<Datagram<'_>, Fault>
-    ensures found { IfOk result (λ d. InIpv4 port packet.now d.bytes.now) }
-    ensures refused { IfErr result (λ _. (bytes : List ℕ) → InIpv4 port packet.now bytes → ⊥) }
+    ensures found { IfOk result (λ d. InIpv4 port packet.now d.bytes.now d.missing) }
+    ensures refused { IfErr result
+        (λ _. (bytes : List ℕ) → (missing : ℕ) → InIpv4 port packet.now bytes missing → ⊥) }
     ensures ends { IfOk result (λ d. IsSomeAnd d.ends
         (λ ends. IsIpv4At packet.now 12 ends.0 × IsIpv4At packet.now 16 ends.1)) }
 {
@@ -82,16 +122,17 @@ fn inside_ipv4(packet: &[u8], port: u16) -> Result<Datagram<'_>, Fault>
         return Err(Fault::Fragment);
     }
     let header = ((packet[0] % 16) as usize) * 4;
-    if header < 20 {
+    let end = end_of(packet, 2, packet.len());
+    let held = held_to(end, packet);
+    if header < 20 || held < header {
         return Err(Fault::Short);
     }
-    let total = end_of(packet, 2);
-    let Some(payload) = packet.get(header..total) else {
-        return Err(Fault::Short);
-    };
+    let payload = &packet[header..held];
+    let (bytes, missing) = inside_transport(packet[9], payload, cut_to(end, packet), port)?;
     Ok(Datagram {
         ends: Some((ipv4_at(packet, 12), ipv4_at(packet, 16))),
-        bytes: inside_transport(packet[9], payload, port)?,
+        bytes,
+        missing,
     })
 }
 
@@ -166,31 +207,32 @@ fn inside_extensions(first: u8, payload: &[u8]) -> Result<(u8, &[u8]), Fault>
 }
 
 fn inside_ipv6(packet: &[u8], port: u16) -> Result<Datagram<'_>, Fault>
-    ensures found { IfOk result (λ d. InIpv6 port packet.now d.bytes.now) }
-    ensures refused { IfErr result (λ _. (bytes : List ℕ) → InIpv6 port packet.now bytes → ⊥) }
+    ensures found { IfOk result (λ d. InIpv6 port packet.now d.bytes.now d.missing) }
+    ensures refused { IfErr result
+        (λ _. (bytes : List ℕ) → (missing : ℕ) → InIpv6 port packet.now bytes missing → ⊥) }
     ensures ends { IfOk result (λ d. IsSomeAnd d.ends
         (λ ends. IsIpv6At packet.now 8 ends.0 × IsIpv6At packet.now 24 ends.1)) }
 {
     if packet.len() < 40 {
         return Err(Fault::Short);
     }
-    let length = read_u16(packet, 4) as usize;
-    if packet.len() < 40 + length {
-        return Err(Fault::Short);
-    }
-    let (protocol, payload) = inside_extensions(packet[6], &packet[40..40 + length])?;
+    let end = 40 + read_u16(packet, 4) as usize;
+    let held = &packet[40..held_to(end, packet)];
+    let (protocol, payload) = inside_extensions(packet[6], held)?;
+    let (bytes, missing) = inside_transport(protocol, payload, cut_to(end, packet), port)?;
     Ok(Datagram {
         ends: Some((ipv6_at(packet, 8), ipv6_at(packet, 24))),
-        bytes: inside_transport(protocol, payload, port)?,
+        bytes,
+        missing,
     })
 }
 
 /// The datagram of the IP packet that stands from `at` on.
 fn inside_ip(frame: &[u8], at: usize, port: u16) -> Result<Datagram<'_>, Fault>
     ensures found { IfOk result
-        (λ d. InIp port (slice_range frame.now at (length frame.now)) d.bytes.now) }
-    ensures refused { IfErr result (λ _. (bytes : List ℕ)
-        → InIp port (slice_range frame.now at (length frame.now)) bytes → ⊥) }
+        (λ d. InIp port (slice_range frame.now at (length frame.now)) d.bytes.now d.missing) }
+    ensures refused { IfErr result (λ _. (bytes : List ℕ) → (missing : ℕ)
+        → InIp port (slice_range frame.now at (length frame.now)) bytes missing → ⊥) }
     ensures ends { IfOk result
         (λ d. IsSomeAnd d.ends (AreEnds (slice_range frame.now at (length frame.now)))) }
 {
@@ -267,15 +309,16 @@ fn place_in(link_type: u32, frame: &[u8]) -> Result<usize, Fault>
 }
 
 /// The datagram of a frame of this link type: what an IP packet carries, alone or in UDP to or from `port` (RFC 6951), or the frame as
-/// it is, where the link type is 248 (SCTP). Refuses with `OtherLink`, `Short`, `Fragment` or `OtherProtocol`, and only where the frame
-/// holds none. It takes no memory.
+/// it is, where the link type is 248 (SCTP). Of one that the frame does not hold to its end it has what is there, and how many bytes are
+/// missing. Refuses with `OtherLink`, `Short`, `Fragment` or `OtherProtocol`, and only where the frame holds none. It takes no memory.
 pub fn datagram_in(link_type: u32, frame: &[u8], port: u16) -> Result<Datagram<'_>, Fault>
     ensures alone { link_type ≡ 248
-        → IsOkAnd result (λ d. (d.ends ≡ None) × (d.bytes.now ≡ frame.now)) }
+        → IsOkAnd result (λ d. (d.ends ≡ None) × (d.bytes.now ≡ frame.now) × (d.missing ≡ 0)) }
     ensures carried { link_type ≢ 248
-        → IfOk result (λ d. InFrame link_type port frame.now d.bytes.now) }
+        → IfOk result (λ d. InFrame link_type port frame.now d.bytes.now d.missing) }
     ensures refused { IfErr result
-        (λ _. (bytes : List ℕ) → InFrame link_type port frame.now bytes → ⊥) }
+        (λ _. (bytes : List ℕ) → (missing : ℕ)
+        → InFrame link_type port frame.now bytes missing → ⊥) }
     ensures ends { link_type ≢ 248
         → IfOk result (λ d. HasEnds link_type frame.now d.ends) }
 {
@@ -283,6 +326,7 @@ pub fn datagram_in(link_type: u32, frame: &[u8], port: u16) -> Result<Datagram<'
         return Ok(Datagram {
             ends: None,
             bytes: frame,
+            missing: 0,
         });
     }
     let at = place_in(link_type, frame)?;

@@ -5,5 +5,6 @@ pub mod blocks;
 pub mod frame;
 pub mod input;
 pub mod kind;
+pub mod lead;
 pub mod record;
 pub mod window;

@@ -5,10 +5,13 @@ ghost use Rattle.std.specs.Io.KnownBytes.{Keeps, IsAtEnd, prepend_known};
 ghost use Rattle.hex.specs.Hex.{decode_of};
 ghost use Rattle.sctp_capture.specs.declared.record.Fault.TheVariants.{NotHex};
 ghost use Rattle.sctp_capture.specs.Fault.{fault_text};
+ghost use Rattle.sctp_capture.specs.Lead as leads;
+ghost use Rattle.sctp_capture.specs.Lead.{said_in};
 ghost use Rattle.sctp_capture.specs.Record.{IsHead, magic_of, number_at, IsEntry, entry_span, after_entry, line_in, HoldsLine, is_blank, digits_in, IsLineFound, after_line, IsNext, IsNextLine};
 
 use crate::blocks::Taken;
 use crate::input::ReadFault;
+use crate::lead::{Lead, lead_of};
 use crate::window::Window;
 use bytes::Bytes;
 use hex::FromHexError;
@@ -111,10 +114,19 @@ impl fmt::Display for Fault {
     }
 }
 
-/// A record: when it was captured, the link type of its frame, and the frame, or why there is none.
+/// Whether a packet came in, or went out.
+#[derive(Clone, Copy, Debug, PartialEq, Eq)]
+pub enum Direction {
+    In,
+    Out,
+}
+
+/// A record: when it was captured, whither it went, the link type of its frame, and the frame, or why there is none.
 #[derive(Debug, Drop)]
 pub struct Record {
     pub time: Option<Time>,
+    /// As a log says it.
+    pub direction: Option<Direction>,
     pub link_type: u32,
     pub frame: Result<Bytes, Fault>,
 }
@@ -188,6 +200,7 @@ fn read_entry(alloc: Global, head: &Head, held: &[u8]) -> Result<Record, AllocEr
     if held.len() < ENTRY_HEADER {
         return Ok(Record {
             time: None,
+            direction: None,
             link_type: head.link_type,
             frame: Err(Fault::CutOff),
         });
@@ -201,6 +214,7 @@ fn read_entry(alloc: Global, head: &Head, held: &[u8]) -> Result<Record, AllocEr
     if length > MAX_RECORD {
         return Ok(Record {
             time,
+            direction: None,
             link_type: head.link_type,
             frame: Err(Fault::TooLong),
         });
@@ -208,6 +222,7 @@ fn read_entry(alloc: Global, head: &Head, held: &[u8]) -> Result<Record, AllocEr
     if held.len() < ENTRY_HEADER + length {
         return Ok(Record {
             time,
+            direction: None,
             link_type: head.link_type,
             frame: Err(Fault::CutOff),
         });
@@ -215,6 +230,7 @@ fn read_entry(alloc: Global, head: &Head, held: &[u8]) -> Result<Record, AllocEr
     let frame = Bytes::copy_from_slice(alloc, &held[ENTRY_HEADER..ENTRY_HEADER + length])?;
     Ok(Record {
         time,
+        direction: None,
         link_type: head.link_type,
         frame: Ok(frame),
     })
@@ -298,13 +314,19 @@ fn fill_line<R: Read + Drop>(window: &mut Window<R>) -> Result<(), ReadFault>
 }
 
 /// The record of a line with this frame.
-fn line_record(frame: Result<Bytes, Fault>) -> Record
+fn line_record(
+    time: Option<Time>,
+    direction: Option<Direction>,
+    frame: Result<Bytes, Fault>,
+) -> Record
     ensures link_type { result.link_type ≡ 248 }
-    ensures time { result.time ≡ None }
+    ensures time { result.time ≡ time }
+    ensures direction { result.direction ≡ direction }
     ensures frame { result.frame ≡ frame }
 {
     Record {
-        time: None,
+        time,
+        direction,
         link_type: LINE_LINK,
         frame,
     }
@@ -334,20 +356,30 @@ fn digits_of(alloc: Global, line: &[u8]) -> Result<Vec<u8>, AllocError>
     Ok(digits)
 }
 
-/// Reads the line that the bytes begin with. There is no record where it has nothing but blanks and a comment.
-#[tactic(auto, using(crate::proofs::Lines::line_front))]
+/// The digits of a line behind its lead.
+fn line_digits(alloc: Global, line: &[u8], lead: &Lead) -> Result<Vec<u8>, AllocError>
+    requires { (lead.now ≡ leads.lead_of line.now) × (lead.now.length ≤ length line.now) }
+    ensures { IfOk result (λ digits. digits.items ≡ digits_in (said_in line.now)) }
+{
+    digits_of(alloc, &line[lead.length..])
+}
+
+/// Reads the line that the bytes begin with. There is no record where it has nothing behind its lead but blanks and a comment.
 fn read_line(alloc: Global, held: &[u8]) -> Result<Option<Record>, AllocError>
     ensures { IfOk result (IsLineFound held.now) }
 {
     let length = line_length(held);
     if length > MAX_LINE {
-        return Ok(Some(line_record(Err(Fault::TooLong))));
+        return Ok(Some(line_record(None, None, Err(Fault::TooLong))));
     }
-    let digits = digits_of(alloc, &held[..length])?;
+    let line = &held[..length];
+    let lead = lead_of(line);
+    let digits = line_digits(alloc, line, &lead)?;
     if digits.is_empty() {
         return Ok(None);
     }
-    Ok(Some(line_record(read_hex(alloc, &digits)?)))
+    let frame = read_hex(alloc, &digits)?;
+    Ok(Some(line_record(lead.time, lead.direction, frame)))
 }
 
 /// The bytes that hex text says.

@@ -4,7 +4,7 @@ use Rattle.std.specs.Prelude.{replicate}
 use Rattle.sctp_list_lemmas.specs.Serial.{distance}
 use Rattle.sctp_base.specs.Field as field
 use Rattle.sctp_show.specs.declared.filter.TsnRange.{TsnRange}
-use Rattle.sctp_show.specs.Filter.{is_data, tsn_of, stream_of, payload_type_of, is_asked, is_asked_of, is_in_range}
+use Rattle.sctp_show.specs.Filter.{tsn_of, stream_of, payload_type_of, is_asked, is_asked_of, is_in_range}
 
 -- ## What a chunk says
 

@@ -1,5 +1,5 @@
 -- What is written for records.
-use Rattle.std.specs.Prelude.{◌≡◌, ◌≢◌, ℕ, ◌+◌, ◌≤◌, ◌<◌, ◌⊎◌, Bool, true, false, if◌then◌else◌, List, [], ◌∷◌, ◌++◌, length, drop, codes, decimal, MatchResult, IsSomeAnd}
+use Rattle.std.specs.Prelude.{◌≡◌, ◌≢◌, ℕ, ◌+◌, ◌≤◌, ◌<◌, ◌⊎◌, true, false, if◌then◌else◌, List, [], ◌∷◌, ◌++◌, length, drop, codes, decimal, MatchResult, IsSomeAnd}
 use Rattle.sctp_base.specs.Walk.{Walks}
 use Rattle.sctp_packets.specs.Packet.{after}
 use Rattle.sctp_dissect.specs.declared.dissection.Dissection.{Dissection}
@@ -11,7 +11,7 @@ use Rattle.sctp_capture.specs.Frame.{InFrame}
 use Rattle.sctp_show.specs.declared.page.Form.{Form}
 use Rattle.sctp_show.specs.declared.page.Form.TheVariants.{Text, Json}
 use Rattle.sctp_show.specs.declared.text.Options.{Options}
-use Rattle.sctp_show.specs.Sum.{sum_of}
+use Rattle.sctp_show.specs.Sum.{sum_of, sum_for}
 use Rattle.sctp_show.specs.Filter.{passes, asks_nothing}
 
 -- a record's number, and what it shows
@@ -34,10 +34,10 @@ fault_line o number fault =
 
 -- ---- a record that has a frame
 
--- the datagram in a frame: all of it, or what an IP packet carries
-pub record Holds (link_type port : ℕ) (frame datagram : List ℕ) : Type 0 where
-  pub alone : link_type ≡ 248 → datagram ≡ frame
-  pub carried : link_type ≢ 248 → InFrame link_type port frame datagram
+-- the datagram in a frame: all of it, or what an IP packet carries, of which so many bytes are missing
+pub record Holds (link_type port : ℕ) (frame datagram : List ℕ) (missing : ℕ) : Type 0 where
+  pub alone : link_type ≡ 248 → (datagram ≡ frame) × (missing ≡ 0)
+  pub carried : link_type ≢ 248 → InFrame link_type port frame datagram missing
 
 -- what a datagram shows
 pub record IsSeen (sum : List ℕ → ℕ) (datagram : List ℕ) (d : Dissection) : Type 0 where
@@ -47,9 +47,11 @@ pub record IsSeen (sum : List ℕ → ℕ) (datagram : List ℕ) (d : Dissection
   pub fault : 12 ≤ length datagram → Stops d.fault d.rest
 
 -- A packet that the filter lets pass has its number, and what it shows. Of another one nothing is written.
-pub record IsPacketText (o : Options) (number : ℕ) (datagram text : List ℕ) : Type 0 where
+-- No checksum is computed where bytes are missing.
+pub record IsPacketText (o : Options) (number : ℕ) (datagram : List ℕ) (missing : ℕ)
+    (text : List ℕ) : Type 0 where
   pub seen : Dissection
-  pub is_seen : IsSeen (sum_of o.sum) datagram seen
+  pub is_seen : IsSeen (sum_of (sum_for o.sum missing)) datagram seen
   pub shown : passes o.filter seen ≡ true
       → (shown : List ℕ) × (text ≡ numbered_text o.form number shown)
   pub hidden : passes o.filter seen ≡ false → text ≡ []
@@ -57,9 +59,10 @@ pub record IsPacketText (o : Options) (number : ℕ) (datagram text : List ℕ) 
 -- the text of a record with a frame: that of the packet in it, or why there is none
 abbrev pub IsFrameText : Options → ℕ → ℕ → List ℕ → List ℕ → Type 0
 IsFrameText o number link_type frame text =
-    ((datagram : List ℕ) × Holds link_type o.port frame datagram
-    × IsPacketText o number datagram text)
-    ⊎ (((datagram : List ℕ) → Holds link_type o.port frame datagram → ⊥)
+    ((datagram : List ℕ) × (missing : ℕ) × Holds link_type o.port frame datagram missing
+    × IsPacketText o number datagram missing text)
+    ⊎ (((datagram : List ℕ) → (missing : ℕ)
+    → Holds link_type o.port frame datagram missing → ⊥)
     × ((fault : Fault) × (text ≡ fault_line o number fault)))
 
 -- ---- records

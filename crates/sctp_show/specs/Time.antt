@@ -1,5 +1,5 @@
 -- How long after a first record another one was captured.
-use Rattle.std.specs.Prelude.{◌≡◌, ℕ, ◌+◌, ◌*◌, ◌<◌, true, false, if◌then◌else◌}
+use Rattle.std.specs.Prelude.{◌≡◌, ℕ, ◌+◌, ◌*◌, true, false, if◌then◌else◌}
 use Rattle.sctp_capture.specs.declared.record.Time.{Time}
 use Rattle.sctp_show.specs.declared.time.Elapsed.{Elapsed}
 

@@ -82,8 +82,10 @@ fn put_brief_data(text: &mut String, bytes: &[u8]) -> Result<(), AllocError> {
         Some(identifier) => put_payload_type(text, identifier)?,
         None => put_number(text, " fragment ", u32_at(bytes, 16))?,
     }
-    let payload = payload_in(bytes, if is_interleaved { 20 } else { 16 });
-    put_all(text, &[" ", Buffer::new().format(payload.len()), " bytes"])?;
+    let at = if is_interleaved { 20 } else { 16 };
+    let payload = payload_in(bytes, at);
+    let length = (u16_at(bytes, 2) as usize).saturating_sub(at);
+    put_all(text, &[" ", Buffer::new().format(length), " bytes"])?;
     if flags % 4 == 3 && payload_type_of(bytes) == Some(DCEP) {
         put_brief_message(text, payload)?;
     }
@@ -163,16 +165,24 @@ fn put_brief_strict(text: &mut String, chunk: &ChunkKind, bytes: &[u8]) -> Resul
     }
 }
 
-/// What the line of a packet says of a chunk, behind its name.
-pub fn put_brief(text: &mut String, item: &Item) -> Result<(), AllocError> {
-    let bytes = item.bytes.as_slice();
-    let typ = type_of(item);
+/// The name of a chunk, and what the fixed part of DATA, I-DATA, INIT or INIT-ACK says, if all of it is there.
+pub fn put_brief_cut(text: &mut String, bytes: &[u8]) -> Result<(), AllocError> {
+    let (typ, _) = first_two(bytes);
     ChunkName(typ).put(text)?;
     if is_data(bytes) {
-        put_brief_data(text, bytes)?;
-    } else if (typ == 1 || typ == 2) && bytes.len() >= 20 {
-        put_brief_init(text, bytes)?;
-    } else if typ == 130 {
+        return put_brief_data(text, bytes);
+    }
+    if (typ == 1 || typ == 2) && bytes.len() >= 20 {
+        return put_brief_init(text, bytes);
+    }
+    Ok(())
+}
+
+/// What the line of a packet says of a chunk, its name first.
+pub fn put_brief(text: &mut String, item: &Item) -> Result<(), AllocError> {
+    let bytes = item.bytes.as_slice();
+    put_brief_cut(text, bytes)?;
+    if type_of(item) == 130 {
         put_brief_reconfig(text, bytes)?;
     }
     match &item.reading {

@@ -1,5 +1,7 @@
 //! The checksum that datagrams are looked at under.
 
+ghost use Rattle.std.specs.Prelude.{◌≡◌};
+ghost use Rattle.sctp_show.specs.Sum as sums;
 ghost use Rattle.sctp_show.specs.Sum.{sum_of};
 
 use crc32c::Crc;
@@ -10,6 +12,16 @@ use sctp_base::util::Checksum;
 pub enum Sum {
     Crc32c,
     Unchecked,
+}
+
+/// The checksum of a datagram of which so many bytes are missing: none, where any are.
+pub fn sum_for(sum: Sum, missing: usize) -> Sum
+    ensures { result ≡ sums.sum_for sum missing }
+{
+    if missing == 0 {
+        return sum;
+    }
+    Sum::Unchecked
 }
 
 impl Checksum for Sum {

@@ -425,6 +425,9 @@ fn put_raw(alloc: Global, page: &mut Page, raw: &RawChunk) -> Result<(), AllocEr
 /// What a chunk says, or shows.
 fn body_of(alloc: Global, form: Form, item: &Item) -> Result<Page, AllocError> {
     let mut body = Page::new(alloc, form);
+    if form == Form::Json {
+        body.bytes(alloc, "Bytes", "bytes", item.bytes.as_slice())?;
+    }
     match &item.reading {
         Reading::Strict(chunk) => put_strict(alloc, &mut body, chunk, item)?,
         Reading::Raw(raw) => put_raw(alloc, &mut body, raw)?,

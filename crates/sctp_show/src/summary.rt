@@ -17,6 +17,7 @@ pub struct Summary {
     pub start: Option<Time>,
     others: u64,
     packets: u64,
+    cut: u64,
     refused: u64,
     wrong_checksums: u64,
     not_shown: u64,
@@ -30,6 +31,7 @@ impl Summary {
             start: None,
             others: 0,
             packets: 0,
+            cut: 0,
             refused: 0,
             wrong_checksums: 0,
             not_shown: 0,
@@ -54,15 +56,18 @@ impl Summary {
         }
     }
 
-    /// Counts a packet and its chunks. One with a raw chunk, or bytes left over, is refused.
-    pub fn count_packet(&mut self, seen: &Dissection, sum: Sum) {
+    /// Counts a packet and its chunks. One of which so many bytes are missing, if any, is cut off, and else one with a raw chunk, or bytes
+    /// left over, is refused.
+    pub fn count_packet(&mut self, seen: &Dissection, sum: Sum, missing: usize) {
         self.packets = self.packets.saturating_add(1);
         for item in &seen.items {
             if let Some(count) = self.chunks.get_mut(type_of(item) as usize) {
                 *count = count.saturating_add(1);
             }
         }
-        if is_refused(seen) {
+        if missing > 0 {
+            self.cut = self.cut.saturating_add(1);
+        } else if is_refused(seen) {
             self.refused = self.refused.saturating_add(1);
         }
         if sum == Sum::Crc32c && is_wrong(seen) {
@@ -94,6 +99,9 @@ impl Summary {
         }
         put_count(text, "", self.packets, " packets, ")?;
         put_count(text, "", self.not_shown, " not shown, ")?;
+        if self.cut > 0 {
+            put_count(text, "", self.cut, " cut off, ")?;
+        }
         put_count(text, "", self.refused, " refused, ")?;
         put_count(text, "", self.wrong_checksums, " wrong checksums;")
     }
@@ -104,6 +112,7 @@ impl Summary {
         put_count(text, ",\"not_asked_for\":", self.others, "")?;
         put_count(text, ",\"packets\":", self.packets, "")?;
         put_count(text, ",\"not_shown\":", self.not_shown, "")?;
+        put_count(text, ",\"cut_off\":", self.cut, "")?;
         put_count(text, ",\"refused\":", self.refused, "")?;
         put_count(
             text,

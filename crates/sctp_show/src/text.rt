@@ -6,8 +6,8 @@ ghost use Rattle.sctp_show.specs.Text.{IsSeen, IsPacketText, IsText, IsFrameText
 ghost use Rattle.sctp_show.specs.Sum.{sum_of};
 ghost use Rattle.sctp_show.specs.Filter.{passes};
 
-use crate::brief::put_brief;
-use crate::checksum::Sum;
+use crate::brief::{put_brief, put_brief_cut};
+use crate::checksum::{Sum, sum_for};
 use crate::chunk_text::put_block;
 use crate::filter::Filter;
 use crate::page::{Form, Page, put_all, put_quoted};
@@ -16,7 +16,7 @@ use crate::time::time_since;
 use bytes::Bytes;
 use itoa::Buffer;
 use sctp_capture::frame::{Datagram, datagram_in};
-use sctp_capture::record::{Fault, Record, Time};
+use sctp_capture::record::{Direction, Fault, Record, Time};
 use sctp_dissect::dissection::{Dissection, Fault as WalkFault, Header, Item, dissect};
 use std::alloc::{AllocError, Global};
 
@@ -56,10 +56,25 @@ fn put_time(
     }
 }
 
+/// Whither a datagram went, where its addresses are not known.
+fn put_direction(page: &mut Page, direction: Option<Direction>) -> Result<(), AllocError> {
+    let (line, member) = match direction {
+        None => (" - > -", ""),
+        Some(Direction::In) => (" peer > here", ",\"direction\":\"in\""),
+        Some(Direction::Out) => (" here > peer", ",\"direction\":\"out\""),
+    };
+    page.in_text(line)?;
+    page.in_json(member)
+}
+
 /// Between which addresses a datagram went.
-fn put_ends(page: &mut Page, datagram: &Datagram<'_>) -> Result<(), AllocError> {
+fn put_ends(
+    page: &mut Page,
+    direction: Option<Direction>,
+    datagram: &Datagram<'_>,
+) -> Result<(), AllocError> {
     let Some((source, destination)) = &datagram.ends else {
-        return page.in_text(" - > -");
+        return put_direction(page, direction);
     };
     if page.is_text() {
         return write!(page.text, " {source} > {destination}");
@@ -147,8 +162,20 @@ fn put_stop(text: &mut String, fault: Option<WalkFault>) -> Result<(), AllocErro
     }
 }
 
+/// What is there of a chunk that is cut off, how many bytes are missing, and the end of the line.
+fn put_missing(text: &mut String, seen: &Dissection, missing: usize) -> Result<(), AllocError> {
+    if seen.fault == Some(WalkFault::LengthPastEnd) {
+        text.push_str(if seen.items.is_empty() { " " } else { ", " })?;
+        put_brief_cut(text, seen.rest.as_slice())?;
+    }
+    put_all(
+        text,
+        &[" [", Buffer::new().format(missing), " bytes missing]\n"],
+    )
+}
+
 /// The line of a packet behind its addresses.
-fn put_line(page: &mut Page, seen: &Dissection) -> Result<(), AllocError> {
+fn put_line(page: &mut Page, seen: &Dissection, missing: usize) -> Result<(), AllocError> {
     if let Some(header) = &seen.header {
         put_header(page, header)?;
     }
@@ -156,6 +183,9 @@ fn put_line(page: &mut Page, seen: &Dissection) -> Result<(), AllocError> {
         return Ok(());
     }
     put_briefs(&mut page.text, &seen.items)?;
+    if missing > 0 {
+        return put_missing(&mut page.text, seen, missing);
+    }
     put_stop(&mut page.text, seen.fault)
 }
 
@@ -194,18 +224,29 @@ fn put_rest(alloc: Global, page: &mut Page, seen: &Dissection) -> Result<(), All
     page.bytes(alloc, "Bytes", "rest", seen.rest.as_slice())
 }
 
+/// How many bytes are missing in JSON. In text the line of the packet says it.
+fn put_missing_member(page: &mut Page, missing: usize) -> Result<(), AllocError> {
+    if missing == 0 {
+        return Ok(());
+    }
+    page.in_json(",\"missing\":")?;
+    page.in_json(Buffer::new().format(missing))
+}
+
 /// What a packet shows below its line.
 fn put_below(
     alloc: Global,
     page: &mut Page,
     options: &Options,
     seen: &Dissection,
+    missing: usize,
 ) -> Result<(), AllocError> {
     if page.is_text() && !options.is_full {
         return Ok(());
     }
-    put_blocks(alloc, page, seen, options.sum)?;
+    put_blocks(alloc, page, seen, sum_for(options.sum, missing))?;
     put_rest(alloc, page, seen)?;
+    put_missing_member(page, missing)?;
     page.in_json("}\n")
 }
 
@@ -214,20 +255,20 @@ fn seen_text(
     alloc: Global,
     options: &Options,
     start: &Option<Time>,
-    time: &Option<Time>,
+    record: &Record,
     datagram: &Datagram<'_>,
     seen: &Dissection,
 ) -> Result<String, AllocError> {
     let mut page = Page::new(alloc, options.form);
-    put_time(&mut page, options, start, time)?;
-    put_ends(&mut page, datagram)?;
-    put_line(&mut page, seen)?;
-    put_below(alloc, &mut page, options, seen)?;
+    put_time(&mut page, options, start, &record.time)?;
+    put_ends(&mut page, record.direction, datagram)?;
+    put_line(&mut page, seen, datagram.missing)?;
+    put_below(alloc, &mut page, options, seen, datagram.missing)?;
     Ok(page.text)
 }
 
 /// What a datagram shows.
-fn seen_in(alloc: Global, sum: Sum, datagram: &[u8]) -> Result<Dissection, AllocError>
+pub fn seen_in(alloc: Global, sum: Sum, datagram: &[u8]) -> Result<Dissection, AllocError>
     ensures { IfOk result (IsSeen (sum_of sum) datagram.now) }
 {
     let bytes = Bytes::copy_from_slice(alloc, datagram)?;
@@ -239,7 +280,7 @@ fn passed_text(
     alloc: Global,
     options: &Options,
     number: u64,
-    time: &Option<Time>,
+    record: &Record,
     datagram: &Datagram<'_>,
     seen: &Dissection,
     summary: &mut Summary,
@@ -254,8 +295,9 @@ fn passed_text(
         summary.count_other();
         return Ok(String::new(alloc));
     }
-    summary.count_packet(seen, options.sum);
-    let shown = seen_text(alloc, options, &summary.start, time, datagram, seen)?;
+    let missing = datagram.missing;
+    summary.count_packet(seen, sum_for(options.sum, missing), missing);
+    let shown = seen_text(alloc, options, &summary.start, record, datagram, seen)?;
     numbered(alloc, options.form, number, &shown)
 }
 
@@ -264,15 +306,19 @@ fn packet_text(
     alloc: Global,
     options: &Options,
     number: u64,
-    time: &Option<Time>,
+    record: &Record,
     datagram: &Datagram<'_>,
     summary: &mut Summary,
 ) -> Result<String, AllocError>
-    ensures { IfOk result
-        (λ text. IsPacketText options.now number datagram.now.bytes.now (string_bytes text)) }
+    ensures { IfOk result (λ text. IsPacketText options.now number datagram.now.bytes.now
+        datagram.now.missing (string_bytes text)) }
 {
-    let seen = seen_in(alloc, options.sum, datagram.bytes)?;
-    passed_text(alloc, options, number, time, datagram, &seen, summary)
+    let seen = seen_in(
+        alloc,
+        sum_for(options.sum, datagram.missing),
+        datagram.bytes,
+    )?;
+    passed_text(alloc, options, number, record, datagram, &seen, summary)
 }
 
 /// A record's number, and what it shows.
@@ -326,7 +372,7 @@ fn frame_text(
         (string_bytes text)) }
 {
     match datagram_in(record.link_type, frame.as_slice(), options.port) {
-        Ok(datagram) => packet_text(alloc, options, number, &record.time, &datagram, summary),
+        Ok(datagram) => packet_text(alloc, options, number, record, &datagram, summary),
         Err(fault) => fault_line(alloc, options, number, fault, summary),
     }
 }

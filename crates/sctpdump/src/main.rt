@@ -2,6 +2,9 @@
 #![tactic(auto)]
 
 use clap::{Arg, ArgAction, ArgMatches, Command};
+use sctp_follow::associations::Associations;
+use sctp_follow::summarize::summarize;
+use sctp_follow::text::summary_text;
 use sctp_show::checksum::Sum;
 use sctp_show::filter::Filter;
 use sctp_show::page::Form;
@@ -34,6 +37,9 @@ const FULL_HELP: &str = "Print all that each chunk says, as lines";
 const ABSOLUTE_HELP: &str = "Print times as they were captured, not since the first record";
 
 const JSON_HELP: &str = "Print each record as a JSON object on a line, with all that it says";
+
+const SUMMARY_HELP: &str =
+    "Print no packets, but for each association what went each way: chunks, bytes, TSNs, streams";
 
 const COUNT_HELP: &str = "End after COUNT records are shown";
 
@@ -98,15 +104,49 @@ fn report_counts(rt: &HostRuntime, name: &str, counts: Counts) -> anyhow::Result
     Ok(false)
 }
 
+/// Writes a text.
+fn write_out<W: Write>(output: &mut W, text: &str) -> Result<(), RunFault> {
+    match output.write_all(text.as_bytes()) {
+        Ok(()) => Ok(()),
+        Err(e) => Err(RunFault::Output(e.raw_os_error())),
+    }
+}
+
+/// Prints what an input is summed up to.
+fn run_summary<R: Read + Drop, W: Write>(
+    alloc: Global,
+    options: &Options,
+    input: R,
+    output: &mut W,
+) -> Result<Counts, RunFault> {
+    let mut associations = Associations::new(alloc);
+    let counts = summarize(alloc, options, input, &mut associations)?;
+    let text = summary_text(alloc, options, counts, &associations)?;
+    write_out(output, &text)?;
+    Ok(counts)
+}
+
+/// How an input is printed.
+#[derive(Drop)]
+struct Task {
+    options: Options,
+    /// Whether only what it is summed up to is printed.
+    is_summary: bool,
+}
+
 /// Prints an input, and says what went wrong. Answers whether all of it was read.
 fn run_on<R: Read + Drop>(
     rt: &HostRuntime,
-    options: &Options,
+    task: &Task,
     name: &str,
     input: R,
 ) -> anyhow::Result<bool> {
     let mut output = BufWriter::with_capacity(rt.alloc(), AT_ONCE, io::writer(rt))?;
-    let result = run(rt.alloc(), options, input, &mut output);
+    let result = if task.is_summary {
+        run_summary(rt.alloc(), &task.options, input, &mut output)
+    } else {
+        run(rt.alloc(), &task.options, input, &mut output)
+    };
     match (result, output.flush()) {
         (Err(fault), _) => report_fault(rt, name, fault),
         (Ok(_), Err(error)) => report_output(rt, error),
@@ -114,25 +154,25 @@ fn run_on<R: Read + Drop>(
     }
 }
 
-fn run_file(rt: &HostRuntime, options: &Options, file: &str) -> anyhow::Result<bool> {
+fn run_file(rt: &HostRuntime, task: &Task, file: &str) -> anyhow::Result<bool> {
     if file == "-" {
-        return run_on(rt, options, STANDARD_INPUT, rt.reader());
+        return run_on(rt, task, STANDARD_INPUT, rt.reader());
     }
     match fs::open(rt, file) {
-        Ok(input) => run_on(rt, options, file, input),
+        Ok(input) => run_on(rt, task, file, input),
         Err(error) => report_error(rt, file, error),
     }
 }
 
 /// Prints each file under its name.
-fn run_each(rt: &HostRuntime, options: &Options, files: &[&str]) -> anyhow::Result<bool> {
+fn run_each(rt: &HostRuntime, task: &Task, files: &[&str]) -> anyhow::Result<bool> {
     let mut is_all = true;
     for file in files {
-        let heading = heading(rt.alloc(), options.form, file)?;
+        let heading = heading(rt.alloc(), task.options.form, file)?;
         if let Err(error) = io::writer(rt).write_all(heading.as_bytes()) {
             return report_output(rt, error);
         }
-        is_all = run_file(rt, options, file)? && is_all;
+        is_all = run_file(rt, task, file)? && is_all;
     }
     Ok(is_all)
 }
@@ -199,7 +239,8 @@ fn with_forms<'a>(alloc: Global, command: Command<'a>) -> Result<Command<'a>, Al
     command
         .arg(flag(alloc, "full", FULL_HELP).short('V'))?
         .arg(flag(alloc, "absolute", ABSOLUTE_HELP).short('t'))?
-        .arg(flag(alloc, "json", JSON_HELP))
+        .arg(flag(alloc, "json", JSON_HELP))?
+        .arg(flag(alloc, "summary", SUMMARY_HELP))
 }
 
 /// Adds the words that say which records are printed.
@@ -266,11 +307,11 @@ fn options_in(matches: &ArgMatches<'_>, filter: Filter) -> Option<Options> {
 }
 
 /// Prints the files of the command line, each under its name where there are more than one.
-fn run_files(rt: &HostRuntime, options: &Options, files: &[&str]) -> anyhow::Result<ExitCode> {
+fn run_files(rt: &HostRuntime, task: &Task, files: &[&str]) -> anyhow::Result<ExitCode> {
     let is_all = match files {
-        [] => run_file(rt, options, "-")?,
-        [file] => run_file(rt, options, file)?,
-        _ => run_each(rt, options, files)?,
+        [] => run_file(rt, task, "-")?,
+        [file] => run_file(rt, task, file)?,
+        _ => run_each(rt, task, files)?,
     };
     if is_all {
         return Ok(ExitCode::SUCCESS);
@@ -303,5 +344,9 @@ fn main(rt: HostRuntime) -> anyhow::Result<ExitCode> {
         eprintln!(rt; "sctpdump: the port is a number up to 65535, and the count a number")?;
         return Ok(ExitCode::from(2));
     };
-    run_files(&rt, &options, matches.get_strs("file").unwrap_or(&[]))
+    let task = Task {
+        options,
+        is_summary: matches.get_flag("summary"),
+    };
+    run_files(&rt, &task, matches.get_strs("file").unwrap_or(&[]))
 }

@@ -10,14 +10,14 @@ returns-then-held-lt-BLOCK_HEADER g c =
     let some : 0 < length c.fill.new.self.held.items = grind (arith, common_steps) in
     let few : length c.fill.new.self.held.items < 12 = grind (arith, common_steps) in
     block_cut (known_of c.args.section.now) _ (g.R.Read.remaining c.fill.new.self.reader) _ c.fill.new.self.held.items c.refused.result c.if-section.false
-    c.in_ok-fill.ensures.keeps c.in_ok-fill.ensures.full some few c.refused.ensures c.in_ok-skip.ensures
+    c.in_ok-fill.ensures.keeps c.in_ok-fill.ensures.full some few c.refused.ensures.frame c.in_ok-skip.ensures
 
 pub returns-in-None : goal.returns-in-None
 returns-in-None g c =
     let long : 12 ≤ length c.fill.new.self.held.items = grind (arith, common_steps) in
     let none : (h : BlockHead) → IsBlockHead c.args.section.now.order c.fill.new.self.held.items h → ⊥ = rw c.held-3.ensures at c.in-None.ensures.none in
     block_bad (known_of c.args.section.now) _ (g.R.Read.remaining c.fill.new.self.reader) c.fill.new.self.held.items c.refused-in-None.result c.if-section.false
-    c.in_ok-fill.ensures.keeps long none c.refused-in-None.ensures
+    c.in_ok-fill.ensures.keeps long none c.refused-in-None.ensures.frame
 
 pub returns-in-Some-found : goal.returns-in-Some-found
 returns-in-Some-found g c =

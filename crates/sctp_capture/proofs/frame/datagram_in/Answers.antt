@@ -3,10 +3,10 @@ use Rattle.sctp_capture.proofs.Frames.{of_err, no_room, only_place}
 use Rattle.sctp_capture.proofs.frame.datagram_in.Goals as goal
 
 pub returns-in_err-at-clause-refused : goal.returns-in_err-at-clause-refused
-returns-in_err-at-clause-refused c = of_err c.from_residual.result _ (λ e bytes it.
-    no_room c.args.port c.args.frame.now bytes it.at (c.in_err-at.ensures.refused it.at it.place) it.inside)
+returns-in_err-at-clause-refused c = of_err c.from_residual.result _ (λ e bytes missing it.
+    no_room c.args.port c.args.frame.now bytes missing it.at (c.in_err-at.ensures.refused it.at it.place) it.inside)
 
 pub returns-clause-refused : goal.returns-clause-refused
-returns-clause-refused c = IfErr-weaker c.inside_ip.result _ _ (λ e no bytes it.
+returns-clause-refused c = IfErr-weaker c.inside_ip.result _ _ (λ e no bytes missing it.
     let same = only_place c.args.link_type c.args.frame.now it.at c.in_ok-at.at it.place c.in_ok-at.ensures.found in
-    no bytes (rw same at it.inside)) c.inside_ip.ensures.refused
+    no bytes missing (rw same at it.inside)) c.inside_ip.ensures.refused

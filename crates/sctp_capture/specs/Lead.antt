@@ -1,0 +1,69 @@
+-- What logs write before the hex text of a packet: usrsctp, browsers, and what text2pcap reads.
+use Rattle.std.specs.Prelude.{ℕ, ◌+◌, ◌-◌, ◌*◌, Bool, true, false, ◌==◌, ◌||◌, ◌&&◌, leb, if◌then◌else◌, List, [], ◌∷◌, length, slice_index, slice_range, codes, Some, None}
+use Rattle.sctp_capture.specs.declared.record.Direction.{Direction}
+use Rattle.sctp_capture.specs.declared.record.Direction.TheVariants.{In, Out}
+use Rattle.sctp_capture.specs.declared.lead.Lead.{Lead}
+
+-- ---- patterns
+
+-- a byte is what a pattern has in its place: `M` stands for the mark `I` or `O`, `d` for a digit, any other byte for itself
+abbrev pub fits : ℕ → ℕ → Bool
+fits wanted byte =
+    if wanted == 77 then byte == 73 || byte == 79
+    else if wanted == 100 then leb 48 byte && leb byte 57
+    else byte == wanted
+
+abbrev pub begins_so : List ℕ → List ℕ → Bool
+begins_so [] bytes = true
+begins_so (w ∷ ws) [] = false
+begins_so (w ∷ ws) (x ∷ xs) = fits w x && begins_so ws xs
+
+-- ---- what stands in a lead
+
+-- `I` marks a packet that came in, and `O` one that went out
+abbrev pub direction_of : ℕ → Direction
+direction_of mark = if mark == 73 then In else Out
+
+abbrev pub two_at : List ℕ → ℕ → ℕ
+two_at line at = (slice_index line at - 48) * 10 + (slice_index line (at + 1) - 48)
+
+abbrev pub three_at : List ℕ → ℕ → ℕ
+three_at line at = two_at line at * 10 + (slice_index line (at + 2) - 48)
+
+-- the seconds of a time of day, as `12:34:56`
+abbrev pub seconds_at : List ℕ → ℕ → ℕ
+seconds_at line at = two_at line at * 3600 + (two_at line (at + 3) * 60 + two_at line (at + 6))
+
+-- so many bytes, the first of which is the mark, with a time of day that has so many microseconds
+abbrev pub timed_lead : List ℕ → ℕ → ℕ → Lead
+timed_lead line span microseconds =
+    record {
+      length = span;
+      direction = Some (direction_of (slice_index line 0));
+      time = Some (record {
+        seconds = seconds_at line 2;
+        fraction = microseconds;
+        nanoseconds = false;
+      });
+    }
+
+abbrev pub marked_lead : List ℕ → Lead
+marked_lead line =
+    record { length = 7; direction = Some (direction_of (slice_index line 0)); time = None }
+
+abbrev pub no_lead : Lead
+no_lead = record { length = 0; direction = None; time = None }
+
+-- The lead of a line: a mark, a time of day in micro- or milliseconds, if there is one, and the offset 0. Other lines have none.
+abbrev pub lead_of : List ℕ → Lead
+lead_of line =
+    if begins_so (codes "M dd:dd:dd.dddddd 0000 ") line
+    then timed_lead line 23 (three_at line 11 * 1000 + three_at line 14)
+    else if begins_so (codes "M dd:dd:dd.ddd 0000 ") line
+    then timed_lead line 20 (three_at line 11 * 1000)
+    else if begins_so (codes "M 0000 ") line then marked_lead line
+    else no_lead
+
+-- what a line says behind its lead
+abbrev pub said_in : List ℕ → List ℕ
+said_in line = slice_range line (lead_of line).length (length line)

@@ -1,0 +1,259 @@
+//! The associations of a capture, by the ports and the verification tags of its packets.
+
+use crate::flow::{Flow, counted};
+use sctp_base::field::read_u32;
+use sctp_capture::record::Time;
+use sctp_dissect::dissection::{Dissection, Header, Item};
+use std::alloc::{AllocError, Global};
+use std::net::IpAddr;
+
+/// How many associations are kept.
+const MAX_ASSOCIATIONS: usize = 4_096;
+
+/// The types of chunks that name a tag, or may reflect one.
+const INIT: u8 = 1;
+
+const INIT_ACK: u8 = 2;
+
+const ABORT: u8 = 6;
+
+const SHUTDOWN_COMPLETE: u8 = 14;
+
+/// The two ways of an association: that of its first packet, and the other one.
+#[derive(Clone, Copy, PartialEq, Eq)]
+pub enum Way {
+    Forth,
+    Back,
+}
+
+/// What says which association a packet is of.
+#[derive(Clone, Copy)]
+pub struct Place {
+    /// The addresses of source and destination, where they are known.
+    pub ends: Option<(IpAddr, IpAddr)>,
+    pub source_port: u16,
+    pub destination_port: u16,
+    pub tag: u32,
+    /// The tag that an INIT or INIT-ACK asks for.
+    pub initiate_tag: Option<u32>,
+    /// Whether it is an INIT, which has no tag of its own.
+    pub is_opening: bool,
+    /// Whether its tag is that of the other way (RFC 4960 8.5.1).
+    pub is_reflected: bool,
+}
+
+/// An association.
+#[derive(Drop)]
+pub struct Association {
+    /// What its first packet says.
+    pub place: Place,
+    pub forth: Flow,
+    pub back: Flow,
+}
+
+/// The associations in the order of their first packets.
+#[derive(Drop)]
+pub struct Associations {
+    pub items: Vec<Association>,
+    /// How many packets are of no association that is kept.
+    pub others: u64,
+    /// The first time that a record had.
+    pub start: Option<Time>,
+}
+
+/// What says which association a packet is of.
+pub fn place_of(header: &Header, items: &[Item], ends: Option<(IpAddr, IpAddr)>) -> Place {
+    let first = match items.first() {
+        Some(item) => item.bytes.as_slice(),
+        None => b"",
+    };
+    let typ = first.first().copied().unwrap_or(0);
+    let flags = first.get(1).copied().unwrap_or(0);
+    let initiate_tag = if (typ == INIT || typ == INIT_ACK) && first.len() >= 8 {
+        Some(read_u32(first, 4))
+    } else {
+        None
+    };
+    Place {
+        ends,
+        source_port: header.fields.source_port,
+        destination_port: header.fields.destination_port,
+        tag: header.fields.verification_tag,
+        initiate_tag,
+        is_opening: typ == INIT,
+        is_reflected: (typ == ABORT || typ == SHUTDOWN_COMPLETE) && flags % 2 == 1,
+    }
+}
+
+/// Notes the tags that a packet says, of its own way and of the other one.
+fn note_tags(own: &mut Flow, other: &mut Flow, place: &Place) {
+    if !place.is_opening && !place.is_reflected {
+        own.tag = Some(place.tag);
+    }
+    if place.initiate_tag.is_some() {
+        other.tag = place.initiate_tag;
+    }
+}
+
+impl Association {
+    /// Nothing is noted yet.
+    fn new(alloc: Global, place: Place) -> Result<Self, AllocError> {
+        Ok(Association {
+            place,
+            forth: Flow::new(alloc, None)?,
+            back: Flow::new(alloc, None)?,
+        })
+    }
+
+    /// Whether a packet has the ports of this way.
+    fn has_ports(&self, way: Way, place: &Place) -> bool {
+        let (source, destination) = match way {
+            Way::Forth => (self.place.source_port, self.place.destination_port),
+            Way::Back => (self.place.destination_port, self.place.source_port),
+        };
+        place.source_port == source && place.destination_port == destination
+    }
+
+    /// Whether a packet has the addresses of this way, as far as they are known.
+    fn has_ends(&self, way: Way, place: &Place) -> bool {
+        let (Some(mine), Some(its)) = (&self.place.ends, &place.ends) else {
+            return true;
+        };
+        match way {
+            Way::Forth => mine.0 == its.0 && mine.1 == its.1,
+            Way::Back => mine.0 == its.1 && mine.1 == its.0,
+        }
+    }
+
+    /// Whether a packet has the tag of this way, or asks for that of the other one.
+    fn has_tag(&self, way: Way, place: &Place) -> bool {
+        let (own, other) = match way {
+            Way::Forth => (self.forth.tag, self.back.tag),
+            Way::Back => (self.back.tag, self.forth.tag),
+        };
+        if place.is_opening {
+            return place.initiate_tag.is_some() && place.initiate_tag == other;
+        }
+        if place.is_reflected {
+            return other == Some(place.tag);
+        }
+        own == Some(place.tag)
+    }
+
+    /// Whether a packet may be of this way, the tag of which is not known.
+    fn is_open(&self, way: Way, place: &Place) -> bool {
+        let tag = match way {
+            Way::Forth => self.forth.tag,
+            Way::Back => self.back.tag,
+        };
+        tag.is_none() && !place.is_opening && !place.is_reflected && self.has_ends(way, place)
+    }
+
+    /// The way that a packet goes, if it is one of this association: by its tag, or where `is_open` by an unknown one.
+    fn way_of(&self, place: &Place, is_open: bool) -> Option<Way> {
+        for way in [Way::Forth, Way::Back] {
+            let fits = if is_open {
+                self.is_open(way, place)
+            } else {
+                self.has_tag(way, place)
+            };
+            if fits && self.has_ports(way, place) {
+                return Some(way);
+            }
+        }
+        None
+    }
+
+    /// Notes the tags that a packet says.
+    fn note_tags(&mut self, way: Way, place: &Place) {
+        match way {
+            Way::Forth => note_tags(&mut self.forth, &mut self.back, place),
+            Way::Back => note_tags(&mut self.back, &mut self.forth, place),
+        }
+    }
+
+    /// Notes a packet that goes this way.
+    fn note(
+        &mut self,
+        way: Way,
+        place: &Place,
+        items: &[Item],
+        time: &Option<Time>,
+        length: u64,
+    ) -> Result<(), AllocError> {
+        self.note_tags(way, place);
+        match way {
+            Way::Forth => self.forth.note(items, time, length),
+            Way::Back => self.back.note(items, time, length),
+        }
+    }
+}
+
+impl Associations {
+    /// None yet.
+    pub fn new(alloc: Global) -> Self {
+        Associations {
+            items: Vec::new(alloc),
+            others: 0,
+            start: None,
+        }
+    }
+
+    /// Keeps the time of a record, if it is the first that has one.
+    pub fn note_time(&mut self, time: &Option<Time>) {
+        if self.start.is_none() {
+            self.start = *time;
+        }
+    }
+
+    /// The association and the way of a packet, if it is of one: by its tag, or where `is_open` by an unknown one.
+    fn find(&self, place: &Place, is_open: bool) -> Option<(usize, Way)> {
+        let mut at = 0usize;
+        for association in &self.items {
+            if let Some(way) = association.way_of(place, is_open) {
+                return Some((at, way));
+            }
+            at = at.saturating_add(1);
+        }
+        None
+    }
+
+    /// The association and the way of a packet: one that there is, or a new one.
+    fn place_for(&mut self, alloc: Global, place: &Place) -> Result<(usize, Way), AllocError> {
+        if let Some(found) = self.find(place, false) {
+            return Ok(found);
+        }
+        if let Some(found) = self.find(place, true) {
+            return Ok(found);
+        }
+        let at = self.items.len();
+        if at < MAX_ASSOCIATIONS {
+            self.items.push(Association::new(alloc, *place)?)?;
+        }
+        Ok((at, Way::Forth))
+    }
+
+    /// Notes a packet of so many bytes. Refuses only for memory.
+    pub fn note(
+        &mut self,
+        alloc: Global,
+        seen: &Dissection,
+        ends: Option<(IpAddr, IpAddr)>,
+        time: &Option<Time>,
+        length: u64,
+    ) -> Result<(), AllocError> {
+        let Some(header) = &seen.header else {
+            self.others = counted(self.others, 1);
+            return Ok(());
+        };
+        let place = place_of(header, &seen.items, ends);
+        let (at, way) = self.place_for(alloc, &place)?;
+        match self.items.get_mut(at) {
+            Some(association) => association.note(way, &place, &seen.items, time, length),
+            None => {
+                self.others = counted(self.others, 1);
+                Ok(())
+            }
+        }
+    }
+}

@@ -1,0 +1,286 @@
+//! What went one way in an association.
+
+ghost use Rattle.std.specs.Prelude.{◌≡◌, ◌≤◌, ◌<◌, ◌+◌, true, false, length, slice_index, slice_set, OnOk, IfOk};
+ghost use Rattle.std.specs.BTreeSet.{contains, Updates};
+ghost use Rattle.std.specs.Ordering.{nat_cmp};
+ghost use Rattle.sctp_show.specs.Filter as filters;
+ghost use Rattle.sctp_base.specs.Field.{u32_at};
+ghost use Rattle.sctp_chunks.specs.Framing.{type_at};
+ghost use Rattle.sctp_follow.specs.Flow as flows;
+ghost use Rattle.sctp_follow.specs.Flow.{counted};
+
+use sctp_base::field::{read_u16, read_u32};
+use sctp_capture::record::Time;
+use sctp_dissect::dissection::Item;
+use sctp_serial::serial::distance;
+use sctp_show::filter::is_data;
+use std::alloc::{AllocError, Global};
+use std::collections::{BTreeMap, BTreeSet};
+
+/// Half of the TSNs: a TSN that lies fewer behind another one comes after it (RFC 4960 1.6).
+const HALF: u32 = 0x8000_0000;
+
+/// What went one way. Each count stops at the greatest `u64`.
+#[derive(Drop)]
+pub struct Flow {
+    /// The verification tag of its packets, as far as it is known.
+    pub tag: Option<u32>,
+    pub packets: u64,
+    /// The bytes of these packets, without the headers below SCTP.
+    pub bytes: u64,
+    /// When the first and the last one that has a time was captured.
+    pub start: Option<Time>,
+    pub end: Option<Time>,
+    /// How many chunks there are of each type.
+    pub kinds: Vec<u64>,
+    /// DATA and I-DATA, and the bytes of messages in them.
+    pub data_chunks: u64,
+    pub data_bytes: u64,
+    /// How many of them have a TSN that came before.
+    pub repeated: u64,
+    /// The TSNs that came, and the first and the last of them in serial order (RFC 1982).
+    pub tsns: BTreeSet<u32>,
+    pub lowest: Option<u32>,
+    pub highest: Option<u32>,
+    /// How many DATA and I-DATA chunks there are of each stream.
+    pub streams: BTreeMap<u16, u64>,
+    /// The new cumulative TSN of the last FORWARD-TSN.
+    pub skipped_to: Option<u32>,
+    /// How many gap ack blocks and duplicate TSNs the SACKs name.
+    pub gap_blocks: u64,
+    pub duplicates: u64,
+}
+
+/// A count and so many more.
+pub fn counted(count: u64, more: u64) -> u64
+    ensures { result ≡ counted count more }
+{
+    count.saturating_add(more)
+}
+
+/// How many bytes of a message DATA or I-DATA carries, by its length.
+/// Precondition: it is one of them.
+fn payload_length(bytes: &[u8]) -> u64
+    requires { filters.is_data bytes.now ≡ true }
+    ensures { result ≡ flows.payload_length bytes.now }
+{
+    let at: u16 = if bytes[0] == 0 { 16 } else { 20 };
+    read_u16(bytes, 2).saturating_sub(at) as u64
+}
+
+/// Whether a TSN comes after another one.
+fn is_after(from: u32, to: u32) -> bool {
+    distance(from, to) < HALF
+}
+
+/// The earlier of a TSN and another one, if there is one.
+fn earlier(one: Option<u32>, tsn: u32) -> u32 {
+    match one {
+        Some(one) if is_after(one, tsn) => one,
+        _ => tsn,
+    }
+}
+
+/// The later of a TSN and another one, if there is one.
+fn later(one: Option<u32>, tsn: u32) -> u32 {
+    match one {
+        Some(one) if is_after(tsn, one) => one,
+        _ => tsn,
+    }
+}
+
+impl Flow {
+    /// Nothing went this way yet. Refuses only for memory.
+    pub fn new(alloc: Global, tag: Option<u32>) -> Result<Self, AllocError>
+        ensures { IfOk result (λ f. length f.kinds.items ≡ 256) }
+    {
+        Ok(Flow {
+            tag,
+            packets: 0,
+            bytes: 0,
+            start: None,
+            end: None,
+            kinds: vec![in alloc; 0u64; 256]?,
+            data_chunks: 0,
+            data_bytes: 0,
+            repeated: 0,
+            tsns: BTreeSet::new(alloc),
+            lowest: None,
+            highest: None,
+            streams: BTreeMap::new(alloc),
+            skipped_to: None,
+            gap_blocks: 0,
+            duplicates: 0,
+        })
+    }
+
+    /// Counts a packet of so many bytes.
+    pub fn note_packet(&mut self, time: &Option<Time>, length: u64)
+        ensures packets { self.new.packets ≡ counted self.old.packets 1 }
+        ensures bytes { self.new.bytes ≡ counted self.old.bytes length }
+        ensures kinds { self.new.kinds ≡ self.old.kinds }
+        ensures data { self.new.data_chunks ≡ self.old.data_chunks }
+    {
+        self.packets = counted(self.packets, 1);
+        self.bytes = counted(self.bytes, length);
+        if self.start.is_none() {
+            self.start = *time;
+        }
+        if time.is_some() {
+            self.end = *time;
+        }
+    }
+
+    /// Counts a chunk of this type.
+    fn note_kind(&mut self, typ: u8)
+        ensures kinds { self.new.kinds.items ≡ slice_set self.old.kinds.items typ
+            (counted (slice_index self.old.kinds.items typ) 1) }
+        ensures chunks { self.new.data_chunks ≡ self.old.data_chunks }
+        ensures bytes { self.new.data_bytes ≡ self.old.data_bytes }
+        ensures repeated { self.new.repeated ≡ self.old.repeated }
+        ensures tsns { self.new.tsns ≡ self.old.tsns }
+    {
+        let at = typ as usize;
+        if at < self.kinds.len() {
+            self.kinds[at] = counted(self.kinds[at], 1);
+        }
+    }
+
+    /// Notes the TSN of DATA or I-DATA.
+    fn note_tsn(&mut self, tsn: u32) -> Result<(), AllocError>
+        ensures again { OnOk result (contains nat_cmp self.old.tsns tsn ≡ true
+            → self.new.repeated ≡ counted self.old.repeated 1) }
+        ensures anew { OnOk result (contains nat_cmp self.old.tsns tsn ≡ false
+            → self.new.repeated ≡ self.old.repeated) }
+        ensures seen { OnOk result (Updates nat_cmp self.old.tsns self.new.tsns tsn true) }
+        ensures chunks { self.new.data_chunks ≡ self.old.data_chunks }
+        ensures bytes { self.new.data_bytes ≡ self.old.data_bytes }
+        ensures kinds { self.new.kinds ≡ self.old.kinds }
+    {
+        let Ok(is_new) = self.tsns.insert(tsn) else {
+            return Err(AllocError);
+        };
+        if !is_new {
+            self.repeated = counted(self.repeated, 1);
+        }
+        self.lowest = Some(earlier(self.lowest, tsn));
+        self.highest = Some(later(self.highest, tsn));
+        Ok(())
+    }
+
+    /// Counts DATA or I-DATA for its stream.
+    fn note_stream(&mut self, stream: u16) -> Result<(), AllocError>
+        ensures chunks { self.new.data_chunks ≡ self.old.data_chunks }
+        ensures bytes { self.new.data_bytes ≡ self.old.data_bytes }
+        ensures repeated { self.new.repeated ≡ self.old.repeated }
+        ensures tsns { self.new.tsns ≡ self.old.tsns }
+        ensures kinds { self.new.kinds ≡ self.old.kinds }
+    {
+        let count = self.streams.get(&stream).copied().unwrap_or(0);
+        match self.streams.insert(stream, counted(count, 1)) {
+            Ok(_) => Ok(()),
+            Err(_) => Err(AllocError),
+        }
+    }
+
+    /// Notes DATA or I-DATA.
+    /// Precondition: it is one of them.
+    fn note_data(&mut self, bytes: &[u8]) -> Result<(), AllocError>
+        requires { filters.is_data bytes.now ≡ true }
+        ensures chunks { OnOk result (self.new.data_chunks ≡ counted self.old.data_chunks 1) }
+        ensures bytes { OnOk result (self.new.data_bytes
+            ≡ counted self.old.data_bytes (flows.payload_length bytes.now)) }
+        ensures again { OnOk result (contains nat_cmp self.old.tsns (u32_at bytes.now 4) ≡ true
+            → self.new.repeated ≡ counted self.old.repeated 1) }
+        ensures anew { OnOk result (contains nat_cmp self.old.tsns (u32_at bytes.now 4) ≡ false
+            → self.new.repeated ≡ self.old.repeated) }
+        ensures seen { OnOk result
+            (Updates nat_cmp self.old.tsns self.new.tsns (u32_at bytes.now 4) true) }
+        ensures kinds { self.new.kinds ≡ self.old.kinds }
+    {
+        self.note_tsn(read_u32(bytes, 4))?;
+        self.note_stream(read_u16(bytes, 8))?;
+        self.data_chunks = counted(self.data_chunks, 1);
+        self.data_bytes = counted(self.data_bytes, payload_length(bytes));
+        Ok(())
+    }
+
+    /// Notes what a SACK reports (RFC 4960 3.3.4), or to where a FORWARD-TSN skips (RFC 3758 3.2, RFC 8260 2.3.1).
+    fn note_report(&mut self, typ: u8, bytes: &[u8])
+        ensures chunks { self.new.data_chunks ≡ self.old.data_chunks }
+        ensures bytes { self.new.data_bytes ≡ self.old.data_bytes }
+        ensures repeated { self.new.repeated ≡ self.old.repeated }
+        ensures tsns { self.new.tsns ≡ self.old.tsns }
+        ensures kinds { self.new.kinds ≡ self.old.kinds }
+    {
+        if typ == 3 && bytes.len() >= 16 {
+            self.gap_blocks = counted(self.gap_blocks, read_u16(bytes, 12) as u64);
+            self.duplicates = counted(self.duplicates, read_u16(bytes, 14) as u64);
+        }
+        if (typ == 192 || typ == 194) && bytes.len() >= 8 {
+            self.skipped_to = Some(read_u32(bytes, 4));
+        }
+    }
+
+    /// Notes a chunk: one more of its type, and where it is DATA or I-DATA one more of them, its bytes, and its TSN, as one that came before
+    /// or as a new one. Refuses only for memory.
+    pub fn note_chunk(&mut self, bytes: &[u8]) -> Result<(), AllocError>
+        ensures kinds { OnOk result (self.new.kinds.items
+            ≡ slice_set self.old.kinds.items (type_at bytes.now)
+            (counted (slice_index self.old.kinds.items (type_at bytes.now)) 1)) }
+        ensures chunks { OnOk result (filters.is_data bytes.now ≡ true
+            → self.new.data_chunks ≡ counted self.old.data_chunks 1) }
+        ensures bytes { OnOk result (filters.is_data bytes.now ≡ true → self.new.data_bytes
+            ≡ counted self.old.data_bytes (flows.payload_length bytes.now)) }
+        ensures again { OnOk result (filters.is_data bytes.now ≡ true
+            → contains nat_cmp self.old.tsns (u32_at bytes.now 4) ≡ true
+            → self.new.repeated ≡ counted self.old.repeated 1) }
+        ensures anew { OnOk result (filters.is_data bytes.now ≡ true
+            → contains nat_cmp self.old.tsns (u32_at bytes.now 4) ≡ false
+            → self.new.repeated ≡ self.old.repeated) }
+        ensures seen { OnOk result (filters.is_data bytes.now ≡ true
+            → Updates nat_cmp self.old.tsns self.new.tsns (u32_at bytes.now 4) true) }
+        ensures others { OnOk result (filters.is_data bytes.now ≡ false
+            → (self.new.data_chunks ≡ self.old.data_chunks)
+            × (self.new.data_bytes ≡ self.old.data_bytes)
+            × (self.new.repeated ≡ self.old.repeated) × (self.new.tsns ≡ self.old.tsns)) }
+    {
+        let typ = bytes.first().copied().unwrap_or(0);
+        self.note_kind(typ);
+        if is_data(bytes) {
+            return self.note_data(bytes);
+        }
+        self.note_report(typ, bytes);
+        Ok(())
+    }
+
+    /// Notes a packet of so many bytes, and its chunks. Refuses only for memory.
+    pub fn note(
+        &mut self,
+        items: &[Item],
+        time: &Option<Time>,
+        length: u64,
+    ) -> Result<(), AllocError> {
+        self.note_packet(time, length);
+        for item in items {
+            self.note_chunk(item.bytes.as_slice())?;
+        }
+        Ok(())
+    }
+
+    /// How many chunks of a type there are.
+    pub fn count_of(&self, typ: u8) -> u64 {
+        self.kinds.get(typ as usize).copied().unwrap_or(0)
+    }
+
+    /// How many TSNs from the first one to the last one did not come.
+    pub fn missing(&self) -> u64 {
+        match (self.lowest, self.highest) {
+            (Some(lowest), Some(highest)) => {
+                let all = distance(lowest, highest) as u64 + 1;
+                all.saturating_sub(self.tsns.len() as u64)
+            }
+            _ => 0,
+        }
+    }
+}

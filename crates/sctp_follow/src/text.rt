@@ -1,0 +1,284 @@
+//! A summary as it is printed, as text or as JSON.
+
+use crate::associations::{Association, Associations};
+use crate::flow::Flow;
+use itoa::Buffer;
+use sctp_capture::record::Time;
+use sctp_show::names::ChunkName;
+use sctp_show::page::Form;
+use sctp_show::run::Counts;
+use sctp_show::text::Options;
+use sctp_show::time::time_since;
+use std::alloc::{AllocError, Global};
+
+/// How a summary is printed.
+#[derive(Clone, Copy)]
+struct Style {
+    form: Form,
+    /// The time since which times are printed, if they are not printed as they were captured.
+    start: Option<Time>,
+}
+
+/// Appends a fact: its label and value, or its key and value.
+fn put_fact(
+    text: &mut String,
+    form: Form,
+    label: &str,
+    key: &str,
+    value: &str,
+) -> Result<(), AllocError> {
+    match form {
+        Form::Text => write!(text, "        {label}: {value}\n"),
+        Form::Json => write!(text, ",\"{key}\":{value}"),
+    }
+}
+
+/// A fact that is a count.
+fn put_count(
+    text: &mut String,
+    form: Form,
+    label: &str,
+    key: &str,
+    count: u64,
+) -> Result<(), AllocError> {
+    put_fact(text, form, label, key, Buffer::new().format(count))
+}
+
+/// A fact that is a number of 32 bits, if there is one.
+fn put_number(
+    text: &mut String,
+    form: Form,
+    label: &str,
+    key: &str,
+    number: Option<u32>,
+) -> Result<(), AllocError> {
+    match number {
+        Some(number) => put_fact(text, form, label, key, Buffer::new().format(number)),
+        None => Ok(()),
+    }
+}
+
+/// A fact that is a time, if there is one.
+fn put_time(
+    text: &mut String,
+    style: &Style,
+    label: &str,
+    key: &str,
+    time: &Option<Time>,
+) -> Result<(), AllocError> {
+    match (style.form, &style.start, time) {
+        (_, _, None) => Ok(()),
+        (Form::Json, _, Some(time)) => write!(text, ",\"{key}\":\"{time}\""),
+        (Form::Text, None, Some(time)) => write!(text, "        {label}: {time}\n"),
+        (Form::Text, Some(start), Some(time)) => {
+            let elapsed = time_since(start, time);
+            write!(text, "        {label}: {elapsed}\n")
+        }
+    }
+}
+
+/// What stands before an item of a list: a blank in text, and in JSON a comma before all but the first one.
+fn put_lead(text: &mut String, form: Form, is_first: bool) -> Result<(), AllocError> {
+    match (form, is_first) {
+        (Form::Text, _) => text.push_str(" "),
+        (Form::Json, true) => Ok(()),
+        (Form::Json, false) => text.push_str(","),
+    }
+}
+
+/// How many chunks there are of a type.
+fn put_kind(text: &mut String, form: Form, typ: u8, count: u64) -> Result<(), AllocError> {
+    match form {
+        Form::Text => {
+            ChunkName(typ).put(text)?;
+            write!(text, " {count}")
+        }
+        Form::Json => {
+            text.push_str("\"")?;
+            ChunkName(typ).put(text)?;
+            write!(text, "\":{count}")
+        }
+    }
+}
+
+/// The beginning or the end of a list, by the form.
+fn put_edge(text: &mut String, form: Form, line: &str, json: &str) -> Result<(), AllocError> {
+    match form {
+        Form::Text => text.push_str(line),
+        Form::Json => text.push_str(json),
+    }
+}
+
+/// How many chunks there are of each type.
+fn put_kinds(text: &mut String, form: Form, flow: &Flow) -> Result<(), AllocError> {
+    put_edge(text, form, "        Chunks:", ",\"chunks\":{")?;
+    let mut is_first = true;
+    for typ in 0..=255u8 {
+        let count = flow.count_of(typ);
+        if count > 0 {
+            put_lead(text, form, is_first)?;
+            put_kind(text, form, typ, count)?;
+            is_first = false;
+        }
+    }
+    put_edge(text, form, "\n", "}")
+}
+
+/// How many DATA and I-DATA chunks there are of each stream.
+fn put_streams(text: &mut String, form: Form, flow: &Flow) -> Result<(), AllocError> {
+    put_edge(text, form, "        Streams:", ",\"streams\":[")?;
+    let mut is_first = true;
+    for (stream, count) in &flow.streams {
+        put_lead(text, form, is_first)?;
+        match form {
+            Form::Text => write!(text, "{stream} ({count})")?,
+            Form::Json => write!(text, "{{\"stream\":{stream},\"chunks\":{count}}}")?,
+        }
+        is_first = false;
+    }
+    put_edge(text, form, "\n", "]")
+}
+
+/// What is said of DATA and I-DATA, if there are any.
+fn put_data(text: &mut String, form: Form, flow: &Flow) -> Result<(), AllocError> {
+    if flow.data_chunks == 0 {
+        return Ok(());
+    }
+    put_count(text, form, "DATA chunks", "data_chunks", flow.data_chunks)?;
+    put_count(text, form, "DATA bytes", "data_bytes", flow.data_bytes)?;
+    put_number(text, form, "First TSN", "first_tsn", flow.lowest)?;
+    put_number(text, form, "Last TSN", "last_tsn", flow.highest)?;
+    put_count(text, form, "Missing TSNs", "missing_tsns", flow.missing())?;
+    put_count(text, form, "Repeated TSNs", "repeated_tsns", flow.repeated)?;
+    put_streams(text, form, flow)
+}
+
+/// What SACKs and FORWARD-TSNs say, if there are any.
+fn put_reports(text: &mut String, form: Form, flow: &Flow) -> Result<(), AllocError> {
+    if flow.count_of(3) > 0 {
+        put_count(text, form, "Gap ack blocks", "gap_blocks", flow.gap_blocks)?;
+        put_count(text, form, "Duplicate TSNs", "duplicates", flow.duplicates)?;
+    }
+    put_number(text, form, "Skipped to TSN", "skipped_to", flow.skipped_to)
+}
+
+/// What went one way.
+fn put_flow(text: &mut String, style: &Style, flow: &Flow) -> Result<(), AllocError> {
+    let form = style.form;
+    put_count(text, form, "Packets", "packets", flow.packets)?;
+    put_count(text, form, "Bytes", "bytes", flow.bytes)?;
+    put_time(text, style, "First", "first", &flow.start)?;
+    put_time(text, style, "Last", "last", &flow.end)?;
+    put_kinds(text, form, flow)?;
+    put_data(text, form, flow)?;
+    put_reports(text, form, flow)
+}
+
+/// One way of an association: a line with its name and tag, and what went. Text has none where nothing went.
+fn put_way(
+    text: &mut String,
+    style: &Style,
+    name: &str,
+    key: &str,
+    flow: &Flow,
+) -> Result<(), AllocError> {
+    let tag = flow.tag.unwrap_or(0);
+    match style.form {
+        Form::Text if flow.packets == 0 => Ok(()),
+        Form::Text => {
+            write!(text, "    {name} tag 0x{tag:08x}\n")?;
+            put_flow(text, style, flow)
+        }
+        Form::Json => {
+            write!(text, ",\"{key}\":{{\"tag\":{tag}")?;
+            put_flow(text, style, flow)?;
+            text.push_str("}")
+        }
+    }
+}
+
+/// The ends of an association: addresses, where they are known, and ports.
+fn put_ends(text: &mut String, form: Form, association: &Association) -> Result<(), AllocError> {
+    let place = &association.place;
+    let (source, destination) = (place.source_port, place.destination_port);
+    match (form, &place.ends) {
+        (Form::Text, None) => write!(text, " - > - SCTP {source} > {destination}\n"),
+        (Form::Text, Some((from, to))) => {
+            write!(text, " {from} > {to} SCTP {source} > {destination}\n")
+        }
+        (Form::Json, None) => write!(
+            text,
+            ",\"source_port\":{source},\"destination_port\":{destination}"
+        ),
+        (Form::Json, Some((from, to))) => write!(
+            text,
+            ",\"source\":\"{from}\",\"destination\":\"{to}\",\"source_port\":{source},\"destination_port\":{destination}"
+        ),
+    }
+}
+
+/// An association.
+fn put_association(
+    text: &mut String,
+    style: &Style,
+    number: u64,
+    association: &Association,
+) -> Result<(), AllocError> {
+    match style.form {
+        Form::Text => write!(text, "Association {number}:")?,
+        Form::Json => write!(text, "{{\"association\":{number}")?,
+    }
+    put_ends(text, style.form, association)?;
+    put_way(text, style, ">", "forth", &association.forth)?;
+    put_way(text, style, "<", "back", &association.back)?;
+    match style.form {
+        Form::Text => Ok(()),
+        Form::Json => text.push_str("}\n"),
+    }
+}
+
+/// The last line.
+fn put_end(
+    text: &mut String,
+    form: Form,
+    counts: Counts,
+    associations: &Associations,
+) -> Result<(), AllocError> {
+    let (records, packets) = (counts.records, counts.shown);
+    let (kept, others) = (associations.items.len(), associations.others);
+    match form {
+        Form::Text => write!(
+            text,
+            "{records} records: {packets} packets of {kept} associations, {others} of none\n"
+        ),
+        Form::Json => write!(
+            text,
+            "{{\"records\":{records},\"packets\":{packets},\"associations\":{kept},\"others\":{others}}}\n"
+        ),
+    }
+}
+
+/// A summary.
+pub fn summary_text(
+    alloc: Global,
+    options: &Options,
+    counts: Counts,
+    associations: &Associations,
+) -> Result<String, AllocError> {
+    let style = Style {
+        form: options.form,
+        start: if options.is_absolute {
+            None
+        } else {
+            associations.start
+        },
+    };
+    let mut text = String::new(alloc);
+    let mut number = 1u64;
+    for association in &associations.items {
+        put_association(&mut text, &style, number, association)?;
+        number = number.saturating_add(1);
+    }
+    put_end(&mut text, style.form, counts, associations)?;
+    Ok(text)
+}
