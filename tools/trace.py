@@ -1,121 +1,40 @@
 #!/usr/bin/env python3
-"""Prints, of a public call, where its code, contract, definitions, proof, wrong bodies and tests stand.
+"""Prints, of a call, where its code, contract, definitions, proof, wrong bodies and tests stand; or where a word of the clauses is defined.
 
     python3 tools/trace.py NAME
     python3 tools/trace.py --all
 
 run at the top of the repository. NAME is a function (`sna32lt`), a type's function (`PayloadQueue::push`), or either behind a crate's
-name (`sctp_outbound::PayloadQueue::push`). With --all it prints each public call of a library that misses something: a clause or a test that
+name (`sctp_outbound::PayloadQueue::push`), public or not; or a word of the clauses (`after_sack`), of which it prints the definition and the
+calls whose clauses name it. With --all it prints each public call of a library that misses something: a clause or a test that
 reaches it, and a wrong body or a caller, or, of a law, its proof; then a count, and the exit status is 0 where nothing is missing. It reads
 texts alone, and proves nothing.
 
-Definitions are those of the words that the clauses name, where they stand in a crate of this repository. A caller is a function that names the
-call; where the name alone would fit several types, only files that name the type count, if there is one.
+Definitions are those of the words that the clauses name, where they stand in a crate of this repository. What has no clause of its own and is a
+trait's has the trait's. A caller is a function that calls it by a value of its type, as far as parameters, fields and results tell; where they
+don't, and a call of that name is of several types, it stands under `perhaps`.
 """
 import os
 import re
 import sys
-from dataclasses import dataclass, field
 
+from sources import Sources, crates, files_below, lines_of
 from wrong_bodies import bodies_of, function_of
 
-FN = re.compile(r"^(\s*)(pub(?:\([a-z]+\))? )?(?:const )?fn (\w+)")
-IMPL = re.compile(r"^(?:impl|pub trait|trait)\b(.*)")
-PROGRAMS = ("uses", "bench", "benchlib", "linkrun", "sctpdump", "refusals")
-USE = re.compile(r"^\s*ghost use Rattle\.(sctp_\w+|crc32c|linkscript|benchlib)\.specs\.([\w.]+?)(?:\.\{(.*)\}| as (\w+))?;")
+# crates that only call others
+PROGRAMS = ("uses", "bench", "benchlib", "linkrun", "sctpdump", "refusals", "association", "sctp_delivery")
+DEFINES = r"^\s*(?:(?:abbrev|opaque|unfoldable) )?(?:pub )?(?:abbrev |record |data |let )?"
 
 
-@dataclass
-class Call:
-    crate: str
-    path: str
-    line: int
-    owner: str
-    name: str
-    trait: str
-    clauses: list = field(default_factory=list)
-    words: dict = field(default_factory=dict)
-
-    def title(self):
-        owner = f"{self.owner}::" if self.owner else ""
-        return f"{self.crate}::{owner}{self.name}"
-
-
-def lines_of(path):
-    with open(path, encoding="utf-8") as text:
-        return text.read().split("\n")
-
-
-def files_below(folder, ending):
-    return sorted(f"{at}/{it}" for at, _, names in os.walk(folder) for it in names if it.endswith(ending))
-
-
-def crates():
-    with open("crates.txt", encoding="utf-8") as text:
-        return [line.split(":")[0] for line in text if ":" in line]
-
-
-def block_of(header):
-    """Returns the type and the trait ("" where there is none) of an `impl` or `trait` line."""
-    text = re.sub(r"<[^<>]*>", "", re.sub(r"<[^<>]*>", "", header)).split(" where ")[0].strip(" {")
-    parts = [it.split(":")[0].strip() for it in text.split(" for ")]
-    return parts[-1].split("::")[-1].split()[0], parts[0].split("::")[-1] if len(parts) > 1 else ""
-
-
-def imports(line, words):
-    """Notes the words that a `ghost use` line brings: each with its crate, its module and its own name, "" for a module."""
-    found = USE.match(line)
-    if not found or ".declared." in f".{found[2]}.":
-        return
-    crate, module, several, alias = found.groups()
-    if several is None:
-        words[alias or module.split(".")[-1]] = (crate, module, "")
-        return
-    for it in several.split(","):
-        own, _, named = it.strip().partition(" as ")
-        words[named.strip() or own] = (crate, module, own)
-
-
-def clauses_from(lines, at):
-    """Returns the lines of the contract of the function that begins at this line."""
-    found, inside = [], False
-    for line in lines[at:]:
-        text = line.strip()
-        if inside and (text in ("{", "{}") or text.startswith("///") or not text):
-            break
-        if text.startswith("//"):
-            continue
-        if re.match(r"(requires|ensures)\b", text):
-            inside = True
-        if inside:
-            found.append(text)
-        elif text.endswith("{") or text.endswith(";"):
-            break
-    return found
-
-
-def calls_of(crate, path):
-    """Returns the public calls of a source file: `pub fn`, and what an `impl` of a trait or a `trait` has."""
-    found, lines, owner, trait, top, inner, shown = [], lines_of(path), "", "", {}, {}, False
-    for at, line in enumerate(lines):
-        block = IMPL.match(line)
-        if block:
-            owner, trait = block_of(block[1])
-            trait = trait or ("trait" if "trait " in line else "")
-            inner, shown = {}, bool(trait)
-        elif line.startswith("}"):
-            owner, trait, inner, shown = "", "", {}, False
-        elif "ghost use" in line:
-            imports(line, inner if line.startswith(" ") else top)
-        fn = FN.match(line)
-        if fn and ((fn[2] or "").strip() == "pub" or (shown and fn[1] == "    ")):
-            clauses = clauses_from(lines, at)
-            found.append(Call(crate, path, at + 1, owner if fn[1] else "", fn[3], trait, clauses, {**top, **inner}))
-    return found
-
-
-def all_calls():
-    return [it for crate in crates() for path in files_below(f"crates/{crate}/src", ".rt") for it in calls_of(crate, path)]
+def definition_at(crate, module, word):
+    """Returns the place of a word's definition in a module of a crate's specs; None where it isn't there."""
+    at = f"crates/{crate}/specs/{module.replace('.', '/')}.antt"
+    if not os.path.exists(at):
+        return None
+    for number, line in enumerate(lines_of(at), 1):
+        if re.match(rf"{DEFINES}{re.escape(word)}(?![\w'])", line) and re.match(r"\s*(abbrev|opaque|unfoldable|pub)\b", line):
+            return f"{at}:{number}"
+    return None
 
 
 def definitions_of(call):
@@ -125,13 +44,10 @@ def definitions_of(call):
         if first not in call.words:
             continue
         crate, module, own = call.words[first]
-        at, word = f"crates/{crate}/specs/{module.replace('.', '/')}.antt", own or second
-        if not word or not os.path.exists(at):
-            continue
-        for number, line in enumerate(lines_of(at), 1):
-            if re.match(rf"(?:abbrev |opaque )?pub (?:record |data )?{re.escape(word)}\b", line):
-                found.append(f"{word}  {at}:{number}")
-                break
+        word = own or second
+        at = word and definition_at(crate, module, word)
+        if at:
+            found.append(f"{word}  {at}")
     return list(dict.fromkeys(found))
 
 
@@ -155,36 +71,65 @@ def wrong_bodies_of(crate):
 
 
 class Callers:
-    """The functions of all crates, each with its text, to be asked which of them name a call."""
+    """Who calls what: each call in each body by its name, with the type of what stands before its dot."""
 
-    def __init__(self):
-        self.files = []
-        for crate in crates():
-            for path in files_below(f"crates/{crate}/src", ".rt"):
-                self.files.append((path, "\n".join(lines_of(path)), self.functions(lines_of(path))))
-
-    @staticmethod
-    def functions(lines):
-        found, begin, name, test = [], None, "", False
-        for at, line in enumerate(lines):
-            fn = FN.match(line)
-            if fn:
-                if begin is not None:
-                    found.append((begin, name, test, "\n".join(lines[begin + 1 : at])))
-                begin, name, test = at, fn[3], "#[test]" in "".join(lines[max(at - 2, 0) : at])
-        if begin is not None:
-            found.append((begin, name, test, "\n".join(lines[begin + 1 :])))
-        return found
+    def __init__(self, sources):
+        self.sources, self.by_name, self.owners = sources, {}, {}
+        for it in sources.functions:
+            self.owners.setdefault(it.name, set()).add(it.owner)
+            for found in re.finditer(r"(\.|::)?\b(\w+)(?:::<[^>()]*>)?\(", it.body[it.body.find("\n") + 1:]):
+                self.by_name.setdefault(found[2], []).append((it, found.start(), found[1] or ""))
 
     def of(self, call):
-        """Returns the functions that name the call, those of tests first: each as its place and whether it is a test."""
-        path = rf"\b{call.owner}(?:::<[^>]*>)?::{call.name}\b" if call.owner else rf"(?<![.\w]){call.name}(?:::<[^>]*>)?\("
-        named = re.compile(rf"{path}|\.{call.name}\(" if call.owner else path)
-        found = [(at, text, it) for at, text, all_of in self.files for it in all_of
-                 if named.search(it[3]) and not (at == call.path and it[0] + 1 == call.line)]
-        sure = [it for it in found if not call.owner or re.search(rf"\b{call.owner}\b", it[1])]
-        rows = [(f"{name}  {at}:{begin + 1}", test or "tests" in at.split("/")[1]) for at, _, (begin, name, test, _) in sure or found]
-        return sorted(rows, key=lambda it: not it[1])
+        """Returns the functions that call it, and those that perhaps do: each once, tests first."""
+        sure, perhaps = {}, {}
+        for caller, at, how in self.by_name.get(call.name, []):
+            if call.crate not in self.sources.uses.get(caller.crate, ()) or caller is call:
+                continue
+            verdict = self.is_of(call, caller, at, how)
+            if verdict is not False:
+                (sure if verdict else perhaps)[(caller.path, caller.line)] = caller
+        return rows_of(sure.values()), rows_of(it for key, it in perhaps.items() if key not in sure)
+
+    def is_of(self, call, caller, at, how):
+        """Whether what stands in the caller's body at this place is a call of this function; None where it can't be told."""
+        text = caller.body[caller.body.find("\n") + 1:]
+        if how == "":
+            return call.owner == "" and (caller.path == call.path or re.search(rf"\b{call.name}\b", use_lines(self.sources.files[caller.path])) is not None)
+        if how == "::":
+            room = re.search(r"(\w+)$", text[:at])[1]
+            room = caller.owner if room == "Self" else room
+            return room == call.owner if call.owner else room == os.path.basename(call.path)[:-3]
+        if not call.owner:
+            return False
+        kind = self.sources.type_at(caller, text, at)
+        if kind is None:
+            return True if len(self.owners[call.name]) == 1 else None
+        kind = re.sub(r"<.*", "", re.sub(r"^(&(?:'\w+)?\s*|mut\s+)+", "", kind)).split("::")[-1].strip()
+        return kind == call.owner or (call.trait == "trait" and None)
+
+
+def use_lines(lines):
+    return "\n".join(it for it in lines if re.match(r"\s*(pub )?use |    \w+(, \w+)*,?$|\};?", it))
+
+
+def rows_of(functions):
+    found = sorted(functions, key=lambda it: (not (it.is_test or "tests" in it.crate), it.path, it.line))
+    return [(f"{it.name}  {it.path}:{it.line}", it.is_test or "tests" in it.crate) for it in found]
+
+
+def with_traits(sources):
+    """Gives each call of a trait's implementation that has no clause of its own the trait's; returns where they come from."""
+    theirs = {(it.owner, it.name): it for it in sources.functions if it.trait == "trait"}
+    found = {}
+    for it in sources.functions:
+        its = theirs.get((it.trait, it.name))
+        if its and not it.clauses:
+            it.clauses, it.words = its.clauses, its.words
+            found[(it.path, it.line)] = f"of the trait: {its.path}:{its.line}"
+        elif it.trait not in ("", "trait") and not its and not it.clauses:
+            found[(it.path, it.line)] = f"that of the library's trait {it.trait}"
+    return found
 
 
 def missing_of(call, bodies, callers):
@@ -193,7 +138,7 @@ def missing_of(call, bodies, callers):
         return []
     if call.path.endswith("laws.rt"):
         return [] if call.clauses and proofs_of(call) else ["a clause or a proof"]
-    found, rows = [], callers.of(call)
+    found, rows = [], sum(callers.of(call), [])
     if not call.clauses and not rows:
         found.append("a clause or a caller")
     if not bodies.get((call.path, call.owner, call.name)) and not rows:
@@ -209,31 +154,51 @@ def show(title, rows, none, most=12):
         print(f"    and {len(rows) - most} more")
 
 
-def trace(call, bodies, callers):
-    print(f"{call.title()}")
+def trace(call, traits, bodies, callers):
+    print(f"{call.title()}{'' if call.is_public else '  (private)'}")
     show("code", [f"{call.path}:{call.line}"], "")
-    show("contract", call.clauses, "no clause: it is safe and total", len(call.clauses))
+    origin = traits.get((call.path, call.line))
+    show("contract", ([origin] if origin else []) + call.clauses, "no clause: it is safe and total", len(call.clauses) + 1)
     show("definitions", definitions_of(call), "none beside those of its types")
     show("proof", proofs_of(call), "found by the prover alone")
     show("wrong bodies", sorted(bodies.get((call.path, call.owner, call.name), [])), "none")
-    rows = callers.of(call)
+    rows, perhaps = callers.of(call)
     show("tests", [row for row, test in rows if test], "none")
     show("other callers", [row for row, test in rows if not test], "none")
+    if perhaps:
+        show("perhaps", [row for row, _ in perhaps], "none")
+
+
+def trace_word(word, sources):
+    """Prints where a word of the clauses is defined, and the calls whose clauses name it; returns whether there is such a word."""
+    found = [at for crate in crates() for path in files_below(f"crates/{crate}/specs", ".antt")
+             for at in [definition_at(crate, path.removeprefix(f"crates/{crate}/specs/").removesuffix(".antt").replace("/", "."), word)] if at]
+    for at in found:
+        print(f"{word}  {at}")
+        crate = at.split("/")[1]
+        rows = [f"{it.title()}  {it.path}:{it.line}" for it in sources.functions
+                if any(own == word and room == crate and re.search(rf"(?<![\w.]){re.escape(named)}\b", " ".join(it.clauses))
+                       for named, (room, _, own) in it.words.items())]
+        show("calls whose clauses name it", rows, "none")
+    return bool(found)
 
 
 def main():
     if len(sys.argv) != 2:
         sys.exit(__doc__)
-    calls, callers = all_calls(), Callers()
+    sources = Sources()
+    traits, callers = with_traits(sources), Callers(sources)
     bodies = {crate: wrong_bodies_of(crate) for crate in crates()}
     if sys.argv[1] != "--all":
         parts = sys.argv[1].split("::")
-        found = [it for it in calls if it.title().split("::")[-len(parts):] == parts or
+        found = [it for it in sources.functions if it.title().split("::")[-len(parts):] == parts or
                  (it.crate == parts[0] and it.title().split("::")[1:][-len(parts[1:]):] == parts[1:])]
-        for call in found:
-            trace(call, bodies[call.crate], callers)
-        sys.exit(0 if found else f"trace.py: no public call is named {sys.argv[1]}")
-    count, calls = 0, [it for it in calls if it.crate not in PROGRAMS and not it.crate.endswith("_tests")]
+        for call in sorted(found, key=lambda it: not it.is_public):
+            trace(call, traits, bodies[call.crate], callers)
+        word = trace_word(parts[-1], sources) if len(parts) == 1 else False
+        sys.exit(0 if found or word else f"trace.py: no call and no word of the clauses is named {sys.argv[1]}")
+    calls = [it for it in sources.functions if it.is_public and it.crate not in PROGRAMS and not it.crate.endswith("_tests")]
+    count = 0
     for call in calls:
         for it in missing_of(call, bodies[call.crate], callers):
             count += 1
@@ -242,4 +207,5 @@ def main():
     sys.exit(1 if count else 0)
 
 
-main()
+if __name__ == "__main__":
+    main()

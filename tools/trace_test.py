@@ -1,0 +1,76 @@
+#!/usr/bin/env python3
+"""Asks trace.py's reading for what was found by hand: callers of twenty calls, contracts of traits, and definitions.
+
+    python3 tools/trace_test.py
+
+run at the top of the repository. Each caller stands as the file below crates/ without its src/, and its name. Whoever moves one of these calls
+looks by hand again. Prints what differs; the exit status is 0 where nothing does.
+"""
+import sys
+
+from sources import Sources
+from trace import Callers, definitions_of, with_traits
+
+CALLERS = {
+    "sctp_sender::InFlight::expire_late": {"sctp_sender/sender/abandonment expire_late"},
+    "sctp_sender::Sender::expire_late": {"association/association abandon", "transfer_tests/sending abandon_late", "transfer_tests/sender_tests abandons",
+                                         "sctp_delivery/sender_steps expire_late"},
+    "sctp_outbound::PayloadQueue::pop_up_to": {"queue_tests/payload_queue pops_up_to", "sctp_receiver/receiver/tsn_filter skip_to"},
+    "sctp_reassembly::Loose::take_range": {"sctp_reassembly/reassembly_queue/pool put", "sctp_reassembly/reassembly_queue/pool take_run"},
+    "sctp_reassembly::ReassemblyQueue::forward_tsn_for_unordered": {"queue_tests/reassembly_queue skips_by_half_a_circle", "sctp_receiver/receiver/inbound_streams forward_each"},
+    "sctp_receiver::TsnFilter::record_duplicate": {"sctp_receiver/receiver data_with_any_ssn", "sctp_receiver/receiver discard"},
+    "sctp_reassembly::place_for": {"sctp_reassembly/reassembly_queue place_of"},
+    "sctp_outbound::PayloadQueue::mark_as_acked_at": {"sctp_outbound/outbound_queue mark_as_acked_at"},
+    "sctp_outbound::OutboundQueue::mark_as_acked_at": {"sctp_sender/sender/flight/reporting mark_reported"},
+    "sctp_outbound::PayloadQueue::can_push_no_check": {"queue_tests/payload_queue push_no_check", "queue_tests/payload_queue standing_are_told",
+                                                        "sctp_outbound/outbound_queue can_send"},
+    "sctp_reassembly::ReassemblyQueue::find_complete_unordered_chunk_set": {"queue_tests/reassembly_queue has_no_more"},
+    "sctp_receiver::TsnFilter::gap_ack_blocks": {"sctp_receiver/receiver/sack_out sack_of_entries"},
+    "sctp_outbound::PayloadQueue::get_gap_ack_blocks": {"benchlib/payload gap_blocks", "queue_tests/payload_queue has_two_blocks",
+                                                         "sctp_outbound/payload_queue get_gap_ack_blocks_string",
+                                                         "sctp_receiver/receiver/tsn_filter gap_ack_blocks"},
+    "sctp_reassembly::Fragments::keep_past": {"sctp_reassembly/reassembly_queue/resets end_use_of"},
+    "sctp_receiver::InboundStreams::close": {"sctp_receiver/receiver close"},
+    "sctp_sender::OutboundStreams::close": {"sctp_sender/sender close"},
+    "sctp_receiver::InboundStreams::held_bytes": {"sctp_receiver/receiver/limits held_bytes"},
+    "sctp_reassembly::ReassemblyQueue::next_len": {"sctp_receiver/receiver next_len"},
+    "sctp_receiver::Receiver::held_bytes": {"sctp_receiver/receiver/limits left_of", "sctp_receiver/receiver/limits refusal_within", "transfer_tests/limits_tests holds"},
+    "crc32c::Crc::update": {"benchlib/packet sum", "crc32c/lib crc32c", "linkrun/checksum checksum", "sctp_show/checksum checksum",
+                            "script_tests/checksum checksum", "crc32c/tests datagrams", "crc32c/tests pieces"},
+}
+TRAITS = {
+    "sctp_chunks::ChunkHeartbeat::value_length": "sctp_chunks/src/chunk.rt",
+    "sctp_base::ParamSupportedExtensions::put_value": "sctp_base/src/param.rt",
+}
+DEFINITIONS = {
+    "crc32c::Crc::update": {"Holds"},
+    "sctp_receiver::Receiver::data_each": {"TakesEach", "StopsAt"},
+}
+
+
+def main():
+    sources = Sources()
+    traits, callers, wrong = with_traits(sources), Callers(sources), 0
+    calls = {}
+    for it in sources.functions:
+        calls.setdefault(it.title(), it)
+    for title, want in CALLERS.items():
+        found = {row.split(":")[0] for rows in callers.of(calls[title]) for row, _ in rows}
+        found = {f"{at.removeprefix('crates/').replace('/src/', '/', 1).removesuffix('.rt')} {name}" for name, at in (it.split("  ") for it in found)}
+        if found != want:
+            wrong += 1
+            print(f"{title}: not found {sorted(want - found)}, found beside {sorted(found - want)}")
+    for title, want in TRAITS.items():
+        if want not in traits.get((calls[title].path, calls[title].line), ""):
+            wrong += 1
+            print(f"{title}: the contract of its trait, in {want}, is not shown")
+    for title, want in DEFINITIONS.items():
+        found = {it.split("  ")[0] for it in definitions_of(calls[title])}
+        if found != want:
+            wrong += 1
+            print(f"{title}: definitions {sorted(found)}, not {sorted(want)}")
+    print(f"{len(CALLERS) + len(TRAITS) + len(DEFINITIONS)} asked, {wrong} differ")
+    sys.exit(1 if wrong else 0)
+
+
+main()
