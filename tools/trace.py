@@ -197,7 +197,7 @@ def main():
             trace(call, traits, bodies[call.crate], callers)
         word = trace_word(parts[-1], sources) if len(parts) == 1 else False
         sys.exit(0 if found or word else f"trace.py: no call and no word of the clauses is named {sys.argv[1]}")
-    calls = [it for it in sources.functions if it.is_public and it.crate not in PROGRAMS and not it.crate.endswith("_tests")]
+    calls = [it for it in sources.functions if it.is_public and (it.crate not in PROGRAMS or it.path.endswith("laws.rt")) and not it.crate.endswith("_tests")]
     count = 0
     for call in calls:
         for it in missing_of(call, bodies[call.crate], callers):
