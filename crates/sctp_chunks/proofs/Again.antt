@@ -3,10 +3,10 @@ use Rattle.std.proofs.Common.{◌≡◌, ℕ, ◌+◌, ◌-◌, ◌^◌, ◌<◌
 use Rattle.std.proofs.lemmas.List.{take_at, drop_at}
 use Rattle.sctp_base.specs.Field.{be16, be32, u16_at, u32_at}
 use Rattle.sctp_base.proofs.Fields.{length_be16, length_be32, u16_at_be16, u32_at_be32}
-use Rattle.sctp_chunks.specs.declared.chunk.chunk_payload_data.PayloadProtocolIdentifier.{PayloadProtocolIdentifier}
-use Rattle.sctp_chunks.specs.declared.chunk.chunk_payload_data.PayloadProtocolIdentifier.TheVariants.{Dcep, String, Binary, StringEmpty, BinaryEmpty, Unknown}
+use Rattle.sctp_data.specs.declared.chunk.chunk_payload_data.PayloadProtocolIdentifier.{PayloadProtocolIdentifier}
+use Rattle.sctp_data.specs.declared.chunk.chunk_payload_data.PayloadProtocolIdentifier.TheVariants.{Dcep, String, Binary, StringEmpty, BinaryEmpty, Unknown}
 use Rattle.sctp_chunks.specs.Framing.{value_at, declared_length, IsFramed, chunk_encoding}
-use Rattle.sctp_chunks.specs.PayloadData.{Data, ReadsData, data_flags, data_value, has_flag, weight, payload_type_from, payload_type_number}
+use Rattle.sctp_data.specs.PayloadData.{Data, ReadsData, data_flags, data_value, has_flag, weight, payload_type_from, payload_type_number}
 use Rattle.sctp_chunks.specs.Fits.{FitsData}
 use Rattle.sctp_chunks.proofs.Lengths.{length_data_value}
 

@@ -8,16 +8,17 @@ use Rattle.std.proofs.Math.Seq.{get_or-append_seam}
 use Rattle.sctp_base.specs.Each.{each}
 use Rattle.sctp_base.specs.Field.{be16, be32, u16_at, u32_at}
 use Rattle.sctp_base.proofs.Fields.{length_be16, length_be32, u16_at_be16, u32_at_be32}
-use Rattle.sctp_chunks.specs.declared.chunk.chunk_selective_ack.GapAckBlock.{GapAckBlock}
-use Rattle.sctp_chunks.specs.declared.chunk.chunk_forward_tsn.ChunkForwardTsnStream.{ChunkForwardTsnStream}
+use Rattle.sctp_data.specs.declared.chunk.chunk_selective_ack.GapAckBlock.{GapAckBlock}
+use Rattle.sctp_data.specs.declared.chunk.chunk_forward_tsn.ChunkForwardTsnStream.{ChunkForwardTsnStream}
 use Rattle.sctp_chunks.specs.declared.chunk.chunk_i_forward_tsn.ChunkIForwardTsnStream.{ChunkIForwardTsnStream}
-use Rattle.sctp_chunks.specs.PayloadData.{has_flag, weight}
+use Rattle.sctp_data.specs.PayloadData.{has_flag, weight}
 use Rattle.sctp_chunks.specs.Params.{ReadBack, params_encoding}
 use Rattle.sctp_chunks.specs.Init.{Init, ReadsInit, init_value}
-use Rattle.sctp_chunks.specs.SelectiveAck.{Sack, ReadsSack, sack_value, block_at, block_encoding}
-use Rattle.sctp_chunks.specs.ForwardTsn.{ForwardTsn, ReadsForwardTsn, forward_tsn_value, stream_at, stream_encoding}
+use Rattle.sctp_data.specs.SelectiveAck.{Sack, ReadsSack, sack_value, block_at, block_encoding}
+use Rattle.sctp_data.specs.ForwardTsn.{ForwardTsn, ReadsForwardTsn, forward_tsn_value, stream_at, stream_encoding}
 use Rattle.sctp_chunks.specs.IForwardTsn.{IForwardTsn, ReadsIForwardTsn, i_forward_tsn_value, entry_at, entry_encoding}
-use Rattle.sctp_chunks.specs.Fits.{Fits, FitsInit, FitsBlock, FitsSack, FitsStream, FitsForwardTsn, FitsEntry, FitsIForwardTsn, Canonical}
+use Rattle.sctp_data.specs.ForwardTsn.{FitsStream}
+use Rattle.sctp_chunks.specs.Fits.{Fits, FitsInit, FitsBlock, FitsSack, FitsForwardTsn, FitsEntry, FitsIForwardTsn, Canonical}
 use Rattle.sctp_chunks.specs.Wire.{Wire, data_chunk, init_chunk, sack_chunk, heartbeat_chunk, heartbeat_ack_chunk, reconfig_chunk, HasLength, abort_chunk, shutdown_chunk, shutdown_ack_chunk, error_chunk, cookie_echo_chunk, cookie_ack_chunk, shutdown_complete_chunk, forward_tsn_chunk, i_forward_tsn_chunk, ReadsValue, ReadsChunk, HasEncoding, type_of, flags_of, value_of, encoding_of}
 use Rattle.sctp_base.proofs.ParamLengths.{length_flat_map}
 use Rattle.sctp_chunks.proofs.Lengths.{length_init_value, length_sack_value, length_forward_tsn_value, length_i_forward_tsn_value}

@@ -3,11 +3,11 @@ use Rattle.std.proofs.Common.{◌≡◌, ℕ, ◌+◌, ◌*◌, ◌^◌, ◌<◌
 use Rattle.sctp_base.proofs.Fields.{length_be16, length_be32}
 use Rattle.sctp_base.proofs.ParamLengths.{length_flat_map}
 use Rattle.sctp_base.specs.Field.{be32}
-use Rattle.sctp_chunks.specs.PayloadData.{Data, data_value}
+use Rattle.sctp_data.specs.PayloadData.{Data, data_value}
 use Rattle.sctp_chunks.specs.Params.{params_encoding}
 use Rattle.sctp_chunks.specs.Init.{Init, init_value}
-use Rattle.sctp_chunks.specs.SelectiveAck.{Sack, sack_value, block_encoding}
-use Rattle.sctp_chunks.specs.ForwardTsn.{ForwardTsn, forward_tsn_value, stream_encoding}
+use Rattle.sctp_data.specs.SelectiveAck.{Sack, sack_value, block_encoding}
+use Rattle.sctp_data.specs.ForwardTsn.{ForwardTsn, forward_tsn_value, stream_encoding}
 use Rattle.sctp_chunks.specs.IForwardTsn.{IForwardTsn, i_forward_tsn_value, entry_encoding}
 
 pub length_data_value : (d : Data) → length (data_value d) ≡ 12 + length d.user_data

@@ -12,10 +12,10 @@ use Rattle.sctp_chunks.specs.Params.{ReadsParams}
 use Rattle.sctp_chunks.specs.Init.{Init, ReadsInit, init_in, ack_type}
 use Rattle.sctp_chunks.specs.Heartbeat.{ReadsHeartbeat}
 use Rattle.sctp_chunks.specs.Reconfig.{Reconfig, ReadsPair}
-use Rattle.sctp_chunks.specs.PayloadData.{Data}
-use Rattle.sctp_chunks.specs.SelectiveAck.{Sack}
+use Rattle.sctp_data.specs.PayloadData.{Data}
+use Rattle.sctp_data.specs.SelectiveAck.{Sack}
 use Rattle.sctp_chunks.specs.ErrorCause.{ReadsCause, ReadsCauses, after_cause}
-use Rattle.sctp_chunks.specs.ForwardTsn.{ForwardTsn}
+use Rattle.sctp_data.specs.ForwardTsn.{ForwardTsn}
 use Rattle.sctp_chunks.specs.IForwardTsn.{IForwardTsn}
 use Rattle.sctp_chunks.specs.Wire.{Wire, data_chunk, init_chunk, sack_chunk, heartbeat_chunk, heartbeat_ack_chunk, reconfig_chunk, IsInit, abort_chunk, shutdown_chunk, shutdown_ack_chunk, error_chunk, cookie_echo_chunk, cookie_ack_chunk, shutdown_complete_chunk, forward_tsn_chunk, i_forward_tsn_chunk, ReadsChunk}
 

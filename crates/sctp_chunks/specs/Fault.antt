@@ -4,7 +4,7 @@ use Rattle.sctp_chunks.specs.Framing.{type_at, flags_at, value_at, declared_leng
 use Rattle.sctp_base.specs.Walk.{Walks}
 use Rattle.sctp_chunks.specs.declared.chunk.error_cause.ErrorCause.{ErrorCause}
 use Rattle.sctp_chunks.specs.ErrorCause.{IsCause, ReadsCause, after_cause}
-use Rattle.sctp_chunks.specs.SelectiveAck.{blocks_in, duplicates_in}
+use Rattle.sctp_data.specs.SelectiveAck.{blocks_in, duplicates_in}
 use Rattle.sctp_base.specs.ParamFraming.{IsParam, param_type_at, after_param}
 use Rattle.sctp_base.specs.ParamKind.{ParamFault}
 use Rattle.sctp_chunks.specs.Params.{ParamsFault}

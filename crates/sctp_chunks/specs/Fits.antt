@@ -1,13 +1,12 @@
 -- Numbers that fit the widths that they are written in.
 use Rattle.std.specs.Prelude.{◌^◌, ◌<◌}
 use Rattle.std.specs.List.{AllByRecursion}
-use Rattle.sctp_chunks.specs.declared.chunk.chunk_selective_ack.GapAckBlock.{GapAckBlock}
-use Rattle.sctp_chunks.specs.declared.chunk.chunk_forward_tsn.ChunkForwardTsnStream.{ChunkForwardTsnStream}
+use Rattle.sctp_data.specs.declared.chunk.chunk_selective_ack.GapAckBlock.{GapAckBlock}
 use Rattle.sctp_chunks.specs.declared.chunk.chunk_i_forward_tsn.ChunkIForwardTsnStream.{ChunkIForwardTsnStream}
 use Rattle.sctp_chunks.specs.declared.chunk.error_cause.ErrorCause.{ErrorCause}
-use Rattle.sctp_chunks.specs.PayloadData.{Data}
-use Rattle.sctp_chunks.specs.SelectiveAck.{Sack}
-use Rattle.sctp_chunks.specs.ForwardTsn.{ForwardTsn}
+use Rattle.sctp_data.specs.PayloadData.{Data}
+use Rattle.sctp_data.specs.SelectiveAck.{Sack}
+use Rattle.sctp_data.specs.ForwardTsn.{ForwardTsn, FitsStream}
 use Rattle.sctp_chunks.specs.IForwardTsn.{IForwardTsn}
 use Rattle.sctp_chunks.specs.Params.{ReadBack}
 use Rattle.sctp_chunks.specs.Init.{Init}
@@ -36,10 +35,6 @@ pub record FitsSack (s : Sack) : Type 0 where
   pub credit : s.advertised_receiver_window_credit < 2 ^ 32
   pub blocks : AllByRecursion FitsBlock s.gap_ack_blocks
   pub duplicates : AllByRecursion (λ n. n < 2 ^ 32) s.duplicate_tsn
-
-pub record FitsStream (s : ChunkForwardTsnStream) : Type 0 where
-  pub identifier : s.identifier < 2 ^ 16
-  pub sequence : s.sequence < 2 ^ 16
 
 pub record FitsForwardTsn (f : ForwardTsn) : Type 0 where
   pub new_cumulative_tsn : f.new_cumulative_tsn < 2 ^ 32

@@ -3,7 +3,7 @@ use Rattle.std.specs.Prelude.{◌≡◌, ℕ, ◌+◌, ◌-◌, ◌*◌, ◌/◌
 use Rattle.std.specs.List.{flat_map}
 use Rattle.sctp_base.specs.Each.{each}
 use Rattle.sctp_base.specs.Field.{be16, be32, u16_at, u32_at}
-use Rattle.sctp_chunks.specs.PayloadData.{has_flag, weight}
+use Rattle.sctp_data.specs.PayloadData.{has_flag, weight}
 use Rattle.sctp_chunks.specs.declared.chunk.chunk_i_forward_tsn.ChunkIForwardTsnStream.{ChunkIForwardTsnStream}
 use Rattle.sctp_chunks.specs.declared.chunk.chunk_i_forward_tsn.ChunkIForwardTsn.{ChunkIForwardTsn}
 

@@ -3,15 +3,15 @@ use Rattle.std.specs.Prelude.{◌≡◌, ℕ, ◌+◌, ◌^◌, ◌<◌, true, O
 use Rattle.sctp_base.specs.Field.{be32, u32_at}
 use Rattle.sctp_chunks.specs.declared.chunk.error_cause.ErrorCause.{ErrorCause}
 use Rattle.sctp_chunks.specs.Framing.{type_at, flags_at, value_at, IsFramed, chunk_encoding}
-use Rattle.sctp_chunks.specs.PayloadData.{Data, ReadsData, data_flags, data_value}
-use Rattle.sctp_chunks.specs.SelectiveAck.{Sack, ReadsSack, sack_value}
+use Rattle.sctp_data.specs.PayloadData.{Data, ReadsData, data_flags, data_value}
+use Rattle.sctp_data.specs.SelectiveAck.{Sack, ReadsSack, sack_value}
 use Rattle.sctp_chunks.specs.Params.{params_encoding}
 use Rattle.sctp_chunks.specs.Init.{Init, ReadsInit, ack_type, init_value}
 use Rattle.sctp_chunks.specs.Heartbeat.{ReadsHeartbeat, IsOneInfo}
 use Rattle.sctp_chunks.specs.Reconfig.{Reconfig, ReadsPair, reconfig_value}
 use Rattle.sctp_chunks.specs.ErrorCause.{ReadsCauses, causes_encoding}
 use Rattle.sctp_base.specs.Param.{Parameter}
-use Rattle.sctp_chunks.specs.ForwardTsn.{ForwardTsn, ReadsForwardTsn, forward_tsn_value}
+use Rattle.sctp_data.specs.ForwardTsn.{ForwardTsn, ReadsForwardTsn, forward_tsn_value}
 use Rattle.sctp_chunks.specs.IForwardTsn.{IForwardTsn, ReadsIForwardTsn, i_forward_tsn_value}
 
 pub data Wire : Type 0 where

@@ -3,11 +3,11 @@ use Rattle.std.proofs.Common.{◌≡◌, ℕ, true, false, List, [], ◌∷◌, 
 use Rattle.sctp_list_lemmas.specs.Lists.{change_where}
 use Rattle.sctp_list_lemmas.specs.Serial.{at_or_before, at_or_before16, comes_before, comes_before16, distance, distance16}
 use Rattle.sctp_list_lemmas.proofs.Cases.{some-same}
-use Rattle.sctp_chunks.specs.declared.chunk.chunk_payload_data.ChunkPayloadData.{ChunkPayloadData}
-use Rattle.sctp_chunks.specs.declared.chunk.chunk_payload_data.PayloadProtocolIdentifier.TheVariants.{Binary, Unknown}
-use Rattle.sctp_chunks.specs.ChunkSet.{fresh}
-use Rattle.sctp_chunks.specs.PayloadData.{Data}
-use Rattle.sctp_chunks.specs.SelectiveAck.{Sack}
+use Rattle.sctp_data.specs.declared.chunk.chunk_payload_data.ChunkPayloadData.{ChunkPayloadData}
+use Rattle.sctp_data.specs.declared.chunk.chunk_payload_data.PayloadProtocolIdentifier.TheVariants.{Binary, Unknown}
+use Rattle.sctp_data.specs.ChunkSet.{fresh}
+use Rattle.sctp_data.specs.PayloadData.{Data}
+use Rattle.sctp_data.specs.SelectiveAck.{Sack}
 use Rattle.sctp_outbound.specs.outbound_queue.OutboundQueue.{sent_next}
 use Rattle.sctp_receiver.specs.declared.receiver.arrival.Arrival.TheVariants.{New}
 use Rattle.sctp_receiver.specs.Inbound as inbound

@@ -1,8 +1,8 @@
 -- What a call of a receiver makes, and what it reports.
 use Rattle.std.specs.Prelude.{◌≡◌, ⊤, ℕ, true, List, ◌∷◌, None}
-use Rattle.sctp_chunks.specs.declared.chunk.chunk_payload_data.ChunkPayloadData.{ChunkPayloadData}
-use Rattle.sctp_chunks.specs.ForwardTsn.{ForwardTsn}
-use Rattle.sctp_chunks.specs.SelectiveAck.{Sack}
+use Rattle.sctp_data.specs.declared.chunk.chunk_payload_data.ChunkPayloadData.{ChunkPayloadData}
+use Rattle.sctp_data.specs.ForwardTsn.{ForwardTsn}
+use Rattle.sctp_data.specs.SelectiveAck.{Sack}
 use Rattle.sctp_receiver.specs.declared.receiver.arrival.Arrival.{Arrival}
 use Rattle.sctp_receiver.specs.Receiver.{Reception, arrival_of, arrival_refusal, is_open, is_told_complete, sack}
 use Rattle.sctp_receiver.specs.ReceiverRuns as runs

@@ -1,8 +1,8 @@
 -- Two hosts: one sends, one receives, and a network between them loses, delays, repeats and reorders what they make.
 use Rattle.std.specs.Prelude.{◌≡◌, ⊤, ℕ, ◌+◌, List, [], ◌∷◌, length, All, Contains, Option}
 use Rattle.std.specs.List.{sum_by}
-use Rattle.sctp_chunks.specs.PayloadData.{data_of}
-use Rattle.sctp_chunks.specs.SelectiveAck.{Sack}
+use Rattle.sctp_data.specs.PayloadData.{data_of}
+use Rattle.sctp_data.specs.SelectiveAck.{Sack}
 use Rattle.sctp_receiver.specs.declared.receiver.limits.Limits.{Limits}
 use Rattle.sctp_receiver.specs.ReceiverRuns as receiver_runs
 use Rattle.sctp_receiver.specs.ReceiverRuns.{AreComplete, AreOfOneMessage, Stand}

@@ -1,15 +1,15 @@
 //! Each call of a receiver makes the step that sessions have of it (RFC 4960 6.2; RFC 3758 3.6): here it is called and nothing else.
 
 ghost use Rattle.std.specs.Prelude.{◌≡◌, OnOk, IfOk, option_map};
-ghost use Rattle.sctp_chunks.specs.ForwardTsn.{forward_tsn_of};
-ghost use Rattle.sctp_chunks.specs.SelectiveAck.{sack_of};
+ghost use Rattle.sctp_data.specs.ForwardTsn.{forward_tsn_of};
+ghost use Rattle.sctp_data.specs.SelectiveAck.{sack_of};
 ghost use Rattle.sctp_reassembly.specs.reassembly_queue.ReassemblyQueue.{at_start};
 ghost use Rattle.sctp_receiver.specs.Receiver.{message_on, sack, window};
 ghost use Rattle.sctp_delivery.specs.ReceiverCalls.{ReceiverMakes, follows, opens, reads, reports, takes};
 
-use sctp_chunks::chunk::chunk_forward_tsn::ChunkForwardTsn;
-use sctp_chunks::chunk::chunk_payload_data::ChunkPayloadData;
-use sctp_chunks::chunk::chunk_selective_ack::ChunkSelectiveAck;
+use sctp_data::chunk::chunk_forward_tsn::ChunkForwardTsn;
+use sctp_data::chunk::chunk_payload_data::ChunkPayloadData;
+use sctp_data::chunk::chunk_selective_ack::ChunkSelectiveAck;
 use sctp_reassembly::chunks::Chunks;
 use sctp_receiver::receiver::Receiver;
 use sctp_receiver::receiver::arrival::{Arrival, Forwarded};

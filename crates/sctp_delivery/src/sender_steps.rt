@@ -1,19 +1,19 @@
 //! Each call of a sender makes the step that sessions have of it (RFC 4960 6.1, 6.2.1; RFC 3758 3.5): here it is called and nothing else.
 
 ghost use Rattle.std.specs.Prelude.{◌≡◌, Some, OnOk, IfOk, IfSome, find};
-ghost use Rattle.sctp_chunks.specs.declared.chunk.chunk_payload_data.ChunkPayloadData.{ChunkPayloadData};
-ghost use Rattle.sctp_chunks.specs.ForwardTsn.{forward_tsn_of};
-ghost use Rattle.sctp_chunks.specs.SelectiveAck.{sack_of};
+ghost use Rattle.sctp_data.specs.declared.chunk.chunk_payload_data.ChunkPayloadData.{ChunkPayloadData};
+ghost use Rattle.sctp_data.specs.ForwardTsn.{forward_tsn_of};
+ghost use Rattle.sctp_data.specs.SelectiveAck.{sack_of};
 ghost use Rattle.sctp_sender.specs.Abandonment.{advanced_ack_point};
 ghost use Rattle.sctp_serial.specs.DataChunks.{has_tsn};
 ghost use Rattle.sctp_delivery.specs.SenderCalls.{SenderMakes, abandons, expires, expires_late, expires_rexmit, expires_tail, forwards, next_chunk, opens, resends, sends, sets_mode, starts, takes_sack, writes};
 
 use bytes::Bytes;
-use sctp_chunks::chunk::chunk_forward_tsn::ChunkForwardTsn;
-use sctp_chunks::chunk::chunk_payload_data::{
+use sctp_data::chunk::chunk_forward_tsn::ChunkForwardTsn;
+use sctp_data::chunk::chunk_payload_data::{
     ChunkPayloadData, PayloadProtocolIdentifier, ReliabilityType,
 };
-use sctp_chunks::chunk::chunk_selective_ack::ChunkSelectiveAck;
+use sctp_data::chunk::chunk_selective_ack::ChunkSelectiveAck;
 use sctp_sender::sender::flight::Released;
 use sctp_sender::sender::flight::late::AbandonedMessage;
 use sctp_sender::sender::refusal::SenderRefusal;

@@ -9,7 +9,7 @@ use Rattle.sctp_stream.specs.declared.stream.StreamState.{StreamState}
 use Rattle.sctp_receiver.specs.declared.receiver.inbound_streams.InboundStream.{InboundStream}
 use Rattle.sctp_receiver.specs.Inbound as Inbound
 use Rattle.sctp_sender.specs.Outgoing as Outgoing
-use Rattle.sctp_chunks.specs.ForwardTsn.{ForwardTsn}
+use Rattle.sctp_data.specs.ForwardTsn.{ForwardTsn}
 use Rattle.sctp_reassembly.specs.reassembly_queue.ReassemblyQueue.{message_read}
 use Rattle.sctp_receiver.specs.Receiver as R
 use Rattle.sctp_receiver.specs.Receiver.{Reception}

@@ -4,7 +4,7 @@ use Rattle.std.specs.Prelude.{◌==◌, if◌then◌else◌, find, slice_get, is
 use Rattle.std.proofs.lemmas.Bool.{eq-eqb}
 use Rattle.std.specs.List.{filter}
 use Rattle.sctp_list_lemmas.proofs.Edits.{those-append}
-use Rattle.sctp_chunks.specs.declared.chunk.chunk_payload_data.PayloadProtocolIdentifier.TheVariants.{Unknown}
+use Rattle.sctp_data.specs.declared.chunk.chunk_payload_data.PayloadProtocolIdentifier.TheVariants.{Unknown}
 use Rattle.sctp_stream.specs.Numbers.{IsAbsent, is_other}
 use Rattle.sctp_stream.specs.Stream.{new_stream}
 use Rattle.sctp_receiver.specs.Inbound as Inbound

@@ -1,7 +1,7 @@
 -- Several DATA chunks, one after another.
 use Rattle.std.proofs.Common.{◌≡◌, Bool, ℕ, zero, suc, ◌<◌, List, [], ◌∷◌, ◌++◌, length, None, true, refl, sym, arith, subst}
 use Rattle.std.specs.Prelude.{slice_index_or}
-use Rattle.sctp_chunks.specs.declared.chunk.chunk_payload_data.ChunkPayloadData.{ChunkPayloadData}
+use Rattle.sctp_data.specs.declared.chunk.chunk_payload_data.ChunkPayloadData.{ChunkPayloadData}
 use Rattle.sctp_receiver.specs.declared.receiver.arrival.Arrival.{Arrival}
 use Rattle.sctp_receiver.specs.Receiver.{data_refusal, arrival_of}
 use Rattle.sctp_halves.specs.Halves.{Sides, Takes, TakesFirst, TakesEach, CanTake, reception_of, is_open}

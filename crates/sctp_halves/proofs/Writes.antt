@@ -2,11 +2,11 @@
 use Rattle.std.proofs.Common.{◌≡◌, ℕ, ◌+◌, List, [], ◌∷◌, Bool, true, false, Option, Some, None, refl, ap, sym, ◌∙◌}
 use Rattle.std.specs.Prelude.{slice_index_or, slice_set, if◌then◌else◌, is_some, option_map, IfSome}
 use Rattle.std.proofs.lemmas.List.{get_or_default}
-use Rattle.sctp_chunks.specs.PayloadTypes.{is_ordered}
+use Rattle.sctp_data.specs.PayloadTypes.{is_ordered}
 use Rattle.sctp_list_lemmas.specs.Lists.{change_where}
-use Rattle.sctp_chunks.specs.declared.chunk.chunk_payload_data.ChunkPayloadData.{ChunkPayloadData}
-use Rattle.sctp_chunks.specs.declared.chunk.chunk_payload_data.PayloadProtocolIdentifier.{PayloadProtocolIdentifier}
-use Rattle.sctp_chunks.specs.declared.chunk.chunk_payload_data.ReliabilityType.{ReliabilityType}
+use Rattle.sctp_data.specs.declared.chunk.chunk_payload_data.ChunkPayloadData.{ChunkPayloadData}
+use Rattle.sctp_data.specs.declared.chunk.chunk_payload_data.PayloadProtocolIdentifier.{PayloadProtocolIdentifier}
+use Rattle.sctp_data.specs.declared.chunk.chunk_payload_data.ReliabilityType.{ReliabilityType}
 use Rattle.sctp_outbound.specs.outbound_queue.OutboundQueue.{Outbound, with_message, expired_of, expiring, is_expired, passing}
 use Rattle.sctp_outbound.specs.pending_queue.PendingQueue.{next_pending}
 use Rattle.sctp_stream.specs.Numbers.{IsOnlyPlace}

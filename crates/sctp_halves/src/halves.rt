@@ -9,7 +9,7 @@ pub mod sending;
 
 use self::progress::StreamProgress;
 use sctp_base::error::{Error, Result};
-use sctp_chunks::chunk::chunk_payload_data::ReliabilityType;
+use sctp_data::chunk::chunk_payload_data::ReliabilityType;
 use sctp_queues::outbound_queue::OutboundQueue;
 use sctp_queues::payload_queue::PayloadQueue;
 use sctp_queues::reassembly_queue::ReassemblyQueue;

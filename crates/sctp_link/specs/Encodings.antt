@@ -1,9 +1,9 @@
 -- The bytes of a datagram: a packet between ports 5000, under tag 1.
 use Rattle.std.specs.Prelude.{◌≡◌, ℕ, List, [], ◌∷◌, map}
-use Rattle.sctp_chunks.specs.declared.chunk.chunk_selective_ack.GapAckBlock.{GapAckBlock}
-use Rattle.sctp_chunks.specs.declared.chunk.chunk_forward_tsn.ChunkForwardTsnStream.{ChunkForwardTsnStream}
-use Rattle.sctp_chunks.specs.declared.chunk.chunk_payload_data.ChunkPayloadData.{ChunkPayloadData}
-use Rattle.sctp_chunks.specs.PayloadData.{data_of}
+use Rattle.sctp_data.specs.declared.chunk.chunk_selective_ack.GapAckBlock.{GapAckBlock}
+use Rattle.sctp_data.specs.declared.chunk.chunk_forward_tsn.ChunkForwardTsnStream.{ChunkForwardTsnStream}
+use Rattle.sctp_data.specs.declared.chunk.chunk_payload_data.ChunkPayloadData.{ChunkPayloadData}
+use Rattle.sctp_data.specs.PayloadData.{data_of}
 use Rattle.sctp_chunks.specs.Wire.{Wire, data_chunk, sack_chunk, forward_tsn_chunk}
 use Rattle.sctp_packets.specs.Packet.{Parts, ReadsPacket, packet_encoding}
 use Rattle.sctp_model.specs.Contents.{Contents, DataContents, ForwardContents, SackContents}

@@ -1,6 +1,6 @@
 -- What a link keeps of a write, of a fragment that leaves, and of a message that is abandoned.
 use Rattle.std.specs.Prelude.{ℕ, ◌+◌, Bool, true, false, ◌&&◌, if◌then◌else◌, List, [], ◌∷◌, take, drop, map, ◌++◌, Some, None, ◌==◌}
-use Rattle.sctp_chunks.specs.declared.chunk.chunk_payload_data.PayloadProtocolIdentifier.{PayloadProtocolIdentifier}
+use Rattle.sctp_data.specs.declared.chunk.chunk_payload_data.PayloadProtocolIdentifier.{PayloadProtocolIdentifier}
 use Rattle.sctp_list_lemmas.specs.Lists.{change_where}
 use Rattle.sctp_halves.specs.declared.halves.progress.Written.{Written}
 use Rattle.sctp_halves.specs.Streams.{OpenStream, has_number, begun_of, with_begun}

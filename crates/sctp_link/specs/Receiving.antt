@@ -2,7 +2,7 @@
 use Rattle.std.specs.Prelude.{◌≡◌, ℕ, ◌<◌, ◌&&◌, if◌then◌else◌, Bool, slice_get, true, false, List, [], ◌∷◌, length, map, slice_index_or, Some}
 use Rattle.std.specs.List.{filter}
 use Rattle.sctp_list_lemmas.specs.Lists.{change_at}
-use Rattle.sctp_chunks.specs.declared.chunk.chunk_payload_data.ChunkPayloadData.{ChunkPayloadData}
+use Rattle.sctp_data.specs.declared.chunk.chunk_payload_data.ChunkPayloadData.{ChunkPayloadData}
 use Rattle.sctp_reassembly.specs.reassembly_queue.ReassemblyQueue.{ReassemblyState, is_too_large}
 use Rattle.sctp_model.specs.LinkRecord.{LinkRecord, StreamRecord, Data}
 use Rattle.sctp_model.specs.Messages.{message_at, message_of, stream_at, index_of, is_ordered_on}

@@ -1,6 +1,6 @@
 -- What fragments that leave one after another make of the sender's side of a link.
 use Rattle.std.specs.Prelude.{◌≡◌, ℕ, zero, suc, ◌+◌, ◌<◌, ◌^◌, List, [], ◌∷◌, ◌++◌, length, Some, slice_index_or, slice_set}
-use Rattle.sctp_chunks.specs.declared.chunk.chunk_payload_data.ChunkPayloadData.{ChunkPayloadData}
+use Rattle.sctp_data.specs.declared.chunk.chunk_payload_data.ChunkPayloadData.{ChunkPayloadData}
 use Rattle.sctp_outbound.specs.pending_queue.PendingQueue.{next_pending}
 use Rattle.sctp_outbound.specs.outbound_queue.OutboundQueue.{Outbound, sent_next}
 use Rattle.sctp_halves.specs.Streams.{OpenStream, begun_of}

@@ -3,10 +3,10 @@
 ghost use Rattle.std.specs.Prelude.{◌≡◌, ◌≤◌, ◌+◌, ◌∷◌, [], List, length, map, IfOk, IsOkUnless};
 ghost use Rattle.std.specs.List.{AllByRecursion};
 ghost use Rattle.sctp_base.specs.declared.error.Error.TheVariants.{ErrOutOfMemory};
-ghost use Rattle.sctp_chunks.specs.PayloadData.{Data, data_of};
-ghost use Rattle.sctp_chunks.specs.SelectiveAck.{Sack, sack_of};
-ghost use Rattle.sctp_chunks.specs.ForwardTsn.{ForwardTsn, forward_tsn_of};
-ghost use Rattle.sctp_chunks.specs.ChunkSet.{fresh};
+ghost use Rattle.sctp_data.specs.PayloadData.{Data, data_of};
+ghost use Rattle.sctp_data.specs.SelectiveAck.{Sack, sack_of};
+ghost use Rattle.sctp_data.specs.ForwardTsn.{ForwardTsn, forward_tsn_of};
+ghost use Rattle.sctp_data.specs.ChunkSet.{fresh};
 ghost use Rattle.sctp_chunks.specs.Wire.{Wire, data_chunk, sack_chunk, forward_tsn_chunk, HasEncoding};
 ghost use Rattle.sctp_chunks.specs.Fits.{Canonical};
 ghost use Rattle.sctp_chunks.specs.Kind.{wire_of, IsFreshKind};

@@ -1,8 +1,8 @@
 -- What each datagram says, as the chunks of a packet (RFC 4960 3.3.1, 3.3.4, RFC 3758 3.2).
 use Rattle.std.specs.Prelude.{ℕ, ◌+◌, ◌-◌, ◌%◌, ◌^◌, false, not, ◌==◌, List, map, slice_get, Option, Some, None}
-use Rattle.sctp_chunks.specs.declared.chunk.chunk_payload_data.ChunkPayloadData.{ChunkPayloadData}
-use Rattle.sctp_chunks.specs.PayloadData.{Data}
-use Rattle.sctp_chunks.specs.ChunkSet.{fresh}
+use Rattle.sctp_data.specs.declared.chunk.chunk_payload_data.ChunkPayloadData.{ChunkPayloadData}
+use Rattle.sctp_data.specs.PayloadData.{Data}
+use Rattle.sctp_data.specs.ChunkSet.{fresh}
 use Rattle.sctp_model.specs.LinkRecord.{Datagram, Forward, Sack, LinkRecord}
 use Rattle.sctp_model.specs.LinkRecord as W
 use Rattle.sctp_model.specs.Messages.{message_at, slot_at, message_of, ssn_of, fragment_at, fragment_count, tsn_of}

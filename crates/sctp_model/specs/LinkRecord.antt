@@ -1,8 +1,8 @@
 -- What a list of accepted events amounts to: a plain record of each stream, message, slot and datagram.
 -- Slots and messages are counted from 0 and never wrap. No queue and no flag of the code's is in it.
 use Rattle.std.specs.Prelude.{ℕ, Bool, List, [], Option}
-use Rattle.sctp_chunks.specs.declared.chunk.chunk_payload_data.ReliabilityType.{ReliabilityType}
-use Rattle.sctp_chunks.specs.declared.chunk.chunk_payload_data.PayloadProtocolIdentifier.{PayloadProtocolIdentifier}
+use Rattle.sctp_data.specs.declared.chunk.chunk_payload_data.ReliabilityType.{ReliabilityType}
+use Rattle.sctp_data.specs.declared.chunk.chunk_payload_data.PayloadProtocolIdentifier.{PayloadProtocolIdentifier}
 
 -- what the link was made with: the first TSN, the greatest length of a fragment and of a message, and the length that a datagram of several chunks may have
 pub record Setup : Type 0 where

@@ -2,10 +2,10 @@
 use Rattle.std.specs.Prelude.{slice_index_or, ℕ, ◌+◌, ◌-◌, ◌%◌, ◌^◌, Bool, true, false, ◌&&◌, not, ◌==◌, nat_lt, nat_le, if◌then◌else◌, List, [], length, find, Option, Some, None, is_some, unwrap_or}
 use Rattle.sctp_list_lemmas.specs.Kept.{numbers_where, first_of, or_else}
 use Rattle.sctp_list_lemmas.specs.Lists.{pieces}
-use Rattle.sctp_chunks.specs.declared.chunk.chunk_payload_data.ReliabilityType.TheVariants.{Reliable}
-use Rattle.sctp_chunks.specs.declared.chunk.chunk_payload_data.PayloadProtocolIdentifier.TheVariants.{Unknown}
-use Rattle.sctp_chunks.specs.PayloadTypes.{is_dcep}
-use Rattle.sctp_chunks.specs.Reliability.{is_timed, deadline_at, is_past}
+use Rattle.sctp_data.specs.declared.chunk.chunk_payload_data.ReliabilityType.TheVariants.{Reliable}
+use Rattle.sctp_data.specs.declared.chunk.chunk_payload_data.PayloadProtocolIdentifier.TheVariants.{Unknown}
+use Rattle.sctp_data.specs.PayloadTypes.{is_dcep}
+use Rattle.sctp_data.specs.Reliability.{is_timed, deadline_at, is_past}
 use Rattle.sctp_model.specs.LinkRecord.{StreamRecord, Message, Slot, LinkRecord}
 
 -- ## By number

@@ -1,7 +1,7 @@
 -- What a link answers.
 use Rattle.std.specs.Prelude.{ℕ, Option}
-use Rattle.sctp_chunks.specs.declared.chunk.chunk_payload_data.PayloadProtocolIdentifier.{PayloadProtocolIdentifier}
-use Rattle.sctp_chunks.specs.ChunkSet.{ChunkSet}
+use Rattle.sctp_data.specs.declared.chunk.chunk_payload_data.PayloadProtocolIdentifier.{PayloadProtocolIdentifier}
+use Rattle.sctp_data.specs.ChunkSet.{ChunkSet}
 
 -- what a link answers to an accepted event
 pub data Reply : Type 0 where

@@ -1,7 +1,7 @@
 //! What is asked of a link, and why it refuses.
 
 use bytes::Bytes;
-use sctp_chunks::chunk::chunk_payload_data::{PayloadProtocolIdentifier, ReliabilityType};
+use sctp_data::chunk::chunk_payload_data::{PayloadProtocolIdentifier, ReliabilityType};
 
 /// What is asked of a link.
 #[derive(Drop)]

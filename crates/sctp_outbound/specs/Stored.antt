@@ -1,6 +1,6 @@
 -- Chunks in a deque.
 use Rattle.std.specs.Prelude.{ℕ, List}
-use Rattle.sctp_chunks.specs.declared.chunk.chunk_payload_data.ChunkPayloadData.{ChunkPayloadData}
+use Rattle.sctp_data.specs.declared.chunk.chunk_payload_data.ChunkPayloadData.{ChunkPayloadData}
 
 -- the chunks in order, and how many more take no memory
 pub record Stored : Type 0 where

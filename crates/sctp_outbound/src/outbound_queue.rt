@@ -3,8 +3,8 @@
 ghost use Rattle.std.specs.Prelude.{◌≡◌, ◌==◌, ℕ, Bool, ◌⊎◌, ◌+◌, ◌^◌, ◌<◌, ◌≤◌, ◌||◌, [], length, map, max, false, true, OnOk, OnErr, OnSome, IfOk, IfSome, IsOk, IsOkUnless, IsSome, IsTrue, find, is_some, unwrap_or, option_copied, slice_get, slice_index_or, slice_set, if◌then◌else◌};
 ghost use Rattle.std.specs.Option.{option_map};
 ghost use Rattle.std.specs.List.{list_any};
-ghost use Rattle.sctp_chunks.specs.Reliability.{is_past};
-ghost use Rattle.sctp_chunks.specs.declared.chunk.chunk_payload_data.ChunkPayloadData.{ChunkPayloadData};
+ghost use Rattle.sctp_data.specs.Reliability.{is_past};
+ghost use Rattle.sctp_data.specs.declared.chunk.chunk_payload_data.ChunkPayloadData.{ChunkPayloadData};
 ghost use Rattle.sctp_base.specs.declared.error.Error.TheVariants.{ErrOutOfMemory};
 ghost use Rattle.sctp_list_lemmas.specs.Lists.{change_where};
 ghost use Rattle.sctp_outbound.specs.Marks.{IsBetween, is_of, is_outstanding};
@@ -22,7 +22,7 @@ use crate::payload_queue::{PayloadQueue, is_outstanding};
 use crate::pending_queue::PendingQueue;
 use bytes::Bytes;
 use sctp_base::error::Result;
-use sctp_chunks::chunk::chunk_payload_data::ChunkPayloadData;
+use sctp_data::chunk::chunk_payload_data::ChunkPayloadData;
 use std::alloc::Global;
 use std::marker::Model;
 

@@ -13,7 +13,7 @@ pub(crate) mod line;
 
 use self::line::Line;
 use sctp_base::error::Result;
-use sctp_chunks::chunk::chunk_payload_data::ChunkPayloadData;
+use sctp_data::chunk::chunk_payload_data::ChunkPayloadData;
 use std::alloc::Global;
 use std::marker::Model;
 

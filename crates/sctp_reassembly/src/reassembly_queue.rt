@@ -34,7 +34,7 @@ use self::unassembled::{Loose, UnassembledFragment};
 use self::unassembled_places::{front_upto, place_for};
 use sctp_base::error::{Error, Result};
 use sctp_base::util::{sna16gt, sna16lt, sna16lte, sna32lte};
-use sctp_chunks::chunk::chunk_payload_data::{ChunkPayloadData, PayloadProtocolIdentifier};
+use sctp_data::chunk::chunk_payload_data::{ChunkPayloadData, PayloadProtocolIdentifier};
 use sctp_serial::turns::Turns;
 use std::alloc::Global;
 use std::collections::VecDeque;

@@ -7,8 +7,8 @@ use Rattle.sctp_list_lemmas.specs.Lists.{insert_before, advance_over, Seen}
 use Rattle.sctp_list_lemmas.specs.Serial.{distance, comes_before, at_or_before}
 use Rattle.sctp_list_lemmas.proofs.More.{not_both}
 use Rattle.sctp_list_lemmas.proofs.Distances.{before_is}
-use Rattle.sctp_chunks.specs.declared.chunk.chunk_payload_data.ChunkPayloadData.{ChunkPayloadData}
-use Rattle.sctp_chunks.specs.declared.chunk.chunk_selective_ack.GapAckBlock.{GapAckBlock}
+use Rattle.sctp_data.specs.declared.chunk.chunk_payload_data.ChunkPayloadData.{ChunkPayloadData}
+use Rattle.sctp_data.specs.declared.chunk.chunk_selective_ack.GapAckBlock.{GapAckBlock}
 use Rattle.sctp_serial.specs.DataChunks.{chunk_before, bytes_of, following_tsn, tsns}
 use Rattle.sctp_serial.specs.Window
 use Rattle.sctp_serial.specs.Window.{IsWindow}

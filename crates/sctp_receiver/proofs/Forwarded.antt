@@ -3,8 +3,8 @@ use Rattle.std.proofs.Common.{◌≡◌, refl, ap, ◌∙◌, ℕ, Bool, true, f
 use Rattle.std.specs.Prelude.{◌==◌, if◌then◌else◌, find, option_map}
 use Rattle.std.specs.List.{filter}
 use Rattle.sctp_list_lemmas.specs.Lists.{change_where}
-use Rattle.sctp_chunks.specs.declared.chunk.chunk_forward_tsn.ChunkForwardTsnStream.{ChunkForwardTsnStream}
-use Rattle.sctp_chunks.specs.ForwardTsn.{ForwardTsn}
+use Rattle.sctp_data.specs.declared.chunk.chunk_forward_tsn.ChunkForwardTsnStream.{ChunkForwardTsnStream}
+use Rattle.sctp_data.specs.ForwardTsn.{ForwardTsn}
 use Rattle.sctp_reassembly.specs.reassembly_queue.ReassemblyQueue.{ReassemblyState, after_ordered_skip}
 use Rattle.sctp_receiver.specs.declared.receiver.inbound_streams.InboundStream.{InboundStream}
 use Rattle.sctp_receiver.specs.Inbound.{number, numbers_of, has_number, with_queue, ssn_forwarded, named_forwarded, unassembled_forwarded, ssns_of, skipped_each, stream_forwarded}

@@ -9,8 +9,8 @@ use Rattle.sctp_list_lemmas.specs.Lists.{insert_before, change_first, after_lead
 use Rattle.sctp_list_lemmas.specs.Serial.{at_or_before, comes_before16}
 use Rattle.sctp_list_lemmas.proofs.Cases.{same-is, same-yes, negated}
 use Rattle.sctp_list_lemmas.proofs.More.{and, both, fails}
-use Rattle.sctp_chunks.specs.declared.chunk.chunk_payload_data.ChunkPayloadData.{ChunkPayloadData}
-use Rattle.sctp_chunks.specs.ChunkSet.{ChunkSet}
+use Rattle.sctp_data.specs.declared.chunk.chunk_payload_data.ChunkPayloadData.{ChunkPayloadData}
+use Rattle.sctp_data.specs.ChunkSet.{ChunkSet}
 use Rattle.sctp_serial.specs.DataChunks.{chunk_before, has_tsn, is_on}
 use Rattle.sctp_serial.specs.Runs.{IsRun, IsEarliestRun}
 use Rattle.sctp_reassembly.specs.reassembly_queue.Fragments.{has_ssn, with_chunk, new_set, sets_with, set_before}

@@ -7,8 +7,8 @@ use Rattle.std.proofs.lemmas.List.{take-append-drop}
 use Rattle.sctp_list_lemmas.specs.Lists.{insert_before, change_first, after_leading}
 use Rattle.sctp_list_lemmas.specs.Serial.{at_or_before, comes_before16}
 use Rattle.sctp_list_lemmas.proofs.Edits.{sum_by-inserted}
-use Rattle.sctp_chunks.specs.declared.chunk.chunk_payload_data.ChunkPayloadData.{ChunkPayloadData}
-use Rattle.sctp_chunks.specs.ChunkSet.{ChunkSet}
+use Rattle.sctp_data.specs.declared.chunk.chunk_payload_data.ChunkPayloadData.{ChunkPayloadData}
+use Rattle.sctp_data.specs.ChunkSet.{ChunkSet}
 use Rattle.sctp_serial.specs.DataChunks.{has_tsn, chunk_before}
 use Rattle.sctp_reassembly.specs.reassembly_queue.Fragments.{has_ssn, with_chunk, new_set, sets_with, set_before}
 use Rattle.sctp_reassembly.specs.reassembly_queue.ReassemblyQueue.{Reassembly, ReassemblyState, held_after_ordered_push, set_of_run, TakesRun, BecomesComplete, is_readable, front_readable, without_first, after_read, message_among, message_read, rest_among, rest_read, is_passed, after_ordered_skip, after_unordered_skip}

@@ -1,7 +1,7 @@
 //! The receiving half of a link (RFC 4960 6.2; RFC 3758 3.6).
 
 ghost use Rattle.std.specs.Prelude.{◌≡◌, ◌==◌, ◌⊎◌, true, false, not, None, Some, OnOk, OnErr, IfOk, IfErr, IsOk, IsOkUnless, option_map, option_copied, is_some, map, min, length, slice_index_or, ◌<◌, ◌-◌, ◌^◌, if◌then◌else◌};
-ghost use Rattle.sctp_chunks.specs.declared.chunk.chunk_forward_tsn.ChunkForwardTsnStream.{ChunkForwardTsnStream};
+ghost use Rattle.sctp_data.specs.declared.chunk.chunk_forward_tsn.ChunkForwardTsnStream.{ChunkForwardTsnStream};
 ghost use Rattle.sctp_list_lemmas.specs.Lists.{change_where};
 ghost use Rattle.sctp_receiver.specs.Inbound.{named_forwarded, has_number, ssn_forwarded};
 ghost use Rattle.sctp_receiver.specs.declared.receiver.refusal.ReceiverRefusal.TheVariants.{StreamOpen, StreamUnknown, OutOfMemory};
@@ -24,8 +24,8 @@ use self::limits::Limits;
 use self::refusal::ReceiverRefusal;
 use self::tsn_filter::TsnFilter;
 use sctp_base::util::sna32lte;
-use sctp_chunks::chunk::chunk_forward_tsn::{ChunkForwardTsn, ChunkForwardTsnStream};
-use sctp_chunks::chunk::chunk_payload_data::{ChunkPayloadData, PayloadProtocolIdentifier};
+use sctp_data::chunk::chunk_forward_tsn::{ChunkForwardTsn, ChunkForwardTsnStream};
+use sctp_data::chunk::chunk_payload_data::{ChunkPayloadData, PayloadProtocolIdentifier};
 use sctp_outbound::payload_queue::PayloadQueue;
 use sctp_reassembly::chunks::Chunks;
 use sctp_reassembly::reassembly_queue::ReassemblyQueue;
@@ -64,7 +64,7 @@ impl Model for Receiver {
 }
 
 impl Receiver {
-    ghost use Rattle.sctp_chunks.specs.ForwardTsn.{forward_tsn_of};
+    ghost use Rattle.sctp_data.specs.ForwardTsn.{forward_tsn_of};
     ghost use Rattle.sctp_reassembly.specs.reassembly_queue.ReassemblyQueue.{at_start};
     ghost use Rattle.sctp_receiver.specs.Ssns.{is_kept_on};
     ghost use Rattle.sctp_receiver.specs.TsnFilter.{has_come, mark};

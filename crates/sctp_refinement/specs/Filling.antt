@@ -1,6 +1,6 @@
 -- Which chunks a Send takes from the pending queue: the first, however long, then those that the limit still holds.
 use Rattle.std.specs.Prelude.{ℕ, zero, suc, Bool, false, if◌then◌else◌, List, [], ◌∷◌, ◌++◌, length, Option, Some, None, nat_le, ◌+◌}
-use Rattle.sctp_chunks.specs.declared.chunk.chunk_payload_data.ChunkPayloadData.{ChunkPayloadData}
+use Rattle.sctp_data.specs.declared.chunk.chunk_payload_data.ChunkPayloadData.{ChunkPayloadData}
 use Rattle.sctp_outbound.specs.pending_queue.PendingQueue.{Pending, next_pending}
 use Rattle.sctp_outbound.specs.outbound_queue.OutboundQueue.{taken_of}
 use Rattle.sctp_model.specs.Changes.{chunk_length, plus}

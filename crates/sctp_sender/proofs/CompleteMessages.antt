@@ -7,8 +7,8 @@ use Rattle.std.proofs.lemmas.Bool.Decides.{nat_tests}
 use Rattle.std.proofs.lemmas.List.{get_or-drop, get_or-map, get_or_default, length-drop, length-map, map-append, take-append-drop}
 use Rattle.sctp_list_lemmas.proofs.Cases.{or-left, or-none, or-right}
 use Rattle.sctp_list_lemmas.proofs.Edits.{list_any-append, those-append}
-use Rattle.sctp_chunks.specs.declared.chunk.chunk_payload_data.ChunkPayloadData.{ChunkPayloadData}
-use Rattle.sctp_chunks.specs.SelectiveAck.{Sack}
+use Rattle.sctp_data.specs.declared.chunk.chunk_payload_data.ChunkPayloadData.{ChunkPayloadData}
+use Rattle.sctp_data.specs.SelectiveAck.{Sack}
 use Rattle.sctp_sender.specs.declared.sender.flight.Released.{Released}
 use Rattle.sctp_sender.specs.Flight.{leaves_open, open_messages, released_of}
 use Rattle.sctp_sender.specs.SideBySide.{StandSideBySide, IsApartAt, is_number, messages_of}

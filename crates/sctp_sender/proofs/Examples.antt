@@ -1,21 +1,21 @@
 -- Worked examples, by computation.
 use Rattle.std.proofs.Common.{◌≡◌, ℕ, Bool, true, false, List, [], ◌∷◌, map, option_map, find, Option, Some, None, refl, ap, sym}
 use Rattle.sctp_list_lemmas.specs.Serial.{at_or_before, comes_before, distance}
-use Rattle.sctp_chunks.specs.ChunkSet.{fresh}
-use Rattle.sctp_chunks.specs.declared.chunk.chunk_payload_data.PayloadProtocolIdentifier.TheVariants as identifiers
-use Rattle.sctp_chunks.specs.declared.chunk.chunk_payload_data.ChunkPayloadData.{ChunkPayloadData}
-use Rattle.sctp_chunks.specs.declared.chunk.chunk_payload_data.PayloadProtocolIdentifier.{PayloadProtocolIdentifier}
-use Rattle.sctp_chunks.specs.declared.chunk.chunk_payload_data.ReliabilityType.TheVariants.{Rexmit}
+use Rattle.sctp_data.specs.ChunkSet.{fresh}
+use Rattle.sctp_data.specs.declared.chunk.chunk_payload_data.PayloadProtocolIdentifier.TheVariants as identifiers
+use Rattle.sctp_data.specs.declared.chunk.chunk_payload_data.ChunkPayloadData.{ChunkPayloadData}
+use Rattle.sctp_data.specs.declared.chunk.chunk_payload_data.PayloadProtocolIdentifier.{PayloadProtocolIdentifier}
+use Rattle.sctp_data.specs.declared.chunk.chunk_payload_data.ReliabilityType.TheVariants.{Rexmit}
 use Rattle.sctp_outbound.specs.Marks.{as_acknowledged, as_abandoned}
 use Rattle.std.specs.Prelude.{◌==◌, ◌&&◌, not}
 use Rattle.std.specs.List.{list_any}
 use Rattle.std.proofs.lemmas.Bool.{false≢true}
-use Rattle.sctp_chunks.specs.declared.chunk.chunk_selective_ack.GapAckBlock.{GapAckBlock}
+use Rattle.sctp_data.specs.declared.chunk.chunk_selective_ack.GapAckBlock.{GapAckBlock}
 use Rattle.sctp_sender.specs.Reporting.{after_blocks, goes_from_to}
 use Rattle.sctp_sender.specs.SideBySide.{StandSideBySide}
 use Rattle.sctp_sender.specs.Flight as flight
 use Rattle.sctp_sender.specs.Flight.{Flight}
-use Rattle.sctp_chunks.specs.SelectiveAck.{Sack}
+use Rattle.sctp_data.specs.SelectiveAck.{Sack}
 use Rattle.sctp_sender.specs.Abandonment.{advanced_ack_point}
 use Rattle.sctp_sender.specs.Keeping.{coming_back, kept_after, told_back, with_restored}
 use Rattle.sctp_sender.specs.Late.{late_order, leaving_each}

@@ -10,7 +10,7 @@ use Rattle.sctp_list_lemmas.specs.Lists.{change_where, insert_before}
 use Rattle.sctp_list_lemmas.specs.Serial.{comes_before}
 use Rattle.sctp_list_lemmas.proofs.Cases.{or-left, or-split}
 use Rattle.sctp_list_lemmas.proofs.Edits.{length-change_where, list_any-append}
-use Rattle.sctp_chunks.specs.declared.chunk.chunk_payload_data.ChunkPayloadData.{ChunkPayloadData}
+use Rattle.sctp_data.specs.declared.chunk.chunk_payload_data.ChunkPayloadData.{ChunkPayloadData}
 use Rattle.sctp_serial.specs.DataChunks.{has_tsn, chunk_before, following_tsn, tsns}
 use Rattle.sctp_outbound.specs.Marks.{as_abandoned, is_of}
 use Rattle.sctp_outbound.specs.outbound_queue.OutboundQueue.{Outbound, abandoned_of, all_started, as_sent, expired_of, is_expired_tail, message_of, passing, sent_of, sent_next, terminal_chunk, to_abandon, with_inflight, with_message, with_message_id, with_terminal_chunk}

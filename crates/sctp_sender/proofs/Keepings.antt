@@ -8,8 +8,8 @@ use Rattle.std.proofs.lemmas.List.{append_assoc, drop-append-le, drop-take, get_
 use Rattle.std.proofs.lemmas.List.Sums.{sum_by-append, sum_by-cons}
 use Rattle.std.proofs.lemmas.Option.{none-some}
 use Rattle.std.proofs.Math.Seq.{take-length}
-use Rattle.sctp_chunks.specs.declared.chunk.chunk_payload_data.ChunkPayloadData.{ChunkPayloadData}
-use Rattle.sctp_chunks.specs.SelectiveAck.{Sack}
+use Rattle.sctp_data.specs.declared.chunk.chunk_payload_data.ChunkPayloadData.{ChunkPayloadData}
+use Rattle.sctp_data.specs.SelectiveAck.{Sack}
 use Rattle.sctp_outbound.specs.Marks.{as_taken_back}
 use Rattle.sctp_outbound.specs.pending_queue.Whole.{partially_sent}
 use Rattle.sctp_serial.specs.DataChunks.{bytes_of, following_tsn}

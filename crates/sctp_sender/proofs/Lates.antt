@@ -7,7 +7,7 @@ use Rattle.sctp_list_lemmas.specs.Lists.{change_where}
 use Rattle.sctp_list_lemmas.proofs.Cases.{negated, or-left, or-right, or-split, same-yes}
 use Rattle.sctp_list_lemmas.proofs.Edits.{list_any-those}
 use Rattle.sctp_list_lemmas.proofs.More.{and, both, fails, not_both}
-use Rattle.sctp_chunks.specs.declared.chunk.chunk_payload_data.ChunkPayloadData.{ChunkPayloadData}
+use Rattle.sctp_data.specs.declared.chunk.chunk_payload_data.ChunkPayloadData.{ChunkPayloadData}
 use Rattle.sctp_outbound.specs.Marks.{as_abandoned, is_of}
 use Rattle.sctp_outbound.specs.outbound_queue.OutboundQueue.{Outbound, abandoned_of, has_tail, to_abandon, with_terminal_chunk}
 use Rattle.sctp_outbound.specs.payload_queue.PayloadQueue as payload

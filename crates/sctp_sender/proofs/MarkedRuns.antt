@@ -5,7 +5,7 @@ use Rattle.std.proofs.lemmas.List.{length-map, length-take-le, take-append-drop,
 use Rattle.std.specs.List.{filter}
 use Rattle.sctp_list_lemmas.specs.Lists.{change_where}
 use Rattle.sctp_list_lemmas.proofs.Edits.{change_where-only, changed_step, unchanged_step, those-more, length-change_where}
-use Rattle.sctp_chunks.specs.declared.chunk.chunk_payload_data.ChunkPayloadData.{ChunkPayloadData}
+use Rattle.sctp_data.specs.declared.chunk.chunk_payload_data.ChunkPayloadData.{ChunkPayloadData}
 use Rattle.sctp_serial.specs.DataChunks.{has_tsn, tsns}
 use Rattle.sctp_sender.specs.Flight.{tsns_from}
 use Rattle.sctp_sender.proofs.Runs.{IsRunFrom, tsn-at, found-at, only-at, changed-run}

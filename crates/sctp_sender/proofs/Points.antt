@@ -4,7 +4,7 @@ use Rattle.std.specs.Prelude.{if◌then◌else◌, find, option_map, unwrap_or}
 use Rattle.std.specs.List.{filter}
 use Rattle.sctp_list_lemmas.specs.Serial.{distance}
 use Rattle.sctp_list_lemmas.proofs.Edits.{those-more}
-use Rattle.sctp_chunks.specs.declared.chunk.chunk_payload_data.ChunkPayloadData.{ChunkPayloadData}
+use Rattle.sctp_data.specs.declared.chunk.chunk_payload_data.ChunkPayloadData.{ChunkPayloadData}
 use Rattle.sctp_serial.specs.DataChunks.{has_tsn, following_tsn, preceding_tsn}
 use Rattle.sctp_sender.specs.Flight.{Flight, IsContiguous}
 use Rattle.sctp_sender.specs.Abandonment.{advanced_ack_point, ahead, is_kept, is_named}

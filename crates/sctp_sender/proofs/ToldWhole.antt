@@ -4,8 +4,8 @@ use Rattle.std.specs.Prelude.{◌&&◌, min, nat_eq, not}
 use Rattle.std.specs.List.{filter, list_any}
 use Rattle.std.proofs.lemmas.Bool.{cases_lt, false≢true}
 use Rattle.sctp_list_lemmas.specs.Serial.{distance}
-use Rattle.sctp_chunks.specs.SelectiveAck.{Sack}
-use Rattle.sctp_chunks.specs.declared.chunk.chunk_payload_data.ChunkPayloadData.{ChunkPayloadData}
+use Rattle.sctp_data.specs.SelectiveAck.{Sack}
+use Rattle.sctp_data.specs.declared.chunk.chunk_payload_data.ChunkPayloadData.{ChunkPayloadData}
 use Rattle.sctp_outbound.specs.pending_queue.Whole.{partially_sent}
 use Rattle.sctp_sender.specs.Flight.{Flight, IsContiguous, is_half, is_whole, open_messages, released_of, reports_anew}
 use Rattle.sctp_sender.specs.Reporting.{after_blocks}

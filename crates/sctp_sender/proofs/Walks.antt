@@ -6,7 +6,7 @@ use Rattle.std.proofs.lemmas.List.{append-nil, map-append}
 use Rattle.std.proofs.lemmas.Option.{none-some}
 use Rattle.sctp_list_lemmas.specs.Lists.{change_where, insert_before}
 use Rattle.sctp_list_lemmas.proofs.Edits.{list_any-append, those-more}
-use Rattle.sctp_chunks.specs.declared.chunk.chunk_payload_data.ChunkPayloadData.{ChunkPayloadData}
+use Rattle.sctp_data.specs.declared.chunk.chunk_payload_data.ChunkPayloadData.{ChunkPayloadData}
 
 pub none-of : {X : Type 0} (o : Option X) → is_some o ≡ false → o ≡ None
 none-of None h = refl

@@ -3,9 +3,9 @@ use Rattle.std.specs.Prelude.{◌≡◌, ℕ, zero, suc, ◌+◌, ◌-◌, ◌%�
 use Rattle.std.specs.List.{list_all, list_any, find, filter}
 use Rattle.sctp_list_lemmas.specs.Lists.{change_where}
 use Rattle.sctp_list_lemmas.specs.Serial.{distance, comes_before, at_or_before}
-use Rattle.sctp_chunks.specs.declared.chunk.chunk_payload_data.ChunkPayloadData.{ChunkPayloadData}
-use Rattle.sctp_chunks.specs.declared.chunk.chunk_selective_ack.GapAckBlock.{GapAckBlock}
-use Rattle.sctp_chunks.specs.SelectiveAck.{Sack}
+use Rattle.sctp_data.specs.declared.chunk.chunk_payload_data.ChunkPayloadData.{ChunkPayloadData}
+use Rattle.sctp_data.specs.declared.chunk.chunk_selective_ack.GapAckBlock.{GapAckBlock}
+use Rattle.sctp_data.specs.SelectiveAck.{Sack}
 use Rattle.sctp_outbound.specs.Marks.{as_acknowledged, is_outstanding, with_nsent}
 use Rattle.sctp_outbound.specs.outbound_queue.OutboundQueue.{Outbound, new_outbound, with_inflight, abandoned_of, has_tail, to_abandon, tsn_after_of}
 use Rattle.sctp_outbound.specs.payload_queue.Blocks.{is_in_blocks}

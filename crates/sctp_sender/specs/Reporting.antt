@@ -1,7 +1,7 @@
 -- Which distances past its cumulative TSN the gap ack blocks of a SACK report (RFC 4960 3.3.4).
 use Rattle.std.specs.Prelude.{◌≡◌, ℕ, ◌+◌, ◌≤◌, Bool, false, ◌&&◌, ◌==◌, nat_le, nat_lt, if◌then◌else◌, List, [], ◌∷◌, max, slice_index_or}
 use Rattle.std.specs.List.{list_any}
-use Rattle.sctp_chunks.specs.declared.chunk.chunk_selective_ack.GapAckBlock.{GapAckBlock}
+use Rattle.sctp_data.specs.declared.chunk.chunk_selective_ack.GapAckBlock.{GapAckBlock}
 use Rattle.sctp_outbound.specs.payload_queue.Blocks.{is_in_blocks}
 
 -- one more than the last distance that the block reports, 0 where it reports none

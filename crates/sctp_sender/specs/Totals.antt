@@ -1,7 +1,7 @@
 -- What left, stream by stream and in all.
 use Rattle.std.specs.Prelude.{◌≡◌, ℕ, ◌==◌, true, if◌then◌else◌, List, [], ◌∷◌, length}
 use Rattle.std.specs.List.{sum_by}
-use Rattle.sctp_chunks.specs.declared.chunk.chunk_payload_data.ChunkPayloadData.{ChunkPayloadData}
+use Rattle.sctp_data.specs.declared.chunk.chunk_payload_data.ChunkPayloadData.{ChunkPayloadData}
 use Rattle.sctp_outbound.specs.outbound_queue.OutboundQueue.{Outbound}
 use Rattle.sctp_sender.specs.declared.sender.flight.Released.{Released}
 

@@ -24,10 +24,10 @@ use self::flight::{InFlight, Released};
 use self::outbound_streams::OutboundStreams;
 use self::refusal::SenderRefusal;
 use bytes::Bytes;
-use sctp_chunks::chunk::chunk_payload_data::{
+use sctp_data::chunk::chunk_payload_data::{
     ChunkPayloadData, PayloadProtocolIdentifier, ReliabilityType,
 };
-use sctp_chunks::chunk::chunk_selective_ack::ChunkSelectiveAck;
+use sctp_data::chunk::chunk_selective_ack::ChunkSelectiveAck;
 use sctp_outbound::outbound_queue::OutboundQueue;
 use sctp_stream::stream::{DataChannelStats, StreamState};
 use std::alloc::Global;
@@ -78,7 +78,7 @@ impl Model for Sender {
 }
 
 impl Sender {
-    ghost use Rattle.sctp_chunks.specs.SelectiveAck.{sack_of};
+    ghost use Rattle.sctp_data.specs.SelectiveAck.{sack_of};
     ghost use Rattle.sctp_outbound.specs.outbound_queue.OutboundQueue.{all_started, as_sent, sent_next, expiring, expiring_tail, message_of, total_bytes, after_sends};
     ghost use Rattle.sctp_stream.specs.declared.stream.StreamState.{StreamState};
     ghost use Rattle.sctp_outbound.specs.pending_queue.PendingQueue.{next_pending};

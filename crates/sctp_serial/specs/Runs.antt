@@ -1,6 +1,6 @@
 -- Runs of neighbours in a list of fragments.
 use Rattle.std.specs.Prelude.{◌≡◌, ℕ, ◌+◌, ◌-◌, ◌%◌, ◌^◌, ◌<◌, ◌≤◌, ◌≢◌, true, false, List, length, slice_index_or}
-use Rattle.sctp_chunks.specs.declared.chunk.chunk_payload_data.ChunkPayloadData.{ChunkPayloadData}
+use Rattle.sctp_data.specs.declared.chunk.chunk_payload_data.ChunkPayloadData.{ChunkPayloadData}
 
 -- the places from first to last hold neighbours whose TSNs rise by one
 abbrev pub IsRising : List ChunkPayloadData → ℕ → ℕ → Type 0

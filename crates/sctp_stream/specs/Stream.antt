@@ -2,12 +2,12 @@
 use Rattle.std.specs.Prelude.{ℕ, ◌+◌, ◌-◌, ◌%◌, ◌^◌, Bool, false, ◌&&◌, not, ◌==◌, nat_lt, nat_le, ℤ, pos, negsuc, if◌then◌else◌, List, [], length, map, slice_index_or}
 use Rattle.sctp_list_lemmas.specs.Kept.{numbers_from}
 use Rattle.sctp_list_lemmas.specs.Lists.{pieces}
-use Rattle.sctp_chunks.specs.ChunkSet.{fresh}
-use Rattle.sctp_chunks.specs.declared.chunk.chunk_payload_data.PayloadProtocolIdentifier.{PayloadProtocolIdentifier}
-use Rattle.sctp_chunks.specs.declared.chunk.chunk_payload_data.ChunkPayloadData.{ChunkPayloadData}
-use Rattle.sctp_chunks.specs.PayloadTypes.{is_ordered}
+use Rattle.sctp_data.specs.ChunkSet.{fresh}
+use Rattle.sctp_data.specs.declared.chunk.chunk_payload_data.PayloadProtocolIdentifier.{PayloadProtocolIdentifier}
+use Rattle.sctp_data.specs.declared.chunk.chunk_payload_data.ChunkPayloadData.{ChunkPayloadData}
+use Rattle.sctp_data.specs.PayloadTypes.{is_ordered}
 use Rattle.sctp_stream.specs.declared.stream.StreamState.{StreamState}
-use Rattle.sctp_chunks.specs.declared.chunk.chunk_payload_data.ReliabilityType.TheVariants.{Reliable}
+use Rattle.sctp_data.specs.declared.chunk.chunk_payload_data.ReliabilityType.TheVariants.{Reliable}
 use Rattle.sctp_stream.specs.declared.stream.RecvSendState.TheVariants.{ReadWritable}
 use Rattle.sctp_stream.specs.Stats.{count_up}
 

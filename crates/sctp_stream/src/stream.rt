@@ -1,16 +1,16 @@
 //! What a stream keeps.
 
 ghost use Rattle.std.specs.Prelude.{◌≡◌, ◌==◌, ◌&&◌, ◌||◌, ◌+◌, ◌-◌, ◌^◌, ◌<◌, ◌≤◌, ◌⊎◌, ℕ, pos, not, false, true, length, map, List, [], OnOk, OnErr, IfOk, IfErr, IsOk, Ok, None};
-ghost use Rattle.sctp_chunks.specs.PayloadTypes.{counted_as};
+ghost use Rattle.sctp_data.specs.PayloadTypes.{counted_as};
 ghost use Rattle.sctp_list_lemmas.specs.Kept.{numbers_from};
 ghost use Rattle.sctp_base.specs.declared.error.Error.TheVariants.{ErrOutOfMemory, ErrInboundPacketTooLarge};
 ghost use Rattle.sctp_stream.specs.Stats.{with_sent, with_received, count_up};
 
 use bytes::Bytes;
 use sctp_base::error::{Error, Result};
-pub use sctp_chunks::chunk::chunk_payload_data::ReliabilityType;
-use sctp_chunks::chunk::chunk_payload_data::{ChunkPayloadData, PayloadProtocolIdentifier};
-use sctp_chunks::chunk::error_cause::ErrorCauseCode;
+pub use sctp_data::chunk::chunk_payload_data::ReliabilityType;
+use sctp_data::chunk::chunk_payload_data::{ChunkPayloadData, PayloadProtocolIdentifier};
+use sctp_data::chunk::error_cause::ErrorCauseCode;
 use sctp_reassembly::reassembly_queue::ReassemblyQueue;
 use std::alloc::Global;
 use std::marker::Model;
@@ -170,7 +170,7 @@ impl StreamState {
     ghost use Rattle.sctp_reassembly.specs.reassembly_queue.Fragments.{payload_of};
     ghost use Rattle.sctp_stream.specs.Lending.{LendsQueue};
     ghost use Rattle.std.specs.Borrow.{sem};
-    ghost use Rattle.sctp_chunks.specs.PayloadTypes.{is_ordered};
+    ghost use Rattle.sctp_data.specs.PayloadTypes.{is_ordered};
     ghost use Rattle.sctp_reassembly.specs.reassembly_queue.ReassemblyQueue.{is_too_large, after_ordered_push, is_complete_with, PushesUnordered};
 
     /// A stream that is open both ways, ordered and reliable, with fragments of at most `max_payload_size`

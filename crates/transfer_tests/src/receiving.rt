@@ -1,7 +1,7 @@
 //! A caller of a receiver.
 
 ghost use Rattle.std.specs.Prelude.{◌≡◌, ◌+◌, ◌-◌, ◌*◌, ◌≤◌, true, Some, None, OnOk, OnErr, IfOk, IfErr, length};
-ghost use Rattle.sctp_chunks.specs.SelectiveAck.{sack_of};
+ghost use Rattle.sctp_data.specs.SelectiveAck.{sack_of};
 ghost use Rattle.sctp_receiver.specs.declared.receiver.refusal.ReceiverRefusal.TheVariants.{OutOfMemory, StreamUnknown};
 ghost use Rattle.sctp_receiver.specs.Receiver.{Takes, after_discard, after_sack_within, arrival_of, arrival_refusal, sack_within, window};
 

@@ -1,8 +1,8 @@
 //! A caller of a sender.
 
 ghost use Rattle.std.specs.Prelude.{◌≡◌, ◌-◌, ◌⊎◌, None, Some, OnErr, OnOk, IfErr, IfOk, IfSome, IsOk, find, length, option_map, slice_get};
-ghost use Rattle.sctp_chunks.specs.SelectiveAck.{sack_of};
-ghost use Rattle.sctp_chunks.specs.declared.chunk.chunk_payload_data.ChunkPayloadData.{ChunkPayloadData};
+ghost use Rattle.sctp_data.specs.SelectiveAck.{sack_of};
+ghost use Rattle.sctp_data.specs.declared.chunk.chunk_payload_data.ChunkPayloadData.{ChunkPayloadData};
 ghost use Rattle.sctp_sender.specs.declared.sender.refusal.SenderRefusal.{SenderRefusal};
 ghost use Rattle.sctp_sender.specs.declared.sender.refusal.SenderRefusal.TheVariants.{OutOfMemory};
 ghost use Rattle.sctp_sender.specs.Flight.{released_by, sack_refusal};

@@ -1,7 +1,7 @@
 //! Callers of `sctp_queues`: a sender that meets each precondition by the call that tells, and a reader.
 
 ghost use Rattle.std.specs.Prelude.{◌≡◌, ◌++◌, None, Some, drop, if◌then◌else◌, length, IfOk, MatchOption, OnErr};
-ghost use Rattle.sctp_chunks.specs.ChunkSet.{ChunkSet};
+ghost use Rattle.sctp_data.specs.ChunkSet.{ChunkSet};
 ghost use Rattle.sctp_outbound.specs.outbound_queue.OutboundQueue.{with_message};
 ghost use Rattle.sctp_reassembly.specs.reassembly_queue.Fragments.{payload_of};
 ghost use Rattle.sctp_reassembly.specs.reassembly_queue.ReassemblyQueue.{message_read};

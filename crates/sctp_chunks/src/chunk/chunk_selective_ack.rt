@@ -1,4 +1,4 @@
-//! SACK: what arrived.
+//! SACK: how an acknowledgement is read and written.
 
 ghost use Rattle.std.specs.Prelude.{◌≡◌, ◌+◌, ◌*◌, ◌^◌, ◌<◌, ◌≤◌, ◌++◌, length, IfOk, IsOkUnless};
 ghost use Rattle.std.specs.List.{flat_map, AllByRecursion};
@@ -6,7 +6,7 @@ ghost use Rattle.sctp_base.specs.Each.{each};
 ghost use Rattle.sctp_base.specs.Field.{be32, u32_at};
 ghost use Rattle.sctp_base.specs.declared.error.Error.TheVariants.{ErrOutOfMemory};
 ghost use Rattle.sctp_chunks.specs.Fits.{FitsBlock};
-ghost use Rattle.sctp_chunks.specs.SelectiveAck.{block_at, block_encoding, sack_of};
+ghost use Rattle.sctp_data.specs.SelectiveAck.{block_at, block_encoding, sack_of};
 ghost use Rattle.sctp_chunks.specs.Wire.{sack_chunk, IsSack};
 ghost use Rattle.sctp_chunks.specs.Fault.{SackFault};
 
@@ -16,56 +16,10 @@ use bytes::{Bytes, BytesMut};
 use sctp_base::error::{Error, Result};
 use sctp_base::field::{put_u16, put_u32, read_u16, read_u32};
 use sctp_base::util::{CT_SACK, ChunkType};
+pub use sctp_data::chunk::chunk_selective_ack::{
+    ChunkSelectiveAck, GapAckBlock, SELECTIVE_ACK_HEADER_SIZE,
+};
 use std::alloc::Global;
-use std::fmt;
-
-/// The bytes of the value before the blocks: TSN four, credit four, the counts of blocks and of duplicates two each.
-pub const SELECTIVE_ACK_HEADER_SIZE: usize = 12;
-
-/// A run of TSNs that arrived, by the distances of its first and its last from the cumulative TSN (RFC 4960 3.3.4).
-#[derive(Clone, Copy, Debug, PartialEq, Eq)]
-pub struct GapAckBlock {
-    /// The distance of the first.
-    pub start: u16,
-    /// The distance of the last.
-    pub end: u16,
-}
-
-impl fmt::Display for GapAckBlock {
-    fn fmt<W: fmt::Write>(&self, f: &mut fmt::Formatter<W>) -> fmt::Result {
-        write!(f, "{} - {}", self.start, self.end)
-    }
-}
-
-/// Which TSNs arrived, and which of them arrived again (RFC 4960 3.3.4, type 3). The value is 12 bytes, then
-/// the blocks and the duplicates, four bytes each, at most 16,379 of both together; what follows is ignored.
-/// Refuses another type with `ErrChunkTypeNotSack`, a value of under 12 bytes, or
-/// of fewer than its counts ask for, with `ErrSackSizeNotLargeEnoughInfo`.
-#[derive(Debug, Drop)]
-pub struct ChunkSelectiveAck {
-    /// The last TSN up to which all arrived.
-    pub cumulative_tsn_ack: u32,
-    /// How many bytes of user data its sender has room for.
-    pub advertised_receiver_window_credit: u32,
-    /// The runs that arrived beyond it.
-    pub gap_ack_blocks: Vec<GapAckBlock>,
-    /// The TSNs that came again since the last SACK.
-    pub duplicate_tsn: Vec<u32>,
-}
-
-impl fmt::Display for ChunkSelectiveAck {
-    fn fmt<W: fmt::Write>(&self, f: &mut fmt::Formatter<W>) -> fmt::Result {
-        write!(
-            f,
-            "SACK cumTsnAck={} arwnd={} dupTsn={:?}",
-            self.cumulative_tsn_ack, self.advertised_receiver_window_credit, self.duplicate_tsn
-        )?;
-        for gap in &self.gap_ack_blocks {
-            write!(f, "\n gap ack: {gap}")?;
-        }
-        Ok(())
-    }
-}
 
 /// Reads so many blocks from `at` on. Refuses only for memory.
 /// Precondition: they are there.
@@ -123,21 +77,6 @@ fn put_numbers(buf: &mut BytesMut, numbers: &[u32])
 {
     for number in numbers {
         put_u32(buf, *number);
-    }
-}
-
-impl ChunkSelectiveAck {
-    /// An equal acknowledgement. Refuses only for memory.
-    pub fn try_clone(&self, alloc: Global) -> Result<Self>
-        ensures ok { IfOk result (λ c. sack_of c ≡ sack_of self.now) }
-        ensures memory { IsOkUnless result ErrOutOfMemory }
-    {
-        Ok(ChunkSelectiveAck {
-            cumulative_tsn_ack: self.cumulative_tsn_ack,
-            advertised_receiver_window_credit: self.advertised_receiver_window_credit,
-            gap_ack_blocks: Vec::from_slice(alloc, &self.gap_ack_blocks)?,
-            duplicate_tsn: Vec::from_slice(alloc, &self.duplicate_tsn)?,
-        })
     }
 }
 

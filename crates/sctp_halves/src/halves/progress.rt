@@ -2,7 +2,7 @@
 
 ghost use Rattle.std.specs.Prelude.{◌≡◌, []};
 
-use sctp_chunks::chunk::chunk_payload_data::ReliabilityType;
+use sctp_data::chunk::chunk_payload_data::ReliabilityType;
 use std::alloc::Global;
 use std::collections::VecDeque;
 

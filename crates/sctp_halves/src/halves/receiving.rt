@@ -7,9 +7,9 @@ ghost use Rattle.sctp_halves.specs.Halves.{Sides, IsSaved, Grows};
 
 use super::Halves;
 use sctp_base::error::{Error, Result};
-use sctp_chunks::chunk::chunk_forward_tsn::ChunkForwardTsn;
-use sctp_chunks::chunk::chunk_payload_data::ChunkPayloadData;
-use sctp_chunks::chunk::chunk_selective_ack::ChunkSelectiveAck;
+use sctp_data::chunk::chunk_forward_tsn::ChunkForwardTsn;
+use sctp_data::chunk::chunk_payload_data::ChunkPayloadData;
+use sctp_data::chunk::chunk_selective_ack::ChunkSelectiveAck;
 use sctp_queues::chunks::Chunks;
 use sctp_receiver::receiver::arrival::{Arrival, Forwarded};
 use sctp_receiver::receiver::saved::SavedReceiver;
@@ -24,8 +24,8 @@ pub struct Saved {
 }
 
 impl Halves {
-    ghost use Rattle.sctp_chunks.specs.ForwardTsn.{forward_tsn_of};
-    ghost use Rattle.sctp_chunks.specs.SelectiveAck.{sack_of};
+    ghost use Rattle.sctp_data.specs.ForwardTsn.{forward_tsn_of};
+    ghost use Rattle.sctp_data.specs.SelectiveAck.{sack_of};
     ghost use Rattle.sctp_list_lemmas.specs.Lists.{change_at};
     ghost use Rattle.sctp_reassembly.specs.reassembly_queue.ReassemblyQueue.{at_start, message_read};
     ghost use Rattle.sctp_receiver.specs.Inbound.{stream_read};

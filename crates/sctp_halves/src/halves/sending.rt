@@ -1,7 +1,7 @@
 //! What the sending half is asked for (RFC 4960 6.1, 6.2.1; RFC 3758 3.5).
 
 ghost use Rattle.std.specs.Prelude.{◌≡◌, ◌<◌, ◌+◌, ◌-◌, ◌^◌, ℕ, true, false, None, Some, is_some, OnOk, OnErr, IfOk, IfSome, IsOk, IsOkUnless, find, length, option_map, not};
-ghost use Rattle.sctp_chunks.specs.PayloadTypes.{is_ordered};
+ghost use Rattle.sctp_data.specs.PayloadTypes.{is_ordered};
 ghost use Rattle.sctp_base.specs.declared.error.Error.TheVariants.{ErrOutOfMemory};
 ghost use Rattle.sctp_stream.specs.Stream as stream;
 
@@ -9,16 +9,16 @@ use super::Halves;
 use super::progress::Written;
 use bytes::Bytes;
 use sctp_base::error::{Error, Result};
-use sctp_chunks::chunk::chunk_payload_data::PayloadProtocolIdentifier;
-use sctp_chunks::chunk::chunk_selective_ack::ChunkSelectiveAck;
+use sctp_data::chunk::chunk_payload_data::PayloadProtocolIdentifier;
+use sctp_data::chunk::chunk_selective_ack::ChunkSelectiveAck;
 use sctp_sender::sender::refusal::SenderRefusal;
 use sctp_stream::stream::StreamState;
 
 impl Halves {
-    ghost use Rattle.sctp_chunks.specs.SelectiveAck.{sack_of};
+    ghost use Rattle.sctp_data.specs.SelectiveAck.{sack_of};
     ghost use Rattle.sctp_outbound.specs.outbound_queue.OutboundQueue.{all_started, expiring, expiring_tail, message_of, total_bytes};
     ghost use Rattle.sctp_outbound.specs.pending_queue.PendingQueue.{next_pending};
-    ghost use Rattle.sctp_chunks.specs.declared.chunk.chunk_payload_data.ChunkPayloadData.{ChunkPayloadData};
+    ghost use Rattle.sctp_data.specs.declared.chunk.chunk_payload_data.ChunkPayloadData.{ChunkPayloadData};
     ghost use Rattle.sctp_serial.specs.DataChunks.{has_tsn};
     ghost use Rattle.sctp_sender.specs.Flight.{with_queue, with_room, may_send, resent, sack_refusal, has_tail_at, message_to_abandon};
     ghost use Rattle.sctp_sender.specs.Sender.{write_refusal};

@@ -6,7 +6,7 @@ use Rattle.std.proofs.Math.Path.{subst}
 use Rattle.sctp_list_lemmas.specs.Lists.{change_where, change_at}
 use Rattle.sctp_list_lemmas.proofs.Edits.{length-change_where}
 use Rattle.sctp_list_lemmas.proofs.More.{length-changed}
-use Rattle.sctp_chunks.specs.declared.chunk.chunk_payload_data.ChunkPayloadData.{ChunkPayloadData}
+use Rattle.sctp_data.specs.declared.chunk.chunk_payload_data.ChunkPayloadData.{ChunkPayloadData}
 use Rattle.sctp_outbound.specs.pending_queue.PendingQueue.{next_pending}
 use Rattle.sctp_outbound.specs.outbound_queue.OutboundQueue as outbound
 use Rattle.sctp_outbound.specs.outbound_queue.OutboundQueue.{Outbound, expired_of, total_bytes}

@@ -4,9 +4,9 @@ use Rattle.std.specs.Prelude.{if◌then◌else◌, ◌==◌, ◌&&◌, not, nat_
 use Rattle.std.proofs.Math.Path.{subst}
 use Rattle.std.proofs.lemmas.Bool.{lt-ltb}
 use Rattle.std.proofs.lemmas.Bool.Decides.{nat_tests}
-use Rattle.sctp_chunks.specs.Reliability.{is_past}
+use Rattle.sctp_data.specs.Reliability.{is_past}
 use Rattle.sctp_list_lemmas.proofs.More.{both}
-use Rattle.sctp_chunks.specs.declared.chunk.chunk_payload_data.ChunkPayloadData.{ChunkPayloadData}
+use Rattle.sctp_data.specs.declared.chunk.chunk_payload_data.ChunkPayloadData.{ChunkPayloadData}
 use Rattle.sctp_serial.specs.DataChunks.{has_tsn}
 use Rattle.sctp_outbound.specs.pending_queue.PendingQueue.{next_pending}
 use Rattle.sctp_outbound.specs.outbound_queue.OutboundQueue as queue

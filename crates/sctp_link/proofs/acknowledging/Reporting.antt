@@ -5,8 +5,8 @@ use Rattle.std.proofs.Math.Path.{subst}
 use Rattle.std.proofs.lemmas.List.{take-map}
 use Rattle.sctp_list_lemmas.specs.Kept.{runs_of}
 use Rattle.sctp_list_lemmas.proofs.Getting.{length-mapped}
-use Rattle.sctp_chunks.specs.declared.chunk.chunk_selective_ack.GapAckBlock.{GapAckBlock}
-use Rattle.sctp_chunks.specs.SelectiveAck.{Sack, sack_value}
+use Rattle.sctp_data.specs.declared.chunk.chunk_selective_ack.GapAckBlock.{GapAckBlock}
+use Rattle.sctp_data.specs.SelectiveAck.{Sack, sack_value}
 use Rattle.sctp_chunks.specs.Wire.{sack_chunk}
 use Rattle.sctp_chunks.proofs.Lengths.{length_sack_value}
 use Rattle.sctp_packets.specs.Packet.{ReadsPacket, packet_encoding}

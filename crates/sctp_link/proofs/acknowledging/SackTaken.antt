@@ -8,9 +8,9 @@ use Rattle.std.proofs.lemmas.List.{get_or-map, get_or_default}
 use Rattle.sctp_list_lemmas.specs.Lists.{change_where}
 use Rattle.sctp_list_lemmas.specs.Serial.{distance, comes_before}
 use Rattle.sctp_list_lemmas.proofs.Getting.{length-mapped, length-numbered, numbered-at, map-at}
-use Rattle.sctp_chunks.specs.declared.chunk.chunk_selective_ack.GapAckBlock.{GapAckBlock}
-use Rattle.sctp_chunks.specs.declared.chunk.chunk_payload_data.ChunkPayloadData.{ChunkPayloadData}
-use Rattle.sctp_chunks.specs.SelectiveAck
+use Rattle.sctp_data.specs.declared.chunk.chunk_selective_ack.GapAckBlock.{GapAckBlock}
+use Rattle.sctp_data.specs.declared.chunk.chunk_payload_data.ChunkPayloadData.{ChunkPayloadData}
+use Rattle.sctp_data.specs.SelectiveAck
 use Rattle.sctp_chunks.specs.Wire.{sack_chunk}
 use Rattle.sctp_packets.specs.Packet.{ReadsPacket}
 use Rattle.sctp_outbound.specs.Marks.{as_acknowledged}

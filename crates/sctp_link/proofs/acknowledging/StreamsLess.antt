@@ -7,7 +7,7 @@ use Rattle.sctp_list_lemmas.specs.Kept.{numbers_where, always, total_over}
 use Rattle.sctp_list_lemmas.proofs.Edits.{change_where-map, length-change_where}
 use Rattle.sctp_list_lemmas.proofs.Getting.{map-at}
 use Rattle.sctp_list_lemmas.proofs.Totals.{total-none, total-append, total-where, total-kept_same, numbers-append}
-use Rattle.sctp_chunks.specs.declared.chunk.chunk_payload_data.ChunkPayloadData.{ChunkPayloadData}
+use Rattle.sctp_data.specs.declared.chunk.chunk_payload_data.ChunkPayloadData.{ChunkPayloadData}
 use Rattle.sctp_outbound.specs.Marks.{as_acknowledged}
 use Rattle.sctp_sender.specs.declared.sender.flight.Released.{Released}
 use Rattle.sctp_sender.specs.Flight.{released_of}

@@ -6,8 +6,8 @@ use Rattle.std.proofs.lemmas.Option.{slice_get_within}
 use Rattle.sctp_model.specs.declared.event.Event.TheVariants as E
 use Rattle.sctp_model.specs.declared.event.LinkRefusal.TheVariants.{NoSuchDatagram, SpanTooWide}
 use Rattle.sctp_model.specs.Steps.{refusal_of, unless, is_for_receiver, arrival_fits}
-use Rattle.sctp_chunks.specs.PayloadData.{Data as DataParts, data_of}
-use Rattle.sctp_chunks.specs.ChunkSet.{fresh}
+use Rattle.sctp_data.specs.PayloadData.{Data as DataParts, data_of}
+use Rattle.sctp_data.specs.ChunkSet.{fresh}
 use Rattle.sctp_chunks.specs.Wire.{data_chunk}
 use Rattle.sctp_packets.specs.Packet.{ReadsPacket}
 use Rattle.sctp_model.specs.LinkRecord.{Report, LinkRecord, Data, Sack}

@@ -3,8 +3,8 @@ use Rattle.std.proofs.Common.{◌≡◌, ℕ, zero, suc, ◌+◌, ◌-◌, ◌<�
 use Rattle.std.specs.Prelude.{find, min, max, option_map, slice_index_or}
 use Rattle.std.proofs.Math.Path.{subst}
 use Rattle.sctp_list_lemmas.proofs.More.{not_both}
-use Rattle.sctp_chunks.specs.declared.chunk.chunk_payload_data.ChunkPayloadData.{ChunkPayloadData}
-use Rattle.sctp_chunks.specs.ChunkSet.{ChunkSet}
+use Rattle.sctp_data.specs.declared.chunk.chunk_payload_data.ChunkPayloadData.{ChunkPayloadData}
+use Rattle.sctp_data.specs.ChunkSet.{ChunkSet}
 use Rattle.sctp_reassembly.specs.reassembly_queue.ReassemblyQueue.{ReassemblyState}
 use Rattle.sctp_model.specs.LinkRecord.{LinkRecord}
 use Rattle.sctp_model.specs.Messages.{message_at, slot_at, message_of, index_of, sent_of, tsn_of, place_of, no_message, no_slot}

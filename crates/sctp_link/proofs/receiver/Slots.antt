@@ -6,7 +6,7 @@ use Rattle.std.proofs.Math.Path.{subst}
 use Rattle.std.proofs.lemmas.List.{length-set}
 use Rattle.sctp_list_lemmas.specs.Lists.{change_at, change_where, insert_before}
 use Rattle.sctp_list_lemmas.proofs.Cases.{and-none, and-true}
-use Rattle.sctp_chunks.specs.declared.chunk.chunk_payload_data.ChunkPayloadData.{ChunkPayloadData}
+use Rattle.sctp_data.specs.declared.chunk.chunk_payload_data.ChunkPayloadData.{ChunkPayloadData}
 use Rattle.sctp_serial.specs.DataChunks.{chunk_before}
 use Rattle.sctp_reassembly.specs.reassembly_queue.ReassemblyQueue.{Reassembly, ReassemblyState, is_too_large, held_after_ordered_push, BecomesComplete}
 use Rattle.sctp_model.specs.LinkRecord.{LinkRecord, StreamRecord}

@@ -8,7 +8,7 @@ use Rattle.sctp_list_lemmas.proofs.Getting.{length-mapped}
 use Rattle.sctp_list_lemmas.proofs.Passing.{length-kept-le}
 use Rattle.sctp_list_lemmas.proofs.More.{changed-same, changed-other, not_both}
 use Rattle.sctp_list_lemmas.proofs.Cases.{by_same, same-yes, some-same}
-use Rattle.sctp_chunks.specs.declared.chunk.chunk_payload_data.ChunkPayloadData.{ChunkPayloadData}
+use Rattle.sctp_data.specs.declared.chunk.chunk_payload_data.ChunkPayloadData.{ChunkPayloadData}
 use Rattle.sctp_outbound.specs.pending_queue.PendingQueue.{next_pending, start_pending as pending_started}
 use Rattle.sctp_outbound.specs.outbound_queue.OutboundQueue.{Outbound, all_started, sent_of, sent_peeked, sent_next}
 use Rattle.sctp_model.specs.LinkRecord.{LinkRecord}

@@ -1,12 +1,12 @@
 -- The fragments of a write are one message, and wait as the record says.
 use Rattle.std.proofs.Common.{◌≡◌, ℕ, ◌+◌, ◌-◌, ◌<◌, ◌%◌, ◌^◌, Bool, false, List, [], ◌∷◌, ◌++◌, length, map, Some, refl, ap, sym, ◌∙◌, arith}
 use Rattle.std.specs.Prelude.{◌==◌, not, slice_index_or}
-use Rattle.sctp_chunks.specs.ChunkSet.{fresh}
-use Rattle.sctp_chunks.specs.PayloadTypes.{is_ordered}
+use Rattle.sctp_data.specs.ChunkSet.{fresh}
+use Rattle.sctp_data.specs.PayloadTypes.{is_ordered}
 use Rattle.sctp_list_lemmas.specs.Kept.{numbers_from}
 use Rattle.sctp_list_lemmas.specs.Lists.{pieces}
-use Rattle.sctp_chunks.specs.declared.chunk.chunk_payload_data.ChunkPayloadData.{ChunkPayloadData}
-use Rattle.sctp_chunks.specs.declared.chunk.chunk_payload_data.PayloadProtocolIdentifier.{PayloadProtocolIdentifier}
+use Rattle.sctp_data.specs.declared.chunk.chunk_payload_data.ChunkPayloadData.{ChunkPayloadData}
+use Rattle.sctp_data.specs.declared.chunk.chunk_payload_data.PayloadProtocolIdentifier.{PayloadProtocolIdentifier}
 use Rattle.sctp_outbound.specs.outbound_queue.OutboundQueue.{with_message_id}
 use Rattle.sctp_sender.specs.Outgoing.{fragments_with_mode}
 use Rattle.sctp_model.specs.LinkRecord.{LinkRecord, StreamRecord}

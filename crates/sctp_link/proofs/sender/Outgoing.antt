@@ -7,8 +7,8 @@ use Rattle.std.proofs.lemmas.Bool.Decides.{nat_tests}
 use Rattle.sctp_list_lemmas.specs.Lists.{pieces, change_where}
 use Rattle.sctp_list_lemmas.proofs.More.{both}
 use Rattle.sctp_list_lemmas.proofs.Cases.{negated}
-use Rattle.sctp_chunks.specs.declared.chunk.chunk_payload_data.ChunkPayloadData.{ChunkPayloadData}
-use Rattle.sctp_chunks.specs.PayloadData.{Data, data_of, data_value}
+use Rattle.sctp_data.specs.declared.chunk.chunk_payload_data.ChunkPayloadData.{ChunkPayloadData}
+use Rattle.sctp_data.specs.PayloadData.{Data, data_of, data_value}
 use Rattle.sctp_chunks.specs.Wire.{data_chunk}
 use Rattle.sctp_chunks.proofs.Lengths.{length_data_value}
 use Rattle.sctp_packets.specs.Packet.{ReadsPacket, packet_encoding}

@@ -7,9 +7,9 @@ use Rattle.sctp_list_lemmas.specs.Kept.{numbers_from}
 use Rattle.sctp_list_lemmas.proofs.Getting.{length-mapped}
 use Rattle.sctp_chunks.specs.declared.chunk.chunk_kind.ChunkKind.{ChunkKind}
 use Rattle.sctp_chunks.specs.declared.chunk.chunk_kind.ChunkKind.TheVariants as C
-use Rattle.sctp_chunks.specs.declared.chunk.chunk_payload_data.ChunkPayloadData.{ChunkPayloadData}
+use Rattle.sctp_data.specs.declared.chunk.chunk_payload_data.ChunkPayloadData.{ChunkPayloadData}
 use Rattle.sctp_chunks.specs.Kind.{wire_of}
-use Rattle.sctp_chunks.specs.PayloadData.{data_of}
+use Rattle.sctp_data.specs.PayloadData.{data_of}
 use Rattle.sctp_chunks.specs.Wire.{data_chunk, HasEncoding}
 use Rattle.sctp_chunks.specs.Fits.{Canonical}
 use Rattle.sctp_packets.specs.Packet.{ReadsPacket, packet_encoding}

@@ -4,7 +4,7 @@ use Rattle.std.specs.Prelude.{if◌then◌else◌, ◌==◌, ◌&&◌, not, is_s
 use Rattle.std.specs.List.{filter}
 use Rattle.sctp_list_lemmas.proofs.Cases.{same-yes, same-is}
 use Rattle.sctp_list_lemmas.proofs.More.{same_test}
-use Rattle.sctp_chunks.specs.declared.chunk.chunk_forward_tsn.ChunkForwardTsnStream.{ChunkForwardTsnStream}
+use Rattle.sctp_data.specs.declared.chunk.chunk_forward_tsn.ChunkForwardTsnStream.{ChunkForwardTsnStream}
 use Rattle.sctp_reassembly.specs.reassembly_queue.ReassemblyQueue.{ReassemblyState, after_ordered_skip, held_after_ordered_skips}
 use Rattle.sctp_model.specs.declared.event.Event.TheVariants as E
 use Rattle.sctp_model.specs.LinkRecord.{LinkRecord, StreamRecord, Forward}

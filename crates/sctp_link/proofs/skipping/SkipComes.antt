@@ -6,7 +6,7 @@ use Rattle.std.proofs.Math.Path.{subst}
 use Rattle.std.proofs.lemmas.Bool.Decides.{nat_tests}
 use Rattle.sctp_list_lemmas.proofs.Cases.{same-yes}
 use Rattle.sctp_list_lemmas.proofs.More.{and, both, same_test}
-use Rattle.sctp_chunks.specs.ChunkSet.{ChunkSet}
+use Rattle.sctp_data.specs.ChunkSet.{ChunkSet}
 use Rattle.sctp_chunks.specs.Wire.{forward_tsn_chunk}
 use Rattle.sctp_packets.specs.Packet.{ReadsPacket}
 use Rattle.sctp_reassembly.specs.reassembly_queue.Fragments.{is_complete}

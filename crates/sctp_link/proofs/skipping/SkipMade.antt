@@ -7,7 +7,7 @@ use Rattle.std.proofs.lemmas.Bool.{cases_lt}
 use Rattle.std.proofs.lemmas.Bool.Decides.{nat_tests}
 use Rattle.sctp_list_lemmas.proofs.Alls.{all-kept, all-at}
 use Rattle.sctp_list_lemmas.proofs.More.{both, fails, not_both}
-use Rattle.sctp_chunks.specs.ForwardTsn.{ForwardTsn, forward_tsn_value}
+use Rattle.sctp_data.specs.ForwardTsn.{ForwardTsn, forward_tsn_value}
 use Rattle.sctp_chunks.specs.Wire.{forward_tsn_chunk}
 use Rattle.sctp_chunks.proofs.Lengths.{length_forward_tsn_value}
 use Rattle.sctp_packets.specs.Packet.{ReadsPacket, packet_encoding}

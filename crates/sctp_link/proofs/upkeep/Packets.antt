@@ -3,13 +3,13 @@ use Rattle.std.proofs.Common.{◌≡◌, List, [], ◌∷◌, ◌++◌, map, ref
 use Rattle.std.specs.List.{AllByRecursion}
 use Rattle.sctp_chunks.specs.declared.chunk.chunk_kind.ChunkKind.{ChunkKind}
 use Rattle.sctp_chunks.specs.declared.chunk.chunk_kind.ChunkKind.TheVariants as K
-use Rattle.sctp_chunks.specs.declared.chunk.chunk_payload_data.ChunkPayloadData.{ChunkPayloadData}
-use Rattle.sctp_chunks.specs.declared.chunk.chunk_selective_ack.ChunkSelectiveAck.{ChunkSelectiveAck}
-use Rattle.sctp_chunks.specs.declared.chunk.chunk_forward_tsn.ChunkForwardTsn.{ChunkForwardTsn}
-use Rattle.sctp_chunks.specs.PayloadData.{Data, data_of}
-use Rattle.sctp_chunks.specs.SelectiveAck.{Sack}
-use Rattle.sctp_chunks.specs.ForwardTsn.{ForwardTsn}
-use Rattle.sctp_chunks.specs.ChunkSet.{fresh, IsFreshData}
+use Rattle.sctp_data.specs.declared.chunk.chunk_payload_data.ChunkPayloadData.{ChunkPayloadData}
+use Rattle.sctp_data.specs.declared.chunk.chunk_selective_ack.ChunkSelectiveAck.{ChunkSelectiveAck}
+use Rattle.sctp_data.specs.declared.chunk.chunk_forward_tsn.ChunkForwardTsn.{ChunkForwardTsn}
+use Rattle.sctp_data.specs.PayloadData.{Data, data_of}
+use Rattle.sctp_data.specs.SelectiveAck.{Sack}
+use Rattle.sctp_data.specs.ForwardTsn.{ForwardTsn}
+use Rattle.sctp_data.specs.ChunkSet.{fresh, IsFreshData}
 use Rattle.sctp_chunks.specs.Wire.{Wire, data_chunk, sack_chunk, forward_tsn_chunk}
 use Rattle.sctp_chunks.specs.Kind.{wire_of}
 

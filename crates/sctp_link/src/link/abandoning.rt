@@ -1,7 +1,7 @@
 //! Messages that are abandoned once some of them was sent (RFC 3758 3.5, 4.1).
 
 ghost use Rattle.std.specs.Prelude.{◌≡◌, ◌<◌, ◌++◌, Bool, true, None, OnOk, OnErr, IfOk, IsOkUnless, length, vec_len, vec_capacity};
-ghost use Rattle.sctp_chunks.specs.Reliability.{is_past};
+ghost use Rattle.sctp_data.specs.Reliability.{is_past};
 ghost use Rattle.sctp_base.specs.declared.error.Error.TheVariants.{ErrOutOfMemory};
 ghost use Rattle.sctp_link.specs.OpenStreams.{marks};
 

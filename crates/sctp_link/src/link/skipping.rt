@@ -15,7 +15,7 @@ use sctp_chunks::chunk::chunk_forward_tsn::ChunkForwardTsn;
 
 impl<C: Checksum + Drop> Link<C> {
     ghost use Rattle.sctp_model.specs.LinkRecord.{Forward, StreamRecord};
-    ghost use Rattle.sctp_chunks.specs.ForwardTsn.{forward_tsn_of};
+    ghost use Rattle.sctp_data.specs.ForwardTsn.{forward_tsn_of};
     ghost use Rattle.sctp_model.specs.Messages.{is_open};
     ghost use Rattle.sctp_model.specs.Receiver.{held_on};
     ghost use Rattle.sctp_model.specs.Changes.{skip_counts, receive_skip};

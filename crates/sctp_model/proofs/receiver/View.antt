@@ -5,7 +5,7 @@ use Rattle.std.specs.Prelude.{if◌then◌else◌, ◌==◌, ◌&&◌, ◌||◌,
 use Rattle.std.specs.List.{list_any, filter}
 use Rattle.sctp_list_lemmas.specs.Kept.{numbers_where, leading, first_of, or_else}
 use Rattle.sctp_list_lemmas.proofs.More.{not_both, changed-same, changed-other}
-use Rattle.sctp_chunks.specs.declared.chunk.chunk_payload_data.ReliabilityType.{ReliabilityType}
+use Rattle.sctp_data.specs.declared.chunk.chunk_payload_data.ReliabilityType.{ReliabilityType}
 use Rattle.sctp_model.specs.LinkRecord.{StreamRecord, Sack, Report, LinkRecord}
 use Rattle.sctp_model.specs.Messages
 use Rattle.sctp_model.specs.Messages.{no_stream, no_slot, no_message, stream_at, stream_of}

@@ -3,9 +3,9 @@ use Rattle.std.proofs.Common.{◌≡◌, refl}
 use Rattle.std.specs.Prelude.{ℕ, Bool, true, false, ◌&&◌, List, [], ◌∷◌, length, map, Option, Some, None, is_none, unwrap_or}
 use Rattle.sctp_list_lemmas.proofs.More.{both}
 use Rattle.sctp_model.specs.declared.event.Event.{Event}
-use Rattle.sctp_chunks.specs.declared.chunk.chunk_payload_data.PayloadProtocolIdentifier.{PayloadProtocolIdentifier}
-use Rattle.sctp_chunks.specs.declared.chunk.chunk_payload_data.ChunkPayloadData.{ChunkPayloadData}
-use Rattle.sctp_chunks.specs.ChunkSet.{ChunkSet, fresh}
+use Rattle.sctp_data.specs.declared.chunk.chunk_payload_data.PayloadProtocolIdentifier.{PayloadProtocolIdentifier}
+use Rattle.sctp_data.specs.declared.chunk.chunk_payload_data.ChunkPayloadData.{ChunkPayloadData}
+use Rattle.sctp_data.specs.ChunkSet.{ChunkSet, fresh}
 use Rattle.sctp_model.specs.Reply.{Reply}
 use Rattle.sctp_model.specs.Reply as R
 use Rattle.sctp_model.specs.declared.event.LinkRefusal.{LinkRefusal}

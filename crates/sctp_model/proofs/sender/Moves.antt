@@ -4,7 +4,7 @@ use Rattle.std.specs.Prelude.{◌⊎◌, if◌then◌else◌, ◌==◌, ◌&&◌
 use Rattle.std.proofs.lemmas.Bool.{cases_lt}
 use Rattle.sctp_list_lemmas.proofs.More.{length-changed, changed-keeps}
 use Rattle.sctp_list_lemmas.specs.Lists.{change_at}
-use Rattle.sctp_chunks.specs.declared.chunk.chunk_payload_data.PayloadProtocolIdentifier.{PayloadProtocolIdentifier}
+use Rattle.sctp_data.specs.declared.chunk.chunk_payload_data.PayloadProtocolIdentifier.{PayloadProtocolIdentifier}
 use Rattle.sctp_model.specs.LinkRecord.{Setup, Message, Slot, Datagram, Data, LinkRecord}
 use Rattle.sctp_model.specs.Messages
 use Rattle.sctp_model.specs.Receiver.{arrived_at}

@@ -8,8 +8,8 @@ use Rattle.sctp_list_lemmas.specs.Kept.{numbers_where, always, numbers_from}
 use Rattle.sctp_list_lemmas.specs.Lists.{change_at, pieces}
 use Rattle.sctp_list_lemmas.proofs.Passing.{length-kept-lt, length-kept-mono, kept-same}
 use Rattle.sctp_list_lemmas.proofs.More.{fails, not_both, both}
-use Rattle.sctp_chunks.specs.PayloadData.{Data}
-use Rattle.sctp_chunks.specs.ChunkSet.{fresh}
+use Rattle.sctp_data.specs.PayloadData.{Data}
+use Rattle.sctp_data.specs.ChunkSet.{fresh}
 use Rattle.sctp_model.specs.declared.event.Event.{Event}
 use Rattle.sctp_model.specs.declared.event.Event.TheVariants as E
 use Rattle.sctp_model.specs.declared.event.LinkRefusal.TheVariants.{NotInFlight, SkipUnassigned, SkipNames}
@@ -30,7 +30,7 @@ use Rattle.sctp_model.proofs.sender.SenderRun.{Sane, sane-run, sane-started, fil
 use Rattle.sctp_model.proofs.sender.Grows.{Grows, IsEnded, as_written, grows-same, parts-grown}
 use Rattle.sctp_model.proofs.sender.Moves
 use Rattle.sctp_model.proofs.sender.Fronts.{slot-sent, mark-abandoned}
-use Rattle.sctp_chunks.specs.declared.chunk.chunk_payload_data.PayloadProtocolIdentifier.{PayloadProtocolIdentifier}
+use Rattle.sctp_data.specs.declared.chunk.chunk_payload_data.PayloadProtocolIdentifier.{PayloadProtocolIdentifier}
 use Rattle.sctp_list_lemmas.proofs.Cases.{by_last, same-is, negated}
 use Rattle.sctp_list_lemmas.proofs.Getting.{slice-front}
 use Rattle.sctp_list_lemmas.proofs.Tests.{all-out}

@@ -3,7 +3,7 @@ use Rattle.std.proofs.Common.{ℕ, ◌+◌, Bool, List, length, Option}
 use Rattle.std.specs.Prelude.{if◌then◌else◌, ◌==◌, ◌&&◌, ◌||◌, not, nat_lt}
 use Rattle.sctp_list_lemmas.specs.Kept.{numbers_where, first_of, or_else}
 use Rattle.sctp_list_lemmas.specs.Lists.{pieces}
-use Rattle.sctp_chunks.specs.declared.chunk.chunk_payload_data.PayloadProtocolIdentifier.{PayloadProtocolIdentifier}
+use Rattle.sctp_data.specs.declared.chunk.chunk_payload_data.PayloadProtocolIdentifier.{PayloadProtocolIdentifier}
 use Rattle.sctp_model.specs.LinkRecord.{Message, Slot, LinkRecord}
 use Rattle.sctp_model.specs.Messages.{message_at, slot_at}
 

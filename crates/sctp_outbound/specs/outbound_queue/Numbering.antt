@@ -2,7 +2,7 @@
 use Rattle.std.specs.Prelude.{◌≡◌, ℕ, ◌==◌, Bool, true, ◌&&◌, List, [], ◌∷◌, Option, Some, None, is_some, max, if◌then◌else◌}
 use Rattle.std.specs.List.{find, list_any, filter}
 use Rattle.std.specs.Option.{option_map}
-use Rattle.sctp_chunks.specs.declared.chunk.chunk_payload_data.ChunkPayloadData.{ChunkPayloadData}
+use Rattle.sctp_data.specs.declared.chunk.chunk_payload_data.ChunkPayloadData.{ChunkPayloadData}
 use Rattle.sctp_list_lemmas.specs.Lists.{change_where}
 use Rattle.sctp_serial.specs.DataChunks.{has_tsn, following_tsn}
 use Rattle.sctp_outbound.specs.Marks.{as_acknowledged, is_of, is_outstanding, with_miss_indicator, with_nsent, with_retransmit, with_since}

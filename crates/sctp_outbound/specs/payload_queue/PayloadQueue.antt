@@ -1,7 +1,7 @@
 -- A payload queue as callers see it.
 use Rattle.std.specs.Prelude.{ℕ, ◌-◌, ◌++◌, ◌∷◌, [], List, not, Option, Some, None, if◌then◌else◌}
 use Rattle.std.specs.List.{filter}
-use Rattle.sctp_chunks.specs.declared.chunk.chunk_payload_data.ChunkPayloadData.{ChunkPayloadData}
+use Rattle.sctp_data.specs.declared.chunk.chunk_payload_data.ChunkPayloadData.{ChunkPayloadData}
 use Rattle.sctp_list_lemmas.specs.Lists.{insert_before}
 use Rattle.sctp_list_lemmas.specs.Serial.{at_or_before}
 use Rattle.sctp_serial.specs.DataChunks.{has_tsn, chunk_before}

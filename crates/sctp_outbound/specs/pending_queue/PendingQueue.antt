@@ -1,10 +1,10 @@
 -- A pending queue as callers see it.
 use Rattle.std.specs.Prelude.{ℕ, ◌+◌, ◌-◌, ◌%◌, ◌^◌, ◌==◌, ◌++◌, ◌∷◌, [], List, length, max, Bool, true, false, not, ◌&&◌, nat_le, is_none, Option, Some, None, slice_get, if◌then◌else◌}
 use Rattle.std.specs.List.{filter}
-use Rattle.sctp_chunks.specs.declared.chunk.chunk_payload_data.ChunkPayloadData.{ChunkPayloadData}
-use Rattle.sctp_chunks.specs.declared.chunk.chunk_payload_data.ReliabilityType.{ReliabilityType}
-use Rattle.sctp_chunks.specs.PayloadTypes.{is_dcep}
-use Rattle.sctp_chunks.specs.Reliability.{is_timed, deadline_at}
+use Rattle.sctp_data.specs.declared.chunk.chunk_payload_data.ChunkPayloadData.{ChunkPayloadData}
+use Rattle.sctp_data.specs.declared.chunk.chunk_payload_data.ReliabilityType.{ReliabilityType}
+use Rattle.sctp_data.specs.PayloadTypes.{is_dcep}
+use Rattle.sctp_data.specs.Reliability.{is_timed, deadline_at}
 use Rattle.sctp_list_lemmas.specs.Lists.{change_where}
 use Rattle.sctp_outbound.specs.declared.pending_queue.Selected.{Selected}
 use Rattle.sctp_outbound.specs.Marks.{is_of}

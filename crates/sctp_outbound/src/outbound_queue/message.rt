@@ -4,7 +4,7 @@ ghost use Rattle.std.specs.Prelude.{◌≡◌, ◌+◌, ◌^◌, ◌<◌, true, 
 ghost use Rattle.sctp_serial.specs.DataChunks.{bytes_of};
 ghost use Rattle.sctp_outbound.specs.pending_queue.Whole.{IsMessageOrNone};
 
-use sctp_chunks::chunk::chunk_payload_data::ChunkPayloadData;
+use sctp_data::chunk::chunk_payload_data::ChunkPayloadData;
 
 /// Whether these are no fragments, or those of one complete message: the first begins it and the last ends it, and no other does; all
 /// are ordered or all unordered.

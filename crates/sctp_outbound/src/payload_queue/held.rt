@@ -6,7 +6,7 @@ ghost use Rattle.sctp_base.specs.declared.error.Error.TheVariants.{ErrOutOfMemor
 
 use bytes::Bytes;
 use sctp_base::error::Result;
-use sctp_chunks::chunk::chunk_payload_data::ChunkPayloadData;
+use sctp_data::chunk::chunk_payload_data::ChunkPayloadData;
 use sctp_serial::turns::Turns;
 use std::alloc::Global;
 use std::collections::VecDeque;

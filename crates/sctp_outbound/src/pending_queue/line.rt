@@ -12,7 +12,7 @@ ghost use Rattle.sctp_outbound.specs.pending_queue.Whole.{NumbersAscend, ends, u
 ghost use Rattle.sctp_serial.specs.DataChunks.{bytes_of, is_on};
 
 use sctp_base::error::Result;
-use sctp_chunks::chunk::chunk_payload_data::{
+use sctp_data::chunk::chunk_payload_data::{
     ChunkPayloadData, PayloadProtocolIdentifier, ReliabilityType,
 };
 use std::alloc::Global;

@@ -1,7 +1,7 @@
 -- How many chunks sets have.
 use Rattle.std.specs.Prelude.{ℕ, List, length}
 use Rattle.std.specs.List.{sum_by}
-use Rattle.sctp_chunks.specs.ChunkSet.{ChunkSet}
+use Rattle.sctp_data.specs.ChunkSet.{ChunkSet}
 
 -- a deque of sets, and how many fit into it before more memory is asked for
 pub record SetDeque : Type 0 where

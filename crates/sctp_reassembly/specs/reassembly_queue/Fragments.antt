@@ -3,8 +3,8 @@ use Rattle.std.specs.Prelude.{ℕ, Bool, false, ◌&&◌, ◌==◌, not, if◌th
 use Rattle.std.specs.List.{list_any}
 use Rattle.sctp_list_lemmas.specs.Serial.{comes_before16}
 use Rattle.sctp_list_lemmas.specs.Lists.{insert_before, change_first}
-use Rattle.sctp_chunks.specs.declared.chunk.chunk_payload_data.ChunkPayloadData.{ChunkPayloadData}
-use Rattle.sctp_chunks.specs.ChunkSet.{ChunkSet}
+use Rattle.sctp_data.specs.declared.chunk.chunk_payload_data.ChunkPayloadData.{ChunkPayloadData}
+use Rattle.sctp_data.specs.ChunkSet.{ChunkSet}
 use Rattle.sctp_serial.specs.DataChunks.{has_tsn, chunk_before, following_tsn}
 
 -- those bytes, one fragment after another

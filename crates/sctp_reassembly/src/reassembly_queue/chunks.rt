@@ -5,7 +5,7 @@ ghost use Rattle.std.specs.List.{list_any, position_or_len, insert, concat};
 ghost use Rattle.std.specs.List.Sorted.{IsNonDecreasingBy, IsPartitionPoint};
 ghost use Rattle.sctp_reassembly.specs.reassembly_queue.Chunks.{left_from, left_of, piece_of, left_after, taken_whole, bytes_given};
 ghost use Rattle.sctp_reassembly.specs.declared.reassembly_queue.chunks.Chunk.{Chunk};
-ghost use Rattle.sctp_chunks.specs.declared.chunk.chunk_payload_data.ChunkPayloadData.{ChunkPayloadData};
+ghost use Rattle.sctp_data.specs.declared.chunk.chunk_payload_data.ChunkPayloadData.{ChunkPayloadData};
 ghost use Rattle.sctp_list_lemmas.specs.Serial.{comes_before, distance};
 ghost use Rattle.sctp_list_lemmas.specs.Lists.{insert_before};
 ghost use Rattle.sctp_reassembly.specs.reassembly_queue.Fragments.{payload_of, is_complete, with_chunk, answer_with, is_complete_after};
@@ -17,7 +17,7 @@ ghost use Rattle.sctp_base.specs.declared.error.Error.TheVariants.{ErrOutOfMemor
 use bytes::{Bytes, BytesMut};
 use sctp_base::error::{Error, Result};
 use sctp_base::util::{sna32lt, sna32lte};
-use sctp_chunks::chunk::chunk_payload_data::{ChunkPayloadData, PayloadProtocolIdentifier};
+use sctp_data::chunk::chunk_payload_data::{ChunkPayloadData, PayloadProtocolIdentifier};
 use sctp_serial::serial::{Insertion, distance};
 use sctp_serial::turns::Turns;
 use std::alloc::Global;
@@ -37,7 +37,7 @@ pub struct Fragments {
 
 impl Model for Fragments {
     ghost use Rattle.std.specs.Prelude.{◌≡◌, ◌-◌, ◌^◌, min, map};
-    ghost use Rattle.sctp_chunks.specs.ChunkSet.{ChunkSet};
+    ghost use Rattle.sctp_data.specs.ChunkSet.{ChunkSet};
     ghost use Rattle.sctp_serial.specs.DataChunks.{bytes_of};
     ghost use Rattle.sctp_serial.specs.Ascending.{IsOrder};
 

@@ -2,7 +2,7 @@
 
 ghost use Rattle.std.specs.Prelude.{◌≡◌, ◌+◌, ◌-◌, ◌^◌, ◌<◌, ◌≤◌, [], ◌∷◌, ◌++◌, length, min, not, drop, set, slice_index_or, OnOk, OnErr, IfOk, IfErr, IfSome, IfNone, IsOk};
 ghost use Rattle.std.specs.List.{insert, filter};
-ghost use Rattle.sctp_chunks.specs.ChunkSet.{ChunkSet};
+ghost use Rattle.sctp_data.specs.ChunkSet.{ChunkSet};
 ghost use Rattle.sctp_base.specs.declared.error.Error.TheVariants.{ErrOutOfMemory};
 ghost use Rattle.sctp_reassembly.specs.reassembly_queue.Counts.{set_chunks};
 ghost use Rattle.sctp_reassembly.specs.reassembly_queue.Fragments.{with_chunk, answer_with};
@@ -13,7 +13,7 @@ ghost use Rattle.sctp_reassembly.specs.reassembly_queue.Skips.{is_discarded};
 use crate::reassembly_queue::chunks::Fragments;
 use crate::reassembly_queue::{resets, skips};
 use sctp_base::error::Result;
-use sctp_chunks::chunk::chunk_payload_data::ChunkPayloadData;
+use sctp_data::chunk::chunk_payload_data::ChunkPayloadData;
 use std::alloc::Global;
 use std::collections::VecDeque;
 use std::marker::Model;

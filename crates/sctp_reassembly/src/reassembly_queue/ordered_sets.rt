@@ -17,7 +17,7 @@ use crate::reassembly_queue::chunks::Fragments;
 use crate::reassembly_queue::counted_sets::CountedSets;
 use sctp_base::error::Result;
 use sctp_base::util::sna16lt;
-use sctp_chunks::chunk::chunk_payload_data::ChunkPayloadData;
+use sctp_data::chunk::chunk_payload_data::ChunkPayloadData;
 use sctp_serial::serial::{Insertion, distance, upper_half};
 use std::alloc::Global;
 use std::collections::VecDeque;
@@ -34,7 +34,7 @@ pub(crate) struct OrderedSets {
 
 impl Model for OrderedSets {
     ghost use Rattle.std.specs.Prelude.{List, map};
-    ghost use Rattle.sctp_chunks.specs.ChunkSet.{ChunkSet};
+    ghost use Rattle.sctp_data.specs.ChunkSet.{ChunkSet};
     ghost use Rattle.sctp_serial.specs.Ascending.{IsOrder, upper_half};
 
     ghost Value = { List ChunkSet };

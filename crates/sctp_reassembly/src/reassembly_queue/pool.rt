@@ -9,7 +9,7 @@ ghost use Rattle.sctp_reassembly.specs.reassembly_queue.Loose.{IsRunTaken, IsMar
 
 use crate::reassembly_queue::unassembled::{Loose, find_run, run_around};
 use sctp_base::error::Error;
-use sctp_chunks::chunk::chunk_payload_data::ChunkPayloadData;
+use sctp_data::chunk::chunk_payload_data::ChunkPayloadData;
 use sctp_serial::turns::Turns;
 use std::alloc::{AllocError, Global};
 use std::marker::Model;
@@ -24,7 +24,7 @@ pub(crate) struct Pool {
 
 impl Model for Pool {
     ghost use Rattle.std.specs.Prelude.{List};
-    ghost use Rattle.sctp_chunks.specs.declared.chunk.chunk_payload_data.ChunkPayloadData.{ChunkPayloadData};
+    ghost use Rattle.sctp_data.specs.declared.chunk.chunk_payload_data.ChunkPayloadData.{ChunkPayloadData};
     ghost use Rattle.sctp_reassembly.specs.reassembly_queue.Loose.{IsMark};
 
     ghost Value = { List ChunkPayloadData };

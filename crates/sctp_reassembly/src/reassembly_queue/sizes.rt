@@ -7,7 +7,7 @@ ghost use Rattle.sctp_reassembly.specs.reassembly_queue.Sizes.{bytes_down, bytes
 
 use crate::reassembly_queue::unassembled::Loose;
 use crate::reassembly_queue::unassembled_places::{place_after, place_before};
-use sctp_chunks::chunk::chunk_payload_data::ChunkPayloadData;
+use sctp_data::chunk::chunk_payload_data::ChunkPayloadData;
 use sctp_serial::turns::Turns;
 
 /// The bytes of the unassembled neighbours that come before the chunk in its message, seen from where the chunk goes.

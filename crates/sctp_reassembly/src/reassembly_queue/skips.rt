@@ -9,7 +9,7 @@ ghost use Rattle.sctp_reassembly.specs.reassembly_queue.Skips.{misses, misses_be
 
 use crate::reassembly_queue::chunks::Fragments;
 use sctp_base::util::{sna16gt, sna16lt, sna16lte, sna32gt, sna32lt, sna32lte};
-use sctp_chunks::chunk::chunk_payload_data::ChunkPayloadData;
+use sctp_data::chunk::chunk_payload_data::ChunkPayloadData;
 use std::collections::VecDeque;
 
 // Whether a TSN at or before the given one is missing in a set.

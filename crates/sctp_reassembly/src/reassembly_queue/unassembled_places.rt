@@ -2,7 +2,7 @@
 
 ghost use Rattle.std.specs.Prelude.{◌≡◌, ℕ, ◌==◌, ◌+◌, ◌-◌, ◌^◌, ◌<◌, ◌≤◌, [], length, take, drop, reverse, slice_index_or, true, false, not, IfSome, IfNone};
 ghost use Rattle.std.specs.List.{position_or_len};
-ghost use Rattle.sctp_chunks.specs.declared.chunk.chunk_payload_data.ChunkPayloadData.{ChunkPayloadData};
+ghost use Rattle.sctp_data.specs.declared.chunk.chunk_payload_data.ChunkPayloadData.{ChunkPayloadData};
 ghost use Rattle.sctp_list_lemmas.specs.Serial.{comes_before, at_or_before};
 ghost use Rattle.sctp_reassembly.specs.reassembly_queue.Loose.{place_among};
 ghost use Rattle.sctp_reassembly.specs.reassembly_queue.Sizes.{back_from, on_from};

@@ -8,7 +8,7 @@ ghost use Rattle.sctp_receiver.specs.Receiver.{TakesEach, StopsAt};
 use crate::receiver::Receiver;
 use crate::receiver::arrival::Arrival;
 use crate::receiver::refusal::ReceiverRefusal;
-use sctp_chunks::chunk::chunk_payload_data::ChunkPayloadData;
+use sctp_data::chunk::chunk_payload_data::ChunkPayloadData;
 use sctp_stream::stream_numbers::put;
 
 impl Receiver {

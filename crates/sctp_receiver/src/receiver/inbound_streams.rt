@@ -15,7 +15,7 @@ ghost use Rattle.sctp_receiver.specs.Skips.{incomplete_forwarded};
 
 use crate::receiver::limits::{cost_of, cost_of_each};
 use crate::receiver::refusal::ReceiverRefusal;
-use sctp_chunks::chunk::chunk_payload_data::ChunkPayloadData;
+use sctp_data::chunk::chunk_payload_data::ChunkPayloadData;
 use sctp_reassembly::chunks::Chunks;
 use sctp_reassembly::reassembly_queue::ReassemblyQueue;
 use sctp_stream::stream::DataChannelStats;

@@ -5,13 +5,13 @@ ghost use Rattle.sctp_receiver.specs.declared.receiver.refusal.ReceiverRefusal.T
 
 use crate::receiver::Receiver;
 use crate::receiver::refusal::ReceiverRefusal;
-use sctp_chunks::chunk::chunk_selective_ack::ChunkSelectiveAck;
+use sctp_data::chunk::chunk_selective_ack::ChunkSelectiveAck;
 
 /// The greatest count of gap ack blocks and duplicates in a SACK that fits its length.
 pub const MAX_SACK_ENTRIES: usize = 16379;
 
 impl Receiver {
-    ghost use Rattle.sctp_chunks.specs.SelectiveAck.{sack_of};
+    ghost use Rattle.sctp_data.specs.SelectiveAck.{sack_of};
     ghost use Rattle.sctp_receiver.specs.Receiver.{sack, sack_of_entries, without_duplicates, sack_within, after_sack_within, window};
 
     /// The SACK of what came, with the `window` as its credit. Gap ack blocks come first, then as many duplicates as fit; all

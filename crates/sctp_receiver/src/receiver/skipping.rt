@@ -1,12 +1,12 @@
 //! A FORWARD-TSN, and what no name of it covers (RFC 3758 3.6).
 
 ghost use Rattle.std.specs.Prelude.{◌≡◌, false, None, Some, OnOk, OnErr, IfOk, IfErr, IsOk};
-ghost use Rattle.sctp_chunks.specs.ForwardTsn.{forward_tsn_of};
+ghost use Rattle.sctp_data.specs.ForwardTsn.{forward_tsn_of};
 
 use crate::receiver::Receiver;
 use crate::receiver::arrival::Forwarded;
 use crate::receiver::refusal::ReceiverRefusal;
-use sctp_chunks::chunk::chunk_forward_tsn::ChunkForwardTsn;
+use sctp_data::chunk::chunk_forward_tsn::ChunkForwardTsn;
 
 impl Receiver {
     ghost use Rattle.sctp_receiver.specs.Receiver.{forwarded_of, after_forward};

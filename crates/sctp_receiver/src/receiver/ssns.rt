@@ -2,14 +2,14 @@
 
 ghost use Rattle.std.specs.Prelude.{◌≡◌, ◌<◌, ◌^◌, true, false, not, ◌&&◌};
 ghost use Rattle.std.specs.List.{list_any};
-ghost use Rattle.sctp_chunks.specs.ForwardTsn.{forward_tsn_of};
+ghost use Rattle.sctp_data.specs.ForwardTsn.{forward_tsn_of};
 ghost use Rattle.sctp_list_lemmas.specs.Serial.{comes_before, distance16};
 ghost use Rattle.sctp_receiver.specs.Ssns.{lowest_ssn, is_lowest_complete, is_ssn_too_far, is_kept_or_passed, is_name_too_far};
 
 use crate::receiver::Receiver;
 use sctp_base::util::{sna16lte, sna32lt};
-use sctp_chunks::chunk::chunk_forward_tsn::{ChunkForwardTsn, ChunkForwardTsnStream};
-use sctp_chunks::chunk::chunk_payload_data::ChunkPayloadData;
+use sctp_data::chunk::chunk_forward_tsn::{ChunkForwardTsn, ChunkForwardTsnStream};
+use sctp_data::chunk::chunk_payload_data::ChunkPayloadData;
 use sctp_reassembly::reassembly_queue::ReassemblyQueue;
 
 // Half the circle of stream sequence numbers (RFC 1982 3.2).

@@ -11,9 +11,9 @@ use Rattle.sctp_list_lemmas.proofs.Passing.{kept-same, kept-none, map-kept-same,
 use Rattle.sctp_list_lemmas.proofs.More.{length-changed, changed-keeps, fails, not_both}
 use Rattle.sctp_list_lemmas.proofs.Getting.{get-snoc_old, get-snoc_new}
 use Rattle.sctp_list_lemmas.proofs.Cases.{by_last, by_same, same-yes}
-use Rattle.sctp_chunks.specs.declared.chunk.chunk_payload_data.ChunkPayloadData.{ChunkPayloadData}
-use Rattle.sctp_chunks.specs.PayloadData.{data_of}
-use Rattle.sctp_chunks.specs.ChunkSet.{fresh}
+use Rattle.sctp_data.specs.declared.chunk.chunk_payload_data.ChunkPayloadData.{ChunkPayloadData}
+use Rattle.sctp_data.specs.PayloadData.{data_of}
+use Rattle.sctp_data.specs.ChunkSet.{fresh}
 use Rattle.sctp_outbound.specs.declared.pending_queue.Selected.{Selected}
 use Rattle.sctp_outbound.specs.Marks.{is_of, as_abandoned}
 use Rattle.sctp_outbound.specs.payload_queue.PayloadQueue as payload

@@ -9,7 +9,7 @@ use Rattle.sctp_list_lemmas.proofs.Edits.{those-append}
 use Rattle.sctp_list_lemmas.proofs.Passing.{kept-none}
 use Rattle.sctp_list_lemmas.proofs.More.{both, not_both, fails}
 use Rattle.sctp_list_lemmas.proofs.Cases.{by_same, same-yes, same-is}
-use Rattle.sctp_chunks.specs.declared.chunk.chunk_payload_data.ChunkPayloadData.{ChunkPayloadData}
+use Rattle.sctp_data.specs.declared.chunk.chunk_payload_data.ChunkPayloadData.{ChunkPayloadData}
 use Rattle.sctp_outbound.specs.Marks.{is_of}
 use Rattle.sctp_outbound.specs.pending_queue.PendingQueue.{Pending, last_of, last_removed}
 use Rattle.sctp_outbound.specs.pending_queue.Whole.{waits}

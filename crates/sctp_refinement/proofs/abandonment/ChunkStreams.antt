@@ -3,7 +3,7 @@ use Rattle.std.proofs.Common.{◌≡◌, ℕ, ◌-◌, ◌<◌, ◌≤◌, ◌^�
 use Rattle.std.specs.Prelude.{if◌then◌else◌, nat_lt, nat_le, find, option_map}
 use Rattle.std.proofs.lemmas.Bool.Decides.{nat_tests}
 use Rattle.sctp_list_lemmas.proofs.More.{both}
-use Rattle.sctp_chunks.specs.declared.chunk.chunk_payload_data.ChunkPayloadData.{ChunkPayloadData}
+use Rattle.sctp_data.specs.declared.chunk.chunk_payload_data.ChunkPayloadData.{ChunkPayloadData}
 use Rattle.sctp_serial.specs.DataChunks.{has_tsn}
 use Rattle.sctp_outbound.specs.pending_queue.PendingQueue.{next_pending}
 use Rattle.sctp_outbound.specs.outbound_queue.OutboundQueue.{Outbound, passing, expiring_tail}

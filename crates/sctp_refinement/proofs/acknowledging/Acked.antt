@@ -4,7 +4,7 @@ use Rattle.std.specs.Prelude.{◌&&◌, ◌||◌, not, nat_lt, max}
 use Rattle.sctp_list_lemmas.specs.Kept.{always, numbers_from, first_of}
 use Rattle.sctp_list_lemmas.proofs.Passing.{map-kept-same, kept-same}
 use Rattle.sctp_list_lemmas.proofs.Getting.{get-numbered, numbered-at, length-numbered}
-use Rattle.sctp_chunks.specs.declared.chunk.chunk_payload_data.ChunkPayloadData.{ChunkPayloadData}
+use Rattle.sctp_data.specs.declared.chunk.chunk_payload_data.ChunkPayloadData.{ChunkPayloadData}
 use Rattle.sctp_outbound.specs.outbound_queue.OutboundQueue.{Outbound, with_inflight}
 use Rattle.sctp_model.specs.LinkRecord.{LinkRecord, Report, Sack}
 use Rattle.sctp_model.specs.Messages.{message_at, slot_at, message_of, messages_where, no_slot, sent_of, fragment_count, is_partially_sent}

@@ -2,15 +2,15 @@
 use Rattle.std.proofs.Common.{◌≡◌, ℕ, ◌+◌, ◌-◌, ◌%◌, ◌^◌, Bool, true, false, List, [], ◌∷◌, ◌++◌, length, map, Option, Some, None, refl, ap, sym, ◌∙◌, arith}
 use Rattle.std.specs.Prelude.{if◌then◌else◌, ◌==◌, ◌&&◌, ◌||◌, not, nat_lt, is_some, slice_index_or}
 use Rattle.std.specs.List.{flat_map}
-use Rattle.sctp_chunks.specs.Reliability.{is_timed}
-use Rattle.sctp_chunks.specs.PayloadTypes.{is_dcep}
+use Rattle.sctp_data.specs.Reliability.{is_timed}
+use Rattle.sctp_data.specs.PayloadTypes.{is_dcep}
 use Rattle.sctp_list_lemmas.specs.Kept.{numbers_where, always, numbers_from, first_of}
 use Rattle.sctp_list_lemmas.specs.Lists.{pieces}
 use Rattle.sctp_list_lemmas.proofs.Passing.{kept-same, map-kept-same}
 use Rattle.sctp_list_lemmas.proofs.More.{length-changed, changed-keeps}
-use Rattle.sctp_chunks.specs.declared.chunk.chunk_payload_data.ChunkPayloadData.{ChunkPayloadData}
-use Rattle.sctp_chunks.specs.PayloadData.{Data, data_of}
-use Rattle.sctp_chunks.specs.ChunkSet.{fresh}
+use Rattle.sctp_data.specs.declared.chunk.chunk_payload_data.ChunkPayloadData.{ChunkPayloadData}
+use Rattle.sctp_data.specs.PayloadData.{Data, data_of}
+use Rattle.sctp_data.specs.ChunkSet.{fresh}
 use Rattle.sctp_outbound.specs.outbound_queue.OutboundQueue.{Outbound}
 use Rattle.sctp_outbound.specs.declared.pending_queue.Selected.{Selected}
 use Rattle.sctp_model.specs.LinkRecord.{LinkRecord, Setup, Message, Slot}

@@ -14,8 +14,8 @@ use Rattle.sctp_list_lemmas.proofs.More.{not_both, both, and}
 use Rattle.sctp_list_lemmas.proofs.Cases.{same-yes, same-is, negated, and-none}
 use Rattle.sctp_list_lemmas.proofs.Totals.{total-append, total-at, total-where, total-split, total-kept_same, numbers-append}
 use Rattle.sctp_list_lemmas.proofs.Wraps.{same16-index}
-use Rattle.sctp_chunks.specs.declared.chunk.chunk_payload_data.ChunkPayloadData.{ChunkPayloadData}
-use Rattle.sctp_chunks.specs.ChunkSet.{ChunkSet}
+use Rattle.sctp_data.specs.declared.chunk.chunk_payload_data.ChunkPayloadData.{ChunkPayloadData}
+use Rattle.sctp_data.specs.ChunkSet.{ChunkSet}
 use Rattle.sctp_reassembly.specs.reassembly_queue.Fragments.{has_ssn, chunks_of_ssn}
 use Rattle.sctp_serial.specs.DataChunks.{bytes_of, has_tsn, following_tsn, preceding_tsn}
 use Rattle.sctp_reassembly.specs.reassembly_queue.Sizes.{bytes_down, bytes_up, back_from, on_from, size_before, size_after, projected_size}

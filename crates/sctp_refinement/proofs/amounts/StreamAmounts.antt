@@ -9,7 +9,7 @@ use Rattle.sctp_list_lemmas.proofs.Getting.{length-mapped}
 use Rattle.sctp_list_lemmas.proofs.Passing.{kept-same, kept-none}
 use Rattle.sctp_list_lemmas.proofs.More.{fails, not_both, kept-short}
 use Rattle.sctp_list_lemmas.proofs.Totals.{total-plus, total-kept_same}
-use Rattle.sctp_chunks.specs.declared.chunk.chunk_payload_data.PayloadProtocolIdentifier.{PayloadProtocolIdentifier}
+use Rattle.sctp_data.specs.declared.chunk.chunk_payload_data.PayloadProtocolIdentifier.{PayloadProtocolIdentifier}
 use Rattle.sctp_model.specs.declared.event.Event.{Event}
 use Rattle.sctp_model.specs.declared.event.Event.TheVariants as E
 use Rattle.sctp_model.specs.declared.event.LinkRefusal.TheVariants.{StreamUnknown, MessageTooLarge, TsnsUsedUp}

@@ -6,7 +6,7 @@ use Rattle.sctp_list_lemmas.specs.Kept.{numbers_where, total_over}
 use Rattle.sctp_list_lemmas.proofs.Getting.{length-mapped}
 use Rattle.sctp_list_lemmas.proofs.More.{length-changed, changed-keeps, changed-same, changed-other}
 use Rattle.sctp_list_lemmas.proofs.Totals.{total-one, total-where}
-use Rattle.sctp_chunks.specs.declared.chunk.chunk_payload_data.PayloadProtocolIdentifier.{PayloadProtocolIdentifier}
+use Rattle.sctp_data.specs.declared.chunk.chunk_payload_data.PayloadProtocolIdentifier.{PayloadProtocolIdentifier}
 use Rattle.sctp_model.specs.declared.event.Event.{Event}
 use Rattle.sctp_model.specs.declared.event.Event.TheVariants as E
 use Rattle.sctp_model.specs.LinkRecord.{Setup, LinkRecord}

@@ -6,7 +6,7 @@ use Rattle.std.proofs.lemmas.Bool.Decides.{nat_tests}
 use Rattle.std.proofs.lemmas.Grind.{common_steps}
 use Rattle.sctp_list_lemmas.specs.Kept.{numbers_where}
 use Rattle.sctp_list_lemmas.specs.Lists.{change_at, insert_before}
-use Rattle.sctp_chunks.specs.ChunkSet.{ChunkSet}
+use Rattle.sctp_data.specs.ChunkSet.{ChunkSet}
 use Rattle.sctp_reassembly.specs.reassembly_queue.Fragments.{is_complete}
 use Rattle.sctp_serial.specs.DataChunks.{chunk_before}
 use Rattle.sctp_model.specs.Contents.{chunk_at}

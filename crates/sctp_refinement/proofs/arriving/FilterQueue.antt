@@ -9,7 +9,7 @@ use Rattle.sctp_list_lemmas.specs.Serial.{distance, at_or_before}
 use Rattle.sctp_list_lemmas.proofs.Passing.{any-kept, kept-same}
 use Rattle.sctp_list_lemmas.proofs.More.{fails, not_both, kept-short, those-kept}
 use Rattle.sctp_list_lemmas.proofs.Round.{tsn, tsn_differ, tsn_same}
-use Rattle.sctp_chunks.specs.declared.chunk.chunk_payload_data.ChunkPayloadData.{ChunkPayloadData}
+use Rattle.sctp_data.specs.declared.chunk.chunk_payload_data.ChunkPayloadData.{ChunkPayloadData}
 use Rattle.sctp_serial.specs.Window
 use Rattle.sctp_serial.specs.Window.{is_held}
 use Rattle.sctp_serial.specs.DataChunks.{tsns}

@@ -4,7 +4,7 @@ use Rattle.std.specs.Prelude.{is_some, drop, unwrap_or}
 use Rattle.sctp_list_lemmas.specs.Kept.{leading}
 use Rattle.sctp_list_lemmas.proofs.Passing.{kept-none}
 use Rattle.sctp_list_lemmas.proofs.More.{fails, not_both}
-use Rattle.sctp_chunks.specs.declared.chunk.chunk_payload_data.ReliabilityType.{ReliabilityType}
+use Rattle.sctp_data.specs.declared.chunk.chunk_payload_data.ReliabilityType.{ReliabilityType}
 use Rattle.sctp_reassembly.specs.reassembly_queue.ReassemblyQueue.{Reassembly}
 use Rattle.sctp_model.specs.LinkRecord.{Setup, StreamRecord, LinkRecord}
 use Rattle.sctp_model.specs.Messages.{message_at, message_of, stream_at, stream_of, is_open, no_stream, ordered_on, is_ordered_on}

@@ -7,7 +7,7 @@ use Rattle.std.proofs.lemmas.Bool.Decides.{nat_tests}
 use Rattle.std.proofs.lemmas.Grind.{common_steps}
 use Rattle.sctp_list_lemmas.specs.Kept.{numbers_where}
 use Rattle.sctp_list_lemmas.specs.Lists.{insert_before}
-use Rattle.sctp_chunks.specs.ChunkSet.{ChunkSet}
+use Rattle.sctp_data.specs.ChunkSet.{ChunkSet}
 use Rattle.sctp_reassembly.specs.reassembly_queue.Fragments.{set_before, has_ssn, with_chunk, new_set, sets_with}
 use Rattle.sctp_serial.specs.DataChunks.{chunk_before, has_tsn}
 use Rattle.sctp_reassembly.specs.reassembly_queue.ReassemblyQueue.{held_after_ordered_push}

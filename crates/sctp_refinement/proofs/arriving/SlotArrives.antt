@@ -7,8 +7,8 @@ use Rattle.sctp_list_lemmas.specs.Lists.{insert_before, advance_over}
 use Rattle.sctp_list_lemmas.specs.Serial.{comes_before}
 use Rattle.sctp_list_lemmas.proofs.Passing.{front-kept, FrontOf}
 use Rattle.sctp_list_lemmas.proofs.More.{fails, not_both, and}
-use Rattle.sctp_chunks.specs.declared.chunk.chunk_payload_data.ChunkPayloadData.{ChunkPayloadData}
-use Rattle.sctp_chunks.specs.ChunkSet.{ChunkSet}
+use Rattle.sctp_data.specs.declared.chunk.chunk_payload_data.ChunkPayloadData.{ChunkPayloadData}
+use Rattle.sctp_data.specs.ChunkSet.{ChunkSet}
 use Rattle.sctp_serial.specs.DataChunks.{chunk_before}
 use Rattle.sctp_reassembly.specs.reassembly_queue.ReassemblyQueue.{held_after_ordered_push, set_of_run, BecomesComplete}
 use Rattle.sctp_model.specs.LinkRecord.{LinkRecord, StreamRecord}

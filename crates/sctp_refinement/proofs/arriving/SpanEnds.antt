@@ -8,8 +8,8 @@ use Rattle.sctp_list_lemmas.specs.Kept.{numbers_where}
 use Rattle.sctp_list_lemmas.proofs.Passing.{front-kept, FrontOf}
 use Rattle.sctp_list_lemmas.proofs.More.{both, and, length-kept-positive}
 use Rattle.sctp_list_lemmas.proofs.Cases.{same-yes, same-is, or-left, or-right}
-use Rattle.sctp_chunks.specs.declared.chunk.chunk_payload_data.ChunkPayloadData.{ChunkPayloadData}
-use Rattle.sctp_chunks.specs.ChunkSet.{ChunkSet}
+use Rattle.sctp_data.specs.declared.chunk.chunk_payload_data.ChunkPayloadData.{ChunkPayloadData}
+use Rattle.sctp_data.specs.ChunkSet.{ChunkSet}
 use Rattle.sctp_model.specs.LinkRecord.{LinkRecord, StreamRecord}
 use Rattle.sctp_model.specs.Messages.{message_at, slot_at, message_of, stream_of, is_ordered_on, index_of, fragment_count, has_fragment, tsn_of, place_of}
 use Rattle.sctp_model.specs.Receiver.{arrived_of, has_arrived, is_held, is_complete_message, held_on, next_of, least, greatest, fits}

@@ -7,7 +7,7 @@ use Rattle.sctp_list_lemmas.proofs.Passing.{kept-same, map-kept-same}
 use Rattle.sctp_model.specs.LinkRecord.{LinkRecord}
 use Rattle.sctp_model.specs.Messages.{message_at, message_of, stream_of, is_ordered_on, index_of, has_fragment, slots_of, is_unordered_on}
 use Rattle.sctp_model.specs.Receiver.{arrived_at, arrived_of, is_complete_message, is_unread, is_held}
-use Rattle.sctp_chunks.specs.ChunkSet.{ChunkSet}
+use Rattle.sctp_data.specs.ChunkSet.{ChunkSet}
 use Rattle.sctp_model.specs.Contents.{chunk_at}
 use Rattle.sctp_model.specs.Queues.{set_of, complete_set_of, is_unassembled}
 use Rattle.sctp_refinement.specs.Holds.{ordered_sets, complete_sets, unassembled_chunks}

@@ -6,8 +6,8 @@ use Rattle.std.proofs.lemmas.Bool.Decides.{nat_tests}
 use Rattle.std.proofs.lemmas.List.{map-append}
 use Rattle.sctp_list_lemmas.specs.Kept.{numbers_where}
 use Rattle.sctp_list_lemmas.specs.Lists.{insert_before}
-use Rattle.sctp_chunks.specs.declared.chunk.chunk_payload_data.ChunkPayloadData.{ChunkPayloadData}
-use Rattle.sctp_chunks.specs.ChunkSet.{ChunkSet}
+use Rattle.sctp_data.specs.declared.chunk.chunk_payload_data.ChunkPayloadData.{ChunkPayloadData}
+use Rattle.sctp_data.specs.ChunkSet.{ChunkSet}
 use Rattle.sctp_serial.specs.Runs.{IsEarliestRun, HasNoRun}
 use Rattle.sctp_serial.specs.DataChunks.{chunk_before}
 use Rattle.sctp_model.specs.Contents.{chunk_at}

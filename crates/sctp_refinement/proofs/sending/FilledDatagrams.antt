@@ -6,8 +6,8 @@ use Rattle.std.proofs.lemmas.Bool.Decides.{nat_tests}
 use Rattle.sctp_list_lemmas.specs.Kept.{numbers_from}
 use Rattle.sctp_list_lemmas.specs.Lists.{pieces}
 use Rattle.sctp_list_lemmas.proofs.Getting.{get-snoc_old, get-snoc_new}
-use Rattle.sctp_chunks.specs.declared.chunk.chunk_payload_data.ChunkPayloadData.{ChunkPayloadData}
-use Rattle.sctp_chunks.specs.PayloadData.{Data, data_of}
+use Rattle.sctp_data.specs.declared.chunk.chunk_payload_data.ChunkPayloadData.{ChunkPayloadData}
+use Rattle.sctp_data.specs.PayloadData.{Data, data_of}
 use Rattle.sctp_outbound.specs.pending_queue.PendingQueue.{Pending, next_pending}
 use Rattle.sctp_outbound.specs.outbound_queue.OutboundQueue.{taken_of, after_sends}
 use Rattle.sctp_model.specs.LinkRecord.{Setup, LinkRecord, Slot}

@@ -6,8 +6,8 @@ use Rattle.sctp_list_lemmas.specs.Kept.{numbers_where, always}
 use Rattle.sctp_list_lemmas.specs.Lists.{change_where}
 use Rattle.sctp_list_lemmas.proofs.More.{not_both, same_test}
 use Rattle.sctp_list_lemmas.proofs.Round.{tsn}
-use Rattle.sctp_chunks.specs.declared.chunk.chunk_payload_data.ChunkPayloadData.{ChunkPayloadData}
-use Rattle.sctp_chunks.specs.PayloadData.{data_of}
+use Rattle.sctp_data.specs.declared.chunk.chunk_payload_data.ChunkPayloadData.{ChunkPayloadData}
+use Rattle.sctp_data.specs.PayloadData.{data_of}
 use Rattle.sctp_outbound.specs.Marks.{with_nsent}
 use Rattle.sctp_serial.specs.DataChunks.{has_tsn}
 use Rattle.sctp_outbound.specs.outbound_queue.OutboundQueue.{Outbound, with_inflight}

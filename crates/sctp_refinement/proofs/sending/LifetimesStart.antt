@@ -4,19 +4,19 @@ use Rattle.std.specs.Prelude.{if◌then◌else◌, ◌==◌, ◌&&◌, ◌||◌,
 use Rattle.std.proofs.Math.Path.{subst}
 use Rattle.std.proofs.lemmas.Bool.Decides.{nat_tests}
 use Rattle.std.specs.List.{flat_map}
-use Rattle.sctp_chunks.specs.Reliability.{is_timed}
-use Rattle.sctp_chunks.specs.PayloadTypes.{is_dcep}
+use Rattle.sctp_data.specs.Reliability.{is_timed}
+use Rattle.sctp_data.specs.PayloadTypes.{is_dcep}
 use Rattle.sctp_list_lemmas.specs.Kept.{numbers_where, numbers_from, first_of}
 use Rattle.sctp_list_lemmas.specs.Lists.{change_where, pieces}
 use Rattle.sctp_list_lemmas.proofs.Passing.{kept-same, front-kept, FrontOf}
 use Rattle.sctp_list_lemmas.proofs.Getting.{map-at, length-mapped}
-use Rattle.sctp_chunks.specs.declared.chunk.chunk_payload_data.ChunkPayloadData.{ChunkPayloadData}
-use Rattle.sctp_chunks.specs.declared.chunk.chunk_payload_data.PayloadProtocolIdentifier.{PayloadProtocolIdentifier}
-use Rattle.sctp_chunks.specs.declared.chunk.chunk_payload_data.PayloadProtocolIdentifier.TheVariants.{Dcep, String, Binary, StringEmpty, BinaryEmpty, Unknown}
-use Rattle.sctp_chunks.specs.declared.chunk.chunk_payload_data.ReliabilityType.{ReliabilityType}
-use Rattle.sctp_chunks.specs.declared.chunk.chunk_payload_data.ReliabilityType.TheVariants.{Reliable, Rexmit, Timed}
-use Rattle.sctp_chunks.specs.PayloadData.{Data}
-use Rattle.sctp_chunks.specs.ChunkSet.{fresh}
+use Rattle.sctp_data.specs.declared.chunk.chunk_payload_data.ChunkPayloadData.{ChunkPayloadData}
+use Rattle.sctp_data.specs.declared.chunk.chunk_payload_data.PayloadProtocolIdentifier.{PayloadProtocolIdentifier}
+use Rattle.sctp_data.specs.declared.chunk.chunk_payload_data.PayloadProtocolIdentifier.TheVariants.{Dcep, String, Binary, StringEmpty, BinaryEmpty, Unknown}
+use Rattle.sctp_data.specs.declared.chunk.chunk_payload_data.ReliabilityType.{ReliabilityType}
+use Rattle.sctp_data.specs.declared.chunk.chunk_payload_data.ReliabilityType.TheVariants.{Reliable, Rexmit, Timed}
+use Rattle.sctp_data.specs.PayloadData.{Data}
+use Rattle.sctp_data.specs.ChunkSet.{fresh}
 use Rattle.sctp_outbound.specs.pending_queue.PendingQueue as pending
 use Rattle.sctp_outbound.specs.outbound_queue.OutboundQueue.{Outbound, all_started}
 use Rattle.sctp_model.specs.LinkRecord.{LinkRecord, Message}

@@ -8,7 +8,7 @@ use Rattle.sctp_list_lemmas.proofs.Passing.{kept-same, map-kept-same, unbroken-s
 use Rattle.sctp_list_lemmas.proofs.Cases.{same-yes, same-is, or-left, or-right}
 use Rattle.sctp_refinement.proofs.arriving.UnorderedStep.{kept-split}
 use Rattle.sctp_list_lemmas.proofs.More.{fails, kept-short}
-use Rattle.sctp_chunks.specs.ChunkSet.{ChunkSet}
+use Rattle.sctp_data.specs.ChunkSet.{ChunkSet}
 use Rattle.sctp_model.specs.LinkRecord.{Setup, LinkRecord}
 use Rattle.sctp_model.specs.Messages.{message_at, message_of, stream_of, is_ordered_on, is_unordered_on, index_of, ssn_of, has_fragment, slots_of, sent_of, fragment_count, tsn_of}
 use Rattle.sctp_model.specs.Receiver.{arrived_at, arrived_of, has_arrived, is_complete_message, is_unread, is_held, next_of, cumulative}

@@ -10,7 +10,7 @@ use Rattle.sctp_list_lemmas.proofs.Passing.{kept-none, front-kept, FrontOf}
 use Rattle.sctp_list_lemmas.proofs.More.{fails, not_both, both}
 use Rattle.sctp_list_lemmas.proofs.Cases.{by_same, negated, same-yes, same-is}
 use Rattle.sctp_list_lemmas.proofs.Tests.{FirstOf, first-kept}
-use Rattle.sctp_chunks.specs.declared.chunk.chunk_payload_data.ChunkPayloadData.{ChunkPayloadData}
+use Rattle.sctp_data.specs.declared.chunk.chunk_payload_data.ChunkPayloadData.{ChunkPayloadData}
 use Rattle.sctp_outbound.specs.declared.pending_queue.Selected.{Selected}
 use Rattle.sctp_outbound.specs.pending_queue.PendingQueue.{Pending, list_of, front_of, next_pending, next_pending_of, list_to_pop, rest_after, rest_from, rest_of, selected_after}
 use Rattle.sctp_model.specs.LinkRecord.{LinkRecord}

@@ -11,7 +11,7 @@ use Rattle.sctp_list_lemmas.proofs.Passing.{map-kept-same, kept-snoc_in}
 use Rattle.sctp_list_lemmas.proofs.Getting.{get-snoc_old, get-snoc_new}
 use Rattle.sctp_list_lemmas.proofs.Round.{comes_before-tsn}
 use Rattle.sctp_list_lemmas.proofs.Cases.{by_last}
-use Rattle.sctp_chunks.specs.declared.chunk.chunk_payload_data.ChunkPayloadData.{ChunkPayloadData}
+use Rattle.sctp_data.specs.declared.chunk.chunk_payload_data.ChunkPayloadData.{ChunkPayloadData}
 use Rattle.sctp_serial.specs.DataChunks.{chunk_before}
 use Rattle.sctp_outbound.specs.outbound_queue.OutboundQueue.{Outbound, as_sent, sent_of, sent_peeked}
 use Rattle.sctp_model.specs.LinkRecord.{LinkRecord, Slot}

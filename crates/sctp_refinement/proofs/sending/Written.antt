@@ -3,16 +3,16 @@ use Rattle.std.proofs.Common.{◌≡◌, ℕ, ◌+◌, ◌-◌, ◌<◌, ◌%◌
 use Rattle.std.specs.Prelude.{if◌then◌else◌, ◌==◌, ◌&&◌, ◌||◌, not, nat_le, nat_lt, is_some, slice_index_or}
 use Rattle.std.proofs.Math.Path.{subst}
 use Rattle.std.proofs.lemmas.Bool.Decides.{nat_tests}
-use Rattle.sctp_chunks.specs.Reliability.{is_timed}
-use Rattle.sctp_chunks.specs.PayloadTypes.{is_dcep, is_ordered}
+use Rattle.sctp_data.specs.Reliability.{is_timed}
+use Rattle.sctp_data.specs.PayloadTypes.{is_dcep, is_ordered}
 use Rattle.sctp_list_lemmas.specs.Kept.{numbers_where, always, numbers_from, first_of}
 use Rattle.sctp_list_lemmas.specs.Lists.{pieces}
 use Rattle.sctp_list_lemmas.proofs.Passing.{kept-same, map-kept-same, kept-snoc_out, kept-none, front-kept, FrontOf}
 use Rattle.sctp_list_lemmas.proofs.More.{fails, both}
 use Rattle.sctp_list_lemmas.proofs.Cases.{by_last}
-use Rattle.sctp_chunks.specs.declared.chunk.chunk_payload_data.ChunkPayloadData.{ChunkPayloadData}
-use Rattle.sctp_chunks.specs.declared.chunk.chunk_payload_data.PayloadProtocolIdentifier.{PayloadProtocolIdentifier}
-use Rattle.sctp_chunks.specs.ChunkSet.{fresh}
+use Rattle.sctp_data.specs.declared.chunk.chunk_payload_data.ChunkPayloadData.{ChunkPayloadData}
+use Rattle.sctp_data.specs.declared.chunk.chunk_payload_data.PayloadProtocolIdentifier.{PayloadProtocolIdentifier}
+use Rattle.sctp_data.specs.ChunkSet.{fresh}
 use Rattle.sctp_outbound.specs.pending_queue.PendingQueue.{Pending}
 use Rattle.sctp_outbound.specs.outbound_queue.OutboundQueue.{Outbound, with_message_id, append_chunks, with_message}
 use Rattle.sctp_model.specs.LinkRecord.{LinkRecord, Message, StreamRecord}

@@ -11,8 +11,8 @@ use Rattle.sctp_model.specs.Receiver.{arrived_at, has_arrived, cumulative, is_co
 use Rattle.sctp_model.specs.Changes.{named_by, receive_skip, skip_counts}
 use Rattle.sctp_list_lemmas.specs.Lists.{after_leading}
 use Rattle.sctp_list_lemmas.specs.Serial.{at_or_before}
-use Rattle.sctp_chunks.specs.declared.chunk.chunk_payload_data.ChunkPayloadData.{ChunkPayloadData}
-use Rattle.sctp_chunks.specs.ChunkSet.{ChunkSet}
+use Rattle.sctp_data.specs.declared.chunk.chunk_payload_data.ChunkPayloadData.{ChunkPayloadData}
+use Rattle.sctp_data.specs.ChunkSet.{ChunkSet}
 use Rattle.sctp_reassembly.specs.reassembly_queue.ReassemblyQueue.{Reassembly, held_after_ordered_skip, held_after_ordered_skips, held_after_unordered_skip}
 use Rattle.sctp_model.specs.Contents.{chunk_at}
 use Rattle.sctp_model.specs.Queues.{set_of, complete_set_of, is_unassembled}

@@ -10,7 +10,7 @@ use super::Sender;
 use super::flight::late::AbandonedMessage;
 use super::outbound_streams::OutboundStreams;
 use crate::sender::refusal::SenderRefusal;
-use sctp_chunks::chunk::chunk_forward_tsn::ChunkForwardTsn;
+use sctp_data::chunk::chunk_forward_tsn::ChunkForwardTsn;
 
 impl Sender {
     ghost use Rattle.sctp_outbound.specs.outbound_queue.OutboundQueue.{late_tsns, total_bytes};

@@ -1,7 +1,7 @@
 //! What is in flight: each TSN from the one behind the acknowledged ones to the one before the next.
 
 ghost use Rattle.std.specs.Prelude.{◌≡◌, not, ◌+◌, ◌-◌, ◌<◌, ◌≤◌, ◌^◌, ℕ, true, false, is_some, Some, None, OnOk, OnErr, IfOk, IfErr, IsOk, option_map, find, Bool};
-ghost use Rattle.sctp_chunks.specs.declared.chunk.chunk_payload_data.ChunkPayloadData.{ChunkPayloadData};
+ghost use Rattle.sctp_data.specs.declared.chunk.chunk_payload_data.ChunkPayloadData.{ChunkPayloadData};
 ghost use Rattle.sctp_sender.specs.declared.sender.refusal.SenderRefusal.TheVariants.{OutOfMemory};
 ghost use Rattle.sctp_serial.specs.DataChunks.{bytes_of, has_tsn};
 
@@ -16,7 +16,7 @@ mod skipping;
 mod walking;
 
 use crate::sender::refusal::SenderRefusal;
-use sctp_chunks::chunk::chunk_payload_data::ChunkPayloadData;
+use sctp_data::chunk::chunk_payload_data::ChunkPayloadData;
 use sctp_outbound::outbound_queue::OutboundQueue;
 use std::alloc::Global;
 use std::marker::Model;

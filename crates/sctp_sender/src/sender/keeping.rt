@@ -11,12 +11,12 @@ use super::Sender;
 use super::flight::keeping::{Kept, TakenBack, coming_back, told_back};
 use super::outbound_streams::OutboundStreams;
 use crate::sender::refusal::SenderRefusal;
-use sctp_chunks::chunk::chunk_selective_ack::ChunkSelectiveAck;
+use sctp_data::chunk::chunk_selective_ack::ChunkSelectiveAck;
 use sctp_outbound::outbound_queue::OutboundQueue;
 use std::alloc::Global;
 
 impl Sender {
-    ghost use Rattle.sctp_chunks.specs.SelectiveAck.{sack_of};
+    ghost use Rattle.sctp_data.specs.SelectiveAck.{sack_of};
     ghost use Rattle.sctp_sender.specs.Flight.{can_resend, is_outdated, sack_refusal};
     ghost use Rattle.sctp_sender.specs.Sender.{after_take_back, keeping, take_back_refusal, taken_back_by};
 

@@ -3,7 +3,7 @@
 ghost use Rattle.std.specs.Prelude.{◌≡◌, ◌<◌, ◌≤◌, ◌^◌, ◌++◌, ◌∷◌, [], ℕ, List, not, true, false, Some, None, OnOk, OnErr, IfOk, IfErr, IsOkUnless, MatchOption, length, map, find, option_copied};
 ghost use Rattle.std.specs.List.{filter};
 ghost use Rattle.sctp_base.specs.declared.error.Error.TheVariants.{ErrOutOfMemory};
-ghost use Rattle.sctp_chunks.specs.declared.chunk.chunk_payload_data.PayloadProtocolIdentifier.TheVariants.{Unknown};
+ghost use Rattle.sctp_data.specs.declared.chunk.chunk_payload_data.PayloadProtocolIdentifier.TheVariants.{Unknown};
 ghost use Rattle.sctp_list_lemmas.specs.Lists.{change_where};
 ghost use Rattle.sctp_serial.specs.DataChunks.{bytes_of};
 ghost use Rattle.sctp_sender.specs.declared.sender.refusal.SenderRefusal.TheVariants.{OutOfMemory};
@@ -15,7 +15,7 @@ ghost use Rattle.sctp_sender.specs.Outgoing.{with_reliability, with_size, wrote,
 use crate::sender::refusal::SenderRefusal;
 use bytes::Bytes;
 use sctp_base::error::Result;
-use sctp_chunks::chunk::chunk_payload_data::{
+use sctp_data::chunk::chunk_payload_data::{
     ChunkPayloadData, PayloadProtocolIdentifier, ReliabilityType,
 };
 use sctp_stream::stream::StreamState;

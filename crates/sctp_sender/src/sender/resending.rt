@@ -1,13 +1,13 @@
 //! What a sender sends again, and when (RFC 4960 6.3.3, 7.2.4).
 
 ghost use Rattle.std.specs.Prelude.{◌≡◌, ◌+◌, ◌-◌, ◌^◌, true, None, Some, OnOk, OnErr, IfOk, IfErr, IsOk, find, length, option_copied, if◌then◌else◌};
-ghost use Rattle.sctp_chunks.specs.declared.chunk.chunk_payload_data.ChunkPayloadData.{ChunkPayloadData};
+ghost use Rattle.sctp_data.specs.declared.chunk.chunk_payload_data.ChunkPayloadData.{ChunkPayloadData};
 ghost use Rattle.sctp_sender.specs.declared.sender.refusal.SenderRefusal.TheVariants.{NotInFlight, OutOfMemory};
 ghost use Rattle.sctp_serial.specs.DataChunks.{has_tsn};
 
 use super::Sender;
 use crate::sender::refusal::SenderRefusal;
-use sctp_chunks::chunk::chunk_payload_data::ChunkPayloadData;
+use sctp_data::chunk::chunk_payload_data::ChunkPayloadData;
 
 impl Sender {
     ghost use Rattle.sctp_sender.specs.Flight.{can_resend};

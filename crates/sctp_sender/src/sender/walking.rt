@@ -4,7 +4,7 @@ ghost use Rattle.std.specs.Prelude.{◌≡◌, length, find, option_copied, opti
 ghost use Rattle.sctp_serial.specs.DataChunks.{bytes_of, has_tsn};
 
 use super::Sender;
-use sctp_chunks::chunk::chunk_payload_data::ChunkPayloadData;
+use sctp_data::chunk::chunk_payload_data::ChunkPayloadData;
 
 impl Sender {
     /// The TSN up to which all was acknowledged (RFC 4960 6.2.1).

@@ -1,8 +1,8 @@
 use Rattle.std.proofs.Common.{◌≡◌, ◌++◌, List, length, map}
 use Rattle.std.specs.Prelude.{reverse}
 use Rattle.std.specs.List.{AllByRecursion}
-use Rattle.sctp_chunks.specs.PayloadData.{Data}
-use Rattle.sctp_chunks.specs.ChunkSet.{fresh}
+use Rattle.sctp_data.specs.PayloadData.{Data}
+use Rattle.sctp_data.specs.ChunkSet.{fresh}
 use Rattle.sctp_chunks.specs.Wire.{data_chunk}
 use Rattle.sctp_chunks.specs.Kind.{wire_of, IsFreshKind}
 use Rattle.sctp_link.proofs.datagram.data_chunks.Given as goal

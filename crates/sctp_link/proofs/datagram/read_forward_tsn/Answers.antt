@@ -1,5 +1,5 @@
 use Rattle.std.proofs.Common.{ap, sym, ◌∙◌}
-use Rattle.sctp_chunks.specs.ForwardTsn.{forward_tsn_of}
+use Rattle.sctp_data.specs.ForwardTsn.{forward_tsn_of}
 use Rattle.sctp_chunks.specs.Kind.{wire_of}
 use Rattle.sctp_chunks.specs.Wire.{forward_tsn_chunk}
 use Rattle.sctp_link.proofs.upkeep.Packets.{forward_tsn_kind, same_forward_tsn}

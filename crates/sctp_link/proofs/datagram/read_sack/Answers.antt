@@ -1,5 +1,5 @@
 use Rattle.std.proofs.Common.{ap, sym, ◌∙◌}
-use Rattle.sctp_chunks.specs.SelectiveAck.{sack_of}
+use Rattle.sctp_data.specs.SelectiveAck.{sack_of}
 use Rattle.sctp_chunks.specs.Kind.{wire_of}
 use Rattle.sctp_chunks.specs.Wire.{sack_chunk}
 use Rattle.sctp_link.proofs.upkeep.Packets.{sack_kind, same_sack}

@@ -4,7 +4,7 @@ use Rattle.std.specs.List.{All, find, list_any, filter}
 use Rattle.std.proofs.lemmas.Bool.{false≢true, cases_lt}
 use Rattle.std.proofs.lemmas.Bool.Decides.{nat_tests}
 use Rattle.std.proofs.lemmas.Option.{none-some}
-use Rattle.sctp_chunks.specs.declared.chunk.chunk_payload_data.ChunkPayloadData.{ChunkPayloadData}
+use Rattle.sctp_data.specs.declared.chunk.chunk_payload_data.ChunkPayloadData.{ChunkPayloadData}
 use Rattle.sctp_list_lemmas.specs.Lists.{change_where, insert_before}
 use Rattle.sctp_list_lemmas.proofs.Edits.{length-change_where, list_any-inserted, those-none}
 use Rattle.sctp_outbound.specs.declared.pending_queue.Selected.{Selected}

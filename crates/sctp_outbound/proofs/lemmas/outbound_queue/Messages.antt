@@ -1,6 +1,6 @@
 -- What is left of a message.
 use Rattle.std.proofs.Common.{Bool, List, [], ◌∷◌}
-use Rattle.sctp_chunks.specs.declared.chunk.chunk_payload_data.ChunkPayloadData.{ChunkPayloadData}
+use Rattle.sctp_data.specs.declared.chunk.chunk_payload_data.ChunkPayloadData.{ChunkPayloadData}
 use Rattle.sctp_outbound.specs.pending_queue.Whole.{IsMessage}
 
 -- nothing, or fragments up to the end of a message, which is begun already or not

@@ -1,6 +1,6 @@
 -- Payload queues that differ in their chunks alone.
 use Rattle.std.proofs.Common.{◌≡◌, ℕ, List, ap}
-use Rattle.sctp_chunks.specs.declared.chunk.chunk_payload_data.ChunkPayloadData.{ChunkPayloadData}
+use Rattle.sctp_data.specs.declared.chunk.chunk_payload_data.ChunkPayloadData.{ChunkPayloadData}
 use Rattle.sctp_outbound.specs.payload_queue.PayloadQueue.{Payload}
 
 -- two queues that differ in nothing else

@@ -6,8 +6,8 @@ use Rattle.std.proofs.lemmas.List.{take-append-drop, drop-drop}
 use Rattle.std.proofs.lemmas.List.Sums.{sum_by-cons, sum_by-append}
 use Rattle.sctp_list_lemmas.specs.Serial.{at_or_before, at_or_before16, comes_before16}
 use Rattle.sctp_list_lemmas.specs.Lists.{insert_before, change_first, after_leading}
-use Rattle.sctp_chunks.specs.declared.chunk.chunk_payload_data.ChunkPayloadData.{ChunkPayloadData}
-use Rattle.sctp_chunks.specs.ChunkSet.{ChunkSet}
+use Rattle.sctp_data.specs.declared.chunk.chunk_payload_data.ChunkPayloadData.{ChunkPayloadData}
+use Rattle.sctp_data.specs.ChunkSet.{ChunkSet}
 use Rattle.sctp_reassembly.specs.reassembly_queue.Fragments.{has_ssn, with_chunk, new_set, sets_with, chunks_of_ssn, set_before, is_complete}
 use Rattle.sctp_serial.specs.DataChunks.{bytes_of, has_tsn, chunk_before}
 use Rattle.sctp_reassembly.specs.reassembly_queue.ReassemblyQueue.{Reassembly, ReassemblyState, set_bytes, held_bytes, IsCounted, count_up, after_ordered_push, set_of_run, BecomesComplete, PushesUnordered, is_readable, state_read, message_read, rest_read, after_read, bytes_read, leading_upto, after_unordered_skip, after_ordered_skip, held_after_ordered_skip, is_passed, complete_sets}

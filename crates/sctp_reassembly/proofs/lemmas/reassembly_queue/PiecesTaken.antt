@@ -5,7 +5,7 @@ use Rattle.std.proofs.lemmas.Bool.{cases_lt}
 use Rattle.std.proofs.lemmas.Bool.Decides.{nat_tests}
 use Rattle.std.proofs.lemmas.List.{take_more, drop_more, drop-drop, append-nil, length-append, take-append-le, take-append-drop, drop_all, take_all}
 use Rattle.std.proofs.Math.Seq.{take-append_seam, take-append-add, drop-append-add}
-use Rattle.sctp_chunks.specs.declared.chunk.chunk_payload_data.ChunkPayloadData.{ChunkPayloadData}
+use Rattle.sctp_data.specs.declared.chunk.chunk_payload_data.ChunkPayloadData.{ChunkPayloadData}
 use Rattle.sctp_reassembly.specs.reassembly_queue.Fragments.{payload_of}
 use Rattle.sctp_reassembly.specs.reassembly_queue.Chunks.{cut_first, left_from, piece_of, left_after, taken_whole}
 

@@ -8,7 +8,7 @@ use Rattle.sctp_reassembly.specs.reassembly_queue.Loose.{IsMark}
 use Rattle.sctp_serial.proofs.lemmas.ListEdits.{insert-remove}
 use Rattle.std.proofs.lemmas.List.{get_or_default}
 use Rattle.std.proofs.lemmas.List.Edits.{length-insert, get_or-insert_below, get_or-insert_above}
-use Rattle.sctp_chunks.specs.declared.chunk.chunk_payload_data.ChunkPayloadData.{ChunkPayloadData}
+use Rattle.sctp_data.specs.declared.chunk.chunk_payload_data.ChunkPayloadData.{ChunkPayloadData}
 use Rattle.sctp_serial.specs.Runs.{IsRising, IsRun, IsEarliestRun, IsRunAround, IsEarliestRunAround, HasNoRun, HasNoRunAround, IsStretch}
 use Rattle.sctp_reassembly.specs.reassembly_queue.Around.{IsStart, HasNoStart, IsEnd, IsFirstEnding, HasNoEnd}
 use Rattle.sctp_serial.specs.DataChunks.{following_tsn}

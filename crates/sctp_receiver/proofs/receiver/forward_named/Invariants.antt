@@ -1,5 +1,5 @@
 use Rattle.std.proofs.Common.{◌≡◌, ◌-◌, ◌<◌, drop, get_or}
-use Rattle.sctp_chunks.specs.declared.chunk.chunk_forward_tsn.ChunkForwardTsnStream.{ChunkForwardTsnStream}
+use Rattle.sctp_data.specs.declared.chunk.chunk_forward_tsn.ChunkForwardTsnStream.{ChunkForwardTsnStream}
 use Rattle.sctp_list_lemmas.specs.Lists.{change_where}
 use Rattle.sctp_receiver.specs.Inbound.{named_forwarded, has_number, ssn_forwarded}
 use Rattle.sctp_receiver.proofs.receiver.forward_named.Given as goal

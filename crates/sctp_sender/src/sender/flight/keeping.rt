@@ -2,8 +2,8 @@
 
 ghost use Rattle.std.specs.Prelude.{◌≡◌, ◌+◌, ◌<◌, ◌≤◌, ◌^◌, ℕ, List, Option, ◌∷◌, [], not, false, true, None, Some, IfOk, IfErr, IsOk, drop, length, option_copied, slice_index_or, take};
 ghost use Rattle.std.specs.List.{All};
-ghost use Rattle.sctp_chunks.specs.SelectiveAck.{Sack, sack_of};
-ghost use Rattle.sctp_chunks.specs.declared.chunk.chunk_payload_data.ChunkPayloadData.{ChunkPayloadData};
+ghost use Rattle.sctp_data.specs.SelectiveAck.{Sack, sack_of};
+ghost use Rattle.sctp_data.specs.declared.chunk.chunk_payload_data.ChunkPayloadData.{ChunkPayloadData};
 ghost use Rattle.sctp_outbound.specs.outbound_queue.OutboundQueue.{total_bytes, with_inflight};
 ghost use Rattle.sctp_sender.specs.declared.sender.refusal.SenderRefusal.TheVariants.{OutOfMemory};
 ghost use Rattle.sctp_sender.specs.Keeping.{back_each, back_of, bytes_back, keep, keep_each, kept_after, restored, takes_back, told_back, trimmed, with_restored};
@@ -13,8 +13,8 @@ use super::InFlight;
 use super::reporting::{is_reported, marks_of};
 use crate::sender::refusal::SenderRefusal;
 use bytes::Bytes;
-use sctp_chunks::chunk::chunk_payload_data::ChunkPayloadData;
-use sctp_chunks::chunk::chunk_selective_ack::ChunkSelectiveAck;
+use sctp_data::chunk::chunk_payload_data::ChunkPayloadData;
+use sctp_data::chunk::chunk_selective_ack::ChunkSelectiveAck;
 use sctp_outbound::outbound_queue::OutboundQueue;
 use sctp_serial::serial::distance;
 use sctp_stream::stream_numbers::put;

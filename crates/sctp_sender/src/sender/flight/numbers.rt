@@ -4,7 +4,7 @@ ghost use Rattle.std.specs.Prelude.{◌≡◌, None, IfSome, option_copied, slic
 ghost use Rattle.sctp_sender.specs.Numbers.{begins_ordered, is_ordered_on};
 
 use super::InFlight;
-use sctp_chunks::chunk::chunk_payload_data::ChunkPayloadData;
+use sctp_data::chunk::chunk_payload_data::ChunkPayloadData;
 
 /// How far past the first one in flight an ordered message's number may be, at most less one: a quarter of the circle, so that names
 /// in a FORWARD-TSN as far behind as this is ahead can be told apart too.

@@ -5,7 +5,7 @@ ghost use Rattle.sctp_sender.specs.declared.sender.refusal.SenderRefusal.TheVari
 ghost use Rattle.sctp_sender.specs.Abandonment.{IsFirstPair, IsNoPair};
 
 use crate::sender::refusal::SenderRefusal;
-use sctp_chunks::chunk::chunk_forward_tsn::ChunkForwardTsnStream;
+use sctp_data::chunk::chunk_forward_tsn::ChunkForwardTsnStream;
 use sctp_stream::stream_numbers::{StreamNumbers, put};
 use std::alloc::Global;
 use std::marker::Model;
@@ -20,7 +20,7 @@ pub struct Pairs {
 impl Model for Pairs {
     ghost use Rattle.std.specs.Prelude.{◌≡◌, List};
     ghost use Rattle.sctp_sender.specs.Abandonment.{streams_of};
-    ghost use Rattle.sctp_chunks.specs.declared.chunk.chunk_forward_tsn.ChunkForwardTsnStream.{ChunkForwardTsnStream};
+    ghost use Rattle.sctp_data.specs.declared.chunk.chunk_forward_tsn.ChunkForwardTsnStream.{ChunkForwardTsnStream};
 
     ghost Value = { List ChunkForwardTsnStream };
 

@@ -1,7 +1,7 @@
 //! Where the chunks of a message stand in flight: side by side.
 
 ghost use Rattle.std.specs.Prelude.{◌≡◌, ◌<◌, ◌≤◌, Some, find, length};
-ghost use Rattle.sctp_chunks.specs.declared.chunk.chunk_payload_data.ChunkPayloadData.{ChunkPayloadData};
+ghost use Rattle.sctp_data.specs.declared.chunk.chunk_payload_data.ChunkPayloadData.{ChunkPayloadData};
 ghost use Rattle.sctp_outbound.specs.Marks.{IsBetween};
 ghost use Rattle.sctp_serial.specs.DataChunks.{has_tsn};
 ghost use Rattle.sctp_sender.specs.SideBySide.{IsApartAt, StandSideBySide, messages_of};

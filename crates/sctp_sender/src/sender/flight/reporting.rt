@@ -4,8 +4,8 @@ ghost use Rattle.std.specs.Prelude.{◌≡◌, ◌≢◌, ◌-◌, ◌&&◌, ◌
 ghost use Rattle.std.specs.HashSet.{contains};
 ghost use Rattle.std.specs.List.{list_all, list_any, filter};
 ghost use Rattle.sctp_list_lemmas.specs.Lists.{change_where};
-ghost use Rattle.sctp_chunks.specs.SelectiveAck.{sack_of};
-ghost use Rattle.sctp_chunks.specs.declared.chunk.chunk_payload_data.ChunkPayloadData.{ChunkPayloadData};
+ghost use Rattle.sctp_data.specs.SelectiveAck.{sack_of};
+ghost use Rattle.sctp_data.specs.declared.chunk.chunk_payload_data.ChunkPayloadData.{ChunkPayloadData};
 ghost use Rattle.sctp_outbound.specs.Marks.{as_acknowledged};
 ghost use Rattle.sctp_outbound.specs.outbound_queue.OutboundQueue.{with_inflight};
 ghost use Rattle.sctp_outbound.specs.pending_queue.Whole.{partially_sent};
@@ -18,8 +18,8 @@ ghost use Rattle.sctp_sender.specs.SideBySide.{IsApartAt, StandSideBySide, messa
 use super::{InFlight, Released};
 use crate::sender::refusal::SenderRefusal;
 use sctp_base::util::{sna32lt, sna32lte};
-use sctp_chunks::chunk::chunk_payload_data::ChunkPayloadData;
-use sctp_chunks::chunk::chunk_selective_ack::{ChunkSelectiveAck, GapAckBlock};
+use sctp_data::chunk::chunk_payload_data::ChunkPayloadData;
+use sctp_data::chunk::chunk_selective_ack::{ChunkSelectiveAck, GapAckBlock};
 use sctp_outbound::outbound_queue::OutboundQueue;
 use sctp_serial::serial::distance;
 use sctp_stream::stream_numbers::put;

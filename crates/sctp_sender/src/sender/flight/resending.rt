@@ -3,7 +3,7 @@
 ghost use Rattle.std.specs.Prelude.{◌≡◌, ◌==◌, ◌+◌, ◌-◌, ◌^◌, ◌<◌, ◌≤◌, ◌++◌, [], min, true, None, Some, OnOk, OnErr, IfOk, IfErr, IfSome, IsOk, drop, find, length, option_copied, option_map, slice_get, take, if◌then◌else◌};
 ghost use Rattle.std.specs.List.{filter};
 ghost use Rattle.sctp_list_lemmas.specs.Lists.{change_where};
-ghost use Rattle.sctp_chunks.specs.declared.chunk.chunk_payload_data.ChunkPayloadData.{ChunkPayloadData};
+ghost use Rattle.sctp_data.specs.declared.chunk.chunk_payload_data.ChunkPayloadData.{ChunkPayloadData};
 ghost use Rattle.sctp_outbound.specs.outbound_queue.OutboundQueue.{with_inflight};
 ghost use Rattle.sctp_sender.specs.declared.sender.refusal.SenderRefusal.TheVariants.{NotInFlight, OutOfMemory};
 ghost use Rattle.sctp_sender.specs.Flight.{tsns_from};
@@ -13,7 +13,7 @@ ghost use Rattle.sctp_serial.specs.DataChunks.{has_tsn, tsns};
 use super::InFlight;
 use crate::sender::refusal::SenderRefusal;
 use sctp_base::util::sna32lt;
-use sctp_chunks::chunk::chunk_payload_data::{ChunkPayloadData, ReliabilityType};
+use sctp_data::chunk::chunk_payload_data::{ChunkPayloadData, ReliabilityType};
 use sctp_outbound::outbound_queue::OutboundQueue;
 use sctp_serial::serial::distance;
 use sctp_stream::stream_numbers::put;

@@ -4,7 +4,7 @@ ghost use Rattle.std.specs.Prelude.{◌≡◌, length, find, option_copied, opti
 ghost use Rattle.sctp_serial.specs.DataChunks.{has_tsn};
 
 use super::InFlight;
-use sctp_chunks::chunk::chunk_payload_data::ChunkPayloadData;
+use sctp_data::chunk::chunk_payload_data::ChunkPayloadData;
 
 impl InFlight {
     /// The chunk in flight at a place; the first has the place 0. None where there are no more.

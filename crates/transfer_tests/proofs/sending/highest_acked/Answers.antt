@@ -1,7 +1,7 @@
 use Rattle.std.proofs.Common.{List, length, ap, ◌∙◌, ◌-◌}
 use Rattle.std.specs.Prelude.{option_map, slice_get}
 use Rattle.sctp_sender.specs.declared.sender.flight.Released.{Released}
-use Rattle.sctp_chunks.specs.SelectiveAck.{sack_of}
+use Rattle.sctp_data.specs.SelectiveAck.{sack_of}
 use Rattle.sctp_sender.specs.Flight.{released_by}
 use Rattle.sctp_sender.proofs.Lows.{last-tsn}
 use Rattle.transfer_tests.proofs.sending.highest_acked.Goals as goal

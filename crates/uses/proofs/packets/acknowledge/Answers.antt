@@ -1,5 +1,5 @@
 use Rattle.std.proofs.Common.{rules, ◌+◌, ◌<◌, ◌^◌, [], length, arith}
-use Rattle.sctp_chunks.specs.SelectiveAck.{Sack, sack_value}
+use Rattle.sctp_data.specs.SelectiveAck.{Sack, sack_value}
 use Rattle.sctp_chunks.proofs.Lengths.{length_sack_value}
 use Rattle.uses.proofs.packets.acknowledge.Goals as goal
 

@@ -1,7 +1,7 @@
 use Rattle.std.proofs.Common.{◌≡◌, ◌+◌, ◌*◌, ◌++◌, take}
 use Rattle.std.specs.List.{flat_map, AllByRecursion}
-use Rattle.sctp_chunks.specs.ForwardTsn.{stream_encoding}
-use Rattle.sctp_chunks.specs.Fits.{FitsStream}
+use Rattle.sctp_data.specs.ForwardTsn.{stream_encoding}
+use Rattle.sctp_data.specs.ForwardTsn.{FitsStream}
 use Rattle.sctp_chunks.proofs.chunk.chunk_forward_tsn.put_streams.Given as goal
 
 abbrev pub invariant-loop-stream : goal.invariant-loop-stream

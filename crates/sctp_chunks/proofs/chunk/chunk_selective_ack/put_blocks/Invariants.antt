@@ -1,6 +1,6 @@
 use Rattle.std.proofs.Common.{◌≡◌, ◌+◌, ◌*◌, ◌++◌, take}
 use Rattle.std.specs.List.{flat_map, AllByRecursion}
-use Rattle.sctp_chunks.specs.SelectiveAck.{block_encoding}
+use Rattle.sctp_data.specs.SelectiveAck.{block_encoding}
 use Rattle.sctp_chunks.specs.Fits.{FitsBlock}
 use Rattle.sctp_chunks.proofs.chunk.chunk_selective_ack.put_blocks.Given as goal
 

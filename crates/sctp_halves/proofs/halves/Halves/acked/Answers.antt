@@ -1,4 +1,4 @@
-use Rattle.sctp_chunks.specs.SelectiveAck.{sack_of}
+use Rattle.sctp_data.specs.SelectiveAck.{sack_of}
 use Rattle.sctp_halves.proofs.Sends.{either-on, sender-same, acked-aligned, acked-sides}
 use Rattle.sctp_halves.proofs.halves.Halves.acked.Goals as goal
 use Rattle.sctp_halves.proofs.halves.Halves.acked.Goals.{in-Ok, in-Err-OutOfMemory}

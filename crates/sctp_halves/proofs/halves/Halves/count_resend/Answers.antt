@@ -1,5 +1,5 @@
 use Rattle.std.specs.Prelude.{find}
-use Rattle.sctp_chunks.specs.declared.chunk.chunk_payload_data.ChunkPayloadData.{ChunkPayloadData}
+use Rattle.sctp_data.specs.declared.chunk.chunk_payload_data.ChunkPayloadData.{ChunkPayloadData}
 use Rattle.sctp_serial.specs.DataChunks.{has_tsn}
 use Rattle.sctp_sender.specs.Flight.{resent}
 use Rattle.sctp_halves.proofs.Sends.{counted-aligned}

@@ -1,4 +1,4 @@
-use Rattle.sctp_chunks.specs.ForwardTsn.{forward_tsn_of}
+use Rattle.sctp_data.specs.ForwardTsn.{forward_tsn_of}
 use Rattle.sctp_halves.proofs.Aligned.{forward-sides, forward-numbers}
 use Rattle.sctp_halves.proofs.halves.Halves.forward_tsn.Goals as goal
 

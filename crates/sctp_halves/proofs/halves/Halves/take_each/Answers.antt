@@ -1,7 +1,7 @@
 use Rattle.std.proofs.Common.{rules, ◌≡◌, ◌<◌, ◌+◌, ◌++◌, ◌∷◌, [], List, suc, ap, sym, ◌∙◌, refl, arith, subst, length, take}
 use Rattle.std.specs.Prelude.{slice_index_or}
 use Rattle.std.proofs.lemmas.List.{take_more, take_all, length-take}
-use Rattle.sctp_chunks.specs.declared.chunk.chunk_payload_data.ChunkPayloadData.{ChunkPayloadData}
+use Rattle.sctp_data.specs.declared.chunk.chunk_payload_data.ChunkPayloadData.{ChunkPayloadData}
 use Rattle.sctp_receiver.specs.declared.receiver.arrival.Arrival.{Arrival}
 use Rattle.sctp_receiver.specs.Receiver.{is_told_complete}
 use Rattle.sctp_halves.specs.Halves.{TakesEach, TakesFirst, Takes}

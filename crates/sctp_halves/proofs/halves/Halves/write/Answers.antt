@@ -1,6 +1,6 @@
 use Rattle.std.proofs.Common.{◌≡◌, ◌<◌, ◌+◌, ◌^◌, ap, sym, ◌∙◌, refl, arith, rules, length, None, Some, true, false}
 use Rattle.std.specs.Prelude.{option_map}
-use Rattle.sctp_chunks.specs.PayloadTypes.{is_ordered}
+use Rattle.sctp_data.specs.PayloadTypes.{is_ordered}
 use Rattle.sctp_stream.specs.declared.stream.StreamState.{StreamState}
 use Rattle.sctp_sender.specs.declared.sender.refusal.SenderRefusal.TheVariants.{StreamUnknown}
 use Rattle.sctp_sender.specs.Outgoing as Outgoing

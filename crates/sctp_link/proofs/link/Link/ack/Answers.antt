@@ -1,6 +1,6 @@
 use Rattle.std.proofs.Common.{◌≡◌, ◌+◌, ◌-◌, ◌%◌, ◌^◌, ◌++◌, ◌∷◌, [], length, take, rules, refl, ap, ◌∙◌, sym}
 use Rattle.sctp_list_lemmas.proofs.Getting.{length-mapped}
-use Rattle.sctp_chunks.specs.SelectiveAck.{Sack, sack_of}
+use Rattle.sctp_data.specs.SelectiveAck.{Sack, sack_of}
 use Rattle.sctp_model.specs.Reply as R
 use Rattle.sctp_model.specs.Changes.{after_ack}
 use Rattle.sctp_receiver.specs.Receiver.{filter_of}

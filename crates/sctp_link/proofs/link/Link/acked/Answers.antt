@@ -1,6 +1,6 @@
 use Rattle.std.proofs.Common.{◌≡◌, ◌+◌, ◌-◌, ◌<◌, ◌%◌, ◌^◌, ℕ, ap, sym, ◌∙◌, refl, length, max, arith}
 use Rattle.std.specs.List.{list_any}
-use Rattle.sctp_chunks.specs.SelectiveAck.{sack_of}
+use Rattle.sctp_data.specs.SelectiveAck.{sack_of}
 use Rattle.sctp_serial.specs.DataChunks.{bytes_of}
 use Rattle.sctp_outbound.specs.payload_queue.Blocks.{is_in_blocks}
 use Rattle.sctp_outbound.specs.outbound_queue.OutboundQueue.{Outbound}

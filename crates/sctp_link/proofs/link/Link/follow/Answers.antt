@@ -1,7 +1,7 @@
 use Rattle.std.proofs.Common.{◌≡◌, ℕ, ◌≤◌, ◌+◌, true, List, None, Some, refl, ap, ◌∙◌, arith, map}
 use Rattle.std.specs.Prelude.{slice_get}
 use Rattle.std.proofs.lemmas.Bool.Decides.{nat_tests}
-use Rattle.sctp_chunks.specs.ForwardTsn.{forward_tsn_of}
+use Rattle.sctp_data.specs.ForwardTsn.{forward_tsn_of}
 use Rattle.sctp_model.specs.LinkRecord.{Forward}
 use Rattle.sctp_model.specs.declared.event.Event.TheVariants as E
 use Rattle.sctp_model.specs.Receiver.{cumulative}

@@ -1,6 +1,6 @@
 use Rattle.std.proofs.Common.{◌≡◌, ap, sym, ◌∙◌, None, refl, arith, map, length}
 use Rattle.std.specs.Prelude.{is_some, slice_index_or, slice_set}
-use Rattle.sctp_chunks.specs.ChunkSet.{ChunkSet}
+use Rattle.sctp_data.specs.ChunkSet.{ChunkSet}
 use Rattle.sctp_model.specs.Contents.{chunk_at}
 use Rattle.sctp_model.specs.Reply as R
 use Rattle.sctp_model.specs.Steps.{refusal_of}

@@ -1,6 +1,6 @@
 use Rattle.std.proofs.Common.{◌≡◌, ◌∷◌, ◌++◌, [], rules, None, refl, ap, sym, ◌∙◌, map, arith}
 use Rattle.sctp_list_lemmas.proofs.Getting.{length-mapped}
-use Rattle.sctp_chunks.specs.ForwardTsn.{ForwardTsn}
+use Rattle.sctp_data.specs.ForwardTsn.{ForwardTsn}
 use Rattle.sctp_model.specs.declared.event.Event.TheVariants as E
 use Rattle.sctp_model.specs.LinkRecord.{Forward}
 use Rattle.sctp_model.specs.Messages.{place_of, tsn_of}

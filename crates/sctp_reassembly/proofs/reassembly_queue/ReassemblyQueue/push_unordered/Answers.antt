@@ -1,5 +1,5 @@
 use Rattle.std.proofs.Common.{◌∷◌, ◌++◌, [], List, ap, ap₂, subst, ◌∙◌}
-use Rattle.sctp_chunks.specs.ChunkSet.{ChunkSet}
+use Rattle.sctp_data.specs.ChunkSet.{ChunkSet}
 use Rattle.sctp_serial.specs.Runs.{HasNoRun}
 use Rattle.sctp_reassembly.specs.reassembly_queue.ReassemblyQueue.{Reassembly, set_of_run, count_up}
 use Rattle.sctp_reassembly.proofs.lemmas.reassembly_queue.ChunkSets.{state_of}

@@ -1,6 +1,6 @@
 use Rattle.std.proofs.Common.{◌≡◌, ◌+◌, ◌-◌, ◌≤◌, ◌++◌, length, length-drop, get_or, take, drop, sym, ap, ◌∙◌, arith}
 use Rattle.std.specs.List.{concat}
-use Rattle.sctp_chunks.specs.declared.chunk.chunk_payload_data.ChunkPayloadData.{ChunkPayloadData}
+use Rattle.sctp_data.specs.declared.chunk.chunk_payload_data.ChunkPayloadData.{ChunkPayloadData}
 use Rattle.sctp_reassembly.specs.reassembly_queue.Chunks.{left_from, left_after}
 use Rattle.sctp_reassembly.proofs.lemmas.reassembly_queue.PiecesTaken.{left_head, slice_rest, taken_more, left_more, taken_more_of}
 use Rattle.sctp_reassembly.proofs.reassembly_queue.chunks.gather.Goals as goal

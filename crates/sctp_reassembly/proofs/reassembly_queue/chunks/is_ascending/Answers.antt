@@ -1,5 +1,5 @@
 use Rattle.std.proofs.Common.{◌≡◌, ◌<◌, length, slice_index_or, ap, subst, arith}
-use Rattle.sctp_chunks.specs.declared.chunk.chunk_payload_data.ChunkPayloadData.{ChunkPayloadData}
+use Rattle.sctp_data.specs.declared.chunk.chunk_payload_data.ChunkPayloadData.{ChunkPayloadData}
 use Rattle.sctp_serial.proofs.lemmas.AscendingEdits.{IsRising, ascending, rising_one, rising_all}
 use Rattle.sctp_reassembly.proofs.reassembly_queue.chunks.is_ascending.Goals as goal
 

@@ -1,5 +1,5 @@
 use Rattle.std.proofs.Common.{◌≡◌, ◌-◌, get_or}
-use Rattle.sctp_chunks.specs.declared.chunk.chunk_payload_data.ChunkPayloadData.{ChunkPayloadData}
+use Rattle.sctp_data.specs.declared.chunk.chunk_payload_data.ChunkPayloadData.{ChunkPayloadData}
 use Rattle.sctp_reassembly.proofs.lemmas.reassembly_queue.SerialPlaces.{SerialUpto}
 use Rattle.sctp_reassembly.proofs.reassembly_queue.unassembled.are_serial.Given as goal
 

@@ -1,5 +1,5 @@
 use Rattle.std.proofs.Common.{ap, ◌∙◌, arith}
-use Rattle.sctp_chunks.specs.declared.chunk.chunk_payload_data.ChunkPayloadData.{ChunkPayloadData}
+use Rattle.sctp_data.specs.declared.chunk.chunk_payload_data.ChunkPayloadData.{ChunkPayloadData}
 use Rattle.sctp_reassembly.proofs.lemmas.reassembly_queue.UnassembledRuns.{start_of}
 use Rattle.sctp_reassembly.proofs.reassembly_queue.unassembled.run_around.Goals as goal
 

@@ -1,6 +1,6 @@
 use Rattle.std.proofs.Common.{◌≡◌, ℕ, ◌^◌, ◌<◌, length, get_or, sym, ap, ◌∙◌, arith}
 use Rattle.std.proofs.lemmas.Bool.Decides.{nat_tests}
-use Rattle.sctp_chunks.specs.declared.chunk.chunk_payload_data.ChunkPayloadData.{ChunkPayloadData}
+use Rattle.sctp_data.specs.declared.chunk.chunk_payload_data.ChunkPayloadData.{ChunkPayloadData}
 use Rattle.sctp_reassembly.proofs.lemmas.reassembly_queue.LastFragments.{on_at, on_none}
 use Rattle.sctp_reassembly.proofs.lemmas.reassembly_queue.SerialPlaces.{mark_is_on, absent_after, absent_behind, after_one, other_at}
 use Rattle.sctp_reassembly.proofs.reassembly_queue.unassembled_places.place_after.Goals as goal

@@ -1,5 +1,5 @@
 use Rattle.std.proofs.Common.{◌≡◌, ap, ◌∙◌}
-use Rattle.sctp_chunks.specs.ForwardTsn.{forward_tsn_of}
+use Rattle.sctp_data.specs.ForwardTsn.{forward_tsn_of}
 use Rattle.sctp_receiver.specs.Receiver.{Reception, after_forward}
 use Rattle.sctp_receiver.specs.Skips.{has_incomplete}
 use Rattle.sctp_receiver.proofs.Receptions.{reception_in}

@@ -4,7 +4,7 @@ use Rattle.std.proofs.lemmas.List.{map-append, append-nil, take_all}
 use Rattle.std.proofs.Math.Seq.{take-add}
 use Rattle.sctp_list_lemmas.specs.Kept.{numbers_from, always}
 use Rattle.sctp_list_lemmas.proofs.Passing.{kept-snoc_in}
-use Rattle.sctp_chunks.specs.declared.chunk.chunk_payload_data.ChunkPayloadData.{ChunkPayloadData}
+use Rattle.sctp_data.specs.declared.chunk.chunk_payload_data.ChunkPayloadData.{ChunkPayloadData}
 use Rattle.sctp_reassembly.specs.reassembly_queue.Fragments.{payload_of}
 use Rattle.sctp_reassembly.proofs.lemmas.reassembly_queue.PiecesTaken.{payload-append}
 use Rattle.sctp_stream.specs.Stream.{fragment, fragment_at, pieces_of}

@@ -1,6 +1,6 @@
 use Rattle.std.proofs.Common.{arith}
 use Rattle.std.proofs.lemmas.Grind.{common_steps}
-use Rattle.sctp_chunks.specs.ForwardTsn.{forward_tsn_value}
+use Rattle.sctp_data.specs.ForwardTsn.{forward_tsn_value}
 use Rattle.sctp_chunks.proofs.chunk.chunk_forward_tsn.ChunkForwardTsnChunk.put_value.Goals as goal
 
 pub returns-clause-items : goal.returns-clause-items

@@ -2,7 +2,7 @@ use Rattle.std.proofs.Common.{◌≡◌, ◌-◌, ◌^◌, not, min, ap, ◌∙�
 use Rattle.std.specs.List.{filter}
 use Rattle.std.proofs.lemmas.Fn.{filter_same}
 use Rattle.sctp_list_lemmas.specs.Serial.{at_or_before}
-use Rattle.sctp_chunks.specs.declared.chunk.chunk_payload_data.ChunkPayloadData.{ChunkPayloadData}
+use Rattle.sctp_data.specs.declared.chunk.chunk_payload_data.ChunkPayloadData.{ChunkPayloadData}
 use Rattle.sctp_serial.specs.Ascending.{IsOrder}
 use Rattle.sctp_serial.specs.DataChunks.{bytes_of}
 use Rattle.sctp_serial.proofs.lemmas.AscendingEdits.{ascends_those, order_kept}

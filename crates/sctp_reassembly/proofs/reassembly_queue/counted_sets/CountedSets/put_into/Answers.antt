@@ -1,6 +1,6 @@
 use Rattle.std.proofs.Common.{◌<◌, length, ap, subst, sym, arith, rules}
 use Rattle.std.proofs.lemmas.List.Sums.{sum_by-set}
-use Rattle.sctp_chunks.specs.ChunkSet.{ChunkSet}
+use Rattle.sctp_data.specs.ChunkSet.{ChunkSet}
 use Rattle.sctp_reassembly.specs.reassembly_queue.Counts.{SetDeque}
 use Rattle.sctp_reassembly.proofs.lemmas.reassembly_queue.ChunkCounts.{one_more}
 use Rattle.sctp_reassembly.proofs.reassembly_queue.counted_sets.CountedSets.put_into.Goals as goal

@@ -1,6 +1,6 @@
 use Rattle.std.proofs.Common.{not}
 use Rattle.std.specs.List.{filter}
-use Rattle.sctp_chunks.specs.ChunkSet.{ChunkSet}
+use Rattle.sctp_data.specs.ChunkSet.{ChunkSet}
 use Rattle.sctp_serial.specs.Ascending.{upper_half}
 use Rattle.sctp_reassembly.specs.reassembly_queue.Skips.{is_discarded}
 use Rattle.sctp_serial.proofs.lemmas.AscendingEdits.{ascends_those, order_kept}

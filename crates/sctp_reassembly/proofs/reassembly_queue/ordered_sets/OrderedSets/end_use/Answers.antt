@@ -1,5 +1,5 @@
 use Rattle.std.proofs.Common.{sym, subst, map}
-use Rattle.sctp_chunks.specs.ChunkSet.{ChunkSet}
+use Rattle.sctp_data.specs.ChunkSet.{ChunkSet}
 use Rattle.sctp_serial.specs.Ascending.{IsOrder, upper_half}
 use Rattle.sctp_serial.proofs.lemmas.AscendingEdits.{ascends_those, order_kept}
 use Rattle.std.specs.List.{filter}

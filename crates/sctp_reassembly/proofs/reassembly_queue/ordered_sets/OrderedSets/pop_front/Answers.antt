@@ -1,5 +1,5 @@
 use Rattle.std.proofs.Common.{drop}
-use Rattle.sctp_chunks.specs.ChunkSet.{ChunkSet}
+use Rattle.sctp_data.specs.ChunkSet.{ChunkSet}
 use Rattle.sctp_serial.specs.Ascending.{upper_half}
 use Rattle.sctp_serial.proofs.lemmas.AscendingEdits.{ascends_drop, order_kept}
 use Rattle.sctp_reassembly.proofs.reassembly_queue.ordered_sets.OrderedSets.pop_front.Goals as goal

@@ -1,6 +1,6 @@
 use Rattle.std.proofs.Common.{◌<◌, length, map, get_or, set, refl, sym, ap, subst, ◌∙◌, Some, arith}
 use Rattle.std.specs.List.{position_or_len}
-use Rattle.sctp_chunks.specs.ChunkSet.{ChunkSet}
+use Rattle.sctp_data.specs.ChunkSet.{ChunkSet}
 use Rattle.sctp_reassembly.specs.reassembly_queue.Fragments.{is_complete, has_ssn, with_chunk, answer_with, new_set}
 use Rattle.sctp_serial.proofs.lemmas.ListEdits.{any_at, first_changed}
 use Rattle.sctp_reassembly.proofs.lemmas.reassembly_queue.ChunkSets.{chunks_at, chunks_none}

@@ -1,6 +1,6 @@
 use Rattle.std.proofs.Common.{◌≡◌, ◌+◌, ◌<◌, ◌++◌, ◌∷◌, [], List, length, take, drop, get_or, length-take-le, length-drop, get_or-drop, remove, sym, ap, ap₂, subst, ◌∙◌, arith}
 use Rattle.std.proofs.lemmas.List.{drop_more, take_more}
-use Rattle.sctp_chunks.specs.declared.chunk.chunk_payload_data.ChunkPayloadData.{ChunkPayloadData}
+use Rattle.sctp_data.specs.declared.chunk.chunk_payload_data.ChunkPayloadData.{ChunkPayloadData}
 use Rattle.sctp_serial.specs.Window.{IsSerial}
 use Rattle.sctp_serial.specs.DataChunks.{bytes_of}
 use Rattle.sctp_reassembly.proofs.lemmas.reassembly_queue.UnassembledBytes.{some_out}

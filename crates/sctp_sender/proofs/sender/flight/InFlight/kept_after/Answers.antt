@@ -1,6 +1,6 @@
 use Rattle.std.proofs.Common.{◌≡◌, ◌+◌, ◌<◌, ◌≤◌, ℕ, length, take, drop, ap, subst, ◌∙◌, arith}
 use Rattle.std.specs.Prelude.{IfOk}
-use Rattle.sctp_chunks.specs.SelectiveAck.{sack_of}
+use Rattle.sctp_data.specs.SelectiveAck.{sack_of}
 use Rattle.sctp_sender.specs.Flight.{Flight, count_acked, is_outdated, sack_refusal}
 use Rattle.sctp_sender.specs.Keeping.{keep_each, trimmed}
 use Rattle.sctp_sender.specs.Reporting.{after_blocks}

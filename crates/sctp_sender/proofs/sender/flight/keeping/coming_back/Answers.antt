@@ -1,6 +1,6 @@
 use Rattle.std.proofs.Common.{◌<◌, ◌≤◌, ◌++◌, ◌∷◌, [], length, length-append, ap, sym, ◌∙◌, arith}
 use Rattle.std.specs.Prelude.{min}
-use Rattle.sctp_chunks.specs.SelectiveAck.{sack_of}
+use Rattle.sctp_data.specs.SelectiveAck.{sack_of}
 use Rattle.sctp_sender.proofs.Walks.{read-of}
 use Rattle.sctp_sender.proofs.Keepings.{back-all, back-more}
 use Rattle.sctp_sender.proofs.sender.flight.keeping.coming_back.Goals as goal

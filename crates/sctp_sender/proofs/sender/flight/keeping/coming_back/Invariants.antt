@@ -1,6 +1,6 @@
 use Rattle.std.proofs.Common.{◌≡◌, ◌≤◌, length, take}
 use Rattle.std.specs.Prelude.{vec_capacity}
-use Rattle.sctp_chunks.specs.SelectiveAck.{sack_of}
+use Rattle.sctp_data.specs.SelectiveAck.{sack_of}
 use Rattle.sctp_sender.specs.Keeping.{back_each}
 use Rattle.sctp_sender.proofs.sender.flight.keeping.coming_back.Given as goal
 

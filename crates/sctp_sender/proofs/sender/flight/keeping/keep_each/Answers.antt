@@ -1,7 +1,7 @@
 use Rattle.std.proofs.Common.{◌≡◌, ◌<◌, ◌++◌, ◌∷◌, [], length, take, drop, ap, sym, subst, ◌∙◌, arith}
 use Rattle.std.specs.Prelude.{if◌then◌else◌, is_some}
 use Rattle.std.proofs.lemmas.Option.{slice_get-get_or}
-use Rattle.sctp_chunks.specs.SelectiveAck.{sack_of}
+use Rattle.sctp_data.specs.SelectiveAck.{sack_of}
 use Rattle.sctp_sender.specs.Keeping.{keep_each, trimmed}
 use Rattle.sctp_sender.proofs.Walks.{read-of}
 use Rattle.sctp_sender.proofs.Runs.{any_chunk}

@@ -1,5 +1,5 @@
 use Rattle.std.proofs.Common.{◌≡◌, take, drop}
-use Rattle.sctp_chunks.specs.SelectiveAck.{sack_of}
+use Rattle.sctp_data.specs.SelectiveAck.{sack_of}
 use Rattle.sctp_sender.specs.Keeping.{keep_each}
 use Rattle.sctp_sender.proofs.Keepings.{IsUsed}
 use Rattle.sctp_sender.proofs.sender.flight.keeping.keep_each.Given as goal

@@ -1,6 +1,6 @@
 use Rattle.std.proofs.Common.{false, refl, ap, sym, ◌∙◌}
 use Rattle.std.specs.Prelude.{not}
-use Rattle.sctp_chunks.specs.SelectiveAck.{sack_of}
+use Rattle.sctp_data.specs.SelectiveAck.{sack_of}
 use Rattle.sctp_sender.specs.Flight.{reports}
 use Rattle.sctp_sender.proofs.Keepings.{reported-open}
 use Rattle.sctp_sender.proofs.sender.flight.keeping.takes_back.Goals as goal

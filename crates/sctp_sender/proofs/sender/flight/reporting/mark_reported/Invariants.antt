@@ -3,7 +3,7 @@ use Rattle.std.specs.Prelude.{◌&&◌, nat_eq, not, vec_capacity}
 use Rattle.std.specs.HashSet.{contains}
 use Rattle.std.specs.List.{filter}
 use Rattle.sctp_list_lemmas.specs.Lists.{change_where}
-use Rattle.sctp_chunks.specs.SelectiveAck.{sack_of}
+use Rattle.sctp_data.specs.SelectiveAck.{sack_of}
 use Rattle.sctp_outbound.specs.Marks.{as_acknowledged}
 use Rattle.sctp_outbound.specs.outbound_queue.OutboundQueue.{with_inflight}
 use Rattle.sctp_sender.specs.Flight.{is_half, reports_anew, released_of}

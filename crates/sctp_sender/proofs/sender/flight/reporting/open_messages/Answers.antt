@@ -1,7 +1,7 @@
 use Rattle.std.proofs.Common.{◌<◌, length, sym, ◌∙◌, arith}
 use Rattle.std.proofs.lemmas.Grind.{common_steps}
 use Rattle.std.proofs.lemmas.Option.{slice_get-get_or}
-use Rattle.sctp_chunks.specs.SelectiveAck.{sack_of}
+use Rattle.sctp_data.specs.SelectiveAck.{sack_of}
 use Rattle.sctp_sender.specs.Flight.{leaves_open}
 use Rattle.sctp_sender.proofs.Runs.{any_chunk}
 use Rattle.sctp_sender.proofs.Walks.{message-more, message-same, read-of}

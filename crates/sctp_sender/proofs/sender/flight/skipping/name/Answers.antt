@@ -1,5 +1,5 @@
 use Rattle.std.proofs.Common.{◌++◌, ◌∷◌, [], List, refl, subst, sym}
-use Rattle.sctp_chunks.specs.declared.chunk.chunk_forward_tsn.ChunkForwardTsnStream.{ChunkForwardTsnStream}
+use Rattle.sctp_data.specs.declared.chunk.chunk_forward_tsn.ChunkForwardTsnStream.{ChunkForwardTsnStream}
 use Rattle.sctp_sender.specs.Abandonment.{Name}
 use Rattle.sctp_sender.proofs.Names.{renamed, added}
 use Rattle.sctp_sender.proofs.sender.flight.skipping.name.Goals as goal

@@ -1,8 +1,8 @@
 -- The chunks of one message, and chunks as reading gives them.
 use Rattle.std.specs.Prelude.{◌≡◌, ℕ, List, false, None}
-use Rattle.sctp_chunks.specs.declared.chunk.chunk_payload_data.PayloadProtocolIdentifier.{PayloadProtocolIdentifier}
-use Rattle.sctp_chunks.specs.declared.chunk.chunk_payload_data.ChunkPayloadData.{ChunkPayloadData}
-use Rattle.sctp_chunks.specs.PayloadData.{Data, data_of}
+use Rattle.sctp_data.specs.declared.chunk.chunk_payload_data.PayloadProtocolIdentifier.{PayloadProtocolIdentifier}
+use Rattle.sctp_data.specs.declared.chunk.chunk_payload_data.ChunkPayloadData.{ChunkPayloadData}
+use Rattle.sctp_data.specs.PayloadData.{Data, data_of}
 
 -- the fragments of one message, by TSN, with its stream sequence number and its payload type
 pub record ChunkSet : Type 0 where

@@ -1,10 +1,10 @@
 -- FORWARD-TSN: TSNs up to a new cumulative one will not be sent again (RFC 3758 3.2).
-use Rattle.std.specs.Prelude.{◌≡◌, ℕ, ◌+◌, ◌-◌, ◌*◌, ◌/◌, ◌%◌, ◌≤◌, List, ◌++◌, length}
+use Rattle.std.specs.Prelude.{◌≡◌, ℕ, ◌+◌, ◌-◌, ◌*◌, ◌/◌, ◌%◌, ◌^◌, ◌<◌, ◌≤◌, List, ◌++◌, length}
 use Rattle.std.specs.List.{flat_map}
 use Rattle.sctp_base.specs.Each.{each}
 use Rattle.sctp_base.specs.Field.{be16, be32, u16_at, u32_at}
-use Rattle.sctp_chunks.specs.declared.chunk.chunk_forward_tsn.ChunkForwardTsnStream.{ChunkForwardTsnStream}
-use Rattle.sctp_chunks.specs.declared.chunk.chunk_forward_tsn.ChunkForwardTsn.{ChunkForwardTsn}
+use Rattle.sctp_data.specs.declared.chunk.chunk_forward_tsn.ChunkForwardTsnStream.{ChunkForwardTsnStream}
+use Rattle.sctp_data.specs.declared.chunk.chunk_forward_tsn.ChunkForwardTsn.{ChunkForwardTsn}
 
 -- the wire part of a FORWARD-TSN
 pub record ForwardTsn : Type 0 where
@@ -16,6 +16,11 @@ forward_tsn_of c = record { new_cumulative_tsn = c.new_cumulative_tsn; streams =
 
 abbrev pub stream_at : List ℕ → ℕ → ChunkForwardTsnStream
 stream_at bytes at = record { identifier = u16_at bytes at; sequence = u16_at bytes (at + 2) }
+
+-- numbers that fit the widths that they are written in
+pub record FitsStream (s : ChunkForwardTsnStream) : Type 0 where
+  pub identifier : s.identifier < 2 ^ 16
+  pub sequence : s.sequence < 2 ^ 16
 
 -- what a value says: after the TSN a pair every four bytes
 abbrev pub forward_tsn_in : List ℕ → ForwardTsn
