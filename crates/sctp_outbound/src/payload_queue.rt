@@ -14,6 +14,7 @@ ghost use Rattle.sctp_outbound.specs.Marks.{IsBetween, is_outstanding};
 ghost use Rattle.sctp_outbound.specs.payload_queue.Blocks.{IsFirstAfter, IsRunUntil, Reports, gap_offsets, ends_of, is_offset, gap_text};
 
 pub mod held;
+mod room;
 mod window;
 
 use self::held::{Held, Mark};
@@ -374,12 +375,10 @@ impl PayloadQueue {
         ensures popped { result ≡ front_with tsn self.old.chunks }
         ensures rest { self.new ≡ with_chunks self.old (without_front tsn self.old.chunks) }
     {
-        if self.held.front_tsn() != Some(tsn) {
-            return None;
-        }
-        let chunk = self.held.pop_front()?;
-        self.n_bytes -= chunk.user_data.len();
-        Some(chunk)
+        let room = self.room();
+        let chunk = self.pop_leaving_room(tsn);
+        self.limit_room(room);
+        chunk
     }
 
     /// Takes out all that is at or before `cumulative_tsn` (RFC 3758 3.6). The number
@@ -445,14 +444,10 @@ impl PayloadQueue {
         ensures taken { result ≡ find (has_tsn tsn) self.old.chunks }
         ensures rest { self.new ≡ with_chunks self.old (without tsn self.old.chunks) }
     {
-        match search(&self.held, tsn, &mut Turns::new()) {
-            Ok((place, _)) => {
-                let chunk = self.held.remove(place);
-                self.n_bytes -= chunk.user_data.len();
-                Some(chunk)
-            }
-            Err(_) => None,
-        }
+        let room = self.room();
+        let chunk = self.take_leaving_room(tsn);
+        self.limit_room(room);
+        chunk
     }
 
     /// Abandons what is held of a message: its chunks are cleared and flagged, whatever their TSNs,

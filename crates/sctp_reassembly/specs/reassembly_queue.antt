@@ -4,7 +4,9 @@ pub mod Chunks
 pub mod Counts
 pub mod Fragments
 pub mod Loose
+pub mod PoolUndo
 pub mod ReassemblyQueue
 pub mod Resets
 pub mod Sizes
 pub mod Skips
+pub mod Undo

@@ -4,4 +4,4 @@
 pub mod reassembly_queue;
 
 pub use reassembly_queue::chunks::{Chunk, Chunks, Fragments};
-pub use reassembly_queue::{ReassemblyQueue, chunks, unassembled};
+pub use reassembly_queue::{ReassemblyQueue, chunks, unassembled, undo};

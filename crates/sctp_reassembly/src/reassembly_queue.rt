@@ -11,6 +11,7 @@ ghost use Rattle.sctp_reassembly.specs.reassembly_queue.Sizes.{projected_size, s
 ghost use Rattle.sctp_serial.specs.Runs.{HasNoRun};
 ghost use Rattle.sctp_serial.specs.Window.{IsSerial};
 ghost use Rattle.sctp_reassembly.specs.reassembly_queue.Skips.{after_bounded_skip, applicable, is_upto};
+ghost use Rattle.sctp_reassembly.specs.reassembly_queue.Undo.{undone, CanUndo};
 ghost use Rattle.sctp_base.specs.declared.error.Error.TheVariants.{ErrOutOfMemory, ErrInboundPacketTooLarge};
 
 pub mod chunks;
@@ -23,6 +24,7 @@ mod sizes;
 mod skips;
 pub mod unassembled;
 mod unassembled_places;
+pub mod undo;
 
 use self::chunks::{Chunks, Fragments};
 use self::counted_sets::CountedSets;
@@ -32,7 +34,8 @@ use self::sizes::{bytes_of_front, size_after, size_before};
 use self::skips::{earliest_from, goal, has_settled, latest_passable};
 use self::unassembled::{Loose, UnassembledFragment};
 use self::unassembled_places::{front_upto, place_for};
-use sctp_base::error::{Error, Result};
+use self::undo::{PushChange, PushUndo};
+use sctp_base::error::Result;
 use sctp_base::util::{sna16gt, sna16lt, sna16lte, sna32lte};
 use sctp_data::chunk::chunk_payload_data::{ChunkPayloadData, PayloadProtocolIdentifier};
 use sctp_serial::turns::Turns;
@@ -65,10 +68,11 @@ impl Model for ReassemblyQueue {
         next_ssn = q.next_ssn;
         ordered = q.ordered;
         unordered = q.unordered.items;
-        unassembled = q.unordered_chunks;
+        unassembled = q.unordered_chunks.chunks;
       };
       bytes = q.n_bytes;
       max_message_size = q.max_message_size;
+      places = q.unordered_chunks.places;
     } };
 }
 
@@ -88,6 +92,7 @@ impl ReassemblyQueue {
           };
           bytes = 0;
           max_message_size = max_message_size;
+          places = 0;
         } }
     {
         ReassemblyQueue {
@@ -210,18 +215,8 @@ impl ReassemblyQueue {
         ensures counted { held_bytes self.old.held + length chunk.user_data < 2 ^ 64
             → IsCounted self.old → IsCounted self.new }
     {
-        if chunk.stream_identifier != self.si {
-            return Ok(false);
-        }
-        let place = self.place_of(&chunk);
-        if self.is_too_large_at(&chunk, place) {
-            return Err(Error::ErrInboundPacketTooLarge);
-        }
-        if chunk.unordered {
-            self.push_unordered(chunk, place)
-        } else {
-            self.push_ordered(chunk)
-        }
+        let (whole, _undo) = self.push_undoable(chunk)?;
+        Ok(whole)
     }
 
     /// Whether `push` refuses a chunk with `ErrInboundPacketTooLarge`: it is of this stream, and its bytes and those held of
@@ -291,43 +286,52 @@ impl ReassemblyQueue {
         unassembled.is_serial() && all <= self.max_message_size as usize
     }
 
-    /// Takes an ordered chunk. Refuses only for memory.
-    fn push_ordered(&mut self, chunk: ChunkPayloadData) -> Result<bool>
+    /// Takes an ordered chunk, and says how it is undone. Refuses only for memory.
+    fn push_ordered(&mut self, chunk: ChunkPayloadData) -> Result<(bool, PushUndo)>
         ensures ok { OnOk result (self.new ≡ after_ordered_push chunk self.old) }
-        ensures answer { IfOk result (λ whole. whole ≡ is_complete_with chunk self.old.held) }
+        ensures answer { IfOk result (λ put. put.0 ≡ is_complete_with chunk self.old.held) }
+        ensures undo { IfOk result (λ put. undone put.1 self.new ≡ self.old) }
+        ensures can { IfOk result (λ put. CanUndo put.1 self.new) }
         ensures err { OnErr result (self.new ≡ self.old) }
         ensures memory { IfErr result (λ e. e ≡ ErrOutOfMemory) }
     {
+        let before = self.n_bytes;
         if sna16lt(chunk.stream_sequence_number, self.next_ssn) {
-            return Ok(false);
+            return Ok((false, PushUndo::of(PushChange::NotKept, before)));
         }
         let len = chunk.user_data.len();
-        let Some(whole) = self.ordered.put(self.alloc, chunk)? else {
-            return Ok(false);
+        let Some(put) = self.ordered.put(self.alloc, chunk)? else {
+            return Ok((false, PushUndo::of(PushChange::NotKept, before)));
         };
-        self.n_bytes = self.n_bytes.saturating_add(len);
-        Ok(whole)
+        self.n_bytes = before.saturating_add(len);
+        let undo = PushUndo::of(PushChange::Ordered(put.undo), before);
+        Ok((put.whole, undo))
     }
 
-    /// Takes an unordered chunk.
+    /// Takes an unordered chunk, and says how it is undone.
     /// Precondition: `place` is where it goes among the unassembled fragments.
     /// Refuses only for memory.
-    fn push_unordered(&mut self, chunk: ChunkPayloadData, place: usize) -> Result<bool>
+    fn push_unordered(&mut self, chunk: ChunkPayloadData, place: usize) -> Result<(bool, PushUndo)>
         requires { place ≡ place_among chunk.tsn self.old.held.unassembled }
-        ensures ok { IfOk result (λ whole. PushesUnordered chunk self.old self.new whole) }
+        ensures ok { IfOk result (λ put. PushesUnordered chunk self.old self.new put.0) }
+        ensures undo { IfOk result (λ put. undone put.1 self.new ≡ self.old) }
+        ensures can { IfOk result (λ put. CanUndo put.1 self.new) }
         ensures err { OnErr result (self.new ≡ self.old) }
         ensures memory { IfErr result (λ e. e ≡ ErrOutOfMemory) }
     {
+        let before = self.n_bytes;
         let len = chunk.user_data.len();
         self.unordered.reserve(1)?;
-        let run = self.unordered_chunks.put(self.alloc, place, chunk)?;
-        self.n_bytes = self.n_bytes.saturating_add(len);
+        let (run, undo) = self
+            .unordered_chunks
+            .put_undoable(self.alloc, place, chunk)?;
+        self.n_bytes = before.saturating_add(len);
         match run {
             Some(chunks) => {
                 self.unordered.push_back_reserved(set_of_run(chunks));
-                Ok(true)
+                Ok((true, PushUndo::of(PushChange::Message(undo), before)))
             }
-            None => Ok(false),
+            None => Ok((false, PushUndo::of(PushChange::Unassembled(undo), before))),
         }
     }
 
@@ -514,9 +518,9 @@ fn set_of_run(chunks: Vec<ChunkPayloadData>) -> Fragments
 
 // How long the message of an unordered chunk would be with it, up to the greatest number.
 fn unordered_size(chunk: &ChunkPayloadData, unassembled: &Loose, place: usize) -> usize
-    requires { place ≡ place_among chunk.now.tsn unassembled.now }
-    ensures { result ≡ min (size_before chunk.now unassembled.now
-        + length chunk.now.user_data + size_after chunk.now unassembled.now) (2 ^ 64 - 1) }
+    requires { place ≡ place_among chunk.now.tsn unassembled.now.chunks }
+    ensures { result ≡ min (size_before chunk.now unassembled.now.chunks
+        + length chunk.now.user_data + size_after chunk.now unassembled.now.chunks) (2 ^ 64 - 1) }
 {
     size_before(chunk, unassembled, place)
         .saturating_add(chunk.user_data.len())

@@ -101,6 +101,7 @@ new_stream id size max ppi = record {
         };
         bytes = 0;
         max_message_size = max;
+        places = 0;
       };
   sequence_number = 0;
   state = ReadWritable;

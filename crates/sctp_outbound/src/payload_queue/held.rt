@@ -1,6 +1,6 @@
 //! Held chunks, in one deque. `look`, `mark` and `take_back` take a turn; `front_tsn` and the edits take none.
 
-ghost use Rattle.std.specs.Prelude.{◌≡◌, ◌==◌, ◌+◌, ◌-◌, ◌<◌, ◌≤◌, [], ◌∷◌, length, max, insert, remove, slice_get, slice_index_or, slice_set, OnOk, OnErr, IfSome, IfNone, IsOk, IsOkUnless};
+ghost use Rattle.std.specs.Prelude.{◌≡◌, ◌==◌, ◌+◌, ◌-◌, ◌<◌, ◌≤◌, [], ◌∷◌, length, max, min, insert, remove, slice_get, slice_index_or, slice_set, OnOk, OnErr, IfSome, IfNone, IsOk, IsOkUnless};
 ghost use Rattle.std.specs.Option.{option_map};
 ghost use Rattle.sctp_base.specs.declared.error.Error.TheVariants.{ErrOutOfMemory};
 
@@ -137,6 +137,32 @@ impl Held {
         Ok(())
     }
 
+    /// The room is no more than this from here on.
+    pub fn limit_room(&mut self, room: usize)
+        ensures { self.new ≡ record self.old { room = min room self.old.room } }
+    {
+        self.room = self.room.min(room);
+    }
+
+    /// Takes out the chunk at a place, which is room then.
+    /// Precondition: the place has one.
+    pub fn remove_leaving_room(&mut self, place: usize) -> ChunkPayloadData
+        requires { place < length self.old.chunks }
+        ensures removed { self.new ≡ record {
+          chunks = remove self.old.chunks place;
+          room = self.old.room + 1;
+        } }
+        ensures value { result ≡ slice_index_or self.old.chunks place result }
+    {
+        match self.chunks.remove(place) {
+            Some(chunk) => {
+                self.room += 1;
+                chunk
+            }
+            None => unreachable!(),
+        }
+    }
+
     /// Takes out the chunk at a place. The room stays as it is.
     /// Precondition: the place has one.
     pub fn remove(&mut self, place: usize) -> ChunkPayloadData
@@ -144,19 +170,10 @@ impl Held {
         ensures removed { self.new ≡ with_chunks self.old (remove self.old.chunks place) }
         ensures value { result ≡ slice_index_or self.old.chunks place result }
     {
-        match self.chunks.remove(place) {
-            Some(chunk) => chunk,
-            None => unreachable!(),
-        }
-    }
-
-    /// Takes out the first chunk; None where there are none.
-    pub fn pop_front(&mut self) -> Option<ChunkPayloadData>
-        ensures popped { IfSome result (λ chunk. self.old
-            ≡ with_chunks self.new (chunk ∷ self.new.chunks)) }
-        ensures empty { IfNone result ((self.old.chunks ≡ []) × (self.new ≡ self.old)) }
-    {
-        self.chunks.pop_front()
+        let room = self.room;
+        let chunk = self.remove_leaving_room(place);
+        self.room = room;
+        chunk
     }
 
     /// Marks the chunk at a place, which is a turn, and answers how many bytes left with it.

@@ -10,4 +10,7 @@ pub mod ChunkCounts
 pub mod SizeBounds
 pub mod LastFragments
 pub mod Resets
+pub mod TakenBack
 pub mod TakenRuns
+pub mod Unassembled
+pub mod Undone

@@ -1,5 +1,5 @@
 -- The fragments of one message, and what makes them whole (RFC 4960 3.3.1, 6.5, 6.6).
-use Rattle.std.specs.Prelude.{ℕ, Bool, false, ◌&&◌, ◌==◌, not, if◌then◌else◌, Option, Some, None, List, [], ◌∷◌, ◌++◌}
+use Rattle.std.specs.Prelude.{ℕ, remove, Bool, false, ◌&&◌, ◌==◌, not, if◌then◌else◌, Option, Some, None, List, [], ◌∷◌, ◌++◌}
 use Rattle.std.specs.List.{list_any}
 use Rattle.sctp_list_lemmas.specs.Serial.{comes_before16}
 use Rattle.sctp_list_lemmas.specs.Lists.{insert_before, change_first}
@@ -39,6 +39,10 @@ with_chunk x set =
       chunks = if list_any (has_tsn x.tsn) set.chunks then set.chunks
           else insert_before chunk_before x set.chunks;
     }
+
+-- the set without the chunk at a place
+abbrev pub without_chunk : ℕ → ChunkSet → ChunkSet
+without_chunk place set = record set { chunks = remove set.chunks place }
 
 -- a set that x alone makes
 abbrev pub new_set : ChunkPayloadData → ChunkSet

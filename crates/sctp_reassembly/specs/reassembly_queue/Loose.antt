@@ -1,10 +1,27 @@
 -- Unassembled fragments, out of which runs are taken.
-use Rattle.std.specs.Prelude.{◌≡◌, ℕ, ◌+◌, ◌++◌, Bool, true, false, List, take, drop}
+use Rattle.std.specs.Prelude.{◌≡◌, ℕ, ◌+◌, ◌++◌, Bool, true, false, List, length, max, insert, take, drop}
 use Rattle.std.specs.List.{position_or_len}
 use Rattle.sctp_list_lemmas.specs.Serial.{comes_before}
 use Rattle.sctp_data.specs.declared.chunk.chunk_payload_data.ChunkPayloadData.{ChunkPayloadData}
 use Rattle.sctp_serial.specs.Runs.{IsEarliestRun, HasNoRun}
 use Rattle.sctp_serial.specs.Window.{IsSerial}
+
+-- the fragments in order, and how many at once take no memory
+pub record Unassembled : Type 0 where
+  pub chunks : List ChunkPayloadData
+  pub places : ℕ
+
+-- the same with these fragments
+abbrev pub with_chunks : Unassembled → List ChunkPayloadData → Unassembled
+with_chunks p chunks = record p { chunks = chunks }
+
+-- with one more, at a place
+abbrev pub with_one : ℕ → ChunkPayloadData → Unassembled → Unassembled
+with_one place x p =
+    record {
+      chunks = insert p.chunks place x;
+      places = max p.places (length p.chunks + 1);
+    }
 
 -- where a number goes: before the first that it comes before, or to the end
 abbrev pub place_among : ℕ → List ChunkPayloadData → ℕ

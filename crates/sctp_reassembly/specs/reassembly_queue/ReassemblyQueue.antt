@@ -1,5 +1,5 @@
 -- A reassembly queue as callers see it, and its calls as functions of lists (RFC 4960 6.5, 6.6; RFC 3758 3.6).
-use Rattle.std.specs.Prelude.{◌≡◌, ℕ, ◌+◌, ◌-◌, ◌%◌, ◌^◌, Bool, true, false, ◌&&◌, not, ◌==◌, min, nat_lt, if◌then◌else◌, List, [], ◌∷◌, ◌++◌, length, take, drop, Option, Some, None}
+use Rattle.std.specs.Prelude.{◌≡◌, ℕ, ◌+◌, ◌-◌, ◌%◌, ◌^◌, Bool, true, false, ◌&&◌, not, ◌==◌, min, max, nat_lt, if◌then◌else◌, List, [], ◌∷◌, ◌++◌, length, take, drop, Option, Some, None}
 use Rattle.std.specs.List.{list_any, sum_by, filter}
 use Rattle.sctp_list_lemmas.specs.Serial.{comes_before16, at_or_before, at_or_before16}
 use Rattle.sctp_list_lemmas.specs.Lists.{insert_before, after_leading}
@@ -20,12 +20,14 @@ pub record Reassembly : Type 0 where
   pub unordered : List ChunkSet
   pub unassembled : List ChunkPayloadData
 
--- with the stream, the byte count and the length of the longest message taken
+-- with the stream, the byte count, the length of the longest message taken, and how many unassembled fragments at once take no
+-- memory: the most that there were so far
 pub record ReassemblyState : Type 0 where
   pub si : ℕ
   pub held : Reassembly
   pub bytes : ℕ
   pub max_message_size : ℕ
+  pub places : ℕ
 
 -- ## What is held: bytes, and chunks
 
@@ -102,7 +104,11 @@ BecomesComplete xs old new false = HasNoRun xs × (new ≡ record old { unassemb
 abbrev pub PushesUnordered : ChunkPayloadData → ReassemblyState → ReassemblyState → Bool → Type 0
 PushesUnordered x old new whole =
     BecomesComplete (insert_before chunk_before x old.held.unassembled) old.held new.held whole
-    × (new ≡ record old { held = new.held; bytes = count_up old.bytes (length x.user_data) })
+    × (new ≡ record old {
+      held = new.held;
+      bytes = count_up old.bytes (length x.user_data);
+      places = max old.places (length old.held.unassembled + 1);
+    })
 
 -- the run that ends earliest is taken out
 pub record GivesRun (old new : ReassemblyState) (set : ChunkSet) : Type 0 where

@@ -1,14 +1,15 @@
 //! The fragments of one message.
 
-ghost use Rattle.std.specs.Prelude.{◌≡◌, ◌==◌, ◌+◌, ◌*◌, ◌%◌, ◌^◌, ◌-◌, ◌<◌, ◌≤◌, ◌&&◌, [], ◌∷◌, length, map, min, take, drop, ◌++◌, option_map, slice_index_or, true, false, not, OnOk, OnErr, IfOk, IfErr, IfSome, IfNone, if◌then◌else◌};
+ghost use Rattle.std.specs.Prelude.{◌≡◌, ◌==◌, ◌+◌, ◌*◌, ◌%◌, ◌^◌, ◌-◌, ◌<◌, ◌≤◌, ◌&&◌, [], ◌∷◌, length, map, min, take, drop, ◌++◌, option_map, slice_index_or, true, false, not, OnOk, OnErr, IfOk, IfErr, IfSome, IfNone, MatchOption, if◌then◌else◌};
 ghost use Rattle.std.specs.List.{list_any, position_or_len, insert, concat};
 ghost use Rattle.std.specs.List.Sorted.{IsNonDecreasingBy, IsPartitionPoint};
 ghost use Rattle.sctp_reassembly.specs.reassembly_queue.Chunks.{left_from, left_of, piece_of, left_after, taken_whole, bytes_given};
 ghost use Rattle.sctp_reassembly.specs.declared.reassembly_queue.chunks.Chunk.{Chunk};
+ghost use Rattle.sctp_reassembly.specs.declared.reassembly_queue.chunks.Placed.{Placed};
 ghost use Rattle.sctp_data.specs.declared.chunk.chunk_payload_data.ChunkPayloadData.{ChunkPayloadData};
 ghost use Rattle.sctp_list_lemmas.specs.Serial.{comes_before, distance};
 ghost use Rattle.sctp_list_lemmas.specs.Lists.{insert_before};
-ghost use Rattle.sctp_reassembly.specs.reassembly_queue.Fragments.{payload_of, is_complete, with_chunk, answer_with, is_complete_after};
+ghost use Rattle.sctp_reassembly.specs.reassembly_queue.Fragments.{payload_of, is_complete, with_chunk, without_chunk, answer_with, is_complete_after};
 ghost use Rattle.sctp_reassembly.specs.reassembly_queue.Resets.{chunks_upto, rest_past};
 ghost use Rattle.sctp_serial.specs.DataChunks.{bytes_of, has_tsn, chunk_before};
 ghost use Rattle.sctp_serial.specs.Ascending.{IsOrder, IsInsertion};
@@ -119,6 +120,23 @@ impl Fragments {
         ensures err { OnErr result (self.new ≡ self.old) }
         ensures memory { IfErr result (λ e. e ≡ ErrOutOfMemory) }
     {
+        match self.put_placed(chunk)? {
+            Some(put) => Ok(Some(put.whole)),
+            None => Ok(None),
+        }
+    }
+
+    /// The same, and says where the fragment is, from which `remove` takes it out again.
+    pub(crate) fn put_placed(&mut self, chunk: ChunkPayloadData) -> Result<Option<Placed>>
+        ensures ok { OnOk result (self.new ≡ with_chunk chunk self.old) }
+        ensures answer { IfOk result (λ put. option_map (λ (p : Placed). p.whole) put
+            ≡ answer_with chunk self.old.chunks) }
+        ensures undo { IfOk result (λ put. MatchOption put (self.new ≡ self.old)
+            (λ p. (p.place < length self.new.chunks)
+            × (without_chunk p.place self.new ≡ self.old))) }
+        ensures err { OnErr result (self.new ≡ self.old) }
+        ensures memory { IfErr result (λ e. e ≡ ErrOutOfMemory) }
+    {
         let Some(at) = insertion(self.ascending, &self.chunks, chunk.tsn) else {
             return Ok(None);
         };
@@ -126,7 +144,21 @@ impl Fragments {
         self.chunks.insert(at.place, chunk)?;
         self.n_bytes = self.n_bytes.saturating_add(len);
         self.ascending = at.ascending;
-        Ok(Some(self.is_complete()))
+        let whole = self.is_complete();
+        Ok(Some(Placed {
+            place: at.place,
+            whole,
+        }))
+    }
+
+    /// Takes out the fragment at a place. It takes no memory.
+    /// Precondition: the place has one.
+    pub(crate) fn remove(&mut self, place: usize)
+        requires { place < length self.old.chunks }
+        ensures { self.new ≡ without_chunk place self.old }
+    {
+        let chunk = self.chunks.remove(place);
+        self.n_bytes = bytes_without(self.n_bytes, chunk.user_data.len(), &self.chunks);
     }
 
     /// Keeps the fragments past the TSN, and counts the bytes of the others up to the greatest number. It takes no memory.
@@ -140,6 +172,13 @@ impl Fragments {
         self.n_bytes = bytes_in(&self.chunks);
         gone
     }
+}
+
+/// Where a fragment was put in, and whether the set is complete with it.
+#[derive(Clone, Copy)]
+pub(crate) struct Placed {
+    pub(crate) place: usize,
+    pub(crate) whole: bool,
 }
 
 /// A piece of a message.
@@ -486,6 +525,17 @@ pub(crate) fn bytes_in(chunks: &[ChunkPayloadData]) -> usize
         len = len.saturating_add(chunk.user_data.len());
     }
     len
+}
+
+// The bytes of the fragments that are left, where so many were taken of so many: past the greatest number they are counted anew.
+fn bytes_without(n_bytes: usize, gone: usize, chunks: &[ChunkPayloadData]) -> usize
+    ensures { n_bytes ≡ min (gone + bytes_of chunks.now) (2 ^ 64 - 1)
+        → result ≡ min (bytes_of chunks.now) (2 ^ 64 - 1) }
+{
+    if n_bytes < usize::MAX {
+        return n_bytes.saturating_sub(gone);
+    }
+    bytes_in(chunks)
 }
 
 // How many bytes the fragments at or before the TSN carry, or the greatest number where they are more.

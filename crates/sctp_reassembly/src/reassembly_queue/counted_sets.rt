@@ -1,16 +1,18 @@
 //! Sets of fragments, whose chunks are counted.
 
-ghost use Rattle.std.specs.Prelude.{◌≡◌, ◌+◌, ◌-◌, ◌^◌, ◌<◌, ◌≤◌, [], ◌∷◌, ◌++◌, length, min, not, drop, set, slice_index_or, OnOk, OnErr, IfOk, IfErr, IfSome, IfNone, IsOk};
+ghost use Rattle.std.specs.Prelude.{◌≡◌, ◌+◌, ◌-◌, ◌^◌, ◌<◌, ◌≤◌, [], ◌∷◌, ◌++◌, length, min, not, drop, set, remove, slice_index_or, option_map, MatchOption, OnOk, OnErr, IfOk, IfErr, IfSome, IfNone, IsOk};
 ghost use Rattle.std.specs.List.{insert, filter};
 ghost use Rattle.sctp_data.specs.ChunkSet.{ChunkSet};
 ghost use Rattle.sctp_base.specs.declared.error.Error.TheVariants.{ErrOutOfMemory};
 ghost use Rattle.sctp_reassembly.specs.reassembly_queue.Counts.{set_chunks};
-ghost use Rattle.sctp_reassembly.specs.reassembly_queue.Fragments.{with_chunk, answer_with};
+ghost use Rattle.sctp_list_lemmas.specs.Lists.{change_at};
+ghost use Rattle.sctp_reassembly.specs.declared.reassembly_queue.chunks.Placed.{Placed};
+ghost use Rattle.sctp_reassembly.specs.reassembly_queue.Fragments.{with_chunk, without_chunk, answer_with};
 ghost use Rattle.sctp_reassembly.specs.reassembly_queue.ReassemblyQueue.{set_bytes};
 ghost use Rattle.sctp_reassembly.specs.reassembly_queue.Resets.{is_old_message, of_new_use, dropped_bytes};
 ghost use Rattle.sctp_reassembly.specs.reassembly_queue.Skips.{is_discarded};
 
-use crate::reassembly_queue::chunks::Fragments;
+use crate::reassembly_queue::chunks::{Fragments, Placed};
 use crate::reassembly_queue::{resets, skips};
 use sctp_base::error::Result;
 use sctp_data::chunk::chunk_payload_data::ChunkPayloadData;
@@ -86,24 +88,69 @@ impl CountedSets {
         Some(set)
     }
 
-    /// Puts a chunk into the set at a place, and says whether that is complete then; None where its TSN is there already.
+    /// Puts a chunk into the set at a place, and says where it is there and whether that set is complete then; None where its
+    /// TSN is there already.
     /// Precondition: the place has a set.
     /// Refuses only for memory, and nothing changes then.
-    pub(crate) fn put_into(&mut self, place: usize, chunk: ChunkPayloadData) -> Result<Option<bool>>
+    pub(crate) fn put_into(
+        &mut self,
+        place: usize,
+        chunk: ChunkPayloadData,
+    ) -> Result<Option<Placed>>
         requires { place < length self.old.items }
         ensures ok { OnOk result ((d : ChunkSet) → self.new.items ≡ set self.old.items place
             (with_chunk chunk (slice_index_or self.old.items place d))) }
-        ensures answer { IfOk result (λ whole. (d : ChunkSet)
-            → whole ≡ answer_with chunk (slice_index_or self.old.items place d).chunks) }
+        ensures answer { IfOk result (λ put. (d : ChunkSet)
+            → option_map (λ (p : Placed). p.whole) put
+            ≡ answer_with chunk (slice_index_or self.old.items place d).chunks) }
+        ensures undo { IfOk result (λ put. MatchOption put (self.new.items ≡ self.old.items)
+            (λ p. ((d : ChunkSet)
+            → p.place < length (slice_index_or self.new.items place d).chunks)
+            × (change_at (without_chunk p.place) place self.new.items ≡ self.old.items))) }
         ensures err { OnErr result (self.new.items ≡ self.old.items) }
         ensures memory { IfErr result (λ e. e ≡ ErrOutOfMemory) }
     {
         let set = &mut self.sets[place];
-        let whole = set.put(chunk)?;
-        if whole.is_some() {
+        let put = set.put_placed(chunk)?;
+        if put.is_some() {
             self.n_chunks = self.n_chunks.saturating_add(1);
         }
-        Ok(whole)
+        Ok(put)
+    }
+
+    /// Takes the chunk at a place out of the set at a place. It takes no memory.
+    /// Precondition: both places exist.
+    pub(crate) fn remove_from(&mut self, place: usize, at: usize)
+        requires set { place < length self.old.items }
+        requires chunk { (d : ChunkSet)
+            → at < length (slice_index_or self.old.items place d).chunks }
+        ensures { self.new.items ≡ change_at (without_chunk at) place self.old.items }
+    {
+        self.sets[place].remove(at);
+        self.n_chunks = chunks_without(self.n_chunks, 1, &self.sets);
+    }
+
+    /// Takes out the set at a place. It takes no memory.
+    /// Precondition: the place has one.
+    pub(crate) fn remove(&mut self, place: usize)
+        requires { place < length self.old.items }
+        ensures { self.new.items ≡ remove self.old.items place }
+    {
+        let gone = match self.sets.remove(place) {
+            Some(set) => set.fragments().len(),
+            None => 0,
+        };
+        self.n_chunks = chunks_without(self.n_chunks, gone, &self.sets);
+    }
+
+    /// Takes out the last set. It takes no memory.
+    /// Precondition: there is one.
+    pub(crate) fn remove_last(&mut self)
+        requires { 0 < length self.old.items }
+        ensures { self.new.items ≡ remove self.old.items (length self.old.items - 1) }
+    {
+        let last = self.sets.len() - 1;
+        self.remove(last);
     }
 
     /// Puts a set at a place, before the one that is there.

@@ -1,6 +1,6 @@
 //! The sets of ordered messages, in the order of their numbers where these lie within half a circle.
 
-ghost use Rattle.std.specs.Prelude.{◌≡◌, ◌+◌, ◌-◌, ◌^◌, ◌<◌, ◌≤◌, ◌&&◌, [], ◌∷◌, ◌++◌, length, map, min, true, false, not, OnOk, OnErr, IfOk, IfErr, IfSome, IfNone};
+ghost use Rattle.std.specs.Prelude.{◌≡◌, ◌+◌, ◌-◌, ◌^◌, ◌<◌, ◌≤◌, ◌&&◌, [], ◌∷◌, ◌++◌, length, map, min, true, false, not, option_map, MatchOption, OnOk, OnErr, IfOk, IfErr, IfSome, IfNone};
 ghost use Rattle.std.specs.List.{list_any, position_or_len, filter};
 ghost use Rattle.std.specs.List.Sorted.{IsNonDecreasingBy, IsPartitionPoint};
 ghost use Rattle.sctp_list_lemmas.specs.Serial.{comes_before16, distance};
@@ -9,6 +9,8 @@ ghost use Rattle.sctp_reassembly.specs.reassembly_queue.Resets.{is_old_message, 
 ghost use Rattle.sctp_reassembly.specs.reassembly_queue.Skips.{is_discarded};
 ghost use Rattle.sctp_reassembly.specs.reassembly_queue.Fragments.{is_complete, has_ssn, chunks_of_ssn, sets_with, answer_with, new_set, set_before};
 ghost use Rattle.sctp_reassembly.specs.reassembly_queue.Counts.{set_chunks};
+ghost use Rattle.sctp_reassembly.specs.declared.reassembly_queue.ordered_sets.OrderedPut.{OrderedPut};
+ghost use Rattle.sctp_reassembly.specs.reassembly_queue.Undo.{CanUndoOrdered, ordered_undone};
 ghost use Rattle.sctp_serial.specs.DataChunks.{bytes_of};
 ghost use Rattle.sctp_serial.specs.Ascending.{IsOrder, IsInsertion, upper_half};
 ghost use Rattle.sctp_base.specs.declared.error.Error.TheVariants.{ErrOutOfMemory};
@@ -30,6 +32,22 @@ pub(crate) struct OrderedSets {
     sets: CountedSets,
     // whether their numbers are known to ascend
     ascending: bool,
+}
+
+/// Where a chunk was put, so that it can be taken out again.
+#[derive(Clone, Copy)]
+pub(crate) enum OrderedUndo {
+    /// Into the set at a place, at a place among its chunks.
+    InSet { set: usize, place: usize },
+    /// Into a new set, at a place.
+    NewSet { set: usize },
+}
+
+/// Whether the set of a chunk that was put in is complete, and how it is undone.
+#[derive(Clone, Copy)]
+pub(crate) struct OrderedPut {
+    pub(crate) whole: bool,
+    pub(crate) undo: OrderedUndo,
 }
 
 impl Model for OrderedSets {
@@ -109,27 +127,56 @@ impl OrderedSets {
     }
 
     /// Puts a chunk into the first set of its number, or into a new one at its place, and says whether that set
-    /// is complete then; None where its TSN is there already. Refuses only for memory, and nothing changes then.
-    pub(crate) fn put(&mut self, alloc: Global, chunk: ChunkPayloadData) -> Result<Option<bool>>
+    /// is complete then, and how it is undone; None where its TSN is there already.
+    /// Refuses only for memory, and nothing changes then.
+    pub(crate) fn put(
+        &mut self,
+        alloc: Global,
+        chunk: ChunkPayloadData,
+    ) -> Result<Option<OrderedPut>>
         ensures ok { OnOk result (self.new ≡ sets_with chunk self.old) }
-        ensures answer { IfOk result (λ whole. whole
+        ensures answer { IfOk result (λ put. option_map (λ (p : OrderedPut). p.whole) put
             ≡ answer_with chunk (chunks_of_ssn chunk.stream_sequence_number self.old)) }
+        ensures undo { IfOk result (λ put. MatchOption put (self.new ≡ self.old)
+            (λ p. CanUndoOrdered p.undo self.new × (ordered_undone p.undo self.new ≡ self.old))) }
         ensures err { OnErr result (self.new ≡ self.old) }
         ensures memory { IfErr result (λ e. e ≡ ErrOutOfMemory) }
     {
         let ssn = chunk.stream_sequence_number;
         match seek(self.ascending, self.sets.as_deque(), ssn) {
-            Ok(place) => {
-                let whole = self.sets.put_into(place, chunk)?;
-                Ok(whole)
+            Ok(set) => {
+                let Some(put) = self.sets.put_into(set, chunk)? else {
+                    return Ok(None);
+                };
+                let undo = OrderedUndo::InSet {
+                    set,
+                    place: put.place,
+                };
+                Ok(Some(OrderedPut {
+                    whole: put.whole,
+                    undo,
+                }))
             }
             Err(at) => {
                 let set = new_set(alloc, chunk)?;
                 let whole = set.is_complete();
                 self.sets.insert(at.place, set)?;
                 self.ascending = at.ascending;
-                Ok(Some(whole))
+                let undo = OrderedUndo::NewSet { set: at.place };
+                Ok(Some(OrderedPut { whole, undo }))
             }
+        }
+    }
+
+    /// Undoes a `put`. It takes no memory.
+    /// Precondition: the places that it says exist.
+    pub(crate) fn undo_put(&mut self, undo: OrderedUndo)
+        requires { CanUndoOrdered undo self.old }
+        ensures { self.new ≡ ordered_undone undo self.old }
+    {
+        match undo {
+            OrderedUndo::InSet { set, place } => self.sets.remove_from(set, place),
+            OrderedUndo::NewSet { set } => self.sets.remove(set),
         }
     }
 

@@ -1,11 +1,11 @@
 //! The unassembled fragments of a stream, out of which complete messages are taken.
 
-ghost use Rattle.std.specs.Prelude.{◌≡◌, ◌<◌, ◌≤◌, ◌&&◌, [], length, remove, insert, IfSome, IfNone, drop, OnErr, IfOk, IfErr, MatchOption};
-ghost use Rattle.sctp_list_lemmas.specs.Lists.{insert_before};
-ghost use Rattle.sctp_serial.specs.DataChunks.{chunk_before};
+ghost use Rattle.std.specs.Prelude.{◌≡◌, ◌<◌, ◌≤◌, ◌&&◌, [], length, remove, IfSome, IfNone, drop, OnErr, IfOk, IfErr, MatchOption};
 ghost use Rattle.sctp_serial.specs.Runs.{HasNoRun, IsEarliestRun};
 ghost use Rattle.sctp_base.specs.declared.error.Error.TheVariants.{ErrOutOfMemory};
-ghost use Rattle.sctp_reassembly.specs.reassembly_queue.Loose.{IsRunTaken, IsMark, place_among};
+ghost use Rattle.sctp_reassembly.specs.reassembly_queue.Loose.{IsRunTaken, IsMark, with_chunks};
+
+pub(crate) mod undo;
 
 use crate::reassembly_queue::unassembled::{Loose, find_run, run_around};
 use sctp_base::error::Error;
@@ -23,21 +23,19 @@ pub(crate) struct Pool {
 }
 
 impl Model for Pool {
-    ghost use Rattle.std.specs.Prelude.{List};
-    ghost use Rattle.sctp_data.specs.declared.chunk.chunk_payload_data.ChunkPayloadData.{ChunkPayloadData};
-    ghost use Rattle.sctp_reassembly.specs.reassembly_queue.Loose.{IsMark};
+    ghost use Rattle.sctp_reassembly.specs.reassembly_queue.Loose.{IsMark, Unassembled};
 
-    ghost Value = { List ChunkPayloadData };
+    ghost Value = { Unassembled };
 
     ghost view = { λ p. p.unassembled };
 
-    ghost invariant = { λ p. IsMark p.searched p.unassembled };
+    ghost invariant = { λ p. IsMark p.searched p.unassembled.chunks };
 }
 
 impl Pool {
     /// No fragments. It takes no memory.
     pub(crate) fn new(alloc: Global) -> Self
-        ensures { result ≡ [] }
+        ensures { result ≡ record { chunks = []; places = 0 } }
     {
         Pool {
             unassembled: Loose::new(alloc),
@@ -66,46 +64,10 @@ impl Pool {
     /// Drops the first `count`.
     /// Precondition: there are so many.
     pub(crate) fn drop_front(&mut self, count: usize)
-        requires { count ≤ length self.old }
-        ensures { self.new ≡ drop count self.old }
+        requires { count ≤ length self.old.chunks }
+        ensures { self.new ≡ with_chunks self.old (drop count self.old.chunks) }
     {
         self.unassembled.drop_front(count);
-    }
-
-    /// Puts a fragment before the first that it comes before, and takes out the run
-    /// that ends earliest, if there is one.
-    /// Precondition: `place` is that place.
-    /// Refuses only for memory, and nothing changes then.
-    pub(crate) fn put(
-        &mut self,
-        alloc: Global,
-        place: usize,
-        chunk: ChunkPayloadData,
-    ) -> Result<Option<Vec<ChunkPayloadData>>, AllocError>
-        requires { place ≡ place_among chunk.tsn self.old }
-        ensures ok { IfOk result (λ run.
-            MatchOption run (HasNoRun self.new
-            × (self.new ≡ insert_before chunk_before chunk self.old))
-            (λ chunks. IsRunTaken
-            (insert_before chunk_before chunk self.old) self.new chunks.items)) }
-        ensures err { OnErr result (self.new ≡ self.old) }
-    {
-        self.unassembled.insert(alloc, place, chunk)?;
-        let serial = self.unassembled.is_serial();
-        let Some((first, count)) = search(&self.unassembled, self.searched, place) else {
-            self.searched = true;
-            return Ok(None);
-        };
-        match self.unassembled.take_range(alloc, first, count) {
-            Ok(chunks) => {
-                self.searched = is_searched_after(self.searched, serial);
-                Ok(Some(chunks))
-            }
-            Err(e) => {
-                self.unassembled.remove(place);
-                Err(e)
-            }
-        }
     }
 
     /// Takes out the run that ends earliest, if there is one. Refuses only for memory, and nothing changes then.
@@ -113,15 +75,16 @@ impl Pool {
         &mut self,
         alloc: Global,
     ) -> Result<Option<Vec<ChunkPayloadData>>, AllocError>
-        ensures ok { IfOk result (λ run. MatchOption run (HasNoRun self.new
-            × (self.new ≡ self.old)) (λ chunks. IsRunTaken self.old self.new chunks.items)) }
+        ensures ok { IfOk result (λ run. MatchOption run
+            (HasNoRun self.new.chunks × (self.new ≡ self.old)) (λ chunks. IsRunTaken self.old.chunks self.new.chunks chunks.items
+            × (self.new.places ≡ self.old.places))) }
         ensures err { OnErr result (self.new ≡ self.old) }
     {
         let Some((first, count)) = find_run(&self.unassembled, &mut Turns::new()) else {
             self.searched = true;
             return Ok(None);
         };
-        let chunks = self.unassembled.take_range(alloc, first, count)?;
+        let (chunks, _kept) = self.unassembled.take_range(alloc, first, count)?;
         self.searched = false;
         Ok(Some(chunks))
     }
@@ -136,10 +99,10 @@ fn is_searched_after(searched: bool, serial: bool) -> bool
 
 // The run that ends earliest. Where none was there before the fragment at the place, only the runs that hold it are looked for.
 fn search(unassembled: &Loose, searched: bool, place: usize) -> Option<(usize, usize)>
-    requires in_range { place < length unassembled.now }
-    requires mark { IsMark searched (remove unassembled.now place) }
-    ensures found { IfSome result (λ run. IsEarliestRun unassembled.now run.0 run.1) }
-    ensures none { IfNone result (HasNoRun unassembled.now) }
+    requires in_range { place < length unassembled.now.chunks }
+    requires mark { IsMark searched (remove unassembled.now.chunks place) }
+    ensures found { IfSome result (λ run. IsEarliestRun unassembled.now.chunks run.0 run.1) }
+    ensures none { IfNone result (HasNoRun unassembled.now.chunks) }
 {
     if searched {
         run_around(unassembled, place, &mut Turns::new())

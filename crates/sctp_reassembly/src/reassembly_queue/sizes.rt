@@ -13,8 +13,8 @@ use sctp_serial::turns::Turns;
 /// The bytes of the unassembled neighbours that come before the chunk in its message, seen from where the chunk goes.
 /// Precondition: `place` is that.
 pub(crate) fn size_before(chunk: &ChunkPayloadData, unassembled: &Loose, place: usize) -> usize
-    requires { place ≡ place_among chunk.now.tsn unassembled.now }
-    ensures { result ≡ min (size_before chunk.now unassembled.now) (2 ^ 64 - 1) }
+    requires { place ≡ place_among chunk.now.tsn unassembled.now.chunks }
+    ensures { result ≡ min (size_before chunk.now unassembled.now.chunks) (2 ^ 64 - 1) }
 {
     if chunk.beginning_fragment {
         return 0;
@@ -29,8 +29,8 @@ pub(crate) fn size_before(chunk: &ChunkPayloadData, unassembled: &Loose, place: 
 /// The bytes of the unassembled neighbours that come after the chunk in its message, seen from where the chunk goes.
 /// Precondition: `place` is that.
 pub(crate) fn size_after(chunk: &ChunkPayloadData, unassembled: &Loose, place: usize) -> usize
-    requires { place ≡ place_among chunk.now.tsn unassembled.now }
-    ensures { result ≡ min (size_after chunk.now unassembled.now) (2 ^ 64 - 1) }
+    requires { place ≡ place_among chunk.now.tsn unassembled.now.chunks }
+    ensures { result ≡ min (size_after chunk.now unassembled.now.chunks) (2 ^ 64 - 1) }
 {
     if chunk.ending_fragment {
         return 0;
@@ -44,8 +44,8 @@ pub(crate) fn size_after(chunk: &ChunkPayloadData, unassembled: &Loose, place: u
 
 // The bytes of neighbours before a place, from the nearest on, while TSNs go down by one, up to one that begins.
 fn bytes_down(unassembled: &Loose, end: usize, tsn: u32, turns: &mut Turns) -> usize
-    requires { end ≤ length unassembled.now }
-    ensures { result ≡ min (bytes_down tsn (reverse (take end unassembled.now))) (2 ^ 64 - 1) }
+    requires { end ≤ length unassembled.now.chunks }
+    ensures { result ≡ min (bytes_down tsn (reverse (take end unassembled.now.chunks))) (2 ^ 64 - 1) }
 {
     let mut total = 0usize;
     let mut next = tsn;
@@ -68,7 +68,7 @@ fn bytes_down(unassembled: &Loose, end: usize, tsn: u32, turns: &mut Turns) -> u
 
 // The bytes of neighbours from a place on, while TSNs go up by one, up to one that ends.
 fn bytes_up(unassembled: &Loose, from: usize, tsn: u32, turns: &mut Turns) -> usize
-    ensures { result ≡ min (bytes_up tsn (drop from unassembled.now)) (2 ^ 64 - 1) }
+    ensures { result ≡ min (bytes_up tsn (drop from unassembled.now.chunks)) (2 ^ 64 - 1) }
 {
     let mut total = 0usize;
     let mut last = tsn;
@@ -91,8 +91,8 @@ fn bytes_up(unassembled: &Loose, from: usize, tsn: u32, turns: &mut Turns) -> us
 /// How many bytes the first fragments carry, or the greatest number where they are more.
 /// Precondition: there are so many fragments.
 pub(crate) fn bytes_of_front(unassembled: &Loose, count: usize, turns: &mut Turns) -> usize
-    requires { count ≤ length unassembled.now }
-    ensures { result ≡ min (bytes_of (take count unassembled.now)) (2 ^ 64 - 1) }
+    requires { count ≤ length unassembled.now.chunks }
+    ensures { result ≡ min (bytes_of (take count unassembled.now.chunks)) (2 ^ 64 - 1) }
 {
     let mut len = 0usize;
     for place in 0..count {

@@ -1,6 +1,7 @@
 //! Unassembled fragments: what came of unordered messages that are not whole. `look` takes a turn; the edits take none.
 
 ghost use Rattle.std.specs.Prelude.{◌≡◌, ℕ, ◌==◌, ◌+◌, ◌-◌, ◌^◌, ◌<◌, ◌≤◌, ◌&&◌, [], ◌∷◌, length, min, slice_index_or, insert, remove, take, drop, ◌++◌, OnOk, OnErr, IfOk, IfErr, IfSome, IfNone, true, false, IsTrue, not};
+ghost use Rattle.std.specs.VecDeque.{deque_capacity};
 ghost use Rattle.sctp_serial.specs.Runs.{IsEarliestRunAround, HasNoRunAround, IsStretch, IsEarliestRun, HasNoRun};
 ghost use Rattle.sctp_base.specs.declared.error.Error.TheVariants.{ErrOutOfMemory};
 ghost use Rattle.sctp_data.specs.declared.chunk.chunk_payload_data.ChunkPayloadData.{ChunkPayloadData};
@@ -8,6 +9,7 @@ ghost use Rattle.sctp_list_lemmas.specs.Serial.{comes_before};
 ghost use Rattle.sctp_reassembly.specs.reassembly_queue.Around.{IsStart, HasNoStart, IsEnd, IsFirstEnding, HasNoEnd};
 ghost use Rattle.sctp_serial.specs.DataChunks.{bytes_of, following_tsn};
 ghost use Rattle.sctp_reassembly.specs.reassembly_queue.Loose.{IsOrderMark};
+ghost use Rattle.sctp_reassembly.specs.reassembly_queue.PoolUndo.{put_back};
 ghost use Rattle.sctp_serial.specs.Window.{IsSerial};
 
 use sctp_base::error::Error;
@@ -47,16 +49,9 @@ impl UnassembledFragment {
     {
         &self.chunk
     }
-
-    /// The fragment, taken from the heap.
-    fn into_chunk(self) -> ChunkPayloadData
-        ensures { result ≡ self }
-    {
-        Box::into_inner(self.chunk)
-    }
 }
 
-/// The unassembled fragments, by place, from 0.
+/// The unassembled fragments, by place, from 0. So many at once as there ever were take no memory.
 #[derive(Drop)]
 pub struct Loose {
     chunks: VecDeque<UnassembledFragment>,
@@ -64,54 +59,108 @@ pub struct Loose {
     n_bytes: usize,
     // whether they stand in serial order, as fragments of honest peers do
     serial: bool,
+    // so many at once take no memory
+    places: usize,
 }
 
 impl Model for Loose {
-    ghost use Rattle.std.specs.Prelude.{◌≡◌, ◌-◌, ◌^◌, min, List};
-    ghost use Rattle.sctp_data.specs.declared.chunk.chunk_payload_data.ChunkPayloadData.{ChunkPayloadData};
+    ghost use Rattle.std.specs.Prelude.{◌≡◌, ◌-◌, ◌^◌, ◌≤◌, min};
+    ghost use Rattle.std.specs.VecDeque.{deque_capacity};
     ghost use Rattle.sctp_serial.specs.DataChunks.{bytes_of};
-    ghost use Rattle.sctp_reassembly.specs.reassembly_queue.Loose.{IsOrderMark};
+    ghost use Rattle.sctp_reassembly.specs.reassembly_queue.Loose.{IsOrderMark, Unassembled};
 
-    ghost Value = { List ChunkPayloadData };
+    ghost Value = { Unassembled };
 
-    ghost view = { λ l. l.chunks.items };
+    ghost view = { λ l. record { chunks = l.chunks.items; places = l.places } };
 
     ghost invariant = { λ l. record {
       counted : l.n_bytes
           ≡ min (bytes_of l.chunks.items) (2 ^ 64 - 1);
       order : IsOrderMark l.serial l.chunks.items;
+      room : l.places ≤ deque_capacity l.chunks;
     } };
 }
 
+/// What is noted of unassembled fragments, beside themselves: their bytes, whether they stand in serial order, and how many at
+/// once take no memory.
+#[derive(Clone, Copy)]
+pub struct Marks {
+    n_bytes: usize,
+    serial: bool,
+    places: usize,
+}
+
+/// What undoes an insertion and the removal of neighbours that followed it.
+#[derive(Drop)]
+pub struct InsertionUndo {
+    // where the fragment was put in
+    place: usize,
+    // where the neighbours were taken out then, and they themselves
+    first: usize,
+    kept: Vec<UnassembledFragment>,
+    // what was noted before
+    marks: Marks,
+}
+
+impl InsertionUndo {
+    /// The undo of an insertion at `place`, after which those kept were taken out from place `first` on. `marks` are from before
+    /// the insertion. It takes no memory.
+    pub fn new(place: usize, first: usize, kept: Vec<UnassembledFragment>, marks: Marks) -> Self
+        ensures { result ≡ record { place = place; first = first; kept = kept; marks = marks } }
+    {
+        InsertionUndo {
+            place,
+            first,
+            kept,
+            marks,
+        }
+    }
+}
+
 impl Loose {
+    ghost use Rattle.sctp_reassembly.specs.reassembly_queue.Loose.{with_chunks, with_one};
+    ghost use Rattle.sctp_reassembly.specs.reassembly_queue.PoolUndo.{insertion_undone, IsNoted, CanUndoInsertion};
+
     /// No fragments. It takes no memory.
     pub fn new(alloc: Global) -> Self
-        ensures { result ≡ [] }
+        ensures { result ≡ record { chunks = []; places = 0 } }
     {
         Loose {
             chunks: VecDeque::new(alloc),
             n_bytes: 0,
             serial: true,
+            places: 0,
         }
     }
 
     /// How many there are.
     pub fn len(&self) -> usize
-        ensures { result ≡ length self.now }
+        ensures { result ≡ length self.now.chunks }
     {
         self.chunks.len()
     }
 
+    /// What is noted of them.
+    pub fn marks(&self) -> Marks
+        ensures { IsNoted result self.now }
+    {
+        Marks {
+            n_bytes: self.get_num_bytes(),
+            serial: self.is_serial(),
+            places: self.places,
+        }
+    }
+
     /// How many bytes they carry, or the greatest number where they are more.
     pub fn get_num_bytes(&self) -> usize
-        ensures { result ≡ min (bytes_of self.now) (2 ^ 64 - 1) }
+        ensures { result ≡ min (bytes_of self.now.chunks) (2 ^ 64 - 1) }
     {
         self.n_bytes
     }
 
     /// Whether they stand in serial order: each before all that follow it.
     pub fn is_serial(&self) -> bool
-        ensures { IsOrderMark result self.now }
+        ensures { IsOrderMark result self.now.chunks }
     {
         self.serial
     }
@@ -119,8 +168,8 @@ impl Loose {
     /// Looks at the fragment at a place, which is a turn.
     /// Precondition: the place has one.
     pub fn look<'a>(&'a self, place: usize, turns: &mut Turns) -> &'a ChunkPayloadData
-        requires { place < length self.now }
-        ensures value { result.now ≡ slice_index_or self.now place result.now }
+        requires { place < length self.now.chunks }
+        ensures value { result.now ≡ slice_index_or self.now.chunks place result.now }
         ensures turn { turns.new ≡ turns.old + 1 }
     {
         turns.tick();
@@ -136,8 +185,8 @@ impl Loose {
         place: usize,
         chunk: ChunkPayloadData,
     ) -> Result<(), AllocError>
-        requires { place ≤ length self.old }
-        ensures ok { OnOk result (self.new ≡ insert self.old place chunk) }
+        requires { place ≤ length self.old.chunks }
+        ensures ok { OnOk result (self.new ≡ with_one place chunk self.old) }
         ensures err { OnErr result (self.new ≡ self.old) }
     {
         let serial = self.stays_serial(place, chunk.tsn);
@@ -146,14 +195,15 @@ impl Loose {
         self.chunks.insert(place, fragment)?;
         self.n_bytes = self.n_bytes.saturating_add(len);
         self.serial = serial;
+        self.places = self.places.max(self.chunks.len());
         Ok(())
     }
 
     // Whether they stand in serial order with the number at the place.
     fn stays_serial(&self, place: usize, tsn: u32) -> bool
-        requires { place ≤ length self.now }
+        requires { place ≤ length self.now.chunks }
         ensures { (x : ChunkPayloadData)
-            → x.tsn ≡ tsn → IsOrderMark result (insert self.now place x) }
+            → x.tsn ≡ tsn → IsOrderMark result (insert self.now.chunks place x) }
     {
         if !self.serial {
             return false;
@@ -164,20 +214,26 @@ impl Loose {
         is_ahead(&self.chunks, place, tsn)
     }
 
-    /// Takes out the fragment at a place. It takes no memory.
-    /// Precondition: the place has one.
-    pub fn remove(&mut self, place: usize) -> ChunkPayloadData
-        requires { place < length self.old }
-        ensures rest { self.new ≡ remove self.old place }
-        ensures value { result ≡ slice_index_or self.old place result }
+    /// Puts the neighbours back that were taken out, and drops the fragment that was put in. It takes no memory.
+    /// Precondition: `CanUndoInsertion`: both places are there, all fit without memory, and what was noted before will hold again.
+    pub fn put_back(&mut self, undo: InsertionUndo)
+        requires { CanUndoInsertion undo self.old }
+        ensures { self.new ≡ insertion_undone undo self.old }
     {
-        let chunk = take_out(&mut self.chunks, place);
-        self.n_bytes = bytes_without(self.n_bytes, chunk.user_data.len(), &self.chunks);
-        self.serial = is_still_serial(self.serial, &self.chunks);
-        chunk
+        let InsertionUndo {
+            place,
+            first,
+            kept,
+            marks,
+        } = undo;
+        put_back(&mut self.chunks, first, kept);
+        take_out(&mut self.chunks, place);
+        self.n_bytes = marks.n_bytes;
+        self.serial = marks.serial;
+        self.places = marks.places;
     }
 
-    /// Takes out `count` neighbours from place `first` on.
+    /// Takes out `count` neighbours from place `first` on: their equals, which share their bytes, and they themselves.
     /// Precondition: they are there.
     /// Refuses only for memory, and nothing changes then.
     pub fn take_range(
@@ -185,42 +241,45 @@ impl Loose {
         alloc: Global,
         first: usize,
         count: usize,
-    ) -> Result<Vec<ChunkPayloadData>, AllocError>
-        requires { first + count ≤ length self.old }
-        ensures taken { IfOk result (λ chunks. chunks.items ≡ take count (drop first self.old)) }
-        ensures rest { OnOk result (self.new
-            ≡ take first self.old ++ drop (first + count) self.old) }
+    ) -> Result<(Vec<ChunkPayloadData>, Vec<UnassembledFragment>), AllocError>
+        requires { first + count ≤ length self.old.chunks }
+        ensures taken { IfOk result (λ r. r.0.items ≡ take count (drop first self.old.chunks)) }
+        ensures kept { IfOk result (λ r. r.1.items ≡ take count (drop first self.old.chunks)) }
+        ensures rest { OnOk result (self.new ≡ with_chunks self.old
+            (take first self.old.chunks ++ drop (first + count) self.old.chunks)) }
         ensures err { OnErr result (self.new ≡ self.old) }
     {
-        let mut taken = Vec::with_capacity(alloc, count)?;
+        let taken = clone_range(alloc, &self.chunks, first, count)?;
+        let mut kept = Vec::with_capacity(alloc, count)?;
         let gone = bytes_from(&self.chunks, first, count);
         for _moved in 0..count {
-            let chunk = take_out(&mut self.chunks, first);
-            match taken.push(chunk) {
+            let fragment = take_out(&mut self.chunks, first);
+            match kept.push(fragment) {
                 Ok(()) => {}
                 Err(_) => unreachable!(),
             }
         }
         self.n_bytes = bytes_without(self.n_bytes, gone, &self.chunks);
         self.serial = is_still_serial(self.serial, &self.chunks);
-        Ok(taken)
+        Ok((taken, kept))
     }
 
-    /// Equal fragments, which share their bytes. Refuses only for memory.
+    /// Equal fragments, which share their bytes, and as many places. Refuses only for memory.
     pub fn try_clone(&self, alloc: Global) -> Result<Self, Error>
         ensures ok { IfOk result (λ unassembled. unassembled ≡ self.now) }
         ensures memory { IfErr result (λ e. e ≡ ErrOutOfMemory) }
     {
         Ok(Loose {
-            chunks: clone_fragments(alloc, &self.chunks)?,
+            chunks: clone_fragments(alloc, &self.chunks, self.places)?,
             n_bytes: self.n_bytes,
             serial: self.serial,
+            places: self.places,
         })
     }
 
     /// All of them, which only the queue's accessor lends on.
     pub fn as_deque(&self) -> &VecDeque<UnassembledFragment>
-        ensures { result.now.items ≡ self.now }
+        ensures { result.now.items ≡ self.now.chunks }
     {
         &self.chunks
     }
@@ -228,8 +287,8 @@ impl Loose {
     /// Drops the first `count`. It takes no memory.
     /// Precondition: there are so many.
     pub fn drop_front(&mut self, count: usize)
-        requires { count ≤ length self.old }
-        ensures { self.new ≡ drop count self.old }
+        requires { count ≤ length self.old.chunks }
+        ensures { self.new ≡ with_chunks self.old (drop count self.old.chunks) }
     {
         let gone = bytes_from(&self.chunks, 0, count);
         for _gone in 0..count {
@@ -345,26 +404,70 @@ fn bytes_without(n_bytes: usize, gone: usize, chunks: &VecDeque<UnassembledFragm
 
 /// Takes out the fragment at a place.
 /// Precondition: the place has one.
-fn take_out(chunks: &mut VecDeque<UnassembledFragment>, place: usize) -> ChunkPayloadData
+fn take_out(chunks: &mut VecDeque<UnassembledFragment>, place: usize) -> UnassembledFragment
     requires { place < length chunks.old.items }
+    ensures capacity { deque_capacity chunks.new ≡ deque_capacity chunks.old }
     ensures rest { chunks.new.items ≡ remove chunks.old.items place }
     ensures value { result ≡ slice_index_or chunks.old.items place result }
 {
     match chunks.remove(place) {
-        Some(fragment) => fragment.into_chunk(),
+        Some(fragment) => fragment,
         None => unreachable!(),
     }
 }
 
-// Equal fragments, which share their bytes.
+/// Puts neighbours back at a place.
+/// Preconditions: the place is at most the number of fragments; the deque has room for all.
+fn put_back(
+    chunks: &mut VecDeque<UnassembledFragment>,
+    first: usize,
+    kept: Vec<UnassembledFragment>,
+)
+    requires in_range { first ≤ length chunks.old.items }
+    requires room { length chunks.old.items + length kept.items ≤ deque_capacity chunks.old }
+    ensures value { chunks.new.items ≡ put_back first kept.items chunks.old.items }
+    ensures capacity { deque_capacity chunks.old ≤ deque_capacity chunks.new }
+{
+    let mut kept = kept;
+    while let Some(fragment) = kept.pop() {
+        match chunks.insert(first, fragment) {
+            Ok(()) => {}
+            Err(_) => unreachable!(),
+        }
+    }
+}
+
+// Fragments equal to some neighbours, which share their bytes.
+fn clone_range(
+    alloc: Global,
+    chunks: &VecDeque<UnassembledFragment>,
+    first: usize,
+    count: usize,
+) -> Result<Vec<ChunkPayloadData>, AllocError>
+    requires { first + count ≤ length chunks.now.items }
+    ensures { IfOk result (λ copies. copies.items ≡ take count (drop first chunks.now.items)) }
+{
+    let mut copies = Vec::with_capacity(alloc, count)?;
+    for step in 0..count {
+        let Ok(copy) = chunks[first + step].chunk().try_clone() else {
+            return Err(AllocError);
+        };
+        copies.push(copy)?;
+    }
+    Ok(copies)
+}
+
+// Equal fragments, which share their bytes; so many at once take no memory.
 fn clone_fragments(
     alloc: Global,
     chunks: &VecDeque<UnassembledFragment>,
+    places: usize,
 ) -> Result<VecDeque<UnassembledFragment>, Error>
     ensures ok { IfOk result (λ copies. copies.items ≡ chunks.now.items) }
+    ensures room { IfOk result (λ copies. places ≤ deque_capacity copies) }
     ensures memory { IfErr result (λ e. e ≡ ErrOutOfMemory) }
 {
-    let mut copies = VecDeque::with_capacity(alloc, chunks.len())?;
+    let mut copies = VecDeque::with_capacity(alloc, places)?;
     for place in 0..chunks.len() {
         let copy = chunks[place].chunk().try_clone()?;
         copies.push_back(UnassembledFragment::new(alloc, copy)?)?;
@@ -379,13 +482,13 @@ fn run_start(
     here: &ChunkPayloadData,
     turns: &mut Turns,
 ) -> Option<usize>
-    requires in_range { place < length unassembled.now }
-    requires value { here.now ≡ slice_index_or unassembled.now place here.now }
-    ensures found { IfSome result (IsStart unassembled.now place) }
-    ensures none { IfNone result (HasNoStart unassembled.now place) }
+    requires in_range { place < length unassembled.now.chunks }
+    requires value { here.now ≡ slice_index_or unassembled.now.chunks place here.now }
+    ensures found { IfSome result (IsStart unassembled.now.chunks place) }
+    ensures none { IfNone result (HasNoStart unassembled.now.chunks place) }
     ensures not_back { turns.old ≤ turns.new }
     ensures cost { (first last : ℕ)
-        → IsStretch unassembled.now place first last → turns.new ≤ turns.old + (place - first) + 1 }
+        → IsStretch unassembled.now.chunks place first last → turns.new ≤ turns.old + (place - first) + 1 }
 {
     let mut first = place;
     let mut next = here;
@@ -410,16 +513,16 @@ fn run_end(
     here: &ChunkPayloadData,
     turns: &mut Turns,
 ) -> Option<usize>
-    requires in_range { place < length unassembled.now }
-    requires value { here.now ≡ slice_index_or unassembled.now place here.now }
-    ensures found { IfSome result (λ last. IsEnd unassembled.now place last
-        × IsFirstEnding unassembled.now place last) }
+    requires in_range { place < length unassembled.now.chunks }
+    requires value { here.now ≡ slice_index_or unassembled.now.chunks place here.now }
+    ensures found { IfSome result (λ last. IsEnd unassembled.now.chunks place last
+        × IsFirstEnding unassembled.now.chunks place last) }
     ensures fits { IfSome result (λ last. last + 1 < 2 ^ 64) }
     ensures spent { IfSome result (λ last. turns.new + place ≡ turns.old + last) }
-    ensures none { IfNone result (HasNoEnd unassembled.now place) }
+    ensures none { IfNone result (HasNoEnd unassembled.now.chunks place) }
     ensures not_back { turns.old ≤ turns.new }
     ensures cost { (first last : ℕ)
-        → IsStretch unassembled.now place first last → turns.new ≤ turns.old + (last - place) + 1 }
+        → IsStretch unassembled.now.chunks place first last → turns.new ≤ turns.old + (last - place) + 1 }
 {
     let len = unassembled.len();
     let mut last = place;
@@ -443,12 +546,12 @@ fn run_end(
 
 // Whether no run that holds the place begins before it, so far as a look at the nearest tells.
 fn is_cut_off(unassembled: &Loose, place: usize, here: &ChunkPayloadData, turns: &mut Turns) -> bool
-    requires in_range { place < length unassembled.now }
-    requires value { here.now ≡ slice_index_or unassembled.now place here.now }
-    ensures yes { result ≡ true → HasNoStart unassembled.now place }
+    requires in_range { place < length unassembled.now.chunks }
+    requires value { here.now ≡ slice_index_or unassembled.now.chunks place here.now }
+    ensures yes { result ≡ true → HasNoStart unassembled.now.chunks place }
     ensures no { result ≡ false
         → here.now.beginning_fragment ≡ false → (0 < place) × ((d : ChunkPayloadData)
-        → here.now.tsn ≡ following_tsn (slice_index_or unassembled.now (place - 1) d).tsn) }
+        → here.now.tsn ≡ following_tsn (slice_index_or unassembled.now.chunks (place - 1) d).tsn) }
     ensures not_back { turns.old ≤ turns.new }
     ensures cost { turns.new ≤ turns.old + 1 }
 {
@@ -468,14 +571,14 @@ fn run_through(
     here: &ChunkPayloadData,
     turns: &mut Turns,
 ) -> Option<(usize, usize)>
-    requires in_range { place < length unassembled.now }
-    requires value { here.now ≡ slice_index_or unassembled.now place here.now }
-    ensures found { IfSome result (λ run. IsEarliestRunAround unassembled.now place run.0 run.1) }
-    ensures none { IfNone result (HasNoRunAround unassembled.now place) }
+    requires in_range { place < length unassembled.now.chunks }
+    requires value { here.now ≡ slice_index_or unassembled.now.chunks place here.now }
+    ensures found { IfSome result (λ run. IsEarliestRunAround unassembled.now.chunks place run.0 run.1) }
+    ensures none { IfNone result (HasNoRunAround unassembled.now.chunks place) }
     ensures not_back { turns.old ≤ turns.new }
     ensures cost { (first last : ℕ)
-        → IsStretch unassembled.now place first last → turns.new ≤ turns.old + (last + 1 - first) }
-    ensures at_back { (first : ℕ) → IsStretch unassembled.now place first place
+        → IsStretch unassembled.now.chunks place first last → turns.new ≤ turns.old + (last + 1 - first) }
+    ensures at_back { (first : ℕ) → IsStretch unassembled.now.chunks place first place
         → here.now.ending_fragment ≡ false → turns.new ≤ turns.old + 1 }
 {
     let last = run_end(unassembled, place, here, turns)?;
@@ -490,20 +593,20 @@ fn run_through(
 /// not end three: so does each fragment of a message that comes in order or reversed, but the last.
 /// Precondition: the place has a fragment.
 pub fn run_around(unassembled: &Loose, place: usize, turns: &mut Turns) -> Option<(usize, usize)>
-    requires { place < length unassembled.now }
-    ensures found { IfSome result (λ run. IsEarliestRunAround unassembled.now place run.0 run.1) }
-    ensures none { IfNone result (HasNoRunAround unassembled.now place) }
+    requires { place < length unassembled.now.chunks }
+    ensures found { IfSome result (λ run. IsEarliestRunAround unassembled.now.chunks place run.0 run.1) }
+    ensures none { IfNone result (HasNoRunAround unassembled.now.chunks place) }
     ensures not_back { turns.old ≤ turns.new }
     ensures cost { (first last : ℕ)
-        → IsStretch unassembled.now place first last → turns.new ≤ turns.old + (last + 1 - first)
+        → IsStretch unassembled.now.chunks place first last → turns.new ≤ turns.old + (last + 1 - first)
         + 2 }
-    ensures at_front { (last : ℕ) → IsStretch unassembled.now place place last
-        → ((d : ChunkPayloadData) → (slice_index_or unassembled.now place d).beginning_fragment
+    ensures at_front { (last : ℕ) → IsStretch unassembled.now.chunks place place last
+        → ((d : ChunkPayloadData) → (slice_index_or unassembled.now.chunks place d).beginning_fragment
         ≡ false)
         → turns.new ≤ turns.old + 2 }
-    ensures at_back { (first : ℕ) → IsStretch unassembled.now place first place
+    ensures at_back { (first : ℕ) → IsStretch unassembled.now.chunks place first place
         → ((d : ChunkPayloadData)
-        → (slice_index_or unassembled.now place d).ending_fragment ≡ false) → turns.new ≤ turns.old
+        → (slice_index_or unassembled.now.chunks place d).ending_fragment ≡ false) → turns.new ≤ turns.old
         + 3 }
 {
     let here = unassembled.look(place, turns);
@@ -515,8 +618,8 @@ pub fn run_around(unassembled: &Loose, place: usize, turns: &mut Turns) -> Optio
 
 /// The place and the length of the run that ends earliest, by a scan of all; None where there is none.
 pub fn find_run(unassembled: &Loose, turns: &mut Turns) -> Option<(usize, usize)>
-    ensures found { IfSome result (λ run. IsEarliestRun unassembled.now run.0 run.1) }
-    ensures none { IfNone result (HasNoRun unassembled.now) }
+    ensures found { IfSome result (λ run. IsEarliestRun unassembled.now.chunks run.0 run.1) }
+    ensures none { IfNone result (HasNoRun unassembled.now.chunks) }
 {
     for place in 0..unassembled.len() {
         let here = unassembled.look(place, turns);

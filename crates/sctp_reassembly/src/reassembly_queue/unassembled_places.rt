@@ -18,11 +18,11 @@ use sctp_serial::turns::Turns;
 ///
 /// In serial order the first two looks are at both ends, so that what comes behind all takes no more.
 pub(crate) fn place_for(unassembled: &Loose, tsn: u32, turns: &mut Turns) -> usize
-    ensures place { result ≡ place_among tsn unassembled.now }
-    ensures in_range { result ≤ length unassembled.now }
+    ensures place { result ≡ place_among tsn unassembled.now.chunks }
+    ensures in_range { result ≤ length unassembled.now.chunks }
     ensures not_back { turns.old ≤ turns.new }
-    ensures cost { IsSerial unassembled.now
-        → IsWithinDigits (length unassembled.now) (turns.new - turns.old - 2) }
+    ensures cost { IsSerial unassembled.now.chunks
+        → IsWithinDigits (length unassembled.now.chunks) (turns.new - turns.old - 2) }
 {
     let len = unassembled.len();
     if len == 0 {
@@ -42,8 +42,8 @@ pub(crate) fn place_for(unassembled: &Loose, tsn: u32, turns: &mut Turns) -> usi
 
 // The place of the first fragment that the number comes before, or the end, by a walk.
 fn first_after(unassembled: &Loose, tsn: u32, turns: &mut Turns) -> usize
-    ensures place { result ≡ place_among tsn unassembled.now }
-    ensures in_range { result ≤ length unassembled.now }
+    ensures place { result ≡ place_among tsn unassembled.now.chunks }
+    ensures in_range { result ≤ length unassembled.now.chunks }
     ensures not_back { turns.old ≤ turns.new }
 {
     for place in 0..unassembled.len() {
@@ -56,14 +56,14 @@ fn first_after(unassembled: &Loose, tsn: u32, turns: &mut Turns) -> usize
 
 // The same by halves, in serial order, where the number does not come before the first.
 fn by_halves(unassembled: &Loose, tsn: u32, turns: &mut Turns) -> usize
-    requires some { 0 < length unassembled.now }
-    requires order { IsSerial unassembled.now }
+    requires some { 0 < length unassembled.now.chunks }
+    requires order { IsSerial unassembled.now.chunks }
     requires first { (d : ChunkPayloadData)
-        → comes_before tsn (slice_index_or unassembled.now 0 d).tsn ≡ false }
-    ensures place { result ≡ place_among tsn unassembled.now }
-    ensures in_range { result ≤ length unassembled.now }
+        → comes_before tsn (slice_index_or unassembled.now.chunks 0 d).tsn ≡ false }
+    ensures place { result ≡ place_among tsn unassembled.now.chunks }
+    ensures in_range { result ≤ length unassembled.now.chunks }
     ensures not_back { turns.old ≤ turns.new }
-    ensures cost { IsWithinDigits (length unassembled.now) (turns.new - turns.old) }
+    ensures cost { IsWithinDigits (length unassembled.now.chunks) (turns.new - turns.old) }
 {
     let mut low = 0;
     let mut high = unassembled.len();
@@ -87,13 +87,13 @@ pub(crate) fn place_before(
     tsn: u32,
     turns: &mut Turns,
 ) -> Option<usize>
-    requires { place ≡ place_among tsn unassembled.now }
-    ensures in_range { IfSome result (λ at. at < length unassembled.now) }
+    requires { place ≡ place_among tsn unassembled.now.chunks }
+    ensures in_range { IfSome result (λ at. at < length unassembled.now.chunks) }
     ensures fits { IfSome result (λ at. at + 1 < 2 ^ 64) }
-    ensures back { IfSome result (λ at. back_from (preceding_tsn tsn) unassembled.now
-        ≡ reverse (take (at + 1) unassembled.now)) }
-    ensures none { IfNone result (back_from (preceding_tsn tsn) unassembled.now ≡ []) }
-    ensures cost { IsSerial unassembled.now → turns.new ≤ turns.old + 2 }
+    ensures back { IfSome result (λ at. back_from (preceding_tsn tsn) unassembled.now.chunks
+        ≡ reverse (take (at + 1) unassembled.now.chunks)) }
+    ensures none { IfNone result (back_from (preceding_tsn tsn) unassembled.now.chunks ≡ []) }
+    ensures cost { IsSerial unassembled.now.chunks → turns.new ≤ turns.old + 2 }
 {
     let wanted = tsn.wrapping_sub(1);
     if !unassembled.is_serial() {
@@ -124,12 +124,12 @@ pub(crate) fn place_after(
     tsn: u32,
     turns: &mut Turns,
 ) -> Option<usize>
-    requires { place ≡ place_among tsn unassembled.now }
-    ensures in_range { IfSome result (λ at. at < length unassembled.now) }
-    ensures on { IfSome result (λ at. on_from (following_tsn tsn) unassembled.now
-        ≡ drop at unassembled.now) }
-    ensures none { IfNone result (on_from (following_tsn tsn) unassembled.now ≡ []) }
-    ensures cost { IsSerial unassembled.now → turns.new ≤ turns.old + 1 }
+    requires { place ≡ place_among tsn unassembled.now.chunks }
+    ensures in_range { IfSome result (λ at. at < length unassembled.now.chunks) }
+    ensures on { IfSome result (λ at. on_from (following_tsn tsn) unassembled.now.chunks
+        ≡ drop at unassembled.now.chunks) }
+    ensures none { IfNone result (on_from (following_tsn tsn) unassembled.now.chunks ≡ []) }
+    ensures cost { IsSerial unassembled.now.chunks → turns.new ≤ turns.old + 1 }
 {
     let wanted = tsn.wrapping_add(1);
     if !unassembled.is_serial() {
@@ -146,13 +146,13 @@ pub(crate) fn place_after(
 
 // The place of the last fragment of this TSN, by a walk.
 fn last_among(unassembled: &Loose, tsn: u32, turns: &mut Turns) -> Option<usize>
-    ensures in_range { IfSome result (λ place. place < length unassembled.now) }
+    ensures in_range { IfSome result (λ place. place < length unassembled.now.chunks) }
     ensures fits { IfSome result (λ place. place + 1 < 2 ^ 64) }
-    ensures back { IfSome result (λ place. back_from tsn unassembled.now
-        ≡ reverse (take (place + 1) unassembled.now)) }
-    ensures on { IfSome result (λ place. on_from tsn unassembled.now ≡ drop place unassembled.now) }
-    ensures none_back { IfNone result (back_from tsn unassembled.now ≡ []) }
-    ensures none_on { IfNone result (on_from tsn unassembled.now ≡ []) }
+    ensures back { IfSome result (λ place. back_from tsn unassembled.now.chunks
+        ≡ reverse (take (place + 1) unassembled.now.chunks)) }
+    ensures on { IfSome result (λ place. on_from tsn unassembled.now.chunks ≡ drop place unassembled.now.chunks) }
+    ensures none_back { IfNone result (back_from tsn unassembled.now.chunks ≡ []) }
+    ensures none_on { IfNone result (on_from tsn unassembled.now.chunks ≡ []) }
     ensures not_back { turns.old ≤ turns.new }
 {
     let mut end = unassembled.len();
@@ -168,8 +168,8 @@ fn last_among(unassembled: &Loose, tsn: u32, turns: &mut Turns) -> Option<usize>
 
 /// How many unassembled fragments stand before the first that is after the number.
 pub(crate) fn front_upto(unassembled: &Loose, tsn: u32, turns: &mut Turns) -> usize
-    ensures place { result ≡ position_or_len (λ c. not (at_or_before c.tsn tsn)) unassembled.now }
-    ensures in_range { result ≤ length unassembled.now }
+    ensures place { result ≡ position_or_len (λ c. not (at_or_before c.tsn tsn)) unassembled.now.chunks }
+    ensures in_range { result ≤ length unassembled.now.chunks }
     ensures cost { turns.new ≤ turns.old + result + 1 }
 {
     for place in 0..unassembled.len() {

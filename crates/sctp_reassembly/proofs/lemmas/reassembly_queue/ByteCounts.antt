@@ -185,7 +185,7 @@ all_stay p (x ∷ xs) h = let (a, b) = neither (p x) (list_any p xs) h in rw a (
 pub incomplete_agrees : (t : ℕ) (q : ReassemblyState) → list_any (cannot_complete t) q.held.ordered ≡ false → after_incomplete_skip t q ≡ q
 incomplete_agrees t q h =
     let kept : q.bytes - 0 ≡ q.bytes = omega arith in
-    ap₂ (λ gone stay. state_of q.si (ssn_past_sets q.held.next_ssn gone) stay q.held.unordered q.held.unassembled (q.bytes - set_bytes gone) q.max_message_size)
+    ap₂ (λ gone stay. state_of q.si (ssn_past_sets q.held.next_ssn gone) stay q.held.unordered q.held.unassembled (q.bytes - set_bytes gone) q.max_message_size q.places)
     (none_there (cannot_complete t) q.held.ordered h) (all_stay (cannot_complete t) q.held.ordered h)
     ∙ ap (λ bytes. record q { bytes = bytes }) kept
 

@@ -1,5 +1,5 @@
 -- How many chunks sets have, as chunks come in.
-use Rattle.std.proofs.Common.{◌≡◌, ◌+◌, Bool, true, false, if◌then◌else◌, Option, Some, None, is_some, List, [], ◌∷◌, length, ap, sym, refl, ◌∙◌, arith}
+use Rattle.std.proofs.Common.{◌≡◌, ◌+◌, Bool, true, false, if◌then◌else◌, Option, Some, None, is_some, option_map, List, [], ◌∷◌, length, ap, sym, refl, ◌∙◌, arith}
 use Rattle.std.proofs.lemmas.Bool.{true≢false}
 use Rattle.std.specs.List.{list_any}
 use Rattle.sctp_list_lemmas.specs.Lists.{insert_before}
@@ -26,3 +26,7 @@ one_more x s whole answer some = at_any (list_any (has_tsn x.tsn) s.chunks) answ
         → length (if b then s.chunks else insert_before chunk_before x s.chunks) ≡ length s.chunks + 1
     at_any true e = absurd (true≢false (sym some ∙ ap is_some e))
     at_any false e = length-inserted chunk_before x s.chunks
+
+pub is_some-mapped : {A B : Type 0} (f : A → B) (o : Option A) → is_some (option_map f o) ≡ is_some o
+is_some-mapped f None = refl
+is_some-mapped f (Some x) = refl

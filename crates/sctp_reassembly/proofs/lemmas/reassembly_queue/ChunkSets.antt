@@ -14,9 +14,9 @@ pub same_but_chunks : {ssn : ℕ} {ppi : PayloadProtocolIdentifier} {xs ys : Lis
 same_but_chunks {ssn} {ppi} e = ap (λ cs. let s : ChunkSet = record { ssn = ssn; ppi = ppi; chunks = cs } in s) e
 
 -- a reassembly queue of these parts
-abbrev pub state_of : ℕ → ℕ → List ChunkSet → List ChunkSet → List ChunkPayloadData → ℕ → ℕ → ReassemblyState
-state_of si next ordered unordered unassembled bytes max =
-    record { si = si; held = record { next_ssn = next; ordered = ordered; unordered = unordered; unassembled = unassembled }; bytes = bytes; max_message_size = max }
+abbrev pub state_of : ℕ → ℕ → List ChunkSet → List ChunkSet → List ChunkPayloadData → ℕ → ℕ → ℕ → ReassemblyState
+state_of si next ordered unordered unassembled bytes max places =
+    record { si = si; held = record { next_ssn = next; ordered = ordered; unordered = unordered; unassembled = unassembled }; bytes = bytes; max_message_size = max; places = places }
 
 -- the unassembled fragments up to a TSN stand in front of the first after it
 pub leading_upto-position : (t : ℕ) (xs : List ChunkPayloadData) → take (position_or_len (λ x. not (at_or_before x.tsn t)) xs) xs ≡ leading_upto t xs

@@ -1,5 +1,5 @@
 -- What a reset keeps, moves and drops.
-use Rattle.std.proofs.Common.{◌≡◌, ℕ, suc, ◌+◌, ◌-◌, ◌<◌, ◌≤◌, ◌&&◌, Bool, true, false, not, if◌then◌else◌, List, [], ◌∷◌, ◌++◌, map, length, length-append, get_or, take, drop, refl, sym, ap, ◌∙◌, append_assoc, drop-cons, add-one, arith}
+use Rattle.std.proofs.Common.{◌≡◌, ℕ, suc, ◌+◌, ◌<◌, ◌≤◌, ◌&&◌, Bool, true, false, not, if◌then◌else◌, List, [], ◌∷◌, ◌++◌, map, length, length-append, get_or, take, drop, refl, sym, ap, ◌∙◌, drop-cons, add-one, arith}
 use Rattle.std.specs.List.{list_all, sum_by, filter}
 use Rattle.std.proofs.Math.Seq.{take-suc}
 use Rattle.std.proofs.lemmas.Bool.{true≢false}
@@ -13,7 +13,7 @@ use Rattle.sctp_data.specs.ChunkSet.{ChunkSet}
 use Rattle.sctp_serial.specs.Ascending.{upper_half}
 use Rattle.sctp_serial.specs.DataChunks.{bytes_of}
 use Rattle.sctp_reassembly.specs.reassembly_queue.Fragments.{is_complete}
-use Rattle.sctp_reassembly.specs.reassembly_queue.ReassemblyQueue.{ReassemblyState, set_bytes, IsCounted}
+use Rattle.sctp_reassembly.specs.reassembly_queue.ReassemblyQueue.{ReassemblyState, IsCounted}
 use Rattle.sctp_reassembly.specs.reassembly_queue.Resets.{chunks_upto, chunks_past, is_old_message, rest_past, is_some_left, of_new_use, dropped_bytes, after_reset}
 
 second : (a b : Bool) → (a && b) ≡ true → b ≡ true

@@ -1,16 +1,9 @@
-use Rattle.std.proofs.Common.{length, ap, subst, arith}
-use Rattle.std.proofs.lemmas.List.Sums.{sum_by-cons}
-use Rattle.sctp_serial.specs.Window.{IsSerial}
-use Rattle.sctp_serial.specs.DataChunks.{bytes_of}
-use Rattle.sctp_serial.proofs.lemmas.Serials.{serial_tail}
+use Rattle.sctp_outbound.specs.payload_queue.PayloadQueue.{without_front}
+use Rattle.sctp_outbound.proofs.lemmas.payload_queue.Payloads.{room_back, without_front_short}
 use Rattle.sctp_outbound.proofs.payload_queue.PayloadQueue.pop.Goals as goal
 
-pub invariant_of-self-2 : goal.invariant_of-self-2
-invariant_of-self-2 c =
-    let old = ap (λ h. h.chunks) c.in_ok-chunk.ensures.popped in
-    let sums = ap bytes_of old in
-    let cons = sum_by-cons (λ x. length x.user_data) c.in_ok-chunk.chunk c.pop_front.new.self.chunks in
-    record {
-      serial = serial_tail c.in_ok-chunk.chunk _ (subst IsSerial old c.self.invariant.serial);
-      counted = omega (arith, c.self.invariant.counted);
-    }
+pub returns-clause-rest : goal.returns-clause-rest
+returns-clause-rest c =
+    let q = c.args.self.now in
+    let out = c.pop_leaving_room-chunk in
+    room_back q out.new.self c.limit_room.new.self (without_front c.args.tsn q.chunks) c.room-room.result c.room-room.ensures out.ensures.rest out.ensures.places (without_front_short c.args.tsn q.chunks) c.limit_room.ensures

@@ -1,8 +1,10 @@
-use Rattle.std.proofs.Common.{◌∷◌, ◌++◌, [], List, ap, ap₂, subst, ◌∙◌}
+use Rattle.std.proofs.Common.{◌≡◌, ◌-◌, ◌∷◌, ◌++◌, [], List, length, remove, ap, ap₂, subst, ◌∙◌}
 use Rattle.sctp_data.specs.ChunkSet.{ChunkSet}
 use Rattle.sctp_serial.specs.Runs.{HasNoRun}
 use Rattle.sctp_reassembly.specs.reassembly_queue.ReassemblyQueue.{Reassembly, set_of_run, count_up}
+use Rattle.sctp_reassembly.specs.reassembly_queue.Loose.{Unassembled}
 use Rattle.sctp_reassembly.proofs.lemmas.reassembly_queue.ChunkSets.{state_of}
+use Rattle.sctp_reassembly.proofs.lemmas.reassembly_queue.Undone.{last_out}
 use Rattle.sctp_reassembly.proofs.reassembly_queue.ReassemblyQueue.push_unordered.Goals as goal
 
 pub returns-in-None-clause-ok : goal.returns-in-None-clause-ok
@@ -15,7 +17,7 @@ returns-in-None-clause-ok c =
         subst HasNoRun h.1 h.0,
         ap₂ (λ us ls. let r : Reassembly = record { next_ssn = q.next_ssn; ordered = q.ordered; unordered = us; unassembled = ls } in r) c.in_ok-reserve.ensures.items h.1,
       ),
-      ap (λ b. state_of q.si q.next_ssn q.ordered c.reserve.new.self.items c.put.new.self b q.max_message_size) counted,
+      ap₂ (λ b n. state_of q.si q.next_ssn q.ordered c.reserve.new.self.items c.put_undoable.new.self.chunks b q.max_message_size n) counted c.in_ok-run.ensures.places,
     )
 
 pub returns-in-Some-clause-ok : goal.returns-in-Some-clause-ok
@@ -32,5 +34,15 @@ returns-in-Some-clause-ok c =
         run = h.run;
         moved = ap₂ (λ us ls. let r : Reassembly = record { next_ssn = q.next_ssn; ordered = q.ordered; unordered = us; unassembled = ls } in r) more h.rest;
       },
-      ap (λ b. state_of q.si q.next_ssn q.ordered c.push_back_reserved.new.self.items c.put.new.self b q.max_message_size) counted,
+      ap₂ (λ b n. state_of q.si q.next_ssn q.ordered c.push_back_reserved.new.self.items c.put_undoable.new.self.chunks b q.max_message_size n) counted c.in_ok-run.ensures.places,
     )
+
+pub returns-in-Some-clause-undo : goal.returns-in-Some-clause-undo
+returns-in-Some-clause-undo c =
+    let q = c.self.inside in
+    let set = c.set_of_run.result in
+    let more = c.push_back_reserved.new.self.items in
+    let with_last : more ≡ q.unordered.items ++ set ∷ [] = c.push_back_reserved.ensures.items ∙ ap (λ us. us ++ set ∷ []) c.in_ok-reserve.ensures.items in
+    let left : remove more (length more - 1) ≡ q.unordered.items = ap (λ us. remove us (length us - 1)) with_last ∙ last_out q.unordered.items set in
+    rw (c.of.ensures, ← c.self.view_is)
+    (ap₂ (λ us (p : Unassembled). state_of q.si q.next_ssn q.ordered us p.chunks q.n_bytes q.max_message_size p.places) left c.in_ok-run.ensures.undo)

@@ -1,7 +1,7 @@
 use Rattle.std.proofs.Common.{◌≡◌, ◌-◌, ◌++◌, length, ap, ap₂, ◌∙◌, sym, subst, rules}
 use Rattle.std.specs.List.{filter}
 use Rattle.sctp_reassembly.specs.reassembly_queue.ReassemblyQueue.{IsCounted}
-use Rattle.sctp_reassembly.specs.reassembly_queue.Resets.{is_old_message, dropped_bytes, after_reset}
+use Rattle.sctp_reassembly.specs.reassembly_queue.Resets.{is_old_message, dropped_bytes}
 use Rattle.sctp_reassembly.proofs.lemmas.reassembly_queue.ByteCounts.{none_there}
 use Rattle.sctp_reassembly.proofs.lemmas.reassembly_queue.ChunkSets.{state_of}
 use Rattle.sctp_reassembly.proofs.lemmas.reassembly_queue.Resets.{reset_counted}
@@ -21,7 +21,7 @@ returns-clause-ok c =
     let last = c.args.last_tsn in
     let n = dropped_bytes last q.ordered in
     rw (← c.self.view_is) (c.release.ensures n c.end_use-gone.ensures.bytes
-    ∙ ap₂ (λ ord unord. state_of q.si 0 ord unord q.unordered_chunks (q.n_bytes - n) q.max_message_size) c.end_use-gone.ensures.rest (c.end_use-gone.ensures.moved ∙ ap (λ us. us ++ filter (is_old_message last) q.ordered) c.in_ok-reserve.ensures.items))
+    ∙ ap₂ (λ ord unord. state_of q.si 0 ord unord q.unordered_chunks.chunks (q.n_bytes - n) q.max_message_size q.unordered_chunks.places) c.end_use-gone.ensures.rest (c.end_use-gone.ensures.moved ∙ ap (λ us. us ++ filter (is_old_message last) q.ordered) c.in_ok-reserve.ensures.items))
 
 pub returns-clause-counted : goal.returns-clause-counted
 returns-clause-counted c h = subst IsCounted (sym (returns-clause-ok c)) (reset_counted c.args.last_tsn c.args.self.now h)

@@ -1,6 +1,5 @@
-use Rattle.std.proofs.Common.{◌≡◌, ◌-◌, ◌^◌, ◌≤◌, ◌++◌, length, take, drop, min}
+use Rattle.std.proofs.Common.{◌≡◌, ◌-◌, ◌^◌, ◌++◌, take, drop, min}
 use Rattle.std.specs.List.{filter}
-use Rattle.std.specs.VecDeque.{deque_capacity}
 use Rattle.sctp_reassembly.specs.reassembly_queue.Resets.{is_old_message, of_new_use, dropped_bytes}
 use Rattle.sctp_reassembly.proofs.reassembly_queue.resets.end_use.Given as goal
 

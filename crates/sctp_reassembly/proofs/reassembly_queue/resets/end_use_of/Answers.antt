@@ -1,4 +1,4 @@
-use Rattle.std.proofs.Common.{◌≡◌, ◌++◌, ap, sym, ◌∙◌}
+use Rattle.std.proofs.Common.{◌++◌, ap, sym, ◌∙◌}
 use Rattle.std.proofs.lemmas.List.{append-nil}
 use Rattle.sctp_reassembly.proofs.lemmas.reassembly_queue.Resets.{old_gone}
 use Rattle.sctp_reassembly.proofs.reassembly_queue.resets.end_use_of.Goals as goal

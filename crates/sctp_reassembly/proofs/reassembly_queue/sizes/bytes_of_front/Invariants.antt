@@ -3,4 +3,4 @@ use Rattle.sctp_serial.specs.DataChunks.{bytes_of}
 use Rattle.sctp_reassembly.proofs.reassembly_queue.sizes.bytes_of_front.Given as goal
 
 abbrev pub invariant-loop-place : goal.invariant-loop-place
-invariant-loop-place l = l.len ≡ min (bytes_of (take l.place l.unassembled)) (2 ^ 64 - 1)
+invariant-loop-place l = l.len ≡ min (bytes_of (take l.place l.unassembled.chunks)) (2 ^ 64 - 1)

@@ -6,9 +6,9 @@ use Rattle.sctp_reassembly.proofs.reassembly_queue.unassembled.run_start.Given a
 abbrev pub invariant-loop-next : goal.invariant-loop-next
 invariant-loop-next l = record {
   at_or_before : l.first ≤ l.place;
-  value : l.next ≡ get_or l.unassembled l.first l.next;
-  no_other : (k : ℕ) (d : ChunkPayloadData) → l.first < k → k ≤ l.place → (get_or l.unassembled k d).beginning_fragment ≡ false;
-  rising : IsRising l.unassembled l.first l.place;
+  value : l.next ≡ get_or l.unassembled.chunks l.first l.next;
+  no_other : (k : ℕ) (d : ChunkPayloadData) → l.first < k → k ≤ l.place → (get_or l.unassembled.chunks k d).beginning_fragment ≡ false;
+  rising : IsRising l.unassembled.chunks l.first l.place;
   cost : l.turns + l.first ≡ l.initial.turns + l.place;
 }
 

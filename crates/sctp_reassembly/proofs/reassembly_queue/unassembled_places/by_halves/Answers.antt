@@ -24,4 +24,4 @@ loop-low-preserved c =
     }
 
 pub returns-clause-place : goal.returns-clause-place
-returns-clause-place c = cut_place _ c.args.tsn c.loop-low.low c.requires.some (subst (λ h. Cut c.args.unassembled.now c.args.tsn c.loop-low.low h) {y = c.loop-low.low} (omega (arith, c.loop-low.invariant.cut.ordered)) c.loop-low.invariant.cut)
+returns-clause-place c = cut_place _ c.args.tsn c.loop-low.low c.requires.some (subst (λ h. Cut c.args.unassembled.now.chunks c.args.tsn c.loop-low.low h) {y = c.loop-low.low} (omega (arith, c.loop-low.invariant.cut.ordered)) c.loop-low.invariant.cut)

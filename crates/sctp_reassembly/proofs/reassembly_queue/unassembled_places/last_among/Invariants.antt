@@ -5,9 +5,9 @@ use Rattle.sctp_reassembly.proofs.reassembly_queue.unassembled_places.last_among
 
 abbrev pub invariant-loop-end : goal.invariant-loop-end
 invariant-loop-end l = record {
-  in_range : l.end ≤ length l.unassembled;
+  in_range : l.end ≤ length l.unassembled.chunks;
   not_back : l.initial.turns ≤ l.turns;
-  absent : list_any (has_tsn l.tsn) (drop l.end l.unassembled) ≡ false;
+  absent : list_any (has_tsn l.tsn) (drop l.end l.unassembled.chunks) ≡ false;
 }
 
 abbrev pub decreases-loop-end : goal.decreases-loop-end

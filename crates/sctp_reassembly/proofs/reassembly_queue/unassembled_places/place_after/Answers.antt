@@ -11,14 +11,14 @@ small_next n = omega arith
 
 pub returns-then-place-len-clause-none : goal.returns-then-place-len-clause-none
 returns-then-place-len-clause-none c =
-    let xs = c.args.unassembled.now in
+    let xs = c.args.unassembled.now.chunks in
     let n = c.args.tsn in
     let serial = mark_is_on _ xs c.if-not-is_serial.false c.is_serial.ensures in
     on_none (following_tsn n) xs (absent_after xs serial n c.ranges.tsn.fits c.args.place c.requires (following_tsn n) (small_next n) (after_one n c.ranges.tsn.fits) (λ d lt. absurd (omega arith)))
 
 pub returns-then-look-wanted-clause-none : goal.returns-then-look-wanted-clause-none
 returns-then-look-wanted-clause-none c =
-    let xs = c.args.unassembled.now in
+    let xs = c.args.unassembled.now.chunks in
     let n = c.args.tsn in
     let serial = mark_is_on _ xs c.if-not-is_serial.false c.is_serial.ensures in
     on_none (following_tsn n) xs (absent_after xs serial n c.ranges.tsn.fits c.args.place c.requires (following_tsn n) (small_next n) (after_one n c.ranges.tsn.fits)
@@ -26,7 +26,7 @@ returns-then-look-wanted-clause-none c =
 
 pub returns-clause-on : goal.returns-clause-on
 returns-clause-on c =
-    let xs = c.args.unassembled.now in
+    let xs = c.args.unassembled.now.chunks in
     let n = c.args.tsn in
     let serial = mark_is_on _ xs c.if-not-is_serial.false c.is_serial.ensures in
     let x = c.look.result.now in

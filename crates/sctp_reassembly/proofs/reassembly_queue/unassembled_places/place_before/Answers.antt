@@ -12,20 +12,20 @@ small_previous n = omega arith
 
 pub returns-then-place-eq0-clause-none : goal.returns-then-place-eq0-clause-none
 returns-then-place-eq0-clause-none c =
-    let xs = c.args.unassembled.now in
+    let xs = c.args.unassembled.now.chunks in
     let n = c.args.tsn in
     let serial = mark_is_on _ xs c.if-not-is_serial.false c.is_serial.ensures in
     back_none (preceding_tsn n) xs (absent_before xs serial n c.ranges.tsn.fits c.args.place c.requires (preceding_tsn n) (small_previous n) (before_one n c.ranges.tsn.fits) (λ d some. absurd (omega arith)) (λ d more is. absurd (omega arith)))
 
 pub look-requires : goal.look-requires
-look-requires c = omega (arith, place_upto c.args.tsn c.args.unassembled.now c.args.place c.requires)
+look-requires c = omega (arith, place_upto c.args.tsn c.args.unassembled.now.chunks c.args.place c.requires)
 
 pub returns-then-near-wanted-clause-in_range : goal.returns-then-near-wanted-clause-in_range
-returns-then-near-wanted-clause-in_range c = omega (arith, place_upto c.args.tsn c.args.unassembled.now c.args.place c.requires)
+returns-then-near-wanted-clause-in_range c = omega (arith, place_upto c.args.tsn c.args.unassembled.now.chunks c.args.place c.requires)
 
 pub returns-then-near-wanted-clause-back : goal.returns-then-near-wanted-clause-back
 returns-then-near-wanted-clause-back c =
-    let xs = c.args.unassembled.now in
+    let xs = c.args.unassembled.now.chunks in
     let n = c.args.tsn in
     let serial = mark_is_on _ xs c.if-not-is_serial.false c.is_serial.ensures in
     let x = c.look.result.now in
@@ -36,7 +36,7 @@ returns-then-near-wanted-clause-back c =
 
 pub returns-then-near-tsn-clause-none : goal.returns-then-near-tsn-clause-none
 returns-then-near-tsn-clause-none c =
-    let xs = c.args.unassembled.now in
+    let xs = c.args.unassembled.now.chunks in
     let n = c.args.tsn in
     let serial = mark_is_on _ xs c.if-not-is_serial.false c.is_serial.ensures in
     let x = c.look.result.now in
@@ -50,11 +50,11 @@ returns-then-near-tsn-clause-none c =
     ]))
 
 pub look-requires-2 : goal.look-requires-2
-look-requires-2 c = omega (arith, place_upto c.args.tsn c.args.unassembled.now c.args.place c.requires)
+look-requires-2 c = omega (arith, place_upto c.args.tsn c.args.unassembled.now.chunks c.args.place c.requires)
 
 pub returns-then-look-wanted-clause-none : goal.returns-then-look-wanted-clause-none
 returns-then-look-wanted-clause-none c =
-    let xs = c.args.unassembled.now in
+    let xs = c.args.unassembled.now.chunks in
     let n = c.args.tsn in
     let serial = mark_is_on _ xs c.if-not-is_serial.false c.is_serial.ensures in
     let within = place_upto n xs c.args.place c.requires in
@@ -63,11 +63,11 @@ returns-then-look-wanted-clause-none c =
     (λ d more is. other_at xs (c.args.place - 2) (preceding_tsn n) c.look-2.result.now (omega arith) c.look-2.ensures.value c.if-look-wanted.true d))
 
 pub returns-clause-in_range : goal.returns-clause-in_range
-returns-clause-in_range c = omega (arith, place_upto c.args.tsn c.args.unassembled.now c.args.place c.requires)
+returns-clause-in_range c = omega (arith, place_upto c.args.tsn c.args.unassembled.now.chunks c.args.place c.requires)
 
 pub returns-clause-back : goal.returns-clause-back
 returns-clause-back c =
-    let xs = c.args.unassembled.now in
+    let xs = c.args.unassembled.now.chunks in
     let n = c.args.tsn in
     let serial = mark_is_on _ xs c.if-not-is_serial.false c.is_serial.ensures in
     let x = c.look-2.result.now in

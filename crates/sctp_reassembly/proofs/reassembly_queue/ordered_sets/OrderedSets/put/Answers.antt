@@ -1,47 +1,77 @@
-use Rattle.std.proofs.Common.{◌<◌, length, map, get_or, set, refl, sym, ap, subst, ◌∙◌, Some, arith}
-use Rattle.std.specs.List.{position_or_len}
+use Rattle.std.proofs.Common.{◌≡◌, ◌≤◌, ◌<◌, ℕ, Bool, List, Option, length, map, get_or, set, refl, sym, ap, subst, ◌∙◌, Some, arith}
+use Rattle.std.specs.List.{position_or_len, remove}
+use Rattle.std.proofs.lemmas.List.{length-set}
+use Rattle.std.proofs.lemmas.List.Edits.{length-insert}
 use Rattle.sctp_data.specs.ChunkSet.{ChunkSet}
-use Rattle.sctp_reassembly.specs.reassembly_queue.Fragments.{is_complete, has_ssn, with_chunk, answer_with, new_set}
-use Rattle.sctp_serial.proofs.lemmas.ListEdits.{any_at, first_changed}
+use Rattle.sctp_data.specs.declared.chunk.chunk_payload_data.ChunkPayloadData.{ChunkPayloadData}
+use Rattle.sctp_reassembly.specs.reassembly_queue.Fragments.{is_complete, has_ssn, chunks_of_ssn, with_chunk, sets_with, answer_with, new_set}
+use Rattle.sctp_serial.proofs.lemmas.ListEdits.{any_at, first_changed, remove-insert}
 use Rattle.sctp_reassembly.proofs.lemmas.reassembly_queue.ChunkSets.{chunks_at, chunks_none}
 use Rattle.sctp_serial.specs.Ascending.{IsOrder, upper_half}
 use Rattle.std.proofs.Math.Seq.{map-set_same}
 use Rattle.sctp_reassembly.proofs.reassembly_queue.ordered_sets.OrderedSets.put.Goals as goal
 
-pub returns-in_ok-whole-in-Ok-clause-ok : goal.returns-in_ok-whole-in-Ok-clause-ok
-returns-in_ok-whole-in-Ok-clause-ok c =
-    let xs = c.self.inside.sets.items in
-    let x = c.args.chunk in
-    let ssn = x.stream_sequence_number in
-    let at = rw c.as_deque.ensures at c.in-Ok.ensures.there in
-    let d = new_set x in
-    let within : position_or_len (has_ssn ssn) xs < length xs = omega (arith, at.0, at.1) in
-    rw (← c.self.view_is, any_at (has_ssn ssn) xs within)
-    (c.in_ok-whole-in-Ok.ensures.ok d
-    ∙ ap (λ i. set xs i (with_chunk x (get_or xs i d))) at.0
-    ∙ sym (first_changed (has_ssn ssn) (with_chunk x) xs d))
+-- the place is that of the first set of the chunk's number
+abbrev IsThere : ChunkPayloadData → List ChunkSet → ℕ → Type 0
+IsThere x xs i = (i ≡ position_or_len (has_ssn x.stream_sequence_number) xs) × (i < length xs)
 
-pub returns-in_ok-whole-in-Ok-clause-answer : goal.returns-in_ok-whole-in-Ok-clause-answer
-returns-in_ok-whole-in-Ok-clause-answer c =
-    let xs = c.self.inside.sets.items in
-    let x = c.args.chunk in
-    let ssn = x.stream_sequence_number in
+module _ (x : ChunkPayloadData) (xs : List ChunkSet) (i : ℕ) (at : IsThere x xs i) where
+  -- the chunk in the first set of its number
+  put_there : (ys : List ChunkSet) → ((d : ChunkSet) → ys ≡ set xs i (with_chunk x (get_or xs i d))) → ys ≡ sets_with x xs
+  put_there ys put =
+      let ssn = x.stream_sequence_number in
+      let d = new_set x in
+      let within : position_or_len (has_ssn ssn) xs < length xs = omega (arith, at.0, at.1) in
+      rw (any_at (has_ssn ssn) xs within)
+      (put d ∙ ap (λ k. set xs k (with_chunk x (get_or xs k d))) at.0 ∙ sym (first_changed (has_ssn ssn) (with_chunk x) xs d))
+
+  -- and what it answers
+  answer_there : (answer : Option Bool)
+      → ((d : ChunkSet) → answer ≡ answer_with x (get_or xs i d).chunks) → answer ≡ answer_with x (chunks_of_ssn x.stream_sequence_number xs)
+  answer_there answer put =
+      let ssn = x.stream_sequence_number in
+      let d = new_set x in
+      let within : position_or_len (has_ssn ssn) xs < length xs = omega (arith, at.0, at.1) in
+      put d ∙ ap (λ k. answer_with x (get_or xs k d).chunks) at.0 ∙ ap (answer_with x) (sym (chunks_at ssn xs d within))
+
+pub returns-in_default-clause-ok : goal.returns-in_default-clause-ok
+returns-in_default-clause-ok c =
     let at = rw c.as_deque.ensures at c.in-Ok.ensures.there in
-    let d = new_set x in
-    let within : position_or_len (has_ssn ssn) xs < length xs = omega (arith, at.0, at.1) in
-    rw (← c.self.view_is)
-    (c.in_ok-whole-in-Ok.ensures.answer d
-    ∙ ap (λ i. answer_with x (get_or xs i d).chunks) at.0
-    ∙ ap (answer_with x) (sym (chunks_at ssn xs d within)))
+    rw (← c.self.view_is) (put_there c.args.chunk c.self.inside.sets.items c.in-Ok.set at _ c.in_ok-put-in-Ok.ensures.ok)
+
+pub returns-in_default-clause-answer : goal.returns-in_default-clause-answer
+returns-in_default-clause-answer c =
+    let at = rw c.as_deque.ensures at c.in-Ok.ensures.there in
+    rw (← c.self.view_is) (answer_there c.args.chunk c.self.inside.sets.items c.in-Ok.set at _ (rw c.in_default.is at c.in_ok-put-in-Ok.ensures.answer))
 
 pub invariant_of-self-in-Ok : goal.invariant_of-self-in-Ok
 invariant_of-self-in-Ok c =
     let num = (λ (s : ChunkSet). upper_half s.ssn) in
     let xs = c.self.inside.sets.items in
     let d = new_set c.args.chunk in
-    let same = map-set_same num xs c.in-Ok.place (with_chunk c.args.chunk (get_or xs c.in-Ok.place d)) d refl in
+    let same = map-set_same num xs c.in-Ok.set (with_chunk c.args.chunk (get_or xs c.in-Ok.set d)) d refl in
     let order = subst (IsOrder c.self.inside.ascending) (sym same) c.self.invariant in
-    subst (λ ys. IsOrder c.self.inside.ascending (map num ys)) (sym (c.in_ok-whole-in-Ok.ensures.ok d)) order
+    subst (λ ys. IsOrder c.self.inside.ascending (map num ys)) (sym (c.in_ok-put-in-Ok.ensures.ok d)) order
+
+pub returns-in-Some-clause-ok : goal.returns-in-Some-clause-ok
+returns-in-Some-clause-ok c =
+    let at = rw c.as_deque.ensures at c.in-Ok.ensures.there in
+    rw (← c.self.view_is) (put_there c.args.chunk c.self.inside.sets.items c.in-Ok.set at _ c.in_ok-put-in-Ok.ensures.ok)
+
+pub returns-in-Some-clause-answer : goal.returns-in-Some-clause-answer
+returns-in-Some-clause-answer c =
+    let at = rw c.as_deque.ensures at c.in-Ok.ensures.there in
+    rw (← c.self.view_is) (answer_there c.args.chunk c.self.inside.sets.items c.in-Ok.set at _ (rw c.in-Some.is at c.in_ok-put-in-Ok.ensures.answer))
+
+pub returns-in-Some-clause-undo : goal.returns-in-Some-clause-undo
+returns-in-Some-clause-undo c =
+    let xs = c.self.inside.sets.items in
+    let i = c.in-Ok.set in
+    let d = new_set c.args.chunk in
+    let at = rw c.as_deque.ensures at c.in-Ok.ensures.there in
+    let undo = rw c.in-Some.is at c.in_ok-put-in-Ok.ensures.undo in
+    let long = ap length (c.in_ok-put-in-Ok.ensures.ok d) in
+    ((omega (arith, at.1, long, length-set xs i (with_chunk c.args.chunk (get_or xs i d))), undo.0), undo.1 ∙ c.self.view_is)
 
 pub returns-in_ok-insert-in-Err-clause-answer : goal.returns-in_ok-insert-in-Err-clause-answer
 returns-in_ok-insert-in-Err-clause-answer c =
@@ -53,3 +83,13 @@ returns-in_ok-insert-in-Err-clause-answer c =
     (ap (λ b. Some b) c.is_complete-whole.ensures
     ∙ ap (λ (s : ChunkSet). Some (is_complete s.chunks)) c.in_ok-set-in-Err.ensures.ok
     ∙ ap (answer_with x) (sym (chunks_none ssn xs none)))
+
+pub returns-in_ok-insert-in-Err-clause-undo : goal.returns-in_ok-insert-in-Err-clause-undo
+returns-in_ok-insert-in-Err-clause-undo c =
+    let xs = c.self.inside.sets.items in
+    let i = c.in-Err.at.place in
+    let y = c.in_ok-set-in-Err.set in
+    let le : i ≤ length xs = omega (arith, c.in-Err.ensures.free.in_range, ap length c.as_deque.ensures) in (
+      omega (arith, le, length-insert xs i y le, ap length c.in_ok-insert-in-Err.ensures.ok),
+      ap (λ ys. remove ys i) c.in_ok-insert-in-Err.ensures.ok ∙ remove-insert xs i y le ∙ c.self.view_is,
+    )

@@ -4,12 +4,13 @@ use Rattle.sctp_data.specs.declared.chunk.chunk_payload_data.ChunkPayloadData.{C
 use Rattle.sctp_serial.specs.DataChunks.{bytes_of}
 use Rattle.sctp_serial.specs.Window.{IsSerial}
 use Rattle.sctp_reassembly.proofs.lemmas.reassembly_queue.SerialPlaces.{mark_is_on, serial_drop}
+use Rattle.sctp_reassembly.proofs.lemmas.reassembly_queue.Unassembled.{same_list, same_long, same_places, same_parts}
 use Rattle.sctp_reassembly.proofs.reassembly_queue.unassembled.Loose.drop_front.Goals as goal
 
 pub is_still_serial-self-inside-requires : goal.is_still_serial-self-inside-requires
 is_still_serial-self-inside-requires c on =
     let xs = c.self.inside.chunks.items in
-    subst IsSerial (sym c.loop-gone.invariant.rest) (serial_drop xs c.loop-gone._gone (omega (arith, ap length c.self.view_is, c.requires, c.loop-gone.auto._gone-end)) (mark_is_on _ xs (sym c.loop-gone.invariant.serial ∙ on) c.self.invariant.order))
+    subst IsSerial (sym c.loop-gone.invariant.rest) (serial_drop xs c.loop-gone._gone (omega (arith, same_long c.self.view_is, c.requires, c.loop-gone.auto._gone-end)) (mark_is_on _ xs (sym c.loop-gone.invariant.serial ∙ on) c.self.invariant.order))
 
 pub invariant_of-self : goal.invariant_of-self
 invariant_of-self c =
@@ -19,7 +20,8 @@ invariant_of-self c =
     record {
       counted = c.bytes_without-self-inside.ensures (bytes_of (take c.args.count xs)) (c.loop-gone.invariant.counted ∙ omega (arith, c.self.invariant.counted, all, ap bytes_of rest)) c.bytes_from-gone.ensures;
       order = c.is_still_serial-self-inside.ensures;
+      room = omega (arith, c.self.invariant.room, c.loop-gone.invariant.capacity, c.loop-gone.invariant.places);
     }
 
 pub returns : goal.returns
-returns c = c.loop-gone.invariant.rest ∙ ap₂ drop {x = c.loop-gone._gone} {y = c.args.count} (omega (arith, c.loop-gone.auto._gone-end)) c.self.view_is
+returns c = same_parts (c.loop-gone.invariant.rest ∙ ap₂ drop {x = c.loop-gone._gone} {y = c.args.count} (omega (arith, c.loop-gone.auto._gone-end)) (same_list c.self.view_is)) (c.loop-gone.invariant.places ∙ same_places c.self.view_is)

@@ -1,12 +1,12 @@
 use Rattle.std.proofs.Common.{sym, subst}
 use Rattle.sctp_reassembly.specs.reassembly_queue.ReassemblyQueue.{IsCounted}
 use Rattle.sctp_reassembly.proofs.lemmas.reassembly_queue.ByteCounts.{ordered_counted, unordered_counted, either, either_of}
-use Rattle.sctp_reassembly.proofs.reassembly_queue.ReassemblyQueue.push.Goals as goal
+use Rattle.sctp_reassembly.proofs.reassembly_queue.ReassemblyQueue.push_undoable.Goals as goal
 
 pub returns-then-chunk-clause-counted : goal.returns-then-chunk-clause-counted
 returns-then-chunk-clause-counted c fits h =
     either_of c.push_unordered.result c.push_unordered.ensures.ok c.push_unordered.ensures.err
-    (λ whole put. unordered_counted c.args.chunk c.args.self.now c.push_unordered.new.self whole put fits h)
+    (λ put pushed. unordered_counted c.args.chunk c.args.self.now c.push_unordered.new.self put.0 pushed fits h)
     (λ same. subst IsCounted (sym same) h)
 
 pub returns-else-chunk-clause-counted : goal.returns-else-chunk-clause-counted

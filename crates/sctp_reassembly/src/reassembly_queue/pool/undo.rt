@@ -1,0 +1,82 @@
+//! A fragment put among the unassembled ones so that it can be taken back.
+
+ghost use Rattle.std.specs.Prelude.{◌≡◌, ◌+◌, length, max, OnOk, OnErr, IfOk, IfErr, MatchOption};
+ghost use Rattle.sctp_base.specs.declared.error.Error.TheVariants.{ErrOutOfMemory};
+ghost use Rattle.sctp_list_lemmas.specs.Lists.{insert_before};
+ghost use Rattle.sctp_serial.specs.DataChunks.{chunk_before};
+ghost use Rattle.sctp_serial.specs.Runs.{HasNoRun};
+ghost use Rattle.sctp_reassembly.specs.reassembly_queue.Loose.{IsRunTaken, place_among};
+ghost use Rattle.sctp_reassembly.specs.reassembly_queue.PoolUndo.{CanUndoPut, pool_undone};
+
+use crate::reassembly_queue::pool::{Pool, is_searched_after, search};
+use crate::reassembly_queue::unassembled::InsertionUndo;
+use sctp_base::error::Result;
+use sctp_data::chunk::chunk_payload_data::ChunkPayloadData;
+use std::alloc::Global;
+
+/// What `put_undoable` did.
+#[derive(Drop)]
+pub(crate) struct PoolUndo {
+    put: InsertionUndo,
+    // as it was
+    searched: bool,
+}
+
+impl Pool {
+    /// Puts a fragment before the first that it comes before, and takes out the run
+    /// that ends earliest, if there is one. Answers that run's fragments, and what takes it all back.
+    /// Precondition: `place` is that place.
+    /// Refuses only for memory, and nothing changes then.
+    pub(crate) fn put_undoable(
+        &mut self,
+        alloc: Global,
+        place: usize,
+        chunk: ChunkPayloadData,
+    ) -> Result<(Option<Vec<ChunkPayloadData>>, PoolUndo)>
+        requires { place ≡ place_among chunk.tsn self.old.chunks }
+        ensures ok { IfOk result (λ r.
+            MatchOption r.0 (HasNoRun self.new.chunks
+            × (self.new.chunks ≡ insert_before chunk_before chunk self.old.chunks))
+            (λ chunks. IsRunTaken
+            (insert_before chunk_before chunk self.old.chunks) self.new.chunks chunks.items)) }
+        ensures places { OnOk result (self.new.places
+            ≡ max self.old.places (length self.old.chunks + 1)) }
+        ensures undo { IfOk result (λ r. pool_undone r.1 self.new ≡ self.old) }
+        ensures can { IfOk result (λ r. CanUndoPut r.1 self.new) }
+        ensures err { OnErr result (self.new ≡ self.old) }
+        ensures memory { IfErr result (λ e. e ≡ ErrOutOfMemory) }
+    {
+        let marks = self.unassembled.marks();
+        let searched = self.searched;
+        self.unassembled.insert(alloc, place, chunk)?;
+        let serial = self.unassembled.is_serial();
+        let Some((first, count)) = search(&self.unassembled, searched, place) else {
+            self.searched = true;
+            let put = InsertionUndo::new(place, 0, Vec::new(alloc), marks);
+            return Ok((None, PoolUndo { put, searched }));
+        };
+        match self.unassembled.take_range(alloc, first, count) {
+            Ok((chunks, kept)) => {
+                self.searched = is_searched_after(searched, serial);
+                let put = InsertionUndo::new(place, first, kept, marks);
+                Ok((Some(chunks), PoolUndo { put, searched }))
+            }
+            Err(e) => {
+                let put = InsertionUndo::new(place, 0, Vec::new(alloc), marks);
+                self.unassembled.put_back(put);
+                Err(e.into())
+            }
+        }
+    }
+
+    /// Takes back what `put_undoable` did. It takes no memory.
+    /// Precondition: `CanUndoPut`, which that call promises of what it left.
+    pub(crate) fn undo_put(&mut self, undo: PoolUndo)
+        requires { CanUndoPut undo self.old }
+        ensures { self.new ≡ pool_undone undo self.old }
+    {
+        let PoolUndo { put, searched } = undo;
+        self.unassembled.put_back(put);
+        self.searched = searched;
+    }
+}

@@ -1,0 +1,98 @@
+//! Chunks taken so that they can be taken back.
+
+ghost use Rattle.std.specs.Prelude.{◌≡◌, ◌==◌, ◌+◌, ◌^◌, ◌<◌, length, OnErr, IfOk, IfErr, IsOk, IsOkAnd, true, false, if◌then◌else◌};
+ghost use Rattle.sctp_reassembly.specs.reassembly_queue.ReassemblyQueue.{is_too_large, after_ordered_push, is_complete_with, PushesUnordered, IsCounted, held_bytes};
+ghost use Rattle.sctp_reassembly.specs.reassembly_queue.Undo.{undone, CanUndo};
+ghost use Rattle.sctp_base.specs.declared.error.Error.TheVariants.{ErrOutOfMemory, ErrInboundPacketTooLarge};
+
+use crate::reassembly_queue::ReassemblyQueue;
+use crate::reassembly_queue::ordered_sets::OrderedUndo;
+use crate::reassembly_queue::pool::undo::PoolUndo;
+use sctp_base::error::{Error, Result};
+use sctp_data::chunk::chunk_payload_data::ChunkPayloadData;
+
+/// What `push_undoable` did, so that `undo_push` can take it back.
+#[derive(Drop)]
+pub struct PushUndo {
+    change: PushChange,
+    // the byte count before
+    n_bytes: usize,
+}
+
+/// What a push changed in what is held.
+#[derive(Drop)]
+pub(crate) enum PushChange {
+    /// Nothing: the chunk was not kept.
+    NotKept,
+    /// An ordered chunk came.
+    Ordered(OrderedUndo),
+    /// An unordered chunk came, and no message became whole.
+    Unassembled(PoolUndo),
+    /// An unordered chunk came, and a message became whole.
+    Message(PoolUndo),
+}
+
+impl PushUndo {
+    /// The undo of this change, where the byte count was this one.
+    pub(crate) fn of(change: PushChange, n_bytes: usize) -> Self
+        ensures { result ≡ record { change = change; n_bytes = n_bytes } }
+    {
+        PushUndo { change, n_bytes }
+    }
+}
+
+impl ReassemblyQueue {
+    /// Takes a chunk as `push` does, and says how it is undone: `undo_push` makes the queue what it was before, so long as no
+    /// other call has changed it.
+    ///
+    /// Refuses as `push` does, and the queue is as it was then.
+    pub fn push_undoable(&mut self, chunk: ChunkPayloadData) -> Result<(bool, PushUndo)>
+        ensures other_stream { (chunk.stream_identifier == self.old.si) ≡ false
+            → IsOkAnd result (λ put. put.0 ≡ false) × (self.new ≡ self.old) }
+        ensures ordered { (chunk.stream_identifier == self.old.si) ≡ true → chunk.unordered ≡ false
+            → IfOk result (λ put. (self.new ≡ after_ordered_push chunk self.old)
+            × (put.0 ≡ is_complete_with chunk self.old.held)) }
+        ensures unordered { (chunk.stream_identifier == self.old.si) ≡ true → chunk.unordered ≡ true
+            → IfOk result (λ put. PushesUnordered chunk self.old self.new put.0) }
+        ensures undo { IfOk result (λ put. undone put.1 self.new ≡ self.old) }
+        ensures can { IfOk result (λ put. CanUndo put.1 self.new) }
+        ensures fits { IsOk result → is_too_large chunk self.old ≡ false }
+        ensures refused { IfErr result (λ e. e
+            ≡ (if is_too_large chunk self.old then ErrInboundPacketTooLarge else ErrOutOfMemory)) }
+        ensures err { OnErr result (self.new ≡ self.old) }
+        ensures counted { held_bytes self.old.held + length chunk.user_data < 2 ^ 64
+            → IsCounted self.old → IsCounted self.new }
+    {
+        if chunk.stream_identifier != self.si {
+            return Ok((false, PushUndo::of(PushChange::NotKept, self.n_bytes)));
+        }
+        let place = self.place_of(&chunk);
+        if self.is_too_large_at(&chunk, place) {
+            return Err(Error::ErrInboundPacketTooLarge);
+        }
+        if chunk.unordered {
+            self.push_unordered(chunk, place)
+        } else {
+            self.push_ordered(chunk)
+        }
+    }
+
+    /// Undoes a `push_undoable`: the queue is again what it was before that call. It takes no memory.
+    /// Precondition: `CanUndo`, which that call promises of the queue as it left it.
+    pub fn undo_push(&mut self, undo: PushUndo)
+        requires { CanUndo undo self.old }
+        ensures { self.new ≡ undone undo self.old }
+    {
+        let PushUndo { change, n_bytes } = undo;
+        match change {
+            PushChange::NotKept => {}
+            PushChange::Ordered(put) => self.ordered.undo_put(put),
+            PushChange::Unassembled(put) => self.unordered_chunks.undo_put(put),
+            PushChange::Message(put) => {
+                self.unordered_chunks.undo_put(put);
+                self.unordered.remove_last();
+            }
+        }
+        self.n_bytes = n_bytes;
+    }
+}
