@@ -1,5 +1,5 @@
 -- Several DATA chunks, one after another.
-use Rattle.std.proofs.Common.{◌≡◌, ℕ, List, [], ◌∷◌, ◌++◌, take, Some, refl, ap, sym, ◌∙◌, subst, arith, true, false, Bool, inl, inr}
+use Rattle.std.proofs.Common.{◌≡◌, ℕ, List, [], ◌∷◌, ◌++◌, take, Option, Some, refl, ap, sym, ◌∙◌, subst, arith, true, false, Bool, inl, inr}
 use Rattle.std.specs.Prelude.{slice_get, ◌⊎◌, ◌==◌, find, if◌then◌else◌}
 use Rattle.std.proofs.lemmas.Bool.Decides.{nat_tests}
 use Rattle.sctp_list_lemmas.specs.Lists.{change_where}
@@ -11,15 +11,24 @@ use Rattle.sctp_receiver.specs.declared.receiver.refusal.ReceiverRefusal.{Receiv
 use Rattle.sctp_receiver.specs.declared.receiver.refusal.ReceiverRefusal.TheVariants.{OutOfMemory}
 use Rattle.sctp_receiver.specs.declared.receiver.inbound_streams.InboundStream.{InboundStream}
 use Rattle.sctp_receiver.specs.Inbound.{numbers_of, number, has_number, with_queue}
-use Rattle.sctp_receiver.specs.Receiver.{Reception, Takes, TakesFirst, TakesEach, StopsAt, IsRefusedFor, arrival_refusal}
+use Rattle.sctp_receiver.specs.Receiver.{Reception, Takes, TakesFirstBy, TakesEachBy, StopsAtBy, IsRefusedFor}
 use Rattle.sctp_receiver.proofs.Inbounds.{pushed-number}
 
--- one more is taken
-pub takes-more : (cs : List ChunkPayloadData) (bs : List Arrival) (c : ChunkPayloadData) (a : Arrival) (old mid new : Reception) → TakesEach cs bs old mid → TakesFirst c a mid new → TakesEach (cs ++ c ∷ []) (bs ++ a ∷ []) old new
-takes-more [] [] c a old mid new t f = (new, (subst (λ r. TakesFirst c a r new) t f, refl))
-takes-more [] (b ∷ bs) c a old mid new t f = absurd t
-takes-more (d ∷ cs) [] c a old mid new t f = absurd t
-takes-more (d ∷ cs) (b ∷ bs) c a old mid new t f = (t.0, (t.1.0, takes-more cs bs c a t.0 mid new t.1.1 f))
+-- why a chunk is refused
+module _ (why : ChunkPayloadData → Reception → Option ReceiverRefusal) where
+  -- one more is taken
+  pub takes-more : (cs : List ChunkPayloadData) (bs : List Arrival) (c : ChunkPayloadData) (a : Arrival) (old mid new : Reception)
+      → TakesEachBy why cs bs old mid → TakesFirstBy why c a mid new → TakesEachBy why (cs ++ c ∷ []) (bs ++ a ∷ []) old new
+  takes-more [] [] c a old mid new t f = (new, (subst (λ r. TakesFirstBy why c a r new) t f, refl))
+  takes-more [] (b ∷ bs) c a old mid new t f = absurd t
+  takes-more (d ∷ cs) [] c a old mid new t f = absurd t
+  takes-more (d ∷ cs) (b ∷ bs) c a old mid new t f = (t.0, (t.1.0, takes-more cs bs c a t.0 mid new t.1.1 f))
+
+  -- the next one is refused, or memory ran out
+  pub stops : (cs : List ChunkPayloadData) (bs : List Arrival) (i : ℕ) (c : ChunkPayloadData) (old mid : Reception) (e : ReceiverRefusal)
+      → TakesEachBy why (take i cs) bs old mid → slice_get cs i ≡ Some c → IsRefusedFor (why c mid) e → (e ≡ OutOfMemory) ⊎ StopsAtBy why cs old e
+  stops cs bs i c old mid e t at (inl h) = inl h.0
+  stops cs bs i c old mid e t at (inr h) = inr (record { count = i; arrivals = bs; mid = mid; taken = t; chunk = c; next = at; refused = h })
 
 -- a chunk leaves the numbers of the streams
 changed-numbers : (s : ℕ) (q : ReassemblyState) → q.si ≡ s → (ls : List InboundStream) → numbers_of (change_where (has_number s) (with_queue q) ls) ≡ numbers_of ls
@@ -44,17 +53,3 @@ takes-keeps c (New complete) old new t =
     let same : t.queue.si ≡ c.stream_identifier = pushed-number c complete t.stream.queue t.queue t.pushed ∙ grind (arith, nat_tests, has) in
     (ap (λ (r : Reception). numbers_of r.streams) t.after ∙ changed-numbers c.stream_identifier t.queue same old.streams, ap (λ (r : Reception). r.max_message_size) t.after)
 takes-keeps c Repeat old new t = (ap (λ (r : Reception). numbers_of r.streams) t, ap (λ (r : Reception). r.max_message_size) t)
-
-pub each-keeps : (cs : List ChunkPayloadData) (bs : List Arrival) (old new : Reception) → TakesEach cs bs old new → (numbers_of new.streams ≡ numbers_of old.streams) × (new.max_message_size ≡ old.max_message_size)
-each-keeps [] [] old new t = (ap (λ (r : Reception). numbers_of r.streams) t, ap (λ (r : Reception). r.max_message_size) t)
-each-keeps [] (b ∷ bs) old new t = absurd t
-each-keeps (c ∷ cs) [] old new t = absurd t
-each-keeps (c ∷ cs) (b ∷ bs) old new t =
-    let one = takes-keeps c b old t.0 t.1.0.taken in
-    let others = each-keeps cs bs t.0 new t.1.1 in
-    (others.0 ∙ one.0, others.1 ∙ one.1)
-
--- the next one is refused, or memory ran out
-pub stops : (cs : List ChunkPayloadData) (bs : List Arrival) (i : ℕ) (c : ChunkPayloadData) (old mid : Reception) (e : ReceiverRefusal) → TakesEach (take i cs) bs old mid → slice_get cs i ≡ Some c → IsRefusedFor (arrival_refusal c mid) e → (e ≡ OutOfMemory) ⊎ StopsAt cs old e
-stops cs bs i c old mid e t at (inl h) = inl h.0
-stops cs bs i c old mid e t at (inr h) = inr (record { count = i; arrivals = bs; mid = mid; taken = t; chunk = c; next = at; refused = h })

@@ -14,6 +14,7 @@ use Rattle.sctp_list_lemmas.specs.Lists.{change_where}
 use Rattle.sctp_reassembly.specs.reassembly_queue.ReassemblyQueue.{Reassembly, ReassemblyState, after_ordered_push}
 use Rattle.sctp_receiver.specs.Ssns.{lowest_ssn, is_ssn_too_far, is_name_too_far}
 use Rattle.sctp_receiver.specs.Skips.{skip_refusal, past_closed_refusal}
+use Rattle.sctp_receiver.specs.Undo.{undo_of, retracted}
 use Rattle.sctp_receiver.specs.TsnFilter.{Filter, with_tsn, skipped_to, gap_ack_blocks, has_come, is_opposite}
 
 -- TSNs 15, 14 and 17 came beyond 12: so RFC 4960 3.3.4 shows its blocks
@@ -35,6 +36,15 @@ thirteen = refl
 sixteen : with_tsn 16 (with_tsn 13 to_seventeen) ≡ record { cumulative_tsn = 17; beyond = []; duplicates = []; room = 0 }
 unfolding distance comes_before
 sixteen = refl
+
+-- each is taken back
+thirteen_back : retracted (undo_of 13 to_seventeen) (with_tsn 13 to_seventeen) ≡ to_seventeen
+unfolding distance comes_before
+thirteen_back = refl
+
+fourteen_back : retracted (undo_of 14 (with_tsn 15 twelve)) (with_tsn 14 (with_tsn 15 twelve)) ≡ with_tsn 15 twelve
+unfolding distance comes_before
+fourteen_back = refl
 
 -- a skip to 13 goes on to 15
 skip : skipped_to 13 to_seventeen ≡ record { cumulative_tsn = 15; beyond = 17 ∷ []; duplicates = []; room = 0 }

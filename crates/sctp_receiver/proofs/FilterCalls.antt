@@ -115,10 +115,9 @@ module _ (c : ℕ) (q : Payload) (lt : c < 2 ^ 32) (marks : q.chunks ≡ map mar
 -- ## Calls as a complete: the view before is v
 
 module _ (c : ℕ) (q then' : Payload) (r : ℕ) (v : Filter) (view : filter_in c q ≡ v) (lt : c < 2 ^ 32) (marks : q.chunks ≡ map mark (tsns q.chunks)) (rise : rise_beyond c 1 (tsns q.chunks) ≡ true) where
-  pub after-next : (t : ℕ) → t ≡ following_tsn c → advance_over t (tsns q.chunks) ≡ record { cum = r; held = tsns then'.chunks } → then' ≡ with_chunks q then'.chunks → IsMoved (record { cum = r; held = tsns then'.chunks }) × (filter_in r then' ≡ record (with_tsn t v) { room = then'.room })
+  pub after-next : (t : ℕ) → t ≡ following_tsn c → advance_over t (tsns q.chunks) ≡ record { cum = r; held = tsns then'.chunks } → then' ≡ record q { chunks = then'.chunks; room = then'.room } → IsMoved (record { cum = r; held = tsns then'.chunks }) × (filter_in r then' ≡ record (with_tsn t v) { room = then'.room })
   after-next t is e rest =
-      let go : advance_over (following_tsn c) (tsns q.chunks) ≡ record { cum = r; held = tsns then'.chunks } = ap (λ u. advance_over u (tsns q.chunks)) (sym is) ∙ e in
-      let room : q.room ≡ then'.room = sym (ap (λ (p : Payload). p.room) rest) in (
+      let go : advance_over (following_tsn c) (tsns q.chunks) ≡ record { cum = r; held = tsns then'.chunks } = ap (λ u. advance_over u (tsns q.chunks)) (sym is) ∙ e in (
         subst IsMoved go (next-moved c q lt marks rise),
         ap (λ (d : List ℕ). let f : Filter = record { cumulative_tsn = r; beyond = tsns then'.chunks; duplicates = d; room = then'.room } in f) (ap (λ (p : Payload). p.duplicates) rest)
             ∙ ap (λ (s : Seen). let f : Filter = record { cumulative_tsn = s.cum; beyond = s.held; duplicates = q.duplicates; room = then'.room } in f) (sym go)

@@ -1,7 +1,9 @@
 pub mod TsnLists
 pub mod Marks
 pub mod FilterCalls
+pub mod Retracts
 pub mod Inbounds
+pub mod Undone
 pub mod Forwarded
 pub mod Receptions
 pub mod RepeatedNames

@@ -1,6 +1,6 @@
 -- What a receiver refuses, by the places of its streams and by its TSNs.
 use Rattle.std.proofs.Common.{◌≡◌, ℕ, ◌<◌, ◌≤◌, ◌^◌, true, false, List, Option, Some, None, refl, ap, sym, ◌∙◌, inl, inr, arith}
-use Rattle.std.specs.Prelude.{◌==◌, ◌||◌, ◌&&◌, not, if◌then◌else◌, is_some, MatchOption, slice_index_or}
+use Rattle.std.specs.Prelude.{◌==◌, if◌then◌else◌, is_some, MatchOption, slice_index_or}
 use Rattle.std.specs.Option.{option_or}
 use Rattle.std.proofs.lemmas.Bool.Decides.{nat_tests}
 use Rattle.std.proofs.lemmas.List.{get_or_default}
@@ -14,13 +14,19 @@ use Rattle.sctp_receiver.specs.declared.receiver.refusal.ReceiverRefusal.TheVari
 use Rattle.sctp_stream.specs.Numbers.{IsOnlyPlace, IsAbsent}
 use Rattle.sctp_receiver.specs.Inbound.{number, numbers_of, has_number, new_stream, stream_read}
 use Rattle.sctp_receiver.specs.TsnFilter.{Filter, has_come, is_opposite}
-use Rattle.sctp_receiver.specs.Receiver.{Reception, stream_of, is_open, filter_of, data_refusal, new_refusal, stream_refusal, takes_memory, after_read}
+use Rattle.sctp_receiver.specs.Limits.{refusal_by}
+use Rattle.sctp_receiver.specs.Receiver.{Reception, stream_of, is_open, filter_of, data_refusal, new_refusal, stream_refusal, after_read}
 use Rattle.sctp_receiver.proofs.Inbounds.{stays-changed}
 use Rattle.sctp_stream.proofs.StreamPlaces.{absent-find, inside, found}
 
 -- a receiver as its parts say
 abbrev pub reception_in : List InboundStream → Filter → ℕ → Option Limits → Reception
 reception_in streams f max limits = record { streams = streams; cumulative_tsn = f.cumulative_tsn; beyond = f.beyond; duplicates = f.duplicates; max_message_size = max; limits = limits }
+
+-- limits don't look at the room of the TSNs
+pub any-room : (l : Option Limits) (t : ℕ) (f : Filter) (ls : List InboundStream) → refusal_by l t (record f { room = 0 }) ls ≡ refusal_by l t f ls
+any-room None t f ls = refl
+any-room (Some l) t f ls = refl
 
 module _ (r : Reception) (s : ℕ) where
   pub closed : IsAbsent s (numbers_of r.streams) → stream_of s r ≡ None
@@ -46,12 +52,6 @@ unknown c r fresh near within closed =
     ∙ ap (λ b. if b then Some TsnOpposite else option_or (new_refusal c.tsn r) (stream_refusal c (stream_of c.stream_identifier r))) near
     ∙ ap (λ o. option_or o (stream_refusal c (stream_of c.stream_identifier r))) within
     ∙ ap (stream_refusal c) closed
-
-pub wanted : (c : ChunkPayloadData) (r : Reception) → has_come c.tsn (filter_of r) ≡ false → is_opposite c.tsn (filter_of r) ≡ false → is_open c.stream_identifier r ≡ true → takes_memory c r ≡ true
-wanted c r fresh near open' =
-    ap (λ b. b || (not (is_opposite c.tsn (filter_of r)) && is_open c.stream_identifier r)) fresh
-    ∙ ap (λ b. not b && is_open c.stream_identifier r) near
-    ∙ open'
 
 -- what is neither at or before nor opposite comes after
 pub after : (c t : ℕ) → c < 2 ^ 32 → t < 2 ^ 32 → (distance c t == 2 ^ 31) ≡ false → at_or_before t c ≡ false → comes_before c t ≡ true

@@ -58,9 +58,9 @@ skip-again last h q =
     let bytes = q.bytes - set_bytes (filter (is_passed last) q.held.ordered) in
     let next = if at_or_before16 q.held.next_ssn last then (last + 1) % 2 ^ 16 else q.held.next_ssn in
     let same : bytes - 0 ≡ bytes = omega arith in
-    ap₂ (λ gone stay. state_of q.si (if at_or_before16 next last then (last + 1) % 2 ^ 16 else next) stay q.held.unordered q.held.unassembled (bytes - set_bytes gone) q.max_message_size)
+    ap₂ (λ gone stay. state_of q.si (if at_or_before16 next last then (last + 1) % 2 ^ 16 else next) stay q.held.unordered q.held.unassembled (bytes - set_bytes gone) q.max_message_size q.places)
     (none-again (is_passed last) q.held.ordered) (kept-again (is_passed last) q.held.ordered)
-    ∙ ap₂ (λ n b. state_of q.si n stays q.held.unordered q.held.unassembled b q.max_message_size) (settled-next q.held.next_ssn last h) same
+    ∙ ap₂ (λ n b. state_of q.si n stays q.held.unordered q.held.unassembled b q.max_message_size q.places) (settled-next q.held.next_ssn last h) same
 
 -- what a name makes of the streams it makes once
 pub name-again : (s last : ℕ) → last < 2 ^ 16 → (ls : List InboundStream) → change_where (has_number s) (ssn_forwarded last) (change_where (has_number s) (ssn_forwarded last) ls) ≡ change_where (has_number s) (ssn_forwarded last) ls

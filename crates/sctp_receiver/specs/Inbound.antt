@@ -35,6 +35,7 @@ new_stream s max = record {
         };
         bytes = 0;
         max_message_size = max;
+        places = 0;
       };
   stats =
       record {

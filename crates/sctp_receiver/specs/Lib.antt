@@ -7,3 +7,4 @@ pub mod Ssns
 pub mod Resets
 pub mod Skips
 pub mod ReceiverRuns
+pub mod Undo

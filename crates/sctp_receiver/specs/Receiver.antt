@@ -1,5 +1,5 @@
 -- The receiving half of a link as callers see it (RFC 4960 6; RFC 3758 3.6).
-use Rattle.std.specs.Prelude.{◌≡◌, ◌⊎◌, ℕ, Bool, false, not, ◌&&◌, ◌||◌, if◌then◌else◌, ◌-◌, ◌/◌, min, List, [], ◌∷◌, ◌++◌, length, map, take, drop, slice_get, Option, Some, None, is_some}
+use Rattle.std.specs.Prelude.{◌≡◌, ◌⊎◌, ℕ, Bool, true, false, not, ◌&&◌, ◌||◌, if◌then◌else◌, ◌-◌, ◌/◌, min, List, [], ◌∷◌, ◌++◌, length, map, take, drop, slice_get, Option, Some, None, is_some}
 use Rattle.std.specs.List.{find, filter}
 use Rattle.std.specs.Option.{option_or}
 use Rattle.sctp_list_lemmas.specs.Lists.{change_where}
@@ -133,29 +133,44 @@ abbrev pub Takes : ChunkPayloadData → Arrival → Reception → Reception → 
 Takes c (New complete) old new = Accepts c complete old new
 Takes c Repeat old new = new ≡ repeat_tsn c.tsn old
 
--- several, one after another: none is refused, and each has its answer
-pub record TakesFirst (c : ChunkPayloadData) (a : Arrival) (old mid : Reception) : Type 0 where
-  pub accepted : arrival_refusal c old ≡ None
+-- the same, whatever the stream sequence number where any is taken
+abbrev pub refusal_for : Bool → ChunkPayloadData → Reception → Option ReceiverRefusal
+refusal_for true = data_refusal
+refusal_for false = arrival_refusal
+
+-- several, one after another, and why a chunk is refused is handed in: none is, and each has its answer
+pub record TakesFirstBy (refusal : ChunkPayloadData → Reception → Option ReceiverRefusal)
+    (c : ChunkPayloadData) (a : Arrival) (old mid : Reception) : Type 0 where
+  pub accepted : refusal c old ≡ None
   pub answer : a ≡ arrival_of c.tsn (is_told_complete a) old
   pub taken : Takes c a old mid
 
-abbrev pub TakesEach : List ChunkPayloadData → List Arrival → Reception → Reception → Type 0
-TakesEach [] [] old new = new ≡ old
-TakesEach (c ∷ cs) (a ∷ answers) old new =
-    (mid : Reception) × (TakesFirst c a old mid × TakesEach cs answers mid new)
-TakesEach [] (a ∷ answers) old new = ⊥
-TakesEach (c ∷ cs) [] old new = ⊥
+abbrev pub TakesEachBy : (ChunkPayloadData → Reception → Option ReceiverRefusal)
+    → List ChunkPayloadData → List Arrival → Reception → Reception → Type 0
+TakesEachBy refusal [] [] old new = new ≡ old
+TakesEachBy refusal (c ∷ cs) (a ∷ answers) old new =
+    (mid : Reception)
+    × (TakesFirstBy refusal c a old mid × TakesEachBy refusal cs answers mid new)
+TakesEachBy refusal [] (a ∷ answers) old new = ⊥
+TakesEachBy refusal (c ∷ cs) [] old new = ⊥
 
 -- so many of them are taken, and the next one is refused for this reason
-pub record StopsAt (cs : List ChunkPayloadData) (old : Reception)
-    (e : ReceiverRefusal) : Type 0 where
+pub record StopsAtBy (refusal : ChunkPayloadData → Reception → Option ReceiverRefusal)
+    (cs : List ChunkPayloadData) (old : Reception) (e : ReceiverRefusal) : Type 0 where
   pub count : ℕ
   pub arrivals : List Arrival
   pub mid : Reception
-  pub taken : TakesEach (take count cs) arrivals old mid
+  pub taken : TakesEachBy refusal (take count cs) arrivals old mid
   pub chunk : ChunkPayloadData
   pub next : slice_get cs count ≡ Some chunk
-  pub refused : arrival_refusal chunk mid ≡ Some e
+  pub refused : refusal chunk mid ≡ Some e
+
+-- the same, with the test of the stream sequence number
+abbrev pub TakesEach : List ChunkPayloadData → List Arrival → Reception → Reception → Type 0
+TakesEach = TakesEachBy arrival_refusal
+
+abbrev pub StopsAt : List ChunkPayloadData → Reception → ReceiverRefusal → Type 0
+StopsAt = StopsAtBy arrival_refusal
 
 -- whether memory may be asked for: a duplicate is to be noted, or a fragment to be kept
 abbrev pub takes_memory : ChunkPayloadData → Reception → Bool

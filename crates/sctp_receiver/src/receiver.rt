@@ -16,12 +16,14 @@ pub mod sack_out;
 pub mod saved;
 pub mod skipping;
 mod ssns;
+pub(crate) mod taking;
 pub mod tsn_filter;
 
 use self::arrival::{Arrival, Forwarded};
 use self::inbound_streams::{InboundStream, InboundStreams};
 use self::limits::Limits;
 use self::refusal::ReceiverRefusal;
+use self::taking::{Rules, take};
 use self::tsn_filter::TsnFilter;
 use sctp_base::util::sna32lte;
 use sctp_data::chunk::chunk_forward_tsn::{ChunkForwardTsn, ChunkForwardTsnStream};
@@ -69,7 +71,7 @@ impl Receiver {
     ghost use Rattle.sctp_receiver.specs.Ssns.{is_kept_on};
     ghost use Rattle.sctp_receiver.specs.TsnFilter.{has_come, mark};
     ghost use Rattle.sctp_serial.specs.DataChunks.{bytes_of};
-    ghost use Rattle.sctp_receiver.specs.Receiver.{at_first, filter_of, stream_of, is_open, open_stream, close_stream, data_refusal, arrival_refusal, IsRefusedFor, takes_memory, arrival_of, is_told_complete, Takes, discard_refusal, after_discard, message_on, readable_streams, after_read, forward_refusal, forwarded_of, after_forward};
+    ghost use Rattle.sctp_receiver.specs.Receiver.{at_first, filter_of, stream_of, is_open, open_stream, close_stream, data_refusal, arrival_refusal, refusal_for, IsRefusedFor, takes_memory, arrival_of, is_told_complete, Takes, discard_refusal, after_discard, message_on, readable_streams, after_read, forward_refusal, forwarded_of, after_forward};
 
     /// A receiver with no stream, to which nothing came. The first TSN is expected next, and a message may have
     /// `max_message_size` bytes. The limits stay as they are handed in; where there are none, nothing is refused for them. It takes no
@@ -139,10 +141,7 @@ impl Receiver {
             → takes_memory chunk.now self.old ≡ true) }
         ensures err { OnErr result (self.new ≡ self.old) }
     {
-        if self.is_new_too_far(chunk) {
-            return Err(ReceiverRefusal::SsnTooFar);
-        }
-        self.data_with_any_ssn(chunk)
+        self.take(chunk, false)
     }
 
     /// Takes a DATA chunk as `data` does, but for `SsnTooFar`: an ordered one of any stream sequence number, as a replay of a record
@@ -160,25 +159,42 @@ impl Receiver {
             → takes_memory chunk.now self.old ≡ true) }
         ensures err { OnErr result (self.new ≡ self.old) }
     {
-        if self.filter.has_come(chunk.tsn) {
-            self.filter.record_duplicate(chunk.tsn)?;
-            return Ok(Arrival::Repeat);
+        self.take(chunk, true)
+    }
+
+    // Takes a DATA chunk, an ordered one of any stream sequence number or not, and how it could be taken back is dropped.
+    fn take(&mut self, chunk: &ChunkPayloadData, any_ssn: bool) -> Result<Arrival, ReceiverRefusal>
+        ensures answer { IfOk result (λ arrival. arrival
+            ≡ arrival_of chunk.now.tsn (is_told_complete arrival) self.old) }
+        ensures ok { IfOk result (λ arrival. Takes chunk.now arrival self.old self.new) }
+        ensures accepted { IsOk result → refusal_for any_ssn chunk.now self.old ≡ None }
+        ensures kept { IsOk result → any_ssn ≡ false
+            → has_come chunk.now.tsn (filter_of self.old) ≡ false
+            → is_kept_on chunk.now (stream_of chunk.now.stream_identifier self.old) ≡ true }
+        ensures refused { IfErr result
+            (λ e. IsRefusedFor (refusal_for any_ssn chunk.now self.old) e) }
+        ensures wants { IfErr result (λ e. e ≡ OutOfMemory
+            → takes_memory chunk.now self.old ≡ true) }
+        ensures err { OnErr result (self.new ≡ self.old) }
+    {
+        let rules = self.rules(any_ssn);
+        let (arrival, _) = take(&mut self.streams, &mut self.filter, rules, chunk)?;
+        Ok(arrival)
+    }
+
+    // By what it takes chunks.
+    pub(crate) fn rules(&self, any_ssn: bool) -> Rules
+        ensures { result ≡ record {
+          any_ssn = any_ssn;
+          max_message_size = self.now.max_message_size;
+          limits = self.now.limits;
+        } }
+    {
+        Rules {
+            any_ssn,
+            max_message_size: self.max_message_size,
+            limits: self.limits,
         }
-        if self.filter.is_opposite(chunk.tsn) {
-            return Err(ReceiverRefusal::TsnOpposite);
-        }
-        if let Some(refusal) = self.new_refusal(chunk.tsn) {
-            return Err(refusal);
-        }
-        let Some(place) = self.streams.place_of(chunk.stream_identifier) else {
-            return Err(ReceiverRefusal::StreamUnknown);
-        };
-        if self.filter.reserve_for(chunk.tsn).is_err() {
-            return Err(self.streams.refusal_at(place, chunk));
-        }
-        let complete = self.streams.push_at(place, chunk)?;
-        self.filter.accept(chunk.tsn);
-        Ok(Arrival::New { complete })
     }
 
     /// Takes the TSN of a DATA chunk that is dropped, as one of a stream that is not open, or of a message that is too long (RFC 4960

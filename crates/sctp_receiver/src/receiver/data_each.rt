@@ -1,20 +1,26 @@
 //! The DATA chunks of a datagram (RFC 4960 6.10).
 
-ghost use Rattle.std.specs.Prelude.{◌≡◌, ◌⊎◌, ◌∷◌, [], OnErr, IfOk, IfErr, length};
+ghost use Rattle.std.specs.Prelude.{◌≡◌, ◌⊎◌, ◌≤◌, [], OnErr, IfOk, IfErr};
+ghost use Rattle.std.specs.Vec.{vec_capacity};
 ghost use Rattle.sctp_receiver.specs.declared.receiver.refusal.ReceiverRefusal.TheVariants.{OutOfMemory};
-ghost use Rattle.sctp_receiver.specs.Inbound.{numbers_of};
-ghost use Rattle.sctp_receiver.specs.Receiver.{TakesEach, StopsAt};
+ghost use Rattle.sctp_receiver.specs.Receiver.{TakesEach, TakesEachBy, StopsAt, StopsAtBy, data_refusal, refusal_for};
+ghost use Rattle.sctp_receiver.specs.Undo.{parts, reception_of};
 
 use crate::receiver::Receiver;
 use crate::receiver::arrival::Arrival;
+use crate::receiver::inbound_streams::InboundStreams;
 use crate::receiver::refusal::ReceiverRefusal;
+use crate::receiver::taking::{ChunkUndo, Rules, take, undo_each};
+use crate::receiver::tsn_filter::TsnFilter;
 use sctp_data::chunk::chunk_payload_data::ChunkPayloadData;
 use sctp_stream::stream_numbers::put;
+use std::alloc::Global;
 
 impl Receiver {
     /// Takes DATA chunks one after another, each as `data` takes it, and answers what each was. The first one that is refused refuses
-    /// them all, with its refusal; `OutOfMemory` may come in the place of any other, since room for the answers, and a copy of what
-    /// is kept, is taken before. The receiver is as it was before the first chunk. Of one chunk alone no copy is made.
+    /// them all, with its refusal; `OutOfMemory` may come in the place of any other, since room for the answers is taken before. The
+    /// receiver is as it was before the first chunk: those before the refused one are taken back, the last one first. Two chunks cost
+    /// what twice one costs, whatever is held.
     pub fn data_each(
         &mut self,
         chunks: &[ChunkPayloadData],
@@ -24,49 +30,91 @@ impl Receiver {
         ensures refused { IfErr result (λ e. (e ≡ OutOfMemory) ⊎ StopsAt chunks.now self.old e) }
         ensures err { OnErr result (self.new ≡ self.old) }
     {
-        if chunks.len() == 1 {
-            return self.take_one(&chunks[0]);
-        }
-        let saved = self.save()?;
-        let taken = self.take_each(chunks);
-        if taken.is_err() {
-            self.restore(saved);
-        }
-        taken
+        self.take_all(chunks, false)
     }
 
-    // Takes one chunk, and nothing is copied.
-    fn take_one(&mut self, chunk: &ChunkPayloadData) -> Result<Vec<Arrival>, ReceiverRefusal>
+    /// Takes DATA chunks as `data_each` does, but for `SsnTooFar`: ordered ones of any stream sequence number (`data_with_any_ssn`).
+    pub fn data_each_with_any_ssn(
+        &mut self,
+        chunks: &[ChunkPayloadData],
+    ) -> Result<Vec<Arrival>, ReceiverRefusal>
         ensures ok { IfOk result (λ arrivals.
-            TakesEach (chunk.now ∷ []) arrivals.items self.old self.new) }
+            TakesEachBy data_refusal chunks.now arrivals.items self.old self.new) }
         ensures refused { IfErr result (λ e. (e ≡ OutOfMemory)
-            ⊎ StopsAt (chunk.now ∷ []) self.old e) }
+            ⊎ StopsAtBy data_refusal chunks.now self.old e) }
         ensures err { OnErr result (self.new ≡ self.old) }
     {
-        let mut arrivals = Vec::new(self.alloc);
-        if arrivals.reserve(1).is_err() {
-            return Err(ReceiverRefusal::OutOfMemory);
-        }
-        let arrival = self.data(chunk)?;
-        put(&mut arrivals, arrival);
-        Ok(arrivals)
+        self.take_all(chunks, true)
     }
 
-    // Takes chunks one after another, up to the first one that is refused.
-    fn take_each(&mut self, chunks: &[ChunkPayloadData]) -> Result<Vec<Arrival>, ReceiverRefusal>
+    // Takes them all, or none.
+    fn take_all(
+        &mut self,
+        chunks: &[ChunkPayloadData],
+        any_ssn: bool,
+    ) -> Result<Vec<Arrival>, ReceiverRefusal>
         ensures ok { IfOk result (λ arrivals.
-            TakesEach chunks.now arrivals.items self.old self.new) }
-        ensures refused { IfErr result (λ e. (e ≡ OutOfMemory) ⊎ StopsAt chunks.now self.old e) }
-        ensures numbers { numbers_of self.new.streams ≡ numbers_of self.old.streams }
-        ensures size { self.new.max_message_size ≡ self.old.max_message_size }
+            TakesEachBy (refusal_for any_ssn) chunks.now arrivals.items self.old self.new) }
+        ensures refused { IfErr result (λ e. (e ≡ OutOfMemory)
+            ⊎ StopsAtBy (refusal_for any_ssn) chunks.now self.old e) }
+        ensures err { OnErr result (self.new ≡ self.old) }
     {
-        let mut arrivals = Vec::new(self.alloc);
-        for chunk in chunks {
-            let arrival = self.data(chunk)?;
-            if arrivals.push(arrival).is_err() {
-                return Err(ReceiverRefusal::OutOfMemory);
+        let rules = self.rules(any_ssn);
+        take_each(
+            self.alloc,
+            &mut self.streams,
+            &mut self.filter,
+            rules,
+            chunks,
+        )
+    }
+}
+
+// Takes chunks one after another, up to the first one that is refused: then those before it are taken back.
+fn take_each(
+    alloc: Global,
+    streams: &mut InboundStreams,
+    filter: &mut TsnFilter,
+    rules: Rules,
+    chunks: &[ChunkPayloadData],
+) -> Result<Vec<Arrival>, ReceiverRefusal>
+    ensures ok { IfOk result (λ arrivals. TakesEachBy (refusal_for rules.any_ssn)
+        chunks.now arrivals.items
+        (reception_of rules (parts streams.old filter.old))
+        (reception_of rules (parts streams.new filter.new))) }
+    ensures refused { IfErr result (λ e. (e ≡ OutOfMemory)
+        ⊎ StopsAtBy (refusal_for rules.any_ssn) chunks.now
+        (reception_of rules (parts streams.old filter.old)) e) }
+    ensures err { OnErr result (parts streams.new filter.new ≡ parts streams.old filter.old) }
+{
+    let (mut arrivals, mut undos) = room_for(alloc, chunks.len())?;
+    for chunk in chunks {
+        match take(streams, filter, rules, chunk) {
+            Ok((arrival, undo)) => {
+                put(&mut arrivals, arrival);
+                put(&mut undos, undo);
+            }
+            Err(refusal) => {
+                undo_each(streams, filter, undos);
+                return Err(refusal);
             }
         }
-        Ok(arrivals)
     }
+    Ok(arrivals)
+}
+
+// Room for the answers of so many chunks, and for how each is taken back.
+fn room_for(alloc: Global, count: usize) -> Result<(Vec<Arrival>, Vec<ChunkUndo>), ReceiverRefusal>
+    ensures arrivals { IfOk result (λ made. made.0.items ≡ []) }
+    ensures arrivals_fit { IfOk result (λ made. count ≤ vec_capacity made.0) }
+    ensures undos { IfOk result (λ made. made.1.items ≡ []) }
+    ensures undos_fit { IfOk result (λ made. count ≤ vec_capacity made.1) }
+    ensures memory { IfErr result (λ e. e ≡ OutOfMemory) }
+{
+    let mut arrivals = Vec::new(alloc);
+    let mut undos = Vec::new(alloc);
+    if arrivals.reserve(count).is_err() || undos.reserve(count).is_err() {
+        return Err(ReceiverRefusal::OutOfMemory);
+    }
+    Ok((arrivals, undos))
 }

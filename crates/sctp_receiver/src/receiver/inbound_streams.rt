@@ -7,17 +7,20 @@ ghost use Rattle.sctp_list_lemmas.specs.Lists.{change_where};
 ghost use Rattle.sctp_receiver.specs.declared.receiver.refusal.ReceiverRefusal.TheVariants.{MessageTooLarge, OutOfMemory};
 ghost use Rattle.sctp_stream.specs.Numbers.{IsOnlyPlace, IsAbsent};
 ghost use Rattle.sctp_reassembly.specs.reassembly_queue.ReassemblyQueue.{is_too_large};
+ghost use Rattle.sctp_reassembly.specs.reassembly_queue.Undo.{CanUndo};
 ghost use Rattle.sctp_receiver.specs.Inbound.{unassembled_forwarded};
 ghost use Rattle.sctp_receiver.specs.Limits.{held_cost};
 ghost use Rattle.sctp_receiver.specs.Receiver.{readable_streams};
 ghost use Rattle.sctp_receiver.specs.Resets.{stream_reset, keeps_message};
 ghost use Rattle.sctp_receiver.specs.Skips.{incomplete_forwarded};
+ghost use Rattle.sctp_receiver.specs.Undo.{stream_undone, undone_on, CanUndoOn};
 
 use crate::receiver::limits::{cost_of, cost_of_each};
 use crate::receiver::refusal::ReceiverRefusal;
 use sctp_data::chunk::chunk_payload_data::ChunkPayloadData;
 use sctp_reassembly::chunks::Chunks;
 use sctp_reassembly::reassembly_queue::ReassemblyQueue;
+use sctp_reassembly::reassembly_queue::undo::PushUndo;
 use sctp_stream::stream::DataChannelStats;
 use sctp_stream::stream_numbers::{StreamNumbers, put};
 use std::alloc::Global;
@@ -64,13 +67,19 @@ impl InboundStream {
         })
     }
 
-    /// Takes a fragment, and answers whether a message became complete by it. Refuses with `MessageTooLarge`, exactly where
-    /// its message would be longer with it than a message may be, or for memory. The stream is as it was then.
+    /// Takes a fragment, and answers whether a message became complete by it, and what `undo_push` takes it back by. Refuses with
+    /// `MessageTooLarge`, exactly where its message would be longer with it than a message may be, or for memory. The stream is as it
+    /// was then.
     /// Precondition: the fragment is of this stream.
-    pub fn push(&mut self, chunk: &ChunkPayloadData) -> Result<bool, ReceiverRefusal>
+    pub fn push_undoable(
+        &mut self,
+        chunk: &ChunkPayloadData,
+    ) -> Result<(bool, PushUndo), ReceiverRefusal>
         requires { (chunk.now.stream_identifier == self.old.queue.si) ≡ true }
-        ensures ok { IfOk result (λ complete.
-            Pushes chunk.now complete self.old.queue self.new.queue) }
+        ensures ok { IfOk result (λ put.
+            Pushes chunk.now put.0 self.old.queue self.new.queue) }
+        ensures undo { IfOk result (λ put. stream_undone put.1 self.new ≡ self.old) }
+        ensures can { IfOk result (λ put. CanUndo put.1 self.new.queue) }
         ensures rest { self.new ≡ record self.old { queue = self.new.queue } }
         ensures fits { IsOk result → is_too_large chunk.now self.old.queue ≡ false }
         ensures refused { IfErr result (λ e.
@@ -80,7 +89,16 @@ impl InboundStream {
         let Ok(fragment) = chunk.try_clone() else {
             return Err(refusal_without_memory(&self.queue, chunk));
         };
-        Ok(self.queue.push(fragment)?)
+        Ok(self.queue.push_undoable(fragment)?)
+    }
+
+    /// Takes a fragment back by what `push_undoable` answered. It takes no memory.
+    /// Precondition: the stream is as that left it (`CanUndo`).
+    pub fn undo_push(&mut self, undo: PushUndo)
+        requires { CanUndo undo self.old.queue }
+        ensures { self.new ≡ stream_undone undo self.old }
+    {
+        self.queue.undo_push(undo);
     }
 
     /// Takes the next message out, where there is one, and counts it. It takes no memory.
@@ -221,17 +239,21 @@ impl InboundStreams {
         self.numbers.remove(stream);
     }
 
-    /// Takes a fragment on the stream at a place, and answers whether a message became complete by it. Refuses with
-    /// `MessageTooLarge`, exactly where its message would be longer with it than a message may be, or for memory. The
-    /// streams are as they were then.
+    /// Takes a fragment on the stream at a place, and answers whether a message became complete by it, and what `undo_push_at` takes it
+    /// back by. Refuses with `MessageTooLarge`, exactly where its message would be longer with it than a message may be, or for memory.
+    /// The streams are as they were then.
     /// Precondition: the fragment is of that stream.
-    pub fn push_at(
+    pub fn push_undoable_at(
         &mut self,
         place: usize,
         chunk: &ChunkPayloadData,
-    ) -> Result<bool, ReceiverRefusal>
+    ) -> Result<(bool, PushUndo), ReceiverRefusal>
         requires { IsOnlyPlace chunk.now.stream_identifier (numbers_of self.old) place }
-        ensures ok { IfOk result (λ complete. PushesOn chunk.now complete self.old self.new) }
+        ensures ok { IfOk result (λ put. PushesOn chunk.now put.0 self.old self.new) }
+        ensures undo { IfOk result (λ put.
+            undone_on chunk.now.stream_identifier put.1 self.new ≡ self.old) }
+        ensures can { IfOk result (λ put.
+            CanUndoOn chunk.now.stream_identifier place put.1 self.new) }
         ensures fits { IsOk result → stream_refusal chunk.now
             (find (has_number chunk.now.stream_identifier) self.old) ≡ None }
         ensures refused { IfErr result (λ e. IsRefusedFor
@@ -240,20 +262,22 @@ impl InboundStreams {
     {
         let stream = &mut self.items[place];
         let before = cost_of(&stream.queue);
-        let pushed = stream.push(chunk);
+        let pushed = stream.push_undoable(chunk);
         self.cost = moved(self.cost, before, cost_of(&stream.queue));
         pushed
     }
 
-    /// Why the stream at a place refuses a fragment, where memory is wanting. It takes no memory.
-    /// Precondition: the fragment is of that stream.
-    pub fn refusal_at(&self, place: usize, chunk: &ChunkPayloadData) -> ReceiverRefusal
-        requires { IsOnlyPlace chunk.now.stream_identifier (numbers_of self.now) place }
-        ensures { IsRefusedFor
-            (stream_refusal chunk.now (find
-            (has_number chunk.now.stream_identifier) self.now)) result }
+    /// Takes a fragment of a stream back by what `push_undoable_at` answered. It takes no memory.
+    /// Precondition: the streams are as that left them (`CanUndoOn`), so that the stream stands at the place.
+    pub fn undo_push_at(&mut self, place: usize, stream: u16, undo: PushUndo)
+        requires { CanUndoOn stream place undo self.old }
+        ensures { self.new ≡ undone_on stream undo self.old }
     {
-        refusal_without_memory(&self.items[place].queue, chunk)
+        let _number_of_it = stream;
+        let inbound = &mut self.items[place];
+        let before = cost_of(&inbound.queue);
+        inbound.undo_push(undo);
+        self.cost = moved(self.cost, before, cost_of(&inbound.queue));
     }
 
     /// Takes the next message of a stream out, where there is one. It takes no memory.

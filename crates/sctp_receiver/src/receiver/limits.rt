@@ -3,11 +3,12 @@
 ghost use Rattle.std.specs.Prelude.{◌≡◌, ◌+◌, ◌*◌, ◌-◌, ◌^◌, min};
 ghost use Rattle.std.specs.List.{sum_by};
 ghost use Rattle.sctp_reassembly.specs.reassembly_queue.ReassemblyQueue.{held_chunks};
-ghost use Rattle.sctp_receiver.specs.Limits.{cost_within, held_cost, refusal_within};
+ghost use Rattle.sctp_receiver.specs.Limits.{cost_within, held_cost, refusal_by, refusal_within};
 
 use crate::receiver::Receiver;
-use crate::receiver::inbound_streams::InboundStream;
+use crate::receiver::inbound_streams::{InboundStream, InboundStreams};
 use crate::receiver::refusal::ReceiverRefusal;
+use crate::receiver::tsn_filter::TsnFilter;
 use sctp_base::util::sna32lt;
 use sctp_reassembly::reassembly_queue::ReassemblyQueue;
 use sctp_serial::serial::distance;
@@ -25,29 +26,13 @@ pub struct Limits {
 }
 
 impl Receiver {
-    ghost use Rattle.sctp_receiver.specs.Receiver.{filter_of, new_refusal, window};
+    ghost use Rattle.sctp_receiver.specs.Receiver.{new_refusal, window};
 
     // Why the limits refuse a TSN that did not come and is not opposite to the cumulative one.
     pub(crate) fn new_refusal(&self, tsn: u32) -> Option<ReceiverRefusal>
         ensures { result ≡ new_refusal tsn self.now }
     {
-        match self.limits {
-            Some(limits) => self.refusal_within(limits, tsn),
-            None => None,
-        }
-    }
-
-    // Why these limits refuse it.
-    fn refusal_within(&self, limits: Limits, tsn: u32) -> Option<ReceiverRefusal>
-        ensures { result ≡ refusal_within limits tsn (filter_of self.now) self.now.streams }
-    {
-        if distance(self.filter.cumulative_tsn(), tsn) > limits.reach {
-            return Some(ReceiverRefusal::TsnTooFar);
-        }
-        if sna32lt(self.filter.highest_tsn(), tsn) && limits.window <= self.held_bytes() {
-            return Some(ReceiverRefusal::WindowFull);
-        }
-        None
+        refusal_by(self.limits, &self.streams, &self.filter, tsn)
     }
 
     /// What is held and was not read: its bytes, and `CHUNK_COST` for each chunk; the greatest usize where it is more. The sum is kept,
@@ -78,6 +63,39 @@ impl Receiver {
             Err(_) => u32::MAX,
         }
     }
+}
+
+// Why limits, where there are any, refuse a TSN that did not come and is not opposite to the cumulative one.
+pub(crate) fn refusal_by(
+    limits: Option<Limits>,
+    streams: &InboundStreams,
+    filter: &TsnFilter,
+    tsn: u32,
+) -> Option<ReceiverRefusal>
+    ensures { result ≡ refusal_by limits tsn filter.now streams.now }
+{
+    match limits {
+        Some(limits) => refusal_within(limits, streams, filter, tsn),
+        None => None,
+    }
+}
+
+// Why these limits refuse it.
+fn refusal_within(
+    limits: Limits,
+    streams: &InboundStreams,
+    filter: &TsnFilter,
+    tsn: u32,
+) -> Option<ReceiverRefusal>
+    ensures { result ≡ refusal_within limits tsn filter.now streams.now }
+{
+    if distance(filter.cumulative_tsn(), tsn) > limits.reach {
+        return Some(ReceiverRefusal::TsnTooFar);
+    }
+    if sna32lt(filter.highest_tsn(), tsn) && limits.window <= streams.held_bytes() {
+        return Some(ReceiverRefusal::WindowFull);
+    }
+    None
 }
 
 // What streams hold counts for, each up to the greatest usize.

@@ -1,12 +1,16 @@
 //! Which stream sequence numbers can be told from those that are still to be read (RFC 1982 3.2; RFC 4960 6.5, 6.6; RFC 3758 3.6).
 
-ghost use Rattle.std.specs.Prelude.{◌≡◌, ◌<◌, ◌^◌, true, false, not, ◌&&◌};
+ghost use Rattle.std.specs.Prelude.{◌≡◌, ◌<◌, ◌^◌, true, false, find, not, ◌&&◌};
 ghost use Rattle.std.specs.List.{list_any};
 ghost use Rattle.sctp_data.specs.ForwardTsn.{forward_tsn_of};
 ghost use Rattle.sctp_list_lemmas.specs.Serial.{comes_before, distance16};
-ghost use Rattle.sctp_receiver.specs.Ssns.{lowest_ssn, is_lowest_complete, is_ssn_too_far, is_kept_or_passed, is_name_too_far};
+ghost use Rattle.sctp_receiver.specs.Inbound.{has_number};
+ghost use Rattle.sctp_receiver.specs.Ssns.{lowest_ssn, is_lowest_complete, is_ssn_too_far, is_kept_or_passed, is_name_too_far, is_too_far_on, is_kept_on};
+ghost use Rattle.sctp_receiver.specs.TsnFilter.{has_come};
 
 use crate::receiver::Receiver;
+use crate::receiver::inbound_streams::InboundStreams;
+use crate::receiver::tsn_filter::TsnFilter;
 use sctp_base::util::{sna16lte, sna32lt};
 use sctp_data::chunk::chunk_forward_tsn::{ChunkForwardTsn, ChunkForwardTsnStream};
 use sctp_data::chunk::chunk_payload_data::ChunkPayloadData;
@@ -19,27 +23,9 @@ const HALF_CIRCLE: u16 = 1 << 15;
 const OLD_NAMES: u16 = 1 << 14;
 
 impl Receiver {
-    ghost use Rattle.sctp_receiver.specs.Receiver.{stream_of, is_open, filter_of};
+    ghost use Rattle.sctp_receiver.specs.Receiver.{stream_of, is_open};
     ghost use Rattle.sctp_receiver.specs.Skips.{names_closed, names_too_far};
-    ghost use Rattle.sctp_receiver.specs.Ssns.{is_too_far_on, is_kept_on, is_named_too_far};
-    ghost use Rattle.sctp_receiver.specs.TsnFilter.{has_come};
-
-    // Whether a chunk with a new TSN is ordered and its number lies too far ahead on its stream, where that is open.
-    pub(crate) fn is_new_too_far(&self, chunk: &ChunkPayloadData) -> bool
-        ensures kept { result ≡ false → has_come chunk.now.tsn (filter_of self.now) ≡ false
-            → is_kept_on chunk.now (stream_of chunk.now.stream_identifier self.now) ≡ true }
-        ensures value { result ≡ (not (has_come chunk.now.tsn (filter_of self.now))
-            && is_too_far_on chunk.now (stream_of chunk.now.stream_identifier self.now)) }
-    {
-        if chunk.unordered {
-            return false;
-        }
-        let Some(inbound) = self.streams.find(chunk.stream_identifier) else {
-            return false;
-        };
-        is_ssn_too_far(&inbound.queue, chunk.stream_sequence_number)
-            && !self.filter.has_come(chunk.tsn)
-    }
+    ghost use Rattle.sctp_receiver.specs.Ssns.{is_named_too_far};
 
     // Whether a FORWARD-TSN is followed, and names a stream that is not open.
     pub(crate) fn names_closed(&self, chunk: &ChunkForwardTsn) -> bool
@@ -88,6 +74,28 @@ impl Receiver {
             None => false,
         }
     }
+}
+
+// Whether a chunk with a new TSN is ordered and its number lies too far ahead on its stream, where that is open.
+pub(crate) fn is_new_too_far(
+    streams: &InboundStreams,
+    filter: &TsnFilter,
+    chunk: &ChunkPayloadData,
+) -> bool
+    ensures kept { result ≡ false → has_come chunk.now.tsn filter.now ≡ false
+        → is_kept_on chunk.now (find (has_number chunk.now.stream_identifier) streams.now)
+        ≡ true }
+    ensures value { result ≡ (not (has_come chunk.now.tsn filter.now)
+        && is_too_far_on chunk.now
+        (find (has_number chunk.now.stream_identifier) streams.now)) }
+{
+    if chunk.unordered {
+        return false;
+    }
+    let Some(inbound) = streams.find(chunk.stream_identifier) else {
+        return false;
+    };
+    is_ssn_too_far(&inbound.queue, chunk.stream_sequence_number) && !filter.has_come(chunk.tsn)
 }
 
 // Whether an ordered chunk's number lies half the circle or more past the lowest one.

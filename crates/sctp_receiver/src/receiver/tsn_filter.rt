@@ -1,12 +1,13 @@
 //! The TSNs that came (RFC 4960 6.2).
 
-ghost use Rattle.std.specs.Prelude.{◌≡◌, ◌<◌, ◌^◌, ◌∷◌, ◌++◌, [], ℕ, true, false, OnOk, OnErr, IfOk, IsOkUnless, length, map, drop, slice_get, IsTrue};
+ghost use Rattle.std.specs.Prelude.{◌≡◌, ◌<◌, ◌≤◌, ◌+◌, ◌^◌, ◌∷◌, ◌++◌, [], ℕ, true, false, OnOk, OnErr, IfOk, IsOkUnless, length, map, drop, slice_get, IsTrue};
 ghost use Rattle.sctp_base.specs.declared.error.Error.TheVariants.{ErrOutOfMemory};
 ghost use Rattle.sctp_list_lemmas.specs.Lists.{advance_over};
 ghost use Rattle.sctp_list_lemmas.specs.Serial.{comes_before};
-ghost use Rattle.sctp_outbound.specs.payload_queue.PayloadQueue.{with_chunks};
 ghost use Rattle.sctp_receiver.specs.TsnFilter.{mark};
 ghost use Rattle.sctp_serial.specs.DataChunks.{preceding_tsn, tsns};
+
+pub mod undo;
 
 use bytes::Bytes;
 use sctp_base::error::Result;
@@ -130,6 +131,8 @@ impl TsnFilter {
     pub fn reserve_for(&mut self, tsn: u32) -> Result<()>
         ensures room { OnOk result (has_room tsn self.new ≡ true) }
         ensures rest { self.new ≡ record self.old { room = self.new.room } }
+        ensures more { self.old.room ≤ self.new.room }
+        ensures err { OnErr result (self.new ≡ self.old) }
         ensures memory { IsOkUnless result ErrOutOfMemory }
     {
         if tsn == self.cumulative_tsn.wrapping_add(1) {
@@ -139,14 +142,16 @@ impl TsnFilter {
     }
 
     /// A new TSN comes. The one that is expected next is put nowhere: the cumulative TSN moves over it, and over
-    /// all that stand next to it. It takes no memory.
+    /// all that stand next to it, whose places are room then. It takes no memory.
     /// Precondition: it did not come (`has_come`), is not opposite to the cumulative one (`is_opposite`), and there is
     /// room for it (`reserve_for`).
     pub fn accept(&mut self, tsn: u32)
         requires new { has_come tsn self.old ≡ false }
         requires near { is_opposite tsn self.old ≡ false }
         requires room { has_room tsn self.old ≡ true }
-        ensures { self.new ≡ record (with_tsn tsn self.old) { room = self.new.room } }
+        ensures value { self.new ≡ record (with_tsn tsn self.old) { room = self.new.room } }
+        ensures places { self.new.room + length self.new.beyond
+            ≡ self.old.room + length self.old.beyond }
     {
         if tsn == self.cumulative_tsn.wrapping_add(1) {
             self.cumulative_tsn = advance(&mut self.queue, tsn);
@@ -173,8 +178,10 @@ impl TsnFilter {
         requires { comes_before self.old.cumulative_tsn tsn ≡ true }
         ensures { self.new ≡ skipped_to tsn self.old }
     {
+        let room = self.queue.room();
         self.queue.pop_up_to(tsn);
         self.cumulative_tsn = advance(&mut self.queue, tsn);
+        self.queue.limit_room(room);
     }
 
     /// The runs of TSNs beyond the cumulative one, of those at most 65,535 past it (RFC 4960 3.3.4). Refuses only for memory.
@@ -252,16 +259,19 @@ fn note_each(queue: &mut PayloadQueue, duplicates: &[u32]) -> Result<()>
     Ok(())
 }
 
-// Moves the cumulative TSN over the chunks that stand next to it, which leave the queue (RFC 4960 6.2).
+// Moves the cumulative TSN over the chunks that stand next to it, which leave the queue (RFC 4960 6.2): their places are room then.
 fn advance(queue: &mut PayloadQueue, cumulative_tsn: u32) -> u32
     ensures moved { advance_over cumulative_tsn (tsns queue.old.chunks)
         ≡ record { cum = result; held = tsns queue.new.chunks } }
     ensures marks { queue.old.chunks ≡ map mark (tsns queue.old.chunks)
         → queue.new.chunks ≡ map mark (tsns queue.new.chunks) }
-    ensures rest { queue.new ≡ with_chunks queue.old queue.new.chunks }
+    ensures rest { queue.new
+        ≡ record queue.old { chunks = queue.new.chunks; room = queue.new.room } }
+    ensures places { length queue.new.chunks + queue.new.room
+        ≡ length queue.old.chunks + queue.old.room }
 {
     let mut cumulative_tsn = cumulative_tsn;
-    while let Some(_) = queue.pop(cumulative_tsn.wrapping_add(1)) {
+    while let Some(_) = queue.pop_leaving_room(cumulative_tsn.wrapping_add(1)) {
         cumulative_tsn = cumulative_tsn.wrapping_add(1);
     }
     cumulative_tsn

@@ -1,0 +1,76 @@
+use Rattle.std.proofs.Common.{◌≡◌, ◌-◌, ◌++◌, ap, sym, subst, ◌∙◌, arith, map}
+use Rattle.sctp_list_lemmas.specs.Serial.{distance}
+use Rattle.sctp_outbound.specs.payload_queue.PayloadQueue.{Payload}
+use Rattle.sctp_receiver.specs.declared.receiver.tsn_filter.undo.FilterUndo.TheVariants.{Beyond, Next}
+use Rattle.sctp_receiver.specs.TsnFilter.{mark}
+use Rattle.sctp_receiver.specs.Undo.{retracted, CanRetract, tsns_from, passed}
+use Rattle.sctp_serial.specs.DataChunks.{following_tsn, tsns}
+use Rattle.sctp_receiver.proofs.Retracts.{gone-is, gone-marks, gone-rise, back-room, next-is-back, next-marks, next-rise}
+use Rattle.sctp_receiver.proofs.receiver.tsn_filter.TsnFilter.retract.Goals as goal
+
+pub invariant_of-self : goal.invariant_of-self
+invariant_of-self c =
+    let n = c.self.inside.cumulative_tsn in
+    let q = c.self.inside.queue in
+    let can : CanRetract (Beyond c.in-Beyond.tsn c.in-Beyond.room) c.args.self.now = subst (λ u. CanRetract u c.args.self.now) c.in-Beyond.is c.requires in
+    let out = c.take_leaving_room in
+    record {
+      in_range = c.self.invariant.in_range;
+      marks = gone-marks n q c.args.self.now c.self.view_is c.self.invariant.marks c.in-Beyond.tsn c.in-Beyond.room out.new.self c.limit_room.new.self
+          out.ensures.rest out.ensures.places c.limit_room.ensures can;
+      rise = gone-rise n q c.args.self.now c.self.view_is c.self.invariant.marks c.in-Beyond.tsn c.in-Beyond.room out.new.self c.limit_room.new.self
+          out.ensures.rest out.ensures.places c.limit_room.ensures can;
+    }
+
+pub returns-in-Beyond : goal.returns-in-Beyond
+returns-in-Beyond c =
+    let n = c.self.inside.cumulative_tsn in
+    let q = c.self.inside.queue in
+    let can : CanRetract (Beyond c.in-Beyond.tsn c.in-Beyond.room) c.args.self.now = subst (λ u. CanRetract u c.args.self.now) c.in-Beyond.is c.requires in
+    let out = c.take_leaving_room in
+    gone-is n q c.args.self.now c.self.view_is c.self.invariant.marks c.in-Beyond.tsn c.in-Beyond.room out.new.self c.limit_room.new.self
+    out.ensures.rest out.ensures.places c.limit_room.ensures can
+    ∙ ap (λ u. retracted u c.args.self.now) (sym c.in-Beyond.is)
+
+pub put_back-requires-clause-room : goal.put_back-requires-clause-room
+put_back-requires-clause-room c =
+    let can : CanRetract (Next c.in-Next.cumulative_tsn c.in-Next.room) c.args.self.now = subst (λ u. CanRetract u c.args.self.now) c.in-Next.is c.requires in
+    let le = back-room c.self.inside.cumulative_tsn c.self.inside.queue c.args.self.now c.self.view_is c.self.invariant.marks c.in-Next.cumulative_tsn
+    c.in-Next.room can in
+    omega (arith, le, c.distance-passed.ensures.value)
+
+back : (c : goal.After-limit_room-in-Next) → c.put_back.new.queue.chunks ≡ map mark
+    (passed c.in-Next.cumulative_tsn c.self.inside.cumulative_tsn ++ tsns c.self.inside.queue.chunks)
+back c = c.put_back.ensures.marks ∙ ap (λ d. map mark (tsns_from (following_tsn (following_tsn c.in-Next.cumulative_tsn)) (d - 1) ++ tsns
+    c.self.inside.queue.chunks)) c.distance-passed.ensures.value
+
+rest : (c : goal.After-limit_room-in-Next) → c.put_back.new.queue ≡ record c.self.inside.queue {
+  chunks = c.put_back.new.queue.chunks;
+  room =
+      c.self.inside.queue.room - (distance c.in-Next.cumulative_tsn c.self.inside.cumulative_tsn - 1);
+}
+rest c = c.put_back.ensures.rest ∙ ap (λ d. let p : Payload = record c.self.inside.queue {
+  chunks = c.put_back.new.queue.chunks;
+  room =
+      c.self.inside.queue.room - (d - 1);
+} in p) c.distance-passed.ensures.value
+
+pub invariant_of-self-in-Next : goal.invariant_of-self-in-Next
+invariant_of-self-in-Next c =
+    let n = c.self.inside.cumulative_tsn in
+    let q = c.self.inside.queue in
+    let can : CanRetract (Next c.in-Next.cumulative_tsn c.in-Next.room) c.args.self.now = subst (λ u. CanRetract u c.args.self.now) c.in-Next.is c.requires in
+    record {
+      in_range = can.in_range;
+      marks = next-marks n q c.args.self.now c.self.view_is c.self.invariant.marks c.in-Next.cumulative_tsn c.in-Next.room can c.put_back.new.queue
+          c.limit_room-in-Next.new.self (back c) (rest c) c.limit_room-in-Next.ensures;
+      rise = next-rise n q c.args.self.now c.self.view_is c.self.invariant.marks c.in-Next.cumulative_tsn c.in-Next.room can c.put_back.new.queue
+          c.limit_room-in-Next.new.self (back c) (rest c) c.limit_room-in-Next.ensures;
+    }
+
+pub returns-in-Next : goal.returns-in-Next
+returns-in-Next c =
+    let can : CanRetract (Next c.in-Next.cumulative_tsn c.in-Next.room) c.args.self.now = subst (λ u. CanRetract u c.args.self.now) c.in-Next.is c.requires in
+    next-is-back c.self.inside.cumulative_tsn c.self.inside.queue c.args.self.now c.self.view_is c.self.invariant.marks c.in-Next.cumulative_tsn
+    c.in-Next.room can c.put_back.new.queue c.limit_room-in-Next.new.self (back c) (rest c) c.limit_room-in-Next.ensures
+    ∙ ap (λ u. retracted u c.args.self.now) (sym c.in-Next.is)

@@ -1,0 +1,112 @@
+-- What a chunk made of a receiver is taken back.
+use Rattle.std.specs.Prelude.{◌≡◌, ℕ, zero, suc, ◌+◌, ◌-◌, ◌<◌, ◌≤◌, ◌^◌, ◌==◌, true, not, if◌then◌else◌, List, [], ◌∷◌, ◌++◌, length, take, IfSome}
+use Rattle.std.specs.List.{find, filter}
+use Rattle.sctp_list_lemmas.specs.Lists.{change_where}
+use Rattle.sctp_list_lemmas.specs.Serial.{distance}
+use Rattle.sctp_serial.specs.DataChunks.{following_tsn}
+use Rattle.sctp_receiver.specs.declared.receiver.tsn_filter.undo.FilterUndo.{FilterUndo}
+use Rattle.sctp_receiver.specs.declared.receiver.tsn_filter.undo.FilterUndo.TheVariants.{Beyond, Next}
+use Rattle.sctp_receiver.specs.declared.receiver.inbound_streams.InboundStream.{InboundStream}
+use Rattle.sctp_receiver.specs.declared.receiver.taking.ChunkUndo.{ChunkUndo}
+use Rattle.sctp_receiver.specs.declared.receiver.taking.ChunkUndo.TheVariants.{Repeat, New}
+use Rattle.sctp_receiver.specs.declared.receiver.taking.Rules.{Rules}
+use Rattle.sctp_receiver.specs.Inbound.{numbers_of, has_number, with_queue}
+use Rattle.sctp_receiver.specs.Receiver.{Reception}
+use Rattle.sctp_receiver.specs.TsnFilter.{Filter, rise_beyond}
+use Rattle.sctp_reassembly.specs.declared.reassembly_queue.undo.PushUndo.{PushUndo}
+use Rattle.sctp_reassembly.specs.reassembly_queue.Undo.{undone, CanUndo}
+use Rattle.sctp_stream.specs.Numbers.{IsOnlyPlace}
+
+-- ## TSNs
+
+-- so many TSNs, one after another, from this one on
+abbrev pub tsns_from : ℕ → ℕ → List ℕ
+tsns_from tsn zero = []
+tsns_from tsn (suc n) = tsn ∷ tsns_from (following_tsn tsn) n
+
+-- from the second one after a TSN on, up to a later one: the cumulative TSN moved over them when the first one came
+abbrev pub passed : ℕ → ℕ → List ℕ
+passed tsn later = tsns_from (following_tsn (following_tsn tsn)) (distance tsn later - 1)
+
+-- how a new TSN is taken back
+abbrev pub undo_of : ℕ → Filter → FilterUndo
+undo_of tsn f =
+    if tsn == following_tsn f.cumulative_tsn then Next f.cumulative_tsn f.room else Beyond tsn f.room
+
+-- what is left when it is: one beyond goes; where the cumulative TSN moved it goes back, and what it moved over is beyond again
+abbrev pub retracted : FilterUndo → Filter → Filter
+retracted (Beyond tsn room) f =
+    record f { beyond = filter (λ t. not (t == tsn)) f.beyond; room = room }
+retracted (Next cumulative room) f =
+    record f {
+      cumulative_tsn = cumulative;
+      beyond = passed cumulative f.cumulative_tsn ++ f.beyond;
+      room = room;
+    }
+
+-- a filter can be so, and there is room for it
+pub record CanRetract (u : FilterUndo) (f : Filter) : Type 0 where
+  pub in_range : (retracted u f).cumulative_tsn < 2 ^ 32
+  pub rise : rise_beyond (retracted u f).cumulative_tsn 1 (retracted u f).beyond ≡ true
+  pub places : (retracted u f).room + length (retracted u f).beyond ≤ f.room + length f.beyond
+
+-- ## Streams
+
+abbrev pub stream_undone : PushUndo → InboundStream → InboundStream
+stream_undone u l = with_queue (undone u l.queue) l
+
+-- the last fragment of a stream is taken back
+abbrev pub undone_on : ℕ → PushUndo → List InboundStream → List InboundStream
+undone_on s u ls = change_where (has_number s) (stream_undone u) ls
+
+-- it can be: the stream stands at the place, and its queue is as the push left it
+pub record CanUndoOn (s place : ℕ) (u : PushUndo) (ls : List InboundStream) : Type 0 where
+  pub placed : IsOnlyPlace s (numbers_of ls) place
+  pub queue : IfSome (find (has_number s) ls) (λ l. CanUndo u l.queue)
+
+-- ## Chunks
+
+-- what a chunk changes
+pub record Parts : Type 0 where
+  pub streams : List InboundStream
+  pub filter : Filter
+
+abbrev pub parts : List InboundStream → Filter → Parts
+parts streams filter = record { streams = streams; filter = filter }
+
+-- the receiver of these parts
+abbrev pub reception_of : Rules → Parts → Reception
+reception_of rules p =
+    record {
+      streams = p.streams;
+      cumulative_tsn = p.filter.cumulative_tsn;
+      beyond = p.filter.beyond;
+      duplicates = p.filter.duplicates;
+      max_message_size = rules.max_message_size;
+      limits = rules.limits;
+    }
+
+-- without the duplicate that was noted last
+abbrev pub without_duplicate : Filter → Filter
+without_duplicate f =
+    record f { duplicates = take (length f.duplicates - 1) f.duplicates }
+
+-- a chunk is taken back
+abbrev pub chunk_undone : ChunkUndo → Parts → Parts
+chunk_undone Repeat p = record p { filter = without_duplicate p.filter }
+chunk_undone (New tsn place s u) p =
+    parts (undone_on s u p.streams) (retracted tsn p.filter)
+
+abbrev pub CanUndoChunk : ChunkUndo → Parts → Type 0
+CanUndoChunk Repeat p = Unit {0}
+CanUndoChunk (New tsn place s u) p =
+    CanRetract tsn p.filter × CanUndoOn s place u p.streams
+
+-- several, the last one first
+abbrev pub chunks_undone : List ChunkUndo → Parts → Parts
+chunks_undone [] p = p
+chunks_undone (u ∷ us) p = chunk_undone u (chunks_undone us p)
+
+abbrev pub CanUndoChunks : List ChunkUndo → Parts → Type 0
+CanUndoChunks [] p = Unit {0}
+CanUndoChunks (u ∷ us) p = CanUndoChunks us p × CanUndoChunk u (chunks_undone us p)

@@ -1,0 +1,162 @@
+//! A DATA chunk is taken so that it can be taken back (RFC 4960 6.2, 6.10).
+
+ghost use Rattle.std.specs.Prelude.{◌≡◌, true, false, None, OnErr, IfOk, IfErr, IsOk};
+ghost use Rattle.sctp_receiver.specs.declared.receiver.refusal.ReceiverRefusal.TheVariants.{OutOfMemory};
+ghost use Rattle.sctp_receiver.specs.Receiver.{data_refusal, refusal_for, IsRefusedFor, takes_memory, arrival_of, is_told_complete, Takes, stream_of};
+ghost use Rattle.sctp_receiver.specs.Ssns.{is_kept_on};
+ghost use Rattle.sctp_receiver.specs.TsnFilter.{has_come};
+ghost use Rattle.sctp_receiver.specs.Undo.{parts, reception_of, chunk_undone, CanUndoChunk, chunks_undone, CanUndoChunks};
+
+use crate::receiver::arrival::Arrival;
+use crate::receiver::inbound_streams::InboundStreams;
+use crate::receiver::limits::{Limits, refusal_by};
+use crate::receiver::refusal::ReceiverRefusal;
+use crate::receiver::ssns::is_new_too_far;
+use crate::receiver::tsn_filter::TsnFilter;
+use crate::receiver::tsn_filter::undo::FilterUndo;
+use sctp_data::chunk::chunk_payload_data::ChunkPayloadData;
+use sctp_reassembly::reassembly_queue::undo::PushUndo;
+
+/// By what a receiver takes chunks.
+#[derive(Clone, Copy)]
+pub(crate) struct Rules {
+    /// Whether an ordered chunk of any stream sequence number is taken.
+    pub any_ssn: bool,
+    /// How long a message may be, in bytes.
+    pub max_message_size: u32,
+    /// What is taken at most.
+    pub limits: Option<Limits>,
+}
+
+/// What a chunk did, so that it can be taken back.
+#[derive(Drop)]
+pub(crate) enum ChunkUndo {
+    /// Its TSN came again, and was noted.
+    Repeat,
+    /// Its TSN came, and its stream, which stands at a place, has it.
+    New {
+        tsn: FilterUndo,
+        place: usize,
+        stream: u16,
+        queue: PushUndo,
+    },
+}
+
+// Takes a chunk, and answers what it was, and how it is taken back. Where memory is refused for its TSN, its fragment is taken back here.
+pub(crate) fn take(
+    streams: &mut InboundStreams,
+    filter: &mut TsnFilter,
+    rules: Rules,
+    chunk: &ChunkPayloadData,
+) -> Result<(Arrival, ChunkUndo), ReceiverRefusal>
+    ensures answer { IfOk result (λ taken. taken.0
+        ≡ arrival_of chunk.now.tsn (is_told_complete taken.0)
+        (reception_of rules (parts streams.old filter.old))) }
+    ensures ok { IfOk result (λ taken. Takes chunk.now taken.0
+        (reception_of rules (parts streams.old filter.old))
+        (reception_of rules (parts streams.new filter.new))) }
+    ensures accepted { IsOk result → refusal_for rules.any_ssn chunk.now
+        (reception_of rules (parts streams.old filter.old)) ≡ None }
+    ensures kept { IsOk result → rules.any_ssn ≡ false
+        → has_come chunk.now.tsn filter.old ≡ false
+        → is_kept_on chunk.now (stream_of chunk.now.stream_identifier
+        (reception_of rules (parts streams.old filter.old))) ≡ true }
+    ensures undo { IfOk result (λ taken. chunk_undone taken.1
+        (parts streams.new filter.new) ≡ parts streams.old filter.old) }
+    ensures can { IfOk result (λ taken. CanUndoChunk taken.1 (parts streams.new filter.new)) }
+    ensures refused { IfErr result (λ e. IsRefusedFor (refusal_for rules.any_ssn chunk.now
+        (reception_of rules (parts streams.old filter.old))) e) }
+    ensures wants { IfErr result (λ e. e ≡ OutOfMemory → takes_memory chunk.now
+        (reception_of rules (parts streams.old filter.old)) ≡ true) }
+    ensures err { OnErr result (parts streams.new filter.new ≡ parts streams.old filter.old) }
+{
+    if !rules.any_ssn && is_new_too_far(streams, filter, chunk) {
+        return Err(ReceiverRefusal::SsnTooFar);
+    }
+    take_any_ssn(streams, filter, rules, chunk)
+}
+
+// The same, and its stream sequence number is not looked at.
+fn take_any_ssn(
+    streams: &mut InboundStreams,
+    filter: &mut TsnFilter,
+    rules: Rules,
+    chunk: &ChunkPayloadData,
+) -> Result<(Arrival, ChunkUndo), ReceiverRefusal>
+    ensures answer { IfOk result (λ taken. taken.0
+        ≡ arrival_of chunk.now.tsn (is_told_complete taken.0)
+        (reception_of rules (parts streams.old filter.old))) }
+    ensures ok { IfOk result (λ taken. Takes chunk.now taken.0
+        (reception_of rules (parts streams.old filter.old))
+        (reception_of rules (parts streams.new filter.new))) }
+    ensures accepted { IsOk result
+        → data_refusal chunk.now (reception_of rules (parts streams.old filter.old)) ≡ None }
+    ensures undo { IfOk result (λ taken. chunk_undone taken.1
+        (parts streams.new filter.new) ≡ parts streams.old filter.old) }
+    ensures can { IfOk result (λ taken. CanUndoChunk taken.1 (parts streams.new filter.new)) }
+    ensures refused { IfErr result (λ e. IsRefusedFor
+        (data_refusal chunk.now (reception_of rules (parts streams.old filter.old))) e) }
+    ensures wants { IfErr result (λ e. e ≡ OutOfMemory → takes_memory chunk.now
+        (reception_of rules (parts streams.old filter.old)) ≡ true) }
+    ensures err { OnErr result (parts streams.new filter.new ≡ parts streams.old filter.old) }
+{
+    if filter.has_come(chunk.tsn) {
+        filter.record_duplicate(chunk.tsn)?;
+        return Ok((Arrival::Repeat, ChunkUndo::Repeat));
+    }
+    if filter.is_opposite(chunk.tsn) {
+        return Err(ReceiverRefusal::TsnOpposite);
+    }
+    if let Some(refusal) = refusal_by(rules.limits, streams, filter, chunk.tsn) {
+        return Err(refusal);
+    }
+    let stream = chunk.stream_identifier;
+    let Some(place) = streams.place_of(stream) else {
+        return Err(ReceiverRefusal::StreamUnknown);
+    };
+    let (complete, queue) = streams.push_undoable_at(place, chunk)?;
+    let Ok(tsn) = filter.accept_undoable(chunk.tsn) else {
+        streams.undo_push_at(place, stream, queue);
+        return Err(ReceiverRefusal::OutOfMemory);
+    };
+    let undo = ChunkUndo::New {
+        tsn,
+        place,
+        stream,
+        queue,
+    };
+    Ok((Arrival::New { complete }, undo))
+}
+
+// Takes chunks back, the last one first. It takes no memory.
+// Precondition: all is as the last one left it.
+pub(crate) fn undo_each(streams: &mut InboundStreams, filter: &mut TsnFilter, undos: Vec<ChunkUndo>)
+    requires { CanUndoChunks undos.items (parts streams.old filter.old) }
+    ensures { parts streams.new filter.new
+        ≡ chunks_undone undos.items (parts streams.old filter.old) }
+{
+    let mut undos = undos;
+    while let Some(undo) = undos.pop() {
+        undo_chunk(streams, filter, undo);
+    }
+}
+
+// Takes a chunk back.
+fn undo_chunk(streams: &mut InboundStreams, filter: &mut TsnFilter, undo: ChunkUndo)
+    requires { CanUndoChunk undo (parts streams.old filter.old) }
+    ensures { parts streams.new filter.new
+        ≡ chunk_undone undo (parts streams.old filter.old) }
+{
+    match undo {
+        ChunkUndo::Repeat => filter.forget_last_duplicate(),
+        ChunkUndo::New {
+            tsn,
+            place,
+            stream,
+            queue,
+        } => {
+            streams.undo_push_at(place, stream, queue);
+            filter.retract(tsn);
+        }
+    }
+}

@@ -1,0 +1,117 @@
+//! A TSN that came is taken back.
+
+ghost use Rattle.std.specs.Prelude.{◌≡◌, ◌<◌, ◌≤◌, ◌+◌, ◌-◌, ◌^◌, ◌++◌, true, false, OnOk, OnErr, IfOk, IsOkUnless, length, map, take};
+ghost use Rattle.sctp_base.specs.declared.error.Error.TheVariants.{ErrOutOfMemory};
+ghost use Rattle.sctp_receiver.specs.TsnFilter.{mark, rise_beyond};
+ghost use Rattle.sctp_receiver.specs.Undo.{tsns_from, undo_of};
+ghost use Rattle.sctp_serial.specs.DataChunks.{following_tsn, tsns};
+
+use super::{TsnFilter, mark};
+use sctp_base::error::Result;
+use sctp_outbound::payload_queue::PayloadQueue;
+use sctp_serial::serial::distance;
+
+/// What `accept_undoable` did, so that `retract` can take it back.
+#[derive(Clone, Copy)]
+pub enum FilterUndo {
+    /// A TSN stands beyond the cumulative one; and what the room was.
+    Beyond { tsn: u32, room: usize },
+    /// The TSN that was expected next came; what the cumulative one was, and the room.
+    Next { cumulative_tsn: u32, room: usize },
+}
+
+impl TsnFilter {
+    ghost use Rattle.sctp_receiver.specs.TsnFilter.{has_come, is_opposite, with_tsn};
+    ghost use Rattle.sctp_receiver.specs.Undo.{retracted, CanRetract};
+
+    /// A new TSN comes, as `accept` takes it, and room is made for it. Answers what `retract` takes it back by. Refuses only for memory,
+    /// and the filter is as it was then.
+    /// Precondition: it did not come (`has_come`), and is not opposite to the cumulative one (`is_opposite`).
+    pub fn accept_undoable(&mut self, tsn: u32) -> Result<FilterUndo>
+        requires new { has_come tsn self.old ≡ false }
+        requires near { is_opposite tsn self.old ≡ false }
+        ensures ok { OnOk result
+            (self.new ≡ record (with_tsn tsn self.old) { room = self.new.room }) }
+        ensures undo { IfOk result (λ u. retracted u self.new ≡ self.old) }
+        ensures can { IfOk result (λ u. CanRetract u self.new) }
+        ensures err { OnErr result (self.new ≡ self.old) }
+        ensures memory { IsOkUnless result ErrOutOfMemory }
+    {
+        let undo = self.undo_of(tsn);
+        self.reserve_for(tsn)?;
+        self.accept(tsn);
+        Ok(undo)
+    }
+
+    // How a new TSN is taken back.
+    fn undo_of(&self, tsn: u32) -> FilterUndo
+        ensures value { result ≡ undo_of tsn self.now }
+        ensures tsn_fits { tsn < 2 ^ 32 }
+        ensures in_range { self.now.cumulative_tsn < 2 ^ 32 }
+        ensures rise { rise_beyond self.now.cumulative_tsn 1 self.now.beyond ≡ true }
+    {
+        let cumulative_tsn = self.cumulative_tsn;
+        let room = self.queue.room();
+        if tsn == cumulative_tsn.wrapping_add(1) {
+            FilterUndo::Next {
+                cumulative_tsn,
+                room,
+            }
+        } else {
+            FilterUndo::Beyond { tsn, room }
+        }
+    }
+
+    /// Takes a TSN back by what `accept_undoable` answered. It takes no memory.
+    /// Precondition: the filter is as that left it (`CanRetract`).
+    pub fn retract(&mut self, undo: FilterUndo)
+        requires { CanRetract undo self.old }
+        ensures { self.new ≡ retracted undo self.old }
+    {
+        match undo {
+            FilterUndo::Beyond { tsn, room } => {
+                let _ = self.queue.take_leaving_room(tsn);
+                self.queue.limit_room(room);
+            }
+            FilterUndo::Next {
+                cumulative_tsn,
+                room,
+            } => {
+                let passed = distance(cumulative_tsn, self.cumulative_tsn);
+                put_back(&mut self.queue, cumulative_tsn, passed);
+                self.cumulative_tsn = cumulative_tsn;
+                self.queue.limit_room(room);
+            }
+        }
+    }
+
+    /// The TSN that was noted last as a duplicate is noted no more. It takes no memory.
+    pub fn forget_last_duplicate(&mut self)
+        ensures { self.new ≡ record self.old {
+          duplicates = take (length self.old.duplicates - 1) self.old.duplicates;
+        } }
+    {
+        self.queue.forget_last_duplicate();
+    }
+}
+
+// Marks TSNs that the cumulative one moved over, from so many past it down to the second one past it.
+// Precondition: those that are held lie farther, and there is room.
+fn put_back(queue: &mut PayloadQueue, cumulative_tsn: u32, count: u32)
+    requires marks { queue.old.chunks ≡ map mark (tsns queue.old.chunks) }
+    requires rise { rise_beyond cumulative_tsn 1
+        (tsns_from (following_tsn (following_tsn cumulative_tsn)) (count - 1)
+        ++ tsns queue.old.chunks) ≡ true }
+    requires room { count - 1 ≤ queue.old.room }
+    ensures marks { queue.new.chunks ≡ map mark
+        (tsns_from (following_tsn (following_tsn cumulative_tsn)) (count - 1)
+        ++ tsns queue.old.chunks) }
+    ensures rest { queue.new
+        ≡ record queue.old { chunks = queue.new.chunks; room = queue.old.room - (count - 1) } }
+{
+    let mut left = count;
+    while left > 1 {
+        let _ = queue.push(mark(cumulative_tsn.wrapping_add(left)), cumulative_tsn);
+        left -= 1;
+    }
+}
