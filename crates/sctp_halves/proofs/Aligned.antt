@@ -19,7 +19,7 @@ use Rattle.sctp_receiver.proofs.Inbounds.{stays-changed}
 use Rattle.sctp_receiver.proofs.Forwarded.{followed-mapped, after-numbers, after-size}
 use Rattle.sctp_halves.specs.declared.halves.progress.StreamProgress.{StreamProgress}
 use Rattle.sctp_halves.specs.Streams.{OpenStream, join, join_each, number, has_number, stream_numbers, on_inbound, new_open_stream, read_recorded}
-use Rattle.sctp_halves.specs.Halves.{Sides, IsAligned, reception_of, transmission_of, stream_in, is_open, on_stream, follow_forward_tsn, after_forward}
+use Rattle.sctp_halves.specs.Halves.{Sides, sides, IsAligned, reception_of, transmission_of, stream_in, is_open, on_stream, follow_forward_tsn, after_forward}
 use Rattle.sctp_halves.proofs.Joined.{Alike, states-joined, inbounds-joined, length-joined, numbers-joined, found-inbound, inbound-changed, inbound-mapped, with_progress, progress-set}
 
 after-limits : (f : ForwardTsn) (r : Reception) → (R.after_forward f r).limits ≡ r.limits
@@ -28,10 +28,6 @@ after-limits f r = by (R.is_stale f r)
     by : (b : Bool) → (if b then r else R.follow_forward_tsn f r).limits ≡ r.limits
     by true = refl
     by false = refl
-
--- both halves of these parts
-abbrev pub sides : Transmission → Reception → List StreamProgress → Sides
-sides t r ps = record { streams = join_each t.streams r.streams ps; flight = t.flight; cumulative_tsn = r.cumulative_tsn; beyond = r.beyond; duplicates = r.duplicates; fragment_size = t.fragment_size; max_message_size = t.max_message_size }
 
 changed-set : {A : Type 0} (f : A → A) (k : ℕ) (xs : List A) (d : A) → change_at f k xs ≡ slice_set xs k (f (slice_index_or xs k d))
 changed-set f k [] d = refl

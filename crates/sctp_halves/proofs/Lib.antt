@@ -3,6 +3,6 @@ pub mod Aligned
 pub mod Sends
 pub mod Writes
 pub mod Opening
-pub mod Growing
 pub mod Taking
-pub mod Taken
+pub mod Rooms
+pub mod Completing

@@ -16,9 +16,9 @@ use Rattle.sctp_sender.specs.Sender.{Transmission}
 use Rattle.sctp_stream.proofs.StreamPlaces as Places
 use Rattle.sctp_halves.specs.declared.halves.progress.StreamProgress.{StreamProgress}
 use Rattle.sctp_halves.specs.Streams.{OpenStream, join_each, has_number, stream_numbers, new_open_stream}
-use Rattle.sctp_halves.specs.Halves.{Sides, IsAligned, stream_in, opened_on}
+use Rattle.sctp_halves.specs.Halves.{Sides, IsAligned, stream_in, opened_on, sides}
 use Rattle.sctp_halves.proofs.Joined.{joined-more}
-use Rattle.sctp_halves.proofs.Aligned.{sides, alike, numbers-are}
+use Rattle.sctp_halves.proofs.Aligned.{alike, numbers-are}
 
 one : {a b : ℕ} → Some a ≡ Some b → a ≡ b
 one e = cc

@@ -23,9 +23,9 @@ use Rattle.sctp_sender.specs.Sender.{Transmission}
 use Rattle.sctp_stream.proofs.StreamPlaces as Places
 use Rattle.sctp_halves.specs.declared.halves.progress.StreamProgress.{StreamProgress}
 use Rattle.sctp_halves.specs.Streams.{OpenStream, join_each, number, on_state, after_releases, stats_in, both_ways, new_open_stream}
-use Rattle.sctp_halves.specs.Halves.{Sides, IsAligned, stream_in, is_open, on_stream, with_flight, sack_taken}
+use Rattle.sctp_halves.specs.Halves.{Sides, IsAligned, stream_in, is_open, on_stream, with_flight, sack_taken, sides}
 use Rattle.sctp_halves.proofs.Joined.{found-state, found-inbound, state-changed, with_progress}
-use Rattle.sctp_halves.proofs.Aligned.{sides, alike, numbers-are, absent-in, own-at}
+use Rattle.sctp_halves.proofs.Aligned.{alike, numbers-are, absent-in, own-at}
 
 -- ## Answers
 

@@ -1,11 +1,11 @@
 -- A DATA chunk that is taken: its stream's queue, and whether a message became complete by it.
-use Rattle.std.proofs.Common.{◌≡◌, ℕ, zero, suc, List, [], ◌∷◌, ◌++◌, Bool, true, false, Some, refl, ap, sym, ◌∙◌, subst}
+use Rattle.std.proofs.Common.{◌≡◌, ℕ, zero, suc, List, [], ◌∷◌, ◌++◌, Bool, true, false, None, Some, refl, ap, sym, ◌∙◌, subst}
 use Rattle.std.specs.Prelude.{◌&&◌, slice_index_or, slice_set, if◌then◌else◌, option_map}
 use Rattle.std.proofs.lemmas.List.{get_or_default}
 use Rattle.sctp_list_lemmas.specs.Lists.{change_at}
 use Rattle.sctp_data.specs.declared.chunk.chunk_payload_data.ChunkPayloadData.{ChunkPayloadData}
 use Rattle.sctp_reassembly.specs.reassembly_queue.ReassemblyQueue.{ReassemblyState, PushesUnordered, after_ordered_push}
-use Rattle.sctp_stream.specs.Numbers.{IsOnlyPlace}
+use Rattle.sctp_stream.specs.Numbers.{IsOnlyPlace, IsAbsent}
 use Rattle.sctp_receiver.specs.declared.receiver.arrival.Arrival.{Arrival}
 use Rattle.sctp_receiver.specs.declared.receiver.arrival.Arrival.TheVariants.{New, Repeat}
 use Rattle.sctp_receiver.specs.declared.receiver.inbound_streams.InboundStream.{InboundStream}
@@ -14,14 +14,12 @@ use Rattle.sctp_receiver.specs.Receiver as R
 use Rattle.sctp_receiver.specs.Receiver.{Reception, is_told_complete}
 use Rattle.sctp_sender.specs.Sender.{Transmission}
 use Rattle.sctp_receiver.proofs.DataEach.{takes-keeps}
-use Rattle.sctp_receiver.proofs.Inbounds.{pushed-number}
 use Rattle.sctp_stream.proofs.StreamPlaces as Places
 use Rattle.sctp_halves.specs.declared.halves.progress.StreamProgress.{StreamProgress}
 use Rattle.sctp_halves.specs.Streams.{OpenStream, Keeps, join_each, number, on_inbound, new_open_stream}
-use Rattle.sctp_halves.specs.Halves.{Sides, IsAligned, stream_in, on_stream, Accepts, Takes, repeat_tsn, GrowsOn, GrowEach, Grows}
+use Rattle.sctp_halves.specs.Halves.{Sides, IsAligned, stream_in, on_stream, Accepts, Takes, sides}
 use Rattle.sctp_halves.proofs.Joined.{with_progress}
-use Rattle.sctp_halves.proofs.Growing.{put-grows, grows-same, take-front, take-complete}
-use Rattle.sctp_halves.proofs.Aligned.{sides, numbers-are, inbound-in, inbound-on, with-receiver, progress-changed}
+use Rattle.sctp_halves.proofs.Aligned.{numbers-are, absent-in, inbound-in, inbound-on, with-receiver, progress-changed}
 
 -- ## Whether a message became complete
 
@@ -125,9 +123,6 @@ module _ (ns : List ℕ) (t : Transmission) (r : Reception) (ps : List StreamPro
     keeps-none : (b && c.unordered) ≡ false → Keeps c n l y
     keeps-none e = keeps y (ap (λ b. let z : OpenStream = record y { complete = if b then l.complete ++ n ∷ [] else l.complete } in z) (sym e))
 
-    number-stays : h.queue.si ≡ l.inbound.queue.si
-    number-stays = pushed-number c b h.stream.queue h.queue h.pushed ∙ ap (λ (i : InboundStream). i.queue.si) same-stream
-
   -- an unordered message became complete, and its number is recorded
   pub takes-complete : (b : Arrival) → (is_told_complete b && c.unordered) ≡ true → R.Takes c b r x → (p q : StreamProgress) → p ≡ slice_index_or ps k p → ((m : OpenStream) → with_progress q m ≡ with_complete n (with_progress p m)) → Takes c n b (sides t r ps) (sides t x (slice_set ps k q))
   takes-complete (New b) e h p q own made =
@@ -141,21 +136,10 @@ module _ (ns : List ℕ) (t : Transmission) (r : Reception) (ps : List StreamPro
   takes-more (New b) e h = accepts b h ps (y b h) (streams-put b h) (keeps-none b h e)
   takes-more Repeat e h = ap (λ z. sides t z ps) h
 
-  -- only more came
-
-  grown : (qs : List StreamProgress) (kept : OpenStream) → join_each t.streams x.streams qs ≡ slice_set ls k kept → GrowsOn l kept → Grows (sides t r ps) (sides t x qs)
-  grown qs kept e g = record { streams = subst (GrowEach ls) (sym e) (put-grows ls k l kept at g); flight = refl; fragment_size = refl; max_message_size = refl }
-
-  pub grows-complete : (b : Arrival) → (is_told_complete b && c.unordered) ≡ true → R.Takes c b r x → (p q : StreamProgress) → p ≡ slice_index_or ps k p → ((m : OpenStream) → with_progress q m ≡ with_complete n (with_progress p m)) → Grows (sides t r ps) (sides t x (slice_set ps k q))
-  grows-complete (New b) e h p q own made =
-      grown (slice_set ps k q) (with_complete n (y b h))
-      (progress-changed ns t x ps (taken-aligned ns t r ps a c (New b) x h) k p q own (with_complete n) made ∙ ap (change_at (with_complete n) k) (streams-put b h) ∙ changed-put (with_complete n) k ls (y b h))
-      (record { rest = refl; number = number-stays b h; complete = take-front l.complete (n ∷ []) })
-  grows-complete Repeat e h p q own made = let no : false ≡ true = e in absurd (cc)
-
-  pub grows-more : (b : Arrival) → R.Takes c b r x → Grows (sides t r ps) (sides t x ps)
-  grows-more (New b) h = grown ps (y b h) (streams-put b h) (record { rest = refl; number = number-stays b h; complete = take-complete l.complete })
-  grows-more Repeat h = subst (λ z. Grows (sides t r ps) z) (sym (ap (λ z. sides t z ps) h)) (grows-repeated (sides t r ps))
-    where
-      grows-repeated : (z : Sides) → Grows z (repeat_tsn c.tsn z)
-      grows-repeated z = let g = grows-same z in record { streams = g.streams; flight = refl; fragment_size = refl; max_message_size = refl }
+-- of a stream that is not open a chunk is taken only where its TSN came before
+pub takes-absent : (ns : List ℕ) (t : Transmission) (r : Reception) (ps : List StreamProgress) → IsAligned ns t r ps → (c : ChunkPayloadData) (n : ℕ) (b : Arrival) (x : Reception) → IsAbsent c.stream_identifier ns → R.Takes c b r x → Takes c n b (sides t r ps) (sides t x ps)
+takes-absent ns t r ps a c n (New complete) x absent h =
+    let none : R.stream_of c.stream_identifier r ≡ None = sym (inbound-in ns t r ps a c.stream_identifier) ∙ ap (option_map (λ l. l.inbound)) (absent-in ns t r ps a c.stream_identifier absent) in
+    let no : None ≡ Some h.stream = sym none ∙ h.found in
+    absurd (cc)
+takes-absent ns t r ps a c n Repeat x absent h = ap (λ z. sides t z ps) h

@@ -21,9 +21,9 @@ use Rattle.sctp_stream.proofs.StreamPlaces as Places
 use Rattle.sctp_halves.specs.declared.halves.progress.StreamProgress.{StreamProgress}
 use Rattle.sctp_halves.specs.declared.halves.progress.Written.{Written}
 use Rattle.sctp_halves.specs.Streams.{OpenStream, join_each, number, has_number, on_state, written_of, wrote_to, expired_on}
-use Rattle.sctp_halves.specs.Halves.{Sides, IsAligned, stream_in, on_stream, written_on, expired_unsent}
+use Rattle.sctp_halves.specs.Halves.{Sides, IsAligned, stream_in, on_stream, written_on, expired_unsent, sides}
 use Rattle.sctp_halves.proofs.Joined.{with_progress}
-use Rattle.sctp_halves.proofs.Aligned.{sides, numbers-are, progress-sides}
+use Rattle.sctp_halves.proofs.Aligned.{numbers-are, progress-sides}
 use Rattle.sctp_halves.proofs.Sends.{found-with, state-in, on-aligned, on-sides, one_less}
 use Rattle.sctp_list_lemmas.proofs.Cases.{some-same}
 

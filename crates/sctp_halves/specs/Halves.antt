@@ -1,5 +1,5 @@
 -- Both halves of a link as one value.
-use Rattle.std.specs.Prelude.{◌≡◌, ℕ, Bool, true, if◌then◌else◌, List, [], ◌∷◌, ◌++◌, length, map, take, Option, Some, None, is_some}
+use Rattle.std.specs.Prelude.{◌≡◌, ℕ, Bool, true, if◌then◌else◌, List, [], ◌∷◌, ◌++◌, map, Option, Some, None, is_some}
 use Rattle.std.specs.List.{find}
 use Rattle.sctp_list_lemmas.specs.Lists.{change_where}
 use Rattle.sctp_data.specs.declared.chunk.chunk_payload_data.ChunkPayloadData.{ChunkPayloadData}
@@ -19,8 +19,7 @@ use Rattle.sctp_receiver.specs.Receiver.{Reception, filter_of, is_stale, arrival
 use Rattle.sctp_sender.specs.Sender.{Transmission}
 use Rattle.sctp_receiver.specs.TsnFilter.{Filter, with_tsn, with_duplicate, skipped_to}
 use Rattle.sctp_halves.specs.declared.halves.progress.StreamProgress.{StreamProgress}
-use Rattle.sctp_halves.specs.declared.halves.receiving.Saved.{Saved}
-use Rattle.sctp_halves.specs.Streams.{OpenStream, Keeps, has_number, new_open_stream, on_state, on_inbound, wrote_to, less_by, after_releases, expired_on, forwarded_on}
+use Rattle.sctp_halves.specs.Streams.{OpenStream, Keeps, join_each, has_number, new_open_stream, on_state, on_inbound, wrote_to, less_by, after_releases, expired_on, forwarded_on}
 use Rattle.sctp_serial.specs.DataChunks.{preceding_tsn}
 
 -- the open streams in the order in which they were opened; what waits and what is in flight; the TSNs that came; how long a
@@ -44,6 +43,19 @@ pub record IsAligned (numbers : List ℕ) (sender : Transmission) (receiver : Re
   pub size : receiver.max_message_size ≡ sender.max_message_size
   pub unlimited : receiver.limits ≡ None
   pub forgets : sender.kept ≡ None
+
+-- both halves of these parts
+abbrev pub sides : Transmission → Reception → List StreamProgress → Sides
+sides t r ps =
+    record {
+      streams = join_each t.streams r.streams ps;
+      flight = t.flight;
+      cumulative_tsn = r.cumulative_tsn;
+      beyond = r.beyond;
+      duplicates = r.duplicates;
+      fragment_size = t.fragment_size;
+      max_message_size = t.max_message_size;
+    }
 
 -- what is the sender's, and what is the receiver's
 abbrev pub transmission_of : Sides → Transmission
@@ -193,27 +205,3 @@ TakesEach (c ∷ cs) (n ∷ ns) (a ∷ bs) old new =
 TakesEach [] ns (a ∷ bs) old new = ⊥
 TakesEach (c ∷ cs) [] bs old new = ⊥
 TakesEach (c ∷ cs) (n ∷ ns) [] old new = ⊥
-
--- of a stream at most what came has changed, and further messages are recorded as complete
-pub record GrowsOn (old new : OpenStream) : Type 0 where
-  pub rest : new ≡ record old { inbound = new.inbound; complete = new.complete }
-  pub number : new.inbound.queue.si ≡ old.inbound.queue.si
-  pub complete : take (length old.complete) new.complete ≡ old.complete
-
-abbrev pub GrowEach : List OpenStream → List OpenStream → Type 0
-GrowEach [] [] = Unit {0}
-GrowEach (l ∷ ls) (m ∷ ms) = GrowsOn l m × GrowEach ls ms
-GrowEach [] (m ∷ ms) = ⊥
-GrowEach (l ∷ ls) [] = ⊥
-
--- so of all, and the sender is as it was
-pub record Grows (old new : Sides) : Type 0 where
-  pub streams : GrowEach old.streams new.streams
-  pub flight : new.flight ≡ old.flight
-  pub fragment_size : new.fragment_size ≡ old.fragment_size
-  pub max_message_size : new.max_message_size ≡ old.max_message_size
-
--- what came, and how many messages were recorded as complete on each stream
-pub record IsSaved (x : Sides) (saved : Saved) : Type 0 where
-  pub receiver : saved.receiver ≡ reception_of x
-  pub complete : saved.complete.items ≡ map (λ l. length l.complete) x.streams

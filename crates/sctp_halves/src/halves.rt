@@ -1,17 +1,15 @@
 //! Both halves of a link: a sender and a receiver with the same streams.
 
-ghost use Rattle.std.specs.Prelude.{◌≡◌, ◌<◌, ◌≤◌, ◌^◌, ◌+◌, ℕ, true, None, Some, OnOk, OnErr, IfOk, IsOkUnless, MatchOption, find, length, map, option_map, option_copied, slice_index_or};
+ghost use Rattle.std.specs.Prelude.{◌≡◌, ◌<◌, ◌≤◌, None, Some, OnOk, OnErr, IsOkUnless, length, option_map, option_copied, slice_index_or};
 ghost use Rattle.sctp_base.specs.declared.error.Error.TheVariants.{ErrOutOfMemory};
 
+mod completing;
 pub mod progress;
 pub mod receiving;
 pub mod sending;
 
 use self::progress::StreamProgress;
 use sctp_base::error::{Error, Result};
-use sctp_data::chunk::chunk_payload_data::ReliabilityType;
-use sctp_queues::outbound_queue::OutboundQueue;
-use sctp_queues::payload_queue::PayloadQueue;
 use sctp_queues::reassembly_queue::ReassemblyQueue;
 use sctp_receiver::receiver::Receiver;
 use sctp_sender::sender::Sender;
@@ -25,36 +23,28 @@ use std::marker::Model;
 #[derive(Drop)]
 pub struct Halves {
     alloc: Global,
-    sender: Sender,
-    receiver: Receiver,
+    /// The sending half. Whoever calls it keeps its streams as they are; the proof of that call shows it.
+    pub sender: Sender,
+    /// The receiving half. Whoever calls it keeps its streams as they are; the proof of that call shows it.
+    pub receiver: Receiver,
     // the numbers of the open streams, by which their progress is found
     numbers: StreamNumbers,
     progress: Vec<StreamProgress>,
 }
 
 impl Model for Halves {
-    ghost use Rattle.sctp_halves.specs.Halves.{Sides, IsAligned};
-    ghost use Rattle.sctp_halves.specs.Streams.{join_each};
+    ghost use Rattle.sctp_halves.specs.Halves.{Sides, IsAligned, sides};
 
     ghost Value = { Sides };
 
-    ghost view = { λ h. record {
-      streams = join_each h.sender.streams h.receiver.streams h.progress.items;
-      flight = h.sender.flight;
-      cumulative_tsn = h.receiver.cumulative_tsn;
-      beyond = h.receiver.beyond;
-      duplicates = h.receiver.duplicates;
-      fragment_size = h.sender.fragment_size;
-      max_message_size = h.sender.max_message_size;
-    } };
+    ghost view = { λ h. sides h.sender h.receiver h.progress.items };
 
     ghost invariant = { λ h. IsAligned h.numbers h.sender h.receiver h.progress.items };
 }
 
 impl Halves {
-    ghost use Rattle.sctp_receiver.specs.TsnFilter.{mark};
-    ghost use Rattle.sctp_halves.specs.Streams.{OpenStream, has_number, stats_in};
-    ghost use Rattle.sctp_halves.specs.Halves.{fresh, stream_in, is_open, opened_on, after_mode};
+    ghost use Rattle.sctp_halves.specs.Streams.{OpenStream, stats_in};
+    ghost use Rattle.sctp_halves.specs.Halves.{fresh, transmission_of, reception_of, stream_in, is_open, opened_on};
 
     /// No stream is open, and nothing was sent: the first chunk gets the first TSN, which is expected next. It takes no memory.
     /// Precondition: `fragment_size` is 1 to 65,519.
@@ -119,40 +109,18 @@ impl Halves {
         self.progress[place].number
     }
 
-    /// Sets the mode of later writes to a stream, where it is open. It takes no memory.
-    pub fn set_mode(
-        &mut self,
-        stream: u16,
-        unordered: bool,
-        reliability: ReliabilityType,
-        value: u32,
-    )
-        ensures { self.new ≡ after_mode stream unordered reliability value self.old }
+    /// The sending half.
+    pub fn sender(&self) -> &Sender
+        ensures { result.now ≡ transmission_of self.now }
     {
-        let _ = self.sender.set_mode(stream, unordered, reliability, value);
+        &self.sender
     }
 
-    /// How many bytes of user data a fragment has at most.
-    pub fn fragment_size(&self) -> u32
-        ensures value { result ≡ self.now.fragment_size }
-        ensures some { 0 < result }
-        ensures short { result ≤ 65519 }
+    /// The receiving half.
+    pub fn receiver(&self) -> &Receiver
+        ensures { result.now ≡ reception_of self.now }
     {
-        self.sender.fragment_size()
-    }
-
-    /// How many bytes a message may have.
-    pub fn max_message_size(&self) -> u32
-        ensures { result ≡ self.now.max_message_size }
-    {
-        self.sender.max_message_size()
-    }
-
-    /// What waits and what is in flight.
-    pub fn outbound(&self) -> &OutboundQueue
-        ensures { result.now ≡ self.now.flight.queue }
-    {
-        self.sender.outbound()
+        &self.receiver
     }
 
     /// How many bytes of a stream wait or are in flight; None where it is not open.
@@ -176,22 +144,6 @@ impl Halves {
             messages_received: read.messages_received,
             bytes_received: read.bytes_received,
         })
-    }
-
-    /// The TSN up to which all came, or was skipped.
-    pub fn cumulative_tsn(&self) -> u32
-        ensures { result ≡ self.now.cumulative_tsn }
-    {
-        self.receiver.cumulative_tsn()
-    }
-
-    /// The TSNs that came beyond the cumulative one, each as a chunk that says nothing else, and those that came again since
-    /// the last SACK.
-    pub fn filter(&self) -> &PayloadQueue
-        ensures beyond { result.now.chunks ≡ map mark self.now.beyond }
-        ensures duplicates { result.now.duplicates ≡ self.now.duplicates }
-    {
-        self.receiver.filter()
     }
 
     /// What came on a stream and was not read; None where it is not open.

@@ -1,11 +1,14 @@
-//! A caller of `sctp_link`: a list of events, given to a link one after another.
+//! Callers of `sctp_link`: a list of events, given to a link one after another; and a law, applied to the link at hand.
 
+ghost use Rattle.std.specs.Prelude.{◌≡◌, ◌==◌};
+ghost use Rattle.sctp_model.specs.Amounts.{ledger};
 ghost use Rattle.sctp_model.specs.LinkRecord.{Setup};
 ghost use Rattle.sctp_model.specs.Steps.{History, StandsFor};
 
 use sctp_base::util::Checksum;
 use sctp_link::event::Event;
 use sctp_link::link::Link;
+use sctp_model::laws::bytes_balance;
 
 /// Gives events to a link, and counts those that it took. Where it stood for a history, it stands for one then:
 /// so each law of `sctp_model` that holds of every history holds of what was read, acknowledged and released.
@@ -20,4 +23,16 @@ pub fn give<C: Checksum + Drop>(link: &mut Link<C>, events: Vec<Event>) -> usize
         }
     }
     taken
+}
+
+/// Whether nothing waits or is in flight. By the law of bytes, which speaks of whatever link is at hand, that is so exactly where all
+/// bytes that were written were released.
+pub fn is_settled<C: Checksum + Drop>(link: &Link<C>) -> bool
+    ensures { result
+        ≡ ((ledger link.now.recorded).written == (ledger link.now.recorded).released) }
+{
+    link.stands();
+    bytes_balance();
+    let told = link.ledger();
+    told.pending == 0 && told.in_flight == 0
 }

@@ -1,144 +1,53 @@
 //! What the receiving half is asked for (RFC 4960 6.2; RFC 3758 3.6).
 
-ghost use Rattle.std.specs.Prelude.{◌≡◌, ◌<◌, ◌+◌, ◌^◌, ◌∷◌, ◌&&◌, ℕ, [], List, true, None, Some, OnOk, OnErr, IfOk, IsOkUnless, length, map, option_map};
+ghost use Rattle.std.specs.Prelude.{◌≡◌, ◌<◌, ◌≤◌, ◌+◌, ◌^◌, true, Some, OnErr, IfOk, IsOkUnless, length, option_map};
 ghost use Rattle.sctp_base.specs.declared.error.Error.TheVariants.{ErrOutOfMemory};
-ghost use Rattle.sctp_receiver.specs.Receiver.{is_told_complete};
-ghost use Rattle.sctp_halves.specs.Halves.{Sides, IsSaved, Grows};
 
 use super::Halves;
+use super::completing::{make_room, record_complete};
 use sctp_base::error::{Error, Result};
-use sctp_data::chunk::chunk_forward_tsn::ChunkForwardTsn;
 use sctp_data::chunk::chunk_payload_data::ChunkPayloadData;
 use sctp_data::chunk::chunk_selective_ack::ChunkSelectiveAck;
 use sctp_queues::chunks::Chunks;
-use sctp_receiver::receiver::arrival::{Arrival, Forwarded};
-use sctp_receiver::receiver::saved::SavedReceiver;
-use sctp_stream::stream_numbers::put;
-
-/// What DATA chunks may change, as it is before they are taken.
-#[derive(Drop)]
-pub struct Saved {
-    pub receiver: SavedReceiver,
-    /// How many messages are recorded as complete on each stream.
-    pub complete: Vec<usize>,
-}
+use sctp_receiver::receiver::arrival::Arrival;
 
 impl Halves {
-    ghost use Rattle.sctp_data.specs.ForwardTsn.{forward_tsn_of};
     ghost use Rattle.sctp_data.specs.SelectiveAck.{sack_of};
     ghost use Rattle.sctp_list_lemmas.specs.Lists.{change_at};
     ghost use Rattle.sctp_reassembly.specs.reassembly_queue.ReassemblyQueue.{at_start, message_read};
     ghost use Rattle.sctp_receiver.specs.Inbound.{stream_read};
-    ghost use Rattle.sctp_receiver.specs.Receiver.{data_refusal, arrival_of, forward_refusal, forwarded_of, sack};
+    ghost use Rattle.sctp_receiver.specs.Receiver.{sack};
     ghost use Rattle.sctp_halves.specs.Streams.{OpenStream, on_inbound, read_recorded, with_named};
-    ghost use Rattle.sctp_halves.specs.Halves.{reception_of, stream_in, is_open, on_stream, Takes, CanTake, TakesEach, without_duplicates, after_forward};
+    ghost use Rattle.sctp_halves.specs.Halves.{reception_of, stream_in, is_open, on_stream, CanTake, TakesEach};
 
     /// Takes DATA chunks one after another, each with the number of its message, and answers whether each came for the first
     /// time. The number of an unordered message that becomes complete is recorded. Refuses only for memory, and all is as it was
-    /// then. Of two or more what they may change is copied before; one alone copies nothing.
+    /// then.
     /// Precondition: the receiver refuses none of them, the stream of each is open, though its TSN came before, and each has a number.
     pub fn data_each(
         &mut self,
         chunks: &[ChunkPayloadData],
         numbers: &[u64],
     ) -> Result<Vec<Arrival>>
-        requires { CanTake chunks.now numbers.now self.old }
+        requires can { CanTake chunks.now numbers.now self.old }
+        requires count { length chunks.now ≤ length numbers.now }
         ensures ok { IfOk result (λ arrivals.
             TakesEach chunks.now numbers.now arrivals.items self.old self.new) }
         ensures err { OnErr result (self.new ≡ self.old) }
         ensures memory { IsOkUnless result ErrOutOfMemory }
     {
-        if chunks.len() == 1 {
-            return self.take_one(&chunks[0], numbers[0]);
-        }
-        let saved = self.save()?;
-        let taken = self.take_each(chunks, numbers);
-        if taken.is_err() {
-            self.restore(saved);
-        }
-        taken
-    }
-
-    // Takes one chunk, and nothing is copied.
-    fn take_one(&mut self, chunk: &ChunkPayloadData, number: u64) -> Result<Vec<Arrival>>
-        requires { CanTake (chunk.now ∷ []) (number ∷ []) self.old }
-        ensures ok { IfOk result (λ arrivals. TakesEach
-            (chunk.now ∷ []) (number ∷ []) arrivals.items self.old self.new) }
-        ensures err { OnErr result (self.new ≡ self.old) }
-        ensures memory { IsOkUnless result ErrOutOfMemory }
-    {
-        let mut arrivals = Vec::new(self.alloc);
-        arrivals.reserve(1)?;
-        let arrival = self.data(chunk, number)?;
-        put(&mut arrivals, arrival);
-        Ok(arrivals)
-    }
-
-    // Takes chunks one after another, up to the first one for which memory is wanting.
-    fn take_each(&mut self, chunks: &[ChunkPayloadData], numbers: &[u64]) -> Result<Vec<Arrival>>
-        requires { CanTake chunks.now numbers.now self.old }
-        ensures ok { IfOk result (λ arrivals.
-            TakesEach chunks.now numbers.now arrivals.items self.old self.new) }
-        ensures grows { Grows self.old self.new }
-        ensures memory { IsOkUnless result ErrOutOfMemory }
-    {
-        let mut arrivals = Vec::new(self.alloc);
-        for at in 0..chunks.len() {
-            let arrival = self.data(&chunks[at], numbers[at])?;
-            arrivals.push(arrival)?;
-        }
-        Ok(arrivals)
-    }
-
-    // Takes a chunk of the message with this number.
-    fn data(&mut self, chunk: &ChunkPayloadData, number: u64) -> Result<Arrival>
-        requires accepted { data_refusal chunk.now (reception_of self.old) ≡ None }
-        requires open { is_open chunk.now.stream_identifier self.old ≡ true }
-        ensures answer { IfOk result (λ a. a
-            ≡ arrival_of chunk.now.tsn (is_told_complete a) (reception_of self.old)) }
-        ensures ok { IfOk result (λ a. Takes chunk.now number a self.old self.new) }
-        ensures grows { Grows self.old self.new }
-        ensures err { OnErr result (self.new ≡ self.old) }
-        ensures memory { IsOkUnless result ErrOutOfMemory }
-    {
-        let Some(place) = self.numbers.place_of(chunk.stream_identifier) else {
-            unreachable!()
-        };
-        self.progress[place].complete.reserve(1)?;
-        let Ok(arrival) = self.receiver.data_with_any_ssn(chunk) else {
+        make_room(&mut self.progress, &self.numbers, chunks)?;
+        let Ok(arrivals) = self.receiver.data_each_with_any_ssn(chunks) else {
             return Err(Error::ErrOutOfMemory);
         };
-        if completes(chunk, arrival) {
-            self.progress[place].complete.push_back_reserved(number);
-        }
-        Ok(arrival)
-    }
-
-    // What DATA chunks may change, as it is. Refuses only for memory.
-    fn save(&self) -> Result<Saved>
-        ensures ok { IfOk result (λ saved. IsSaved self.now saved) }
-        ensures memory { IsOkUnless result ErrOutOfMemory }
-    {
-        let mut complete = Vec::new(self.alloc);
-        for place in 0..self.progress.len() {
-            complete.push(self.progress[place].complete.len())?;
-        }
-        let Ok(receiver) = self.receiver.save() else {
-            return Err(Error::ErrOutOfMemory);
-        };
-        Ok(Saved { receiver, complete })
-    }
-
-    // Puts back what was saved. It takes no memory.
-    fn restore(&mut self, saved: Saved)
-        requires { (x : Sides) × (IsSaved x saved × Grows x self.old) }
-        ensures { (x : Sides) → IsSaved x saved → Grows x self.old → self.new ≡ x }
-    {
-        self.receiver.restore(saved.receiver);
-        for place in 0..self.progress.len() {
-            let progress = &mut self.progress[place];
-            progress.complete.truncate(saved.complete[place]);
-        }
+        record_complete(
+            &mut self.progress,
+            &self.numbers,
+            chunks,
+            numbers,
+            &arrivals,
+        );
+        Ok(arrivals)
     }
 
     /// The SACK of what came; `credit` is how many bytes of user data there is room for. Nothing is forgotten. Refuses only
@@ -151,13 +60,6 @@ impl Halves {
             return Err(Error::ErrOutOfMemory);
         };
         Ok(sack)
-    }
-
-    /// A SACK was sent: all duplicates are forgotten. It takes no memory.
-    pub fn sack_sent(&mut self)
-        ensures { self.new ≡ without_duplicates self.old }
-    {
-        self.receiver.sack_sent();
     }
 
     /// Takes the next message of a stream out, where there is one. It takes no memory.
@@ -192,19 +94,6 @@ impl Halves {
         }
     }
 
-    /// Takes a FORWARD-TSN (RFC 3758 3.6), and answers whether it was past what had come. It takes no memory.
-    /// Precondition: its TSN is before or after the cumulative one.
-    pub fn forward_tsn(&mut self, chunk: &ChunkForwardTsn) -> Forwarded
-        requires { forward_refusal (forward_tsn_of chunk.now) (reception_of self.old) ≡ None }
-        ensures answer { result ≡ forwarded_of (forward_tsn_of chunk.now) (reception_of self.old) }
-        ensures rest { self.new ≡ after_forward (forward_tsn_of chunk.now) self.old }
-    {
-        match self.receiver.forward_tsn_by_names(chunk) {
-            Ok(forwarded) => forwarded,
-            Err(_) => unreachable!(),
-        }
-    }
-
     /// Records, on the stream that was opened after so many others, that its ordered messages before an index were named. It
     /// takes no memory.
     /// Precondition: so many and one are open.
@@ -216,15 +105,5 @@ impl Halves {
         let progress = &mut self.progress[place];
         progress.next = progress.next.max(end);
         progress.named = progress.named.max(end);
-    }
-}
-
-// Whether an unordered message became complete with a chunk.
-fn completes(chunk: &ChunkPayloadData, arrival: Arrival) -> bool
-    ensures { result ≡ (is_told_complete arrival && chunk.now.unordered) }
-{
-    match arrival {
-        Arrival::New { complete } => complete && chunk.unordered,
-        Arrival::Repeat => false,
     }
 }

@@ -1,6 +1,6 @@
 //! What the sending half is asked for (RFC 4960 6.1, 6.2.1; RFC 3758 3.5).
 
-ghost use Rattle.std.specs.Prelude.{◌≡◌, ◌<◌, ◌+◌, ◌-◌, ◌^◌, ℕ, true, false, None, Some, is_some, OnOk, OnErr, IfOk, IfSome, IsOk, IsOkUnless, find, length, option_map, not};
+ghost use Rattle.std.specs.Prelude.{◌≡◌, ◌<◌, ◌+◌, ◌-◌, ◌^◌, true, false, None, Some, is_some, OnOk, OnErr, IfOk, IfSome, IsOk, IsOkUnless, find, length, option_map, not};
 ghost use Rattle.sctp_data.specs.PayloadTypes.{is_ordered};
 ghost use Rattle.sctp_base.specs.declared.error.Error.TheVariants.{ErrOutOfMemory};
 ghost use Rattle.sctp_stream.specs.Stream as stream;
@@ -16,11 +16,10 @@ use sctp_stream::stream::StreamState;
 
 impl Halves {
     ghost use Rattle.sctp_data.specs.SelectiveAck.{sack_of};
-    ghost use Rattle.sctp_outbound.specs.outbound_queue.OutboundQueue.{all_started, expiring, expiring_tail, message_of, total_bytes};
-    ghost use Rattle.sctp_outbound.specs.pending_queue.PendingQueue.{next_pending};
+    ghost use Rattle.sctp_outbound.specs.outbound_queue.OutboundQueue.{expiring, expiring_tail, message_of, total_bytes};
     ghost use Rattle.sctp_data.specs.declared.chunk.chunk_payload_data.ChunkPayloadData.{ChunkPayloadData};
     ghost use Rattle.sctp_serial.specs.DataChunks.{has_tsn};
-    ghost use Rattle.sctp_sender.specs.Flight.{with_queue, with_room, may_send, resent, sack_refusal, has_tail_at, message_to_abandon};
+    ghost use Rattle.sctp_sender.specs.Flight.{with_queue, with_room, may_send, sack_refusal, has_tail_at, message_to_abandon};
     ghost use Rattle.sctp_sender.specs.Sender.{write_refusal};
     ghost use Rattle.sctp_halves.specs.Streams.{OpenStream, begun_of, with_begun, written_of};
     ghost use Rattle.sctp_halves.specs.Halves.{transmission_of, stream_in, on_stream, with_flight, written_on, flight_after_send, sack_taken, abandoned_on, expired_unsent};
@@ -65,21 +64,6 @@ impl Halves {
         Ok(written)
     }
 
-    /// Starts the lifetimes of the messages written since the last time; `now` is in nanoseconds. It takes no memory.
-    pub fn start(&mut self, now: u64)
-        ensures { self.new ≡ with_flight
-            (with_queue self.old.flight (all_started now self.old.flight.queue)) self.old }
-    {
-        self.sender.start(now);
-    }
-
-    /// The TSN that is given out next.
-    pub fn next_tsn(&self) -> u32
-        ensures { result ≡ self.now.flight.next_tsn }
-    {
-        self.sender.next_tsn()
-    }
-
     /// From here on so many calls of `send_next` take no memory. Refuses only for memory, and all is as it was then.
     pub fn reserve(&mut self, sends: usize) -> Result<()>
         ensures ok { OnOk result (self.new ≡ with_flight
@@ -120,17 +104,6 @@ impl Halves {
         let index = self.progress[place].begun;
         self.progress[place].begun = index + 1;
         index
-    }
-
-    /// Counts one more sending of the chunk in flight with a TSN. It takes no memory.
-    pub fn count_resend(&mut self, tsn: u32)
-        ensures counted { (c : ChunkPayloadData)
-            → find (has_tsn tsn) self.old.flight.queue.inflight.chunks ≡ Some c
-            → self.new ≡ with_flight (resent tsn c self.old.flight) self.old }
-        ensures none { find (has_tsn tsn) self.old.flight.queue.inflight.chunks ≡ None
-            → self.new ≡ self.old }
-    {
-        self.sender.count_resend(tsn);
     }
 
     /// Takes a SACK (RFC 4960 6.2.1). Refuses only for memory, and all is as it was then.

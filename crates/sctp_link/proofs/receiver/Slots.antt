@@ -46,7 +46,7 @@ shown named s complete = record { stream = s.stream_identifier; unordered = s.un
 
 -- what no chunk changes of a stream: all but what came on it and which messages are complete
 abbrev pub core : OpenStream → OpenStream
-core l = record l { inbound = record l.inbound { queue = record { si = 0; held = record { next_ssn = 0; ordered = []; unordered = []; unassembled = [] }; bytes = 0; max_message_size = 0 } }; complete = [] }
+core l = record l { inbound = record l.inbound { queue = record { si = 0; held = record { next_ssn = 0; ordered = []; unordered = []; unassembled = [] }; bytes = 0; max_message_size = 0; places = 0 } }; complete = [] }
 
 -- what came on the stream with a number
 inbound-found : (s : ℕ) (ls : List OpenStream) → ((k : ℕ) (d : OpenStream) → k < length ls → (slice_index_or ls k d).inbound.queue.si ≡ (slice_index_or ls k d).state.stream_identifier) → find (Inbound.has_number s) (map (λ l. l.inbound) ls) ≡ option_map (λ l. l.inbound) (find (has_number s) ls)

@@ -1,6 +1,6 @@
 -- A FORWARD-TSN that counts is followed: what it makes of a link.
-use Rattle.std.proofs.Common.{◌≡◌, ℕ, ◌+◌, ◌<◌, ◌≤◌, false, List, [], ◌∷◌, length, map, Some, None, refl, ap, sym, ◌∙◌, arith, not, true}
-use Rattle.std.specs.Prelude.{if◌then◌else◌, max, slice_get, slice_index_or, is_some, nat_le}
+use Rattle.std.proofs.Common.{◌≡◌, ℕ, ◌+◌, ◌<◌, ◌≤◌, false, List, [], ◌∷◌, length, map, Option, Some, None, Result, Ok, Err, refl, ap, sym, ◌∙◌, arith, not, true}
+use Rattle.std.specs.Prelude.{if◌then◌else◌, OnOk, IfErr, max, slice_get, slice_index_or, is_some, nat_le}
 use Rattle.std.proofs.Math.Path.{subst}
 use Rattle.std.proofs.lemmas.Bool.Decides.{nat_tests}
 use Rattle.sctp_data.specs.ForwardTsn.{ForwardTsn}
@@ -22,13 +22,17 @@ use Rattle.sctp_refinement.proofs.skipping.SkipStep.{with_skip, skip-step}
 use Rattle.sctp_refinement.proofs.skipping.SkipSpans.{queue-skip, next-skip, named-from}
 use Rattle.sctp_refinement.proofs.amounts.StreamCounters.{counters-same}
 use Rattle.sctp_receiver.specs.Inbound.{ssns_of, skipped_each}
-use Rattle.sctp_receiver.specs.Receiver.{forward_refusal}
+use Rattle.sctp_receiver.specs.Receiver.{Reception, forward_refusal}
 use Rattle.sctp_receiver.specs.Receiver as R
 use Rattle.sctp_receiver.specs.declared.receiver.refusal.ReceiverRefusal.TheVariants.{TsnOpposite}
 use Rattle.sctp_receiver.specs.TsnFilter.{Filter, skipped_to, is_opposite}
 use Rattle.sctp_list_lemmas.specs.Serial.{at_or_before}
+use Rattle.sctp_receiver.specs.declared.receiver.refusal.ReceiverRefusal.{ReceiverRefusal}
+use Rattle.sctp_sender.specs.Sender.{Transmission}
+use Rattle.sctp_halves.specs.declared.halves.progress.StreamProgress.{StreamProgress}
 use Rattle.sctp_halves.specs.Streams.{OpenStream, stream_numbers, on_inbound, forwarded_on}
-use Rattle.sctp_halves.specs.Halves.{Sides, reception_of, with_filter_of, follow_forward_tsn, after_forward}
+use Rattle.sctp_halves.specs.Halves.{Sides, IsAligned, sides, reception_of, with_filter_of, follow_forward_tsn, after_forward}
+use Rattle.sctp_halves.proofs.Aligned.{reception-is, forward-numbers, forward-sides}
 use Rattle.sctp_link.specs.declared.skipped.Named.{Named}
 use Rattle.sctp_link.specs.declared.record.Message.{Message}
 use Rattle.sctp_link.specs.Linked.{State, IsLinked, IsOpenStream, stats_of, filter_shown}
@@ -175,3 +179,20 @@ module _ (sum : List ℕ → ℕ) (x : State) (l : IsLinked sum x) (k upto : ℕ
     pub linked-follow : (skipped : ℕ) (filter : Filter) → skipped ≡ upto + 1 → filter ≡ skipped_to (tsn_of w upto) x.filter → IsLinked sum (record x { recorded = record w { streams = map stream_record (map turned x.open_streams); skipped = skipped }; open_streams = map turned x.open_streams; filter = filter })
     linked-follow skipped filter count is =
         linked-skip filter (record w { streams = map stream_record (map turned x.open_streams); skipped = skipped }) (filter-then filter is) (recorded-skipped skipped count)
+
+-- ## The receiver of the halves
+
+unless-refused : {T E P : Type 0} (r : Result T E) (o : Option E) → OnOk r P → IfErr r (λ e. o ≡ Some e) → o ≡ None → P
+unless-refused (Ok x) o p h none = p
+unless-refused (Err e) o p h none = absurd (cc)
+
+module _ (ns : List ℕ) (t : Transmission) (r s : Reception) (ps : List StreamProgress) (a : IsAligned ns t r ps) (y : Sides) (is : sides t r ps ≡ y) (f : ForwardTsn) (none : forward_refusal f (reception_of y) ≡ None) where
+  module _ {T : Type 0} (res : Result T ReceiverRefusal) (ok : OnOk res (s ≡ R.after_forward f r)) (refused : IfErr res (λ e. forward_refusal f r ≡ Some e)) where
+    takes : s ≡ R.after_forward f r
+    takes = unless-refused res (forward_refusal f r) ok refused (ap (forward_refusal f) (sym (reception-is ns t r ps a) ∙ ap reception_of is) ∙ none)
+
+    pub followed-aligned : IsAligned ns t s ps
+    followed-aligned = forward-numbers ns t r ps a f s takes
+
+    pub followed-sides : sides t s ps ≡ after_forward f y
+    followed-sides = forward-sides ns t r ps a f s takes ∙ ap (after_forward f) is

@@ -36,7 +36,10 @@ impl<C: Checksum + Drop> Link<C> {
         ensures { result ≡ is_partially_sent self.now.recorded number }
     {
         let message = &self.messages[number];
-        let count = fragments_in(message.bytes.len(), self.halves.fragment_size() as usize);
+        let count = fragments_in(
+            message.bytes.len(),
+            self.halves.sender().fragment_size() as usize,
+        );
         0 < message.sent && message.sent < count as u64 && !message.abandoned
     }
 
@@ -88,7 +91,7 @@ impl<C: Checksum + Drop> Link<C> {
         ensures memory { IsOkUnless result ErrOutOfMemory }
         ensures wants { OnErr result (takes_memory self.old.recorded (E.Tail now) ≡ true) }
     {
-        let Some(chunk) = self.halves.outbound().peek_pending() else {
+        let Some(chunk) = self.halves.sender().outbound().peek_pending() else {
             return Ok(Reply::Idle);
         };
         if chunk.beginning_fragment {

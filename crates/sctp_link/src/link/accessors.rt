@@ -24,7 +24,10 @@ pub struct Ledger {
 }
 
 impl<C: Checksum + Drop> Link<C> {
+    ghost use Rattle.sctp_model.specs.Laws.{IsSetup};
+    ghost use Rattle.sctp_model.specs.LinkRecord.{Setup};
     ghost use Rattle.sctp_model.specs.Messages.{is_open};
+    ghost use Rattle.sctp_model.specs.Steps.{History, StandsFor};
     ghost use Rattle.sctp_model.specs.Amounts.{ledger, buffered_amount, counters_of};
     ghost use Rattle.sctp_model.specs.Receiver.{cumulative};
     ghost use Rattle.sctp_model.specs.Contents.{cumulative_tsn};
@@ -33,12 +36,22 @@ impl<C: Checksum + Drop> Link<C> {
     ghost use Rattle.sctp_refinement.specs.Refines.{shown, in_flight_shown, filter_held, sending_of, sendings_of};
     ghost use Rattle.sctp_link.specs.Linked.{stats_of, ledger_of};
 
+    /// There is a history that the link stands for, of a setup that a link may have: so each law of `sctp_model`
+    /// that holds of every history speaks of this link. It does nothing.
+    pub fn stands(&self)
+        ensures { (setup : Setup) × (IsSetup setup
+            × ((h : History) × StandsFor setup self.now.recorded h)) }
+    {
+        // the invariant of a link is known where a field is read
+        let _limit = self.limit;
+    }
+
     /// The bytes written, and what became of them.
     pub fn ledger(&self) -> Ledger
         ensures { result ≡ ledger_of (ledger self.now.recorded) }
     {
-        let pending = self.halves.outbound().pending_bytes() as u64;
-        let in_flight = self.halves.outbound().inflight_bytes() as u64;
+        let pending = self.halves.sender().outbound().pending_bytes() as u64;
+        let in_flight = self.halves.sender().outbound().inflight_bytes() as u64;
         Ledger {
             written: self.written,
             pending,
@@ -73,7 +86,7 @@ impl<C: Checksum + Drop> Link<C> {
         // what a further sending of each says, with its stream, stream sequence number and flags, while it has its bytes
         ensures says { map sending_of result.now.inflight.chunks ≡ sendings_of self.now.recorded }
     {
-        self.halves.outbound()
+        self.halves.sender().outbound()
     }
 
     /// The TSNs that came beyond the cumulative one, and those that came again
@@ -83,7 +96,7 @@ impl<C: Checksum + Drop> Link<C> {
             (cumulative_tsn self.now.recorded (cumulative self.now.recorded)) result.now
             ≡ filter_of self.now.recorded }
     {
-        self.halves.filter()
+        self.halves.receiver().filter()
     }
 
     /// What came on an open stream and was not read; None where it is not open.

@@ -18,7 +18,7 @@ impl<C: Checksum + Drop> Link<C> {
             (reply_of result) self.new.recorded }
         ensures checksum { self.new.checksum ≡ self.old.checksum }
     {
-        let Some(chunk) = self.halves.outbound().peek_pending() else {
+        let Some(chunk) = self.halves.sender().outbound().peek_pending() else {
             return Reply::Idle;
         };
         let number = chunk.message_id as usize;

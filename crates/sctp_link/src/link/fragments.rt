@@ -135,7 +135,7 @@ fn take_next(halves: &mut Halves, messages: &mut [Message], slots: &mut Vec<Slot
     ensures len { vec_len slots.new ≡ vec_len slots.old + 1 }
     ensures capacity { vec_capacity slots.old ≤ vec_capacity slots.new }
 {
-    let Some(chunk) = halves.outbound().peek_pending() else {
+    let Some(chunk) = halves.sender().outbound().peek_pending() else {
         unreachable!()
     };
     let number = chunk.message_id;

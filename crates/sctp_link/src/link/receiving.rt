@@ -144,7 +144,7 @@ impl<C: Checksum + Drop> Link<C> {
         requires { place < length self.now.recorded.slots }
         ensures { result ≡ is_new self.now.recorded place }
     {
-        let cumulative = count_of(self.halves.cumulative_tsn(), self.first_tsn);
+        let cumulative = count_of(self.halves.receiver().cumulative_tsn(), self.first_tsn);
         cumulative <= place as u64 && !self.slots[place].arrived
     }
 

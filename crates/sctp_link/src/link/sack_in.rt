@@ -53,12 +53,12 @@ impl<C: Checksum + Drop> Link<C> {
         // One that a later SACK overtook is told from the cumulative TSN of the later one.
         let upto = self.first_tsn.wrapping_sub(1).wrapping_add(taken as u32);
         rebase(&mut sack, upto, taken - cumulative);
-        let before = self.halves.outbound().inflight_bytes();
+        let before = self.halves.sender().outbound().inflight_bytes();
         self.halves.acked(&sack)?;
         acknowledge_run(&mut self.slots, self.taken, taken);
         acknowledge_blocks(&mut self.slots, taken, &sack.gap_ack_blocks);
         self.taken = taken;
-        let bytes = before.saturating_sub(self.halves.outbound().inflight_bytes()) as u64;
+        let bytes = before.saturating_sub(self.halves.sender().outbound().inflight_bytes()) as u64;
         Ok(Reply::Acked { bytes })
     }
 }

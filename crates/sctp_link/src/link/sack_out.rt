@@ -41,7 +41,8 @@ impl<C: Checksum + Drop> Link<C> {
             duplicates,
         };
         let datagram = self.network.len() as u64;
-        self.halves.sack_sent();
+        let halves = &mut self.halves;
+        halves.receiver.sack_sent();
         self.duplicates.clear();
         put(&mut self.network, Datagram { kind, bytes });
         Ok(Reply::Ack { datagram })

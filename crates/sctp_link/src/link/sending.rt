@@ -29,20 +29,27 @@ impl<C: Checksum + Drop> Link<C> {
         ensures memory { IsOkUnless result ErrOutOfMemory }
         ensures wants { OnErr result (takes_memory self.old.recorded (E.Send now) ≡ true) }
     {
-        let Some(first) = self.halves.outbound().peek_pending() else {
+        let Some(first) = self.halves.sender().outbound().peek_pending() else {
             self.start(now);
             return Ok(Reply::Idle);
         };
         let ssn = first.stream_sequence_number;
-        let tsn = self.halves.next_tsn();
-        let chunks = next_chunks(self.alloc, self.halves.outbound(), first, tsn, self.limit)?;
+        let tsn = self.halves.sender().next_tsn();
+        let chunks = next_chunks(
+            self.alloc,
+            self.halves.sender().outbound(),
+            first,
+            tsn,
+            self.limit,
+        )?;
         let count = chunks.len();
         let bytes = write_chunks(self.alloc, chunks, &self.checksum)?;
         let places = places_from(self.alloc, self.slots.len(), count)?;
         self.slots.reserve(count)?;
         self.network.reserve(1)?;
         self.halves.reserve(count)?;
-        self.halves.start(now);
+        let halves = &mut self.halves;
+        halves.sender.start(now);
         start_from(&mut self.messages, self.unstarted, now);
         self.unstarted = self.messages.len();
         take_fragments(
@@ -93,14 +100,15 @@ impl<C: Checksum + Drop> Link<C> {
         ensures err { OnErr result (self.new.recorded ≡ self.old.recorded) }
         ensures memory { IsOkUnless result ErrOutOfMemory }
     {
-        let Some(chunk) = self.halves.outbound().get(tsn) else {
+        let Some(chunk) = self.halves.sender().outbound().get(tsn) else {
             unreachable!()
         };
         let chunk = chunk.try_clone()?;
         let places = places_from(self.alloc, tsn.wrapping_sub(self.first_tsn) as usize, 1)?;
         let bytes = write_datagram(self.alloc, ChunkKind::PayloadData(chunk), &self.checksum)?;
         self.network.reserve(1)?;
-        self.halves.count_resend(tsn);
+        let halves = &mut self.halves;
+        halves.sender.count_resend(tsn);
         let datagram = self.network.len() as u64;
         let kind = Kind::Data { places };
         put(&mut self.network, Datagram { kind, bytes });

@@ -31,7 +31,7 @@ impl<C: Checksum + Drop> Link<C> {
             ≡ Some (Forward upto names.now)) }
         ensures { result ≡ arrival_fits self.now.recorded (Some (Forward upto names.now)) }
     {
-        let cumulative = count_of(self.halves.cumulative_tsn(), self.first_tsn);
+        let cumulative = count_of(self.halves.receiver().cumulative_tsn(), self.first_tsn);
         if cumulative > upto {
             return true;
         }
@@ -103,7 +103,7 @@ impl<C: Checksum + Drop> Link<C> {
         ensures memory { IsOkUnless result ErrOutOfMemory }
     {
         let chunk = read_forward_tsn(self.alloc, &self.network[k as usize].bytes, &self.checksum)?;
-        let cumulative = count_of(self.halves.cumulative_tsn(), self.first_tsn);
+        let cumulative = count_of(self.halves.receiver().cumulative_tsn(), self.first_tsn);
         if cumulative > upto {
             return Ok(Reply::Stale);
         }
@@ -128,7 +128,8 @@ impl<C: Checksum + Drop> Link<C> {
         let Kind::Forward { messages, .. } = &self.network[k as usize].kind else {
             unreachable!()
         };
-        let _ = self.halves.forward_tsn(chunk);
+        let halves = &mut self.halves;
+        let _ = halves.receiver.forward_tsn_by_names(chunk);
         record_names(&mut self.halves, &self.messages, messages);
         self.skipped = upto as usize + 1;
     }

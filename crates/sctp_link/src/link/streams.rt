@@ -49,7 +49,10 @@ impl<C: Checksum + Drop> Link<C> {
             (E.Mode stream unordered reliability value) (reply_of result) self.new.recorded }
         ensures checksum { self.new.checksum ≡ self.old.checksum }
     {
-        self.halves.set_mode(stream, unordered, reliability, value);
+        let halves = &mut self.halves;
+        let _ = halves
+            .sender
+            .set_mode(stream, unordered, reliability, value);
         Reply::Set
     }
 
@@ -62,10 +65,10 @@ impl<C: Checksum + Drop> Link<C> {
         if !self.is_open(stream) {
             return Some(LinkRefusal::StreamUnknown);
         }
-        if len > self.halves.max_message_size() as usize {
+        if len > self.halves.sender().max_message_size() as usize {
             return Some(LinkRefusal::MessageTooLarge);
         }
-        let fragments = fragments_in(len, self.halves.fragment_size() as usize);
+        let fragments = fragments_in(len, self.halves.sender().fragment_size() as usize);
         if self.fragments + fragments >= 0x8000_0000 {
             return Some(LinkRefusal::TsnsUsedUp);
         }
@@ -97,7 +100,7 @@ impl<C: Checksum + Drop> Link<C> {
             });
         }
         let len = bytes.len();
-        let count = fragments_in(len, self.halves.fragment_size() as usize);
+        let count = fragments_in(len, self.halves.sender().fragment_size() as usize);
         self.messages.reserve(1)?;
         let written = self.halves.write(stream, ppi, &bytes)?;
         let number = self.messages.len() as u64;
@@ -119,7 +122,8 @@ impl<C: Checksum + Drop> Link<C> {
             (reply_of result) self.new.recorded }
         ensures checksum { self.new.checksum ≡ self.old.checksum }
     {
-        self.halves.start(now);
+        let halves = &mut self.halves;
+        halves.sender.start(now);
         start_from(&mut self.messages, self.unstarted, now);
         self.unstarted = self.messages.len();
         Reply::Started

@@ -4,8 +4,7 @@ use Rattle.sctp_data.specs.declared.chunk.chunk_payload_data.ChunkPayloadData.{C
 use Rattle.sctp_outbound.specs.outbound_queue.OutboundQueue.{Outbound, expiring}
 use Rattle.sctp_outbound.specs.pending_queue.PendingQueue.{next_pending}
 use Rattle.sctp_sender.specs.Sender as S
-use Rattle.sctp_halves.specs.Halves.{on_stream}
-use Rattle.sctp_halves.proofs.Aligned.{sides}
+use Rattle.sctp_halves.specs.Halves.{on_stream, sides}
 use Rattle.sctp_halves.proofs.Sends.{one_less}
 use Rattle.sctp_halves.proofs.Writes.{expired-aligned, unordered-expired, ordered-expired, front-is}
 use Rattle.sctp_halves.proofs.halves.Halves.expire.Goals as goal

@@ -1,8 +1,8 @@
 use Rattle.std.proofs.Common.{◌≡◌, ap, sym, ◌∙◌, true, false, Some}
 use Rattle.std.specs.Prelude.{option_map}
 use Rattle.sctp_reassembly.specs.reassembly_queue.ReassemblyQueue.{at_start}
-use Rattle.sctp_halves.specs.Halves.{stream_in, is_open}
-use Rattle.sctp_halves.proofs.Aligned.{sides, open-is, read-message, read-numbers, read-sides}
+use Rattle.sctp_halves.specs.Halves.{stream_in, is_open, sides}
+use Rattle.sctp_halves.proofs.Aligned.{open-is, read-message, read-numbers, read-sides}
 use Rattle.sctp_halves.proofs.halves.Halves.read.Goals as goal
 
 pub unreachable-requires : goal.unreachable-requires

@@ -2,9 +2,9 @@ use Rattle.std.proofs.Common.{◌<◌, ap, ◌∙◌, refl, arith, length}
 use Rattle.std.specs.Prelude.{max}
 use Rattle.sctp_halves.specs.declared.halves.progress.StreamProgress.{StreamProgress}
 use Rattle.sctp_halves.specs.Streams.{OpenStream, with_named}
-use Rattle.sctp_halves.specs.Halves.{Sides}
+use Rattle.sctp_halves.specs.Halves.{Sides, sides}
 use Rattle.sctp_halves.proofs.Joined.{with_progress}
-use Rattle.sctp_halves.proofs.Aligned.{sides, count-is, with-progresses, progress-number, progress-changed}
+use Rattle.sctp_halves.proofs.Aligned.{count-is, with-progresses, progress-number, progress-changed}
 use Rattle.sctp_halves.proofs.halves.Halves.record_named.Goals as goal
 
 pub index_mut-progress-requires : goal.index_mut-progress-requires

@@ -2,8 +2,7 @@ use Rattle.std.proofs.Common.{◌∙◌}
 use Rattle.sctp_stream.specs.declared.stream.StreamState.{StreamState}
 use Rattle.sctp_receiver.specs.declared.receiver.inbound_streams.InboundStream.{InboundStream}
 use Rattle.sctp_halves.specs.Streams.{OpenStream, stats_in}
-use Rattle.sctp_halves.specs.Halves.{stream_in}
-use Rattle.sctp_halves.proofs.Aligned.{sides}
+use Rattle.sctp_halves.specs.Halves.{stream_in, sides}
 use Rattle.sctp_halves.proofs.Sends.{state-told, inbound-told, told-none, both-told}
 use Rattle.sctp_halves.proofs.halves.Halves.stats.Goals as goal
 

@@ -1,15 +1,18 @@
-use Rattle.std.proofs.Common.{◌≡◌, ◌+◌, ◌-◌, ◌%◌, ◌^◌, ◌++◌, ◌∷◌, [], length, take, rules, refl, ap, ◌∙◌, sym}
+use Rattle.std.proofs.Common.{◌≡◌, ◌+◌, ◌-◌, ◌%◌, ◌^◌, ◌++◌, ◌∷◌, [], length, take, rules, refl, ap, ◌∙◌, sym, subst}
 use Rattle.sctp_list_lemmas.proofs.Getting.{length-mapped}
 use Rattle.sctp_data.specs.SelectiveAck.{Sack, sack_of}
 use Rattle.sctp_model.specs.Reply as R
 use Rattle.sctp_model.specs.Changes.{after_ack}
 use Rattle.sctp_receiver.specs.Receiver.{filter_of}
-use Rattle.sctp_halves.specs.Halves.{reception_of}
+use Rattle.sctp_model.specs.Steps.{IsRight}
+use Rattle.sctp_model.specs.declared.event.Event.TheVariants as E
+use Rattle.sctp_halves.specs.Halves.{Sides, sides, reception_of, without_duplicates}
 use Rattle.sctp_link.specs.declared.record.Kind.{Kind}
 use Rattle.sctp_link.specs.declared.record.Kind.TheVariants as K
 use Rattle.sctp_link.specs.declared.record.Datagram.{Datagram}
 use Rattle.sctp_link.specs.Records.{datagram_record}
 use Rattle.sctp_link.specs.Fields.{state_in, record_in}
+use Rattle.sctp_link.specs.Linked.{IsLinked}
 use Rattle.sctp_link.proofs.upkeep.Frames.{moved}
 use Rattle.sctp_link.proofs.sender.Outgoing.{network-more, bytes-more}
 use Rattle.sctp_link.proofs.acknowledging.Reporting.{cut-is, told-count, told-is, fits-encoding, cumulative-place, report-is, linked-ack, recorded-acked}
@@ -39,7 +42,9 @@ invariant_of-self-2 g c =
     let report = report-is sum x c.self.invariant c.args.credit _ s.gap_ack_blocks refl cut (length s.duplicate_tsn) counted c.from.result _ c.in_ok-duplicates.duplicates.items (place ∙ ap (λ t. ((t + (2 ^ 32 - c.self.inside.first_tsn)) % 2 ^ 32 + 1) % 2 ^ 32) tsn ∙ cumulative-place sum x c.self.invariant c.args.credit) refl noted in
     let moves = recorded-acked (record_in c.self.inside) c.args.credit _ c.clear.new.self.items _ network (rw kept report) (search rules) in
     let len = length-mapped (λ (d : Datagram). d.bytes) c.self.inside.network.items ∙ sym (length-mapped datagram_record c.self.inside.network.items) in
-    rw c.sack_sent.ensures (moved _ _ (after_ack (record_in c.self.inside) c.args.credit) moves
+    let h = c.halves.inside in
+    let sent : sides h.sender c.sack_sent.new.self h.progress.items ≡ without_duplicates c.self.inside.halves = ap (λ z. sides h.sender z h.progress.items) c.sack_sent.ensures ∙ ap without_duplicates c.halves.view_is in
+    subst (λ (y : Sides). IsLinked sum (state_in (record c.self.inside { halves = y; network = c.put.new.items; duplicates = c.clear.new.self }))) (sym sent) (moved _ _ (after_ack (record_in c.self.inside) c.args.credit) moves
     (rw bytes (linked-ack sum x c.self.invariant c.args.credit _ s.gap_ack_blocks refl cut (length s.duplicate_tsn) counted s c.in_ok-bytes.bytes (record (filter_of r) { duplicates = [] }) tsn (ap (λ (t : Sack). t.advertised_receiver_window_credit) is) refl (told-is sum x c.self.invariant c.args.credit r refl s is) (search rules) (search rules) len refl)))
 
 pub returns-clause-ok : goal.returns-clause-ok
@@ -61,4 +66,6 @@ returns-clause-ok g c =
     let report = report-is sum x c.self.invariant c.args.credit _ s.gap_ack_blocks refl cut (length s.duplicate_tsn) counted c.from.result _ c.in_ok-duplicates.duplicates.items (place ∙ ap (λ t. ((t + (2 ^ 32 - c.self.inside.first_tsn)) % 2 ^ 32 + 1) % 2 ^ 32) tsn ∙ cumulative-place sum x c.self.invariant c.args.credit) refl noted in
     let moves = recorded-acked (record_in c.self.inside) c.args.credit _ c.clear.new.self.items _ network (rw kept report) (search rules) in
     let len : c.len-datagram.result ≡ length c.self.inside.network.items = search rules in
-    rw (← c.self.view_is) (rw c.sack_sent.ensures (record { right = ap R.Ack (len ∙ sym (length-mapped datagram_record c.self.inside.network.items)); moves = moves }))
+    let h = c.halves.inside in
+    let sent : sides h.sender c.sack_sent.new.self h.progress.items ≡ without_duplicates c.self.inside.halves = ap (λ z. sides h.sender z h.progress.items) c.sack_sent.ensures ∙ ap without_duplicates c.halves.view_is in
+    rw (← c.self.view_is) (subst (λ (y : Sides). IsRight (record_in c.self.inside) (E.Ack c.args.credit) (R.Ack c.len-datagram.result) (record_in (record c.self.inside { halves = y; network = c.put.new.items; duplicates = c.clear.new.self }))) (sym sent) (record { right = ap R.Ack (len ∙ sym (length-mapped datagram_record c.self.inside.network.items)); moves = moves }))

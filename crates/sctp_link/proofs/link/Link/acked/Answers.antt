@@ -14,6 +14,7 @@ use Rattle.sctp_refinement.specs.Amount.{acknowledged_at}
 use Rattle.sctp_sender.specs.Flight.{released_by, after_sack}
 use Rattle.sctp_halves.specs.Streams.{after_releases}
 use Rattle.sctp_halves.specs.Halves.{Sides}
+use Rattle.sctp_sender.specs.Sender.{Transmission}
 use Rattle.sctp_link.specs.Acking.{IsMarking, and_run, and_blocks, in_block}
 use Rattle.sctp_link.specs.Fields.{record_in, state_in}
 use Rattle.sctp_link.proofs.upkeep.Facts.{facts}
@@ -165,8 +166,8 @@ returns-clause-ok g c =
     refl refl refl marks in
     rw (← c.self.view_is) (rw c.in_ok-acked.ensures.ok (record {
       right = ap R.Acked (c.saturating_sub-bytes.ensures
-          ∙ ap (λ n. n - c.inflight_bytes.result) (c.inflight_bytes-before.ensures ∙ ap (λ (q : Outbound). bytes_of q.inflight.chunks) c.outbound.ensures)
-          ∙ ap (λ n. bytes_of c.self.inside.halves.flight.queue.inflight.chunks - n) (c.inflight_bytes.ensures ∙ ap (λ (q : Outbound). bytes_of q.inflight.chunks) c.outbound-2.ensures ∙ ap (λ (h : Sides). bytes_of h.flight.queue.inflight.chunks) c.in_ok-acked.ensures.ok)
+          ∙ ap (λ n. n - c.inflight_bytes.result) (c.inflight_bytes-before.ensures ∙ ap (λ (q : Outbound). bytes_of q.inflight.chunks) (c.outbound.ensures ∙ ap (λ (t : Transmission). t.flight.queue) c.sender.ensures))
+          ∙ ap (λ n. bytes_of c.self.inside.halves.flight.queue.inflight.chunks - n) (c.inflight_bytes.ensures ∙ ap (λ (q : Outbound). bytes_of q.inflight.chunks) (c.outbound-2.ensures ∙ ap (λ (t : Transmission). t.flight.queue) c.sender-2.ensures) ∙ ap (λ (h : Sides). bytes_of h.flight.queue.inflight.chunks) c.in_ok-acked.ensures.ok)
           ∙ taken.bytes);
       moves = taken.moves;
     }))

@@ -67,8 +67,8 @@ message_numbers-requires g c =
     let kept : c.in-Data.places.items ≡ ps = places-kept ds k c.index-2.result.now c.in-Data.places.items ps lies.1 c.index-2.ensures (ap kind_record c.in-Data.is) in
     rw (c.deref-2.ensures.value ∙ kept, c.deref.ensures.value) (λ i lt. omega (arith, all-inside sum x l k ps lies.1 i lt, length-mapped slot_record c.self.inside.slots.items))
 
-pub data_each-requires : goal.data_each-requires
-data_each-requires g c =
+pub data_each-requires-clause-can : goal.data_each-requires-clause-can
+data_each-requires-clause-can g c =
     let w = record_in c.self.inside in
     let sum = g.C.Checksum.sum c.self.inside.checksum in
     let x = state_in c.self.inside in
@@ -87,6 +87,24 @@ data_each-requires g c =
     let receiver = receiver-of sum x l c.self.inside.halves refl refl refl in
     let come = all-come sum x l k ps none lies.1 in
     rw (chunks, numbers) (can (number_at slots) ps (map (chunk_at w) ps) w c.self.inside.halves (numbers-are w slots refl) receiver come)
+
+pub data_each-requires-clause-count : goal.data_each-requires-clause-count
+data_each-requires-clause-count g c =
+    let w = record_in c.self.inside in
+    let sum = g.C.Checksum.sum c.self.inside.checksum in
+    let x = state_in c.self.inside in
+    let l = c.self.invariant in
+    let k = c.args.k in
+    let ds = c.self.inside.network.items in
+    let lies : (places : List ℕ) × (slice_get w.network k ≡ Some (Data places)) = rw (← c.self.view_is) at c.requires.lies in
+    let ps = lies.0 in
+    let kept : c.in-Data.places.items ≡ ps = places-kept ds k c.index-2.result.now c.in-Data.places.items ps lies.1 c.index-2.ensures (ap kind_record c.in-Data.is) in
+    let slots = c.self.inside.slots.items in
+    let reads = says-data sum x k ps ds c.index.result.now l refl refl lies.1 c.index.ensures in
+    let chunks : c.deref-3.result.now ≡ map (chunk_at w) ps = c.deref-3.ensures.value ∙ c.in_ok-chunks.ensures.chunks (said w ps) reads ∙ said-fresh w ps in
+    let numbers : c.deref-4.result.now ≡ map (number_at slots) ps =
+    c.deref-4.ensures.value ∙ c.in_ok-numbers.ensures.numbers ∙ ap (λ ss. map (number_at ss) c.deref-2.result.now) c.deref.ensures.value ∙ ap (map (number_at slots)) (c.deref-2.ensures.value ∙ kept) in
+    omega (arith, ap length chunks, ap length numbers, length-mapped (chunk_at w) ps, length-mapped (number_at slots) ps)
 
 pub record_arrivals-new-requires-clause-inside : goal.record_arrivals-new-requires-clause-inside
 record_arrivals-new-requires-clause-inside g c =

@@ -6,6 +6,7 @@ use Rattle.sctp_model.specs.Receiver.{cumulative}
 use Rattle.sctp_model.specs.Changes.{skip_counts, after_arrive}
 use Rattle.sctp_model.specs.Steps.{arrive_reply}
 use Rattle.sctp_model.specs.Reply as R
+use Rattle.sctp_receiver.specs.Receiver.{Reception}
 use Rattle.sctp_link.specs.Fields.{record_in, state_in}
 use Rattle.sctp_link.proofs.acknowledging.Reporting.{cumulative-place}
 use Rattle.sctp_link.specs.Skips.{wire_skip}
@@ -32,7 +33,7 @@ follow-requires-clause-counts g c =
     let w = record_in c.self.inside in
     let sum = g.C.Checksum.sum c.self.inside.checksum in
     let x = state_in c.self.inside in
-    let past : cumulative w ≤ c.args.upto = omega (arith, c.if-cumulative-upto.false, c.count_of-cumulative.ensures, c.cumulative_tsn.ensures, cumulative-place sum x c.self.invariant 0) in
+    let past : cumulative w ≤ c.args.upto = omega (arith, c.if-cumulative-upto.false, c.count_of-cumulative.ensures, c.cumulative_tsn.ensures, ap (λ (r : Reception). r.cumulative_tsn) c.receiver.ensures, cumulative-place sum x c.self.invariant 0) in
     let counted : skip_counts w c.args.upto ≡ true = grind (arith, nat_tests) in
     rw (← c.self.view_is) counted
 
@@ -41,7 +42,7 @@ returns-clause-ok g c =
     let w = record_in c.self.inside in
     let sum = g.C.Checksum.sum c.self.inside.checksum in
     let x = state_in c.self.inside in
-    let past : cumulative w ≤ c.args.upto = omega (arith, c.if-cumulative-upto.false, c.count_of-cumulative.ensures, c.cumulative_tsn.ensures, cumulative-place sum x c.self.invariant 0) in
+    let past : cumulative w ≤ c.args.upto = omega (arith, c.if-cumulative-upto.false, c.count_of-cumulative.ensures, c.cumulative_tsn.ensures, ap (λ (r : Reception). r.cumulative_tsn) c.receiver.ensures, cumulative-place sum x c.self.invariant 0) in
     let counted : skip_counts w c.args.upto ≡ true = grind (arith, nat_tests) in
     let v = c.args.self.now.recorded in
     let counts : skip_counts v c.args.upto ≡ true = rw (← c.self.view_is) counted in

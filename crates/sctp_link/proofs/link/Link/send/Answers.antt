@@ -6,9 +6,10 @@ use Rattle.sctp_list_lemmas.specs.Kept.{numbers_from}
 use Rattle.sctp_chunks.specs.declared.chunk.chunk_kind.ChunkKind.TheVariants as C
 use Rattle.sctp_outbound.specs.pending_queue.PendingQueue.{next_pending}
 use Rattle.sctp_outbound.specs.outbound_queue.OutboundQueue.{Outbound}
-use Rattle.sctp_halves.specs.Halves.{Sides}
+use Rattle.sctp_halves.specs.Halves.{Sides, sides}
 use Rattle.sctp_model.specs.Changes.{after_start}
 use Rattle.sctp_refinement.specs.Filling.{chunks_taken}
+use Rattle.sctp_sender.specs.Sender.{Transmission}
 use Rattle.sctp_link.specs.declared.record.Slot.{Slot}
 use Rattle.sctp_link.specs.declared.record.Datagram.{Datagram}
 use Rattle.sctp_link.specs.declared.record.Kind.TheVariants as K
@@ -19,6 +20,7 @@ use Rattle.sctp_link.specs.Sends.{sender_of}
 use Rattle.sctp_link.proofs.receiver.Keeping.{on-err}
 use Rattle.sctp_link.proofs.sender.Sending.{next-is, idle-right, looks-short}
 use Rattle.sctp_link.proofs.sender.SentLists.{count-is, encodings-each, canonical-each, can-leave, linked-sent, send-is-right}
+use Rattle.sctp_link.proofs.sender.Starting.{started-sides}
 use Rattle.sctp_link.proofs.link.Link.send.Goals as goal
 
 pub returns-in_default-clause-ok : goal.returns-in_default-clause-ok
@@ -28,82 +30,85 @@ returns-in_default-clause-ok g c =
     rw (← c.self.view_is) (idle-right (g.C.Checksum.sum c.self.inside.checksum) (state_in c.self.inside) c.self.invariant c.args.now c.start.new.self.recorded none moves)
 
 pub next_chunks-requires-clause-short : goal.next_chunks-requires-clause-short
-next_chunks-requires-clause-short g c = rw c.outbound-2.ensures (looks-short (g.C.Checksum.sum c.self.inside.checksum) (state_in c.self.inside) c.self.invariant c.args.now)
+next_chunks-requires-clause-short g c = rw (c.outbound-2.ensures, c.sender-3.ensures) (looks-short (g.C.Checksum.sum c.self.inside.checksum) (state_in c.self.inside) c.self.invariant c.args.now)
 
 pub write_chunks-requires-clause-encoding : goal.write_chunks-requires-clause-encoding
 write_chunks-requires-clause-encoding g c =
     let e : next_pending c.self.inside.halves.flight.queue.pending ≡ Some c.in-Some.first.now = search rules in
     let chunks : c.in_ok-chunks.chunks.items ≡ map C.PayloadData (chunks_taken c.self.inside.limit c.self.inside.halves.flight.next_tsn c.self.inside.halves.flight.queue.pending) =
-    c.in_ok-chunks.ensures.chunks ∙ ap (λ t. map C.PayloadData (chunks_taken c.self.inside.limit t c.outbound-2.result.now.pending)) c.next_tsn-tsn.ensures ∙ ap (λ (q : Outbound). map C.PayloadData (chunks_taken c.self.inside.limit c.self.inside.halves.flight.next_tsn q.pending)) c.outbound-2.ensures in
+    c.in_ok-chunks.ensures.chunks ∙ ap (λ t. map C.PayloadData (chunks_taken c.self.inside.limit t c.outbound-2.result.now.pending)) (c.next_tsn-tsn.ensures ∙ ap (λ (t : Transmission). t.flight.next_tsn) c.sender-2.ensures) ∙ ap (λ (q : Outbound). map C.PayloadData (chunks_taken c.self.inside.limit c.self.inside.halves.flight.next_tsn q.pending)) (c.outbound-2.ensures ∙ ap (λ (t : Transmission). t.flight.queue) c.sender-3.ensures) in
     encodings-each (g.C.Checksum.sum c.self.inside.checksum) (state_in c.self.inside) c.self.invariant c.args.now c.in-Some.first.now e c.in_ok-chunks.chunks.items chunks
 
 pub write_chunks-requires-clause-canonical : goal.write_chunks-requires-clause-canonical
 write_chunks-requires-clause-canonical g c =
     let e : next_pending c.self.inside.halves.flight.queue.pending ≡ Some c.in-Some.first.now = search rules in
     let chunks : c.in_ok-chunks.chunks.items ≡ map C.PayloadData (chunks_taken c.self.inside.limit c.self.inside.halves.flight.next_tsn c.self.inside.halves.flight.queue.pending) =
-    c.in_ok-chunks.ensures.chunks ∙ ap (λ t. map C.PayloadData (chunks_taken c.self.inside.limit t c.outbound-2.result.now.pending)) c.next_tsn-tsn.ensures ∙ ap (λ (q : Outbound). map C.PayloadData (chunks_taken c.self.inside.limit c.self.inside.halves.flight.next_tsn q.pending)) c.outbound-2.ensures in
+    c.in_ok-chunks.ensures.chunks ∙ ap (λ t. map C.PayloadData (chunks_taken c.self.inside.limit t c.outbound-2.result.now.pending)) (c.next_tsn-tsn.ensures ∙ ap (λ (t : Transmission). t.flight.next_tsn) c.sender-2.ensures) ∙ ap (λ (q : Outbound). map C.PayloadData (chunks_taken c.self.inside.limit c.self.inside.halves.flight.next_tsn q.pending)) (c.outbound-2.ensures ∙ ap (λ (t : Transmission). t.flight.queue) c.sender-3.ensures) in
     canonical-each (g.C.Checksum.sum c.self.inside.checksum) (state_in c.self.inside) c.self.invariant c.args.now c.in-Some.first.now e c.in_ok-chunks.chunks.items chunks
 
 pub take_fragments-requires-clause-able : goal.take_fragments-requires-clause-able
 take_fragments-requires-clause-able g c =
+    let started = started-sides c.halves.inside.sender c.start-2.new.self c.halves.inside.receiver c.halves.inside.progress.items c.args.now c.reserve-3.new.self c.start-2.ensures c.halves.view_is in
     let ms = c.self.inside.messages in
     let e : next_pending c.self.inside.halves.flight.queue.pending ≡ Some c.in-Some.first.now = search rules in
     let chunks : c.in_ok-chunks.chunks.items ≡ map C.PayloadData (chunks_taken c.self.inside.limit c.self.inside.halves.flight.next_tsn c.self.inside.halves.flight.queue.pending) =
-    c.in_ok-chunks.ensures.chunks ∙ ap (λ t. map C.PayloadData (chunks_taken c.self.inside.limit t c.outbound-2.result.now.pending)) c.next_tsn-tsn.ensures ∙ ap (λ (q : Outbound). map C.PayloadData (chunks_taken c.self.inside.limit c.self.inside.halves.flight.next_tsn q.pending)) c.outbound-2.ensures in
+    c.in_ok-chunks.ensures.chunks ∙ ap (λ t. map C.PayloadData (chunks_taken c.self.inside.limit t c.outbound-2.result.now.pending)) (c.next_tsn-tsn.ensures ∙ ap (λ (t : Transmission). t.flight.next_tsn) c.sender-2.ensures) ∙ ap (λ (q : Outbound). map C.PayloadData (chunks_taken c.self.inside.limit c.self.inside.halves.flight.next_tsn q.pending)) (c.outbound-2.ensures ∙ ap (λ (t : Transmission). t.flight.queue) c.sender-3.ensures) in
     let same : length c.start_from.new.messages ≡ vec_len ms = search rules in
     let is : c.deref_mut-2.result.now ≡ start_from c.self.inside.unstarted c.args.now ms.items = c.deref_mut-2.ensures.value ∙ with_items_is ms c.start_from.new.messages same ∙ c.start_from.ensures ∙ ap (start_from c.self.inside.unstarted c.args.now) c.deref_mut.ensures.value in
     let len : c.len-count.result ≡ length c.in_ok-chunks.chunks.items = search rules in
     can-leave (g.C.Checksum.sum c.self.inside.checksum) (state_in c.self.inside) c.self.invariant c.args.now c.in-Some.first.now e ms.items c.self.inside.slots.items refl refl refl refl
-    (sender_of c.start-2.new.self c.deref_mut-2.result.now c.reserve.new.self.items)
-    c.reserve-3.new.self.flight.queue _ (ap (λ (h : Sides). h.flight.queue) c.in_ok-reserve-3.ensures.ok) (ap (λ (h : Sides). h.flight.queue) c.start-2.ensures) is (ap (λ (h : Sides). h.streams) c.start-2.ensures ∙ ap (λ (h : Sides). h.streams) c.in_ok-reserve-3.ensures.ok) c.reserve.ensures.items (ap (λ (h : Sides). h.flight.next_tsn) c.start-2.ensures ∙ ap (λ (h : Sides). h.flight.next_tsn) c.in_ok-reserve-3.ensures.ok) c.len-count.result
+    (sender_of (sides c.start-2.new.self c.halves.inside.receiver c.halves.inside.progress.items) c.deref_mut-2.result.now c.reserve.new.self.items)
+    c.reserve-3.new.self.flight.queue _ (ap (λ (h : Sides). h.flight.queue) c.in_ok-reserve-3.ensures.ok) (ap (λ (h : Sides). h.flight.queue) started) is (ap (λ (h : Sides). h.streams) started ∙ ap (λ (h : Sides). h.streams) c.in_ok-reserve-3.ensures.ok) c.reserve.ensures.items (ap (λ (h : Sides). h.flight.next_tsn) started ∙ ap (λ (h : Sides). h.flight.next_tsn) c.in_ok-reserve-3.ensures.ok) c.len-count.result
     (len ∙ count-is (g.C.Checksum.sum c.self.inside.checksum) (state_in c.self.inside) c.self.invariant c.args.now c.in-Some.first.now e c.in_ok-chunks.chunks.items chunks)
 
 pub invariant_of-self-2 : goal.invariant_of-self-2
 invariant_of-self-2 g c =
+    let started = started-sides c.halves.inside.sender c.start-2.new.self c.halves.inside.receiver c.halves.inside.progress.items c.args.now c.reserve-3.new.self c.start-2.ensures c.halves.view_is in
     let ms = c.self.inside.messages in
     let e : next_pending c.self.inside.halves.flight.queue.pending ≡ Some c.in-Some.first.now = search rules in
     let chunks : c.in_ok-chunks.chunks.items ≡ map C.PayloadData (chunks_taken c.self.inside.limit c.self.inside.halves.flight.next_tsn c.self.inside.halves.flight.queue.pending) =
-    c.in_ok-chunks.ensures.chunks ∙ ap (λ t. map C.PayloadData (chunks_taken c.self.inside.limit t c.outbound-2.result.now.pending)) c.next_tsn-tsn.ensures ∙ ap (λ (q : Outbound). map C.PayloadData (chunks_taken c.self.inside.limit c.self.inside.halves.flight.next_tsn q.pending)) c.outbound-2.ensures in
+    c.in_ok-chunks.ensures.chunks ∙ ap (λ t. map C.PayloadData (chunks_taken c.self.inside.limit t c.outbound-2.result.now.pending)) (c.next_tsn-tsn.ensures ∙ ap (λ (t : Transmission). t.flight.next_tsn) c.sender-2.ensures) ∙ ap (λ (q : Outbound). map C.PayloadData (chunks_taken c.self.inside.limit c.self.inside.halves.flight.next_tsn q.pending)) (c.outbound-2.ensures ∙ ap (λ (t : Transmission). t.flight.queue) c.sender-3.ensures) in
     let same : length c.start_from.new.messages ≡ vec_len ms = search rules in
     let is : c.deref_mut-2.result.now ≡ start_from c.self.inside.unstarted c.args.now ms.items = c.deref_mut-2.ensures.value ∙ with_items_is ms c.start_from.new.messages same ∙ c.start_from.ensures ∙ ap (start_from c.self.inside.unstarted c.args.now) c.deref_mut.ensures.value in
     let len : c.len-count.result ≡ length c.in_ok-chunks.chunks.items = search rules in
     let kept : length c.take_fragments.new.messages ≡ vec_len (with_items ms c.start_from.new.messages) = search rules in
     let places : c.in_ok-places.places.items ≡ numbers_from (length c.self.inside.slots.items) c.len-count.result = search rules in
     let rest = c.take_fragments.ensures.rest in
-    let fs : c.take_fragments.new.halves.fragment_size ≡ c.self.inside.halves.fragment_size = rest.fragment_size ∙ ap (λ (h : Sides). h.fragment_size) c.start-2.ensures ∙ ap (λ (h : Sides). h.fragment_size) c.in_ok-reserve-3.ensures.ok in
-    let mm : c.take_fragments.new.halves.max_message_size ≡ c.self.inside.halves.max_message_size = rest.max_message_size ∙ ap (λ (h : Sides). h.max_message_size) c.start-2.ensures ∙ ap (λ (h : Sides). h.max_message_size) c.in_ok-reserve-3.ensures.ok in
-    let cu : c.take_fragments.new.halves.cumulative_tsn ≡ c.self.inside.halves.cumulative_tsn = rest.cumulative ∙ ap (λ (h : Sides). h.cumulative_tsn) c.start-2.ensures ∙ ap (λ (h : Sides). h.cumulative_tsn) c.in_ok-reserve-3.ensures.ok in
-    let be : c.take_fragments.new.halves.beyond ≡ c.self.inside.halves.beyond = rest.beyond ∙ ap (λ (h : Sides). h.beyond) c.start-2.ensures ∙ ap (λ (h : Sides). h.beyond) c.in_ok-reserve-3.ensures.ok in
-    let du : c.take_fragments.new.halves.duplicates ≡ c.self.inside.halves.duplicates = rest.duplicates ∙ ap (λ (h : Sides). h.duplicates) c.start-2.ensures ∙ ap (λ (h : Sides). h.duplicates) c.in_ok-reserve-3.ensures.ok in
+    let fs : c.take_fragments.new.halves.fragment_size ≡ c.self.inside.halves.fragment_size = rest.fragment_size ∙ ap (λ (h : Sides). h.fragment_size) started ∙ ap (λ (h : Sides). h.fragment_size) c.in_ok-reserve-3.ensures.ok in
+    let mm : c.take_fragments.new.halves.max_message_size ≡ c.self.inside.halves.max_message_size = rest.max_message_size ∙ ap (λ (h : Sides). h.max_message_size) started ∙ ap (λ (h : Sides). h.max_message_size) c.in_ok-reserve-3.ensures.ok in
+    let cu : c.take_fragments.new.halves.cumulative_tsn ≡ c.self.inside.halves.cumulative_tsn = rest.cumulative ∙ ap (λ (h : Sides). h.cumulative_tsn) started ∙ ap (λ (h : Sides). h.cumulative_tsn) c.in_ok-reserve-3.ensures.ok in
+    let be : c.take_fragments.new.halves.beyond ≡ c.self.inside.halves.beyond = rest.beyond ∙ ap (λ (h : Sides). h.beyond) started ∙ ap (λ (h : Sides). h.beyond) c.in_ok-reserve-3.ensures.ok in
+    let du : c.take_fragments.new.halves.duplicates ≡ c.self.inside.halves.duplicates = rest.duplicates ∙ ap (λ (h : Sides). h.duplicates) started ∙ ap (λ (h : Sides). h.duplicates) c.in_ok-reserve-3.ensures.ok in
     rw (fs, mm, cu, be, du)
     (linked-sent (g.C.Checksum.sum c.self.inside.checksum) (state_in c.self.inside) c.self.invariant c.args.now c.in-Some.first.now e ms.items c.self.inside.slots.items refl refl refl refl
-    (sender_of c.start-2.new.self c.deref_mut-2.result.now c.reserve.new.self.items)
-    c.reserve-3.new.self.flight.queue _ (ap (λ (h : Sides). h.flight.queue) c.in_ok-reserve-3.ensures.ok) (ap (λ (h : Sides). h.flight.queue) c.start-2.ensures) is (ap (λ (h : Sides). h.streams) c.start-2.ensures ∙ ap (λ (h : Sides). h.streams) c.in_ok-reserve-3.ensures.ok) c.reserve.ensures.items (ap (λ (h : Sides). h.flight.next_tsn) c.start-2.ensures ∙ ap (λ (h : Sides). h.flight.next_tsn) c.in_ok-reserve-3.ensures.ok) c.len-count.result
+    (sender_of (sides c.start-2.new.self c.halves.inside.receiver c.halves.inside.progress.items) c.deref_mut-2.result.now c.reserve.new.self.items)
+    c.reserve-3.new.self.flight.queue _ (ap (λ (h : Sides). h.flight.queue) c.in_ok-reserve-3.ensures.ok) (ap (λ (h : Sides). h.flight.queue) started) is (ap (λ (h : Sides). h.streams) started ∙ ap (λ (h : Sides). h.streams) c.in_ok-reserve-3.ensures.ok) c.reserve.ensures.items (ap (λ (h : Sides). h.flight.next_tsn) started ∙ ap (λ (h : Sides). h.flight.next_tsn) c.in_ok-reserve-3.ensures.ok) c.len-count.result
     (len ∙ count-is (g.C.Checksum.sum c.self.inside.checksum) (state_in c.self.inside) c.self.invariant c.args.now c.in-Some.first.now e c.in_ok-chunks.chunks.items chunks)
     (sender_of c.take_fragments.new.halves c.take_fragments.new.messages c.take_fragments.new.slots.items) c.take_fragments.ensures.leave
     (with_items (with_items ms c.start_from.new.messages) c.take_fragments.new.messages).items (with_items_is (with_items ms c.start_from.new.messages) c.take_fragments.new.messages kept)
     c.self.inside.network.items c.put.new.items.items c.in_ok-places.places.items (K.Data c.in_ok-places.places) c.in_ok-bytes.bytes places refl refl (search rules)
     c.in_ok-chunks.chunks.items chunks c.in_ok-bytes.ensures.encoding c.in_ok-bytes.ensures.reads refl c.len-self-inside.result (search rules)
-    c.take_fragments.new.halves.flight.acked_tsn (rest.acked ∙ ap (λ (h : Sides). h.flight.acked_tsn) c.start-2.ensures ∙ ap (λ (h : Sides). h.flight.acked_tsn) c.in_ok-reserve-3.ensures.ok))
+    c.take_fragments.new.halves.flight.acked_tsn (rest.acked ∙ ap (λ (h : Sides). h.flight.acked_tsn) started ∙ ap (λ (h : Sides). h.flight.acked_tsn) c.in_ok-reserve-3.ensures.ok))
 
 pub returns-clause-ok : goal.returns-clause-ok
 returns-clause-ok g c =
+    let started = started-sides c.halves.inside.sender c.start-2.new.self c.halves.inside.receiver c.halves.inside.progress.items c.args.now c.reserve-3.new.self c.start-2.ensures c.halves.view_is in
     let ms = c.self.inside.messages in
     let e : next_pending c.self.inside.halves.flight.queue.pending ≡ Some c.in-Some.first.now = search rules in
     let chunks : c.in_ok-chunks.chunks.items ≡ map C.PayloadData (chunks_taken c.self.inside.limit c.self.inside.halves.flight.next_tsn c.self.inside.halves.flight.queue.pending) =
-    c.in_ok-chunks.ensures.chunks ∙ ap (λ t. map C.PayloadData (chunks_taken c.self.inside.limit t c.outbound-2.result.now.pending)) c.next_tsn-tsn.ensures ∙ ap (λ (q : Outbound). map C.PayloadData (chunks_taken c.self.inside.limit c.self.inside.halves.flight.next_tsn q.pending)) c.outbound-2.ensures in
+    c.in_ok-chunks.ensures.chunks ∙ ap (λ t. map C.PayloadData (chunks_taken c.self.inside.limit t c.outbound-2.result.now.pending)) (c.next_tsn-tsn.ensures ∙ ap (λ (t : Transmission). t.flight.next_tsn) c.sender-2.ensures) ∙ ap (λ (q : Outbound). map C.PayloadData (chunks_taken c.self.inside.limit c.self.inside.halves.flight.next_tsn q.pending)) (c.outbound-2.ensures ∙ ap (λ (t : Transmission). t.flight.queue) c.sender-3.ensures) in
     let same : length c.start_from.new.messages ≡ vec_len ms = search rules in
     let is : c.deref_mut-2.result.now ≡ start_from c.self.inside.unstarted c.args.now ms.items = c.deref_mut-2.ensures.value ∙ with_items_is ms c.start_from.new.messages same ∙ c.start_from.ensures ∙ ap (start_from c.self.inside.unstarted c.args.now) c.deref_mut.ensures.value in
     let len : c.len-count.result ≡ length c.in_ok-chunks.chunks.items = search rules in
     let kept : length c.take_fragments.new.messages ≡ vec_len (with_items ms c.start_from.new.messages) = search rules in
     let places : c.in_ok-places.places.items ≡ numbers_from (length c.self.inside.slots.items) c.len-count.result = search rules in
     let rest = c.take_fragments.ensures.rest in
-    let fs : c.take_fragments.new.halves.fragment_size ≡ c.self.inside.halves.fragment_size = rest.fragment_size ∙ ap (λ (h : Sides). h.fragment_size) c.start-2.ensures ∙ ap (λ (h : Sides). h.fragment_size) c.in_ok-reserve-3.ensures.ok in
-    let mm : c.take_fragments.new.halves.max_message_size ≡ c.self.inside.halves.max_message_size = rest.max_message_size ∙ ap (λ (h : Sides). h.max_message_size) c.start-2.ensures ∙ ap (λ (h : Sides). h.max_message_size) c.in_ok-reserve-3.ensures.ok in
-    rw (c.next_tsn-tsn.ensures, fs, mm, ← c.self.view_is)
+    let fs : c.take_fragments.new.halves.fragment_size ≡ c.self.inside.halves.fragment_size = rest.fragment_size ∙ ap (λ (h : Sides). h.fragment_size) started ∙ ap (λ (h : Sides). h.fragment_size) c.in_ok-reserve-3.ensures.ok in
+    let mm : c.take_fragments.new.halves.max_message_size ≡ c.self.inside.halves.max_message_size = rest.max_message_size ∙ ap (λ (h : Sides). h.max_message_size) started ∙ ap (λ (h : Sides). h.max_message_size) c.in_ok-reserve-3.ensures.ok in
+    rw (c.next_tsn-tsn.ensures, c.sender-2.ensures, fs, mm, ← c.self.view_is)
     (send-is-right (g.C.Checksum.sum c.self.inside.checksum) (state_in c.self.inside) c.self.invariant c.args.now c.in-Some.first.now e ms.items c.self.inside.slots.items refl refl refl refl
-    (sender_of c.start-2.new.self c.deref_mut-2.result.now c.reserve.new.self.items)
-    c.reserve-3.new.self.flight.queue _ (ap (λ (h : Sides). h.flight.queue) c.in_ok-reserve-3.ensures.ok) (ap (λ (h : Sides). h.flight.queue) c.start-2.ensures) is (ap (λ (h : Sides). h.streams) c.start-2.ensures ∙ ap (λ (h : Sides). h.streams) c.in_ok-reserve-3.ensures.ok) c.reserve.ensures.items (ap (λ (h : Sides). h.flight.next_tsn) c.start-2.ensures ∙ ap (λ (h : Sides). h.flight.next_tsn) c.in_ok-reserve-3.ensures.ok) c.len-count.result
+    (sender_of (sides c.start-2.new.self c.halves.inside.receiver c.halves.inside.progress.items) c.deref_mut-2.result.now c.reserve.new.self.items)
+    c.reserve-3.new.self.flight.queue _ (ap (λ (h : Sides). h.flight.queue) c.in_ok-reserve-3.ensures.ok) (ap (λ (h : Sides). h.flight.queue) started) is (ap (λ (h : Sides). h.streams) started ∙ ap (λ (h : Sides). h.streams) c.in_ok-reserve-3.ensures.ok) c.reserve.ensures.items (ap (λ (h : Sides). h.flight.next_tsn) started ∙ ap (λ (h : Sides). h.flight.next_tsn) c.in_ok-reserve-3.ensures.ok) c.len-count.result
     (len ∙ count-is (g.C.Checksum.sum c.self.inside.checksum) (state_in c.self.inside) c.self.invariant c.args.now c.in-Some.first.now e c.in_ok-chunks.chunks.items chunks)
     (sender_of c.take_fragments.new.halves c.take_fragments.new.messages c.take_fragments.new.slots.items) c.take_fragments.ensures.leave
     (with_items (with_items ms c.start_from.new.messages) c.take_fragments.new.messages).items (with_items_is (with_items ms c.start_from.new.messages) c.take_fragments.new.messages kept)

@@ -1,0 +1,7 @@
+use Rattle.sctp_link.specs.Fields.{state_in}
+use Rattle.sctp_link.proofs.link.Link.stands.Goals as goal
+
+pub returns : goal.returns
+returns g c =
+    let i = c.self.invariant in
+    rw (← c.self.view_is) ((state_in c.self.inside).recorded.setup, (i.setup, (i.history, i.stands)))
