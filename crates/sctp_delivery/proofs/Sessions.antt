@@ -21,7 +21,7 @@ use Rattle.sctp_delivery.proofs.SameData.{is_same, same-data, same-itself}
 use Rattle.sctp_delivery.specs.ReceiverCalls as incoming
 use Rattle.sctp_delivery.specs.ReceiverCalls.{ReceiverCall}
 use Rattle.sctp_delivery.specs.SenderCalls as outgoing
-use Rattle.sctp_delivery.specs.SenderCalls.{Made, SenderCall, Write, abandons, data_chunk, expires, expires_late, expires_rexmit, expires_tail, forward_tsn, forwards, made_after, next_chunk, opens, resends, sends, sets_mode, starts, takes_sack, with_chunk, writes, written_after}
+use Rattle.sctp_delivery.specs.SenderCalls.{Made, SenderCall, Write, abandons, data_chunk, expires, expires_late, expires_rexmit, expires_tail, forward_tsn, forwards, forwards_within, made_after, marks, misses, next_chunk, opens, resends, reserves, sends, sets_low, sets_mode, sets_size, starts, takes_sack, with_chunk, writes, written_after}
 use Rattle.sctp_delivery.specs.Session.{AfterEachSession, AreMade, AreMessages, AreRuns, Call, IsAccounted, ReceiverFollows, RunsTo, SenderFollows, Session, at_start, bytes_written, of_receiver, of_sender}
 
 -- ## Each host by itself
@@ -70,6 +70,12 @@ written-more (expires_tail now m) ws = omega arith
 written-more (expires_late now gone) ws = omega arith
 written-more (expires_rexmit gone) ws = omega arith
 written-more (forwards tsn f) ws = omega arith
+written-more (forwards_within bytes f) ws = omega arith
+written-more marks ws = omega arith
+written-more (misses count) ws = omega arith
+written-more (sets_size size) ws = omega arith
+written-more (sets_low stream bytes) ws = omega arith
+written-more (reserves more) ws = omega arith
 written-more (takes_sack sack gone) ws = omega arith
 
 none-back : (call : SenderCall) → taken_back_by (outgoing.as_run call) ≡ 0
@@ -85,6 +91,12 @@ none-back (expires_tail now m) = refl
 none-back (expires_late now gone) = refl
 none-back (expires_rexmit gone) = refl
 none-back (forwards tsn f) = refl
+none-back (forwards_within bytes f) = refl
+none-back marks = refl
+none-back (misses count) = refl
+none-back (sets_size size) = refl
+none-back (sets_low stream bytes) = refl
+none-back (reserves more) = refl
 none-back (takes_sack sack gone) = refl
 
 -- what is counted is what was written, and nothing came back
@@ -196,6 +208,12 @@ more-made p (sends now) t ms e = by (next_chunk now t)
     by (Some c) = or-more (p (data_chunk (data_of c))) (list_any p ms) e
 more-made p (resends tsn now c) t ms e = or-more _ _ e
 more-made p (forwards tsn f) t ms e = or-more (p (forward_tsn f)) (list_any p ms) e
+more-made p (forwards_within bytes f) t ms e = or-more (p (forward_tsn f)) (list_any p ms) e
+more-made p marks t ms e = e
+more-made p (misses count) t ms e = e
+more-made p (sets_size size) t ms e = e
+more-made p (sets_low stream bytes) t ms e = e
+more-made p (reserves more) t ms e = e
 more-made p (opens stream) t ms e = e
 more-made p (sets_mode stream unordered reliability value) t ms e = e
 more-made p (writes stream ppi bytes) t ms e = e

@@ -1,5 +1,5 @@
 -- What a call of a sender makes, and what it sends.
-use Rattle.std.specs.Prelude.{◌≡◌, ⊤, ℕ, ◌<◌, Bool, true, false, List, [], ◌∷◌, length, find, option_map, option_to_list, Option, Some, None, is_some, IfSome}
+use Rattle.std.specs.Prelude.{◌≡◌, ⊤, ℕ, ◌<◌, ◌≤◌, Bool, true, false, List, [], ◌∷◌, length, find, option_map, option_to_list, Option, Some, None, is_some, IfSome}
 use Rattle.sctp_data.specs.declared.chunk.chunk_payload_data.ChunkPayloadData.{ChunkPayloadData}
 use Rattle.sctp_data.specs.declared.chunk.chunk_payload_data.PayloadProtocolIdentifier.{PayloadProtocolIdentifier}
 use Rattle.sctp_data.specs.declared.chunk.chunk_payload_data.ReliabilityType.{ReliabilityType}
@@ -13,7 +13,7 @@ use Rattle.sctp_stream.specs.declared.stream.StreamState.{StreamState}
 use Rattle.sctp_sender.specs.declared.sender.ExpiredMessage.{ExpiredMessage}
 use Rattle.sctp_sender.specs.declared.sender.flight.late.AbandonedMessage.{AbandonedMessage}
 use Rattle.sctp_sender.specs.declared.sender.flight.Released.{Released}
-use Rattle.sctp_sender.specs.Abandonment.{Name, abandon_refusal, named_up_to, skip_end}
+use Rattle.sctp_sender.specs.Abandonment.{Name, abandon_refusal, can_skip_to, is_end, named_up_to, skip_end}
 use Rattle.sctp_sender.specs.Flight.{can_resend, message_to_abandon, next_after_send, sack_refusal}
 use Rattle.sctp_sender.specs.Late.{after_late, after_worn}
 use Rattle.sctp_sender.specs.Numbers.{send_refusal}
@@ -40,6 +40,16 @@ pub data SenderCall : Type 0 where
   expires_rexmit : List AbandonedMessage → SenderCall
   -- `forward_tsn_to` a TSN, where it answers a chunk
   forwards : ℕ → ForwardTsn → SenderCall
+  -- `forward_tsn_within` so many bytes, where it answers a chunk
+  forwards_within : ℕ → ForwardTsn → SenderCall
+  -- `retransmit_all`
+  marks : SenderCall
+  -- `add_miss_indications`: so many chunks in front stand before its TSN
+  misses : ℕ → SenderCall
+  sets_size : ℕ → SenderCall
+  sets_low : ℕ → ℕ → SenderCall
+  -- `reserve`
+  reserves : ℕ → SenderCall
   -- `acked`
   takes_sack : Sack → List Released → SenderCall
 
@@ -62,6 +72,12 @@ as_run (expires_tail now m) = runs.abandons_late (option_to_list m)
 as_run (expires_late now gone) = runs.abandons_late gone
 as_run (expires_rexmit gone) = runs.abandons_late gone
 as_run (forwards tsn f) = runs.abandons 0
+as_run (forwards_within bytes f) = runs.abandons 0
+as_run marks = runs.marks
+as_run (misses count) = runs.misses count
+as_run (sets_size size) = runs.sets_size size
+as_run (sets_low stream bytes) = runs.sets_low stream bytes
+as_run (reserves more) = runs.reserves more
 as_run (takes_sack sack gone) = runs.takes_sack gone
 
 -- ## Of what is accepted
@@ -84,6 +100,15 @@ IsAccepted (expires_rexmit gone) t = ⊤
 IsAccepted (forwards tsn f) t =
     (Some f.new_cumulative_tsn ≡ skip_end tsn t.flight)
     × Name f.streams (named_up_to f.new_cumulative_tsn t.flight)
+IsAccepted (forwards_within bytes f) t =
+    (can_skip_to f.new_cumulative_tsn t.flight ≡ true)
+    × (is_end f.new_cumulative_tsn t.flight ≡ true)
+    × Name f.streams (named_up_to f.new_cumulative_tsn t.flight)
+IsAccepted marks t = ⊤
+IsAccepted (misses count) t = ⊤
+IsAccepted (sets_size size) t = (0 < size) × (size ≤ 65519)
+IsAccepted (sets_low stream bytes) t = is_open stream t ≡ true
+IsAccepted (reserves more) t = ⊤
 IsAccepted (takes_sack sack gone) t = sack_refusal sack t.flight ≡ None
 
 -- the fragments of a write wait; one of no bytes changes nothing
@@ -123,11 +148,17 @@ MakesExactly (expires_tail now m) old new = ExpiresTail now m old new
 MakesExactly (expires_late now gone) old new = new ≡ after_late now old
 MakesExactly (expires_rexmit gone) old new = new ≡ after_worn old
 MakesExactly (forwards tsn f) old new = new ≡ old
+MakesExactly (forwards_within bytes f) old new = new ≡ old
 MakesExactly (takes_sack sack gone) old new = new ≡ after_acked sack old
 MakesExactly (opens stream) old new = ⊤
 MakesExactly (sets_mode stream unordered reliability value) old new = ⊤
 MakesExactly (starts now) old new = ⊤
 MakesExactly (resends tsn now c) old new = ⊤
+MakesExactly marks old new = ⊤
+MakesExactly (misses count) old new = ⊤
+MakesExactly (sets_size size) old new = ⊤
+MakesExactly (sets_low stream bytes) old new = ⊤
+MakesExactly (reserves more) old new = ⊤
 
 -- one call
 abbrev pub SenderMakes : SenderCall → Transmission → Transmission → Type 0
@@ -156,6 +187,12 @@ abbrev pub made_after : SenderCall → Transmission → List Made → List Made
 made_after (sends now) t ms = with_chunk (next_chunk now t) ms
 made_after (resends tsn now c) t ms = data_chunk (data_of (sent_again (count_again c) now c)) ∷ ms
 made_after (forwards tsn f) t ms = forward_tsn f ∷ ms
+made_after (forwards_within bytes f) t ms = forward_tsn f ∷ ms
+made_after marks t ms = ms
+made_after (misses count) t ms = ms
+made_after (sets_size size) t ms = ms
+made_after (sets_low stream bytes) t ms = ms
+made_after (reserves more) t ms = ms
 made_after (opens stream) t ms = ms
 made_after (sets_mode stream unordered reliability value) t ms = ms
 made_after (writes stream ppi bytes) t ms = ms
@@ -191,4 +228,10 @@ written_after (expires_tail now m) ws = ws
 written_after (expires_late now gone) ws = ws
 written_after (expires_rexmit gone) ws = ws
 written_after (forwards tsn f) ws = ws
+written_after (forwards_within bytes f) ws = ws
+written_after marks ws = ws
+written_after (misses count) ws = ws
+written_after (sets_size size) ws = ws
+written_after (sets_low stream bytes) ws = ws
+written_after (reserves more) ws = ws
 written_after (takes_sack sack gone) ws = ws

@@ -1,12 +1,13 @@
 //! Each call of a sender makes the step that sessions have of it (RFC 4960 6.1, 6.2.1; RFC 3758 3.5): here it is called and nothing else.
 
-ghost use Rattle.std.specs.Prelude.{◌≡◌, Some, OnOk, IfOk, IfSome, find};
+ghost use Rattle.std.specs.Prelude.{◌≡◌, ◌<◌, ◌≤◌, Some, OnOk, IfOk, IfSome, find};
 ghost use Rattle.sctp_data.specs.declared.chunk.chunk_payload_data.ChunkPayloadData.{ChunkPayloadData};
 ghost use Rattle.sctp_data.specs.ForwardTsn.{forward_tsn_of};
 ghost use Rattle.sctp_data.specs.SelectiveAck.{sack_of};
 ghost use Rattle.sctp_sender.specs.Abandonment.{advanced_ack_point};
+ghost use Rattle.sctp_sender.specs.Resending.{count_before};
 ghost use Rattle.sctp_serial.specs.DataChunks.{has_tsn};
-ghost use Rattle.sctp_delivery.specs.SenderCalls.{SenderMakes, abandons, expires, expires_late, expires_rexmit, expires_tail, forwards, next_chunk, opens, resends, sends, sets_mode, starts, takes_sack, writes};
+ghost use Rattle.sctp_delivery.specs.SenderCalls.{SenderMakes, abandons, expires, expires_late, expires_rexmit, expires_tail, forwards, forwards_within, marks, misses, next_chunk, opens, resends, reserves, sends, sets_low, sets_mode, sets_size, starts, takes_sack, writes};
 
 use bytes::Bytes;
 use sctp_data::chunk::chunk_forward_tsn::ChunkForwardTsn;
@@ -65,6 +66,13 @@ pub fn send_next(sender: &mut Sender, now: u64) -> Result<Option<ChunkPayloadDat
     ensures chunk { IfOk result (λ sent. sent ≡ next_chunk now sender.old) }
 {
     sender.send_next(now)
+}
+
+/// Sends the fragment that is next, and answers its TSN, if there is one.
+pub fn send_next_tsn(sender: &mut Sender, now: u64) -> Result<Option<u32>, SenderRefusal>
+    ensures { OnOk result (SenderMakes (sends now) sender.old sender.new) }
+{
+    sender.send_next_tsn(now)
 }
 
 /// Sends a chunk again.
@@ -135,4 +143,56 @@ pub fn acked(sender: &mut Sender, sack: &ChunkSelectiveAck) -> Result<Vec<Releas
         (λ gone. SenderMakes (takes_sack (sack_of sack.now) gone.items) sender.old sender.new) }
 {
     sender.acked(sack)
+}
+
+/// Makes the FORWARD-TSN that fits so many bytes.
+pub fn forward_tsn_within(
+    sender: &Sender,
+    bytes: usize,
+) -> Result<Option<ChunkForwardTsn>, SenderRefusal>
+    ensures { IfOk result (λ r. IfSome r
+        (λ c. SenderMakes (forwards_within bytes (forward_tsn_of c)) sender.now sender.now)) }
+{
+    sender.forward_tsn_within(bytes)
+}
+
+/// Marks all that is outstanding for retransmission.
+pub fn retransmit_all(sender: &mut Sender)
+    ensures { SenderMakes marks sender.old sender.new }
+{
+    sender.retransmit_all();
+}
+
+/// Counts what is outstanding before a TSN as missing once more.
+pub fn add_miss_indications(sender: &mut Sender, before: u32) -> usize
+    ensures { SenderMakes (misses (count_before before sender.old.flight)) sender.old sender.new }
+{
+    sender.add_miss_indications(before)
+}
+
+/// Sets how many bytes of a message a chunk has at most, of later writes.
+/// Precondition: that is 1 to 65,519.
+pub fn set_fragment_size(sender: &mut Sender, size: u32)
+    requires { (0 < size) × (size ≤ 65519) }
+    ensures { SenderMakes (sets_size size) sender.old sender.new }
+{
+    sender.set_fragment_size(size);
+}
+
+/// Sets the amount of a stream, in bytes, down to which a fall is told.
+pub fn set_buffered_amount_low_threshold(
+    sender: &mut Sender,
+    stream: u16,
+    bytes: usize,
+) -> Result<(), SenderRefusal>
+    ensures { OnOk result (SenderMakes (sets_low stream bytes) sender.old sender.new) }
+{
+    sender.set_buffered_amount_low_threshold(stream, bytes)
+}
+
+/// Makes room for so many sends.
+pub fn reserve(sender: &mut Sender, sends: usize) -> Result<(), SenderRefusal>
+    ensures { OnOk result (SenderMakes (reserves sends) sender.old sender.new) }
+{
+    sender.reserve(sends)
 }
