@@ -28,7 +28,7 @@ FIRST = "First: "
 ENDINGS = (".edit", ".md")
 HEAD = """Each title is a wrong body of its own, in a function of its own; each is refused in that function (docs/GATE.md says how they were tried).
 """
-FN = re.compile(r"\s*(?:pub(?:\([a-z]+\))?\s+)?(?:const\s+)?fn\s+(\w+)")
+FN = re.compile(r'\s*(?:pub(?:\([a-z]+\))?\s+)?(?:const\s+)?(?:extern "C" )?fn\s+(\w+)')
 
 
 def kit():

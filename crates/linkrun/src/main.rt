@@ -3,11 +3,9 @@
 
 ghost use Rattle.std.specs.Prelude.{◌≡◌, ◌⊎◌, IfOk};
 
-pub mod checksum;
-
-use crate::checksum::Crc32c;
 pub use linkscript::run::RunFault;
 use linkscript::run::run_under;
+use sctp_packets::checksum::Crc32c;
 use std::alloc::Global;
 use std::io::{self, BufWriter, Read, Write};
 use std::process::ExitCode;

@@ -2,8 +2,6 @@
 #![tactic(auto)]
 
 #[cfg(test)]
-mod checksum;
-#[cfg(test)]
 mod events;
 #[cfg(test)]
 mod limits;

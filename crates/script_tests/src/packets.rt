@@ -1,9 +1,9 @@
 //! Recorded packets under CRC-32C.
 
-use crate::checksum::Crc32c;
 use bytes::Bytes;
 use sctp_base::error::Error;
 use sctp_base::util::Checksum;
+use sctp_packets::checksum::Crc32c;
 use sctp_packets::packet::{Packet, PartialDecode};
 use std::alloc::Global;
 

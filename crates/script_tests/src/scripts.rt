@@ -1,9 +1,9 @@
 //! Scripts, and the fields of their lines.
 
-use crate::checksum::Crc32c;
 use crate::spans::sends_many;
 use linkscript::field::{FieldFault, field_bytes, field_text};
 use linkscript::run::{RunFault, run_under};
+use sctp_packets::checksum::Crc32c;
 use std::alloc::Global;
 use std::io::{self, ErrorKind, Read, Write};
 

@@ -1,0 +1,51 @@
+/* Counts what holds and what does not, and has memory refused. */
+#ifndef CHECK_H
+#define CHECK_H
+
+#include "sctp.h"
+#include <stdio.h>
+#include <string.h>
+
+/* How many more allocations are granted; below 0: each. */
+extern long granted;
+/* How many blocks are held. */
+extern long held;
+
+static unsigned passed, failed;
+
+#define CHECK(what) \
+    do { \
+        if (what) { \
+            passed++; \
+        } else { \
+            failed++; \
+            printf("%s:%d: not so: %s\n", __FILE__, __LINE__, #what); \
+        } \
+    } while (0)
+
+/* Makes the call again and again with none, one, two allocations granted and so on, until it is not refused memory. Whenever it is,
+ * `unchanged` has to hold. No block is held after it. */
+#define REFUSE_EACH(call, wanted, unchanged) \
+    do { \
+        sctp_code code; \
+        long times = 0; \
+        for (;; times++) { \
+            granted = times; \
+            code = (call); \
+            granted = -1; \
+            if (code != SCTP_NO_MEMORY) break; \
+            CHECK(unchanged); \
+            CHECK(held == 0); \
+        } \
+        CHECK(times > 0); \
+        CHECK(code == (wanted)); \
+        CHECK(held == 0); \
+    } while (0)
+
+/* The last line of a test, and its status. */
+static int report(const char *name) {
+    printf("%s: %u passed, %u failed\n", name, passed, failed);
+    return failed != 0;
+}
+
+#endif

@@ -1,0 +1,356 @@
+/* usrsctp and an endpoint over sctp.h exchange messages in one process, over AF_CONN and a network in memory that loses, repeats, delays
+ * and damages datagrams. Each message that is read is compared, byte for byte, with what was written; of the reliable streams each has to
+ * come.
+ *
+ *     usrsctp [seed] [seconds] [lost repeated late damaged, each of 10,000 datagrams] [mixed]
+ *
+ * It writes for so many seconds, then waits until all came, and shuts down. By the seed our side connects, or usrsctp, or both. With
+ * `mixed` an unordered stream has messages of one chunk and of several: usrsctp 0.9.5.0 then may abort over legal chunks, which is no
+ * fault of ours; legal.c looks at every chunk that we send. The last line says how many messages came and how many faults there were; the
+ * status is 0 where there was none, and 3 where usrsctp aborted so. */
+#include "endpoint.h"
+#include "legal.h"
+#include "messages.h"
+#include "network.h"
+#include <errno.h>
+#include <stdarg.h>
+#include <stdio.h>
+#include <stdlib.h>
+#include <string.h>
+#include <sys/socket.h>
+#include <sys/time.h>
+#include <time.h>
+#include <usrsctp.h>
+
+enum { TICK_MS = 10, OURS = 0, THEIRS = 1, WRITES = 20 };
+/* What usrsctp says where it aborts over legal chunks. */
+static const char own_abort[] = "Illegal message sequence, missing end for MID";
+
+static struct network network;
+static struct endpoint endpoint;
+static struct socket *listener, *theirs;
+static int is_mixed;
+
+static uint64_t now(void) { return (network.tick + 1) * TICK_MS * 1000000; }
+
+/* The clock that usrsctp asks, in place of the C library's: it goes by the ticks too. With real time, which passes slowly here, usrsctp's
+ * T3-rtx would send nothing again: it passes over what was sent within the last RTO. */
+int gettimeofday(struct timeval *restrict t, void *restrict zone) {
+    (void)zone;
+    t->tv_sec = (time_t)(1000000 + now() / 1000000000);
+    t->tv_usec = (suseconds_t)(now() % 1000000000 / 1000);
+    return 0;
+}
+
+/* ---- Our side -------------------------------------------------------------------------------------------------------------- */
+
+static void our_output(void *context, const uint8_t *packet, size_t length) {
+    (void)context;
+    legal_sent(endpoint.config.first_tsn, packet, length);
+    network_send(&network, OURS, packet, length);
+}
+
+static void we_write(void) {
+    static uint8_t message[MAX_MESSAGE];
+    for (int i = 0; i < WRITES && sctp_sender_pending(&endpoint.sender) < 2000; i++) {
+        int stream = (int)(random_next(&message_random) % STREAMS);
+        size_t amount = 0;
+        sctp_sender_buffered_amount(&endpoint.sender, (uint16_t)stream, &amount);
+        if (amount > 1 << 20) continue;
+        uint32_t length = message_length(stream, !is_mixed);
+        message_fill(message, length, OURS, stream, channels[OURS][stream].written);
+        sctp_code code = endpoint_write(&endpoint, (uint16_t)stream, SCTP_PPID_BINARY, message, length);
+        if (code != SCTP_OK) fault("a write is refused with %u", (unsigned)code);
+        else message_written(OURS, stream, length);
+    }
+}
+
+/* Reads a message of a stream, and answers whether there was one. */
+static int we_read_one(uint16_t stream) {
+    static uint8_t message[MAX_MESSAGE];
+    size_t length;
+    uint32_t type;
+    if (sctp_receiver_read(&endpoint.receiver, stream, message, sizeof message, &length, &type) != SCTP_OK) return 0;
+    message_read(THEIRS, stream, type, message, length);
+    return 1;
+}
+
+static void we_read(void) {
+    uint16_t streams[STREAMS];
+    size_t count = 0;
+    if (!endpoint.has_halves || sctp_receiver_readable_streams(&endpoint.receiver, streams, STREAMS, &count) != SCTP_OK) return;
+    for (size_t i = 0; i < count; i += !we_read_one(streams[i])) {}
+}
+
+/* ---- usrsctp --------------------------------------------------------------------------------------------------------------- */
+
+static int their_output(void *address, void *packet, size_t length, uint8_t tos, uint8_t df) {
+    (void)address;
+    (void)tos;
+    (void)df;
+    network_send(&network, THEIRS, packet, length);
+    return 0;
+}
+
+static void must(int result, const char *what) {
+    if (result >= 0) return;
+    perror(what);
+    exit(2);
+}
+
+static void set_up_socket(struct socket *s) {
+    int size = 4 << 20, on = 1, off = 0;
+    uint32_t point = 1 << 20;
+    struct sctp_initmsg init = { .sinit_num_ostreams = STREAMS, .sinit_max_instreams = STREAMS };
+    must(usrsctp_setsockopt(s, SOL_SOCKET, SO_RCVBUF, &size, sizeof size), "SO_RCVBUF");
+    must(usrsctp_setsockopt(s, SOL_SOCKET, SO_SNDBUF, &size, sizeof size), "SO_SNDBUF");
+    must(usrsctp_setsockopt(s, IPPROTO_SCTP, SCTP_NODELAY, &on, sizeof on), "SCTP_NODELAY");
+    must(usrsctp_setsockopt(s, IPPROTO_SCTP, SCTP_RECVRCVINFO, &on, sizeof on), "SCTP_RECVRCVINFO");
+    must(usrsctp_setsockopt(s, IPPROTO_SCTP, SCTP_FRAGMENT_INTERLEAVE, &off, sizeof off), "SCTP_FRAGMENT_INTERLEAVE");
+    must(usrsctp_setsockopt(s, IPPROTO_SCTP, SCTP_PARTIAL_DELIVERY_POINT, &point, sizeof point), "SCTP_PARTIAL_DELIVERY_POINT");
+    must(usrsctp_setsockopt(s, IPPROTO_SCTP, SCTP_INITMSG, &init, sizeof init), "SCTP_INITMSG");
+    must(usrsctp_set_non_blocking(s, 1), "non-blocking");
+}
+
+static void set_mtu(struct socket *s) {
+    struct sctp_paddrparams params;
+    memset(&params, 0, sizeof params);
+    params.spp_address.ss_family = AF_CONN;
+    params.spp_flags = SPP_PMTUD_DISABLE | SPP_HB_ENABLE;
+    params.spp_hbinterval = 5000;
+    params.spp_pathmtu = 1200;
+    must(usrsctp_setsockopt(s, IPPROTO_SCTP, SCTP_PEER_ADDR_PARAMS, &params, sizeof params), "SCTP_PEER_ADDR_PARAMS");
+}
+
+static struct sctp_sendv_spa send_info(int stream) {
+    const struct mode *mode = &modes[stream];
+    struct sctp_sendv_spa info;
+    memset(&info, 0, sizeof info);
+    info.sendv_flags = SCTP_SEND_SNDINFO_VALID;
+    info.sendv_sndinfo.snd_sid = (uint16_t)stream;
+    info.sendv_sndinfo.snd_flags = (uint16_t)(SCTP_EOR | (mode->unordered ? SCTP_UNORDERED : 0));
+    info.sendv_sndinfo.snd_ppid = htonl(SCTP_PPID_BINARY);
+    if (mode->reliability == SCTP_RELIABLE) return info;
+    info.sendv_flags |= SCTP_SEND_PRINFO_VALID;
+    info.sendv_prinfo.pr_policy = mode->reliability == SCTP_REXMIT ? SCTP_PR_SCTP_RTX : SCTP_PR_SCTP_TTL;
+    info.sendv_prinfo.pr_value = mode->value;
+    return info;
+}
+
+static void they_write(void) {
+    static uint8_t message[MAX_MESSAGE];
+    static int stream = -1;
+    static uint32_t length;
+    for (int i = 0; i < WRITES; i++) {
+        if (stream < 0) {
+            stream = (int)(random_next(&message_random) % STREAMS);
+            length = message_length(stream, 0);
+        }
+        struct sctp_sendv_spa info = send_info(stream);
+        message_fill(message, length, THEIRS, stream, channels[THEIRS][stream].written);
+        ssize_t n = usrsctp_sendv(theirs, message, length, NULL, 0, &info, sizeof info, SCTP_SENDV_SPA, 0);
+        if (n < 0 && (errno == EWOULDBLOCK || errno == EAGAIN)) return;
+        if (n != (ssize_t)length) {
+            if (!endpoint_is_over(&endpoint)) fault("usrsctp_sendv: %s", strerror(errno));
+            return;
+        }
+        message_written(THEIRS, stream, length);
+        stream = -1;
+    }
+}
+
+static void they_read(void) {
+    static uint8_t message[2 * MAX_MESSAGE];
+    static size_t at;
+    while (theirs) {
+        struct sctp_rcvinfo info;
+        socklen_t info_length = sizeof info, from_length = 0;
+        unsigned type = 0;
+        int flags = 0;
+        ssize_t n = usrsctp_recvv(theirs, message + at, sizeof message - at, NULL, &from_length, &info, &info_length, &type, &flags);
+        if (n <= 0) return;
+        if (flags & MSG_NOTIFICATION) continue;
+        at += (size_t)n;
+        if (!(flags & MSG_EOR)) continue;
+        if (type != SCTP_RECVV_RCVINFO || info.rcv_sid >= STREAMS) fault("usrsctp_recvv: no stream");
+        else if (!(info.rcv_flags & SCTP_UNORDERED) != !modes[info.rcv_sid].unordered) fault("usrsctp_recvv: stream %u", info.rcv_sid);
+        else message_read(OURS, info.rcv_sid, ntohl(info.rcv_ppid), message, at);
+        at = 0;
+    }
+}
+
+static void accept_them(void) {
+    if (theirs || !listener) return;
+    theirs = usrsctp_accept(listener, NULL, NULL);
+    if (!theirs) return;
+    set_up_socket(theirs);
+    set_mtu(theirs);
+}
+
+static void set_up_usrsctp(void) {
+    usrsctp_init_nothreads(0, their_output, NULL);
+    usrsctp_sysctl_set_sctp_blackhole(2);
+    usrsctp_sysctl_set_sctp_pr_enable(1);
+    usrsctp_sysctl_set_sctp_ecn_enable(0);
+    usrsctp_sysctl_set_sctp_rto_min_default(50);
+    usrsctp_sysctl_set_sctp_rto_max_default(200);
+    usrsctp_sysctl_set_sctp_rto_initial_default(100);
+    usrsctp_sysctl_set_sctp_assoc_rtx_max_default(10000);
+    usrsctp_sysctl_set_sctp_path_rtx_max_default(10000);
+    usrsctp_sysctl_set_sctp_init_rtx_max_default(100);
+    usrsctp_register_address(&network);
+}
+
+/* ---- The run --------------------------------------------------------------------------------------------------------------- */
+
+static void one_tick(void) {
+    const struct datagram *d;
+    network_next_tick(&network);
+    while ((d = network_take(&network, THEIRS)) != NULL) {
+        legal_came(d->bytes, d->length);
+        endpoint_receive(&endpoint, d->bytes, d->length, now());
+    }
+    while ((d = network_take(&network, OURS)) != NULL) usrsctp_conninput(&network, d->bytes, d->length, 0);
+    accept_them();
+    usrsctp_handle_timers(TICK_MS);
+    we_read();
+    they_read();
+    endpoint_poll(&endpoint, now());
+}
+
+static double seconds(void) {
+    struct timespec t;
+    clock_gettime(CLOCK_MONOTONIC, &t);
+    return (double)t.tv_sec + 1e-9 * (double)t.tv_nsec;
+}
+
+static void set_up_endpoint(void) {
+    struct endpoint_config config = { 0 };
+    config.port = 5001;
+    config.peer_port = 5000;
+    config.streams = STREAMS;
+    config.tag = 0x12345678;
+    config.first_tsn = 0xfffffe00;
+    config.max_message_size = MAX_MESSAGE;
+    config.window = 4 << 20;
+    config.max_in_flight = 128 * 1024;
+    config.mtu = 1200;
+    config.rto_initial = 500000000;
+    config.rto_min = 200000000;
+    config.rto_max = 1000000000;
+    config.heartbeat_interval = 1000000000;
+    config.max_retransmissions = 10000;
+    config.output = our_output;
+    endpoint_init(&endpoint, &config);
+}
+
+/* By the seed our side connects, usrsctp does, or both do. */
+static void connect_sides(uint64_t seed) {
+    struct sockaddr_conn address = { .sconn_family = AF_CONN, .sconn_port = htons(5000), .sconn_addr = &network };
+    struct sockaddr_conn peer = { .sconn_family = AF_CONN, .sconn_port = htons(5001), .sconn_addr = &network };
+    struct socket *s = usrsctp_socket(AF_CONN, SOCK_STREAM, IPPROTO_SCTP, NULL, NULL, 0, NULL);
+    if (!s) must(-1, "usrsctp_socket");
+    set_up_socket(s);
+    must(usrsctp_bind(s, (struct sockaddr *)&address, sizeof address), "usrsctp_bind");
+    if (seed % 3 == 0) {
+        must(usrsctp_listen(s, 1), "usrsctp_listen");
+        listener = s;
+    } else {
+        set_mtu(s);
+        if (usrsctp_connect(s, (struct sockaddr *)&peer, sizeof peer) < 0 && errno != EINPROGRESS) must(-1, "usrsctp_connect");
+        theirs = s;
+    }
+    if (seed % 3 != 1) endpoint_connect(&endpoint, now());
+    for (int i = 0; i < 10000 && (endpoint.state != ENDPOINT_ESTABLISHED || !theirs); i++) one_tick();
+    if (endpoint.state != ENDPOINT_ESTABLISHED || !theirs) fault("no association: state %d", endpoint.state);
+}
+
+static int is_done(void) {
+    return messages_arrived() && sctp_sender_pending(&endpoint.sender) == 0 && sctp_sender_chunks_in_flight(&endpoint.sender) == 0;
+}
+
+static void exchange(double limit) {
+    double start = seconds();
+    for (uint16_t i = 0; i < STREAMS; i++) {
+        const struct mode *m = &modes[i];
+        if (sctp_sender_set_mode(&endpoint.sender, i, m->unordered, m->reliability, m->value) != SCTP_OK) fault("mode %u", i);
+    }
+    while (seconds() - start < limit && endpoint.state == ENDPOINT_ESTABLISHED && faults == 0) {
+        we_write();
+        they_write();
+        one_tick();
+        if (network.tick % 256 == 0) messages_forget(20000);
+    }
+    for (long i = 0; i < 200000 && !is_done() && endpoint.state == ENDPOINT_ESTABLISHED && faults == 0; i++) one_tick();
+    /* what usrsctp may still skip */
+    for (int i = 0; i < 500 && endpoint.state == ENDPOINT_ESTABLISHED; i++) one_tick();
+    if (endpoint.state == ENDPOINT_ESTABLISHED && !is_done()) fault("not all came");
+    messages_forget(0);
+}
+
+/* Our side shuts down, or usrsctp does. */
+static void shut_down(int is_theirs) {
+    if (endpoint.state != ENDPOINT_ESTABLISHED) return;
+    if (is_theirs) usrsctp_shutdown(theirs, SHUT_WR);
+    else endpoint_shutdown(&endpoint, now());
+    for (int i = 0; i < 5000 && !endpoint_is_over(&endpoint); i++) one_tick();
+    if (endpoint.state != ENDPOINT_SHUT_DOWN) fault("not shut down: state %d", endpoint.state);
+}
+
+/* What the peer's ABORT says, a text behind the headers of chunk and cause; whether usrsctp aborted over legal chunks. */
+static int is_own_abort(void) {
+    const char *text = (const char *)endpoint.abort_chunk + 8;
+    size_t length = endpoint.abort_length > 8 ? endpoint.abort_length - 8 : 0;
+    if (endpoint.state != ENDPOINT_ABORTED) return 0;
+    printf("ABORT: %.*s\n", (int)length, text);
+    return faults == 0 && length >= sizeof own_abort - 1 && memcmp(text, own_abort, sizeof own_abort - 1) == 0;
+}
+
+static void print_all(void) {
+    const struct endpoint_counts *c = &endpoint.counts;
+    for (int i = 0; i < 2; i++) {
+        printf("%s\n", i == OURS ? "ours" : "usrsctp's");
+        network_print(&network.counts[i]);
+        messages_print(i);
+    }
+    printf("our DATA %lu, sent again %lu, taken back %lu, timeouts %lu, fast retransmissions %lu\n", (unsigned long)c->data_sent,
+           (unsigned long)c->data_sent_again, (unsigned long)c->taken_back, (unsigned long)c->timeouts,
+           (unsigned long)c->fast_retransmissions);
+    printf("messages abandoned %lu, expired %lu, FORWARD-TSN %lu, heartbeats answered %lu of %lu, other tags %lu\n",
+           (unsigned long)c->abandoned, (unsigned long)c->expired, (unsigned long)c->forward_tsns_sent,
+           (unsigned long)c->heartbeats_answered, (unsigned long)c->heartbeats_sent, (unsigned long)c->wrong_tag);
+    for (unsigned i = 0; i <= SCTP_ERR_SHORT_BUFFER; i++)
+        if (c->packets[i] || c->chunks[i])
+            printf("  came with code %u: packets %lu, chunks %lu\n", i, (unsigned long)c->packets[i], (unsigned long)c->chunks[i]);
+}
+
+int main(int argc, char **argv) {
+    uint64_t seed = argc > 1 ? strtoull(argv[1], NULL, 0) : 1, bytes;
+    struct network_rates rates = { 200, 100, 500, 20 };
+    if (argc > 6) {
+        rates.lost = (uint32_t)atoi(argv[3]);
+        rates.repeated = (uint32_t)atoi(argv[4]);
+        rates.late = (uint32_t)atoi(argv[5]);
+        rates.damaged = (uint32_t)atoi(argv[6]);
+    }
+    is_mixed = argc > 7 && strcmp(argv[7], "mixed") == 0;
+    message_random = seed * 0x9e3779b97f4a7c15ull | 1;
+    network_init(&network, seed, rates);
+    set_up_usrsctp();
+    set_up_endpoint();
+    connect_sides(seed);
+    if (faults == 0) exchange(argc > 2 ? atof(argv[2]) : 5);
+    if (faults == 0) shut_down(seed / 3 % 2);
+    print_all();
+    int is_own = is_own_abort();
+    if (endpoint.state == ENDPOINT_ABORTED && !is_own) fault("aborted");
+    uint64_t messages = messages_read(&bytes);
+    endpoint_free(&endpoint);
+    if (theirs) usrsctp_close(theirs);
+    if (listener) usrsctp_close(listener);
+    for (int i = 0; i < 1000 && usrsctp_finish() != 0; i++) usrsctp_handle_timers(TICK_MS);
+    network_free(&network);
+    printf("usrsctp: seed %lu, %lu ticks, %lu messages, %lu bytes, %lu faults%s\n", (unsigned long)seed, (unsigned long)network.tick,
+           (unsigned long)messages, (unsigned long)bytes, faults, is_own ? ", usrsctp aborted over legal chunks" : "");
+    return faults != 0 ? 1 : is_own ? 3 : 0;
+}

@@ -1,0 +1,83 @@
+-- Rows that are filled, one after another, and how many there can be.
+use Rattle.std.proofs.Common.{◌≡◌, ℕ, zero, suc, ◌+◌, ◌<◌, ◌≤◌, Bool, true, false, if◌then◌else◌, List, [], ◌∷◌, ◌++◌, length, get_or, set, take, drop, Option, Some, None, refl, ap, ◌∙◌, arith}
+use Rattle.std.specs.Prelude.{map, not}
+use Rattle.std.specs.List.{filter}
+use Rattle.std.proofs.lemmas.List.{length-map}
+use Rattle.std.proofs.lemmas.List.Filters.{length-filter_both}
+use Rattle.sctp_data.specs.SelectiveAck.{Sack}
+use Rattle.sctp_data.specs.declared.chunk.chunk_payload_data.ChunkPayloadData.{ChunkPayloadData}
+use Rattle.sctp_list_lemmas.specs.Lists.{change_where}
+use Rattle.sctp_sender.specs.declared.sender.flight.Released.{Released}
+use Rattle.sctp_sender.specs.Flight.{released_by, released_of, is_outdated, is_whole, reports_anew}
+use Rattle.sctp_sender.specs.Keeping.{told_back}
+use Rattle.sctp_sender.specs.Outgoing.{has_number, less_by}
+use Rattle.sctp_sender.specs.Sender.{Transmission, taken_back_by, back_by}
+use Rattle.sctp_sender.specs.Thresholds.{with_lows}
+use Rattle.sctp_stream.specs.declared.stream.StreamState.{StreamState}
+use Rattle.sctp_c.specs.Acks.{released_to}
+
+-- the first so many rows are filled
+abbrev pub filled_to : {A B : Type 0} → (A → B) → ℕ → List A → List B → List B
+filled_to f i xs old = map f (take i xs) ++ drop i old
+
+pub fill-step : {A B : Type 0} (f : A → B) (xs : List A) (old : List B) (i : ℕ) (d : A) → i < length xs → length xs ≤ length old → set (filled_to f i xs old) i (f (get_or xs i d)) ≡ filled_to f (suc i) xs old
+fill-step f [] old i d lt le = absurd (omega arith)
+fill-step f (x ∷ xs) [] i d lt le = absurd (omega arith)
+fill-step f (x ∷ xs) (o ∷ old) zero d lt le = refl
+fill-step f (x ∷ xs) (o ∷ old) (suc i) d lt le = ap (λ rest. f x ∷ rest) (fill-step f xs old i d (omega arith) (omega arith))
+
+pub fill-all : {A B : Type 0} (f : A → B) (xs : List A) (old : List B) → length xs ≤ length old → filled_to f (length xs) xs old ≡ map f xs ++ drop (length (map f xs)) old
+fill-all f [] old le = refl
+fill-all f (x ∷ xs) [] le = absurd (omega arith)
+fill-all f (x ∷ xs) (o ∷ old) le = ap (λ rest. f x ∷ rest) (fill-all f xs old (omega arith))
+
+-- one more row is filled
+pub fill-next : {A B : Type 0} (f : A → B) (xs : List A) (old rows : List B) (i : ℕ) (y : B) (d : A) → i < length xs → length xs ≤ length old → rows ≡ filled_to f i xs old → y ≡ f (get_or xs i d)
+    → set rows i y ≡ filled_to f (i + 1) xs old
+fill-next f xs old rows i y d lt le e is =
+    let next : suc i ≡ i + 1 = omega arith in
+    ap (λ r. set r i y) e ∙ ap (λ z. set (filled_to f i xs old) i z) is ∙ fill-step f xs old i d lt le ∙ ap (λ n. filled_to f n xs old) next
+
+-- all are
+pub fill-done : {A B : Type 0} (f : A → B) (xs : List A) (old rows : List B) (i : ℕ) → i ≤ length xs → length xs ≤ i → length xs ≤ length old → rows ≡ filled_to f i xs old → rows ≡ map f xs ++ drop (length (map f xs)) old
+fill-done f xs old rows i le ge room e =
+    let end : i ≡ length xs = omega arith in
+    e ∙ ap (λ n. filled_to f n xs old) end ∙ fill-all f xs old room
+
+-- ## How many rows there are
+
+pub lows-length : (rs : List Released) (ls : List StreamState) → length (with_lows rs ls) ≡ length rs
+lows-length [] ls = refl
+lows-length (r ∷ rs) ls = ap suc (lows-length rs (change_where (has_number r.stream) (less_by r.bytes) ls))
+
+pub filter-few : {A : Type 0} (p : A → Bool) (xs : List A) → length (filter p xs) ≤ length xs
+filter-few p xs = omega (arith, length-filter_both p (λ x. not (p x)) (λ x. refl) xs)
+
+pub released-few : (s : Sack) (t : Transmission) → length (released_to s t) ≤ length t.flight.queue.inflight.chunks
+released-few s t = step (is_outdated s t.flight) refl
+  where
+    chunks : List ChunkPayloadData
+    chunks = t.flight.queue.inflight.chunks
+
+    told : Bool → List Released
+    told b = if b then [] else map (released_of (is_whole s t.flight)) (filter (reports_anew s) chunks)
+
+    step : (b : Bool) → is_outdated s t.flight ≡ b → length (released_to s t) ≤ length t.flight.queue.inflight.chunks
+    step true e =
+        let none : length (released_by s t.flight) ≡ 0 = ap (λ b. length (told b)) e in
+        omega (arith, none, lows-length (released_by s t.flight) t.streams)
+    step false e =
+        let all : length (released_by s t.flight) ≡ length (told false) = ap (λ b. length (told b)) e in
+        omega (arith, all, lows-length (released_by s t.flight) t.streams, length-map (filter (reports_anew s) chunks) (released_of (is_whole s t.flight)), filter-few (reports_anew s) chunks)
+
+pub told-few : (bs : List (Option (List ℕ))) (cs : List ChunkPayloadData) → length (told_back bs cs) ≤ length cs
+told-few [] cs = omega arith
+told-few (b ∷ bs) [] = omega arith
+told-few (None ∷ bs) (c ∷ cs) = omega (arith, told-few bs cs)
+told-few (Some bytes ∷ bs) (c ∷ cs) = omega (arith, told-few bs cs)
+
+pub taken-few : (s : Sack) (t : Transmission) → length (taken_back_by s t) ≤ length t.flight.queue.inflight.chunks
+taken-few s t = told-few (back_by s t.flight t.kept) t.flight.queue.inflight.chunks
+
+pub rows-fit : {A : Type 0} (items told view : List A) (most rows : ℕ) → items ≡ told → length told ≤ most → view ≡ items → most ≤ rows → length view ≤ rows
+rows-fit items told view most rows e few same le = omega (arith, ap (λ (l : List _). length l) e, ap (λ (l : List _). length l) same, few, le)

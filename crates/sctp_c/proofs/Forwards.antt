@@ -1,0 +1,30 @@
+-- A FORWARD-TSN within a buffer's room.
+use Rattle.std.proofs.Common.{◌≡◌, ℕ, ◌+◌, ◌*◌, ◌≤◌, List, length, ap, inl, inr, arith, length-append}
+use Rattle.std.specs.Prelude.{◌⊎◌, min}
+use Rattle.sctp_base.proofs.Fields.{length_be16}
+use Rattle.sctp_base.specs.Field.{be16}
+use Rattle.sctp_base.specs.declared.error.Error.{Error}
+use Rattle.sctp_base.specs.declared.error.Error.TheVariants.{ErrOutOfMemory}
+use Rattle.sctp_chunks.specs.Check.{EncodingFault}
+use Rattle.sctp_chunks.proofs.Lengths.{length_forward_tsn_value}
+use Rattle.sctp_chunks.specs.Wire.{HasEncoding, encoding_of, forward_tsn_chunk}
+use Rattle.sctp_data.specs.ForwardTsn.{ForwardTsn, forward_tsn_value}
+
+pub forward-size : (f : ForwardTsn) → length (encoding_of (forward_tsn_chunk f)) ≡ 8 + 4 * length f.streams
+forward-size f =
+    let v = forward_tsn_value f in
+    omega (arith, length_forward_tsn_value f, length-append (be16 (4 + length v)) v, length_be16 (4 + length v))
+
+pub forward-fits : (f : ForwardTsn) (bytes view : List ℕ) (room n : ℕ) → room ≡ min n 65532 → 8 + 4 * length f.streams ≤ room → bytes ≡ encoding_of (forward_tsn_chunk f) → view ≡ bytes → length view ≤ n
+forward-fits f bytes view room n is fits e same =
+    let below : room ≤ n = grind (arith, is) in
+    omega (arith, below, fits, ap (λ (l : List ℕ). length l) e, ap (λ (l : List ℕ). length l) same, forward-size f)
+
+-- it has an encoding: only memory can run out
+pub forward-memory : (f : ForwardTsn) (e : Error) (room n : ℕ) → room ≡ min n 65532 → 8 + 4 * length f.streams ≤ room
+    → EncodingFault e (forward_tsn_chunk f) ⊎ ((e ≡ ErrOutOfMemory) × HasEncoding (forward_tsn_chunk f)) → e ≡ ErrOutOfMemory
+forward-memory f e room n is fits (inl (inl h)) = absurd h
+forward-memory f e room n is fits (inl (inr h)) =
+    let below : room ≤ 65532 = grind (arith, is) in
+    absurd (h.2 (omega (arith, below, fits, length_forward_tsn_value f)))
+forward-memory f e room n is fits (inr h) = h.0

@@ -1,0 +1,12 @@
+pub mod Filling
+pub mod Forwards
+pub mod Leaving
+pub mod Messages
+pub mod Places
+pub mod ReceiverBox
+pub mod Rows
+pub mod Sacks
+pub mod SenderBox
+pub mod Tails
+pub mod Writes
+pub mod Written

@@ -1,0 +1,47 @@
+-- What is told of the next message of a stream.
+use Rattle.std.proofs.Common.{◌≡◌, ℕ, ◌-◌, ◌^◌, List, [], ◌∷◌, length, Option, Some, None, ◌<◌, refl, sym, ap, ◌∙◌, arith, length-append}
+use Rattle.std.specs.Prelude.{min, option_map}
+use Rattle.std.proofs.lemmas.List.Sums.{sum_by-cons}
+use Rattle.std.proofs.lemmas.Option.{none-some, same_Some}
+use Rattle.sctp_data.specs.ChunkSet.{ChunkSet}
+use Rattle.sctp_data.specs.declared.chunk.chunk_payload_data.ChunkPayloadData.{ChunkPayloadData}
+use Rattle.sctp_data.specs.declared.chunk.chunk_payload_data.PayloadProtocolIdentifier.{PayloadProtocolIdentifier}
+use Rattle.sctp_data.specs.PayloadData.{payload_type_number}
+use Rattle.sctp_reassembly.specs.reassembly_queue.Fragments.{payload_of}
+use Rattle.sctp_reassembly.specs.reassembly_queue.ReassemblyQueue.{at_start}
+use Rattle.sctp_reassembly.specs.declared.reassembly_queue.chunks.Chunks.{Chunks}
+use Rattle.sctp_receiver.specs.Receiver.{Reception, message_on}
+use Rattle.sctp_serial.specs.DataChunks.{bytes_of}
+use Rattle.sctp_c.specs.Receiving.{TellsNext}
+
+-- what a function makes of an option is there: so is what it is made of
+pub made-of : {A B : Type 0} (f : A → B) (o : Option A) (b : B) → Some b ≡ option_map f o → (a : A) × ((o ≡ Some a) × (b ≡ f a))
+made-of f None b h = absurd (none-some b (sym h))
+made-of f (Some a) b h = (a, (refl, same_Some b (f a) h))
+
+pub payload-size : (cs : List ChunkPayloadData) → bytes_of cs ≡ length (payload_of cs)
+payload-size [] = refl
+payload-size (c ∷ cs) =
+    let a = sum_by-cons (λ (x : ChunkPayloadData). length x.user_data) c cs in
+    let b = payload-size cs in
+    let d = length-append c.user_data (payload_of cs) in
+    omega arith
+
+abbrev pub told : ChunkSet → ℕ × PayloadProtocolIdentifier
+told s = (min (bytes_of s.chunks) (2 ^ 64 - 1), s.ppi)
+
+pub tells-next : (stream size number : ℕ) (ppi : PayloadProtocolIdentifier) (r : Reception) (o : Option (ℕ × PayloadProtocolIdentifier)) → o ≡ Some (size, ppi) → o ≡ option_map told (message_on stream r) → number ≡ payload_type_number ppi → TellsNext stream size number r
+tells-next stream size number ppi r o is e n =
+    let found = made-of told (message_on stream r) (size, ppi) (grind (arith, is, e)) in
+    record { message = found.0; next = found.1.0; size = ap (λ x. x.0) found.1.1; typ = grind (arith, n, ap (λ (x : ℕ × PayloadProtocolIdentifier). x.1) found.1.1) }
+
+-- a buffer that is no shorter than what is told is no shorter than the message
+pub not-short : (m : Option ChunkSet) (o : Option (ℕ × PayloadProtocolIdentifier)) (size : ℕ) (ppi : PayloadProtocolIdentifier) (p : Option Chunks) (message : Chunks) (n : ℕ) → o ≡ Some (size, ppi) → o ≡ option_map told m → p ≡ Some message → p ≡ option_map at_start m → (n < size → ⊥) → n < 2 ^ 63 → n < length (payload_of message.set.chunks) → ⊥
+not-short m o size ppi p message n is e there f le small short =
+    let found = made-of told m (size, ppi) (sym is ∙ e) in
+    let read = made-of at_start m message (sym there ∙ f) in
+    let same : found.0 ≡ read.0 = same_Some found.0 read.0 (sym found.1.0 ∙ read.1.0) in
+    let size-is : size ≡ min (bytes_of found.0.chunks) (2 ^ 64 - 1) = ap (λ (x : ℕ × PayloadProtocolIdentifier). x.0) found.1.1 in
+    let chunks : found.0.chunks ≡ message.set.chunks = ap (λ (s : ChunkSet). s.chunks) same ∙ sym (ap (λ (x : Chunks). x.set.chunks) read.1.1) in
+    let bytes : bytes_of found.0.chunks ≡ length (payload_of message.set.chunks) = ap bytes_of chunks ∙ payload-size message.set.chunks in
+    grind (arith, size-is, bytes, le, small, short)

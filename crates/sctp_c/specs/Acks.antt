@@ -1,0 +1,49 @@
+-- A SACK that a caller in C hands in (RFC 4960 6.2.1).
+use Rattle.std.specs.Prelude.{◌≡◌, ℕ, List, length, map, None}
+use Rattle.sctp_chunks.specs.Wire.{ReadsChunk, sack_chunk}
+use Rattle.sctp_data.specs.SelectiveAck.{Sack}
+use Rattle.sctp_sender.specs.declared.sender.flight.Released.{Released}
+use Rattle.sctp_sender.specs.Flight.{released_by, sack_refusal}
+use Rattle.sctp_sender.specs.Sender.{Transmission, after_acked, after_take_back, take_back_refusal, taken_back_by}
+use Rattle.sctp_sender.specs.Thresholds.{with_lows}
+use Rattle.sctp_c.specs.declared.sender.acks.SctpAcked.{SctpAcked}
+use Rattle.sctp_c.specs.declared.sender.acks.SctpTakenBack.{SctpTakenBack}
+use Rattle.sctp_c.specs.Out.{at_front}
+use Rattle.sctp_c.specs.Rows.{acked_row, taken_back_row}
+use Rattle.sctp_c.specs.Sending.{IsSenderCode, sender_code_for}
+
+-- the chunks that it reports anew, each with whether the amount of its stream falls with it
+abbrev pub released_to : Sack → Transmission → List Released
+released_to s t = with_lows (released_by s t.flight) t.streams
+
+-- the bytes are a SACK, which is taken: a row tells of each chunk that it reports anew
+pub record TakesSack (bytes : List ℕ) (rows_old rows_new : List SctpAcked) (count : ℕ)
+    (old new : Transmission) : Type 0 where
+  pub sack : Sack
+  pub reads : ReadsChunk bytes (sack_chunk sack)
+  pub accepted : sack_refusal sack old.flight ≡ None
+  pub rows : rows_new ≡ at_front (map acked_row (released_to sack old)) rows_old
+  pub size : count ≡ length (released_to sack old)
+  pub after : new ≡ after_acked sack old
+
+-- they are a SACK, which is refused
+pub record RefusesSack (bytes : List ℕ) (code : ℕ) (old : Transmission) : Type 0 where
+  pub sack : Sack
+  pub reads : ReadsChunk bytes (sack_chunk sack)
+  pub number : code ≡ sender_code_for (sack_refusal sack old.flight)
+
+-- they are a SACK, and a row tells of each chunk that it takes back
+pub record TakesBack (bytes : List ℕ) (rows_old rows_new : List SctpTakenBack) (count : ℕ)
+    (old new : Transmission) : Type 0 where
+  pub sack : Sack
+  pub reads : ReadsChunk bytes (sack_chunk sack)
+  pub accepted : take_back_refusal sack old ≡ None
+  pub rows : rows_new ≡ at_front (map taken_back_row (taken_back_by sack old)) rows_old
+  pub size : count ≡ length (taken_back_by sack old)
+  pub after : new ≡ after_take_back sack old
+
+-- they are a SACK, of which nothing is taken back
+pub record RefusesTakeBack (bytes : List ℕ) (code : ℕ) (old : Transmission) : Type 0 where
+  pub sack : Sack
+  pub reads : ReadsChunk bytes (sack_chunk sack)
+  pub number : IsSenderCode (take_back_refusal sack old) code

@@ -1,0 +1,23 @@
+//! SCTP's lower layer for callers in C: packets, and the two halves of an association behind handles. The header is `include/sctp.h`.
+#![tactic(auto)]
+
+ghost use Rattle.std.specs.Prelude.{◌≡◌};
+
+mod bytes_out;
+pub mod code;
+mod fills;
+pub mod names;
+pub mod packet;
+mod parts;
+pub mod reading;
+pub mod receiver;
+pub mod sender;
+pub mod writing;
+
+/// The version of the surface for C: major << 16 | minor << 8 | patch, here 0.1.0.
+#[unsafe(no_mangle)]
+pub extern "C" fn sctp_version() -> u32
+    ensures { result ≡ 256 }
+{
+    0x0000_0100
+}

@@ -1,0 +1,292 @@
+//! Chunks and parameters that came, as numbers.
+
+ghost use Rattle.std.specs.Prelude.{◌≡◌, ◌≢◌, length, map, IfOk, IfErr};
+ghost use Rattle.sctp_base.specs.Outcome.{OrMemory, GivesUnlessMemory};
+ghost use Rattle.sctp_base.specs.Param.{Parameter};
+ghost use Rattle.sctp_base.specs.ParamKind.{ReadsParam, ParamFault, parameter_of};
+ghost use Rattle.sctp_chunks.specs.Fault.{DataFault, SackFault, ForwardTsnFault, InitFault};
+ghost use Rattle.sctp_chunks.specs.Init.{Init};
+ghost use Rattle.sctp_chunks.specs.Wire.{Wire, ReadsChunk, data_chunk, sack_chunk, forward_tsn_chunk, init_chunk};
+ghost use Rattle.sctp_data.specs.PayloadData.{Data, data_of, weight};
+ghost use Rattle.sctp_data.specs.SelectiveAck.{Sack};
+ghost use Rattle.sctp_data.specs.ForwardTsn.{ForwardTsn};
+ghost use Rattle.sctp_c.specs.Out.{filled};
+ghost use Rattle.sctp_c.specs.Refusal.{IsRefusal};
+ghost use Rattle.sctp_c.specs.Told.{IsData, IsSack, IsForwardTsn, IsInit, IsParameter, data_told, gap_told, skip_told};
+
+use crate::code::{SCTP_OK, of_error};
+use bytes::Bytes;
+use sctp_base::error::Result;
+use sctp_base::field::read_u16;
+use sctp_base::param::param_kind::{ParamKind, build_param};
+use sctp_base::util::get_padding_size;
+use sctp_chunks::chunk::Chunk;
+use sctp_chunks::chunk::chunk_forward_tsn::{ChunkForwardTsn, ChunkForwardTsnStream};
+use sctp_chunks::chunk::chunk_init::ChunkInit;
+use sctp_chunks::chunk::chunk_payload_data::ChunkPayloadData;
+use sctp_chunks::chunk::chunk_selective_ack::{ChunkSelectiveAck, GapAckBlock};
+use std::alloc::Global;
+
+/// A DATA chunk but for its user data, which are `length` bytes from byte 16 of the chunk on (RFC 4960 3.3.1). The flags are 0 or 1.
+#[repr(C)]
+#[derive(Clone, Copy)]
+pub struct SctpData {
+    pub length: usize,
+    pub tsn: u32,
+    /// 50, 51, 53, 56 or 57; of any other that came, 58.
+    pub payload_type: u32,
+    pub stream: u16,
+    pub sequence: u16,
+    pub is_unordered: u8,
+    pub begins: u8,
+    pub ends: u8,
+    pub wants_sack: u8,
+}
+
+/// A SACK but for its blocks and duplicates, of which these are the counts (RFC 4960 3.3.4).
+#[repr(C)]
+#[derive(Clone, Copy)]
+pub struct SctpSack {
+    pub blocks: usize,
+    pub duplicates: usize,
+    pub cumulative_tsn: u32,
+    pub credit: u32,
+}
+
+/// A run of TSNs that came, by the distances of its first and its last from the cumulative one.
+#[repr(C)]
+#[derive(Clone, Copy)]
+pub struct SctpGap {
+    pub start: u16,
+    pub end: u16,
+}
+
+/// A stream, and the last message that is skipped on it (RFC 3758 3.2).
+#[repr(C)]
+#[derive(Clone, Copy)]
+pub struct SctpSkip {
+    pub stream: u16,
+    pub sequence: u16,
+}
+
+/// An INIT, or where `is_ack` is not 0 an INIT-ACK, but for its parameters, which begin at byte 20 of the chunk (RFC 4960 3.3.2, 3.3.3).
+#[repr(C)]
+#[derive(Clone, Copy)]
+pub struct SctpInit {
+    pub initiate_tag: u32,
+    pub credit: u32,
+    pub initial_tsn: u32,
+    pub outbound_streams: u16,
+    pub inbound_streams: u16,
+    pub is_ack: u8,
+}
+
+/// A parameter: its value is `length` bytes from byte 4 on, and the next one begins at byte `next` (RFC 4960 3.2.1).
+#[repr(C)]
+#[derive(Clone, Copy)]
+pub struct SctpParam {
+    pub length: usize,
+    pub next: usize,
+    pub typ: u16,
+}
+
+/// Reads bytes as a chunk of a kind. Refuses as `Chunk::unmarshal` does, or for memory.
+pub fn read<C: Chunk>(alloc: Global, chunk: &[u8]) -> Result<C>
+    ensures found { IfOk result (λ c. ReadsChunk chunk.now (C.wire c)) }
+    ensures only { (w : Wire) → C.IsKind w → ReadsChunk chunk.now w
+        → GivesUnlessMemory result (λ c. C.wire c ≡ w) }
+    ensures fault { IfErr result (λ e. OrMemory e (C.fault e chunk.now)) }
+    ensures fresh { IfOk result (λ c. C.IsFresh c) }
+{
+    let bytes = Bytes::copy_from_slice(alloc, chunk)?;
+    C::unmarshal(alloc, &bytes)
+}
+
+fn flag(set: bool) -> u8
+    ensures { result ≡ weight set 1 }
+{
+    if set { 1 } else { 0 }
+}
+
+fn told(chunk: &ChunkPayloadData) -> SctpData
+    ensures { result ≡ data_told (data_of chunk.now) }
+{
+    SctpData {
+        length: chunk.user_data.len(),
+        tsn: chunk.tsn,
+        payload_type: chunk.payload_type.number(),
+        stream: chunk.stream_identifier,
+        sequence: chunk.stream_sequence_number,
+        is_unordered: flag(chunk.unordered),
+        begins: flag(chunk.beginning_fragment),
+        ends: flag(chunk.ending_fragment),
+        wants_sack: flag(chunk.immediate_sack),
+    }
+}
+
+/// Reads a DATA chunk. Refuses as `ChunkPayloadData::unmarshal` does, and then changes nothing.
+#[unsafe(no_mangle)]
+pub extern "C" fn sctp_read_data(alloc: Global, chunk: &[u8], fields: &mut SctpData) -> u32
+    ensures read { result ≡ 0 → IsData chunk.now fields.new }
+    ensures only { (d : Data) → ReadsChunk chunk.now (data_chunk d) → result ≢ 0 → result ≡ 16 }
+    ensures refused { result ≢ 0 → IsRefusal (λ e. DataFault e chunk.now) result }
+    ensures kept { result ≢ 0 → fields.new ≡ fields.old }
+{
+    match read::<ChunkPayloadData>(alloc, chunk) {
+        Ok(read) => {
+            *fields = told(&read);
+            SCTP_OK
+        }
+        Err(e) => of_error(e),
+    }
+}
+
+fn fill_gaps(rows: &mut [SctpGap], blocks: &[GapAckBlock])
+    ensures { rows.new ≡ filled (map gap_told blocks.now) rows.old }
+{
+    let count = rows.len().min(blocks.len());
+    for i in 0..count {
+        rows[i] = SctpGap {
+            start: blocks[i].start,
+            end: blocks[i].end,
+        };
+    }
+}
+
+fn fill_numbers(rows: &mut [u32], numbers: &[u32])
+    ensures { rows.new ≡ filled numbers.now rows.old }
+{
+    let count = rows.len().min(numbers.len());
+    rows[..count].copy_from_slice(&numbers[..count]);
+}
+
+fn fill_skips(rows: &mut [SctpSkip], streams: &[ChunkForwardTsnStream])
+    ensures { rows.new ≡ filled (map skip_told streams.now) rows.old }
+{
+    let count = rows.len().min(streams.len());
+    for i in 0..count {
+        rows[i] = SctpSkip {
+            stream: streams[i].identifier,
+            sequence: streams[i].sequence,
+        };
+    }
+}
+
+/// Reads a SACK. As many blocks and duplicates as there is room for stand in `blocks` and `duplicates`; `sack` says how many there are.
+/// Refuses as `ChunkSelectiveAck::unmarshal` does, and then changes nothing.
+#[unsafe(no_mangle)]
+pub extern "C" fn sctp_read_sack(
+    alloc: Global,
+    chunk: &[u8],
+    sack: &mut SctpSack,
+    blocks: &mut [SctpGap],
+    duplicates: &mut [u32],
+) -> u32
+    ensures read { result ≡ 0
+        → IsSack chunk.now sack.new blocks.old blocks.new duplicates.old duplicates.new }
+    ensures only { (s : Sack) → ReadsChunk chunk.now (sack_chunk s) → result ≢ 0 → result ≡ 16 }
+    ensures refused { result ≢ 0 → IsRefusal (λ e. SackFault e chunk.now) result }
+    ensures kept { result ≢ 0 → (sack.new ≡ sack.old) × (blocks.new ≡ blocks.old)
+        × (duplicates.new ≡ duplicates.old) }
+{
+    match read::<ChunkSelectiveAck>(alloc, chunk) {
+        Ok(read) => {
+            *sack = SctpSack {
+                blocks: read.gap_ack_blocks.len(),
+                duplicates: read.duplicate_tsn.len(),
+                cumulative_tsn: read.cumulative_tsn_ack,
+                credit: read.advertised_receiver_window_credit,
+            };
+            fill_gaps(blocks, &read.gap_ack_blocks);
+            fill_numbers(duplicates, &read.duplicate_tsn);
+            SCTP_OK
+        }
+        Err(e) => of_error(e),
+    }
+}
+
+/// Reads a FORWARD-TSN. `count` becomes how many streams it names, and as many as there is room for stand in `streams`. Refuses as
+/// `ChunkForwardTsn::unmarshal` does, and then changes nothing.
+#[unsafe(no_mangle)]
+pub extern "C" fn sctp_read_forward_tsn(
+    alloc: Global,
+    chunk: &[u8],
+    new_cumulative_tsn: &mut u32,
+    streams: &mut [SctpSkip],
+    count: &mut usize,
+) -> u32
+    ensures read { result ≡ 0
+        → IsForwardTsn chunk.now new_cumulative_tsn.new count.new streams.old streams.new }
+    ensures only { (f : ForwardTsn) → ReadsChunk chunk.now (forward_tsn_chunk f)
+        → result ≢ 0 → result ≡ 16 }
+    ensures refused { result ≢ 0 → IsRefusal (λ e. ForwardTsnFault e chunk.now) result }
+    ensures kept { result ≢ 0 → (new_cumulative_tsn.new ≡ new_cumulative_tsn.old)
+        × (count.new ≡ count.old) × (streams.new ≡ streams.old) }
+{
+    match read::<ChunkForwardTsn>(alloc, chunk) {
+        Ok(read) => {
+            *new_cumulative_tsn = read.new_cumulative_tsn;
+            *count = read.streams.len();
+            fill_skips(streams, &read.streams);
+            SCTP_OK
+        }
+        Err(e) => of_error(e),
+    }
+}
+
+/// Reads an INIT or INIT-ACK. Refuses as `ChunkInit::unmarshal` does, and then changes nothing.
+#[unsafe(no_mangle)]
+pub extern "C" fn sctp_read_init(alloc: Global, chunk: &[u8], init: &mut SctpInit) -> u32
+    ensures read { result ≡ 0 → IsInit chunk.now init.new }
+    ensures only { (i : Init) → ReadsChunk chunk.now (init_chunk i) → result ≢ 0 → result ≡ 16 }
+    ensures refused { result ≢ 0 → IsRefusal (λ e. InitFault e chunk.now) result }
+    ensures kept { result ≢ 0 → init.new ≡ init.old }
+{
+    match read::<ChunkInit>(alloc, chunk) {
+        Ok(read) => {
+            *init = SctpInit {
+                initiate_tag: read.initiate_tag,
+                credit: read.advertised_receiver_window_credit,
+                initial_tsn: read.initial_tsn,
+                outbound_streams: read.num_outbound_streams,
+                inbound_streams: read.num_inbound_streams,
+                is_ack: flag(read.is_ack),
+            };
+            SCTP_OK
+        }
+        Err(e) => of_error(e),
+    }
+}
+
+fn read_param(alloc: Global, raw: &[u8]) -> Result<ParamKind>
+    ensures found { IfOk result (λ p. ReadsParam raw.now (parameter_of p)) }
+    ensures only { (p : Parameter)
+        → ReadsParam raw.now p → GivesUnlessMemory result (λ q. parameter_of q ≡ p) }
+    ensures fault { IfErr result (λ e. OrMemory e (ParamFault e raw.now)) }
+{
+    let bytes = Bytes::copy_from_slice(alloc, raw)?;
+    build_param(alloc, &bytes)
+}
+
+/// Reads the parameter that the bytes begin with. Refuses as `build_param` does, and then changes nothing.
+#[unsafe(no_mangle)]
+pub extern "C" fn sctp_read_param(alloc: Global, raw: &[u8], param: &mut SctpParam) -> u32
+    ensures read { result ≡ 0 → IsParameter raw.now param.new }
+    ensures only { (p : Parameter) → ReadsParam raw.now p → result ≢ 0 → result ≡ 16 }
+    ensures refused { result ≢ 0 → IsRefusal (λ e. ParamFault e raw.now) result }
+    ensures kept { result ≢ 0 → param.new ≡ param.old }
+{
+    match read_param(alloc, raw) {
+        Ok(_) => {
+            let length = read_u16(raw, 2) as usize;
+            let next = length + get_padding_size(length);
+            *param = SctpParam {
+                length: length - 4,
+                next: next.min(raw.len()),
+                typ: read_u16(raw, 0),
+            };
+            SCTP_OK
+        }
+        Err(e) => of_error(e),
+    }
+}

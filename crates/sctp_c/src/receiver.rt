@@ -1,0 +1,199 @@
+//! The receiving half of a link behind a handle (RFC 4960 6.2, 6.6, 6.7; RFC 3758 3.6; RFC 6525 5.2.2).
+//!
+//! A handle is one pointer. Each call says what it makes of the value behind it, which is a `Receiver`, in that type's own words. A code
+//! of 16 or more is a refusal: the receiver is as it was then.
+
+ghost use Rattle.std.specs.Prelude.{◌≡◌, ◌≢◌, ◌⊎◌, false, if◌then◌else◌};
+ghost use Rattle.std.specs.Borrow.{sem};
+ghost use Rattle.sctp_c.specs.OwnedReceiver.{receiver_owns, receiver_coded};
+ghost use Rattle.sctp_c.specs.Codes.{receiver_code};
+ghost use Rattle.sctp_c.specs.Receiving.{receiver_code_for};
+ghost use Rattle.sctp_receiver.specs.Limits.{held_cost};
+ghost use Rattle.sctp_receiver.specs.Receiver.{Reception, is_open, open_stream, close_stream, window};
+ghost use Rattle.sctp_receiver.specs.Resets.{reset_stream, reset_refusal};
+ghost use Rattle.sctp_receiver.specs.declared.receiver.refusal.ReceiverRefusal.TheVariants.{StreamOpen, OutOfMemory};
+
+pub mod arrivals;
+pub mod messages;
+pub mod sacks;
+
+use crate::code::{SCTP_NO_MEMORY, SCTP_OK, of_receiver};
+use crate::parts::Parts;
+use sctp_receiver::receiver::Receiver;
+use sctp_receiver::receiver::limits::Limits;
+use std::alloc::Global;
+use std::marker::Model;
+
+/// What a handle points at: C never looks into it.
+#[repr(C)]
+pub struct ReceiverMemory {
+    none: u8,
+}
+
+/// The handle of a receiver.
+#[repr(C)]
+pub struct SctpReceiver {
+    at: *mut ReceiverMemory,
+    alloc: Global,
+    pub ghost value: { Reception } by { receiver_coded },
+}
+
+impl Model for SctpReceiver {
+    ghost also_owns = { λ h. receiver_owns h.alloc h.at h.value };
+}
+
+impl SctpReceiver {
+    ghost use Rattle.sctp_c.specs.LentReceiver.{lends_receiver};
+
+    // The receiver behind the handle, lent.
+    fn get_mut(&mut self) -> &mut Receiver
+        ensures* writes_back { sem 𝓛 (lends_receiver self.entry result) }
+        ensures value { result.now ≡ self.old.value }
+    {
+        unsafe { &mut *(self.at as *mut Receiver) }
+    }
+
+    // The parts of the box that the handle came of.
+    fn into_parts(self) -> Parts<Receiver, Global>
+        ensures { result.value ≡ self.value }
+    {
+        let SctpReceiver { at, alloc } = self;
+        Parts {
+            ptr: at as *mut Receiver,
+            alloc,
+        }
+    }
+}
+
+// The same pointer, as C has it.
+fn hide(at: *mut Receiver) -> *mut ReceiverMemory
+    ensures { result ≡ at }
+{
+    at as *mut ReceiverMemory
+}
+
+// Puts a receiver on the heap, and its handle into `out`.
+fn hand_out(alloc: Global, receiver: Receiver, out: &mut *mut ReceiverMemory) -> u32
+    ensures codes { (result ≡ 0) ⊎ (result ≡ 16) }
+    ensures refused { result ≢ 0 → out.new ≡ out.old }
+{
+    match Box::new(alloc, receiver) {
+        Ok(held) => {
+            *out = hide(Box::into_raw(held));
+            SCTP_OK
+        }
+        Err(_) => SCTP_NO_MEMORY,
+    }
+}
+
+/// Makes a receiver with no stream, to which nothing came: `first_tsn`, the peer's initial TSN, is expected next, and a message may have
+/// `max_message_size` bytes. It holds about `window` bytes at most, each chunk counted as 200 more than its user data, and no TSN farther
+/// than `reach` past the cumulative one (RFC 4960 6.2). `out` becomes its handle. Refuses with `SCTP_NO_MEMORY`; `out` stays then.
+#[unsafe(no_mangle)]
+pub extern "C" fn sctp_receiver_new(
+    alloc: Global,
+    first_tsn: u32,
+    max_message_size: u32,
+    window: usize,
+    reach: u32,
+    out: &mut *mut ReceiverMemory,
+) -> u32
+    ensures codes { (result ≡ 0) ⊎ (result ≡ 16) }
+    ensures refused { result ≢ 0 → out.new ≡ out.old }
+{
+    let limits = Some(Limits { window, reach });
+    let receiver = Receiver::new(alloc, first_tsn, max_message_size, limits);
+    hand_out(alloc, receiver, out)
+}
+
+/// As `sctp_receiver_new`, with no limit to what is held: for a peer that is trusted, or a replay.
+#[unsafe(no_mangle)]
+pub extern "C" fn sctp_receiver_new_unlimited(
+    alloc: Global,
+    first_tsn: u32,
+    max_message_size: u32,
+    out: &mut *mut ReceiverMemory,
+) -> u32
+    ensures codes { (result ≡ 0) ⊎ (result ≡ 16) }
+    ensures refused { result ≢ 0 → out.new ≡ out.old }
+{
+    let receiver = Receiver::new(alloc, first_tsn, max_message_size, None);
+    hand_out(alloc, receiver, out)
+}
+
+/// Frees a receiver and all that it holds. The handle is not used again.
+#[unsafe(no_mangle)]
+pub extern "C" fn sctp_receiver_free(receiver: SctpReceiver) {
+    drop(receiver.into_parts().into_box());
+}
+
+/// Opens a stream. Refuses with `SCTP_STREAM_OPEN` and `SCTP_NO_MEMORY`.
+#[unsafe(no_mangle)]
+pub extern "C" fn sctp_receiver_open(receiver: &mut SctpReceiver, stream: u16) -> u32
+    ensures ok { result ≡ 0 → (is_open stream receiver.old.value ≡ false)
+        × (receiver.new.value ≡ open_stream stream receiver.old.value) }
+    ensures refused { result ≢ 0 → (result ≡ receiver_code
+        (if is_open stream receiver.old.value then StreamOpen else OutOfMemory))
+        × (receiver.new.value ≡ receiver.old.value) }
+{
+    match receiver.get_mut().open(stream) {
+        Ok(()) => SCTP_OK,
+        Err(e) => of_receiver(e),
+    }
+}
+
+/// Closes a stream, where it is open: what came on it and was not read is dropped; the TSNs stay. It takes no memory.
+#[unsafe(no_mangle)]
+pub extern "C" fn sctp_receiver_close(receiver: &mut SctpReceiver, stream: u16)
+    ensures { receiver.new.value ≡ close_stream stream receiver.old.value }
+{
+    receiver.get_mut().close(stream);
+}
+
+/// The peer resets a stream that it sends on: `last_tsn` is the Sender's Last Assigned TSN of its Outgoing SSN Reset Request (RFC 6525
+/// 4.1, 5.2.2). The stream sequence number 0 is expected next. Refuses with `SCTP_STREAM_UNKNOWN`, with `SCTP_RESET_IN_PROGRESS`, where
+/// the cumulative TSN is before `last_tsn`, and with `SCTP_NO_MEMORY`.
+#[unsafe(no_mangle)]
+pub extern "C" fn sctp_receiver_reset(
+    receiver: &mut SctpReceiver,
+    stream: u16,
+    last_tsn: u32,
+) -> u32
+    ensures ok { result ≡ 0 → receiver.new.value
+        ≡ reset_stream stream last_tsn receiver.old.value }
+    ensures refused { result ≢ 0
+        → (result ≡ receiver_code_for (reset_refusal stream last_tsn receiver.old.value))
+        × (receiver.new.value ≡ receiver.old.value) }
+{
+    match receiver.get_mut().reset(stream, last_tsn) {
+        Ok(()) => SCTP_OK,
+        Err(e) => of_receiver(e),
+    }
+}
+
+/// The TSN up to which all came, or was skipped.
+#[unsafe(no_mangle)]
+pub extern "C" fn sctp_receiver_cumulative_tsn(receiver: &mut SctpReceiver) -> u32
+    ensures value { result ≡ receiver.old.value.cumulative_tsn }
+    ensures kept { receiver.new.value ≡ receiver.old.value }
+{
+    receiver.get_mut().cumulative_tsn()
+}
+
+/// The window to advertise, in bytes (RFC 4960 3.3.4), which a SACK has as its credit; 2^32 - 1 without limits.
+#[unsafe(no_mangle)]
+pub extern "C" fn sctp_receiver_window(receiver: &mut SctpReceiver) -> u32
+    ensures value { result ≡ window receiver.old.value }
+    ensures kept { receiver.new.value ≡ receiver.old.value }
+{
+    receiver.get_mut().window()
+}
+
+/// What is held and was not read: its bytes, and 200 for each chunk; the greatest `size_t` where it is more.
+#[unsafe(no_mangle)]
+pub extern "C" fn sctp_receiver_held_bytes(receiver: &mut SctpReceiver) -> usize
+    ensures value { result ≡ held_cost receiver.old.value.streams }
+    ensures kept { receiver.new.value ≡ receiver.old.value }
+{
+    receiver.get_mut().held_bytes()
+}

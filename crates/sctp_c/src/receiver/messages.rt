@@ -1,0 +1,125 @@
+//! Messages that are to be read (RFC 4960 6.6, 6.9).
+
+ghost use Rattle.std.specs.Prelude.{◌≡◌, ◌≢◌, ◌<◌, ◌⊎◌, false, true, None, length};
+ghost use Rattle.sctp_c.specs.Out.{at_front};
+ghost use Rattle.sctp_c.specs.Receiving.{TellsNext, ReadsNext};
+ghost use Rattle.sctp_receiver.specs.Receiver.{is_open, message_on, after_read, readable_streams};
+
+use super::SctpReceiver;
+use crate::code::{SCTP_NO_MEMORY, SCTP_NOTHING, SCTP_OK, SCTP_SHORT_BUFFER, SCTP_STREAM_UNKNOWN};
+use crate::fills::put_numbers;
+use sctp_receiver::receiver::Receiver;
+
+// The code where a stream has no message to read.
+fn of_none(receiver: &Receiver, stream: u16) -> u32
+    ensures nothing { is_open stream receiver.now ≡ true → result ≡ 3 }
+    ensures unknown { is_open stream receiver.now ≡ false → result ≡ 23 }
+{
+    if receiver.reassembly(stream).is_some() {
+        SCTP_NOTHING
+    } else {
+        SCTP_STREAM_UNKNOWN
+    }
+}
+
+/// Tells the next message of a stream, and takes nothing out: `size` becomes its length in bytes, `payload_type` its payload type.
+/// `SCTP_NOTHING`: there is none. Refuses with `SCTP_STREAM_UNKNOWN`. Both stay, but with `SCTP_OK`.
+#[unsafe(no_mangle)]
+pub extern "C" fn sctp_receiver_next_length(
+    receiver: &mut SctpReceiver,
+    stream: u16,
+    size: &mut usize,
+    payload_type: &mut u32,
+) -> u32
+    ensures codes { (result ≡ 0) ⊎ ((result ≡ 3) ⊎ (result ≡ 23)) }
+    ensures ok { result ≡ 0 → TellsNext stream size.new payload_type.new receiver.old.value }
+    ensures nothing { result ≡ 3 → (message_on stream receiver.old.value ≡ None)
+        × (is_open stream receiver.old.value ≡ true) }
+    ensures refused { result ≡ 23 → is_open stream receiver.old.value ≡ false }
+    ensures same { receiver.new.value ≡ receiver.old.value }
+    ensures kept { result ≢ 0 → (size.new ≡ size.old) × (payload_type.new ≡ payload_type.old) }
+{
+    let held = receiver.get_mut();
+    match held.next_len(stream) {
+        Some((len, ppi)) => {
+            *size = len;
+            *payload_type = ppi.number();
+            SCTP_OK
+        }
+        None => of_none(held, stream),
+    }
+}
+
+/// Takes the next message of a stream out and copies it to the front of the buffer: `size` becomes its length, `payload_type` its
+/// payload type. `SCTP_NOTHING`: there is none, and both stay. Refuses with `SCTP_STREAM_UNKNOWN`, and both stay; and with
+/// `SCTP_SHORT_BUFFER`, where the buffer is shorter than the message: both are told then, nothing is copied, and the message can still
+/// be read.
+#[unsafe(no_mangle)]
+pub extern "C" fn sctp_receiver_read(
+    receiver: &mut SctpReceiver,
+    stream: u16,
+    out: &mut [u8],
+    size: &mut usize,
+    payload_type: &mut u32,
+) -> u32
+    ensures codes { (result ≡ 0) ⊎ ((result ≡ 3) ⊎ ((result ≡ 17) ⊎ (result ≡ 23))) }
+    ensures ok { result ≡ 0 → (receiver.new.value ≡ after_read stream receiver.old.value)
+        × ReadsNext stream out.old out.new size.new payload_type.new receiver.old.value }
+    ensures nothing { result ≡ 3 → (message_on stream receiver.old.value ≡ None)
+        × (is_open stream receiver.old.value ≡ true) }
+    ensures short { result ≡ 17 → (length out.old < size.new)
+        × TellsNext stream size.new payload_type.new receiver.old.value }
+    ensures unknown { result ≡ 23 → is_open stream receiver.old.value ≡ false }
+    ensures same { result ≢ 0 → (receiver.new.value ≡ receiver.old.value) × (out.new ≡ out.old) }
+    ensures kept { result ≢ 0 → result ≢ 17
+        → (size.new ≡ size.old) × (payload_type.new ≡ payload_type.old) }
+{
+    let held = receiver.get_mut();
+    let Some((len, ppi)) = held.next_len(stream) else {
+        return of_none(held, stream);
+    };
+    *size = len;
+    *payload_type = ppi.number();
+    if out.len() < len {
+        return SCTP_SHORT_BUFFER;
+    }
+    let Ok(Some(message)) = held.read(stream) else {
+        unreachable!()
+    };
+    match message.read(out) {
+        Ok(copied) => {
+            *size = copied;
+            SCTP_OK
+        }
+        Err(_) => unreachable!(),
+    }
+}
+
+/// Writes the numbers of the streams with a message to read to the front of `streams`, in the order in which they were opened; `count`
+/// becomes how many there are. Refuses with `SCTP_SHORT_BUFFER`, where there is room for fewer: `count` is told then, and nothing is
+/// written; and with `SCTP_NO_MEMORY`, and both stay.
+#[unsafe(no_mangle)]
+pub extern "C" fn sctp_receiver_readable_streams(
+    receiver: &mut SctpReceiver,
+    streams: &mut [u16],
+    count: &mut usize,
+) -> u32
+    ensures codes { (result ≡ 0) ⊎ ((result ≡ 16) ⊎ (result ≡ 17)) }
+    ensures ok { result ≡ 0 → (count.new ≡ length (readable_streams receiver.old.value.streams))
+        × (streams.new ≡ at_front (readable_streams receiver.old.value.streams) streams.old) }
+    ensures short { result ≡ 17 → (length streams.old < count.new)
+        × (count.new ≡ length (readable_streams receiver.old.value.streams)) }
+    ensures memory { result ≡ 16 → count.new ≡ count.old }
+    ensures kept { result ≢ 0 → streams.new ≡ streams.old }
+    ensures same { receiver.new.value ≡ receiver.old.value }
+{
+    let Ok(numbers) = receiver.get_mut().readable_streams() else {
+        return SCTP_NO_MEMORY;
+    };
+    *count = numbers.len();
+    if streams.len() < numbers.len() {
+        return SCTP_SHORT_BUFFER;
+    }
+    put_numbers(streams, &numbers);
+    SCTP_OK
+}

@@ -1,0 +1,269 @@
+//! The sending half of a link behind a handle (RFC 4960 6.1, 6.2.1, 6.9; RFC 3758 3.5; RFC 6525 5.1.2).
+//!
+//! A handle is one pointer. Each call says what it makes of the value behind it, which is a `Sender`, in that type's own words. A code of
+//! 16 or more is a refusal: the sender is as it was then. `now` is in nanoseconds from any one moment.
+
+ghost use Rattle.std.specs.Prelude.{◌≡◌, ◌≢◌, ◌<◌, ◌≤◌, ◌⊎◌, ◌==◌, not, false, None, Some, length, option_map, if◌then◌else◌};
+ghost use Rattle.std.specs.Borrow.{sem};
+ghost use Rattle.sctp_c.specs.OwnedSender.{sender_owns, sender_coded};
+ghost use Rattle.sctp_c.specs.Codes.{sender_code};
+ghost use Rattle.sctp_c.specs.Sending.{IsSenderCode, Writes, reliability_named};
+ghost use Rattle.sctp_sender.specs.Sender.{Transmission, is_open, open_stream, close_stream, with_mode_on, write_refusal};
+ghost use Rattle.sctp_sender.specs.Settings.{reset_on, reset_refusal, with_fragment_size, with_low_on};
+ghost use Rattle.sctp_sender.specs.declared.sender.refusal.SenderRefusal.TheVariants.{StreamOpen, OutOfMemory};
+
+pub mod abandoning;
+pub mod acks;
+pub mod forwards;
+pub mod queries;
+pub mod sending;
+
+use crate::code::{
+    SCTP_INVALID, SCTP_NO_MEMORY, SCTP_NOTHING, SCTP_OK, SCTP_STREAM_UNKNOWN, of_sender,
+};
+use crate::parts::Parts;
+use bytes::Bytes;
+use sctp_data::chunk::chunk_payload_data::{PayloadProtocolIdentifier, ReliabilityType};
+use sctp_sender::sender::Sender;
+use std::alloc::Global;
+use std::marker::Model;
+
+/// What a handle points at: C never looks into it.
+#[repr(C)]
+pub struct SenderMemory {
+    none: u8,
+}
+
+/// The handle of a sender.
+#[repr(C)]
+pub struct SctpSender {
+    at: *mut SenderMemory,
+    alloc: Global,
+    pub ghost value: { Transmission } by { sender_coded },
+}
+
+impl Model for SctpSender {
+    ghost also_owns = { λ h. sender_owns h.alloc h.at h.value };
+}
+
+impl SctpSender {
+    ghost use Rattle.sctp_c.specs.LentSender.{lends_sender};
+
+    // The sender behind the handle, lent.
+    fn get_mut(&mut self) -> &mut Sender
+        ensures* writes_back { sem 𝓛 (lends_sender self.entry result) }
+        ensures value { result.now ≡ self.old.value }
+    {
+        unsafe { &mut *(self.at as *mut Sender) }
+    }
+
+    // The parts of the box that the handle came of.
+    fn into_parts(self) -> Parts<Sender, Global>
+        ensures { result.value ≡ self.value }
+    {
+        let SctpSender { at, alloc } = self;
+        Parts {
+            ptr: at as *mut Sender,
+            alloc,
+        }
+    }
+}
+
+// The same pointer, as C has it.
+fn hide(at: *mut Sender) -> *mut SenderMemory
+    ensures { result ≡ at }
+{
+    at as *mut SenderMemory
+}
+
+/// Makes a sender with no stream, whose first chunk gets `first_tsn`. A chunk has `fragment_size` bytes of user data at most, 1 to
+/// 65,519, a message `max_message_size`. `out` becomes its handle. Refuses with `SCTP_INVALID`, where the fragment size is not in that
+/// range, and with `SCTP_NO_MEMORY`; `out` stays then.
+#[unsafe(no_mangle)]
+pub extern "C" fn sctp_sender_new(
+    alloc: Global,
+    first_tsn: u32,
+    fragment_size: u32,
+    max_message_size: u32,
+    out: &mut *mut SenderMemory,
+) -> u32
+    ensures codes { (result ≡ 0) ⊎ ((result ≡ 16) ⊎ (result ≡ 18)) }
+    ensures ok { result ≡ 0 → (0 < fragment_size) × (fragment_size ≤ 65519) }
+    ensures invalid { result ≡ 18 → (fragment_size ≡ 0) ⊎ (65519 < fragment_size) }
+    ensures refused { result ≢ 0 → out.new ≡ out.old }
+{
+    if fragment_size == 0 || fragment_size > 65_519 {
+        return SCTP_INVALID;
+    }
+    let sender = Sender::new(alloc, first_tsn, fragment_size, max_message_size);
+    match Box::new(alloc, sender) {
+        Ok(held) => {
+            *out = hide(Box::into_raw(held));
+            SCTP_OK
+        }
+        Err(_) => SCTP_NO_MEMORY,
+    }
+}
+
+/// Frees a sender and all that it holds. The handle is not used again.
+#[unsafe(no_mangle)]
+pub extern "C" fn sctp_sender_free(sender: SctpSender) {
+    drop(sender.into_parts().into_box());
+}
+
+/// Opens a stream, ordered and reliable. Refuses with `SCTP_STREAM_OPEN` and `SCTP_NO_MEMORY`.
+#[unsafe(no_mangle)]
+pub extern "C" fn sctp_sender_open(sender: &mut SctpSender, stream: u16) -> u32
+    ensures ok { result ≡ 0 → (is_open stream sender.old.value ≡ false)
+        × (sender.new.value ≡ open_stream stream sender.old.value) }
+    ensures refused { result ≢ 0 → (result ≡ sender_code
+        (if is_open stream sender.old.value then StreamOpen else OutOfMemory))
+        × (sender.new.value ≡ sender.old.value) }
+{
+    match sender.get_mut().open(stream) {
+        Ok(()) => SCTP_OK,
+        Err(e) => of_sender(e),
+    }
+}
+
+/// Closes a stream, where it is open. What waits and is in flight of it goes on. It takes no memory.
+#[unsafe(no_mangle)]
+pub extern "C" fn sctp_sender_close(sender: &mut SctpSender, stream: u16)
+    ensures { sender.new.value ≡ close_stream stream sender.old.value }
+{
+    sender.get_mut().close(stream);
+}
+
+// The reliability that a number names.
+fn reliability_from(number: u32) -> Option<ReliabilityType>
+    ensures { result ≡ reliability_named number }
+{
+    match number {
+        0 => Some(ReliabilityType::Reliable),
+        1 => Some(ReliabilityType::Rexmit),
+        2 => Some(ReliabilityType::Timed),
+        _ => None,
+    }
+}
+
+/// Sets the mode of later writes to a stream; a DCEP message is ordered and reliable in any mode (RFC 8832 6). `unordered` is 0 for ordered. `reliability` is 0:
+/// reliable, and `value` means nothing; 1: `value` counts the sendings of a chunk after the first; 2: `value` is a lifetime in
+/// milliseconds (RFC 3758 4.1, RFC 7496 3.1). Refuses with `SCTP_INVALID`, where it is another number, and with `SCTP_STREAM_UNKNOWN`.
+#[unsafe(no_mangle)]
+pub extern "C" fn sctp_sender_set_mode(
+    sender: &mut SctpSender,
+    stream: u16,
+    unordered: u8,
+    reliability: u32,
+    value: u32,
+) -> u32
+    ensures codes { (result ≡ 0) ⊎ ((result ≡ 18) ⊎ (result ≡ 23)) }
+    ensures ok { result ≡ 0 → Some sender.new.value ≡ option_map
+        (λ r. with_mode_on stream (not (unordered == 0)) r value sender.old.value)
+        (reliability_named reliability) }
+    ensures invalid { result ≡ 18 → reliability_named reliability ≡ None }
+    ensures unknown { result ≡ 23 → is_open stream sender.old.value ≡ false }
+    ensures refused { result ≢ 0 → sender.new.value ≡ sender.old.value }
+{
+    let Some(reliability) = reliability_from(reliability) else {
+        return SCTP_INVALID;
+    };
+    match sender
+        .get_mut()
+        .set_mode(stream, unordered != 0, reliability, value)
+    {
+        Ok(()) => SCTP_OK,
+        Err(_) => SCTP_STREAM_UNKNOWN,
+    }
+}
+
+/// Sets how many bytes of user data a chunk of a later write has at most, on each stream, 1 to 65,519, as where the path MTU changes
+/// (RFC 4821). Refuses with `SCTP_INVALID`. It takes no memory.
+#[unsafe(no_mangle)]
+pub extern "C" fn sctp_sender_set_fragment_size(sender: &mut SctpSender, size: u32) -> u32
+    ensures codes { (result ≡ 0) ⊎ (result ≡ 18) }
+    ensures ok { result ≡ 0 → sender.new.value ≡ with_fragment_size size sender.old.value }
+    ensures invalid { result ≡ 18 → ((size ≡ 0) ⊎ (65519 < size))
+        × (sender.new.value ≡ sender.old.value) }
+{
+    if size == 0 || size > 65_519 {
+        return SCTP_INVALID;
+    }
+    sender.get_mut().set_fragment_size(size);
+    SCTP_OK
+}
+
+/// Sets the buffered amount of a stream, in bytes, down to which a fall is told (`is_low`). Refuses with `SCTP_STREAM_UNKNOWN`.
+#[unsafe(no_mangle)]
+pub extern "C" fn sctp_sender_set_low_threshold(
+    sender: &mut SctpSender,
+    stream: u16,
+    bytes: usize,
+) -> u32
+    ensures codes { (result ≡ 0) ⊎ (result ≡ 23) }
+    ensures ok { result ≡ 0 → sender.new.value ≡ with_low_on stream bytes sender.old.value }
+    ensures unknown { result ≡ 23 → (is_open stream sender.old.value ≡ false)
+        × (sender.new.value ≡ sender.old.value) }
+{
+    match sender
+        .get_mut()
+        .set_buffered_amount_low_threshold(stream, bytes)
+    {
+        Ok(()) => SCTP_OK,
+        Err(_) => SCTP_STREAM_UNKNOWN,
+    }
+}
+
+/// Resets a stream (RFC 6525 5.1.2): its next ordered message has the number 0. Refuses with `SCTP_STREAM_UNKNOWN`, and with
+/// `SCTP_STREAM_BUSY`, where something of it waits or is in flight. It takes no memory.
+#[unsafe(no_mangle)]
+pub extern "C" fn sctp_sender_reset(sender: &mut SctpSender, stream: u16) -> u32
+    ensures ok { result ≡ 0 → (reset_refusal stream sender.old.value ≡ None)
+        × (sender.new.value ≡ reset_on stream sender.old.value) }
+    ensures refused { result ≢ 0
+        → (option_map sender_code (reset_refusal stream sender.old.value) ≡ Some result)
+        × (sender.new.value ≡ sender.old.value) }
+{
+    match sender.get_mut().reset(stream) {
+        Ok(()) => SCTP_OK,
+        Err(e) => of_sender(e),
+    }
+}
+
+/// Takes a copy of a message of one byte or more: its fragments wait. `number` becomes its number, `fragments` how many chunks it has.
+/// `SCTP_NOTHING`: the message has no bytes, and nothing changed (RFC 8831 6.6 sends one byte in their place). Refuses with
+/// `SCTP_STREAM_UNKNOWN`, `SCTP_MESSAGE_TOO_LARGE`, `SCTP_QUEUE_FULL` and `SCTP_NO_MEMORY`. Both stay, but with `SCTP_OK`.
+#[unsafe(no_mangle)]
+pub extern "C" fn sctp_sender_write(
+    alloc: Global,
+    sender: &mut SctpSender,
+    stream: u16,
+    payload_type: u32,
+    message: &[u8],
+    number: &mut u64,
+    fragments: &mut usize,
+) -> u32
+    ensures ok { result ≡ 0 → (0 < length message.now)
+        × Writes stream payload_type message.now number.new fragments.new
+        sender.old.value sender.new.value }
+    ensures nothing { result ≡ 3 → length message.now ≡ 0 }
+    ensures codes { (result ≡ 0) ⊎ ((result ≡ 3) ⊎ (16 ≤ result)) }
+    ensures refused { 16 ≤ result → IsSenderCode
+        (write_refusal stream (length message.now) sender.old.value) result }
+    ensures kept { result ≢ 0 → (sender.new.value ≡ sender.old.value)
+        × ((number.new ≡ number.old) × (fragments.new ≡ fragments.old)) }
+{
+    let Ok(bytes) = Bytes::copy_from_slice(alloc, message) else {
+        return SCTP_NO_MEMORY;
+    };
+    let ppi = PayloadProtocolIdentifier::from(payload_type);
+    match sender.get_mut().write(stream, ppi, &bytes) {
+        Ok((Some(n), count)) => {
+            *number = n;
+            *fragments = count;
+            SCTP_OK
+        }
+        Ok((None, _)) => SCTP_NOTHING,
+        Err(e) => of_sender(e),
+    }
+}

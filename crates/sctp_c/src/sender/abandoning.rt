@@ -1,0 +1,213 @@
+//! Messages that are given no more time or no more sendings (RFC 3758 3.5, 4.1; RFC 7496 3.1).
+
+ghost use Rattle.std.specs.Prelude.{◌≡◌, ◌≢◌, ◌<◌, ◌≤◌, ◌⊎◌, None, length, map, if◌then◌else◌};
+ghost use Rattle.sctp_c.specs.Abandoning.{Abandons, AbandonsEach, Expires, ExpiresTail};
+ghost use Rattle.sctp_c.specs.Codes.{sender_code};
+ghost use Rattle.sctp_c.specs.Out.{at_front};
+ghost use Rattle.sctp_c.specs.Rows.{abandoned_row};
+ghost use Rattle.sctp_c.specs.Sending.{sender_code_for};
+ghost use Rattle.sctp_outbound.specs.outbound_queue.OutboundQueue.{expiring, expiring_tail};
+ghost use Rattle.sctp_sender.specs.Abandonment.{abandon_refusal};
+ghost use Rattle.sctp_sender.specs.Flight.{may_send};
+ghost use Rattle.sctp_sender.specs.Late.{after_late, after_worn, late_order, worn_order};
+ghost use Rattle.sctp_sender.specs.declared.sender.refusal.SenderRefusal.TheVariants.{OutOfMemory, TsnsUsedUp};
+
+use super::SctpSender;
+use crate::code::{SCTP_NOTHING, SCTP_OK, SCTP_SHORT_BUFFER, of_sender};
+use sctp_sender::sender::flight::late::AbandonedMessage;
+
+/// A message that was abandoned.
+#[repr(C)]
+#[derive(Clone, Copy)]
+pub struct SctpAbandoned {
+    /// How many of its bytes left.
+    pub bytes: usize,
+    /// Its number.
+    pub number: u64,
+    /// Its stream.
+    pub stream: u16,
+    /// 1 where with it, after the rows before it, the buffered amount of its stream fell from above the low threshold to at most it.
+    pub is_low: u8,
+}
+
+/// A message that expired before any of it was sent.
+#[repr(C)]
+#[derive(Clone, Copy)]
+pub struct SctpExpired {
+    /// How many bytes it had.
+    pub bytes: usize,
+    /// Its stream.
+    pub stream: u16,
+    /// 1 where with it the buffered amount of its stream fell from above the low threshold to at most it.
+    pub is_low: u8,
+}
+
+// What is told of a message that was abandoned.
+fn abandoned_row(one: &AbandonedMessage) -> SctpAbandoned
+    ensures { result ≡ abandoned_row one.now }
+{
+    SctpAbandoned {
+        bytes: one.bytes,
+        number: one.number,
+        stream: one.stream,
+        is_low: one.is_low as u8,
+    }
+}
+
+// A row for each.
+fn fill_abandoned(rows: &mut [SctpAbandoned], told: &[AbandonedMessage])
+    requires { length told.now ≤ length rows.old }
+    ensures { rows.new ≡ at_front (map abandoned_row told.now) rows.old }
+{
+    for place in 0..told.len() {
+        rows[place] = abandoned_row(&told[place]);
+    }
+}
+
+/// Abandons the message of a chunk in flight (RFC 3758 3.5): `row` tells of it, with no bytes where it was abandoned before. Refuses with
+/// `SCTP_NOT_IN_FLIGHT`; and, only where some of the message still waits, with `SCTP_TSNS_USED_UP` and `SCTP_NO_MEMORY`. `row` stays
+/// then.
+#[unsafe(no_mangle)]
+pub extern "C" fn sctp_sender_abandon(
+    sender: &mut SctpSender,
+    tsn: u32,
+    row: &mut SctpAbandoned,
+) -> u32
+    ensures codes { (result ≡ 0) ⊎ (16 ≤ result) }
+    ensures ok { result ≡ 0 → Abandons tsn row.new sender.old.value sender.new.value }
+    ensures refused { 16 ≤ result
+        → (result ≡ sender_code_for (abandon_refusal tsn sender.old.value.flight))
+        × ((sender.new.value ≡ sender.old.value) × (row.new ≡ row.old)) }
+{
+    match sender.get_mut().abandon(tsn) {
+        Ok(gone) => {
+            *row = abandoned_row(&gone);
+            SCTP_OK
+        }
+        Err(e) => of_sender(e),
+    }
+}
+
+/// Removes the message in front, where it is past its deadline and wholly unsent: `row` tells of it. `SCTP_NOTHING`: there is no such
+/// message, and nothing changed. It takes no memory. Call it until it says so.
+#[unsafe(no_mangle)]
+pub extern "C" fn sctp_sender_expire(
+    sender: &mut SctpSender,
+    now: u64,
+    row: &mut SctpExpired,
+) -> u32
+    ensures codes { (result ≡ 0) ⊎ (result ≡ 3) }
+    ensures ok { result ≡ 0 → Expires now row.new sender.old.value sender.new.value }
+    ensures nothing { result ≡ 3 → (expiring now sender.old.value.flight.queue ≡ None)
+        × ((sender.new.value ≡ sender.old.value) × (row.new ≡ row.old)) }
+{
+    match sender.get_mut().expire(now) {
+        Some(gone) => {
+            *row = SctpExpired {
+                bytes: gone.bytes,
+                stream: gone.stream,
+                is_low: gone.is_low as u8,
+            };
+            SCTP_OK
+        }
+        None => SCTP_NOTHING,
+    }
+}
+
+/// Abandons the rest of the partially sent message in front, where it is past its deadline: `row` tells of it. `SCTP_NOTHING`: there is
+/// no such message, and nothing changed. Refuses, only where there is one, with `SCTP_TSNS_USED_UP` and `SCTP_NO_MEMORY`. `row` stays,
+/// but with `SCTP_OK`.
+#[unsafe(no_mangle)]
+pub extern "C" fn sctp_sender_expire_tail(
+    sender: &mut SctpSender,
+    now: u64,
+    row: &mut SctpAbandoned,
+) -> u32
+    ensures codes { (result ≡ 0) ⊎ ((result ≡ 3) ⊎ (16 ≤ result)) }
+    ensures ok { result ≡ 0 → ExpiresTail now row.new sender.old.value sender.new.value }
+    ensures nothing { result ≡ 3 → expiring_tail now sender.old.value.flight.queue ≡ None }
+    ensures refused { 16 ≤ result → result ≡ sender_code
+        (if may_send sender.old.value.flight then OutOfMemory else TsnsUsedUp) }
+    ensures kept { result ≢ 0 → (sender.new.value ≡ sender.old.value) × (row.new ≡ row.old) }
+{
+    match sender.get_mut().expire_tail(now) {
+        Ok(Some(gone)) => {
+            *row = abandoned_row(&gone);
+            SCTP_OK
+        }
+        Ok(None) => SCTP_NOTHING,
+        Err(e) => of_sender(e),
+    }
+}
+
+/// Abandons each message in flight that is past its deadline (RFC 3758 3.5, 4.1): `count` becomes how many, and the first so many `rows`
+/// tell of them. Refuses with `SCTP_SHORT_BUFFER`, where there are not more rows than chunks in flight, so that no row is ever lost:
+/// `count` becomes how many are in flight; and, only where some of such a message still waits, with `SCTP_TSNS_USED_UP`; and with
+/// `SCTP_NO_MEMORY`. `rows` stay then, and `count` too but for the first.
+#[unsafe(no_mangle)]
+pub extern "C" fn sctp_sender_expire_late(
+    sender: &mut SctpSender,
+    now: u64,
+    rows: &mut [SctpAbandoned],
+    count: &mut usize,
+) -> u32
+    ensures codes { (result ≡ 0) ⊎ (16 ≤ result) }
+    ensures ok { result ≡ 0 → (sender.new.value ≡ after_late now sender.old.value)
+        × AbandonsEach (late_order now sender.old.value.flight) rows.old rows.new count.new
+        sender.old.value }
+    ensures short { result ≡ 17 → (length rows.old ≤ count.new)
+        × (count.new ≡ length sender.old.value.flight.queue.inflight.chunks) }
+    ensures codes_refused { 16 ≤ result → (result ≡ 16) ⊎ ((result ≡ 17) ⊎ (result ≡ 26)) }
+    ensures refused { result ≢ 0 → (sender.new.value ≡ sender.old.value) × (rows.new ≡ rows.old) }
+    ensures kept { 16 ≤ result → result ≢ 17 → count.new ≡ count.old }
+{
+    let own = sender.get_mut();
+    let in_flight = own.chunks_in_flight();
+    if rows.len() <= in_flight {
+        *count = in_flight;
+        return SCTP_SHORT_BUFFER;
+    }
+    match own.expire_late(now) {
+        Ok(gone) => {
+            fill_abandoned(rows, &gone);
+            *count = gone.len();
+            SCTP_OK
+        }
+        Err(e) => of_sender(e),
+    }
+}
+
+/// Abandons each message in flight that was sent again as often as it may be (RFC 7496 3.1): a chunk of it is marked for retransmission,
+/// and was sent more often than its limit, without the first time; never a DCEP message. Call it once chunks are marked. Rows, count and
+/// refusals are those of `sctp_sender_expire_late`.
+#[unsafe(no_mangle)]
+pub extern "C" fn sctp_sender_expire_rexmit(
+    sender: &mut SctpSender,
+    rows: &mut [SctpAbandoned],
+    count: &mut usize,
+) -> u32
+    ensures codes { (result ≡ 0) ⊎ (16 ≤ result) }
+    ensures ok { result ≡ 0 → (sender.new.value ≡ after_worn sender.old.value)
+        × AbandonsEach (worn_order sender.old.value.flight) rows.old rows.new count.new
+        sender.old.value }
+    ensures short { result ≡ 17 → (length rows.old ≤ count.new)
+        × (count.new ≡ length sender.old.value.flight.queue.inflight.chunks) }
+    ensures codes_refused { 16 ≤ result → (result ≡ 16) ⊎ ((result ≡ 17) ⊎ (result ≡ 26)) }
+    ensures refused { result ≢ 0 → (sender.new.value ≡ sender.old.value) × (rows.new ≡ rows.old) }
+    ensures kept { 16 ≤ result → result ≢ 17 → count.new ≡ count.old }
+{
+    let own = sender.get_mut();
+    let in_flight = own.chunks_in_flight();
+    if rows.len() <= in_flight {
+        *count = in_flight;
+        return SCTP_SHORT_BUFFER;
+    }
+    match own.expire_rexmit() {
+        Ok(gone) => {
+            fill_abandoned(rows, &gone);
+            *count = gone.len();
+            SCTP_OK
+        }
+        Err(e) => of_sender(e),
+    }
+}

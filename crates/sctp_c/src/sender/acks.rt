@@ -1,0 +1,219 @@
+//! What a peer acknowledges, and what it takes back (RFC 4960 6.2.1).
+
+ghost use Rattle.std.specs.Prelude.{◌≡◌, ◌≢◌, ◌<◌, ◌≤◌, ◌⊎◌, IfOk, IfErr, is_some, length, map};
+ghost use Rattle.sctp_base.specs.Outcome.{OrMemory};
+ghost use Rattle.sctp_c.specs.Acks.{RefusesSack, RefusesTakeBack, TakesBack, TakesSack};
+ghost use Rattle.sctp_c.specs.Out.{at_front};
+ghost use Rattle.sctp_c.specs.Refusal.{IsRefusal};
+ghost use Rattle.sctp_c.specs.Rows.{acked_row, taken_back_row};
+ghost use Rattle.sctp_chunks.specs.Fault.{SackFault};
+ghost use Rattle.sctp_chunks.specs.Wire.{ReadsChunk, sack_chunk};
+ghost use Rattle.sctp_data.specs.SelectiveAck.{sack_of};
+ghost use Rattle.sctp_sender.specs.Sender.{keeping};
+
+use super::SctpSender;
+use super::queries::moment_of;
+use crate::code::{SCTP_CHUNKS_IN_FLIGHT, SCTP_OK, SCTP_SHORT_BUFFER, of_error, of_sender};
+use bytes::Bytes;
+use sctp_base::error::Error;
+use sctp_chunks::chunk::Chunk;
+use sctp_chunks::chunk::chunk_selective_ack::ChunkSelectiveAck;
+use sctp_sender::sender::flight::Released;
+use sctp_sender::sender::flight::keeping::TakenBack;
+use std::alloc::Global;
+
+/// A chunk that a SACK acknowledged.
+#[repr(C)]
+#[derive(Clone, Copy)]
+pub struct SctpAcked {
+    /// How many bytes of user data it had, 0 where its message was abandoned before.
+    pub bytes: usize,
+    /// The number of its message.
+    pub message: u64,
+    /// When it was sent last, in nanoseconds; 0 where `has_sent_at` is 0.
+    pub sent_at: u64,
+    /// Its TSN.
+    pub tsn: u32,
+    /// How often it was sent: one that was sent once alone tells the round trip time (RFC 4960 6.3.1 C5).
+    pub sent: u32,
+    /// Its stream.
+    pub stream: u16,
+    /// 1 where it was sent; 0 of a chunk that stood for what was never sent.
+    pub has_sent_at: u8,
+    /// 1 where its message is acknowledged whole now, else 0.
+    pub is_message_acked: u8,
+    /// 1 where with it, after the rows before it, the buffered amount of its stream fell from above the low threshold to at most it.
+    pub is_low: u8,
+}
+
+/// A chunk whose acknowledgement a SACK took back.
+#[repr(C)]
+#[derive(Clone, Copy)]
+pub struct SctpTakenBack {
+    /// How many bytes of user data it has again.
+    pub bytes: usize,
+    /// The number of its message.
+    pub message: u64,
+    /// Its TSN.
+    pub tsn: u32,
+    /// Its stream.
+    pub stream: u16,
+}
+
+// Reads bytes as a SACK.
+fn sack_in(alloc: Global, chunk: &[u8]) -> Result<ChunkSelectiveAck, Error>
+    ensures found { IfOk result (λ c. ReadsChunk chunk.now (sack_chunk (sack_of c))) }
+    ensures fault { IfErr result (λ e. OrMemory e (SackFault e chunk.now)) }
+{
+    let bytes = Bytes::copy_from_slice(alloc, chunk)?;
+    ChunkSelectiveAck::unmarshal(alloc, &bytes)
+}
+
+// What is told of a chunk that was acknowledged.
+fn acked_row(one: &Released) -> SctpAcked
+    ensures { result ≡ acked_row one.now }
+{
+    SctpAcked {
+        bytes: one.bytes,
+        message: one.message,
+        sent_at: moment_of(one.since),
+        tsn: one.tsn,
+        sent: one.nsent,
+        stream: one.stream,
+        has_sent_at: one.since.is_some() as u8,
+        is_message_acked: one.is_message_acked as u8,
+        is_low: one.is_low as u8,
+    }
+}
+
+// A row for each.
+fn fill_acked(rows: &mut [SctpAcked], released: &[Released])
+    requires { length released.now ≤ length rows.old }
+    ensures { rows.new ≡ at_front (map acked_row released.now) rows.old }
+{
+    for place in 0..released.len() {
+        rows[place] = acked_row(&released[place]);
+    }
+}
+
+// What is told of a chunk that was taken back.
+fn taken_back_row(one: &TakenBack) -> SctpTakenBack
+    ensures { result ≡ taken_back_row one.now }
+{
+    SctpTakenBack {
+        bytes: one.bytes,
+        message: one.message,
+        tsn: one.tsn,
+        stream: one.stream,
+    }
+}
+
+// A row for each.
+fn fill_taken_back(rows: &mut [SctpTakenBack], told: &[TakenBack])
+    requires { length told.now ≤ length rows.old }
+    ensures { rows.new ≡ at_front (map taken_back_row told.now) rows.old }
+{
+    for place in 0..told.len() {
+        rows[place] = taken_back_row(&told[place]);
+    }
+}
+
+/// Takes the bytes of a SACK chunk (RFC 4960 6.2.1). `count` becomes how many chunks it reports anew, and the first so many `rows` tell
+/// of them, in the order of their TSNs; one that is out of date reports none, and changes nothing. Refuses with `SCTP_SHORT_BUFFER`,
+/// where there are fewer rows than chunks in flight, so that no row is ever lost: `count` becomes how many are wanted; with the codes of
+/// bytes that are no SACK; with `SCTP_SACK_BEYOND_SENT` and `SCTP_SACK_BAD_GAP`, where it reports what is not in flight; and with
+/// `SCTP_NO_MEMORY`. `rows` stay then, and `count` too but for the first.
+#[unsafe(no_mangle)]
+pub extern "C" fn sctp_sender_acked(
+    alloc: Global,
+    sender: &mut SctpSender,
+    chunk: &[u8],
+    rows: &mut [SctpAcked],
+    count: &mut usize,
+) -> u32
+    ensures codes { (result ≡ 0) ⊎ (16 ≤ result) }
+    ensures ok { result ≡ 0 → TakesSack chunk.now rows.old rows.new count.new
+        sender.old.value sender.new.value }
+    ensures short { result ≡ 17 → (length rows.old < count.new)
+        × (count.new ≡ length sender.old.value.flight.queue.inflight.chunks) }
+    ensures refused { result ≢ 0 → (sender.new.value ≡ sender.old.value) × (rows.new ≡ rows.old) }
+    ensures reason { 16 ≤ result → result ≢ 17 → IsRefusal (λ e. SackFault e chunk.now) result
+        ⊎ RefusesSack chunk.now result sender.old.value }
+    ensures kept { 16 ≤ result → result ≢ 17 → count.new ≡ count.old }
+{
+    let own = sender.get_mut();
+    let most = own.chunks_in_flight();
+    if rows.len() < most {
+        *count = most;
+        return SCTP_SHORT_BUFFER;
+    }
+    let sack = match sack_in(alloc, chunk) {
+        Ok(sack) => sack,
+        Err(e) => return of_error(e),
+    };
+    match own.acked(&sack) {
+        Ok(released) => {
+            fill_acked(rows, &released);
+            *count = released.len();
+            SCTP_OK
+        }
+        Err(e) => of_sender(e),
+    }
+}
+
+/// From here on the user data of each chunk that a gap ack block reports is kept until the cumulative TSN passes it, so that
+/// `sctp_sender_take_back` can give it back. Refuses with `SCTP_CHUNKS_IN_FLIGHT`, where any chunk is in flight. It takes no memory.
+#[unsafe(no_mangle)]
+pub extern "C" fn sctp_sender_keep_reported(sender: &mut SctpSender) -> u32
+    ensures codes { (result ≡ 0) ⊎ (result ≡ 33) }
+    ensures ok { result ≡ 0 → sender.new.value ≡ keeping sender.old.value }
+    ensures refused { result ≡ 33 → (sender.new.value ≡ sender.old.value)
+        × (0 < length sender.old.value.flight.queue.inflight.chunks) }
+{
+    match sender.get_mut().keep_reported() {
+        Ok(()) => SCTP_OK,
+        Err(_) => SCTP_CHUNKS_IN_FLIGHT,
+    }
+}
+
+/// Takes back what a SACK, of which these are the bytes, no longer reports (RFC 4960 6.2.1 D iv): such a chunk is outstanding again, with
+/// its bytes. Call it before `sctp_sender_acked` with the same SACK. `count` becomes how many chunks come back, and the first so many
+/// `rows` tell of them, in the order of their TSNs. The refusals are those of `sctp_sender_acked`, and `SCTP_QUEUE_FULL`, where all bytes
+/// would be more than the greatest `size_t`.
+#[unsafe(no_mangle)]
+pub extern "C" fn sctp_sender_take_back(
+    alloc: Global,
+    sender: &mut SctpSender,
+    chunk: &[u8],
+    rows: &mut [SctpTakenBack],
+    count: &mut usize,
+) -> u32
+    ensures codes { (result ≡ 0) ⊎ (16 ≤ result) }
+    ensures ok { result ≡ 0 → TakesBack chunk.now rows.old rows.new count.new
+        sender.old.value sender.new.value }
+    ensures short { result ≡ 17 → (length rows.old < count.new)
+        × (count.new ≡ length sender.old.value.flight.queue.inflight.chunks) }
+    ensures refused { result ≢ 0 → (sender.new.value ≡ sender.old.value) × (rows.new ≡ rows.old) }
+    ensures reason { 16 ≤ result → result ≢ 17 → IsRefusal (λ e. SackFault e chunk.now) result
+        ⊎ RefusesTakeBack chunk.now result sender.old.value }
+    ensures kept { 16 ≤ result → result ≢ 17 → count.new ≡ count.old }
+{
+    let own = sender.get_mut();
+    let most = own.chunks_in_flight();
+    if rows.len() < most {
+        *count = most;
+        return SCTP_SHORT_BUFFER;
+    }
+    let sack = match sack_in(alloc, chunk) {
+        Ok(sack) => sack,
+        Err(e) => return of_error(e),
+    };
+    match own.take_back(&sack) {
+        Ok(told) => {
+            fill_taken_back(rows, &told);
+            *count = told.len();
+            SCTP_OK
+        }
+        Err(e) => of_sender(e),
+    }
+}

@@ -1,0 +1,253 @@
+//! What a sender has, without a change to it.
+
+ghost use Rattle.std.specs.Prelude.{◌≡◌, ◌⊎◌, None, Some, find, length, option_map, slice_get};
+ghost use Rattle.sctp_c.specs.Flags.{flag, moment};
+ghost use Rattle.sctp_c.specs.Rows.{in_flight_row};
+ghost use Rattle.sctp_outbound.specs.Marks.{is_outstanding};
+ghost use Rattle.sctp_outbound.specs.pending_queue.PendingQueue.{chunk_count};
+ghost use Rattle.sctp_sender.specs.Abandonment.{advanced_ack_point};
+ghost use Rattle.sctp_sender.specs.Resending.{is_to_resend};
+ghost use Rattle.sctp_sender.specs.Sender.{stream_of};
+ghost use Rattle.sctp_sender.specs.Settings.{is_drained};
+ghost use Rattle.sctp_serial.specs.DataChunks.{bytes_of, has_tsn};
+
+use super::SctpSender;
+use crate::code::{SCTP_NOT_IN_FLIGHT, SCTP_NOTHING, SCTP_OK, SCTP_STREAM_UNKNOWN};
+use sctp_data::chunk::chunk_payload_data::ChunkPayloadData;
+
+/// A chunk in flight.
+#[repr(C)]
+#[derive(Clone, Copy)]
+pub struct SctpInFlight {
+    /// How many bytes of user data it has: 0 where it is acknowledged or abandoned.
+    pub size: usize,
+    /// The number of its message.
+    pub message: u64,
+    /// When it was sent last, in nanoseconds; 0 of a chunk that stands for what was never sent.
+    pub sent_at: u64,
+    /// Its TSN.
+    pub tsn: u32,
+    /// How often it was sent.
+    pub sent: u32,
+    /// Its payload type.
+    pub payload_type: u32,
+    /// Its stream.
+    pub stream: u16,
+    /// Its stream sequence number.
+    pub sequence: u16,
+    /// 1 where its message is unordered, else 0.
+    pub is_unordered: u8,
+    /// 1 where it is acknowledged, else 0.
+    pub is_acked: u8,
+    /// 1 where its message is abandoned, else 0.
+    pub is_abandoned: u8,
+    /// 1 where it is marked for retransmission, else 0.
+    pub is_marked: u8,
+}
+
+// A moment, 0 where there is none.
+pub(super) fn moment_of(since: Option<u64>) -> u64
+    ensures { result ≡ moment since }
+{
+    match since {
+        Some(at) => at,
+        None => 0,
+    }
+}
+
+// What is told of a chunk in flight.
+fn row_of(chunk: &ChunkPayloadData) -> SctpInFlight
+    ensures { result ≡ in_flight_row chunk.now }
+{
+    SctpInFlight {
+        size: chunk.user_data.len(),
+        message: chunk.message_id,
+        sent_at: moment_of(chunk.since),
+        tsn: chunk.tsn,
+        sent: chunk.nsent,
+        payload_type: chunk.payload_type.number(),
+        stream: chunk.stream_identifier,
+        sequence: chunk.stream_sequence_number,
+        is_unordered: chunk.unordered as u8,
+        is_acked: chunk.acked as u8,
+        is_abandoned: chunk.abandoned as u8,
+        is_marked: chunk.retransmit as u8,
+    }
+}
+
+/// The chunk in flight with a TSN: `row` tells of it. Refuses with `SCTP_NOT_IN_FLIGHT`, where none is, and `row` stays.
+#[unsafe(no_mangle)]
+pub extern "C" fn sctp_sender_in_flight(
+    sender: &mut SctpSender,
+    tsn: u32,
+    row: &mut SctpInFlight,
+) -> u32
+    ensures codes { (result ≡ 0) ⊎ (result ≡ 27) }
+    ensures ok { result ≡ 0 → Some row.new ≡ option_map in_flight_row
+        (find (has_tsn tsn) sender.old.value.flight.queue.inflight.chunks) }
+    ensures missing { result ≡ 27 → (row.new ≡ row.old)
+        × (find (has_tsn tsn) sender.old.value.flight.queue.inflight.chunks ≡ None) }
+    ensures same { sender.new.value ≡ sender.old.value }
+{
+    match sender.get_mut().outbound().get(tsn) {
+        Some(chunk) => {
+            *row = row_of(chunk);
+            SCTP_OK
+        }
+        None => SCTP_NOT_IN_FLIGHT,
+    }
+}
+
+/// The chunk in flight at a place: the first has the place 0, and the TSN past `sctp_sender_acked_tsn`. `row` tells of it.
+/// `SCTP_NOTHING`: there are no more, and `row` stays.
+#[unsafe(no_mangle)]
+pub extern "C" fn sctp_sender_in_flight_at(
+    sender: &mut SctpSender,
+    place: usize,
+    row: &mut SctpInFlight,
+) -> u32
+    ensures codes { (result ≡ 0) ⊎ (result ≡ 3) }
+    ensures ok { result ≡ 0 → Some row.new ≡ option_map in_flight_row
+        (slice_get sender.old.value.flight.queue.inflight.chunks place) }
+    ensures none { result ≡ 3 → (row.new ≡ row.old)
+        × (slice_get sender.old.value.flight.queue.inflight.chunks place ≡ None) }
+    ensures same { sender.new.value ≡ sender.old.value }
+{
+    match sender.get_mut().in_flight_at(place) {
+        Some(chunk) => {
+            *row = row_of(chunk);
+            SCTP_OK
+        }
+        None => SCTP_NOTHING,
+    }
+}
+
+/// The first chunk in flight that is marked for retransmission, and neither acknowledged nor abandoned: `row` tells of it;
+/// `sctp_sender_resend` sends it again, and takes the mark. `SCTP_NOTHING`: there is none, and `row` stays.
+#[unsafe(no_mangle)]
+pub extern "C" fn sctp_sender_next_to_retransmit(
+    sender: &mut SctpSender,
+    row: &mut SctpInFlight,
+) -> u32
+    ensures codes { (result ≡ 0) ⊎ (result ≡ 3) }
+    ensures ok { result ≡ 0 → Some row.new ≡ option_map in_flight_row
+        (find is_to_resend sender.old.value.flight.queue.inflight.chunks) }
+    ensures none { result ≡ 3 → (row.new ≡ row.old)
+        × (find is_to_resend sender.old.value.flight.queue.inflight.chunks ≡ None) }
+    ensures same { sender.new.value ≡ sender.old.value }
+{
+    match sender.get_mut().next_to_retransmit() {
+        Some(chunk) => {
+            *row = row_of(chunk);
+            SCTP_OK
+        }
+        None => SCTP_NOTHING,
+    }
+}
+
+/// How many bytes of user data of a stream wait or are in flight: `amount` becomes that. Refuses with `SCTP_STREAM_UNKNOWN`, and `amount`
+/// stays.
+#[unsafe(no_mangle)]
+pub extern "C" fn sctp_sender_buffered_amount(
+    sender: &mut SctpSender,
+    stream: u16,
+    amount: &mut usize,
+) -> u32
+    ensures codes { (result ≡ 0) ⊎ (result ≡ 23) }
+    ensures ok { result ≡ 0 → Some amount.new
+        ≡ option_map (λ l. l.buffered_amount) (stream_of stream sender.old.value) }
+    ensures unknown { result ≡ 23 → (amount.new ≡ amount.old)
+        × (stream_of stream sender.old.value ≡ None) }
+    ensures same { sender.new.value ≡ sender.old.value }
+{
+    match sender.get_mut().buffered_amount(stream) {
+        Some(bytes) => {
+            *amount = bytes;
+            SCTP_OK
+        }
+        None => SCTP_STREAM_UNKNOWN,
+    }
+}
+
+/// 1 where nothing of a stream waits or is in flight, so that it can be reset (RFC 6525 5.1.2), else 0.
+#[unsafe(no_mangle)]
+pub extern "C" fn sctp_sender_is_drained(sender: &mut SctpSender, stream: u16) -> u8
+    ensures value { result ≡ flag (is_drained stream sender.old.value) }
+    ensures same { sender.new.value ≡ sender.old.value }
+{
+    sender.get_mut().is_drained(stream) as u8
+}
+
+/// The TSN that the next chunk gets (RFC 4960 6.1).
+#[unsafe(no_mangle)]
+pub extern "C" fn sctp_sender_next_tsn(sender: &mut SctpSender) -> u32
+    ensures value { result ≡ sender.old.value.flight.next_tsn }
+    ensures same { sender.new.value ≡ sender.old.value }
+{
+    sender.get_mut().next_tsn()
+}
+
+/// The TSN up to which all was acknowledged (RFC 4960 6.2.1).
+#[unsafe(no_mangle)]
+pub extern "C" fn sctp_sender_acked_tsn(sender: &mut SctpSender) -> u32
+    ensures value { result ≡ sender.old.value.flight.acked_tsn }
+    ensures same { sender.new.value ≡ sender.old.value }
+{
+    sender.get_mut().acked_tsn()
+}
+
+/// The Advanced.Peer.Ack.Point (RFC 3758 3.5 C2).
+#[unsafe(no_mangle)]
+pub extern "C" fn sctp_sender_advanced_ack_point(sender: &mut SctpSender) -> u32
+    ensures value { result ≡ advanced_ack_point sender.old.value.flight }
+    ensures same { sender.new.value ≡ sender.old.value }
+{
+    sender.get_mut().advanced_ack_point()
+}
+
+/// How many bytes of user data are in flight (RFC 4960 7.2): what is acknowledged or abandoned counts no more.
+#[unsafe(no_mangle)]
+pub extern "C" fn sctp_sender_bytes_in_flight(sender: &mut SctpSender) -> usize
+    ensures value { result ≡ bytes_of sender.old.value.flight.queue.inflight.chunks }
+    ensures same { sender.new.value ≡ sender.old.value }
+{
+    sender.get_mut().bytes_in_flight()
+}
+
+/// How many chunks are in flight: each TSN past `sctp_sender_acked_tsn` and before `sctp_sender_next_tsn` has one.
+#[unsafe(no_mangle)]
+pub extern "C" fn sctp_sender_chunks_in_flight(sender: &mut SctpSender) -> usize
+    ensures value { result ≡ length sender.old.value.flight.queue.inflight.chunks }
+    ensures same { sender.new.value ≡ sender.old.value }
+{
+    sender.get_mut().chunks_in_flight()
+}
+
+/// The first TSN in flight that is neither acknowledged nor abandoned (RFC 4960 6.3.3): `tsn` becomes that. `SCTP_NOTHING`: there is
+/// none, and `tsn` stays.
+#[unsafe(no_mangle)]
+pub extern "C" fn sctp_sender_earliest_outstanding(sender: &mut SctpSender, tsn: &mut u32) -> u32
+    ensures codes { (result ≡ 0) ⊎ (result ≡ 3) }
+    ensures ok { result ≡ 0 → Some tsn.new ≡ option_map (λ c. c.tsn)
+        (find is_outstanding sender.old.value.flight.queue.inflight.chunks) }
+    ensures none { result ≡ 3 → (tsn.new ≡ tsn.old)
+        × (find is_outstanding sender.old.value.flight.queue.inflight.chunks ≡ None) }
+    ensures same { sender.new.value ≡ sender.old.value }
+{
+    match sender.get_mut().outbound().earliest_outstanding_tsn() {
+        Some(first) => {
+            *tsn = first;
+            SCTP_OK
+        }
+        None => SCTP_NOTHING,
+    }
+}
+
+/// How many fragments wait.
+#[unsafe(no_mangle)]
+pub extern "C" fn sctp_sender_pending(sender: &mut SctpSender) -> usize
+    ensures value { result ≡ chunk_count sender.old.value.flight.queue.pending }
+    ensures same { sender.new.value ≡ sender.old.value }
+{
+    sender.get_mut().outbound().pending_len()
+}

@@ -1,0 +1,174 @@
+//! Chunks that go out (RFC 4960 6.1, 6.3.3, 7.2.4).
+
+ghost use Rattle.std.specs.Prelude.{◌≡◌, ◌≢◌, ◌<◌, ◌≤◌, ◌⊎◌, ◌+◌, false, None, Some, find, length, option_map, if◌then◌else◌, IfOk, IfErr};
+ghost use Rattle.sctp_base.specs.declared.error.Error.TheVariants.{ErrLengthTooLarge, ErrOutOfMemory};
+ghost use Rattle.sctp_c.specs.Out.{padded};
+ghost use Rattle.sctp_c.specs.Sending.{IsSenderCode, Sends, Resends, after_send, encoding_with};
+ghost use Rattle.sctp_chunks.specs.Wire.{data_chunk, encoding_of};
+ghost use Rattle.sctp_data.specs.PayloadData.{data_of};
+ghost use Rattle.sctp_outbound.specs.outbound_queue.OutboundQueue.{all_started};
+ghost use Rattle.sctp_outbound.specs.pending_queue.PendingQueue.{next_pending};
+ghost use Rattle.sctp_sender.specs.Flight.{can_resend, with_queue};
+ghost use Rattle.sctp_sender.specs.Numbers.{send_refusal};
+ghost use Rattle.sctp_sender.specs.Resending.{after_misses, all_marked, count_before, thirds};
+ghost use Rattle.sctp_sender.specs.Sender.{with_flight};
+ghost use Rattle.sctp_serial.specs.DataChunks.{has_tsn};
+
+use super::SctpSender;
+use crate::bytes_out::put_padded;
+use crate::code::{
+    SCTP_NOT_IN_FLIGHT, SCTP_NOTHING, SCTP_OK, SCTP_SHORT_BUFFER, of_error, of_sender,
+};
+use bytes::Bytes;
+use sctp_base::error::Result;
+use sctp_base::util::get_padding_size;
+use sctp_chunks::chunk::Chunk;
+use sctp_sender::sender::Sender;
+use std::alloc::Global;
+
+/// Starts the lifetimes of the messages written since the last time. `sctp_sender_send_next` does so too. It takes no memory.
+#[unsafe(no_mangle)]
+pub extern "C" fn sctp_sender_start(sender: &mut SctpSender, now: u64)
+    ensures { sender.new.value ≡ with_flight (with_queue sender.old.value.flight
+        (all_started now sender.old.value.flight.queue)) sender.old.value }
+{
+    sender.get_mut().start(now);
+}
+
+/// Marks each chunk in flight that is neither acknowledged nor abandoned for retransmission, as where the timer T3-rtx runs out (RFC
+/// 4960 6.3.3 E3). It takes no memory.
+#[unsafe(no_mangle)]
+pub extern "C" fn sctp_sender_retransmit_all(sender: &mut SctpSender)
+    ensures { sender.new.value
+        ≡ with_flight (all_marked sender.old.value.flight) sender.old.value }
+{
+    sender.get_mut().retransmit_all();
+}
+
+/// Counts each chunk in flight whose TSN is before this one, and that is neither acknowledged nor abandoned, as missing once more, and
+/// marks for retransmission what is missing for the third time (RFC 4960 7.2.4). Answers how many are marked now. It takes no memory.
+#[unsafe(no_mangle)]
+pub extern "C" fn sctp_sender_add_miss_indications(sender: &mut SctpSender, before: u32) -> usize
+    ensures missed { sender.new.value ≡ with_flight (after_misses
+        (count_before before sender.old.value.flight) sender.old.value.flight) sender.old.value }
+    ensures thirds { result ≡ length (thirds
+        (count_before before sender.old.value.flight) sender.old.value.flight) }
+{
+    sender.get_mut().add_miss_indications(before)
+}
+
+// How many bytes these are with their padding.
+#[tactic(auto, unfolding(crate::specs::Out::padded))]
+fn padded_size(bytes: &[u8]) -> usize
+    ensures { result ≡ length (padded bytes.now) }
+{
+    bytes.len() + get_padding_size(bytes.len())
+}
+
+// The fragment that is next, as it is written once it has the next TSN; None where nothing waits.
+fn next_encoded(alloc: Global, sender: &Sender) -> Result<Option<Bytes>>
+    ensures ok { IfOk result (λ b. b ≡ option_map (encoding_with sender.now.flight.next_tsn)
+        (next_pending sender.now.flight.queue.pending)) }
+    ensures refused { IfErr result (λ e. (e ≡ ErrOutOfMemory) ⊎ (e ≡ ErrLengthTooLarge)) }
+{
+    let Some(waiting) = sender.outbound().peek_pending() else {
+        return Ok(None);
+    };
+    let mut chunk = waiting.try_clone()?;
+    chunk.tsn = sender.next_tsn();
+    Ok(Some(chunk.marshal(alloc)?))
+}
+
+/// Puts the fragment that is next in flight under the next TSN, which `tsn` becomes, and writes its DATA chunk with its padding to the
+/// front of the buffer; lifetimes start. `written` becomes how many bytes that are. `SCTP_NOTHING`: nothing waits. Refuses with
+/// `SCTP_SHORT_BUFFER`, where the buffer is shorter: `written` is what is wanted then; with `SCTP_TSNS_USED_UP`, where 2^31 - 1 chunks
+/// are in flight, with `SCTP_SSNS_USED_UP`, where the number of the ordered message is 2^14 past that of the first one of its stream in
+/// flight, and with `SCTP_NO_MEMORY`. `out` and `tsn` stay, but with `SCTP_OK`.
+#[unsafe(no_mangle)]
+pub extern "C" fn sctp_sender_send_next(
+    alloc: Global,
+    sender: &mut SctpSender,
+    now: u64,
+    out: &mut [u8],
+    written: &mut usize,
+    tsn: &mut u32,
+) -> u32
+    ensures codes { (result ≡ 0) ⊎ ((result ≡ 3) ⊎ (16 ≤ result)) }
+    ensures ok { result ≡ 0 → Sends now out.old out.new written.new tsn.new
+        sender.old.value sender.new.value }
+    ensures nothing { result ≡ 3 → (next_pending sender.old.value.flight.queue.pending ≡ None)
+        × (sender.new.value ≡ after_send now sender.old.value) }
+    ensures refused { 16 ≤ result → sender.new.value ≡ sender.old.value }
+    ensures reason { 16 ≤ result → result ≢ 17
+        → (result ≡ 19) ⊎ IsSenderCode (send_refusal sender.old.value.flight) result }
+    ensures short { result ≡ 17 → (length out.old < written.new) × (Some written.new ≡ option_map
+        (λ c. length (padded (encoding_with sender.old.value.flight.next_tsn c)))
+        (next_pending sender.old.value.flight.queue.pending)) }
+    ensures kept { result ≢ 0 → (out.new ≡ out.old) × (tsn.new ≡ tsn.old) }
+{
+    let own = sender.get_mut();
+    let bytes = match next_encoded(alloc, own) {
+        Ok(Some(bytes)) => bytes,
+        Ok(None) => {
+            let _ = own.send_next_tsn(now);
+            return SCTP_NOTHING;
+        }
+        Err(e) => return of_error(e),
+    };
+    let size = padded_size(&bytes);
+    if out.len() < size {
+        *written = size;
+        return SCTP_SHORT_BUFFER;
+    }
+    match own.send_next_tsn(now) {
+        Ok(Some(sent)) => {
+            *tsn = sent;
+            put_padded(out, written, &bytes)
+        }
+        Ok(None) => SCTP_NOTHING,
+        Err(e) => of_sender(e),
+    }
+}
+
+/// Sends the chunk in flight with a TSN again: writes it with its padding to the front of the buffer, counts that, notes `now`, and takes
+/// its mark. `written` becomes how many bytes that are. Refuses with `SCTP_SHORT_BUFFER`, where the buffer is shorter: `written` is what
+/// is wanted then; with `SCTP_NOT_IN_FLIGHT`, where none is, or it is acknowledged or abandoned; and with `SCTP_NO_MEMORY`. `out` stays,
+/// but with `SCTP_OK`.
+#[unsafe(no_mangle)]
+pub extern "C" fn sctp_sender_resend(
+    alloc: Global,
+    sender: &mut SctpSender,
+    tsn: u32,
+    now: u64,
+    out: &mut [u8],
+    written: &mut usize,
+) -> u32
+    ensures codes { (result ≡ 0) ⊎ (16 ≤ result) }
+    ensures ok { result ≡ 0 → Resends tsn now out.old out.new written.new
+        sender.old.value sender.new.value }
+    ensures missing { result ≡ 27 → can_resend tsn sender.old.value.flight ≡ false }
+    ensures reason { 16 ≤ result → (result ≡ 16)
+        ⊎ ((result ≡ 17) ⊎ ((result ≡ 19) ⊎ (result ≡ 27))) }
+    ensures short { result ≡ 17 → (length out.old < written.new) × (Some written.new ≡ option_map
+        (λ c. length (padded (encoding_of (data_chunk (data_of c)))))
+        (find (has_tsn tsn) sender.old.value.flight.queue.inflight.chunks)) }
+    ensures kept { result ≢ 0 → (sender.new.value ≡ sender.old.value) × (out.new ≡ out.old) }
+{
+    let own = sender.get_mut();
+    let Some(chunk) = own.outbound().get(tsn) else {
+        return SCTP_NOT_IN_FLIGHT;
+    };
+    let bytes = match chunk.marshal(alloc) {
+        Ok(bytes) => bytes,
+        Err(e) => return of_error(e),
+    };
+    let size = padded_size(&bytes);
+    if out.len() < size {
+        *written = size;
+        return SCTP_SHORT_BUFFER;
+    }
+    match own.resend(tsn, now) {
+        Ok(_) => put_padded(out, written, &bytes),
+        Err(e) => of_sender(e),
+    }
+}

@@ -1,0 +1,203 @@
+//! Chunks and parameters that go out, into a caller's buffer.
+
+ghost use Rattle.std.specs.Prelude.{◌≡◌, ◌≢◌, ◌+◌, ◌^◌, ◌<◌, length, IfOk, IfErr, IsOkUnless};
+ghost use Rattle.sctp_base.specs.declared.error.Error.TheVariants.{ErrLengthTooLarge, ErrOutOfMemory};
+ghost use Rattle.sctp_base.specs.Outcome.{OrMemory};
+ghost use Rattle.sctp_base.specs.Param.{Parameter};
+ghost use Rattle.sctp_base.specs.ParamFraming.{param_framed};
+ghost use Rattle.sctp_base.specs.ParamKind.{ReadsParam};
+ghost use Rattle.sctp_chunks.specs.Framing.{chunk_encoding};
+ghost use Rattle.sctp_chunks.specs.Kind.{wire_of};
+ghost use Rattle.sctp_chunks.specs.Wire.{Wire, ReadsChunk, HasEncoding, encoding_of};
+ghost use Rattle.sctp_c.specs.Out.{padded, IsWritten, IsTooShort};
+ghost use Rattle.sctp_c.specs.Refusal.{IsRefusal};
+ghost use Rattle.sctp_c.specs.Written.{IsChunk, IsParam, ChunkFault, ParameterFault, init_type, init_bytes};
+
+use crate::bytes_out::put_padded;
+use crate::code::of_error;
+use crate::reading::SctpInit;
+use bytes::{Bytes, BytesMut};
+use sctp_base::error::{Error, Result};
+use sctp_base::field::{put_u16, put_u32};
+use sctp_base::param::param_kind::build_param;
+use sctp_chunks::chunk::chunk_header::put_header;
+use sctp_chunks::chunk::chunk_kind::ChunkKind;
+use sctp_chunks::chunk::{Chunk, ChunkType};
+use std::alloc::Global;
+
+// A header with flags 0, and the value behind it.
+fn framed(alloc: Global, typ: u8, value: &[u8]) -> Result<Bytes>
+    ensures ok { IfOk result (λ b. b ≡ chunk_encoding typ 0 value.now) }
+    ensures short { IfOk result (λ _. 4 + length value.now < 2 ^ 16) }
+    ensures err { IfErr result (λ e. OrMemory e
+        ((e ≡ ErrLengthTooLarge) × (65531 < length value.now))) }
+{
+    let mut raw = BytesMut::new(alloc);
+    put_header(&mut raw, ChunkType(typ), 0, value.len())?;
+    raw.extend_reserved(value);
+    Ok(raw.freeze()?)
+}
+
+fn encoded(alloc: Global, chunk: &ChunkKind) -> Result<Bytes>
+    requires { HasEncoding (wire_of chunk.now) }
+    ensures ok { IfOk result (λ b. b ≡ encoding_of (wire_of chunk.now)) }
+    ensures memory { IsOkUnless result ErrOutOfMemory }
+{
+    chunk.marshal(alloc)
+}
+
+// The chunk of a type and a value, read as a chunk of its kind and written as that kind is.
+fn chunk_of(alloc: Global, typ: u8, value: &[u8]) -> Result<Bytes>
+    ensures found { IfOk result (λ b. IsChunk typ value.now (padded b)) }
+    ensures only { (w : Wire) → ReadsChunk (chunk_encoding typ 0 value.now) w
+        → 4 + length value.now < 2 ^ 16 → IsOkUnless result ErrOutOfMemory }
+    ensures fault { IfErr result (λ e. OrMemory e (ChunkFault typ value.now e)) }
+{
+    let raw = framed(alloc, typ, value)?;
+    let chunk = ChunkKind::unmarshal(alloc, &raw)?;
+    encoded(alloc, &chunk)
+}
+
+/// Writes a chunk of a type and a value with its padding, its flags 0: of any type that is read (RFC 4960 3.2, 3.3). `written` becomes how
+/// many bytes that is, also where it refuses with `SCTP_SHORT_BUFFER`. Refuses with `SCTP_LENGTH_TOO_LARGE` a value of more than 65,531
+/// bytes, and with the reader's error where no reader takes that value for that type; then it changes nothing.
+#[unsafe(no_mangle)]
+pub extern "C" fn sctp_write_chunk(
+    alloc: Global,
+    typ: u8,
+    value: &[u8],
+    out: &mut [u8],
+    written: &mut usize,
+) -> u32
+    ensures done { result ≡ 0 → IsWritten (IsChunk typ value.now) out.old out.new written.new }
+    ensures short { result ≡ 17
+        → IsTooShort (IsChunk typ value.now) out.old out.new written.new }
+    ensures only { (w : Wire) → ReadsChunk (chunk_encoding typ 0 value.now) w
+        → 4 + length value.now < 2 ^ 16 → result ≢ 0 → result ≢ 17 → result ≡ 16 }
+    ensures refused { result ≢ 0 → result ≢ 17 → IsRefusal (ChunkFault typ value.now) result }
+    ensures kept { result ≢ 0 → result ≢ 17
+        → (out.new ≡ out.old) × (written.new ≡ written.old) }
+{
+    match chunk_of(alloc, typ, value) {
+        Ok(bytes) => put_padded(out, written, &bytes),
+        Err(e) => of_error(e),
+    }
+}
+
+#[tactic(auto, unfolding(crate::specs::Written::init_bytes))]
+fn init_value(alloc: Global, init: &SctpInit, params: &[u8]) -> Result<BytesMut>
+    ensures ok { IfOk result (λ b. b.items ≡ init_bytes init.now params.now) }
+    ensures memory { IsOkUnless result ErrOutOfMemory }
+{
+    let mut value = BytesMut::new(alloc);
+    value.reserve(16)?;
+    put_u32(&mut value, init.initiate_tag);
+    put_u32(&mut value, init.credit);
+    put_u16(&mut value, init.outbound_streams);
+    put_u16(&mut value, init.inbound_streams);
+    put_u32(&mut value, init.initial_tsn);
+    value.extend_from_slice(params)?;
+    Ok(value)
+}
+
+fn init_of(alloc: Global, init: &SctpInit, params: &[u8]) -> Result<Bytes>
+    ensures found { IfOk result
+        (λ b. IsChunk (init_type init.now) (init_bytes init.now params.now) (padded b)) }
+    ensures only { (w : Wire)
+        → ReadsChunk (chunk_encoding (init_type init.now) 0 (init_bytes init.now params.now)) w
+        → 4 + length (init_bytes init.now params.now) < 2 ^ 16 → IsOkUnless result ErrOutOfMemory }
+    ensures fault { IfErr result (λ e. OrMemory e
+        (ChunkFault (init_type init.now) (init_bytes init.now params.now) e)) }
+{
+    let value = init_value(alloc, init, params)?;
+    let typ = if init.is_ack == 0 { 1 } else { 2 };
+    chunk_of(alloc, typ, value.as_slice())
+}
+
+/// Writes an INIT, or where `is_ack` is not 0 an INIT-ACK, with its padding (RFC 4960 3.3.2, 3.3.3). `params` are its parameters, each with
+/// its padding, as `sctp_write_param` writes them. Otherwise as `sctp_write_chunk`.
+#[unsafe(no_mangle)]
+pub extern "C" fn sctp_write_init(
+    alloc: Global,
+    init: &SctpInit,
+    params: &[u8],
+    out: &mut [u8],
+    written: &mut usize,
+) -> u32
+    ensures done { result ≡ 0
+        → IsWritten (IsChunk (init_type init.now) (init_bytes init.now params.now))
+        out.old out.new written.new }
+    ensures short { result ≡ 17
+        → IsTooShort (IsChunk (init_type init.now) (init_bytes init.now params.now))
+        out.old out.new written.new }
+    ensures only { (w : Wire)
+        → ReadsChunk (chunk_encoding (init_type init.now) 0 (init_bytes init.now params.now)) w
+        → 4 + length (init_bytes init.now params.now) < 2 ^ 16
+        → result ≢ 0 → result ≢ 17 → result ≡ 16 }
+    ensures refused { result ≢ 0 → result ≢ 17
+        → IsRefusal (ChunkFault (init_type init.now) (init_bytes init.now params.now)) result }
+    ensures kept { result ≢ 0 → result ≢ 17
+        → (out.new ≡ out.old) × (written.new ≡ written.old) }
+{
+    match init_of(alloc, init, params) {
+        Ok(bytes) => put_padded(out, written, &bytes),
+        Err(e) => of_error(e),
+    }
+}
+
+#[tactic(auto, unfolding(sctp_base::specs::Field::be16))]
+fn framed_param(alloc: Global, typ: u16, value: &[u8]) -> Result<Bytes>
+    ensures ok { IfOk result (λ b. b ≡ param_framed typ value.now) }
+    ensures short { IfOk result (λ _. 4 + length value.now < 2 ^ 16) }
+    ensures err { IfErr result (λ e. OrMemory e
+        ((e ≡ ErrLengthTooLarge) × (65531 < length value.now))) }
+{
+    if value.len() > 65_531 {
+        return Err(Error::ErrLengthTooLarge);
+    }
+    let length = 4 + value.len();
+    let mut raw = BytesMut::new(alloc);
+    raw.reserve(length)?;
+    put_u16(&mut raw, typ);
+    put_u16(&mut raw, length as u16);
+    raw.extend_reserved(value);
+    Ok(raw.freeze()?)
+}
+
+// A parameter of a type and a value, where a reader takes it.
+fn param_of(alloc: Global, typ: u16, value: &[u8]) -> Result<Bytes>
+    ensures ok { IfOk result (λ b. IsParam typ value.now (padded b)) }
+    ensures only { (p : Parameter) → ReadsParam (param_framed typ value.now) p
+        → 4 + length value.now < 2 ^ 16 → IsOkUnless result ErrOutOfMemory }
+    ensures fault { IfErr result (λ e. OrMemory e (ParameterFault typ value.now e)) }
+{
+    let raw = framed_param(alloc, typ, value)?;
+    build_param(alloc, &raw)?;
+    Ok(raw)
+}
+
+/// Writes a parameter with its padding (RFC 4960 3.2.1). `written` becomes how many bytes that is, also where it refuses with
+/// `SCTP_SHORT_BUFFER`. Refuses with `SCTP_LENGTH_TOO_LARGE` a value of more than 65,531 bytes, and with the reader's error where no reader
+/// takes that value for that type; then it changes nothing.
+#[unsafe(no_mangle)]
+pub extern "C" fn sctp_write_param(
+    alloc: Global,
+    typ: u16,
+    value: &[u8],
+    out: &mut [u8],
+    written: &mut usize,
+) -> u32
+    ensures done { result ≡ 0 → IsWritten (IsParam typ value.now) out.old out.new written.new }
+    ensures short { result ≡ 17
+        → IsTooShort (IsParam typ value.now) out.old out.new written.new }
+    ensures only { (p : Parameter) → ReadsParam (param_framed typ value.now) p
+        → 4 + length value.now < 2 ^ 16 → result ≢ 0 → result ≢ 17 → result ≡ 16 }
+    ensures refused { result ≢ 0 → result ≢ 17 → IsRefusal (ParameterFault typ value.now) result }
+    ensures kept { result ≢ 0 → result ≢ 17
+        → (out.new ≡ out.old) × (written.new ≡ written.old) }
+{
+    match param_of(alloc, typ, value) {
+        Ok(bytes) => put_padded(out, written, &bytes),
+        Err(e) => of_error(e),
+    }
+}

@@ -1,0 +1,500 @@
+#include "endpoint.h"
+#include <string.h>
+
+/* The bytes of a packet's header, and of the headers of packet and DATA chunk together; chunks of one packet that are looked at. */
+enum { PACKET_HEADER = 12, HEADERS = 28, CHUNK_ROWS = 400 };
+/* Chunks in flight at most, and rows that are enough for them: abandoning a message that was sent in part gives out one TSN more. */
+enum { MAX_CHUNKS_IN_FLIGHT = 512, ROWS = MAX_CHUNKS_IN_FLIGHT + 8 };
+/* The longest time before a SACK is sent, in nanoseconds (RFC 4960 6.2), and two cause codes (3.3.10). */
+enum { SACK_DELAY = 200000000, INVALID_STREAM_IDENTIFIER = 1, USER_INITIATED_ABORT = 12 };
+
+/* Whether a TSN is past another one (RFC 1982 3.2). */
+static int is_after(uint32_t tsn, uint32_t other) { return tsn != other && tsn - other < 0x80000000u; }
+
+static uint8_t *end_of(struct endpoint *e) { return e->packet + e->length; }
+static size_t room_of(const struct endpoint *e) { return e->config.mtu - e->length; }
+
+/* Sends the packet, if it has a chunk, and begins the next one. */
+static void flush_with_tag(struct endpoint *e, uint32_t tag) {
+    struct sctp_head head = { tag, e->config.port, e->config.peer_port };
+    if (e->length > PACKET_HEADER && sctp_seal_packet(&head, e->packet, e->length) == SCTP_OK) {
+        e->counts.packets_sent++;
+        e->config.output(e->config.context, e->packet, e->length);
+    }
+    e->length = PACKET_HEADER;
+    e->has_data = 0;
+}
+
+static void flush(struct endpoint *e) { flush_with_tag(e, e->peer.tag); }
+static void start_timer(struct endpoint *e) { e->timer = e->now + e->rto; }
+
+/* Makes place for a control chunk of so many bytes: it stands before DATA (RFC 4960 6.10). */
+static void make_place(struct endpoint *e, size_t length) {
+    if (e->has_data || room_of(e) < length) flush(e);
+}
+
+/* Puts a control chunk into the packet. One that fits no packet, and one for which memory is refused, is left out: what has to arrive is
+ * sent again by a timer. */
+static void put_chunk(struct endpoint *e, uint8_t type, const uint8_t *value, size_t length) {
+    size_t written = 0;
+    make_place(e, 4 + length + 3);
+    if (sctp_write_chunk(type, value, length, end_of(e), room_of(e), &written) == SCTP_OK) e->length += written;
+}
+
+void endpoint_init(struct endpoint *e, const struct endpoint_config *config) {
+    memset(e, 0, sizeof *e);
+    e->config = *config;
+    e->rto = config->rto_initial;
+    e->length = PACKET_HEADER;
+}
+
+void endpoint_free(struct endpoint *e) {
+    if (!e->has_halves) return;
+    sctp_sender_free(e->sender);
+    sctp_receiver_free(e->receiver);
+    e->has_halves = 0;
+}
+
+static int open_streams(struct endpoint *e) {
+    for (uint16_t i = 0; i < e->config.streams; i++) {
+        if (sctp_receiver_open(&e->receiver, i) != SCTP_OK) return 0;
+        if (i < e->peer.streams && sctp_sender_open(&e->sender, i) != SCTP_OK) return 0;
+    }
+    return 1;
+}
+
+/* Makes the two halves, where there are none. A receiver's reach of 65,535 is what the gap ack blocks of a SACK can tell of. What the
+ * peer takes back is sent again. */
+static int make_halves(struct endpoint *e) {
+    const struct endpoint_config *c = &e->config;
+    if (e->has_halves) return 1;
+    if (sctp_sender_new(c->first_tsn, c->mtu - HEADERS, c->max_message_size, &e->sender) != SCTP_OK) return 0;
+    if (sctp_receiver_new(e->peer.first_tsn, c->max_message_size, c->window, 65535, &e->receiver) != SCTP_OK) {
+        sctp_sender_free(e->sender);
+        return 0;
+    }
+    e->has_halves = 1;
+    e->credit = e->peer.credit;
+    e->advertised = c->window;
+    if (open_streams(e) && sctp_sender_keep_reported(&e->sender) == SCTP_OK) return 1;
+    endpoint_free(e);
+    return 0;
+}
+
+/* Sends an INIT, or to the peer of a tag an INIT-ACK with a cookie. */
+static void send_init(struct endpoint *e, uint8_t is_ack, uint32_t tag, const uint8_t *cookie, size_t cookie_length) {
+    static const uint8_t extensions[] = { SCTP_FORWARD_TSN };
+    const struct endpoint_config *c = &e->config;
+    struct sctp_init init = { c->tag, c->window, c->first_tsn, c->streams, c->streams, is_ack };
+    uint8_t params[64];
+    size_t first = 0, second = 0, third = 0, written = 0;
+    flush(e);
+    if (sctp_write_param(SCTP_PARAM_FORWARD_TSN_SUPPORTED, NULL, 0, params, sizeof params, &first) != SCTP_OK) return;
+    if (sctp_write_param(SCTP_PARAM_SUPPORTED_EXTENSIONS, extensions, 1, params + first, 8, &second) != SCTP_OK) return;
+    first += second;
+    if (is_ack && sctp_write_param(SCTP_PARAM_STATE_COOKIE, cookie, cookie_length, params + first, 32, &third) != SCTP_OK) return;
+    if (sctp_write_init(&init, params, first + third, end_of(e), room_of(e), &written) == SCTP_OK) e->length += written;
+    flush_with_tag(e, tag);
+}
+
+void endpoint_connect(struct endpoint *e, uint64_t now) {
+    if (e->state != ENDPOINT_CLOSED) return;
+    e->now = now;
+    e->state = ENDPOINT_COOKIE_WAIT;
+    send_init(e, 0, 0, NULL, 0);
+    start_timer(e);
+}
+
+/* Reads what the peer says of itself, and where its cookie lies, if there is one, in an INIT or INIT-ACK (RFC 4960 3.3.2, 3.3.3). */
+static int read_peer(const uint8_t *chunk, size_t length, struct endpoint_peer *peer, const uint8_t **cookie, size_t *cookie_length) {
+    struct sctp_init init;
+    struct sctp_param param;
+    if (sctp_read_init(chunk, length, &init) != SCTP_OK) return 0;
+    if (init.initiate_tag == 0 || init.inbound_streams == 0 || init.outbound_streams == 0) return 0;
+    *peer = (struct endpoint_peer){ init.initiate_tag, init.initial_tsn, init.credit, init.inbound_streams, 0, 0 };
+    for (size_t at = 20; at < length && sctp_read_param(chunk + at, length - at, &param) == SCTP_OK; at += param.next) {
+        if (param.type == SCTP_PARAM_FORWARD_TSN_SUPPORTED) peer->has_forward_tsn = 1;
+        if (param.type == SCTP_PARAM_STATE_COOKIE) {
+            *cookie = chunk + at + 4;
+            *cookie_length = param.length;
+        }
+    }
+    return 1;
+}
+
+/* Answers an INIT, and keeps nothing of it: all that is to be known stands in the cookie. It is not signed, as a cookie has to be where
+ * the network is not trusted (RFC 4960 5.1.3). */
+static void on_init(struct endpoint *e, const uint8_t *chunk, size_t length) {
+    struct endpoint_peer peer;
+    const uint8_t *cookie = NULL;
+    size_t cookie_length = 0;
+    if (e->state > ENDPOINT_COOKIE_ECHOED || !read_peer(chunk, length, &peer, &cookie, &cookie_length)) return;
+    send_init(e, 1, peer.tag, (const uint8_t *)&peer, sizeof peer);
+}
+
+static void on_init_ack(struct endpoint *e, const uint8_t *chunk, size_t length) {
+    struct endpoint_peer peer;
+    const uint8_t *cookie = NULL;
+    size_t cookie_length = 0;
+    if (e->state != ENDPOINT_COOKIE_WAIT || !read_peer(chunk, length, &peer, &cookie, &cookie_length)) return;
+    if (cookie_length == 0 || cookie_length > sizeof e->cookie) return;
+    e->peer = peer;
+    if (!make_halves(e)) return;
+    memcpy(e->cookie, cookie, cookie_length);
+    e->cookie_length = cookie_length;
+    e->state = ENDPOINT_COOKIE_ECHOED;
+    put_chunk(e, SCTP_COOKIE_ECHO, e->cookie, e->cookie_length);
+    start_timer(e);
+}
+
+/* From COOKIE-ECHOED, or from a state before it too, the association is established. */
+static void establish(struct endpoint *e, enum endpoint_state least) {
+    if (e->state < least || e->state > ENDPOINT_COOKIE_ECHOED) return;
+    e->state = ENDPOINT_ESTABLISHED;
+    e->timer = e->errors = 0;
+    e->rto = e->config.rto_initial;
+    e->heartbeat_due = e->now + e->config.heartbeat_interval;
+}
+
+static void on_cookie_echo(struct endpoint *e, const uint8_t *chunk, size_t length) {
+    struct endpoint_peer peer;
+    if (length != 4 + sizeof peer || endpoint_is_over(e)) return;
+    memcpy(&peer, chunk + 4, sizeof peer);
+    if (e->has_halves && peer.tag != e->peer.tag) return;
+    e->peer = peer;
+    if (!make_halves(e)) return;
+    establish(e, ENDPOINT_CLOSED);
+    put_chunk(e, SCTP_COOKIE_ACK, NULL, 0);
+}
+
+/* The round trip time, and the time after which T3-rtx runs out (RFC 4960 6.3.1 C2, C3, C6, C7). */
+static void measure(struct endpoint *e, uint64_t rtt) {
+    uint64_t off = rtt > e->smoothed_rtt ? rtt - e->smoothed_rtt : e->smoothed_rtt - rtt;
+    int is_first = e->smoothed_rtt == 0;
+    e->rtt_variation = is_first ? rtt / 2 : e->rtt_variation - e->rtt_variation / 4 + off / 4;
+    e->smoothed_rtt = is_first ? rtt : e->smoothed_rtt - e->smoothed_rtt / 8 + rtt / 8;
+    e->rto = e->smoothed_rtt + 4 * e->rtt_variation;
+    if (e->rto < e->config.rto_min) e->rto = e->config.rto_min;
+    if (e->rto > e->config.rto_max) e->rto = e->config.rto_max;
+}
+
+/* Takes a SACK (RFC 4960 6.2.1): what it takes back, then what it reports anew. T3-rtx stops where all is acknowledged, and starts anew
+ * where the cumulative TSN rose (6.3.2 R2, R3). What three SACKs miss is marked (7.2.4). */
+static void on_sack(struct endpoint *e, const uint8_t *chunk, size_t length) {
+    struct sctp_taken_back back[ROWS];
+    struct sctp_acked rows[ROWS];
+    struct sctp_sack sack;
+    uint32_t acked = sctp_sender_acked_tsn(&e->sender);
+    size_t taken_back = 0, count = 0;
+    sctp_code code = sctp_read_sack(chunk, length, &sack, NULL, 0, NULL, 0);
+    if (code == SCTP_OK) code = sctp_sender_take_back(&e->sender, chunk, length, back, ROWS, &taken_back);
+    if (code == SCTP_OK) code = sctp_sender_acked(&e->sender, chunk, length, rows, ROWS, &count);
+    e->counts.chunks[code]++;
+    if (code != SCTP_OK || is_after(acked, sack.cumulative_tsn)) return;
+    e->counts.taken_back += taken_back;
+    e->credit = sack.credit;
+    e->errors = 0;
+    if (is_after(sack.cumulative_tsn, acked)) {
+        e->wants_forward_tsn = 1;
+        start_timer(e);
+    }
+    if (sctp_sender_chunks_in_flight(&e->sender) == 0) e->timer = 0;
+    if (count == 0) return;
+    const struct sctp_acked *last = &rows[count - 1];
+    if (last->has_sent_at && last->sent == 1) measure(e, e->now - last->sent_at);
+    if (sctp_sender_add_miss_indications(&e->sender, last->tsn) > 0) e->counts.fast_retransmissions++;
+}
+
+/* Takes a DATA chunk (RFC 4960 6.2). One of a stream that is not open is reported, and counts as come (6.5); so does one of a message that
+ * is too long. A SACK goes at once where the chunk came before, asks for it (RFC 7053), or leaves a gap. */
+static void on_data(struct endpoint *e, const uint8_t *chunk, size_t length) {
+    struct sctp_data data;
+    uint8_t complete = 0, cause[8] = { 0, INVALID_STREAM_IDENTIFIER, 0, 8, 0, 0, 0, 0 };
+    if (sctp_read_data(chunk, length, &data) != SCTP_OK) return;
+    sctp_code code = sctp_receiver_data(&e->receiver, chunk, length, &complete);
+    e->counts.chunks[code]++;
+    if (code == SCTP_STREAM_UNKNOWN) {
+        memcpy(cause + 4, chunk + 8, 2);
+        put_chunk(e, SCTP_ERROR, cause, sizeof cause);
+    }
+    if (code == SCTP_STREAM_UNKNOWN || code == SCTP_MESSAGE_TOO_LARGE) sctp_receiver_discard(&e->receiver, data.tsn);
+    if (code == SCTP_REPEAT || data.wants_sack || is_after(data.tsn, sctp_receiver_cumulative_tsn(&e->receiver))) e->sack_due = e->now;
+}
+
+/* A FORWARD-TSN is answered by a SACK (RFC 3758 3.6). What it names on a stream that is not open is passed over. */
+static void on_forward_tsn(struct endpoint *e, const uint8_t *chunk, size_t length) {
+    e->counts.chunks[sctp_receiver_forward_tsn_past_closed(&e->receiver, chunk, length)]++;
+    e->unacknowledged++;
+    e->sack_due = e->now;
+}
+
+/* The answer to a heartbeat has the time at which it was sent (RFC 4960 8.3). */
+static void on_heartbeat_ack(struct endpoint *e, const uint8_t *chunk, size_t length) {
+    struct sctp_param param;
+    uint64_t sent_at;
+    if (!e->awaits_heartbeat_ack || sctp_read_param(chunk + 4, length - 4, &param) != SCTP_OK || param.length != sizeof sent_at) return;
+    memcpy(&sent_at, chunk + 8, sizeof sent_at);
+    if (sent_at != e->heartbeat_sent_at) return;
+    e->errors = e->awaits_heartbeat_ack = 0;
+    e->counts.heartbeats_answered++;
+    measure(e, e->now - sent_at);
+}
+
+static void send_shutdown_ack(struct endpoint *e) {
+    e->state = ENDPOINT_SHUTDOWN_ACK_SENT;
+    put_chunk(e, SCTP_SHUTDOWN_ACK, NULL, 0);
+    start_timer(e);
+}
+
+/* It is answered also once the association is shut down: our SHUTDOWN-COMPLETE may have been lost. */
+static void on_shutdown_ack(struct endpoint *e) {
+    if (e->state < ENDPOINT_SHUTDOWN_SENT || e->state == ENDPOINT_ABORTED) return;
+    e->state = ENDPOINT_SHUT_DOWN;
+    put_chunk(e, SCTP_SHUTDOWN_COMPLETE, NULL, 0);
+}
+
+static void on_abort(struct endpoint *e, const uint8_t *chunk, size_t length) {
+    if (endpoint_is_over(e) || e->state == ENDPOINT_CLOSED) return;
+    e->state = ENDPOINT_ABORTED;
+    e->abort_length = length < sizeof e->abort_chunk ? length : sizeof e->abort_chunk;
+    memcpy(e->abort_chunk, chunk, e->abort_length);
+}
+
+/* A chunk that is looked at while the association is established or being shut down. */
+static void on_transfer(struct endpoint *e, const uint8_t *chunk, size_t length) {
+    if (e->state < ENDPOINT_ESTABLISHED || endpoint_is_over(e)) return;
+    switch (chunk[0]) {
+    case SCTP_DATA: on_data(e, chunk, length); break;
+    case SCTP_SACK: on_sack(e, chunk, length); break;
+    case SCTP_FORWARD_TSN: on_forward_tsn(e, chunk, length); break;
+    case SCTP_HEARTBEAT: put_chunk(e, SCTP_HEARTBEAT_ACK, chunk + 4, length - 4); break;
+    case SCTP_HEARTBEAT_ACK: on_heartbeat_ack(e, chunk, length); break;
+    case SCTP_SHUTDOWN:
+        if (e->state >= ENDPOINT_SHUTDOWN_SENT) send_shutdown_ack(e);
+        else e->state = ENDPOINT_SHUTDOWN_RECEIVED;
+        break;
+    }
+}
+
+static void on_chunk(struct endpoint *e, const uint8_t *chunk, size_t length) {
+    switch (chunk[0]) {
+    case SCTP_INIT: on_init(e, chunk, length); break;
+    case SCTP_INIT_ACK: on_init_ack(e, chunk, length); break;
+    case SCTP_COOKIE_ECHO: on_cookie_echo(e, chunk, length); break;
+    case SCTP_COOKIE_ACK: establish(e, ENDPOINT_COOKIE_ECHOED); break;
+    case SCTP_ABORT: on_abort(e, chunk, length); break;
+    case SCTP_SHUTDOWN_ACK: on_shutdown_ack(e); break;
+    case SCTP_SHUTDOWN_COMPLETE:
+        if (e->state == ENDPOINT_SHUTDOWN_ACK_SENT) e->state = ENDPOINT_SHUT_DOWN;
+        break;
+    default: on_transfer(e, chunk, length); break;
+    }
+}
+
+/* Whether a packet is one of this association (RFC 4960 8.5): an INIT stands alone under the tag 0, and an ABORT or SHUTDOWN-COMPLETE with
+ * the T bit is under the tag of the side that it comes from. */
+static int is_ours(const struct endpoint *e, const struct sctp_head *head, const struct sctp_chunk *first, size_t count) {
+    if (head->destination_port != e->config.port || head->source_port != e->config.peer_port || count == 0) return 0;
+    if (first->type == SCTP_INIT) return count == 1 && head->verification_tag == 0;
+    if ((first->type == SCTP_ABORT || first->type == SCTP_SHUTDOWN_COMPLETE) && first->flags & 1)
+        return e->peer.tag != 0 && head->verification_tag == e->peer.tag;
+    return head->verification_tag == e->config.tag;
+}
+
+static void send_shutdown(struct endpoint *e) {
+    uint32_t tsn = sctp_receiver_cumulative_tsn(&e->receiver);
+    uint8_t value[4] = { (uint8_t)(tsn >> 24), (uint8_t)(tsn >> 16), (uint8_t)(tsn >> 8), (uint8_t)tsn };
+    e->state = ENDPOINT_SHUTDOWN_SENT;
+    put_chunk(e, SCTP_SHUTDOWN, value, sizeof value);
+    start_timer(e);
+}
+
+/* A SACK, as much of it as there is room for, goes for every second packet with DATA, where it is due, and where much more room is left
+ * than the last one told. After our SHUTDOWN one goes for each packet with DATA, with another SHUTDOWN (RFC 4960 6.2, 9.2). */
+static void send_sack_if_due(struct endpoint *e) {
+    uint32_t window = sctp_receiver_window(&e->receiver);
+    size_t written = 0;
+    int has_room = window > e->advertised && window - e->advertised >= e->config.window / 4;
+    int is_answer = e->unacknowledged > 0 && e->state == ENDPOINT_SHUTDOWN_SENT;
+    int is_due = e->unacknowledged > 1 || (e->unacknowledged == 1 && e->sack_due <= e->now);
+    if (!is_due && !has_room && !is_answer) return;
+    make_place(e, 64);
+    if (sctp_receiver_sack(&e->receiver, end_of(e), room_of(e), &written) != SCTP_OK) return;
+    e->length += written;
+    e->advertised = window;
+    e->unacknowledged = 0;
+    if (is_answer) send_shutdown(e);
+}
+
+void endpoint_receive(struct endpoint *e, const uint8_t *packet, size_t length, uint64_t now) {
+    struct sctp_head head;
+    struct sctp_chunk rows[CHUNK_ROWS];
+    size_t count = 0;
+    uint8_t has_data = 0;
+    e->now = now;
+    sctp_code code = sctp_read_packet(packet, length, &head, rows, CHUNK_ROWS, &count);
+    e->counts.packets[code]++;
+    if (code != SCTP_OK) return;
+    if (!is_ours(e, &head, rows, count)) {
+        e->counts.wrong_tag++;
+        return;
+    }
+    if (e->unacknowledged == 0) e->sack_due = now + SACK_DELAY;
+    for (size_t i = 0; i < count && i < CHUNK_ROWS; i++) {
+        on_chunk(e, packet + rows[i].at, rows[i].length);
+        has_data |= rows[i].type == SCTP_DATA;
+    }
+    e->unacknowledged += has_data;
+    flush(e);
+    endpoint_poll(e, now);
+}
+
+sctp_code endpoint_write(struct endpoint *e, uint16_t stream, uint32_t payload_type, const uint8_t *message, size_t length) {
+    uint64_t number;
+    size_t fragments;
+    if (e->state != ENDPOINT_ESTABLISHED) return SCTP_INVALID;
+    return sctp_sender_write(&e->sender, stream, payload_type, message, length, &number, &fragments);
+}
+
+/* Abandons what is past its lifetime, or is marked and was sent as often as it may be (RFC 3758 3.5, RFC 7496 3.1), where the peer follows
+ * a FORWARD-TSN. */
+static void abandon(struct endpoint *e) {
+    struct sctp_abandoned rows[ROWS];
+    struct sctp_expired row;
+    size_t late = 0, often = 0;
+    if (!e->peer.has_forward_tsn) return;
+    sctp_sender_start(&e->sender, e->now);
+    size_t tails = sctp_sender_expire_tail(&e->sender, e->now, rows) == SCTP_OK;
+    if (sctp_sender_expire_late(&e->sender, e->now, rows, ROWS, &late) != SCTP_OK) late = 0;
+    if (sctp_sender_expire_rexmit(&e->sender, rows, ROWS, &often) != SCTP_OK) often = 0;
+    e->counts.abandoned += tails + late + often;
+    if (tails + late + often > 0) e->wants_forward_tsn = 1;
+    while (sctp_sender_expire(&e->sender, e->now, &row) == SCTP_OK) e->counts.expired++;
+}
+
+/* Sends the FORWARD-TSN, if there is one: after the cumulative TSN rose, after messages were abandoned, and when T3-rtx runs out. The rule
+ * is to send one after each SACK (RFC 3758 3.5 C3); as each is answered by a SACK, that would be many. */
+static void send_forward_tsn(struct endpoint *e) {
+    size_t written = 0;
+    make_place(e, 64);
+    if (sctp_sender_forward_tsn(&e->sender, end_of(e), room_of(e), &written) == SCTP_OK) {
+        e->length += written;
+        e->counts.forward_tsns_sent++;
+        if (e->timer == 0) start_timer(e);
+    }
+    e->wants_forward_tsn = 0;
+}
+
+/* Counts a DATA chunk that was put into the packet, or sends the packet where it has no room for it. Whether to go on. */
+static int note_data(struct endpoint *e, sctp_code code, size_t written) {
+    if (code == SCTP_SHORT_BUFFER && e->length > PACKET_HEADER) {
+        flush(e);
+        return 1;
+    }
+    if (code != SCTP_OK) return 0;
+    e->length += written;
+    e->has_data = 1;
+    if (e->timer == 0) start_timer(e);
+    return 1;
+}
+
+/* Sends all that is marked. There is no congestion control that would spread it. */
+static void send_marked(struct endpoint *e) {
+    struct sctp_in_flight row;
+    size_t written = 0;
+    while (sctp_sender_next_to_retransmit(&e->sender, &row) == SCTP_OK) {
+        sctp_code code = sctp_sender_resend(&e->sender, row.tsn, e->now, end_of(e), room_of(e), &written);
+        if (!note_data(e, code, written)) return;
+        e->counts.data_sent_again += code == SCTP_OK;
+    }
+}
+
+/* Whether a new chunk may go: within what the peer has room for and what may be in flight; one always may (RFC 4960 6.1 A, B). */
+static int may_send(struct endpoint *e) {
+    size_t in_flight = sctp_sender_bytes_in_flight(&e->sender);
+    size_t most = e->credit < e->config.max_in_flight ? e->credit : e->config.max_in_flight;
+    if (sctp_sender_chunks_in_flight(&e->sender) >= MAX_CHUNKS_IN_FLIGHT) return 0;
+    return in_flight == 0 || in_flight + e->config.mtu <= most;
+}
+
+static void send_new(struct endpoint *e) {
+    size_t written = 0;
+    uint32_t tsn;
+    while (may_send(e)) {
+        sctp_code code = sctp_sender_send_next(&e->sender, e->now, end_of(e), room_of(e), &written, &tsn);
+        if (!note_data(e, code, written)) return;
+        e->counts.data_sent += code == SCTP_OK;
+    }
+}
+
+/* A heartbeat has the time as its information. One that was not answered counts as an error (RFC 4960 8.3). */
+static void send_heartbeat(struct endpoint *e) {
+    const uint8_t *info = (const uint8_t *)&e->now;
+    uint8_t param[16];
+    size_t written = 0;
+    e->errors += e->awaits_heartbeat_ack;
+    e->heartbeat_due = e->now + e->config.heartbeat_interval;
+    if (sctp_write_param(SCTP_PARAM_HEARTBEAT_INFO, info, sizeof e->now, param, sizeof param, &written) != SCTP_OK) return;
+    put_chunk(e, SCTP_HEARTBEAT, param, written);
+    e->heartbeat_sent_at = e->now;
+    e->awaits_heartbeat_ack = 1;
+    e->counts.heartbeats_sent++;
+}
+
+/* T1-init, T1-cookie, T2-shutdown or T3-rtx ran out (RFC 4960 5.1, 9.2, 6.3.3). */
+static void on_timeout(struct endpoint *e) {
+    e->errors++;
+    e->counts.timeouts++;
+    e->rto = 2 * e->rto < e->config.rto_max ? 2 * e->rto : e->config.rto_max;
+    start_timer(e);
+    switch (e->state) {
+    case ENDPOINT_COOKIE_WAIT: send_init(e, 0, 0, NULL, 0); break;
+    case ENDPOINT_COOKIE_ECHOED: put_chunk(e, SCTP_COOKIE_ECHO, e->cookie, e->cookie_length); break;
+    case ENDPOINT_SHUTDOWN_SENT: send_shutdown(e); break;
+    case ENDPOINT_SHUTDOWN_ACK_SENT: send_shutdown_ack(e); break;
+    default:
+        sctp_sender_retransmit_all(&e->sender);
+        e->wants_forward_tsn = 1;
+    }
+}
+
+/* Goes on with a shutdown, once nothing waits or is in flight (RFC 4960 9.2). */
+static void shut_down_if_drained(struct endpoint *e) {
+    if (sctp_sender_pending(&e->sender) > 0 || sctp_sender_chunks_in_flight(&e->sender) > 0) return;
+    if (e->state == ENDPOINT_SHUTDOWN_PENDING) send_shutdown(e);
+    if (e->state == ENDPOINT_SHUTDOWN_RECEIVED) send_shutdown_ack(e);
+}
+
+void endpoint_poll(struct endpoint *e, uint64_t now) {
+    e->now = now;
+    if (endpoint_is_over(e)) return;
+    if (e->timer != 0 && e->timer <= now) on_timeout(e);
+    if (e->errors > e->config.max_retransmissions) endpoint_abort(e);
+    if (endpoint_is_over(e)) return;
+    if (e->has_halves) send_sack_if_due(e);
+    if (ENDPOINT_ESTABLISHED <= e->state && e->state <= ENDPOINT_SHUTDOWN_RECEIVED) {
+        if (e->heartbeat_due <= now) send_heartbeat(e);
+        abandon(e);
+        if (e->wants_forward_tsn) send_forward_tsn(e);
+        send_marked(e);
+        send_new(e);
+        shut_down_if_drained(e);
+    }
+    flush(e);
+}
+
+void endpoint_shutdown(struct endpoint *e, uint64_t now) {
+    if (e->state != ENDPOINT_ESTABLISHED) return;
+    e->state = ENDPOINT_SHUTDOWN_PENDING;
+    endpoint_poll(e, now);
+}
+
+void endpoint_abort(struct endpoint *e) {
+    static const uint8_t cause[4] = { 0, USER_INITIATED_ABORT, 0, 4 };
+    if (endpoint_is_over(e)) return;
+    if (e->peer.tag != 0) put_chunk(e, SCTP_ABORT, cause, sizeof cause);
+    flush(e);
+    e->state = ENDPOINT_ABORTED;
+}
+
+int endpoint_is_over(const struct endpoint *e) { return e->state == ENDPOINT_SHUT_DOWN || e->state == ENDPOINT_ABORTED; }

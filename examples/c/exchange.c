@@ -1,0 +1,192 @@
+/* Two endpoints exchange messages over a network in memory that loses, repeats, delays and damages datagrams. Each message that is read is
+ * compared, byte for byte, with what was written; of the reliable streams each has to come.
+ *
+ *     exchange [seed] [ticks] [lost repeated late damaged, each of 10,000 datagrams] [short]
+ *
+ * It writes for so many ticks of 10 ms, in no real time, then waits until all came, and shuts down. With `short` it writes more messages,
+ * of under 64 bytes, so that stream sequence numbers pass 65,535 within 20,000 ticks. The last line says how many messages came and how
+ * many faults there were; the status is 0 where there was none. */
+#include "endpoint.h"
+#include "messages.h"
+#include "network.h"
+#include <stdio.h>
+#include <stdlib.h>
+#include <string.h>
+
+enum { TICK = 10000000 /* nanoseconds */, WRITES = 4, SHORT_WRITES = 32 };
+
+static struct network network;
+static struct endpoint sides[2];
+static int directions[2] = { 0, 1 };
+static int is_short;
+
+static void output(void *context, const uint8_t *packet, size_t length) { network_send(&network, *(int *)context, packet, length); }
+
+static void set_up(void) {
+    struct endpoint_config config = { 0 };
+    config.streams = STREAMS;
+    config.max_message_size = MAX_MESSAGE;
+    config.window = 1 << 20;
+    config.max_in_flight = 128 * 1024;
+    config.mtu = 1200;
+    config.rto_initial = 500000000;
+    config.rto_min = 200000000;
+    config.rto_max = 1000000000;
+    config.heartbeat_interval = 1000000000;
+    config.max_retransmissions = 100;
+    config.output = output;
+    for (int i = 0; i < 2; i++) {
+        config.port = (uint16_t)(5000 + i);
+        config.peer_port = (uint16_t)(5001 - i);
+        config.tag = 0x12345678 + (uint32_t)i;
+        config.first_tsn = 0xfffffe00 + 100 * (uint32_t)i;
+        config.context = &directions[i];
+        endpoint_init(&sides[i], &config);
+    }
+}
+
+static uint64_t now(void) { return (network.tick + 1) * TICK; }
+
+static void write_some(int side) {
+    static uint8_t message[MAX_MESSAGE];
+    for (int i = 0; i < (is_short ? SHORT_WRITES : WRITES); i++) {
+        int stream = (int)(random_next(&message_random) % STREAMS);
+        size_t amount = 0;
+        sctp_sender_buffered_amount(&sides[side].sender, (uint16_t)stream, &amount);
+        if (amount > MAX_MESSAGE) continue;
+        uint32_t length = is_short ? 8 + (uint32_t)(random_next(&message_random) % 56) : message_length(stream, 0);
+        message_fill(message, length, side, stream, channels[side][stream].written);
+        sctp_code code = endpoint_write(&sides[side], (uint16_t)stream, SCTP_PPID_BINARY, message, length);
+        if (code != SCTP_OK) fault("side %d: a write is refused with %u", side, (unsigned)code);
+        else message_written(side, stream, length);
+    }
+}
+
+/* Reads all that the other side sent. */
+static void read_all(int side) {
+    static uint8_t message[MAX_MESSAGE];
+    uint16_t stream = 0;
+    size_t length;
+    uint32_t type;
+    if (!sides[side].has_halves) return;
+    while (stream < STREAMS) {
+        sctp_code code = sctp_receiver_read(&sides[side].receiver, stream, message, sizeof message, &length, &type);
+        if (code == SCTP_OK) message_read(1 - side, stream, type, message, length);
+        else stream++;
+    }
+}
+
+static void one_tick(void) {
+    const struct datagram *d;
+    network_next_tick(&network);
+    for (int i = 0; i < 2; i++) {
+        while ((d = network_take(&network, 1 - i)) != NULL) endpoint_receive(&sides[i], d->bytes, d->length, now());
+        read_all(i);
+        endpoint_poll(&sides[i], now());
+    }
+}
+
+static int both_are(enum endpoint_state state) { return sides[0].state == state && sides[1].state == state; }
+
+static int is_drained(const struct endpoint *e) {
+    sctp_sender sender = e->sender;
+    return sctp_sender_pending(&sender) == 0 && sctp_sender_chunks_in_flight(&sender) == 0;
+}
+
+/* The first side connects, or the second one, or both do. */
+static void connect_sides(uint64_t seed) {
+    if (seed % 3 != 1) endpoint_connect(&sides[0], now());
+    if (seed % 3 != 2) endpoint_connect(&sides[1], now());
+    for (int i = 0; i < 5000 && !both_are(ENDPOINT_ESTABLISHED); i++) one_tick();
+    if (!both_are(ENDPOINT_ESTABLISHED)) fault("no association: states %d and %d", sides[0].state, sides[1].state);
+}
+
+static void set_modes(int side) {
+    for (uint16_t i = 0; i < STREAMS; i++) {
+        const struct mode *m = &modes[i];
+        if (sctp_sender_set_mode(&sides[side].sender, i, m->unordered, m->reliability, m->value) != SCTP_OK) fault("mode %u", i);
+    }
+}
+
+static void exchange(long ticks) {
+    set_modes(0);
+    set_modes(1);
+    for (long i = 0; i < ticks && faults == 0 && both_are(ENDPOINT_ESTABLISHED); i++) {
+        write_some(0);
+        write_some(1);
+        one_tick();
+        if (i % 256 == 0) messages_forget(20000);
+    }
+    int is_done = 0;
+    for (int i = 0; i < 100000 && !is_done && faults == 0; i++) {
+        one_tick();
+        is_done = messages_arrived() && is_drained(&sides[0]) && is_drained(&sides[1]);
+    }
+    if (!is_done) fault("not all came: states %d and %d", sides[0].state, sides[1].state);
+    messages_forget(0);
+}
+
+static void shut_down(int side) {
+    endpoint_shutdown(&sides[side], now());
+    for (int i = 0; i < 5000 && !both_are(ENDPOINT_SHUT_DOWN); i++) one_tick();
+    if (!both_are(ENDPOINT_SHUT_DOWN)) fault("not shut down: states %d and %d", sides[0].state, sides[1].state);
+}
+
+static void print_side(int side) {
+    const struct endpoint_counts *c = &sides[side].counts;
+    const struct network_counts *n = &network.counts[side];
+    printf("side %d\n", side);
+    network_print(n);
+    messages_print(side);
+    printf("  DATA %lu, sent again %lu, timeouts %lu, fast retransmissions %lu\n", (unsigned long)c->data_sent,
+           (unsigned long)c->data_sent_again, (unsigned long)c->timeouts, (unsigned long)c->fast_retransmissions);
+    printf("  messages abandoned %lu, expired %lu, FORWARD-TSN %lu, heartbeats answered %lu of %lu\n", (unsigned long)c->abandoned,
+           (unsigned long)c->expired, (unsigned long)c->forward_tsns_sent, (unsigned long)c->heartbeats_answered,
+           (unsigned long)c->heartbeats_sent);
+    for (unsigned i = 16; i <= SCTP_ERR_SHORT_BUFFER; i++)
+        if (c->chunks[i]) printf("  chunks refused with %u: %lu\n", i, (unsigned long)c->chunks[i]);
+}
+
+static void end(void) {
+    endpoint_free(&sides[0]);
+    endpoint_free(&sides[1]);
+    network_free(&network);
+}
+
+/* One side aborts; the other one is told. */
+static void abort_one(void) {
+    struct network_rates none = { 0, 0, 0, 0 };
+    network_init(&network, 1, none);
+    set_up();
+    connect_sides(0);
+    endpoint_abort(&sides[0]);
+    for (int i = 0; i < 3; i++) one_tick();
+    if (!both_are(ENDPOINT_ABORTED) || sides[1].abort_length != 8) fault("not aborted: states %d and %d", sides[0].state, sides[1].state);
+    end();
+}
+
+int main(int argc, char **argv) {
+    uint64_t seed = argc > 1 ? strtoull(argv[1], NULL, 0) : 1, bytes;
+    struct network_rates rates = { 200, 100, 500, 20 };
+    if (argc > 6) {
+        rates.lost = (uint32_t)atoi(argv[3]);
+        rates.repeated = (uint32_t)atoi(argv[4]);
+        rates.late = (uint32_t)atoi(argv[5]);
+        rates.damaged = (uint32_t)atoi(argv[6]);
+    }
+    is_short = argc > 7 && strcmp(argv[7], "short") == 0;
+    message_random = seed * 0x9e3779b97f4a7c15ull | 1;
+    network_init(&network, seed, rates);
+    set_up();
+    connect_sides(seed);
+    if (faults == 0) exchange(argc > 2 ? atol(argv[2]) : 1000);
+    if (faults == 0) shut_down(seed / 3 % 2);
+    print_side(0);
+    print_side(1);
+    printf("%lu ticks\n", (unsigned long)network.tick);
+    end();
+    abort_one();
+    uint64_t messages = messages_read(&bytes);
+    printf("exchange: %lu messages, %lu bytes, %lu faults\n", (unsigned long)messages, (unsigned long)bytes, faults);
+    return faults != 0;
+}

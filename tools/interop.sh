@@ -1,0 +1,54 @@
+#!/bin/sh
+# Builds c_tests/interop on the static library, and lets the endpoint of examples/c and usrsctp exchange messages: RUNS runs of SECONDS
+# each, with seeds from SEED on.
+#
+#     tools/interop.sh [RUNS] [SECONDS] [SEED]
+#
+# It needs Debian's package libusrsctp-dev, gcc or the CC given, and the archive crates/sctp_c/out/libsctp_c.a, which 'rt lib' writes. It
+# is run by hand: the gate has no such package. The last line sums the runs up; the status is 0 where no fault was found.
+set -eu
+cd "$(dirname "$0")/.."
+CC=${CC:-gcc}
+RUNS=${1:-6}
+SECONDS_EACH=${2:-10}
+SEED=${3:-1}
+KIT=$(dirname "$(dirname "$(readlink -f "$(command -v rt)")")")
+BUILD=$(mktemp -d)
+trap 'rm -rf "$BUILD"' EXIT
+ARCHIVE=crates/sctp_c/out/libsctp_c.a
+
+# Builds a program of the files given.
+build() {
+    name=$1
+    shift
+    $CC -std=gnu99 -Wall -Wextra -Werror -pedantic -O2 -Iinclude -Iexamples/c "$@" examples/c/endpoint.c examples/c/network.c "$ARCHIVE" \
+        "$KIT/c/liblibc_c.a" -l:libusrsctp.a -lpthread -o "$BUILD/$name"
+}
+build usrsctp c_tests/interop/usrsctp.c c_tests/interop/legal.c examples/c/messages.c
+build usrsctp_abort c_tests/interop/usrsctp_abort.c
+"$BUILD/usrsctp_abort" || true
+
+# Two runs at 2 % loss, one at 10 %, and one with messages of one and of several chunks mixed, and so on.
+one() {
+    case $(($1 % 4)) in
+    2) "$BUILD/usrsctp" "$1" "$SECONDS_EACH" 1000 200 1000 50 ;;
+    3) "$BUILD/usrsctp" "$1" "$SECONDS_EACH" 200 100 500 20 mixed ;;
+    *) "$BUILD/usrsctp" "$1" "$SECONDS_EACH" 200 100 500 20 ;;
+    esac
+}
+failed=0
+i=0
+while [ "$i" -lt "$RUNS" ]; do
+    status=0
+    one $((SEED + i)) >"$BUILD/log" || status=$?
+    case $status in
+    0 | 3) ;;
+    *) failed=$((failed + 1)) && cat "$BUILD/log" ;;
+    esac
+    tail -1 "$BUILD/log" | tee -a "$BUILD/lines"
+    i=$((i + 1))
+done
+awk '/^usrsctp:/ { runs++; messages += $6; bytes += $8; faults += $10; aborts += / aborted / }
+     END { printf "interop: %d runs, %.0f messages, %.0f bytes, %d faults, %d aborts of usrsctp over legal chunks\n",
+               runs, messages, bytes, faults, aborts }' "$BUILD/lines"
+[ "$failed" -eq 0 ]
