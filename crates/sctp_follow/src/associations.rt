@@ -1,9 +1,10 @@
 //! The associations of a capture, by the ports and the verification tags of its packets.
 
 use crate::flow::{Flow, counted};
+use crate::packet::Packet;
 use sctp_base::field::read_u32;
 use sctp_capture::record::Time;
-use sctp_dissect::dissection::{Dissection, Header, Item};
+use sctp_dissect::dissection::{Header, Item};
 use std::alloc::{AllocError, Global};
 use std::net::IpAddr;
 
@@ -173,18 +174,12 @@ impl Association {
     }
 
     /// Notes a packet that goes this way.
-    fn note(
-        &mut self,
-        way: Way,
-        place: &Place,
-        items: &[Item],
-        time: &Option<Time>,
-        length: u64,
-    ) -> Result<(), AllocError> {
+    fn note(&mut self, way: Way, place: &Place, packet: &Packet<'_>) -> Result<(), AllocError> {
         self.note_tags(way, place);
+        let items = &packet.seen.items;
         match way {
-            Way::Forth => self.forth.note(items, time, length),
-            Way::Back => self.back.note(items, time, length),
+            Way::Forth => self.forth.note(items, &packet.time, packet.extent),
+            Way::Back => self.back.note(items, &packet.time, packet.extent),
         }
     }
 }
@@ -233,26 +228,35 @@ impl Associations {
         Ok((at, Way::Forth))
     }
 
-    /// Notes a packet of so many bytes. Refuses only for memory.
-    pub fn note(
+    /// What went the way of a packet, and what went the other one.
+    pub fn flows_at(&self, at: usize, way: Way) -> Option<(&Flow, &Flow)> {
+        let association = self.items.get(at)?;
+        match way {
+            Way::Forth => Some((&association.forth, &association.back)),
+            Way::Back => Some((&association.back, &association.forth)),
+        }
+    }
+
+    /// Notes a packet, and answers of which association and which way it is, if it is of one. Refuses only for memory.
+    pub fn note_packet(
         &mut self,
         alloc: Global,
-        seen: &Dissection,
-        ends: Option<(IpAddr, IpAddr)>,
-        time: &Option<Time>,
-        length: u64,
-    ) -> Result<(), AllocError> {
-        let Some(header) = &seen.header else {
+        packet: &Packet<'_>,
+    ) -> Result<Option<(usize, Way)>, AllocError> {
+        let Some(header) = &packet.seen.header else {
             self.others = counted(self.others, 1);
-            return Ok(());
+            return Ok(None);
         };
-        let place = place_of(header, &seen.items, ends);
+        let place = place_of(header, &packet.seen.items, packet.ends);
         let (at, way) = self.place_for(alloc, &place)?;
         match self.items.get_mut(at) {
-            Some(association) => association.note(way, &place, &seen.items, time, length),
+            Some(association) => {
+                association.note(way, &place, packet)?;
+                Ok(Some((at, way)))
+            }
             None => {
                 self.others = counted(self.others, 1);
-                Ok(())
+                Ok(None)
             }
         }
     }

@@ -1,13 +1,13 @@
 //! What went one way in an association.
 
-ghost use Rattle.std.specs.Prelude.{◌≡◌, ◌≤◌, ◌<◌, ◌+◌, true, false, length, slice_index, slice_set, OnOk, IfOk};
+ghost use Rattle.std.specs.Prelude.{◌≡◌, ◌≤◌, ◌<◌, ◌+◌, true, false, if◌then◌else◌, length, slice_index, slice_set, OnOk, IfOk};
 ghost use Rattle.std.specs.BTreeSet.{contains, Updates};
 ghost use Rattle.std.specs.Ordering.{nat_cmp};
 ghost use Rattle.sctp_show.specs.Filter as filters;
 ghost use Rattle.sctp_base.specs.Field.{u32_at};
 ghost use Rattle.sctp_chunks.specs.Framing.{type_at};
 ghost use Rattle.sctp_follow.specs.Flow as flows;
-ghost use Rattle.sctp_follow.specs.Flow.{counted};
+ghost use Rattle.sctp_follow.specs.Flow.{counted, base_after};
 
 use sctp_base::field::{read_u16, read_u32};
 use sctp_capture::record::Time;
@@ -20,6 +20,15 @@ use std::collections::{BTreeMap, BTreeSet};
 /// Half of the TSNs: a TSN that lies fewer behind another one comes after it (RFC 4960 1.6).
 const HALF: u32 = 0x8000_0000;
 
+/// How much there is of a packet.
+#[derive(Clone, Copy, Debug, PartialEq, Eq)]
+pub struct Extent {
+    /// Its bytes by the lengths of IP and UDP.
+    pub length: u64,
+    /// Whether its frame holds fewer of them.
+    pub is_cut: bool,
+}
+
 /// What went one way. Each count stops at the greatest `u64`.
 #[derive(Drop)]
 pub struct Flow {
@@ -28,6 +37,8 @@ pub struct Flow {
     pub packets: u64,
     /// The bytes of these packets, without the headers below SCTP.
     pub bytes: u64,
+    /// How many of these packets are cut off: their frames do not hold them to their ends.
+    pub cut: u64,
     /// When the first and the last one that has a time was captured.
     pub start: Option<Time>,
     pub end: Option<Time>,
@@ -42,6 +53,10 @@ pub struct Flow {
     pub tsns: BTreeSet<u32>,
     pub lowest: Option<u32>,
     pub highest: Option<u32>,
+    /// The TSN that those of this way are counted from: the initial one that an INIT or INIT-ACK names, or else the first one that came.
+    pub base: Option<u32>,
+    /// Whether the last packet has a TSN that came before.
+    pub is_repeating: bool,
     /// How many DATA and I-DATA chunks there are of each stream.
     pub streams: BTreeMap<u16, u64>,
     /// The new cumulative TSN of the last FORWARD-TSN.
@@ -66,6 +81,13 @@ fn payload_length(bytes: &[u8]) -> u64
 {
     let at: u16 = if bytes[0] == 0 { 16 } else { 20 };
     read_u16(bytes, 2).saturating_sub(at) as u64
+}
+
+/// Whether the bytes of a chunk are INIT or INIT-ACK, with all of the fixed part.
+fn is_init(bytes: &[u8]) -> bool
+    ensures { result ≡ flows.is_init bytes.now }
+{
+    bytes.len() >= 20 && (bytes[0] == 1 || bytes[0] == 2)
 }
 
 /// Whether a TSN comes after another one.
@@ -98,6 +120,7 @@ impl Flow {
             tag,
             packets: 0,
             bytes: 0,
+            cut: 0,
             start: None,
             end: None,
             kinds: vec![in alloc; 0u64; 256]?,
@@ -107,6 +130,8 @@ impl Flow {
             tsns: BTreeSet::new(alloc),
             lowest: None,
             highest: None,
+            base: None,
+            is_repeating: false,
             streams: BTreeMap::new(alloc),
             skipped_to: None,
             gap_blocks: 0,
@@ -114,15 +139,17 @@ impl Flow {
         })
     }
 
-    /// Counts a packet of so many bytes.
-    pub fn note_packet(&mut self, time: &Option<Time>, length: u64)
+    /// Counts a packet, its bytes, and whether it is cut off.
+    pub fn note_packet(&mut self, time: &Option<Time>, extent: Extent)
         ensures packets { self.new.packets ≡ counted self.old.packets 1 }
-        ensures bytes { self.new.bytes ≡ counted self.old.bytes length }
+        ensures bytes { self.new.bytes ≡ counted self.old.bytes extent.length }
+        ensures cut { self.new.cut ≡ counted self.old.cut (if extent.is_cut then 1 else 0) }
         ensures kinds { self.new.kinds ≡ self.old.kinds }
         ensures data { self.new.data_chunks ≡ self.old.data_chunks }
     {
         self.packets = counted(self.packets, 1);
-        self.bytes = counted(self.bytes, length);
+        self.bytes = counted(self.bytes, extent.length);
+        self.cut = counted(self.cut, if extent.is_cut { 1 } else { 0 });
         if self.start.is_none() {
             self.start = *time;
         }
@@ -254,17 +281,31 @@ impl Flow {
         Ok(())
     }
 
-    /// Notes a packet of so many bytes, and its chunks. Refuses only for memory.
+    /// Keeps the TSN that those of this way are counted from: what an INIT or INIT-ACK says, or else the first TSN of DATA or I-DATA.
+    fn note_base(&mut self, bytes: &[u8])
+        ensures { self.new.base ≡ base_after self.old.base bytes.now }
+    {
+        if is_init(bytes) {
+            self.base = Some(read_u32(bytes, 16));
+        } else if self.base.is_none() && is_data(bytes) {
+            self.base = Some(read_u32(bytes, 4));
+        }
+    }
+
+    /// Notes a packet and its chunks. Refuses only for memory.
     pub fn note(
         &mut self,
         items: &[Item],
         time: &Option<Time>,
-        length: u64,
+        extent: Extent,
     ) -> Result<(), AllocError> {
-        self.note_packet(time, length);
+        self.note_packet(time, extent);
+        let before = self.repeated;
         for item in items {
+            self.note_base(item.bytes.as_slice());
             self.note_chunk(item.bytes.as_slice())?;
         }
+        self.is_repeating = self.repeated > before;
         Ok(())
     }
 

@@ -3,5 +3,8 @@
 
 pub mod associations;
 pub mod flow;
+pub mod ladder;
+pub mod packet;
 pub mod summarize;
 pub mod text;
+pub mod track;

@@ -162,11 +162,20 @@ fn put_reports(text: &mut String, form: Form, flow: &Flow) -> Result<(), AllocEr
     put_number(text, form, "Skipped to TSN", "skipped_to", flow.skipped_to)
 }
 
+/// How many packets are cut off, if any are.
+fn put_cut(text: &mut String, form: Form, cut: u64) -> Result<(), AllocError> {
+    if cut == 0 {
+        return Ok(());
+    }
+    put_count(text, form, "Cut off", "cut_off", cut)
+}
+
 /// What went one way.
 fn put_flow(text: &mut String, style: &Style, flow: &Flow) -> Result<(), AllocError> {
     let form = style.form;
     put_count(text, form, "Packets", "packets", flow.packets)?;
     put_count(text, form, "Bytes", "bytes", flow.bytes)?;
+    put_cut(text, form, flow.cut)?;
     put_time(text, style, "First", "first", &flow.start)?;
     put_time(text, style, "Last", "last", &flow.end)?;
     put_kinds(text, form, flow)?;
@@ -198,7 +207,11 @@ fn put_way(
 }
 
 /// The ends of an association: addresses, where they are known, and ports.
-fn put_ends(text: &mut String, form: Form, association: &Association) -> Result<(), AllocError> {
+pub(crate) fn put_ends(
+    text: &mut String,
+    form: Form,
+    association: &Association,
+) -> Result<(), AllocError> {
     let place = &association.place;
     let (source, destination) = (place.source_port, place.destination_port);
     match (form, &place.ends) {
@@ -238,7 +251,7 @@ fn put_association(
 }
 
 /// The last line.
-fn put_end(
+pub(crate) fn put_end(
     text: &mut String,
     form: Form,
     counts: Counts,

@@ -1,5 +1,6 @@
 -- What is printed of a chunk.
 use Rattle.std.specs.Prelude.{ℕ, List, [], ◌++◌, length, drop, codes, decimal, Bool, true, false, ◌==◌, if◌then◌else◌}
+use Rattle.sctp_list_lemmas.specs.Serial.{distance}
 use Rattle.sctp_base.specs.Field.{u16_at, u32_at}
 use Rattle.sctp_data.specs.declared.chunk.chunk_payload_data.ChunkPayloadData.{ChunkPayloadData}
 use Rattle.sctp_show.specs.declared.chunk_text.Head.{Head}
@@ -14,11 +15,11 @@ payload_text form ppid =
     if length (payload_name ppid) == 0 then []
     else words_text form (codes "Payload type") (codes "payload_type") (payload_name ppid)
 
--- behind the old text, of DATA: its fields, the payload type that stands in its bytes, its user data
-abbrev pub data_text : Form → List ℕ → ChunkPayloadData → ℕ → List ℕ
-data_text form old c ppid =
+-- behind the old text, of DATA: its fields, the TSN relative to a base, the payload type that stands in its bytes, its user data
+abbrev pub data_text : Form → List ℕ → ℕ → ChunkPayloadData → ℕ → List ℕ
+data_text form old base c ppid =
     old
-    ++ number_text form (codes "TSN") (codes "tsn") c.tsn
+    ++ number_text form (codes "TSN") (codes "tsn") (distance base c.tsn)
     ++ number_text form (codes "Stream identifier") (codes "stream") c.stream_identifier
     ++ number_text form (codes "Stream sequence number") (codes "ssn") c.stream_sequence_number
     ++ number_text form (codes "Payload protocol identifier") (codes "ppid") ppid
@@ -29,22 +30,23 @@ data_text form old c ppid =
     ++ truth_text form (codes "Immediate SACK") (codes "immediate") c.immediate_sack
     ++ bytes_text form (codes "User data") (codes "data") c.user_data
 
--- behind the old text, of the fixed part of an INIT or INIT-ACK (RFC 4960 3.3.2)
-abbrev pub init_text : Form → List ℕ → List ℕ → List ℕ
-init_text form old value =
+-- behind the old text, of the fixed part of an INIT or INIT-ACK (RFC 4960 3.3.2), its TSN relative to a base
+abbrev pub init_text : Form → List ℕ → ℕ → List ℕ → List ℕ
+init_text form old base value =
     old
     ++ number_text form (codes "Initiate tag") (codes "initiate_tag") (u32_at value 0)
     ++ number_text form (codes "Advertised receiver window credit") (codes "credit")
     (u32_at value 4)
     ++ number_text form (codes "Outbound streams") (codes "outbound_streams") (u16_at value 8)
     ++ number_text form (codes "Inbound streams") (codes "inbound_streams") (u16_at value 10)
-    ++ number_text form (codes "Initial TSN") (codes "initial_tsn") (u32_at value 12)
+    ++ number_text form (codes "Initial TSN") (codes "initial_tsn")
+    (distance base (u32_at value 12))
 
--- behind the old text, of I-DATA (RFC 8260 2.1)
-abbrev pub i_data_text : Form → List ℕ → List ℕ → List ℕ
-i_data_text form old value =
+-- behind the old text, of I-DATA (RFC 8260 2.1), its TSN relative to a base
+abbrev pub i_data_text : Form → List ℕ → ℕ → List ℕ → List ℕ
+i_data_text form old base value =
     old
-    ++ number_text form (codes "TSN") (codes "tsn") (u32_at value 0)
+    ++ number_text form (codes "TSN") (codes "tsn") (distance base (u32_at value 0))
     ++ number_text form (codes "Stream identifier") (codes "stream") (u16_at value 4)
     ++ number_text form (codes "Message identifier") (codes "mid") (u32_at value 8)
     ++ number_text form (codes "Payload protocol identifier or fragment") (codes "ppid_or_fsn")

@@ -7,3 +7,4 @@ pub mod Filter
 pub mod Time
 pub mod Text
 pub mod Run
+pub mod Mark

@@ -1,8 +1,13 @@
 //! What the line of a packet says of its chunks.
 
+ghost use Rattle.std.specs.Prelude.{◌≡◌, ◌++◌, decimal, OnOk};
+ghost use Rattle.std.specs.String.{string_bytes};
+ghost use Rattle.sctp_list_lemmas.specs.Serial.{distance};
+
 use crate::chunk_text::{type_of, u16_at, u32_at};
 use crate::dcep::put_brief_message;
 use crate::filter::{is_data, payload_type_of};
+use crate::follow::Bases;
 use crate::names::{ChunkName, parameter_name, payload_name};
 use crate::page::put_all;
 use itoa::Buffer;
@@ -10,6 +15,7 @@ use sctp_chunks::chunk::chunk_kind::ChunkKind;
 use sctp_chunks::chunk::chunk_selective_ack::ChunkSelectiveAck;
 use sctp_chunks::chunk::error_cause::ErrorCause;
 use sctp_dissect::dissection::{Item, Reading};
+use sctp_serial::serial::distance;
 use std::alloc::AllocError;
 
 /// The payload protocol identifier of DCEP (RFC 8832 8.1).
@@ -18,6 +24,15 @@ pub const DCEP: u32 = 50;
 /// Appends a number behind a word.
 fn put_number(text: &mut String, word: &str, number: u32) -> Result<(), AllocError> {
     put_all(text, &[word, Buffer::new().format(number)])
+}
+
+/// Appends a TSN behind a word: how far it lies after the base, modulo 2^32.
+fn put_tsn(text: &mut String, word: &str, base: u32, tsn: u32) -> Result<(), AllocError>
+    ensures { OnOk result (string_bytes text.new
+        ≡ string_bytes text.old ++ (word.now ++ decimal (distance base tsn))) }
+{
+    let mut buffer = Buffer::new();
+    put_all(text, &[word, buffer.format(distance(base, tsn))])
 }
 
 /// Appends the letters of the flags of DATA and I-DATA that are set, or a hyphen: immediate, unordered, beginning, end.
@@ -66,10 +81,10 @@ fn first_two(bytes: &[u8]) -> (u8, u8) {
 }
 
 /// DATA or I-DATA: the TSN, the stream and the number in it, the flags, the payload type (or the number of a fragment), and how long it is.
-fn put_brief_data(text: &mut String, bytes: &[u8]) -> Result<(), AllocError> {
+fn put_brief_data(text: &mut String, base: u32, bytes: &[u8]) -> Result<(), AllocError> {
     let (first, flags) = first_two(bytes);
     let is_interleaved = first == 64;
-    put_number(text, " ", u32_at(bytes, 4))?;
+    put_tsn(text, " ", base, u32_at(bytes, 4))?;
     put_number(text, " s", u16_at(bytes, 8) as u32)?;
     let number = if is_interleaved {
         u32_at(bytes, 12)
@@ -93,17 +108,17 @@ fn put_brief_data(text: &mut String, bytes: &[u8]) -> Result<(), AllocError> {
 }
 
 /// INIT or INIT-ACK: the tag, the credit, the streams and the TSN.
-fn put_brief_init(text: &mut String, bytes: &[u8]) -> Result<(), AllocError> {
+fn put_brief_init(text: &mut String, base: u32, bytes: &[u8]) -> Result<(), AllocError> {
     write!(text, " tag 0x{:08x}", u32_at(bytes, 4))?;
     put_number(text, " rwnd ", u32_at(bytes, 8))?;
     put_number(text, " streams ", u16_at(bytes, 12) as u32)?;
     put_number(text, "/", u16_at(bytes, 14) as u32)?;
-    put_number(text, " tsn ", u32_at(bytes, 16))
+    put_tsn(text, " tsn ", base, u32_at(bytes, 16))
 }
 
 /// SACK: the TSN, the credit, and how many gap blocks and duplicates there are.
-fn put_brief_sack(text: &mut String, c: &ChunkSelectiveAck) -> Result<(), AllocError> {
-    put_number(text, " ", c.cumulative_tsn_ack)?;
+fn put_brief_sack(text: &mut String, base: u32, c: &ChunkSelectiveAck) -> Result<(), AllocError> {
+    put_tsn(text, " ", base, c.cumulative_tsn_ack)?;
     put_number(text, " rwnd ", c.advertised_receiver_window_credit)?;
     if !c.gap_ack_blocks.is_empty() {
         put_all(
@@ -149,44 +164,49 @@ fn put_brief_reconfig(text: &mut String, bytes: &[u8]) -> Result<(), AllocError>
 }
 
 /// What is said of a chunk that is read.
-fn put_brief_strict(text: &mut String, chunk: &ChunkKind, bytes: &[u8]) -> Result<(), AllocError> {
+fn put_brief_strict(
+    text: &mut String,
+    bases: Bases,
+    chunk: &ChunkKind,
+    bytes: &[u8],
+) -> Result<(), AllocError> {
     match chunk {
-        ChunkKind::SelectiveAck(c) => put_brief_sack(text, c),
+        ChunkKind::SelectiveAck(c) => put_brief_sack(text, bases.other, c),
         ChunkKind::Abort(c) => {
             put_brief_reflected(text, bytes)?;
             put_brief_causes(text, &c.error_causes)
         }
         ChunkKind::Error(c) => put_brief_causes(text, &c.error_causes),
-        ChunkKind::Shutdown(c) => put_number(text, " ", c.cumulative_tsn_ack),
+        ChunkKind::Shutdown(c) => put_tsn(text, " ", bases.other, c.cumulative_tsn_ack),
         ChunkKind::ShutdownComplete(_) => put_brief_reflected(text, bytes),
-        ChunkKind::ForwardTsn(c) => put_number(text, " ", c.new_cumulative_tsn),
-        ChunkKind::IForwardTsn(c) => put_number(text, " ", c.new_cumulative_tsn),
+        ChunkKind::ForwardTsn(c) => put_tsn(text, " ", bases.own, c.new_cumulative_tsn),
+        ChunkKind::IForwardTsn(c) => put_tsn(text, " ", bases.own, c.new_cumulative_tsn),
         _ => Ok(()),
     }
 }
 
-/// The name of a chunk, and what the fixed part of DATA, I-DATA, INIT or INIT-ACK says, if all of it is there.
-pub fn put_brief_cut(text: &mut String, bytes: &[u8]) -> Result<(), AllocError> {
+/// The name of a chunk, and what the fixed part of DATA, I-DATA, INIT or INIT-ACK says, if all of it is there, its TSN relative to a base.
+pub fn put_brief_cut(text: &mut String, base: u32, bytes: &[u8]) -> Result<(), AllocError> {
     let (typ, _) = first_two(bytes);
     ChunkName(typ).put(text)?;
     if is_data(bytes) {
-        return put_brief_data(text, bytes);
+        return put_brief_data(text, base, bytes);
     }
     if (typ == 1 || typ == 2) && bytes.len() >= 20 {
-        return put_brief_init(text, bytes);
+        return put_brief_init(text, base, bytes);
     }
     Ok(())
 }
 
-/// What the line of a packet says of a chunk, its name first.
-pub fn put_brief(text: &mut String, item: &Item) -> Result<(), AllocError> {
+/// What the line of a packet says of a chunk, its name first, and TSNs relative to these bases.
+pub fn put_brief(text: &mut String, bases: Bases, item: &Item) -> Result<(), AllocError> {
     let bytes = item.bytes.as_slice();
-    put_brief_cut(text, bytes)?;
+    put_brief_cut(text, bases.own, bytes)?;
     if type_of(item) == 130 {
         put_brief_reconfig(text, bytes)?;
     }
     match &item.reading {
-        Reading::Strict(chunk) => put_brief_strict(text, chunk, bytes),
+        Reading::Strict(chunk) => put_brief_strict(text, bases, chunk, bytes),
         Reading::Raw(raw) => write!(text, " [{}]", raw.refusal),
     }
 }

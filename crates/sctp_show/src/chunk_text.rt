@@ -7,6 +7,7 @@ ghost use Rattle.sctp_show.specs.ChunkText.{data_text, init_text, i_data_text, p
 
 use crate::brief::DCEP;
 use crate::dcep::put_message;
+use crate::follow::Bases;
 use crate::names::{ChunkName, parameter_name, payload_name};
 use crate::page::{Form, Page};
 use bytes::Bytes;
@@ -21,6 +22,7 @@ use sctp_chunks::chunk::error_cause::{ErrorCause, ErrorCauseCode};
 use sctp_dissect::causes::{CauseItem, dissect_causes};
 use sctp_dissect::dissection::{Item, RawChunk, Reading};
 use sctp_dissect::params::{ParamItem, ParamReading, dissect_params};
+use sctp_serial::serial::distance;
 use std::alloc::{AllocError, Global};
 
 /// The type of I-DATA (RFC 8260 2.1).
@@ -64,18 +66,19 @@ fn put_payload_name(page: &mut Page, ppid: u32) -> Result<(), AllocError>
     page.words("Payload type", "payload_type", name)
 }
 
-/// DATA, with the payload type that stands in its bytes.
+/// DATA, with its TSN relative to a base, and the payload type that stands in its bytes.
 fn put_data(
     alloc: Global,
     page: &mut Page,
+    base: u32,
     c: &ChunkPayloadData,
     ppid: u32,
 ) -> Result<(), AllocError>
     ensures { OnOk result (string_bytes page.new.text
-        ≡ data_text page.old.form (string_bytes page.old.text) c.now ppid) }
+        ≡ data_text page.old.form (string_bytes page.old.text) base c.now ppid) }
 {
     let bytes = c.user_data.as_slice();
-    page.number("TSN", "tsn", c.tsn)?;
+    page.number("TSN", "tsn", distance(base, c.tsn))?;
     page.number("Stream identifier", "stream", c.stream_identifier as u32)?;
     page.number(
         "Stream sequence number",
@@ -92,11 +95,11 @@ fn put_data(
     Ok(())
 }
 
-/// The fixed part of an INIT or INIT-ACK, as it stands in the first sixteen bytes of its value.
-fn put_init(page: &mut Page, value: &[u8]) -> Result<(), AllocError>
+/// The fixed part of an INIT or INIT-ACK, as it stands in the first sixteen bytes of its value, its TSN relative to a base.
+fn put_init(page: &mut Page, base: u32, value: &[u8]) -> Result<(), AllocError>
     requires { 16 ≤ length value.now }
     ensures { OnOk result (string_bytes page.new.text
-        ≡ init_text page.old.form (string_bytes page.old.text) value.now) }
+        ≡ init_text page.old.form (string_bytes page.old.text) base value.now) }
 {
     page.number("Initiate tag", "initiate_tag", read_u32(value, 0))?;
     page.number(
@@ -114,18 +117,22 @@ fn put_init(page: &mut Page, value: &[u8]) -> Result<(), AllocError>
         "inbound_streams",
         read_u16(value, 10) as u32,
     )?;
-    page.number("Initial TSN", "initial_tsn", read_u32(value, 12))?;
+    page.number(
+        "Initial TSN",
+        "initial_tsn",
+        distance(base, read_u32(value, 12)),
+    )?;
     Ok(())
 }
 
-/// I-DATA, for show (RFC 8260 2.1).
-fn put_i_data(alloc: Global, page: &mut Page, value: &[u8]) -> Result<(), AllocError>
+/// I-DATA, for show (RFC 8260 2.1), its TSN relative to a base.
+fn put_i_data(alloc: Global, page: &mut Page, base: u32, value: &[u8]) -> Result<(), AllocError>
     requires { 16 ≤ length value.now }
     ensures { OnOk result (string_bytes page.new.text
-        ≡ i_data_text page.old.form (string_bytes page.old.text) value.now) }
+        ≡ i_data_text page.old.form (string_bytes page.old.text) base value.now) }
 {
     let (_, bytes) = value.split_at(16);
-    page.number("TSN", "tsn", read_u32(value, 0))?;
+    page.number("TSN", "tsn", distance(base, read_u32(value, 0)))?;
     page.number("Stream identifier", "stream", read_u16(value, 4) as u32)?;
     page.number("Message identifier", "mid", read_u32(value, 8))?;
     page.number(
@@ -148,24 +155,25 @@ fn put_gaps(page: &mut Page, blocks: &[GapAckBlock]) -> Result<(), AllocError> {
     Ok(())
 }
 
-fn put_duplicates(page: &mut Page, duplicates: &[u32]) -> Result<(), AllocError> {
+fn put_duplicates(page: &mut Page, base: u32, duplicates: &[u32]) -> Result<(), AllocError> {
     let mut is_first = true;
     for tsn in duplicates {
-        page.row(is_first, "Duplicate TSN", "tsn", *tsn)?;
+        page.row(is_first, "Duplicate TSN", "tsn", distance(base, *tsn))?;
         page.in_json("}")?;
         is_first = false;
     }
     Ok(())
 }
 
-fn put_sack(page: &mut Page, c: &ChunkSelectiveAck) -> Result<(), AllocError> {
+fn put_sack(page: &mut Page, base: u32, c: &ChunkSelectiveAck) -> Result<(), AllocError> {
+    let cumulative = distance(base, c.cumulative_tsn_ack);
     let credit = c.advertised_receiver_window_credit;
-    page.number("Cumulative TSN ack", "cumulative", c.cumulative_tsn_ack)?;
+    page.number("Cumulative TSN ack", "cumulative", cumulative)?;
     page.number("Advertised receiver window credit", "credit", credit)?;
     page.in_json(",\"gaps\":[")?;
     put_gaps(page, &c.gap_ack_blocks)?;
     page.in_json("],\"duplicates\":[")?;
-    put_duplicates(page, &c.duplicate_tsn)?;
+    put_duplicates(page, base, &c.duplicate_tsn)?;
     page.in_json("]")
 }
 
@@ -282,8 +290,9 @@ fn put_raw_causes(alloc: Global, page: &mut Page, raw: Bytes) -> Result<(), Allo
     put_list_end(alloc, page, causes.rest.as_slice())
 }
 
-fn put_forward_tsn(page: &mut Page, c: &ChunkForwardTsn) -> Result<(), AllocError> {
-    page.number("New cumulative TSN", "new_cumulative", c.new_cumulative_tsn)?;
+fn put_forward_tsn(page: &mut Page, base: u32, c: &ChunkForwardTsn) -> Result<(), AllocError> {
+    let cumulative = distance(base, c.new_cumulative_tsn);
+    page.number("New cumulative TSN", "new_cumulative", cumulative)?;
     page.in_json(",\"streams\":[")?;
     let mut is_first = true;
     for s in &c.streams {
@@ -298,10 +307,12 @@ fn put_forward_tsn(page: &mut Page, c: &ChunkForwardTsn) -> Result<(), AllocErro
 /// The flags of an entry are all sixteen bits between its stream and its message identifier.
 fn put_i_forward_tsn(
     page: &mut Page,
+    base: u32,
     c: &ChunkIForwardTsn,
     bytes: &[u8],
 ) -> Result<(), AllocError> {
-    page.number("New cumulative TSN", "new_cumulative", c.new_cumulative_tsn)?;
+    let cumulative = distance(base, c.new_cumulative_tsn);
+    page.number("New cumulative TSN", "new_cumulative", cumulative)?;
     page.in_json(",\"streams\":[")?;
     let mut at = 10usize;
     for s in &c.streams {
@@ -325,12 +336,17 @@ fn value_in(item: &Item) -> Result<Bytes, AllocError> {
 }
 
 /// An INIT or INIT-ACK, or what there is of one.
-fn put_whole_init(alloc: Global, page: &mut Page, value: Bytes) -> Result<(), AllocError> {
+fn put_whole_init(
+    alloc: Global,
+    page: &mut Page,
+    base: u32,
+    value: Bytes,
+) -> Result<(), AllocError> {
     if value.len() < 16 {
         return page.bytes(alloc, "Value", "value", value.as_slice());
     }
     let params = value.slice(16..value.len())?;
-    put_init(page, value.as_slice())?;
+    put_init(page, base, value.as_slice())?;
     put_params(alloc, page, params)
 }
 
@@ -338,10 +354,11 @@ fn put_whole_init(alloc: Global, page: &mut Page, value: Bytes) -> Result<(), Al
 fn put_whole_data(
     alloc: Global,
     page: &mut Page,
+    base: u32,
     c: &ChunkPayloadData,
     ppid: u32,
 ) -> Result<(), AllocError> {
-    put_data(alloc, page, c, ppid)?;
+    put_data(alloc, page, base, c, ppid)?;
     if ppid == DCEP && c.beginning_fragment && c.ending_fragment {
         return put_message(page, c.user_data.as_slice());
     }
@@ -358,14 +375,15 @@ fn put_reflected(page: &mut Page, bytes: &[u8]) -> Result<(), AllocError> {
 fn put_strict(
     alloc: Global,
     page: &mut Page,
+    bases: Bases,
     chunk: &ChunkKind,
     item: &Item,
 ) -> Result<(), AllocError> {
     let bytes = item.bytes.as_slice();
     match chunk {
-        ChunkKind::PayloadData(c) => put_whole_data(alloc, page, c, u32_at(bytes, 12)),
-        ChunkKind::Init(_) => put_whole_init(alloc, page, value_in(item)?),
-        ChunkKind::SelectiveAck(c) => put_sack(page, c),
+        ChunkKind::PayloadData(c) => put_whole_data(alloc, page, bases.own, c, u32_at(bytes, 12)),
+        ChunkKind::Init(_) => put_whole_init(alloc, page, bases.own, value_in(item)?),
+        ChunkKind::SelectiveAck(c) => put_sack(page, bases.other, c),
         ChunkKind::Heartbeat(_) | ChunkKind::HeartbeatAck(_) | ChunkKind::Reconfig(_) => {
             put_params(alloc, page, value_in(item)?)
         }
@@ -376,11 +394,12 @@ fn put_strict(
         ChunkKind::ShutdownComplete(_) => put_reflected(page, bytes),
         ChunkKind::Error(c) => put_causes(alloc, page, &c.error_causes),
         ChunkKind::Shutdown(c) => {
-            page.number("Cumulative TSN ack", "cumulative", c.cumulative_tsn_ack)
+            let cumulative = distance(bases.other, c.cumulative_tsn_ack);
+            page.number("Cumulative TSN ack", "cumulative", cumulative)
         }
         ChunkKind::CookieEcho(c) => page.bytes(alloc, "Cookie", "cookie", c.cookie.as_slice()),
-        ChunkKind::ForwardTsn(c) => put_forward_tsn(page, c),
-        ChunkKind::IForwardTsn(c) => put_i_forward_tsn(page, c, bytes),
+        ChunkKind::ForwardTsn(c) => put_forward_tsn(page, bases.own, c),
+        ChunkKind::IForwardTsn(c) => put_i_forward_tsn(page, bases.own, c, bytes),
         _ => Ok(()),
     }
 }
@@ -392,12 +411,17 @@ fn put_refusal(alloc: Global, page: &mut Page, refusal: &Error) -> Result<(), Al
 }
 
 /// I-DATA, the name of its payload type, and the message of DCEP that it holds, if it holds all of one.
-fn put_whole_i_data(alloc: Global, page: &mut Page, raw: &RawChunk) -> Result<(), AllocError> {
+fn put_whole_i_data(
+    alloc: Global,
+    page: &mut Page,
+    base: u32,
+    raw: &RawChunk,
+) -> Result<(), AllocError> {
     let value = raw.value.as_slice();
     if value.len() < 16 {
         return page.bytes(alloc, "Value", "value", value);
     }
-    put_i_data(alloc, page, value)?;
+    put_i_data(alloc, page, base, value)?;
     let ppid = u32_at(value, 12);
     if raw.flags / 2 % 2 == 0 {
         return Ok(());
@@ -410,12 +434,12 @@ fn put_whole_i_data(alloc: Global, page: &mut Page, raw: &RawChunk) -> Result<()
 }
 
 /// What a chunk shows that is refused.
-fn put_raw(alloc: Global, page: &mut Page, raw: &RawChunk) -> Result<(), AllocError> {
+fn put_raw(alloc: Global, page: &mut Page, base: u32, raw: &RawChunk) -> Result<(), AllocError> {
     put_refusal(alloc, page, &raw.refusal)?;
     let value = raw.value.as_slice();
     match raw.typ.0 {
-        I_DATA => put_whole_i_data(alloc, page, raw),
-        1 | 2 => put_whole_init(alloc, page, raw.value.clone()?),
+        I_DATA => put_whole_i_data(alloc, page, base, raw),
+        1 | 2 => put_whole_init(alloc, page, base, raw.value.clone()?),
         4 | 5 | 130 => put_params(alloc, page, raw.value.clone()?),
         6 | 9 => put_raw_causes(alloc, page, raw.value.clone()?),
         _ => page.bytes(alloc, "Value", "value", value),
@@ -423,14 +447,14 @@ fn put_raw(alloc: Global, page: &mut Page, raw: &RawChunk) -> Result<(), AllocEr
 }
 
 /// What a chunk says, or shows.
-fn body_of(alloc: Global, form: Form, item: &Item) -> Result<Page, AllocError> {
+fn body_of(alloc: Global, form: Form, bases: Bases, item: &Item) -> Result<Page, AllocError> {
     let mut body = Page::new(alloc, form);
     if form == Form::Json {
         body.bytes(alloc, "Bytes", "bytes", item.bytes.as_slice())?;
     }
     match &item.reading {
-        Reading::Strict(chunk) => put_strict(alloc, &mut body, chunk, item)?,
-        Reading::Raw(raw) => put_raw(alloc, &mut body, raw)?,
+        Reading::Strict(chunk) => put_strict(alloc, &mut body, bases, chunk, item)?,
+        Reading::Raw(raw) => put_raw(alloc, &mut body, bases.own, raw)?,
     }
     Ok(body)
 }
@@ -498,10 +522,11 @@ fn put_framed(
     }
 }
 
-/// The block of a chunk.
+/// The block of a chunk, its TSNs relative to these bases.
 pub fn put_block(
     alloc: Global,
     page: &mut Page,
+    bases: Bases,
     item: &Item,
     is_first: bool,
 ) -> Result<(), AllocError> {
@@ -513,6 +538,6 @@ pub fn put_block(
         length: u16_at(item.bytes.as_slice(), 2),
     };
     let digits = hex::encode(alloc, [head.flags].as_slice())?;
-    let body = body_of(alloc, page.form, item)?;
+    let body = body_of(alloc, page.form, bases, item)?;
     put_framed(page, is_first, &name, &digits, head, &body.text)
 }

@@ -6,6 +6,8 @@ pub mod checksum;
 pub mod chunk_text;
 pub mod dcep;
 pub mod filter;
+pub mod follow;
+pub mod mark;
 pub mod names;
 pub mod page;
 pub mod run;

@@ -6,6 +6,7 @@ ghost use Rattle.sctp_capture.specs.Blocks.{known_of};
 ghost use Rattle.sctp_capture.specs.Input.{IsInput, unread_in};
 ghost use Rattle.sctp_show.specs.Run.{PrintsRecord, Prints};
 
+use crate::follow::Follow;
 use crate::summary::Summary;
 use crate::text::{Options, record_text};
 use sctp_capture::blocks::{Section, Taken};
@@ -69,11 +70,12 @@ fn write_text<W: Write>(output: &mut W, text: &str) -> Result<(), RunFault>
 }
 
 /// Prints a record, if it is to be shown. Answers how many were, 0 or 1.
-fn print_record<W: Write>(
+fn print_record<F: Follow, W: Write>(
     alloc: Global,
     options: &Options,
     number: u64,
     record: Record,
+    follower: &mut F,
     summary: &mut Summary,
     output: &mut W,
 ) -> Result<u64, RunFault>
@@ -81,7 +83,7 @@ fn print_record<W: Write>(
     ensures prints { IfOk result (λ shown. PrintsRecord options.now number «record» shown
         (W.contents output.old) (W.contents output.new)) }
 {
-    let text = record_text(alloc, options, number, &record, summary)?;
+    let text = record_text(alloc, options, number, &record, follower, summary)?;
     write_text(output, &text)?;
     if text.is_empty() {
         return Ok(0);
@@ -117,11 +119,12 @@ fn finish<W: Write>(
 
 /// Prints each record of an input in order that has what is asked for, and a line that sums them up. Ends early where as many are shown as
 /// are to be shown at most. Answers how many records were read, how many of them have no frame, and how many are shown.
-/// What was printed is sent off before more of the input is waited for. An input of a kind that is known, but not read, is refused.
-pub fn run<R: Read + Drop, W: Write>(
+/// Each packet is noted by the follower before it is printed. What was printed is sent off before more of the input is waited for. An input of a kind that is known, but not read, is refused.
+pub fn run<R: Read + Drop, F: Follow, W: Write>(
     alloc: Global,
     options: &Options,
     input: R,
+    follower: &mut F,
     output: &mut W,
 ) -> Result<Counts, RunFault>
     ensures prints { IfOk result (λ counts. (records : List Record) × (counts.records ≡ length records)
@@ -153,7 +156,15 @@ pub fn run<R: Read + Drop, W: Write>(
             Taken::Record(record) => {
                 records += 1;
                 unread += unread_of(&record);
-                shown += print_record(alloc, options, records, record, &mut summary, output)?;
+                shown += print_record(
+                    alloc,
+                    options,
+                    records,
+                    record,
+                    follower,
+                    &mut summary,
+                    output,
+                )?;
             }
             Taken::Nothing => {}
             Taken::End => {

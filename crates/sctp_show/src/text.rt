@@ -9,7 +9,9 @@ ghost use Rattle.sctp_show.specs.Filter.{passes};
 use crate::brief::{put_brief, put_brief_cut};
 use crate::checksum::{Sum, sum_for};
 use crate::chunk_text::put_block;
-use crate::filter::Filter;
+use crate::filter::{Filter, is_refused};
+use crate::follow::{Bases, Follow, Known, bases_for};
+use crate::mark::{mark_of, put_marked};
 use crate::page::{Form, Page, put_all, put_quoted};
 use crate::summary::Summary;
 use crate::time::time_since;
@@ -31,6 +33,8 @@ pub struct Options {
     pub is_full: bool,
     /// Whether times are as they were captured, and not since the first record, where records are printed as text. JSON has them so in any case.
     pub is_absolute: bool,
+    /// Whether lines of packets that are refused, or repeat a TSN, are colored, where records are printed as text.
+    pub is_colored: bool,
     /// Which packets are shown.
     pub filter: Filter,
     /// How many records are shown at most.
@@ -144,55 +148,77 @@ fn put_checksum(page: &mut Page, header: &Header, sum: Sum) -> Result<(), AllocE
 }
 
 /// The chunks of a packet, a word or a few of each.
-fn put_briefs(text: &mut String, items: &[Item]) -> Result<(), AllocError> {
+fn put_briefs(text: &mut String, bases: Bases, items: &[Item]) -> Result<(), AllocError> {
     let mut lead = " ";
     for item in items {
         text.push_str(lead)?;
-        put_brief(text, item)?;
+        put_brief(text, bases, item)?;
         lead = ", ";
     }
     Ok(())
 }
 
-/// Why bytes are left over, if any are, and the end of the line.
+/// Why bytes are left over, if any are.
 fn put_stop(text: &mut String, fault: Option<WalkFault>) -> Result<(), AllocError> {
     match fault {
-        Some(fault) => write!(text, " [{fault:?}]\n"),
-        None => text.push_str("\n"),
+        Some(fault) => write!(text, " [{fault:?}]"),
+        None => Ok(()),
     }
 }
 
-/// What is there of a chunk that is cut off, how many bytes are missing, and the end of the line.
-fn put_missing(text: &mut String, seen: &Dissection, missing: usize) -> Result<(), AllocError> {
+/// What is there of a chunk that is cut off, and how many bytes are missing.
+fn put_missing(
+    text: &mut String,
+    base: u32,
+    seen: &Dissection,
+    missing: usize,
+) -> Result<(), AllocError> {
     if seen.fault == Some(WalkFault::LengthPastEnd) {
         text.push_str(if seen.items.is_empty() { " " } else { ", " })?;
-        put_brief_cut(text, seen.rest.as_slice())?;
+        put_brief_cut(text, base, seen.rest.as_slice())?;
     }
     put_all(
         text,
-        &[" [", Buffer::new().format(missing), " bytes missing]\n"],
+        &[" [", Buffer::new().format(missing), " bytes missing]"],
     )
 }
 
+/// What the line of a packet says behind its chunks: why bytes are left over, or what is there of a chunk that is cut off, and how many
+/// bytes are missing.
+pub fn put_tail(
+    text: &mut String,
+    bases: Bases,
+    seen: &Dissection,
+    missing: usize,
+) -> Result<(), AllocError> {
+    if missing > 0 {
+        return put_missing(text, bases.own, seen, missing);
+    }
+    put_stop(text, seen.fault)
+}
+
 /// The line of a packet behind its addresses.
-fn put_line(page: &mut Page, seen: &Dissection, missing: usize) -> Result<(), AllocError> {
+fn put_line(
+    page: &mut Page,
+    bases: Bases,
+    seen: &Dissection,
+    missing: usize,
+) -> Result<(), AllocError> {
     if let Some(header) = &seen.header {
         put_header(page, header)?;
     }
     if !page.is_text() {
         return Ok(());
     }
-    put_briefs(&mut page.text, &seen.items)?;
-    if missing > 0 {
-        return put_missing(&mut page.text, seen, missing);
-    }
-    put_stop(&mut page.text, seen.fault)
+    put_briefs(&mut page.text, bases, &seen.items)?;
+    put_tail(&mut page.text, bases, seen, missing)
 }
 
 /// The blocks below the line of a packet.
 fn put_blocks(
     alloc: Global,
     page: &mut Page,
+    bases: Bases,
     seen: &Dissection,
     sum: Sum,
 ) -> Result<(), AllocError> {
@@ -202,7 +228,7 @@ fn put_blocks(
     page.in_json(",\"chunks\":[")?;
     let mut is_first = true;
     for item in &seen.items {
-        put_block(alloc, page, item, is_first)?;
+        put_block(alloc, page, bases, item, is_first)?;
         is_first = false;
     }
     page.in_json("]")
@@ -238,13 +264,14 @@ fn put_below(
     alloc: Global,
     page: &mut Page,
     options: &Options,
+    bases: Bases,
     seen: &Dissection,
     missing: usize,
 ) -> Result<(), AllocError> {
     if page.is_text() && !options.is_full {
         return Ok(());
     }
-    put_blocks(alloc, page, seen, sum_for(options.sum, missing))?;
+    put_blocks(alloc, page, bases, seen, sum_for(options.sum, missing))?;
     put_rest(alloc, page, seen)?;
     put_missing_member(page, missing)?;
     page.in_json("}\n")
@@ -258,12 +285,20 @@ fn seen_text(
     record: &Record,
     datagram: &Datagram<'_>,
     seen: &Dissection,
+    known: Known,
 ) -> Result<String, AllocError> {
+    let missing = datagram.missing;
+    let bases = bases_for(options.form, known.bases);
+    let mut line = Page::new(alloc, options.form);
+    put_time(&mut line, options, start, &record.time)?;
+    put_ends(&mut line, record.direction, datagram)?;
+    put_line(&mut line, bases, seen, missing)?;
+    let is_refused = missing == 0 && is_refused(seen);
+    let mark = mark_of(options.is_colored, is_refused, known.is_repeated);
     let mut page = Page::new(alloc, options.form);
-    put_time(&mut page, options, start, &record.time)?;
-    put_ends(&mut page, record.direction, datagram)?;
-    put_line(&mut page, seen, datagram.missing)?;
-    put_below(alloc, &mut page, options, seen, datagram.missing)?;
+    put_marked(&mut page.text, mark, &line.text)?;
+    page.in_text("\n")?;
+    put_below(alloc, &mut page, options, bases, seen, missing)?;
     Ok(page.text)
 }
 
@@ -283,6 +318,7 @@ fn passed_text(
     record: &Record,
     datagram: &Datagram<'_>,
     seen: &Dissection,
+    known: Known,
     summary: &mut Summary,
 ) -> Result<String, AllocError>
     ensures shown { IfOk result (λ text. passes options.now.filter seen.now ≡ true
@@ -297,17 +333,26 @@ fn passed_text(
     }
     let missing = datagram.missing;
     summary.count_packet(seen, sum_for(options.sum, missing), missing);
-    let shown = seen_text(alloc, options, &summary.start, record, datagram, seen)?;
+    let shown = seen_text(
+        alloc,
+        options,
+        &summary.start,
+        record,
+        datagram,
+        seen,
+        known,
+    )?;
     numbered(alloc, options.form, number, &shown)
 }
 
 /// The same by what the datagram shows.
-fn packet_text(
+fn packet_text<F: Follow>(
     alloc: Global,
     options: &Options,
     number: u64,
     record: &Record,
     datagram: &Datagram<'_>,
+    follower: &mut F,
     summary: &mut Summary,
 ) -> Result<String, AllocError>
     ensures { IfOk result (λ text. IsPacketText options.now number datagram.now.bytes.now
@@ -318,7 +363,10 @@ fn packet_text(
         sum_for(options.sum, datagram.missing),
         datagram.bytes,
     )?;
-    passed_text(alloc, options, number, record, datagram, &seen, summary)
+    let known = follower.note(alloc, &seen, datagram.ends)?;
+    passed_text(
+        alloc, options, number, record, datagram, &seen, known, summary,
+    )
 }
 
 /// A record's number, and what it shows.
@@ -360,19 +408,20 @@ fn fault_line(
 }
 
 /// The text of a record that has a frame.
-fn frame_text(
+fn frame_text<F: Follow>(
     alloc: Global,
     options: &Options,
     number: u64,
     record: &Record,
     frame: &Bytes,
+    follower: &mut F,
     summary: &mut Summary,
 ) -> Result<String, AllocError>
     ensures { IfOk result (λ text. IsFrameText options.now number «record».now.link_type frame.now
         (string_bytes text)) }
 {
     match datagram_in(record.link_type, frame.as_slice(), options.port) {
-        Ok(datagram) => packet_text(alloc, options, number, record, &datagram, summary),
+        Ok(datagram) => packet_text(alloc, options, number, record, &datagram, follower, summary),
         Err(fault) => fault_line(alloc, options, number, fault, summary),
     }
 }
@@ -390,18 +439,19 @@ pub fn heading(alloc: Global, form: Form, name: &str) -> Result<String, AllocErr
 }
 
 /// The text of a record, if it is to be shown.
-pub fn record_text(
+pub fn record_text<F: Follow>(
     alloc: Global,
     options: &Options,
     number: u64,
     record: &Record,
+    follower: &mut F,
     summary: &mut Summary,
 ) -> Result<String, AllocError>
     ensures { IfOk result (λ text. IsText options.now number «record».now (string_bytes text)) }
 {
     summary.note_time(&record.time);
     match &record.frame {
-        Ok(frame) => frame_text(alloc, options, number, record, frame, summary),
+        Ok(frame) => frame_text(alloc, options, number, record, frame, follower, summary),
         Err(fault) => fault_line(alloc, options, number, *fault, summary),
     }
 }

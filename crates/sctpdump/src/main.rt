@@ -3,16 +3,19 @@
 
 use clap::{Arg, ArgAction, ArgMatches, Command};
 use sctp_follow::associations::Associations;
+use sctp_follow::ladder::{Ladders, Style};
 use sctp_follow::summarize::summarize;
 use sctp_follow::text::summary_text;
+use sctp_follow::track::Tracker;
 use sctp_show::checksum::Sum;
 use sctp_show::filter::Filter;
+use sctp_show::follow::Alone;
 use sctp_show::page::Form;
 use sctp_show::run::{Counts, RunFault, run};
 use sctp_show::text::{Options, heading};
 use std::alloc::{AllocError, Global};
 use std::fmt::Display;
-use std::io::{self, BufWriter, ErrorKind, Read, Write};
+use std::io::{self, BufWriter, ErrorKind, IsTerminal, Read, Write};
 use std::process::ExitCode;
 use std::{env, fs};
 
@@ -36,10 +39,18 @@ const FULL_HELP: &str = "Print all that each chunk says, as lines";
 
 const ABSOLUTE_HELP: &str = "Print times as they were captured, not since the first record";
 
+const RELATIVE_HELP: &str =
+    "Print TSNs relative to the initial one of their way, or the first one seen; not in JSON";
+
+const COLOR_HELP: &str =
+    "Color packets that are refused or repeat a TSN: auto (on a terminal), always or never";
+
 const JSON_HELP: &str = "Print each record as a JSON object on a line, with all that it says";
 
 const SUMMARY_HELP: &str =
     "Print no packets, but for each association what went each way: chunks, bytes, TSNs, streams";
+
+const FLOW_HELP: &str = "Print the packets of each association as arrows between its two ends";
 
 const COUNT_HELP: &str = "End after COUNT records are shown";
 
@@ -126,12 +137,56 @@ fn run_summary<R: Read + Drop, W: Write>(
     Ok(counts)
 }
 
+/// Prints the ladders of an input.
+fn run_ladders<R: Read + Drop, W: Write>(
+    alloc: Global,
+    task: &Task,
+    input: R,
+    output: &mut W,
+) -> Result<Counts, RunFault> {
+    let style = Style {
+        is_absolute: task.options.is_absolute,
+        is_relative: task.is_relative,
+        is_colored: task.options.is_colored,
+    };
+    let mut ladders = Ladders::new(alloc, style);
+    let counts = summarize(alloc, &task.options, input, &mut ladders)?;
+    let text = ladders.text(alloc, counts)?;
+    write_out(output, &text)?;
+    Ok(counts)
+}
+
+/// What is printed of an input.
+#[derive(Clone, Copy, PartialEq, Eq)]
+enum View {
+    Records,
+    /// What they are summed up to.
+    Summary,
+    /// The packets between the ends of their associations.
+    Ladders,
+}
+
 /// How an input is printed.
 #[derive(Drop)]
 struct Task {
     options: Options,
-    /// Whether only what it is summed up to is printed.
-    is_summary: bool,
+    view: View,
+    /// Whether TSNs are printed relative to those that they are counted from.
+    is_relative: bool,
+}
+
+/// Prints the records of an input. The packets before one are kept in mind only where its line depends on them.
+fn run_records<R: Read + Drop, W: Write>(
+    alloc: Global,
+    task: &Task,
+    input: R,
+    output: &mut W,
+) -> Result<Counts, RunFault> {
+    if task.is_relative || task.options.is_colored {
+        let mut tracker = Tracker::new(alloc, task.is_relative);
+        return run(alloc, &task.options, input, &mut tracker, output);
+    }
+    run(alloc, &task.options, input, &mut Alone, output)
 }
 
 /// Prints an input, and says what went wrong. Answers whether all of it was read.
@@ -142,10 +197,10 @@ fn run_on<R: Read + Drop>(
     input: R,
 ) -> anyhow::Result<bool> {
     let mut output = BufWriter::with_capacity(rt.alloc(), AT_ONCE, io::writer(rt))?;
-    let result = if task.is_summary {
-        run_summary(rt.alloc(), &task.options, input, &mut output)
-    } else {
-        run(rt.alloc(), &task.options, input, &mut output)
+    let result = match task.view {
+        View::Records => run_records(rt.alloc(), task, input, &mut output),
+        View::Summary => run_summary(rt.alloc(), &task.options, input, &mut output),
+        View::Ladders => run_ladders(rt.alloc(), task, input, &mut output),
     };
     match (result, output.flush()) {
         (Err(fault), _) => report_fault(rt, name, fault),
@@ -190,6 +245,24 @@ fn count_of(word: Option<&str>) -> Option<u64> {
     match word {
         None => Some(u64::MAX),
         Some(word) => word.parse::<u64>().ok(),
+    }
+}
+
+/// Whether the environment asks for no color (no-color.org).
+fn refuses_color(rt: &HostRuntime) -> bool {
+    match env::var(rt, "NO_COLOR") {
+        Ok(value) => !value.is_empty(),
+        Err(_) => false,
+    }
+}
+
+/// Whether lines are colored, by a word: on a terminal where there is no word, or `auto`.
+fn is_colored_by(rt: &HostRuntime, word: Option<&str>) -> Option<bool> {
+    match word {
+        None | Some("auto") => Some(rt.stdout().is_terminal() && !refuses_color(rt)),
+        Some("always") => Some(true),
+        Some("never") => Some(false),
+        Some(_) => None,
     }
 }
 
@@ -239,8 +312,11 @@ fn with_forms<'a>(alloc: Global, command: Command<'a>) -> Result<Command<'a>, Al
     command
         .arg(flag(alloc, "full", FULL_HELP).short('V'))?
         .arg(flag(alloc, "absolute", ABSOLUTE_HELP).short('t'))?
+        .arg(flag(alloc, "relative", RELATIVE_HELP))?
+        .arg(valued(alloc, "color", "WHEN", COLOR_HELP))?
         .arg(flag(alloc, "json", JSON_HELP))?
-        .arg(flag(alloc, "summary", SUMMARY_HELP))
+        .arg(flag(alloc, "summary", SUMMARY_HELP))?
+        .arg(flag(alloc, "flow", FLOW_HELP))
 }
 
 /// Adds the words that say which records are printed.
@@ -281,8 +357,21 @@ fn filter_in<'a>(
     Ok(Ok(filter))
 }
 
+/// What is to be printed. Ladders are text, and stand alone.
+fn view_in(matches: &ArgMatches<'_>) -> Option<View> {
+    let is_other = matches.get_flag("json")
+        || matches.get_flag("summary")
+        || matches.get_flag("full");
+    match (matches.get_flag("flow"), matches.get_flag("summary")) {
+        (true, _) if is_other => None,
+        (true, _) => Some(View::Ladders),
+        (false, true) => Some(View::Summary),
+        (false, false) => Some(View::Records),
+    }
+}
+
 /// How records are to be looked at, if the port and the count are numbers that can be.
-fn options_in(matches: &ArgMatches<'_>, filter: Filter) -> Option<Options> {
+fn options_in(matches: &ArgMatches<'_>, filter: Filter, is_colored: bool) -> Option<Options> {
     let port = port_of(matches.get_str("port"))?;
     let limit = count_of(matches.get_str("count"))?;
     let sum = if matches.get_flag("no-checksum") {
@@ -301,6 +390,7 @@ fn options_in(matches: &ArgMatches<'_>, filter: Filter) -> Option<Options> {
         form,
         is_full: matches.get_flag("full"),
         is_absolute: matches.get_flag("absolute"),
+        is_colored: is_colored && form == Form::Text,
         filter,
         limit,
     })
@@ -340,13 +430,22 @@ fn main(rt: HostRuntime) -> anyhow::Result<ExitCode> {
             return Ok(ExitCode::from(2));
         }
     };
-    let Some(options) = options_in(&matches, filter) else {
+    let Some(is_colored) = is_colored_by(&rt, matches.get_str("color")) else {
+        eprintln!(rt; "sctpdump: --color is auto, always or never")?;
+        return Ok(ExitCode::from(2));
+    };
+    let Some(options) = options_in(&matches, filter, is_colored) else {
         eprintln!(rt; "sctpdump: the port is a number up to 65535, and the count a number")?;
+        return Ok(ExitCode::from(2));
+    };
+    let Some(view) = view_in(&matches) else {
+        eprintln!(rt; "sctpdump: --flow is without --json, --summary and -V")?;
         return Ok(ExitCode::from(2));
     };
     let task = Task {
         options,
-        is_summary: matches.get_flag("summary"),
+        view,
+        is_relative: matches.get_flag("relative"),
     };
     run_files(&rt, &task, matches.get_strs("file").unwrap_or(&[]))
 }

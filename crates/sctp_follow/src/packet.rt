@@ -1,0 +1,18 @@
+//! A packet of a record.
+
+use crate::flow::Extent;
+use sctp_capture::record::Time;
+use sctp_dissect::dissection::Dissection;
+use std::net::IpAddr;
+
+/// A packet of a record.
+#[derive(Drop)]
+pub struct Packet<'a> {
+    pub seen: &'a Dissection,
+    /// The addresses between which it went, where they are known.
+    pub ends: Option<(IpAddr, IpAddr)>,
+    pub time: Option<Time>,
+    pub extent: Extent,
+    /// How many of its bytes are missing.
+    pub missing: usize,
+}

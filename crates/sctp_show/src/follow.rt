@@ -1,0 +1,70 @@
+//! What is known of a packet from those before it.
+
+ghost use Rattle.std.specs.Prelude.{◌≡◌};
+ghost use Rattle.sctp_show.specs.declared.page.Form.TheVariants.{Text, Json};
+
+use crate::page::Form;
+use sctp_dissect::dissection::Dissection;
+use std::alloc::{AllocError, Global};
+use std::net::IpAddr;
+
+/// The TSNs that those of a packet are printed relative to: 0 where they are printed as they are.
+#[derive(Clone, Copy, Debug, PartialEq, Eq)]
+pub struct Bases {
+    /// For what its sender sends: DATA, I-DATA, FORWARD-TSN, and the initial TSN of INIT and INIT-ACK.
+    pub own: u32,
+    /// For what its sender received: SACK and SHUTDOWN.
+    pub other: u32,
+}
+
+/// TSNs are printed as they are.
+pub const ABSOLUTE: Bases = Bases { own: 0, other: 0 };
+
+/// What is known of a packet from those before it.
+#[derive(Clone, Copy, Debug, PartialEq, Eq)]
+pub struct Known {
+    pub bases: Bases,
+    /// Whether a TSN of its DATA or I-DATA came before.
+    pub is_repeated: bool,
+}
+
+/// Follows the packets of a run: each one is noted in order, also one that is not shown.
+pub trait Follow {
+    /// Notes a packet, and says what is known of it. Refuses only for memory.
+    fn note(
+        &mut self,
+        alloc: Global,
+        seen: &Dissection,
+        ends: Option<(IpAddr, IpAddr)>,
+    ) -> Result<Known, AllocError>;
+}
+
+/// Each packet stands alone: nothing is known of it from others.
+#[derive(Drop)]
+pub struct Alone;
+
+impl Follow for Alone {
+    fn note(
+        &mut self,
+        _alloc: Global,
+        _seen: &Dissection,
+        _ends: Option<(IpAddr, IpAddr)>,
+    ) -> Result<Known, AllocError> {
+        Ok(Known {
+            bases: ABSOLUTE,
+            is_repeated: false,
+        })
+    }
+}
+
+/// The bases in this form: JSON has TSNs as they are.
+pub fn bases_for(form: Form, bases: Bases) -> Bases
+    ensures text { form ≡ Text → result ≡ bases }
+    ensures own { form ≡ Json → result.own ≡ 0 }
+    ensures other { form ≡ Json → result.other ≡ 0 }
+{
+    match form {
+        Form::Text => bases,
+        Form::Json => ABSOLUTE,
+    }
+}

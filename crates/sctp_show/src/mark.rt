@@ -1,0 +1,47 @@
+//! What stands out on a terminal.
+
+ghost use Rattle.std.specs.Prelude.{◌≡◌, ◌++◌, OnOk};
+ghost use Rattle.std.specs.String.{string_bytes};
+ghost use Rattle.sctp_show.specs.Mark.{mark_of, marked};
+
+use crate::page::put_all;
+use std::alloc::AllocError;
+
+/// How the line of a packet stands out.
+#[derive(Clone, Copy, Debug, PartialEq, Eq)]
+pub enum Mark {
+    /// It does not.
+    Plain,
+    /// In red: a chunk is refused, or bytes are left over.
+    Refused,
+    /// In yellow: a TSN came before.
+    Repeated,
+}
+
+/// How the line of a packet stands out, if any is to: what is refused goes first.
+pub fn mark_of(is_colored: bool, is_refused: bool, is_repeated: bool) -> Mark
+    ensures { result ≡ mark_of is_colored is_refused is_repeated }
+{
+    if !is_colored {
+        return Mark::Plain;
+    }
+    if is_refused {
+        return Mark::Refused;
+    }
+    if is_repeated {
+        return Mark::Repeated;
+    }
+    Mark::Plain
+}
+
+/// Appends a line as it stands out: its color stands around it (ECMA-48 8.3.117).
+pub fn put_marked(text: &mut String, mark: Mark, line: &str) -> Result<(), AllocError>
+    ensures { OnOk result (string_bytes text.new
+        ≡ string_bytes text.old ++ marked mark line.now) }
+{
+    match mark {
+        Mark::Plain => text.push_str(line),
+        Mark::Refused => put_all(text, &["\x1b[31m", line, "\x1b[0m"]),
+        Mark::Repeated => put_all(text, &["\x1b[33m", line, "\x1b[0m"]),
+    }
+}
