@@ -1,6 +1,6 @@
 //! FORWARD-TSN: how a chunk that passes TSNs is read and written.
 
-ghost use Rattle.std.specs.Prelude.{◌≡◌, ◌+◌, ◌*◌, ◌^◌, ◌<◌, ◌≤◌, ◌++◌, ◌⊎◌, length, IfOk, IfErr, OnOk, OnErr, IsOkUnless};
+ghost use Rattle.std.specs.Prelude.{◌≡◌, ◌+◌, ◌*◌, ◌<◌, ◌≤◌, ◌++◌, length, IfOk, IsOkUnless};
 ghost use Rattle.std.specs.List.{flat_map, AllByRecursion};
 ghost use Rattle.sctp_base.specs.Each.{each};
 ghost use Rattle.sctp_base.specs.declared.error.Error.TheVariants.{ErrOutOfMemory, ErrChunkTooShort};
@@ -14,10 +14,10 @@ use bytes::{Bytes, BytesMut};
 use sctp_base::error::{Error, Result};
 use sctp_base::field::{put_u32, read_u32};
 use sctp_base::util::{CT_FORWARD_TSN, ChunkType};
+use sctp_data::chunk::chunk_forward_tsn::read_stream;
 pub use sctp_data::chunk::chunk_forward_tsn::{
     ChunkForwardTsn, ChunkForwardTsnStream, FORWARD_TSN_STREAM_LENGTH, NEW_CUMULATIVE_TSN_LENGTH,
 };
-use sctp_data::chunk::chunk_forward_tsn::read_stream;
 use std::alloc::Global;
 
 /// Reads so many pairs, which stand behind the new cumulative TSN. Refuses only for memory.

@@ -1,11 +1,9 @@
 //! DATA: how a chunk of user data is read and written.
 
-ghost use Rattle.std.specs.Prelude.{◌≡◌, ◌+◌, ◌^◌, ◌<◌, ◌≤◌, ◌++◌, ℕ, Some, length, IfOk, IfErr, IsOkUnless};
-ghost use Rattle.sctp_data.specs.PayloadData.{data_of, data_value, data_flags};
+ghost use Rattle.sctp_data.specs.PayloadData.{data_of};
 ghost use Rattle.sctp_data.specs.ChunkSet.{IsFreshData};
-ghost use Rattle.sctp_chunks.specs.Wire.{Wire, data_chunk, IsData, ReadsChunk, HasEncoding, encoding_of};
+ghost use Rattle.sctp_chunks.specs.Wire.{data_chunk, IsData};
 ghost use Rattle.sctp_chunks.specs.Fault.{DataFault};
-ghost use Rattle.sctp_base.specs.declared.error.Error.TheVariants.{ErrOutOfMemory};
 
 use super::Chunk;
 use super::chunk_header::{open_chunk, share_value};

@@ -1,6 +1,6 @@
 //! Error causes, which ABORT and ERROR carry (RFC 4960 3.3.10).
 
-ghost use Rattle.std.specs.Prelude.{◌≡◌, ◌+◌, ◌^◌, ◌<◌, ◌≤◌, ◌++◌, ◌⊎◌, List, length, min, drop, IfOk, IfErr, OnErr, IsOkUnless};
+ghost use Rattle.std.specs.Prelude.{◌≡◌, ◌+◌, ◌^◌, ◌<◌, ◌≤◌, ◌++◌, ◌⊎◌, List, length, min, drop, IfOk, IfErr, OnErr};
 ghost use Rattle.std.specs.List.{AllByRecursion};
 ghost use Rattle.sctp_base.specs.Outcome.{OrMemory, GivesUnlessMemory};
 ghost use Rattle.sctp_base.specs.declared.error.Error.TheVariants.{ErrOutOfMemory, ErrLengthTooLarge, ErrErrorCauseTooSmall};
@@ -16,8 +16,7 @@ pub use sctp_data::chunk::error_cause::{
     COOKIE_RECEIVED_WHILE_SHUTTING_DOWN, ErrorCauseCode, INVALID_MANDATORY_PARAMETER,
     INVALID_STREAM_IDENTIFIER, MISSING_MANDATORY_PARAMETER, NO_USER_DATA, OUT_OF_RESOURCE,
     PROTOCOL_VIOLATION, RESTART_OF_AN_ASSOCIATION_WITH_NEW_ADDRESSES, STALE_COOKIE_ERROR,
-    UNRECOGNIZED_CHUNK_TYPE, UNRECOGNIZED_PARAMETERS, UNRESOLVABLE_ADDRESS,
-    USER_INITIATED_ABORT,
+    UNRECOGNIZED_CHUNK_TYPE, UNRECOGNIZED_PARAMETERS, UNRESOLVABLE_ADDRESS, USER_INITIATED_ABORT,
 };
 use std::alloc::Global;
 use std::fmt;

@@ -119,8 +119,7 @@ impl fmt::Display for ChunkForwardTsn {
         write!(
             f,
             "{}\nNew Cumulative TSN: {}",
-            CT_FORWARD_TSN,
-            self.new_cumulative_tsn
+            CT_FORWARD_TSN, self.new_cumulative_tsn
         )?;
         for s in &self.streams {
             write!(f, "\n - si={}, ssn={}", s.identifier, s.sequence)?;
