@@ -6,7 +6,7 @@
 run at the top of the repository, by hand: it is no part of the gate. Retired words are those of the last table of docs/GLOSSARY.md.
 The docs are all pages (*.md); what stands in code fences or between backticks is no prose, and is passed over for words. With --all
 sources (*.rt, *.antt, *.edit, lists of wrong bodies) are looked through too, names in their code included: half_sent, HalfSent.
-The type `Loose` is passed over. Paths that begin with a folder of this repository, and links, must name a file or a folder,
+The type `Loose` and the kit's module `sound` are passed over. Paths that begin with a folder of this repository, and links, must name a file or a folder,
 from the top or beside the page. The exit status is 1 where a retired word or a name of nothing is found.
 """
 
@@ -18,7 +18,7 @@ from pathlib import Path
 GLOSSARY = "docs/GLOSSARY.md"
 FENCE = re.compile(r"^```.*?^```", re.M | re.S)
 SPAN = re.compile(r"`[^`\n]*`")
-FIXED = re.compile(r"\bLoose\b")
+FIXED = re.compile(r"\bLoose\b|^use sound\.", re.M)
 LINK = re.compile(r"\]\(([^)#\s]+)(#[^)\s]*)?\)")
 PATH = re.compile(r"(?<![\w/.])(?:crates|docs|tools|examples)/[\w./-]*\w")
 
@@ -96,8 +96,8 @@ def words_in_sources(words):
 
 
 def exists(page, target):
-    """Whether a file or folder is named; a capital NAME stands for any crate, and .. or * for the rest of a path."""
-    if "NAME" in target.split("/") or ".." in target.replace("../", ""):
+    """Whether a file or folder is named; a capital NAME stands for any crate, out for what is built, and .. or * for the rest of a path."""
+    if {"NAME", "out"} & set(target.split("/")) or ".." in target.replace("../", ""):
         return True
     return Path(target).exists() or (Path(page).parent / target).exists()
 
