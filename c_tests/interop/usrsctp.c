@@ -269,6 +269,15 @@ static int is_done(void) {
     return messages_arrived() && sctp_sender_pending(&endpoint.sender) == 0 && sctp_sender_chunks_in_flight(&endpoint.sender) == 0;
 }
 
+/* Whether usrsctp has nothing that waits or is in flight. */
+static int they_are_done(void) {
+    struct sctp_status status;
+    socklen_t length = sizeof status;
+    memset(&status, 0, sizeof status);
+    must(usrsctp_getsockopt(theirs, IPPROTO_SCTP, SCTP_STATUS, &status, &length), "usrsctp_getsockopt");
+    return status.sstat_unackdata == 0 && status.sstat_penddata == 0;
+}
+
 static void exchange(double limit) {
     double start = seconds();
     for (uint16_t i = 0; i < STREAMS; i++) {
@@ -281,7 +290,7 @@ static void exchange(double limit) {
         one_tick();
         if (network.tick % 256 == 0) messages_forget(20000);
     }
-    for (long i = 0; i < 200000 && !is_done() && endpoint.state == ENDPOINT_ESTABLISHED && faults == 0; i++) one_tick();
+    for (long i = 0; i < 200000 && !(is_done() && they_are_done()) && endpoint.state == ENDPOINT_ESTABLISHED && faults == 0; i++) one_tick();
     /* what usrsctp may still skip */
     for (int i = 0; i < 500 && endpoint.state == ENDPOINT_ESTABLISHED; i++) one_tick();
     if (endpoint.state == ENDPOINT_ESTABLISHED && !is_done()) fault("not all came");
