@@ -96,9 +96,11 @@ void message_read(int direction, int stream, uint32_t payload_type, const uint8_
     if (payload_type != SCTP_PPID_BINARY) fault("direction %d, stream %d: payload type %u", direction, stream, (unsigned)payload_type);
     if (place == c->count) {
         const struct expected none = { 0, 0, 0 }, *next = c->count > 0 ? &c->rows[c->first] : &none;
-        fault("direction %d, stream %d (%s): a message of %lu bytes is not due; %lu may come, first number %u of %u bytes", direction,
-              stream, modes[stream].name, (unsigned long)length, (unsigned long)c->count, (unsigned)next->number,
-              (unsigned)next->length);
+        uint32_t number = 0;
+        if (length >= 8) memcpy(&number, bytes, sizeof number);
+        fault("direction %d, stream %d (%s): a message of %lu bytes, number %u of %u, is not due; %lu may come, first number %u of %u bytes",
+              direction, stream, modes[stream].name, (unsigned long)length, (unsigned)number, (unsigned)c->written,
+              (unsigned long)c->count, (unsigned)next->number, (unsigned)next->length);
         return;
     }
     c->rows[c->first + place].is_read = 1;
