@@ -179,7 +179,7 @@ static void measure(struct endpoint *e, uint64_t rtt) {
 }
 
 /* Takes a SACK (RFC 4960 6.2.1): what it takes back, then what it reports anew. T3-rtx stops where all is acknowledged, and starts anew
- * where the cumulative TSN rose (6.3.2 R2, R3). What three SACKs miss is marked (7.2.4). */
+ * where the cumulative TSN rose (6.3.2). What three SACKs miss is marked (7.2.4). */
 static void on_sack(struct endpoint *e, const uint8_t *chunk, size_t length) {
     struct sctp_taken_back back[ROWS];
     struct sctp_acked rows[ROWS];
