@@ -1,5 +1,6 @@
 -- What the contracts of `ReassemblyQueue`, and of the messages and unassembled fragments in it, cite.
 pub mod Around
+pub mod Outward
 pub mod Chunks
 pub mod Counts
 pub mod Fragments

@@ -18,6 +18,7 @@ pub mod chunks;
 mod counted_sets;
 mod incomplete;
 mod ordered_sets;
+mod outward;
 mod pool;
 mod resets;
 mod sizes;

@@ -1,5 +1,6 @@
 -- Lemmas on a reassembly queue, and on the messages and unassembled fragments in it.
 pub mod SetEnds
+pub mod AscendingSets
 pub mod ByteCounts
 pub mod UnassembledBytes
 pub mod PiecesTaken

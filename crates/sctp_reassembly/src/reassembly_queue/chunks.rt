@@ -12,7 +12,7 @@ ghost use Rattle.sctp_list_lemmas.specs.Lists.{insert_before};
 ghost use Rattle.sctp_reassembly.specs.reassembly_queue.Fragments.{payload_of, is_complete, with_chunk, without_chunk, answer_with, is_complete_after};
 ghost use Rattle.sctp_reassembly.specs.reassembly_queue.Resets.{chunks_upto, rest_past};
 ghost use Rattle.sctp_serial.specs.DataChunks.{bytes_of, has_tsn, chunk_before};
-ghost use Rattle.sctp_serial.specs.Ascending.{IsOrder, IsInsertion};
+ghost use Rattle.sctp_serial.specs.Ascending.{IsAscending, IsOrder, IsInsertion};
 ghost use Rattle.sctp_base.specs.declared.error.Error.TheVariants.{ErrOutOfMemory, ErrShortBuffer};
 
 use bytes::{Bytes, BytesMut};
@@ -98,11 +98,12 @@ impl Fragments {
         Ok(Fragments::new(self.ssn, self.ppi, clone_chunks(alloc, &self.chunks)?))
     }
 
-    /// Whether the first fragment begins, the last ends, and TSNs rise by one (RFC 4960 3.3.1).
+    /// Whether the first fragment begins, the last ends, and TSNs rise by one (RFC 4960 3.3.1). Where TSNs are known to ascend it
+    /// looks at both ends alone.
     pub fn is_complete(&self) -> bool
         ensures { result ≡ is_complete self.now.chunks }
     {
-        may_be_complete(&self.chunks) && follow_on(&self.chunks)
+        are_complete(self.ascending, &self.chunks)
     }
 
     /// How many bytes the fragments carry, or the greatest number where they are more.
@@ -454,9 +455,26 @@ fn gather(
     Ok((index, offset))
 }
 
-// A test of both ends, which complete fragments pass: it saves the scan of most that are not.
+// Whether fragments are complete. Among TSNs that ascend both ends tell: if the last is as far from the first as there are others,
+// none is missing between them.
+fn are_complete(ascending: bool, chunks: &[ChunkPayloadData]) -> bool
+    requires { IsOrder ascending (map (λ c. c.tsn) chunks.now) }
+    ensures { result ≡ is_complete chunks.now }
+{
+    if !may_be_complete(chunks) {
+        return false;
+    }
+    if ascending {
+        return true;
+    }
+    follow_on(chunks)
+}
+
+// A test of both ends, which complete fragments pass, and of those whose TSNs ascend no others.
 fn may_be_complete(chunks: &[ChunkPayloadData]) -> bool
-    ensures { result ≡ false → is_complete chunks.now ≡ false }
+    ensures no { result ≡ false → is_complete chunks.now ≡ false }
+    ensures yes { result ≡ true → IsAscending (map (λ c. c.tsn) chunks.now)
+        → is_complete chunks.now ≡ true }
 {
     let len = chunks.len();
     if len == 0 {

@@ -205,14 +205,15 @@ impl OrderedSets {
     }
 }
 
-// A set that a chunk alone makes.
+// A set that a chunk alone makes. Where it is the complete message there is room for it alone.
 fn new_set(alloc: Global, chunk: ChunkPayloadData) -> Result<Fragments>
     ensures ok { IfOk result (λ set. set ≡ new_set chunk) }
     ensures memory { IfErr result (λ e. e ≡ ErrOutOfMemory) }
 {
     let ssn = chunk.stream_sequence_number;
     let ppi = chunk.payload_type;
-    let mut chunks = Vec::new(alloc);
+    let alone = usize::from(chunk.beginning_fragment && chunk.ending_fragment);
+    let mut chunks = Vec::with_capacity(alloc, alone)?;
     chunks.push(chunk)?;
     Ok(Fragments::new(ssn, ppi, chunks))
 }

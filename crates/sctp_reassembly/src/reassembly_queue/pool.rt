@@ -7,7 +7,8 @@ ghost use Rattle.sctp_reassembly.specs.reassembly_queue.Loose.{IsRunTaken, IsMar
 
 pub(crate) mod undo;
 
-use crate::reassembly_queue::unassembled::{Loose, find_run, run_around};
+use crate::reassembly_queue::outward::run_outward;
+use crate::reassembly_queue::unassembled::{Loose, find_run};
 use sctp_base::error::Error;
 use sctp_data::chunk::chunk_payload_data::ChunkPayloadData;
 use sctp_serial::turns::Turns;
@@ -105,7 +106,7 @@ fn search(unassembled: &Loose, searched: bool, place: usize) -> Option<(usize, u
     ensures none { IfNone result (HasNoRun unassembled.now.chunks) }
 {
     if searched {
-        run_around(unassembled, place, &mut Turns::new())
+        run_outward(unassembled, place, &mut Turns::new())
     } else {
         find_run(unassembled, &mut Turns::new())
     }

@@ -1,6 +1,6 @@
 //! Unassembled fragments: what came of unordered messages that are not whole. `look` takes a turn; the edits take none.
 
-ghost use Rattle.std.specs.Prelude.{◌≡◌, ℕ, ◌==◌, ◌+◌, ◌-◌, ◌^◌, ◌<◌, ◌≤◌, ◌&&◌, [], ◌∷◌, length, min, slice_index_or, insert, remove, take, drop, ◌++◌, OnOk, OnErr, IfOk, IfErr, IfSome, IfNone, true, false, IsTrue, not};
+ghost use Rattle.std.specs.Prelude.{◌≡◌, ℕ, ◌==◌, ◌+◌, ◌-◌, ◌^◌, ◌<◌, ◌≤◌, ◌&&◌, [], ◌∷◌, length, vec_capacity, min, slice_index_or, insert, remove, take, drop, ◌++◌, OnOk, OnErr, IfOk, IfErr, IfSome, IfNone, true, false, IsTrue, not};
 ghost use Rattle.std.specs.VecDeque.{deque_capacity};
 ghost use Rattle.sctp_serial.specs.Runs.{IsEarliestRunAround, HasNoRunAround, IsStretch, IsEarliestRun, HasNoRun};
 ghost use Rattle.sctp_base.specs.declared.error.Error.TheVariants.{ErrOutOfMemory};
@@ -252,13 +252,7 @@ impl Loose {
         let taken = clone_range(alloc, &self.chunks, first, count)?;
         let mut kept = Vec::with_capacity(alloc, count)?;
         let gone = bytes_from(&self.chunks, first, count);
-        for _moved in 0..count {
-            let fragment = take_out(&mut self.chunks, first);
-            match kept.push(fragment) {
-                Ok(()) => {}
-                Err(_) => unreachable!(),
-            }
-        }
+        take_each(&mut self.chunks, first, count, &mut kept);
         self.n_bytes = bytes_without(self.n_bytes, gone, &self.chunks);
         self.serial = is_still_serial(self.serial, &self.chunks);
         Ok((taken, kept))
@@ -416,7 +410,35 @@ fn take_out(chunks: &mut VecDeque<UnassembledFragment>, place: usize) -> Unassem
     }
 }
 
-/// Puts neighbours back at a place.
+// Takes out neighbours. The others are turned until these stand in front, and back, so that each of them is moved twice at most.
+fn take_each(
+    chunks: &mut VecDeque<UnassembledFragment>,
+    first: usize,
+    count: usize,
+    kept: &mut Vec<UnassembledFragment>,
+)
+    requires in_range { first + count ≤ length chunks.old.items }
+    requires empty { kept.old.items ≡ [] }
+    requires room { count ≤ vec_capacity kept.old }
+    ensures kept { kept.new.items ≡ take count (drop first chunks.old.items) }
+    ensures rest { chunks.new.items
+        ≡ take first chunks.old.items ++ drop (first + count) chunks.old.items }
+    ensures capacity { deque_capacity chunks.new ≡ deque_capacity chunks.old }
+{
+    chunks.rotate_left(first);
+    for _moved in 0..count {
+        let Some(fragment) = chunks.pop_front() else {
+            unreachable!()
+        };
+        match kept.push(fragment) {
+            Ok(()) => {}
+            Err(_) => unreachable!(),
+        }
+    }
+    chunks.rotate_right(first);
+}
+
+/// Puts neighbours back at a place, by the same turns.
 /// Preconditions: the place is at most the number of fragments; the deque has room for all.
 fn put_back(
     chunks: &mut VecDeque<UnassembledFragment>,
@@ -429,12 +451,14 @@ fn put_back(
     ensures capacity { deque_capacity chunks.old ≤ deque_capacity chunks.new }
 {
     let mut kept = kept;
+    chunks.rotate_left(first);
     while let Some(fragment) = kept.pop() {
-        match chunks.insert(first, fragment) {
+        match chunks.push_front(fragment) {
             Ok(()) => {}
             Err(_) => unreachable!(),
         }
     }
+    chunks.rotate_right(first);
 }
 
 // Fragments equal to some neighbours, which share their bytes.

@@ -244,3 +244,23 @@ none_of_around xs place d lt none (Some r) h = tt
 pub mark_after_drop : (mark : Bool) (xs : List ChunkPayloadData) (count : ℕ) → count ≤ length xs → IsMark mark xs → IsMark mark (drop count xs)
 mark_after_drop true xs count le none = none_after_drop xs count le none
 mark_after_drop false xs count le none = tt
+
+-- where the fragment at this place begins nothing, and neither TSN nor flag joins it to the one before
+pub cut_before : (xs : List ChunkPayloadData) (place first : ℕ) (x : ChunkPayloadData) → x ≡ get_or xs first x → x.beginning_fragment ≡ false → first ≤ place → place < length xs → ((k : ℕ) (d : ChunkPayloadData) → first < k → k ≤ place → (get_or xs k d).beginning_fragment ≡ false) → HasNoRun (remove xs place) → (y : ChunkPayloadData) → 0 < first → y ≡ get_or xs (first - 1) y → y.ending_fragment ≡ true → HasNoRunAround xs place
+cut_before xs place first x read plain le within no_other alone y pos read_y ends f n r =
+    let s = start_of xs place f n r in
+    elim (cases_lt f first) [
+      | inl low ↦
+          let at : f + (first - f) - 1 ≡ first - 1 = omega arith in
+          let run : IsRun xs f (first - f) = record {
+            some = omega arith;
+            in_range = omega arith;
+            begins = s.begins;
+            no_other = λ k d lt short. s.no_other k d lt (omega arith);
+            rising = λ k d ge lt. s.rising k d ge (omega arith);
+            ends = λ d. ap (λ i. (get_or xs i d).ending_fragment) at ∙ ap (λ (c : ChunkPayloadData). c.ending_fragment) (get_or_default xs (first - 1) d y (omega arith) ∙ sym read_y) ∙ ends;
+          } in
+          let around = all_around xs place x within alone f (first - f) run in
+          absurd (omega (arith, around.2))
+      | inr high ↦ none_from xs place first x read plain le within no_other f s high
+    ]

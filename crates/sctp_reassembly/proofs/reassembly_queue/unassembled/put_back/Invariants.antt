@@ -1,12 +1,10 @@
-use Rattle.std.proofs.Common.{◌≡◌, ◌+◌, ◌≤◌, length, vec_len}
+use Rattle.std.proofs.Common.{◌≡◌, ◌+◌, ◌≤◌, ◌++◌, length, vec_len}
 use Rattle.std.specs.VecDeque.{deque_capacity}
-use Rattle.sctp_reassembly.specs.reassembly_queue.PoolUndo.{put_back}
 use Rattle.sctp_reassembly.proofs.reassembly_queue.unassembled.put_back.Given as goal
 
 abbrev pub invariant-loop-fragment : goal.invariant-loop-fragment
 invariant-loop-fragment l = record {
-  value : put_back l.first l.kept.items l.chunks.items ≡ put_back l.first l.initial.kept.items l.initial.chunks.items;
-  in_range : l.first ≤ length l.chunks.items;
+  value : l.kept.items ++ l.chunks.items ≡ l.initial.kept.items ++ l.initial.chunks.items;
   room : length l.chunks.items + length l.kept.items ≤ deque_capacity l.chunks;
   capacity : deque_capacity l.initial.chunks ≤ deque_capacity l.chunks;
 }

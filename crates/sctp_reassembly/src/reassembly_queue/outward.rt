@@ -1,0 +1,131 @@
+//! The run that a new fragment completes, looked for to both sides in turn, so that the shorter side bounds the looks.
+
+ghost use Rattle.std.specs.Prelude.{◌≡◌, ℕ, ◌+◌, ◌-◌, ◌*◌, ◌<◌, ◌≤◌, length, remove, slice_index_or, true, false, IfSome, IfNone};
+ghost use Rattle.sctp_data.specs.declared.chunk.chunk_payload_data.ChunkPayloadData.{ChunkPayloadData};
+ghost use Rattle.sctp_serial.specs.Runs.{IsEarliestRunAround, HasNoRunAround, HasNoRun, IsStretch};
+ghost use Rattle.sctp_reassembly.specs.reassembly_queue.Outward.{IsFront, IsBack, IsStepBack, IsStepOn};
+
+use crate::reassembly_queue::unassembled::Loose;
+use sctp_serial::turns::Turns;
+
+/// How far a search has come to one side: a place, the TSN there, and whether the message begins, or ends, there.
+#[derive(Clone, Copy)]
+pub(crate) struct Side {
+    pub(crate) place: usize,
+    pub(crate) tsn: u32,
+    pub(crate) done: bool,
+}
+
+// A step back to the fragment before, unless the message begins here; None where no run holds the place: there is no fragment
+// before, its TSN is not the one before, or it ends a message.
+fn step_back(unassembled: &Loose, place: usize, side: Side, turns: &mut Turns) -> Option<Side>
+    requires in_range { place < length unassembled.now.chunks }
+    requires alone { HasNoRun (remove unassembled.now.chunks place) }
+    requires side { IsFront unassembled.now.chunks place side }
+    ensures found { IfSome result (λ s. IsFront unassembled.now.chunks place s) }
+    ensures step { IfSome result (λ s. IsStepBack side s turns.old turns.new) }
+    ensures none { IfNone result (HasNoRunAround unassembled.now.chunks place) }
+    ensures open { IfNone result (side.done ≡ false) }
+    ensures cost { turns.new ≤ turns.old + 1 }
+    ensures not_back { turns.old ≤ turns.new }
+{
+    if side.done {
+        return Some(side);
+    }
+    if side.place == 0 {
+        return None;
+    }
+    let before = unassembled.look(side.place - 1, turns);
+    if before.ending_fragment {
+        return None;
+    }
+    if side.tsn != before.tsn.wrapping_add(1) {
+        return None;
+    }
+    Some(Side {
+        place: side.place - 1,
+        tsn: before.tsn,
+        done: before.beginning_fragment,
+    })
+}
+
+// A step on to the fragment after, unless the message ends here; None where no run holds the place: there is no fragment after, its
+// TSN is not the next, or it begins a message.
+fn step_on(unassembled: &Loose, place: usize, side: Side, turns: &mut Turns) -> Option<Side>
+    requires side { IsBack unassembled.now.chunks place side }
+    ensures found { IfSome result (λ s. IsBack unassembled.now.chunks place s) }
+    ensures step { IfSome result (λ s. IsStepOn side s turns.old turns.new) }
+    ensures none { IfNone result (HasNoRunAround unassembled.now.chunks place) }
+    ensures open { IfNone result (side.done ≡ false) }
+    ensures cost { turns.new ≤ turns.old + 1 }
+    ensures not_back { turns.old ≤ turns.new }
+{
+    let len = unassembled.len();
+    if side.done {
+        return Some(side);
+    }
+    if side.place + 1 == len {
+        return None;
+    }
+    let after = unassembled.look(side.place + 1, turns);
+    if after.beginning_fragment {
+        return None;
+    }
+    if after.tsn != side.tsn.wrapping_add(1) {
+        return None;
+    }
+    Some(Side {
+        place: side.place + 1,
+        tsn: after.tsn,
+        done: after.ending_fragment,
+    })
+}
+
+/// The place and the length of the run that holds the place; None where there is none. Without the fragment at the place there is
+/// no run at all, so that a fragment that ends a message stops the search back, as one that begins stops it on.
+///
+/// A run takes as many turns as it has fragments. Where none is found, and no fragment of the stretch up to the place begins, it takes
+/// at most twice as many as there are, and 3; so too where none from the place on ends.
+/// Preconditions: the place has a fragment; without it there is no run.
+pub(crate) fn run_outward(
+    unassembled: &Loose,
+    place: usize,
+    turns: &mut Turns,
+) -> Option<(usize, usize)>
+    requires in_range { place < length unassembled.now.chunks }
+    requires alone { HasNoRun (remove unassembled.now.chunks place) }
+    ensures found { IfSome result
+        (λ run. IsEarliestRunAround unassembled.now.chunks place run.0 run.1) }
+    ensures none { IfNone result (HasNoRunAround unassembled.now.chunks place) }
+    ensures spent { IfSome result (λ run. turns.new ≡ turns.old + run.1) }
+    ensures not_back { turns.old ≤ turns.new }
+    ensures cost { (first last : ℕ) → IsStretch unassembled.now.chunks place first last
+        → turns.new ≤ turns.old + (last + 1 - first) + 1 }
+    ensures no_beginning { (first last : ℕ) → IsStretch unassembled.now.chunks place first last
+        → ((k : ℕ) (d : ChunkPayloadData) → first ≤ k → k ≤ place
+        → (slice_index_or unassembled.now.chunks k d).beginning_fragment ≡ false)
+        → turns.new ≤ turns.old + 2 * (place - first) + 3 }
+    ensures no_ending { (first last : ℕ) → IsStretch unassembled.now.chunks place first last
+        → ((k : ℕ) (d : ChunkPayloadData) → place ≤ k → k ≤ last
+        → (slice_index_or unassembled.now.chunks k d).ending_fragment ≡ false)
+        → turns.new ≤ turns.old + 2 * (last - place) + 3 }
+{
+    // places fit, and so does the length of a run
+    let _len = unassembled.len();
+    let here = unassembled.look(place, turns);
+    let mut front = Side {
+        place,
+        tsn: here.tsn,
+        done: here.beginning_fragment,
+    };
+    let mut back = Side {
+        place,
+        tsn: here.tsn,
+        done: here.ending_fragment,
+    };
+    while !front.done || !back.done {
+        front = step_back(unassembled, place, front, turns)?;
+        back = step_on(unassembled, place, back, turns)?;
+    }
+    Some((front.place, back.place + 1 - front.place))
+}
