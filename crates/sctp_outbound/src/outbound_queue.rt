@@ -451,6 +451,7 @@ impl OutboundQueue {
     /// The TSNs of chunks in flight past their deadlines that are not abandoned, and are either not acknowledged or of a
     /// message with an unsent tail, in serial order. A message that was acknowledged whole is not named. They are listed before
     /// any of them is abandoned, so that what is abandoned does not hang on how much may be sent. `now` is in nanoseconds.
+    /// Before the earliest deadline of what was sent since `settle_deadlines`, or was in flight then, it looks at nothing.
     /// Refuses only for memory, and not where there are none.
     pub fn expired_inflight(&self, alloc: Global, now: u64) -> Result<Vec<u32>>
         ensures ok { IfOk result (λ tsns. tsns.items ≡ late_tsns now self.now) }
@@ -458,6 +459,9 @@ impl OutboundQueue {
         ensures idle { late_tsns now self.now ≡ [] → IsOk result }
     {
         let mut tsns = Vec::new(alloc);
+        if now < self.inflight.earliest_deadline() {
+            return Ok(tsns);
+        }
         for place in 0..self.inflight.len() {
             let chunk = self.inflight.at(place);
             if !self.is_late(chunk, now) {
@@ -466,6 +470,16 @@ impl OutboundQueue {
             tsns.push(chunk.tsn)?;
         }
         Ok(tsns)
+    }
+
+    /// Has the next calls of `expired_inflight` look at nothing before the earliest deadline of what is in flight now and not
+    /// abandoned. It looks at all of it, unless it is before that moment now. `now` is in nanoseconds.
+    pub fn settle_deadlines(&mut self, now: u64)
+        ensures { self.new ≡ self.old }
+    {
+        if self.inflight.earliest_deadline() <= now {
+            self.inflight.settle_deadlines();
+        }
     }
 
     // Whether a chunk in flight is past its deadline, not abandoned, and not acknowledged or of a message with an unsent tail.

@@ -10,15 +10,17 @@ ghost use Rattle.sctp_list_lemmas.specs.Lists.{change_where};
 ghost use Rattle.sctp_serial.specs.Turns.{IsWithinDigits};
 ghost use Rattle.sctp_serial.specs.Window.{IsSerial, IsPlaceFor, IsHeldAt, IsWindow, SpansOneWindow, is_held, is_new};
 ghost use Rattle.sctp_serial.specs.DataChunks.{has_tsn, bytes_of};
+ghost use Rattle.sctp_outbound.specs.Stored.{NoneBefore};
 ghost use Rattle.sctp_outbound.specs.Marks.{IsBetween, is_outstanding};
 ghost use Rattle.sctp_outbound.specs.payload_queue.Blocks.{IsFirstAfter, IsRunUntil, Reports, gap_offsets, ends_of, is_offset, gap_text};
 
+mod blocks;
 pub mod held;
 mod room;
 mod window;
 
 use self::held::{Held, Mark};
-use self::window::{are_within_half, span_one_window};
+use self::window::{are_within_half, is_last_up_to, span_one_window};
 use bytes::Bytes;
 use sctp_base::error::Result;
 use sctp_base::util::{sna32lt, sna32lte};
@@ -245,7 +247,7 @@ pub(crate) fn is_outstanding(chunk: &ChunkPayloadData) -> bool
 }
 
 impl PayloadQueue {
-    ghost use Rattle.sctp_outbound.specs.payload_queue.PayloadQueue.{Payload, with_chunks, push_chunk, add_duplicate, front_with, without_front, without, past};
+    ghost use Rattle.sctp_outbound.specs.payload_queue.PayloadQueue.{FrontGoesFirst, Payload, with_chunks, push_chunk, add_duplicate, front_with, without_front, without, past};
     ghost use Rattle.sctp_outbound.specs.Marks.{with_mark, as_acknowledged, as_taken_back, as_abandoned, with_retransmit, with_nsent, with_since, with_miss_indicator, is_of};
 
     /// A queue of nothing. It takes no memory.
@@ -390,11 +392,14 @@ impl PayloadQueue {
         self.pop_up_to_counted(cumulative_tsn, &mut Turns::new());
     }
 
-    /// The same, and its turns are added: at most one for each chunk held.
+    /// The same, and its turns are added: at most one for each chunk held; and one more than chunks leave, where the last
+    /// leaves only with the first, as where all lie less than half a circle past one TSN.
     pub fn pop_up_to_counted(&mut self, cumulative_tsn: u32, turns: &mut Turns)
         ensures kept { self.new ≡ with_chunks self.old (past cumulative_tsn self.old.chunks) }
         ensures not_back { turns.old ≤ turns.new }
         ensures cost { turns.new ≤ turns.old + length self.old.chunks }
+        ensures few { FrontGoesFirst cumulative_tsn self.old.chunks
+            → turns.new + length self.new.chunks ≤ turns.old + length self.old.chunks + 1 }
     {
         let mut place = 0;
         while place < self.held.len() {
@@ -402,9 +407,12 @@ impl PayloadQueue {
             if sna32lte(chunk.tsn, cumulative_tsn) {
                 let removed = self.held.remove(place);
                 self.n_bytes -= removed.user_data.len();
-            } else {
-                place += 1;
+                continue;
             }
+            if !is_last_up_to(&self.held, cumulative_tsn) {
+                return;
+            }
+            place += 1;
         }
     }
 
@@ -542,22 +550,8 @@ impl PayloadQueue {
         ensures cost_of_runs { IsWithinDigits (length self.now.chunks) (turns.new
             - turns.old - 34 * length (runs_of (gap_offsets cumulative_tsn self.now.chunks)) - 1) }
     {
-        let mut blocks = Vec::new(alloc);
-        let mut place = first_after(&self.held, cumulative_tsn, turns);
-        let mut seen = None;
-        while place < self.held.len() {
-            let tsn = seen_or_look(&self.held, place, seen, turns);
-            let Some(offset) = gap_offset(cumulative_tsn, tsn) else {
-                return Ok(blocks);
-            };
-            // a block cannot reach past 65,535
-            let reach = (self.held.len() - place).min(65536 - offset as usize);
-            let (last, next) = run_end(&self.held, place, tsn, place + reach, turns);
-            let end = offset + (last - place) as u16;
-            blocks.push(GapAckBlock { start: offset, end })?;
-            place = last + 1;
-            seen = next;
-        }
+        // no list is so long
+        let blocks = self.get_gap_ack_blocks_within(alloc, cumulative_tsn, usize::MAX, turns)?;
         Ok(blocks)
     }
 
@@ -755,6 +749,20 @@ impl PayloadQueue {
         ensures succeeds { additional ≤ self.old.room → IsOk result }
     {
         self.held.reserve(additional)
+    }
+
+    /// A moment in nanoseconds before which no chunk that is not abandoned has a deadline.
+    pub(crate) fn earliest_deadline(&self) -> u64
+        ensures { NoneBefore result self.now.chunks }
+    {
+        self.held.earliest()
+    }
+
+    /// Looks at each chunk, so that `earliest_deadline` hangs on those alone that are held and not abandoned.
+    pub(crate) fn settle_deadlines(&mut self)
+        ensures { self.new ≡ self.old }
+    {
+        self.held.settle_earliest();
     }
 
     // The chunk at a place.

@@ -1,7 +1,8 @@
 -- What each call makes of a filter of TSNs.
-use Rattle.std.proofs.Common.{◌≡◌, ℕ, ◌+◌, ◌-◌, ◌<◌, ◌^◌, Bool, true, false, List, [], ◌∷◌, map, refl, ap, sym, subst, ◌∙◌, arith, IsTrue, Result, Ok, Err}
+use Rattle.std.proofs.Common.{◌≡◌, ℕ, ◌+◌, ◌-◌, ◌<◌, ◌^◌, Bool, true, false, List, [], ◌∷◌, map, take, refl, ap, sym, subst, ◌∙◌, arith, IsTrue, Result, Ok, Err}
 use Rattle.std.specs.Prelude.{if◌then◌else◌, ◌==◌, ◌||◌, not, IsOk, IfOk}
 use Rattle.std.specs.List.{list_any, filter}
+use Rattle.std.proofs.lemmas.List.{take-map}
 use Rattle.sctp_list_lemmas.specs.Kept.{runs_of}
 use Rattle.sctp_list_lemmas.specs.Lists.{insert_before, advance_over, Seen}
 use Rattle.sctp_list_lemmas.specs.Serial.{distance, comes_before, at_or_before}
@@ -32,6 +33,11 @@ blocks-of (b ∷ bs) = ap (λ rest. b ∷ rest) (blocks-of bs)
 
 pub blocks-are : (c : ℕ) (cs : List ChunkPayloadData) (bs : List GapAckBlock) → map ends_of bs ≡ runs_of (gap_offsets c cs) → bs ≡ map block_of (runs_of (filter is_offset (map (distance c) (tsns cs))))
 blocks-are c cs bs e = sym (blocks-of bs) ∙ ap (map block_of) (e ∙ ap (λ ds. runs_of (filter is_offset ds)) (sym (distances c cs)))
+
+-- and the first of them
+pub blocks-within : (c most : ℕ) (cs : List ChunkPayloadData) (bs : List GapAckBlock) → map ends_of bs ≡ take most (runs_of (gap_offsets c cs)) → bs ≡ take most (map block_of (runs_of (filter is_offset (map (distance c) (tsns cs)))))
+blocks-within c most cs bs e =
+    sym (blocks-of bs) ∙ ap (map block_of) (e ∙ ap (λ ds. take most (runs_of (filter is_offset ds))) (sym (distances c cs))) ∙ sym (take-map block_of most (runs_of (filter is_offset (map (distance c) (tsns cs)))))
 
 -- ## New and repeated ones
 

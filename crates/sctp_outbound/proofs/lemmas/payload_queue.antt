@@ -5,3 +5,5 @@ pub mod Marked
 pub mod Payloads
 pub mod Search
 pub mod Between
+pub mod Deadlines
+pub mod Passed

@@ -1,5 +1,5 @@
 -- A payload queue as callers see it.
-use Rattle.std.specs.Prelude.{ℕ, ◌-◌, ◌++◌, ◌∷◌, [], List, not, Option, Some, None, if◌then◌else◌}
+use Rattle.std.specs.Prelude.{◌≡◌, ℕ, ◌-◌, ◌++◌, ◌∷◌, [], List, length, slice_index_or, true, not, Option, Some, None, if◌then◌else◌}
 use Rattle.std.specs.List.{filter}
 use Rattle.sctp_data.specs.declared.chunk.chunk_payload_data.ChunkPayloadData.{ChunkPayloadData}
 use Rattle.sctp_list_lemmas.specs.Lists.{insert_before}
@@ -46,3 +46,9 @@ without tsn chunks = filter (λ c. not (has_tsn tsn c)) chunks
 -- what is not at or before the TSN
 abbrev pub past : ℕ → List ChunkPayloadData → List ChunkPayloadData
 past tsn chunks = filter (λ c. not (at_or_before c.tsn tsn)) chunks
+
+-- the last chunk is not at or before the TSN unless the first is
+abbrev pub FrontGoesFirst : ℕ → List ChunkPayloadData → Type 0
+FrontGoesFirst tsn chunks =
+    (d : ChunkPayloadData) → at_or_before (slice_index_or chunks (length chunks - 1) d).tsn tsn
+    ≡ true → at_or_before (slice_index_or chunks 0 d).tsn tsn ≡ true

@@ -3,6 +3,7 @@
 ghost use Rattle.std.specs.Prelude.{◌≡◌, ◌==◌, ◌+◌, ◌-◌, ◌<◌, ◌≤◌, [], ◌∷◌, length, max, min, insert, remove, slice_get, slice_index_or, slice_set, OnOk, OnErr, IfSome, IfNone, IsOk, IsOkUnless};
 ghost use Rattle.std.specs.Option.{option_map};
 ghost use Rattle.sctp_base.specs.declared.error.Error.TheVariants.{ErrOutOfMemory};
+ghost use Rattle.sctp_outbound.specs.Stored.{IsNotBefore, NoneBefore};
 
 use bytes::Bytes;
 use sctp_base::error::Result;
@@ -29,23 +30,27 @@ pub(crate) enum Mark {
     MissIndicator(u8),
 }
 
-/// Chunks by place, from 0. The next `room` insertions take no memory.
+/// Chunks by place, from 0. The next `room` insertions take no memory. None that is not abandoned has a deadline before `earliest`.
 #[derive(Drop)]
 pub struct Held {
     chunks: VecDeque<ChunkPayloadData>,
     room: usize,
+    earliest: u64,
 }
 
 impl Model for Held {
     ghost use Rattle.std.specs.Prelude.{◌+◌, ◌≤◌};
     ghost use Rattle.std.specs.VecDeque.{deque_capacity, deque_len};
-    ghost use Rattle.sctp_outbound.specs.Stored.{Stored};
+    ghost use Rattle.sctp_outbound.specs.Stored.{NoneBefore, Stored};
 
     ghost Value = { Stored };
 
     ghost view = { λ h. record { chunks = h.chunks.items; room = h.room } };
 
-    ghost invariant = { λ h. deque_len h.chunks + h.room ≤ deque_capacity h.chunks };
+    ghost invariant = { λ h. record {
+      fits : deque_len h.chunks + h.room ≤ deque_capacity h.chunks;
+      deadlines : NoneBefore h.earliest h.chunks.items;
+    } };
 }
 
 impl Held {
@@ -59,6 +64,7 @@ impl Held {
         Held {
             chunks: VecDeque::new(alloc),
             room: 0,
+            earliest: u64::MAX,
         }
     }
 
@@ -104,6 +110,36 @@ impl Held {
         }
     }
 
+    /// The TSN of the last chunk; None where there are none.
+    pub(crate) fn last_tsn(&self) -> Option<u32>
+        ensures { result
+            ≡ option_map (λ c. c.tsn) (slice_get self.now.chunks (length self.now.chunks - 1)) }
+    {
+        match self.chunks.back() {
+            Some(chunk) => Some(chunk.tsn),
+            None => None,
+        }
+    }
+
+    /// A moment in nanoseconds before which no chunk that is not abandoned has a deadline: the earliest deadline of all that came since
+    /// `settle_earliest`, and of those that it found.
+    pub(crate) fn earliest(&self) -> u64
+        ensures { NoneBefore result self.now.chunks }
+    {
+        self.earliest
+    }
+
+    /// Looks at each chunk, so that `earliest` hangs on those alone that are held and not abandoned.
+    pub(crate) fn settle_earliest(&mut self)
+        ensures { self.new ≡ self.old }
+    {
+        let mut earliest = u64::MAX;
+        for place in 0..self.chunks.len() {
+            earliest = earliest.min(deadline_of(&self.chunks[place]));
+        }
+        self.earliest = earliest;
+    }
+
     /// From here on `additional` insertions take no memory.
     /// Refuses only for memory, and nothing changes then.
     pub fn reserve(&mut self, additional: usize) -> Result<()>
@@ -132,8 +168,10 @@ impl Held {
         ensures memory { IsOkUnless result ErrOutOfMemory }
         ensures succeeds { 0 < self.old.room → IsOk result }
     {
+        let deadline = deadline_of(&chunk);
         self.chunks.insert(place, chunk)?;
         self.room = self.room.saturating_sub(1);
+        self.earliest = self.earliest.min(deadline);
         Ok(())
     }
 
@@ -236,6 +274,16 @@ impl Held {
         chunk.user_data = user_data;
         len
     }
+}
+
+// The deadline of a chunk that is not abandoned and has one, else the greatest u64.
+fn deadline_of(chunk: &ChunkPayloadData) -> u64
+    ensures { IsNotBefore result chunk.now }
+{
+    if chunk.abandoned {
+        return u64::MAX;
+    }
+    chunk.deadline.unwrap_or(u64::MAX)
 }
 
 // Takes the bytes out of a chunk, and answers how many they were.

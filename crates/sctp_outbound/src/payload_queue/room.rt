@@ -1,6 +1,6 @@
 //! What leaves a payload queue and gives its place back as room, so that it can come again without memory.
 
-ghost use Rattle.std.specs.Prelude.{◌≡◌, ◌+◌, ◌-◌, ◌≤◌, length, min, take, find};
+ghost use Rattle.std.specs.Prelude.{◌≡◌, ◌+◌, ◌-◌, ◌≤◌, length, drop, min, take, find};
 ghost use Rattle.sctp_outbound.specs.payload_queue.PayloadQueue.{front_with, without_front, without};
 ghost use Rattle.sctp_serial.specs.DataChunks.{has_tsn};
 
@@ -59,6 +59,14 @@ impl PayloadQueue {
         ensures { self.new ≡ record self.old { room = min room self.old.room } }
     {
         self.held.limit_room(room);
+    }
+
+    /// So many of the duplicates, those that were noted first, are noted no more. It takes no memory.
+    pub fn forget_duplicates(&mut self, count: usize)
+        ensures { self.new ≡ record self.old { duplicates = drop count self.old.duplicates } }
+    {
+        let end = count.min(self.dup_tsn.len());
+        self.dup_tsn.drain(..end);
     }
 
     /// The duplicate that was noted last is noted no more.

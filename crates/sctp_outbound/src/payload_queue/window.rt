@@ -1,10 +1,11 @@
 //! Which TSNs fit beside those held: tests that look at the first chunk and at the last.
 
-ghost use Rattle.std.specs.Prelude.{◌≡◌, ◌^◌, ◌<◌, All, true};
+ghost use Rattle.std.specs.Prelude.{◌≡◌, ◌-◌, ◌^◌, ◌<◌, All, length, slice_index_or, true};
+ghost use Rattle.sctp_list_lemmas.specs.Serial.{at_or_before};
 ghost use Rattle.sctp_serial.specs.Window.{IsSerial, IsWithinHalf, SpansOneWindow, first_among};
 
 use crate::payload_queue::held::Held;
-use sctp_base::util::sna32lt;
+use sctp_base::util::{sna32lt, sna32lte};
 use sctp_serial::serial::distance;
 use sctp_serial::turns::Turns;
 
@@ -47,6 +48,19 @@ pub(crate) fn span_one_window(held: &Held, tsn: u32) -> bool
         return false;
     }
     are_within_half(held, base)
+}
+
+/// Whether the last chunk is at or before the TSN. It takes no turn.
+pub(crate) fn is_last_up_to(held: &Held, cumulative_tsn: u32) -> bool
+    requires { 0 < length held.now.chunks }
+    ensures is { (d : _) → result ≡ at_or_before (slice_index_or held.now.chunks
+        (length held.now.chunks - 1) d).tsn cumulative_tsn }
+    ensures fits { cumulative_tsn < 2 ^ 32 }
+{
+    match held.last_tsn() {
+        Some(last) => sna32lte(last, cumulative_tsn),
+        None => unreachable!(),
+    }
 }
 
 // The TSN where it comes before the first that is held, or none is; else the first that is held.

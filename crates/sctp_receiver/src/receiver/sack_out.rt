@@ -56,8 +56,7 @@ impl Receiver {
     {
         let entries = (bytes.saturating_sub(16) / 4).min(MAX_SACK_ENTRIES);
         let sack = self.sack_of_entries(self.window(), entries)?;
-        self.filter
-            .forget_duplicates(self.alloc, sack.duplicate_tsn.len())?;
+        self.filter.forget_duplicates(sack.duplicate_tsn.len());
         Ok(sack)
     }
 
@@ -93,8 +92,7 @@ impl Receiver {
             length s.gap_ack_blocks.items + length s.duplicate_tsn.items ≤ entries) }
         ensures memory { IfErr result (λ e. e ≡ OutOfMemory) }
     {
-        let mut gap_ack_blocks = self.filter.gap_ack_blocks(self.alloc)?;
-        gap_ack_blocks.truncate(entries);
+        let gap_ack_blocks = self.filter.gap_ack_blocks_within(self.alloc, entries)?;
         let duplicates = self.filter.queue().duplicates();
         let count = duplicates.len().min(entries - gap_ack_blocks.len());
         let mut duplicate_tsn = Vec::new(self.alloc);

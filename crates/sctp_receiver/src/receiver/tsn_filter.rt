@@ -1,6 +1,6 @@
 //! The TSNs that came (RFC 4960 6.2).
 
-ghost use Rattle.std.specs.Prelude.{◌≡◌, ◌<◌, ◌≤◌, ◌+◌, ◌^◌, ◌∷◌, ◌++◌, [], ℕ, true, false, OnOk, OnErr, IfOk, IsOkUnless, length, map, drop, slice_get, IsTrue};
+ghost use Rattle.std.specs.Prelude.{◌≡◌, ◌<◌, ◌≤◌, ◌+◌, ◌^◌, ◌∷◌, ◌++◌, [], ℕ, true, false, OnOk, OnErr, IfOk, IsOkUnless, length, map, drop, take, slice_get, IsTrue};
 ghost use Rattle.sctp_base.specs.declared.error.Error.TheVariants.{ErrOutOfMemory};
 ghost use Rattle.sctp_list_lemmas.specs.Lists.{advance_over};
 ghost use Rattle.sctp_list_lemmas.specs.Serial.{comes_before};
@@ -193,23 +193,24 @@ impl TsnFilter {
         Ok(blocks)
     }
 
-    /// So many of the TSNs that came again are forgotten, those that came first. Where others are left the TSNs that are held are
-    /// copied. Refuses only for memory, and the filter is as it was then.
-    pub fn forget_duplicates(&mut self, alloc: Global, count: usize) -> Result<()>
-        ensures ok { OnOk result (self.new
-            ≡ record self.old { duplicates = drop count self.old.duplicates }) }
-        ensures err { OnErr result (self.new ≡ self.old) }
+    /// The first `most` of these runs, or all where there are no more; it looks at those alone. Refuses only for memory.
+    pub fn gap_ack_blocks_within(&self, alloc: Global, most: usize) -> Result<Vec<GapAckBlock>>
+        ensures blocks { IfOk result (λ blocks. blocks.items ≡ take most (gap_ack_blocks self.now)) }
         ensures memory { IsOkUnless result ErrOutOfMemory }
     {
-        if count >= self.queue.duplicates().len() {
-            let _ = self.queue.pop_duplicates(alloc);
-            return Ok(());
-        }
-        let mut queue = self.queue.try_clone(alloc)?;
-        let all = queue.pop_duplicates(alloc);
-        note_each(&mut queue, &all[count..])?;
-        self.queue = queue;
-        Ok(())
+        let turns = &mut Turns::new();
+        let from = self.cumulative_tsn;
+        let blocks = self
+            .queue
+            .get_gap_ack_blocks_within(alloc, from, most, turns)?;
+        Ok(blocks)
+    }
+
+    /// So many of the TSNs that came again are forgotten, those that came first. It takes no memory.
+    pub fn forget_duplicates(&mut self, count: usize)
+        ensures { self.new ≡ record self.old { duplicates = drop count self.old.duplicates } }
+    {
+        self.queue.forget_duplicates(count);
     }
 
     /// The TSNs that came again, which are forgotten. It takes no memory.
@@ -245,18 +246,6 @@ fn mark(tsn: u32) -> ChunkPayloadData
         nsent: 0,
         retransmit: false,
     }
-}
-
-// Notes TSNs as duplicates: each is at or before itself.
-fn note_each(queue: &mut PayloadQueue, duplicates: &[u32]) -> Result<()>
-    ensures ok { OnOk result (queue.new
-        ≡ record queue.old { duplicates = queue.old.duplicates ++ duplicates.now }) }
-    ensures memory { IsOkUnless result ErrOutOfMemory }
-{
-    for tsn in duplicates {
-        queue.push(mark(*tsn), *tsn)?;
-    }
-    Ok(())
 }
 
 // Moves the cumulative TSN over the chunks that stand next to it, which leave the queue (RFC 4960 6.2): their places are room then.

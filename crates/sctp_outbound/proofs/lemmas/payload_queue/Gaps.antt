@@ -1,5 +1,5 @@
 -- Distances along held chunks, and the blocks of those in reach.
-use Rattle.std.proofs.Common.{◌≡◌, ◌==◌, ◌||◌, ◌&&◌, ◌+◌, ◌-◌, ◌%◌, ◌^◌, ◌<◌, ◌≤◌, ℕ, zero, suc, Bool, true, false, IsTrue, if◌then◌else◌, List, [], ◌∷◌, ◌++◌, map, length, get_or, take, drop, get_or-drop, length-drop, Some, inl, inr, refl, sym, ap, ap₂, ◌∙◌, subst, arith, append-nil, append_assoc}
+use Rattle.std.proofs.Common.{◌≡◌, ◌==◌, ◌||◌, ◌&&◌, ◌+◌, ◌-◌, ◌%◌, ◌^◌, ◌<◌, ◌≤◌, ℕ, zero, suc, Bool, true, false, IsTrue, if◌then◌else◌, List, [], ◌∷◌, ◌++◌, map, length, get_or, take, drop, get_or-drop, length-drop, Some, inl, inr, refl, sym, ap, ap₂, ◌∙◌, subst, arith, append-nil, append_assoc, length-append}
 use Rattle.std.specs.Prelude.{nat_le}
 use Rattle.std.specs.List.{All, list_any, slice_get, filter}
 use Rattle.std.specs.Option.{option_map}
@@ -473,3 +473,33 @@ out_from cumulative xs place x ascends within_range read out k d le short =
   where
     out_is_far : (n : ℕ) → 0 < n → is_offset n ≡ false → 2 ^ 16 ≤ n
     out_is_far n pos h = grind (arith, nat_tests)
+
+-- ## The first runs
+
+-- distances put behind others keep each run but the last
+front_extended : (n d : ℕ) (bs : List (ℕ × ℕ)) → n < length bs → take n (extended_by d bs) ≡ take n bs
+unfolding extended_by
+front_extended n d [] lt = absurd (omega arith)
+front_extended zero d (b ∷ []) lt = refl
+front_extended (suc n) d (b ∷ []) lt = absurd (omega arith)
+front_extended zero d (b ∷ c ∷ cs) lt = refl
+front_extended (suc n) d (b ∷ c ∷ cs) lt = ap (λ xs. b ∷ xs) (front_extended n d (c ∷ cs) (omega arith))
+
+front_kept : (n : ℕ) (ds es : List ℕ) → n < length (runs_of ds) → take n (runs_of (ds ++ es)) ≡ take n (runs_of ds)
+front_kept n ds [] lt = ap (λ xs. take n (runs_of xs)) (append-nil ds)
+front_kept n ds (e ∷ es) lt =
+    let snoc = runs_of-snoc ds e in
+    ap (λ xs. take n (runs_of xs)) (sym (append_assoc ds (e ∷ []) es)) ∙ front_kept n (ds ++ e ∷ []) es (omega (arith, ap length snoc, longer e (runs_of ds)))
+    ∙ ap (take n) snoc ∙ front_extended n e (runs_of ds) lt
+
+front_of : (bs cs : List (ℕ × ℕ)) → take (length bs) (bs ++ cs) ≡ bs
+front_of [] cs = refl
+front_of (b ∷ bs) cs = ap (λ xs. b ∷ xs) (front_of bs cs)
+
+-- where one more begins in front of a place, those before it are the first of all
+pub first_runs : (cumulative : ℕ) (xs : List ChunkPayloadData) (place : ℕ) (bs : List (ℕ × ℕ)) (c : ℕ × ℕ) → bs ++ c ∷ [] ≡ runs_of (gap_offsets cumulative (take place xs)) → take (length bs) (runs_of (gap_offsets cumulative xs)) ≡ bs
+first_runs cumulative xs place bs c e =
+    let far = λ (x : ChunkPayloadData). distance cumulative x.tsn in
+    let whole = ap (gap_offsets cumulative) (sym (take-append-drop place xs)) ∙ ap (filter is_offset) (map-append far (take place xs) (drop place xs)) ∙ those-append is_offset (map far (take place xs)) (map far (drop place xs)) in
+    ap (λ ds. take (length bs) (runs_of ds)) whole ∙ front_kept (length bs) (gap_offsets cumulative (take place xs)) (gap_offsets cumulative (drop place xs)) (omega (arith, ap length e, length-append bs (c ∷ [])))
+    ∙ ap (take (length bs)) (sym e) ∙ front_of bs (c ∷ [])

@@ -55,7 +55,9 @@ impl InFlight {
         ensures err { OnErr result (self.new ≡ self.old) }
     {
         let tsns = self.queue.expired_inflight(alloc, now)?;
-        self.abandon_all(alloc, &tsns)
+        let abandoned = self.abandon_all(alloc, &tsns)?;
+        self.queue.settle_deadlines(now);
+        Ok(abandoned)
     }
 
     /// Abandons each message in flight that was sent again as often as it may be (RFC 7496 3.1) and of which a chunk is marked for

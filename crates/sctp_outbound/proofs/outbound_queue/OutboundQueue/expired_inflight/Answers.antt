@@ -1,8 +1,10 @@
-use Rattle.std.proofs.Common.{◌≡◌, subst, ◌<◌, ◌++◌, ◌∷◌, [], true, false, length, append-nil, sym, ap, ◌∙◌, arith}
-use Rattle.sctp_outbound.specs.outbound_queue.OutboundQueue.{Outbound, is_late}
+use Rattle.std.proofs.Common.{◌≡◌, map, subst, ◌<◌, ◌++◌, ◌∷◌, [], true, false, length, append-nil, sym, ap, ◌∙◌, arith}
+use Rattle.sctp_outbound.specs.outbound_queue.OutboundQueue.{Outbound, is_late, late_tsns}
 use Rattle.std.specs.List.{list_any}
 use Rattle.sctp_outbound.specs.Marks.{is_of}
+use Rattle.sctp_data.specs.declared.chunk.chunk_payload_data.ChunkPayloadData.{ChunkPayloadData}
 use Rattle.sctp_outbound.proofs.lemmas.payload_queue.Between.{any-at}
+use Rattle.sctp_outbound.proofs.lemmas.payload_queue.Deadlines.{none_late}
 use Rattle.sctp_outbound.proofs.lemmas.outbound_queue.Outbounds.{tsns_more, none_listed}
 use Rattle.sctp_outbound.proofs.outbound_queue.OutboundQueue.expired_inflight.Goals as goal
 
@@ -31,3 +33,8 @@ is_late-requires c =
     let x = c.at-chunk.result.now in
     let within : c.loop-place.place < length xs = omega arith in
     subst (λ (o : Outbound). list_any (is_of x.message_id) o.inflight.chunks ≡ true) c.self.view_is (any-at xs c.loop-place.place x within c.at-chunk.ensures)
+
+pub returns-then-now-earliest_deadline-clause-ok : goal.returns-then-now-earliest_deadline-clause-ok
+returns-then-now-earliest_deadline-clause-ok c =
+    let none = none_late c.earliest_deadline.result c.args.now c.self.inside.pending c.self.inside.inflight.chunks (omega arith) c.earliest_deadline.ensures in
+    c.new-tsns.ensures.items ∙ sym (ap (map (λ (x : ChunkPayloadData). x.tsn)) none) ∙ ap (late_tsns c.args.now) c.self.view_is

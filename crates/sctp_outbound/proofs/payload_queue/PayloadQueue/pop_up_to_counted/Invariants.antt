@@ -1,7 +1,7 @@
-use Rattle.std.proofs.Common.{◌≡◌, ◌+◌, ◌-◌, ◌≤◌, ◌++◌, length, take, drop}
+use Rattle.std.proofs.Common.{◌≡◌, ℕ, ◌+◌, ◌-◌, ◌≤◌, ◌++◌, length, take, drop}
 use Rattle.sctp_serial.specs.Window.{IsSerial}
 use Rattle.sctp_serial.specs.DataChunks.{bytes_of}
-use Rattle.sctp_outbound.specs.payload_queue.PayloadQueue.{past}
+use Rattle.sctp_outbound.specs.payload_queue.PayloadQueue.{FrontGoesFirst, past}
 use Rattle.sctp_outbound.proofs.payload_queue.PayloadQueue.pop_up_to_counted.Given as goal
 
 abbrev pub invariant-loop-place : goal.invariant-loop-place
@@ -14,6 +14,8 @@ invariant-loop-place l = record {
   same : l.self-inside.dup_tsn ≡ l.initial.self-inside.dup_tsn;
   not_back : l.initial.turns ≤ l.turns;
   cost : l.turns + (length l.self-inside.held.chunks - l.place) ≤ l.initial.turns + length l.initial.self-inside.held.chunks;
+  few : FrontGoesFirst l.cumulative_tsn l.initial.self-inside.held.chunks → (l.place ≡ 0) × (gone : ℕ) × (l.self-inside.held.chunks ≡ drop gone l.initial.self-inside.held.chunks)
+      × (l.turns ≤ l.initial.turns + gone);
 }
 
 abbrev pub decreases-loop-place : goal.decreases-loop-place

@@ -6,7 +6,7 @@ use Rattle.sctp_list_lemmas.specs.Kept.{runs_of}
 use Rattle.sctp_list_lemmas.specs.Serial.{distance}
 use Rattle.sctp_serial.specs.Turns.{IsWithinDigits}
 use Rattle.sctp_outbound.specs.payload_queue.Blocks.{AscendsFrom, BlocksAscend, is_in_blocks, is_reported, gap_offsets, ends_of}
-use Rattle.sctp_outbound.proofs.payload_queue.PayloadQueue.get_gap_ack_blocks_counted.Given as goal
+use Rattle.sctp_outbound.proofs.payload_queue.PayloadQueue.get_gap_ack_blocks_within.Given as goal
 
 abbrev pub invariant-loop-place : goal.invariant-loop-place
 invariant-loop-place l = record {
@@ -18,6 +18,7 @@ invariant-loop-place l = record {
   exact : (n : ℕ) → is_in_blocks l.blocks.items n ≡ list_any (is_reported l.cumulative_tsn n) (take l.place l.self-inside.held.chunks);
   not_back : l.fn.turns ≤ l.turns;
   cost : IsWithinDigits (length l.self-inside.held.chunks) (l.turns - l.fn.turns - 34 * length l.blocks.items);
+  limit : length l.blocks.items ≤ l.most;
   runs : map ends_of l.blocks.items ≡ runs_of (gap_offsets l.cumulative_tsn (take l.place l.self-inside.held.chunks));
 }
 
