@@ -5,3 +5,4 @@ pub mod scripts
 pub mod Lossless
 pub mod Composed
 pub mod EveryHistory
+pub mod Exchanges

@@ -10,4 +10,5 @@ pub mod Reply
 pub mod Steps
 pub mod Log
 pub mod Laws
+pub mod Exchanges
 pub mod Valid

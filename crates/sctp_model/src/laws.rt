@@ -1,6 +1,7 @@
 //! What holds of every history of a link: laws, each the contract of a function that does nothing.
 
 ghost use Rattle.sctp_model.specs.Laws.{OnEveryRun, EmitsWherePending, TakesPending, IdleIsAnswered, WithinLimit, FilledToLimit, SlotsInOrder, SlotsFollow, OnePartiallySent, SentInTurn, IndexesLeaveNoGap, NoTerminalChunkIsSent, DatagramsStay, Balances, SumsAgree, AcknowledgedArrived, AcknowledgedIsReported, SacksSay, NetworkIsMade, ArrivedIsNew, CumulativeIsSeen, ArrivalsAnswered, CompletenessAgrees, NamedIsNamed, SpansFit, MessagesAreWrites, ModesAreKept, ReadsShowMessages, ReadsBeginRun, ReadsBeginCompleteRun, ReadsBeginComplete, ReadsDiffer, UnorderedFirst, NothingWhereRead, StartsOnce, DeadlinesByEvents, ExpiresPastDeadline, TailAbandonsPastDeadline, LateListsPastDeadline, LateAbandonsListed, ReadsAreSettled, ReadsByArrivals, NoneIsLost, CountersAreSums, Headline, Beside, ReliableDelivery, PartialDelivery};
+ghost use Rattle.sctp_model.specs.Exchanges.{BeginAndEnd, ChunksSayMessages, ChunksJoin, OutstandingGoAgain, AcknowledgesSeen, AcknowledgesArrived, UnorderedGoFirst, WriteIsTold, SendIsTold, ResendIsTold, MessagesAreBounded, NamesAreBounded};
 ghost use Rattle.sctp_model.specs.Valid.{RecordIsValid, SlotsComeValid, SkipsComeValid};
 
 /// A Send answers Idle exactly where no fragment is pending, be memory refused or not; else its
@@ -134,4 +135,45 @@ pub fn every_history()
     ensures beside { Beside }
     ensures reliable { ReliableDelivery }
     ensures all { PartialDelivery }
+{}
+
+/// Of the DATA chunks of a message the first one alone begins it, and the one of its last fragment alone ends it; each says the
+/// message's stream, payload type, whether it is ordered, and its stream sequence number; and where all were sent, their user
+/// data join to what was written (RFC 4960 3.3.1, 6.9).
+pub fn chunks_say_their_message()
+    ensures ends { OnEveryRun BeginAndEnd }
+    ensures says { OnEveryRun ChunksSayMessages }
+    ensures joins { OnEveryRun ChunksJoin }
+{}
+
+/// What is sent again was sent and is outstanding: no SACK that was taken reports it, and its message was not abandoned (RFC 4960
+/// 6.3.3; RFC 3758 3.5).
+pub fn only_outstanding_goes_again()
+    ensures { OnEveryRun OutstandingGoAgain }
+{}
+
+/// A SACK that comes at once acknowledges all that was seen from the first TSN on without a break, and what came beyond that within
+/// 65,535 TSNs, unless there are more gaps than it has room for (RFC 4960 3.3.4, 6.2.1).
+pub fn sacks_acknowledge_what_came()
+    ensures seen { OnEveryRun AcknowledgesSeen }
+    ensures arrived { OnEveryRun AcknowledgesArrived }
+{}
+
+/// An ordered message is begun only where no unordered one waits.
+pub fn unordered_go_first()
+    ensures { OnEveryRun UnorderedGoFirst }
+{}
+
+/// A Write tells the number of its message, by which a Skip names it, and how many fragments it has; a Send the TSN and the stream
+/// sequence number of its first chunk; a Resend the datagram that has the chunk.
+pub fn replies_tell()
+    ensures write { OnEveryRun WriteIsTold }
+    ensures send { OnEveryRun SendIsTold }
+    ensures resend { OnEveryRun ResendIsTold }
+{}
+
+/// A message has a byte, and no more than the greatest; a FORWARD-TSN is no longer than a chunk may be (RFC 4960 3.2).
+pub fn lengths_are_bounded()
+    ensures messages { OnEveryRun MessagesAreBounded }
+    ensures names { OnEveryRun NamesAreBounded }
 {}

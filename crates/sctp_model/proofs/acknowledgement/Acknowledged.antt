@@ -393,16 +393,25 @@ acknowledged_is_reported setup h is run = let a = acks-run setup h is run in (a.
 
 -- ## What a SACK says
 
+-- the gap blocks are those that the order of arrivals gives
+pub blocks-are : (setup : Setup) (h : History) → IsSetup setup → IsRun setup h → gap_blocks (record_of setup h) ≡ blocks_by (record_of setup h) (log_of setup h)
+blocks-are setup h is run =
+    let w = record_of setup h in
+    let log = log_of setup h in
+    let g = heard-run setup h is run in
+    let c : cumulative w ≡ seen_count log (length w.slots) = cumulative_is_seen setup h is run in
+    ap (λ q. take 16379 (runs_of (numbers_where (λ d. arrived_at w (q + d - 1)) 1 (min 65535 (length w.slots - q))))) c
+    ∙ ap (λ l. take 16379 (runs_of l))
+    (kept-same (λ d. arrived_at w (seen_count log (length w.slots) + d - 1)) (λ d. arrived_new log (seen_count log (length w.slots) + d - 1)) 1
+    (min 65535 (length w.slots - seen_count log (length w.slots))) (λ k a b. (g.arrived (seen_count log (length w.slots) + k - 1))))
+
 pub sacks_say : OnEveryRun SacksSay
 sacks_say setup h is run credit =
     let w = record_of setup h in
     let log = log_of setup h in
     let g = heard-run setup h is run in
     let c : cumulative w ≡ seen_count log (length w.slots) = cumulative_is_seen setup h is run in
-    let blocks : gap_blocks w ≡ blocks_by w log =
-    ap (λ q. take 16379 (runs_of (numbers_where (λ d. arrived_at w (q + d - 1)) 1 (min 65535 (length w.slots - q))))) c
-    ∙ ap (λ l. take 16379 (runs_of l)) (kept-same (λ d. arrived_at w (seen_count log (length w.slots) + d - 1)) (λ d. arrived_new log (seen_count log (length w.slots) + d - 1)) 1 (min 65535 (length w.slots - seen_count log (length w.slots))) (λ k a b. (g.arrived (seen_count log (length w.slots) + k - 1)))) in
     ap (contents_in (after w (E.Ack credit))) (get-last w.network (Sack (report_of w credit)))
     ∙ ap (λ q. Some (SackContents (cumulative_tsn w q) credit (gap_blocks w) (map (Messages.tsn_of w) (take (16379 - length (gap_blocks w)) w.duplicates)))) c
-    ∙ ap (λ b. Some (SackContents (cumulative_tsn w (seen_count log (length w.slots))) credit b (map (Messages.tsn_of w) (take (16379 - length b) w.duplicates)))) blocks
+    ∙ ap (λ b. Some (SackContents (cumulative_tsn w (seen_count log (length w.slots))) credit b (map (Messages.tsn_of w) (take (16379 - length b) w.duplicates)))) (blocks-are setup h is run)
     ∙ ap (λ d. Some (SackContents (cumulative_tsn w (seen_count log (length w.slots))) credit (blocks_by w log) (map (Messages.tsn_of w) (take (16379 - length (blocks_by w log)) d)))) g.duplicates

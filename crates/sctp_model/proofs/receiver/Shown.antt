@@ -86,7 +86,7 @@ joined-slots w n from (suc count) = step (has (shape w) n from) refl (joined-slo
         ap (λ m. Messages.fragment_at w m (Messages.slot_at w from).fragment ++ joined_bytes (map (chunk_at w) (numbers_where (has (shape w) n) (from + 1) count))) (of-has (shape w) n from e).0
         ∙ ap (λ l. Messages.fragment_at w n (Messages.slot_at w from).fragment ++ l) ih
 
-slots-joined : (w : LinkRecord) (n : ℕ) → Sender (shape w) → 0 < w.setup.size → sent (shape w) n ≡ parts (shape w) n → joined_bytes (map (chunk_at w) (Messages.slots_of w n)) ≡ (Messages.message_at w n).bytes
+pub slots-joined : (w : LinkRecord) (n : ℕ) → Sender (shape w) → 0 < w.setup.size → sent (shape w) n ≡ parts (shape w) n → joined_bytes (map (chunk_at w) (Messages.slots_of w n)) ≡ (Messages.message_at w n).bytes
 slots-joined w n s pos all =
     joined-slots w n 0 (length w.slots)
     ∙ ap (λ l. flat (map (Messages.fragment_at w n) l)) (numbered (λ p. (Messages.slot_at w p).fragment) (has (shape w) n) (length w.slots) (λ k l e. s.number k l ∙ ap (λ m. length (numbers_where (has (shape w) m) 0 k)) (of-has (shape w) n k e).0))
