@@ -1,3 +1,4 @@
+pub mod sides
 pub mod sender
 pub mod abandonment
 pub mod receiver

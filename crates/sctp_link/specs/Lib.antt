@@ -1,4 +1,6 @@
 pub mod Places
+pub mod Streams
+pub mod Sides
 pub mod Records
 pub mod OpenStreams
 pub mod Encodings

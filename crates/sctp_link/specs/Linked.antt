@@ -17,7 +17,7 @@ use Rattle.sctp_refinement.specs.Indexes.{begun_on}
 use Rattle.sctp_model.specs.Amounts.{Counters, in_all, written_bytes}
 use Rattle.sctp_model.specs.Amounts as M
 use Rattle.sctp_link.specs.declared.link.accessors.Ledger.{Ledger}
-use Rattle.sctp_halves.specs.Streams.{OpenStream, stream_numbers, stats_in}
+use Rattle.sctp_link.specs.Streams.{OpenStream, stream_numbers, stats_in}
 use Rattle.sctp_stream.specs.declared.stream.DataChannelStats.{DataChannelStats}
 use Rattle.sctp_receiver.specs.TsnFilter.{Filter}
 use Rattle.sctp_link.specs.Places.{IsApart}

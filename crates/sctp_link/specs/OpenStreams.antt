@@ -1,9 +1,10 @@
 -- What a link keeps of a write, of a fragment that leaves, and of a message that is abandoned.
 use Rattle.std.specs.Prelude.{ℕ, ◌+◌, Bool, true, false, ◌&&◌, if◌then◌else◌, List, [], ◌∷◌, take, drop, map, ◌++◌, Some, None, ◌==◌}
+use Rattle.std.specs.List.{find}
 use Rattle.sctp_data.specs.declared.chunk.chunk_payload_data.PayloadProtocolIdentifier.{PayloadProtocolIdentifier}
 use Rattle.sctp_list_lemmas.specs.Lists.{change_where}
-use Rattle.sctp_halves.specs.declared.halves.progress.Written.{Written}
-use Rattle.sctp_halves.specs.Streams.{OpenStream, has_number, begun_of, with_begun}
+use Rattle.sctp_progress.specs.Progress.{Standing, begun_in, has_number, with_begun}
+use Rattle.sctp_link.specs.declared.record.Written.{Written}
 use Rattle.sctp_link.specs.declared.record.Message.{Message}
 use Rattle.sctp_link.specs.declared.record.Slot.{Slot}
 
@@ -61,11 +62,15 @@ fragment_slot number fragment =
 abbrev pub begins : Message → Bool
 begins m = m.ordered && (m.sent == 0)
 
--- a message with one fragment more sent: with the first it takes its index
-abbrev pub with_fragment : List OpenStream → Message → Message
-with_fragment ls m =
-    record m { sent = m.sent + 1; index = if begins m then begun_of m.stream ls else m.index }
+-- how many ordered messages of the stream with a number are begun
+abbrev pub begun_of : ℕ → List Standing → ℕ
+begun_of s ps = begun_in (find (has_number s) ps)
 
--- the streams then
-abbrev pub begun_by : Message → List OpenStream → List OpenStream
-begun_by m ls = if begins m then change_where (has_number m.stream) with_begun ls else ls
+-- a message with one fragment more sent: with the first it takes its index
+abbrev pub with_fragment : List Standing → Message → Message
+with_fragment ps m =
+    record m { sent = m.sent + 1; index = if begins m then begun_of m.stream ps else m.index }
+
+-- the progress then
+abbrev pub begun_by : Message → List Standing → List Standing
+begun_by m ps = if begins m then change_where (has_number m.stream) with_begun ps else ps

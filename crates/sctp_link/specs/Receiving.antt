@@ -15,8 +15,8 @@ use Rattle.sctp_refinement.specs.Holds.{reassembly_of}
 use Rattle.sctp_receiver.specs.declared.receiver.arrival.Arrival.{Arrival}
 use Rattle.sctp_receiver.specs.declared.receiver.arrival.Arrival.TheVariants.{New, Repeat}
 use Rattle.sctp_receiver.specs.Receiver.{filter_of as held_filter}
-use Rattle.sctp_halves.specs.Streams.{OpenStream, stream_numbers}
-use Rattle.sctp_halves.specs.Halves.{Sides, reception_of}
+use Rattle.sctp_link.specs.Streams.{OpenStream, stream_numbers}
+use Rattle.sctp_link.specs.Sides.{Sides, reception_of}
 use Rattle.sctp_link.specs.declared.record.Slot.{Slot}
 use Rattle.sctp_link.specs.Linked.{filter_shown}
 use Rattle.sctp_link.specs.Records.{stream_record}

@@ -5,7 +5,7 @@ use Rattle.sctp_link.specs.declared.record.Slot.{Slot}
 use Rattle.sctp_link.specs.declared.record.Kind.{Kind}
 use Rattle.sctp_link.specs.declared.record.Kind.TheVariants as K
 use Rattle.sctp_link.specs.declared.record.Datagram.{Datagram}
-use Rattle.sctp_halves.specs.Streams.{OpenStream}
+use Rattle.sctp_link.specs.Streams.{OpenStream}
 use Rattle.sctp_model.specs.LinkRecord as W
 use Rattle.sctp_outbound.specs.payload_queue.Blocks.{ends_of}
 

@@ -8,7 +8,9 @@ use Rattle.sctp_model.specs.LinkRecord.{LinkRecord}
 use Rattle.sctp_model.specs.Contents.{name_of}
 use Rattle.sctp_model.specs.Messages.{no_message, tsn_of}
 use Rattle.sctp_model.specs.Receiver.{least, greatest}
-use Rattle.sctp_halves.specs.Streams.{OpenStream, with_named}
+use Rattle.sctp_progress.specs.Progress.{Standing}
+use Rattle.sctp_progress.specs.Progress as Progress
+use Rattle.sctp_link.specs.Streams.{OpenStream, with_named}
 use Rattle.sctp_link.specs.declared.skipped.Named.{Named}
 use Rattle.sctp_link.specs.declared.record.Message.{Message}
 use Rattle.sctp_link.specs.Records.{message_record, progress_of}
@@ -54,6 +56,11 @@ pair_in ms n = named_stream ((message_in ms n).stream, index_in ms n % 2 ^ 16)
 -- a stream on which so far its messages were named
 abbrev pub with_names : List Message → List ℕ → OpenStream → OpenStream
 with_names ms names l = with_named (named_from ms l.state.stream_identifier none_named names).end l
+
+-- and as its progress has it
+abbrev pub standing_named : List Message → List ℕ → Standing → Standing
+standing_named ms names p =
+    Progress.with_named (named_from ms p.number none_named names).end p
 
 -- a skip as the chunk says it (RFC 3758 3.2)
 abbrev pub wire_skip : LinkRecord → ℕ → List ℕ → ForwardTsn

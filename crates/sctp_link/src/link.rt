@@ -2,6 +2,7 @@
 
 ghost use Rattle.std.specs.Prelude.{◌≡◌, ◌==◌, ◌<◌, ◌≤◌, ◌+◌, ◌∷◌, ◌++◌, ℕ, [], None, Some, List, OnOk, OnErr, IfOk, IsOkUnless, MatchOption, length, vec_len, vec_capacity, option_map, find, true};
 ghost use Rattle.sctp_base.specs.declared.error.Error.TheVariants.{ErrOutOfMemory};
+ghost use Rattle.sctp_sender.specs.declared.sender.refusal.SenderRefusal.TheVariants.{OutOfMemory};
 
 mod abandoning;
 pub mod accessors;
@@ -22,7 +23,10 @@ use crate::record::{Datagram, Kind, Message, Slot};
 use bytes::Bytes;
 use sctp_base::error::Error;
 use sctp_base::util::Checksum;
-use sctp_halves::Halves;
+use sctp_progress::Progress;
+use sctp_receiver::receiver::Receiver;
+use sctp_sender::sender::Sender;
+use sctp_sender::sender::refusal::SenderRefusal;
 use std::alloc::Global;
 use std::marker::Model;
 
@@ -34,8 +38,10 @@ pub struct Link<C: Checksum + Drop> {
     first_tsn: u32,
     // the greatest length of a datagram of several chunks
     limit: u32,
-    // the sender and the receiver
-    halves: Halves,
+    // the three have the same streams, in the same order
+    sender: Sender,
+    receiver: Receiver,
+    progress: Progress,
     messages: Vec<Message>,
     // the number of the first message whose lifetime has not started
     unstarted: usize,
@@ -55,6 +61,7 @@ pub struct Link<C: Checksum + Drop> {
 
 impl<C: Checksum + Drop> Model for Link<C> {
     ghost use Rattle.sctp_link.specs.Linked.{Linked, IsLinked};
+    ghost use Rattle.sctp_link.specs.Sides.{IsAligned};
 
     ghost Value = { Linked C };
 
@@ -62,7 +69,8 @@ impl<C: Checksum + Drop> Model for Link<C> {
 
     ghost view = { λ a. record { recorded = record_in a; checksum = a.checksum } };
 
-    ghost invariant = { λ a. IsLinked (C.sum a.checksum) (state_in a) };
+    ghost invariant = { λ a. IsAligned a.sender a.receiver a.progress
+        × IsLinked (C.sum a.checksum) (state_in a) };
 }
 
 impl<C: Checksum + Drop> Link<C> {
@@ -128,7 +136,9 @@ impl<C: Checksum + Drop> Link<C> {
             checksum,
             first_tsn,
             limit,
-            halves: Halves::new(alloc, first_tsn, fragment_size, max_message_size),
+            sender: Sender::new(alloc, first_tsn, fragment_size, max_message_size),
+            receiver: Receiver::new(alloc, first_tsn, max_message_size, None),
+            progress: Progress::new(alloc),
             messages: Vec::new(alloc),
             unstarted: 0,
             slots: Vec::new(alloc),
@@ -238,7 +248,7 @@ impl<C: Checksum + Drop> Link<C> {
     fn is_open(&self, stream: u16) -> bool
         ensures { result ≡ is_open self.now.recorded stream }
     {
-        self.halves.is_open(stream)
+        self.progress.is_open(stream)
     }
 
     fn refusal_open(&self, stream: u16) -> Option<LinkRefusal>
@@ -257,6 +267,17 @@ impl<C: Checksum + Drop> Link<C> {
             return Some(LinkRefusal::StreamUnknown);
         }
         None
+    }
+}
+
+// The error of a sender that refused for memory.
+fn memory(refusal: SenderRefusal) -> Error
+    requires { refusal ≡ OutOfMemory }
+    ensures { result ≡ ErrOutOfMemory }
+{
+    match refusal {
+        SenderRefusal::OutOfMemory => Error::ErrOutOfMemory,
+        _ => unreachable!(),
     }
 }
 

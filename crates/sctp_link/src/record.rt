@@ -28,6 +28,19 @@ pub struct Message {
     pub sent: u64,
 }
 
+/// What is recorded of an accepted write: how its message is sent.
+#[derive(Clone, Copy, Drop)]
+pub struct Written {
+    /// Whether its message is ordered (RFC 8832 6).
+    pub ordered: bool,
+    /// How far its sending goes.
+    pub reliability: ReliabilityType,
+    /// The value beside it: sendings after the first, or its lifetime in milliseconds.
+    pub value: u32,
+    /// How many ordered messages of its stream were written before it and had not expired then.
+    pub before: u64,
+}
+
 /// A TSN that was given out to a fragment of a message, or to the terminal chunk of an abandoned one (RFC 4960 3.3.1).
 /// The first has place 0.
 #[derive(Clone, Copy, Drop)]

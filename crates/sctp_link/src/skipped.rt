@@ -2,12 +2,12 @@
 
 ghost use Rattle.std.specs.Prelude.{◌≡◌, ◌+◌, ◌<◌, ◌^◌, ℕ, length, map, slice_index_or, IfOk, IsOkUnless};
 ghost use Rattle.sctp_base.specs.declared.error.Error.TheVariants.{ErrOutOfMemory};
-ghost use Rattle.sctp_link.specs.Skips.{index_in, named_from, none_named, with_name, pair_in, with_names};
+ghost use Rattle.sctp_link.specs.Skips.{index_in, named_from, none_named, with_name, pair_in, standing_named};
 
 use crate::record::Message;
 use sctp_base::error::Result;
 use sctp_chunks::chunk::chunk_forward_tsn::ChunkForwardTsnStream;
-use sctp_halves::Halves;
+use sctp_progress::Progress;
 use std::alloc::Global;
 
 /// What a skip names on a stream: the least index, and one more than the greatest, or 0 where it names none.
@@ -76,14 +76,12 @@ pub fn pairs_of(
 
 /// Records, on each open stream, how far its ordered messages were named by a skip that names these. It takes no memory.
 /// Precondition: the index of each message is below the greatest u64.
-pub fn record_names(halves: &mut Halves, messages: &[Message], names: &[u64])
+pub fn record_names(progress: &mut Progress, messages: &[Message], names: &[u64])
     requires { (n : ℕ) → index_in messages.now n + 1 < 2 ^ 64 }
-    ensures { halves.new ≡ record halves.old {
-      streams = map (with_names messages.now names.now) halves.old.streams;
-    } }
+    ensures { progress.new ≡ map (standing_named messages.now names.now) progress.old }
 {
-    for place in 0..halves.stream_count() {
-        let named = named_on(messages, halves.stream_at(place), names);
-        halves.record_named(place, named.end);
+    for place in 0..progress.len() {
+        let named = named_on(messages, progress.number_at(place), names);
+        progress.record_named(place, named.end);
     }
 }

@@ -32,7 +32,7 @@ use Rattle.sctp_refinement.proofs.abandonment.AbandonedLink.{mark_of, abandoned-
 use Rattle.sctp_refinement.proofs.reading.ReadOne.{KeepsNext}
 use Rattle.sctp_refinement.proofs.abandonment.NothingHeld.{amount-abandoned}
 use Rattle.sctp_refinement.proofs.amounts.StreamCounters.{counters-same}
-use Rattle.sctp_halves.specs.Streams.{OpenStream, has_number, less_by}
+use Rattle.sctp_link.specs.Streams.{OpenStream, has_number, less_by}
 use Rattle.sctp_link.specs.declared.record.Message.{Message}
 use Rattle.sctp_link.specs.declared.record.Slot.{Slot}
 use Rattle.sctp_link.specs.OpenStreams.{marks}

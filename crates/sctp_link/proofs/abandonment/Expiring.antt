@@ -34,7 +34,7 @@ use Rattle.sctp_refinement.proofs.amounts.StreamCounters.{counters-same}
 use Rattle.sctp_refinement.proofs.abandonment.Expired.{refines-expire, expiring-front}
 use Rattle.sctp_refinement.proofs.abandonment.ExpiredReply.{count-expire, number-lower, tells, Tells, peeked-is, reply-expire, bytes-expire}
 use Rattle.sctp_refinement.proofs.abandonment.ChunkStreams.{peeked-stream}
-use Rattle.sctp_halves.specs.Streams.{OpenStream, expired_on, has_number, stats_in, stream_numbers}
+use Rattle.sctp_link.specs.Streams.{OpenStream, expired_on, has_number, stats_in, stream_numbers}
 use Rattle.sctp_link.specs.declared.record.Message.{Message}
 use Rattle.sctp_link.specs.Places.{IsApart}
 use Rattle.sctp_link.specs.Linked.{State, IsOpenStream, IsLinked, stats_of}

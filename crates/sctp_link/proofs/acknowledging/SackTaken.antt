@@ -44,7 +44,7 @@ use Rattle.sctp_refinement.proofs.acknowledging.Unacked.{amount-is, amount-acked
 use Rattle.sctp_refinement.proofs.sending.Begun
 use Rattle.sctp_refinement.proofs.sending.Begun.{Indexed}
 use Rattle.sctp_refinement.proofs.amounts.InFlightBytes.{chunk-on, bytes-unacked, taken-acknowledged, then-below}
-use Rattle.sctp_halves.specs.Streams.{OpenStream, after_releases, stream_numbers}
+use Rattle.sctp_link.specs.Streams.{OpenStream, after_releases, stream_numbers}
 use Rattle.sctp_link.specs.declared.record.Slot.{Slot}
 use Rattle.sctp_link.specs.declared.record.Datagram.{Datagram}
 use Rattle.sctp_link.specs.Records.{slot_record, datagram_record, stream_record}

@@ -15,7 +15,7 @@ use Rattle.sctp_model.specs.LinkRecord.{LinkRecord}
 use Rattle.sctp_refinement.specs.Amount.{unacked_on, stream_of_slot, bytes_at}
 use Rattle.sctp_refinement.specs.Refines.{sending_of, IsInFlight}
 use Rattle.sctp_refinement.proofs.amounts.StreamAmounts.{same-turned}
-use Rattle.sctp_halves.specs.Streams.{OpenStream, has_number, less_by, after_releases}
+use Rattle.sctp_link.specs.Streams.{OpenStream, has_number, less_by, after_releases}
 use Rattle.sctp_link.specs.Acking.{Acks}
 use Rattle.sctp_refinement.proofs.sending.InFlight.{head_of, tail_of}
 

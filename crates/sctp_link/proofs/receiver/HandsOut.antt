@@ -41,7 +41,7 @@ use Rattle.sctp_refinement.proofs.reading.ReadOne
 use Rattle.sctp_refinement.proofs.reading.ReadOne.{ReadsComplete, ReadsOrdered}
 use Rattle.sctp_refinement.proofs.arriving.SpanEnds.{Begins, set-begins, complete-begins}
 use Rattle.sctp_refinement.proofs.amounts.StreamCounters.{counters-read, counters-nothing}
-use Rattle.sctp_halves.specs.Streams.{OpenStream, both_ways, has_number, on_inbound, read_recorded, stats_in, stream_numbers}
+use Rattle.sctp_link.specs.Streams.{OpenStream, both_ways, has_number, on_inbound, read_recorded, stats_in, stream_numbers}
 use Rattle.sctp_link.specs.declared.record.Message.{Message}
 use Rattle.sctp_receiver.specs.Inbound.{count_read, stream_read}
 use Rattle.sctp_stream.specs.declared.stream.DataChannelStats.{DataChannelStats}
@@ -60,7 +60,7 @@ use Rattle.sctp_stream.proofs.StreamPlaces.{map-set_same}
 use Rattle.sctp_model.specs.Contents.{chunk_at}
 use Rattle.sctp_link.specs.declared.link.Link.TheInside.{Inside}
 use Rattle.sctp_link.specs.declared.record.Slot.{Slot}
-use Rattle.sctp_link.specs.Fields.{record_in, state_in}
+use Rattle.sctp_link.specs.Fields.{record_in, sides_in, state_in}
 use Rattle.sctp_link.proofs.receiver.Hears.{lead-slot, lead-number, messages-made, message-raw, kept-raw}
 
 -- set twice
@@ -368,7 +368,7 @@ module _ (sum : List ℕ → ℕ) (x : State) (l : IsLinked sum x) (s at : ℕ) 
           (apart-set x.open_streams at z d l.apart refl)
           quiet recorded-read
 
-      -- so the halves record it
+      -- so the progress records it
       pub recorded-recorded : record w { streams = map stream_record recorded; messages = messages } ≡ v
       recorded-recorded = ap {B = LinkRecord} (λ ls. record w { streams = map stream_record ls; messages = messages }) (read-twice m.ordered m.index) ∙ recorded-read
 
@@ -423,10 +423,10 @@ pub record IsHanded {C : Type 0} (a : Inside C) (n : ℕ) (y : Slot) (m : Messag
   pub progress : map progress_of (slice_set a.messages.items y.message (marked m)) ≡ map progress_of a.messages.items
 
 module _ {C : Type 0} (sum : List ℕ → ℕ) (a : Inside C) (l : IsLinked sum (state_in a)) (s : ℕ) where
-  pub placed-at : refusal_of (record_in a) (E.Read s) ≡ None → IsPlaced s a.halves.streams
+  pub placed-at : refusal_of (record_in a) (E.Read s) ≡ None → IsPlaced s (sides_in a).streams
   placed-at ok =
-      let t = open-there (record_in a) s a.halves.streams refl ok in
-      let place = placed s a.halves.streams t.0 t.1 in
+      let t = open-there (record_in a) s (sides_in a).streams refl ok in
+      let place = placed s (sides_in a).streams t.0 t.1 in
       record {
         at = place.0;
         d = t.0;
@@ -436,14 +436,14 @@ module _ {C : Type 0} (sum : List ℕ → ℕ) (a : Inside C) (l : IsLinked sum 
         found = λ e. t.1 ∙ ap (λ l. Some l) (sym (place.1.1 e));
       }
 
-  module _ (p : IsPlaced s a.halves.streams) where
-    pub none-handed : None ≡ option_map at_start (message_read p.d.inbound.queue.held) → message_read (slice_index_or a.halves.streams p.at p.d).inbound.queue.held ≡ None
+  module _ (p : IsPlaced s (sides_in a).streams) where
+    pub none-handed : None ≡ option_map at_start (message_read p.d.inbound.queue.held) → message_read (slice_index_or (sides_in a).streams p.at p.d).inbound.queue.held ≡ None
     none-handed told = ap (λ (y : OpenStream). message_read y.inbound.queue.held) p.here ∙ none-mapped (message_read p.d.inbound.queue.held) told
 
-    pub some-handed : (r : Chunks) → Some r ≡ option_map at_start (message_read p.d.inbound.queue.held) → message_read (slice_index_or a.halves.streams p.at p.d).inbound.queue.held ≡ Some r.set
+    pub some-handed : (r : Chunks) → Some r ≡ option_map at_start (message_read p.d.inbound.queue.held) → message_read (slice_index_or (sides_in a).streams p.at p.d).inbound.queue.held ≡ Some r.set
     some-handed r told = ap (λ (y : OpenStream). message_read y.inbound.queue.held) p.here ∙ some-mapped (message_read p.d.inbound.queue.held) r told
 
-    module _ (r : Chunks) (e : message_read (slice_index_or a.halves.streams p.at p.d).inbound.queue.held ≡ Some r.set) where
+    module _ (r : Chunks) (e : message_read (slice_index_or (sides_in a).streams p.at p.d).inbound.queue.held ≡ Some r.set) where
       abbrev pub handed : ℕ
       handed = (read-is sum (state_in a) l s p.at p.d refl p.lt p.found r.set e).0
 

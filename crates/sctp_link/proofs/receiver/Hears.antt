@@ -18,7 +18,7 @@ use Rattle.sctp_refinement.proofs.arriving.Carried.{Carried}
 use Rattle.sctp_refinement.proofs.reading.Line
 use Rattle.sctp_refinement.proofs.reading.Taken
 use Rattle.sctp_refinement.proofs.arriving.SpanEnds.{Begins, set-begins, set-at, sets-held, ends-none, lowest-front, highest-back}
-use Rattle.sctp_halves.specs.Streams.{OpenStream, has_number}
+use Rattle.sctp_link.specs.Streams.{OpenStream, has_number}
 use Rattle.sctp_link.specs.declared.record.Message.{Message}
 use Rattle.sctp_link.specs.declared.record.Slot.{Slot}
 use Rattle.sctp_link.specs.Linked.{State, IsLinked}

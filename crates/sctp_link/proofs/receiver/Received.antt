@@ -38,8 +38,8 @@ use Rattle.sctp_refinement.proofs.arriving.Carried.{Carried, carried, enters}
 use Rattle.sctp_refinement.proofs.arriving.SlotArrives
 use Rattle.sctp_refinement.proofs.reading.ReadOne.{next-arrive}
 use Rattle.sctp_receiver.specs.Receiver.{filter_of as held_filter}
-use Rattle.sctp_halves.specs.Streams.{OpenStream, stats_in, stream_numbers}
-use Rattle.sctp_halves.specs.Halves.{Sides, reception_of}
+use Rattle.sctp_link.specs.Streams.{OpenStream, stats_in, stream_numbers}
+use Rattle.sctp_link.specs.Sides.{Sides, reception_of}
 use Rattle.sctp_link.specs.declared.record.Slot.{Slot}
 use Rattle.sctp_link.specs.Linked.{State, IsLinked, IsOpenStream, stats_of, filter_shown}
 use Rattle.sctp_link.specs.Records.{slot_record, stream_record}
@@ -114,7 +114,7 @@ all-come sum x l k ps none e =
     over sum x (λ (u : LinkRecord). refusal_of u (E.Arrive k) ≡ None → slice_get u.network k ≡ Some (Data ps) → AllCome u ps (map (chunk_at u) ps)) l
     (λ n i. comes-run x.recorded.setup l.history l.setup l.stands.run k n ps i) none e
 
--- what the halves of a link have for it
+-- what the sides of a link have for it
 pub receiver-of : (sum : List ℕ → ℕ) (x : State) (l : IsLinked sum x) (h : Sides) → x.recorded.streams ≡ map stream_record h.streams → x.open_streams ≡ h.streams → x.filter ≡ held_filter (reception_of h) → IsReceiver x.recorded h
 receiver-of sum x l h a b c = record {
   streams_are = a;

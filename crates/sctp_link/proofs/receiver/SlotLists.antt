@@ -14,7 +14,7 @@ use Rattle.sctp_refinement.proofs.arriving.SlotArrives
 use Rattle.sctp_receiver.specs.declared.receiver.arrival.Arrival.{Arrival}
 use Rattle.sctp_receiver.specs.declared.receiver.arrival.Arrival.TheVariants.{New, Repeat}
 use Rattle.sctp_receiver.specs.Receiver.{arrival_of, is_told_complete}
-use Rattle.sctp_halves.specs.Halves.{Sides, reception_of, CanTake, TakesEach}
+use Rattle.sctp_link.specs.Sides.{Sides, reception_of, CanTake, TakesEach}
 use Rattle.sctp_link.specs.declared.record.Slot.{Slot}
 use Rattle.sctp_link.specs.Records.{slot_record}
 use Rattle.sctp_link.specs.Receiving.{IsReceiver, AllCome, number_at, with_arrival, arrived_in, repeated_of, is_first}

@@ -30,8 +30,8 @@ use Rattle.sctp_receiver.specs.declared.receiver.refusal.ReceiverRefusal.TheVari
 use Rattle.sctp_receiver.specs.Inbound as Inbound
 use Rattle.sctp_receiver.specs.Receiver.{filter_of as held_filter, stream_of as inbound_of, stream_refusal, data_refusal, arrival_of}
 use Rattle.sctp_receiver.specs.TsnFilter.{Filter, has_come, is_opposite, with_tsn, with_duplicate}
-use Rattle.sctp_halves.specs.Streams.{Keeps, OpenStream, has_number, stream_numbers}
-use Rattle.sctp_halves.specs.Halves.{Sides, reception_of, with_filter_of, on_stream, is_open, Accepts, Takes, repeat_tsn}
+use Rattle.sctp_link.specs.Streams.{Keeps, OpenStream, has_number, stream_numbers}
+use Rattle.sctp_link.specs.Sides.{Sides, reception_of, with_filter_of, on_stream, is_open, Accepts, Takes, repeat_tsn}
 use Rattle.sctp_link.specs.Records.{stream_record}
 use Rattle.sctp_link.specs.Receiving.{HoldsQueue, IsReceiver, Comes, is_first}
 use Rattle.sctp_link.specs.Places.{IsApart}

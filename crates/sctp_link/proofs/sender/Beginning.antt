@@ -1,12 +1,21 @@
 -- A message is begun: what its stream counts then, and the index that it takes.
-use Rattle.std.proofs.Common.{◌≡◌, ℕ, zero, suc, ◌+◌, ◌<◌, Bool, true, false, List, [], ◌∷◌, ◌++◌, length, map, Some, refl, ap, ◌∙◌, arith}
-use Rattle.std.specs.Prelude.{if◌then◌else◌, ◌==◌, ◌&&◌, find, slice_index_or}
+use Rattle.std.proofs.Common.{◌≡◌, ℕ, zero, suc, ◌+◌, ◌<◌, Bool, true, false, List, [], ◌∷◌, ◌++◌, length, map, Option, Some, None, refl, ap, sym, ◌∙◌, arith}
+use Rattle.std.specs.Prelude.{if◌then◌else◌, ◌==◌, ◌&&◌, find, option_map, slice_index_or}
 use Rattle.std.proofs.Math.Path.{subst}
 use Rattle.sctp_list_lemmas.specs.Lists.{change_where}
+use Rattle.sctp_list_lemmas.proofs.Cases.{some-same}
 use Rattle.sctp_model.proofs.sender.Shape.{shape}
 use Rattle.sctp_refinement.proofs.sending.Begun.{Indexed}
 use Rattle.sctp_refinement.proofs.amounts.StreamAmounts.{same-turned}
-use Rattle.sctp_halves.specs.Streams.{OpenStream, has_number, stream_numbers, with_begun}
+use Rattle.sctp_stream.specs.declared.stream.StreamState.{StreamState}
+use Rattle.sctp_receiver.specs.declared.receiver.inbound_streams.InboundStream.{InboundStream}
+use Rattle.sctp_progress.specs.Progress as Progress
+use Rattle.sctp_progress.specs.Progress.{Standing}
+use Rattle.sctp_link.specs.declared.record.Message.{Message}
+use Rattle.sctp_link.specs.OpenStreams.{begins, begun_of, begun_by}
+use Rattle.sctp_link.specs.Streams.{OpenStream, join_each, has_number, stream_numbers}
+use Rattle.sctp_link.proofs.sides.Joined.{Alike, found-progress, progress-changed}
+use Rattle.sctp_link.proofs.sides.Aligned.{standing-changed}
 use Rattle.sctp_link.specs.Linked.{State, IsLinked}
 use Rattle.sctp_link.specs.Records.{stream_record}
 
@@ -25,6 +34,9 @@ progress-more (p ∷ ps) zero = refl
 progress-more (p ∷ ps) (suc n) = progress-more ps n
 
 -- ## The streams, one of which begins a message or none
+
+abbrev pub with_begun : OpenStream → OpenStream
+with_begun l = record l { begun = l.begun + 1 }
 
 abbrev pub begun_with : Bool → ℕ → List OpenStream → List OpenStream
 begun_with go s ls = if go then change_where (has_number s) with_begun ls else ls
@@ -65,6 +77,36 @@ begun-at true s (l ∷ ls) zero d lt = one (l.state.stream_identifier == s) ∙ 
     one true = refl
     one false = let e : l.begun ≡ l.begun + 0 = omega arith in ap (λ n. record l { begun = n }) e
 begun-at true s (l ∷ ls) (suc k) d lt = begun-at true s ls k d (omega arith)
+
+-- ## The streams and their progress
+
+abbrev pub begun_in : Option OpenStream → ℕ
+begun_in None = 0
+begun_in (Some l) = l.begun
+
+module _ (states : List StreamState) (inbounds : List InboundStream) (ps : List Standing) (a : Alike states inbounds ps) where
+  pub begun-joined : (t : ℕ) → begun_of t ps ≡ begun_in (find (has_number t) (join_each states inbounds ps))
+  begun-joined t = by (find (has_number t) (join_each states inbounds ps)) (find (Progress.has_number t) ps) (found-progress (λ (l : OpenStream). l.begun) (λ (p : Standing). p.begun) (λ s i p. refl) t states inbounds ps a)
+    where
+      by : (o : Option OpenStream) (q : Option Standing) → option_map (λ l. l.begun) o ≡ option_map (λ p. p.begun) q → Progress.begun_in q ≡ begun_in o
+      by None None e = refl
+      by None (Some p) e = cc
+      by (Some l) None e = cc
+      by (Some l) (Some p) e = sym (some-same e)
+
+  pub begun-streams : (m : Message) → join_each states inbounds (begun_by m ps) ≡ begun_with (begins m) m.stream (join_each states inbounds ps)
+  begun-streams m = by (begins m)
+    where
+      by : (b : Bool) → join_each states inbounds (if b then change_where (Progress.has_number m.stream) Progress.with_begun ps else ps) ≡ begun_with b m.stream (join_each states inbounds ps)
+      by true = progress-changed Progress.with_begun with_begun (λ s i p _. refl) m.stream states inbounds ps a.progresses
+      by false = refl
+
+  pub begun-alike : (m : Message) → Alike states inbounds (begun_by m ps)
+  begun-alike m = record { numbers = a.numbers; progresses = a.progresses ∙ sym (by (begins m)) }
+    where
+      by : (b : Bool) → Progress.numbers_of (if b then change_where (Progress.has_number m.stream) Progress.with_begun ps else ps) ≡ Progress.numbers_of ps
+      by true = standing-changed Progress.with_begun (λ p. refl) (Progress.has_number m.stream) ps
+      by false = refl
 
 -- ## The count of a stream
 

@@ -2,7 +2,7 @@
 use Rattle.std.proofs.Common.{◌≡◌, ℕ, ◌+◌, ◌-◌, ◌<◌, ◌≤◌, ◌%◌, ◌^◌, List, [], map, refl, ap, arith}
 use Rattle.sctp_receiver.specs.Receiver.{filter_of}
 use Rattle.sctp_model.specs.Queues.{FilterRecord}
-use Rattle.sctp_halves.specs.Halves.{Sides, reception_of, fresh}
+use Rattle.sctp_link.specs.Sides.{Sides, reception_of, fresh}
 use Rattle.sctp_link.specs.declared.record.Message.{Message}
 use Rattle.sctp_link.specs.declared.record.Slot.{Slot}
 use Rattle.sctp_link.specs.declared.record.Datagram.{Datagram}
@@ -11,11 +11,11 @@ use Rattle.sctp_link.specs.Linked.{State, IsLinked}
 use Rattle.sctp_link.specs.Records.{stream_record, message_record, slot_record, datagram_record, progress_of}
 
 abbrev pub start_state : ℕ → ℕ → Sides → List Message → List Slot → List Datagram → List ℕ → State
-start_state first limit halves messages slots network duplicates =
+start_state first limit sides messages slots network duplicates =
     record {
       recorded = record {
-        setup = setup_of first halves.fragment_size halves.max_message_size limit;
-        streams = map stream_record halves.streams;
+        setup = setup_of first sides.fragment_size sides.max_message_size limit;
+        streams = map stream_record sides.streams;
         messages = map message_record messages;
         slots = map slot_record slots;
         network = map datagram_record network;
@@ -23,14 +23,14 @@ start_state first limit halves messages slots network duplicates =
         taken = 0;
         duplicates = duplicates;
       };
-      open_streams = halves.streams;
+      open_streams = sides.streams;
       progress = map progress_of messages;
       unstarted = 0;
       datagrams = map (λ d. d.bytes) network;
-      outbound = halves.flight.queue;
-      next_tsn = halves.flight.next_tsn;
-      acked_tsn = halves.flight.acked_tsn;
-      filter = filter_of (reception_of halves);
+      outbound = sides.flight.queue;
+      next_tsn = sides.flight.next_tsn;
+      acked_tsn = sides.flight.acked_tsn;
+      filter = filter_of (reception_of sides);
       fragments = 0;
       written = 0;
     }
@@ -62,8 +62,8 @@ linked-start sum first size largest limit fits some short = record {
   encodings = λ k d g e. cc;
 }
 
-pub linked-fresh : (sum : List ℕ → ℕ) (first size largest limit : ℕ) (halves : Sides) (messages : List Message) (slots : List Slot) (network : List Datagram) (duplicates : List ℕ)
+pub linked-fresh : (sum : List ℕ → ℕ) (first size largest limit : ℕ) (sides : Sides) (messages : List Message) (slots : List Slot) (network : List Datagram) (duplicates : List ℕ)
     → first < 2 ^ 32 → 0 < size → size ≤ 65519
-    → halves ≡ fresh first size largest → messages ≡ [] → slots ≡ [] → network ≡ [] → duplicates ≡ []
-    → IsLinked sum (start_state first limit halves messages slots network duplicates)
-linked-fresh sum first size largest limit halves messages slots network duplicates fits some short a b c d e = rw (a, b, c, d, e) (linked-start sum first size largest limit fits some short)
+    → sides ≡ fresh first size largest → messages ≡ [] → slots ≡ [] → network ≡ [] → duplicates ≡ []
+    → IsLinked sum (start_state first limit sides messages slots network duplicates)
+linked-fresh sum first size largest limit sides messages slots network duplicates fits some short a b c d e = rw (a, b, c, d, e) (linked-start sum first size largest limit fits some short)

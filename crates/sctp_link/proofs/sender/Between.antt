@@ -30,18 +30,21 @@ use Rattle.sctp_refinement.proofs.sending.FilledDatagrams.{after_fragments, afte
 use Rattle.sctp_refinement.proofs.sending.Fragments.{shown, all-begun, refines-fragment, going-started}
 use Rattle.sctp_refinement.proofs.sending.KindsRun.{Going, going-takes}
 use Rattle.sctp_refinement.proofs.sending.LifetimesStart.{refines-started}
-use Rattle.sctp_halves.specs.Streams.{OpenStream, begun_in, begun_of, has_number, stream_numbers}
+use Rattle.sctp_stream.specs.declared.stream.StreamState.{StreamState}
+use Rattle.sctp_receiver.specs.declared.receiver.inbound_streams.InboundStream.{InboundStream}
+use Rattle.sctp_link.specs.Streams.{OpenStream, join_each, has_number, stream_numbers}
 use Rattle.sctp_link.specs.declared.record.Message.{Message}
 use Rattle.sctp_link.specs.Linked.{State, IsLinked}
-use Rattle.sctp_link.specs.OpenStreams.{start_from, fragment_slot, begins, with_fragment}
+use Rattle.sctp_link.specs.OpenStreams.{start_from, fragment_slot, begins, begun_of, with_fragment}
 use Rattle.sctp_link.specs.Records.{message_record, progress_of, slot_record, stream_record}
-use Rattle.sctp_link.specs.Sends.{Sender, CanSend, Leaves, Leave}
+use Rattle.sctp_link.specs.Sends.{Outgoing, CanSend, Leaves, Leave}
 use Rattle.sctp_link.proofs.upkeep.Apart.{map-set, number-found}
 use Rattle.sctp_link.proofs.upkeep.Bounds.{messages-few}
 use Rattle.sctp_link.proofs.upkeep.Facts.{facts}
 use Rattle.sctp_link.proofs.upkeep.Lookups.{none-open}
 use Rattle.sctp_link.proofs.sender.Flying.{one-more-fits}
-use Rattle.sctp_link.proofs.sender.Beginning.{index_kept, indexed-of, plus_begun, numbers-begun, records-begun, length-begun, begun-at, found-one}
+use Rattle.sctp_link.proofs.sides.Joined.{Alike}
+use Rattle.sctp_link.proofs.sender.Beginning.{index_kept, begun_with, indexed-of, begun_in, begun-joined, begun-streams, begun-alike, plus_begun, numbers-begun, records-begun, length-begun, begun-at, found-one}
 use Rattle.sctp_link.proofs.sender.Starting.{starts-records, start-progress}
 use Rattle.sctp_stream.proofs.StreamPlaces.{map-set_same}
 use Rattle.sctp_serial.specs.DataChunks.{following_tsn}
@@ -55,7 +58,8 @@ abbrev pub counted : ℕ → OpenStream → OpenStream
 counted n l = record l { begun = n }
 
 -- the sender's side of a link x, once lifetimes have started and the slots of v are given out
-pub record Between (x : State) (now : ℕ) (v : LinkRecord) (s : Sender) : Type 0 where
+pub record Between (states : List StreamState) (inbounds : List InboundStream) (x : State) (now : ℕ) (v : LinkRecord) (s : Outgoing) : Type 0 where
+  pub alike : Alike states inbounds s.progress
   pub going : Going x.recorded.setup v
   pub only : v ≡ record (after_start x.recorded now) { slots = v.slots }
   pub taken : v.taken ≤ length v.slots
@@ -64,9 +68,9 @@ pub record Between (x : State) (now : ℕ) (v : LinkRecord) (s : Sender) : Type 
   pub messages : map message_record s.messages ≡ (after_start x.recorded now).messages
   pub sents : (k : ℕ) → k < length x.recorded.messages → (slice_index_or (map progress_of s.messages) k (0, 0)).0 ≡ M.sent_of v k
   pub indexed : Indexed (shape v) (index_kept (map progress_of s.messages))
-  pub records : map stream_record s.streams ≡ x.recorded.streams
-  pub numbers : stream_numbers s.streams ≡ stream_numbers x.open_streams
-  pub streams : (k : ℕ) (d : OpenStream) → k < length s.streams → slice_index_or s.streams k d ≡ counted (begun_on v (slice_index_or x.open_streams k d).state.stream_identifier) (slice_index_or x.open_streams k d)
+  pub records : map stream_record (join_each states inbounds s.progress) ≡ x.recorded.streams
+  pub numbers : stream_numbers (join_each states inbounds s.progress) ≡ stream_numbers x.open_streams
+  pub streams : (k : ℕ) (d : OpenStream) → k < length (join_each states inbounds s.progress) → slice_index_or (join_each states inbounds s.progress) k d ≡ counted (begun_on v (slice_index_or x.open_streams k d).state.stream_identifier) (slice_index_or x.open_streams k d)
   pub slots : map slot_record s.slots ≡ v.slots
   pub next : s.next_tsn ≡ tsn_of v (length v.slots)
 
@@ -76,9 +80,10 @@ pub record Between (x : State) (now : ℕ) (v : LinkRecord) (s : Sender) : Type 
 pub refines-room : (w : LinkRecord) (q r : Outbound) (room : ℕ) → r ≡ record q { inflight = record q.inflight { room = room } } → RefinesOutbound w q → RefinesOutbound w r
 refines-room w q r room e t = subst (RefinesOutbound w) (sym e) (record { pending = t.pending; in_flight = t.in_flight; next = t.next; unstarted = t.unstarted; started = t.started; begun = t.begun })
 
-module _ (sum : List ℕ → ℕ) (x : State) (l : IsLinked sum x) (now : ℕ) (ms : List Message) (em : x.recorded.messages ≡ map message_record ms) (es : x.progress ≡ map progress_of ms) where
-  pub between-none : (s : Sender) (q : Outbound) → RefinesOutbound x.recorded q → s.outbound ≡ all_started now q → s.messages ≡ start_from x.unstarted now ms → s.streams ≡ x.open_streams → x.recorded.streams ≡ map stream_record x.open_streams → x.recorded.slots ≡ map slot_record s.slots → s.next_tsn ≡ x.next_tsn → Between x now (after_start x.recorded now) s
-  between-none s q t out is streams rs ew next = record {
+module _ (states : List StreamState) (inbounds : List InboundStream) (sum : List ℕ → ℕ) (x : State) (l : IsLinked sum x) (now : ℕ) (ms : List Message) (em : x.recorded.messages ≡ map message_record ms) (es : x.progress ≡ map progress_of ms) where
+  pub between-none : (s : Outgoing) (q : Outbound) → RefinesOutbound x.recorded q → s.outbound ≡ all_started now q → s.messages ≡ start_from x.unstarted now ms → Alike states inbounds s.progress → (join_each states inbounds s.progress) ≡ x.open_streams → x.recorded.streams ≡ map stream_record x.open_streams → x.recorded.slots ≡ map slot_record s.slots → s.next_tsn ≡ x.next_tsn → Between states inbounds x now (after_start x.recorded now) s
+  between-none s q t out is same streams rs ew next = record {
+    alike = same;
     going = going-started x.recorded.setup x.recorded now (facts sum x l).going;
     only = refl;
     taken = (facts sum x l).taken;
@@ -113,7 +118,7 @@ next-unstarted : (q : Outbound) (tsn now : ℕ) (o : Option ChunkPayloadData) �
 next-unstarted q tsn now None = refl
 next-unstarted q tsn now (Some c) = refl
 
-module _ (x : State) (now : ℕ) (v : LinkRecord) (s : Sender) (b : Between x now v s) where
+module _ (states : List StreamState) (inbounds : List InboundStream) (x : State) (now : ℕ) (v : LinkRecord) (s : Outgoing) (b : Between states inbounds x now v s) where
   few : length v.slots < 2 ^ 31
   few = Few.few x.recorded.setup v b.going.sane
 
@@ -147,16 +152,16 @@ module _ (x : State) (now : ℕ) (v : LinkRecord) (s : Sender) (b : Between x no
     begins-is = ap (λ b. b && (m.sent == 0)) kind-is ∙ ap (λ k. (message_at v n).ordered && (k == 0)) sent-is
 
   -- the count of a stream that is found
-  found-begun : (t : ℕ) (y : OpenStream) → find (has_number t) s.streams ≡ Some y → y.begun ≡ begun_on v y.state.stream_identifier
-  found-begun t y e = found-one (λ y. y.begun ≡ begun_on v y.state.stream_identifier) t s.streams each y e
+  found-begun : (t : ℕ) (y : OpenStream) → find (has_number t) (join_each states inbounds s.progress) ≡ Some y → y.begun ≡ begun_on v y.state.stream_identifier
+  found-begun t y e = found-one (λ y. y.begun ≡ begun_on v y.state.stream_identifier) t (join_each states inbounds s.progress) each y e
     where
-      each : (k : ℕ) (d : OpenStream) → k < length s.streams → (slice_index_or s.streams k d).begun ≡ begun_on v (slice_index_or s.streams k d).state.stream_identifier
+      each : (k : ℕ) (d : OpenStream) → k < length (join_each states inbounds s.progress) → (slice_index_or (join_each states inbounds s.progress) k d).begun ≡ begun_on v (slice_index_or (join_each states inbounds s.progress) k d).state.stream_identifier
       each k d lt = let is = b.streams k d lt in ap (λ (y : OpenStream). y.begun) is ∙ ap (λ (y : OpenStream). begun_on v y.state.stream_identifier) (sym is)
 
-  begun-low : (t : ℕ) → begun_of t s.streams + 1 < 2 ^ 64
-  begun-low t = by (find (has_number t) s.streams) refl
+  begun-low : (t : ℕ) → begun_of t s.progress + 1 < 2 ^ 64
+  begun-low t = subst (λ n. n + 1 < 2 ^ 64) (sym (begun-joined states inbounds s.progress b.alike t)) (by (find (has_number t) (join_each states inbounds s.progress)) refl)
     where
-      by : (o : Option OpenStream) → find (has_number t) s.streams ≡ o → begun_in o + 1 < 2 ^ 64
+      by : (o : Option OpenStream) → find (has_number t) (join_each states inbounds s.progress) ≡ o → begun_in o + 1 < 2 ^ 64
       by None e = omega arith
       by (Some y) e = omega (arith, found-begun t y e, length-kept-le (is_begun_on v y.state.stream_identifier) 0 (length v.messages), messages-few x.recorded.setup v b.going.sane)
 
@@ -186,7 +191,7 @@ module _ (x : State) (now : ℕ) (v : LinkRecord) (s : Sender) (b : Between x no
 
     -- ## It leaves
 
-    module _ (t : Sender) (f : Leaves now s t) where
+    module _ (t : Outgoing) (f : Leaves now s t) where
       abbrev c : ChunkPayloadData
       c = f.chunk
 
@@ -206,15 +211,15 @@ module _ (x : State) (now : ℕ) (v : LinkRecord) (s : Sender) (b : Between x no
       go = begins f.message
 
       abbrev i : ℕ
-      i = begun_of f.message.stream s.streams
+      i = begun_of f.message.stream s.progress
 
       abbrev new : W.Slot
       new = record { message = n; fragment = M.sent_of v n; is_terminal_chunk = false; arrived = false; acknowledged = false }
 
-      progress : map progress_of t.messages ≡ change_at (took (begins f.message) (begun_of f.message.stream s.streams)) n (map progress_of s.messages)
+      progress : map progress_of t.messages ≡ change_at (took (begins f.message) (begun_of f.message.stream s.progress)) n (map progress_of s.messages)
       progress =
-          ap (map progress_of) (f.messages ∙ ap (λ k. slice_set s.messages k (with_fragment s.streams f.message)) own)
-          ∙ map-set progress_of (took (begins f.message) (begun_of f.message.stream s.streams)) s.messages n (with_fragment s.streams f.message) f.message (within n made-of f.message at) (ap (λ (m' : Message). took (begins f.message) (begun_of f.message.stream s.streams) (progress_of m')) at)
+          ap (map progress_of) (f.messages ∙ ap (λ k. slice_set s.messages k (with_fragment s.progress f.message)) own)
+          ∙ map-set progress_of (took (begins f.message) (begun_of f.message.stream s.progress)) s.messages n (with_fragment s.progress f.message) f.message (within n made-of f.message at) (ap (λ (m' : Message). took (begins f.message) (begun_of f.message.stream s.progress) (progress_of m')) at)
 
       long : length (map progress_of s.messages) ≡ length x.recorded.messages
       long = length-mapped progress_of s.messages ∙ count-kept
@@ -225,9 +230,9 @@ module _ (x : State) (now : ℕ) (v : LinkRecord) (s : Sender) (b : Between x no
       sent-more : (k : ℕ) → M.sent_of (with_slot v n false) k ≡ M.sent_of v k + (if (n == k) && true then 1 else 0)
       sent-more k = ap (λ y. sent_by y k) shape-then ∙ sent-slotted (shape v) n k false
 
-      sents-then : (k : ℕ) → k < length x.recorded.messages → (slice_index_or (change_at (took (begins f.message) (begun_of f.message.stream s.streams)) n (map progress_of s.messages)) k (0, 0)).0 ≡ M.sent_of (with_slot v n false) k
+      sents-then : (k : ℕ) → k < length x.recorded.messages → (slice_index_or (change_at (took (begins f.message) (begun_of f.message.stream s.progress)) n (map progress_of s.messages)) k (0, 0)).0 ≡ M.sent_of (with_slot v n false) k
       sents-then k lt =
-          let g = took (begins f.message) (begun_of f.message.stream s.streams) in
+          let g = took (begins f.message) (begun_of f.message.stream s.progress) in
           let ps = map progress_of s.messages in
           by_same {P = (slice_index_or (change_at g n ps) k (0, 0)).0 ≡ M.sent_of (with_slot v n false) k} n k
           (λ e. ap (λ j. (slice_index_or (change_at g n ps) j (0, 0)).0) (sym e) ∙ ap (λ p. p.0) (changed-same g n ps (0, 0) (omega (arith, made-of, long))) ∙ ap (λ c. c + 1) (b.sents n made-of)
@@ -237,26 +242,29 @@ module _ (x : State) (now : ℕ) (v : LinkRecord) (s : Sender) (b : Between x no
           plus-none : (a : ℕ) → a ≡ a + 0
           plus-none a = omega arith
 
+      left-streams : join_each states inbounds t.progress ≡ begun_with (begins f.message) f.message.stream (join_each states inbounds s.progress)
+      left-streams = ap (join_each states inbounds) f.progress ∙ begun-streams states inbounds s.progress b.alike f.message
+
       -- the stream of the message is open, and its count is the record's
       opened : M.is_open v f.message.stream ≡ true
       opened = ap (M.is_open v) (stream-is n made-of f.message at) ∙ b.going.sane.known n takes.made
 
-      begun-is : begun_of f.message.stream s.streams ≡ begun_on v f.message.stream
-      begun-is = by (find (has_number f.message.stream) s.streams) refl
+      begun-is : begun_of f.message.stream s.progress ≡ begun_on v f.message.stream
+      begun-is = begun-joined states inbounds s.progress b.alike f.message.stream ∙ by (find (has_number f.message.stream) (join_each states inbounds s.progress)) refl
         where
-          by : (o : Option OpenStream) → find (has_number f.message.stream) s.streams ≡ o → begun_in o ≡ begun_on v f.message.stream
-          by None e = absurd (not_both (sym (none-open v f.message.stream s.streams (ap (λ (z : LinkRecord). z.streams) b.only ∙ sym b.records) e) ∙ opened))
-          by (Some y) e = found-begun f.message.stream y e ∙ ap (begun_on v) (number-found f.message.stream s.streams y e)
+          by : (o : Option OpenStream) → find (has_number f.message.stream) (join_each states inbounds s.progress) ≡ o → begun_in o ≡ begun_on v f.message.stream
+          by None e = absurd (not_both (sym (none-open v f.message.stream (join_each states inbounds s.progress) (ap (λ (z : LinkRecord). z.streams) b.only ∙ sym b.records) e) ∙ opened))
+          by (Some y) e = found-begun f.message.stream y e ∙ ap (begun_on v) (number-found f.message.stream (join_each states inbounds s.progress) y e)
 
-      indexed-then : Indexed (shape (with_slot v n false)) (index_kept (change_at (took (begins f.message) (begun_of f.message.stream s.streams)) n (map progress_of s.messages)))
+      indexed-then : Indexed (shape (with_slot v n false)) (index_kept (change_at (took (begins f.message) (begun_of f.message.stream s.progress)) n (map progress_of s.messages)))
       indexed-then =
-          let g = took (begins f.message) (begun_of f.message.stream s.streams) in
+          let g = took (begins f.message) (begun_of f.message.stream s.progress) in
           let ps = map progress_of s.messages in
           subst (λ y. Indexed y (index_kept (change_at g n ps))) (sym shape-then)
           (indexed-taken (shape v) n (index_kept ps) (index_kept (change_at g n ps)) b.going.sane.sender takes
           (λ k ne. ap (λ p. p.1) (changed-other g n k ps (0, 0) ne))
           (ap (λ p. p.1) (changed-same g n ps (0, 0) (omega (arith, made-of, long)))
-          ∙ ap (λ b. if b then begun_of f.message.stream s.streams else index_kept ps n) (begins-is n made-of f.message at)
+          ∙ ap (λ b. if b then begun_of f.message.stream s.progress else index_kept ps n) (begins-is n made-of f.message at)
           ∙ ap (λ j. if (message_at v n).ordered && (M.sent_of v n == 0) then j else index_kept ps n) (begun-is ∙ ap (begun_on v) (stream-is n made-of f.message at)))
           b.indexed)
 
@@ -266,13 +274,13 @@ module _ (x : State) (now : ℕ) (v : LinkRecord) (s : Sender) (b : Between x no
           ∙ ap (λ b. begun_on v t' + (if ((message_at v n).stream == t') && b then 1 else 0)) (sym (begins-is n made-of f.message at))
           ∙ ap (λ j. begun_on v t' + (if (j == t') && begins f.message then 1 else 0)) (sym (stream-is n made-of f.message at))
 
-      streams-then : (k : ℕ) (d : OpenStream) → k < length t.streams → slice_index_or t.streams k d ≡ counted (begun_on (with_slot v n false) (slice_index_or x.open_streams k d).state.stream_identifier) (slice_index_or x.open_streams k d)
+      streams-then : (k : ℕ) (d : OpenStream) → k < length (join_each states inbounds t.progress) → slice_index_or (join_each states inbounds t.progress) k d ≡ counted (begun_on (with_slot v n false) (slice_index_or x.open_streams k d).state.stream_identifier) (slice_index_or x.open_streams k d)
       streams-then k d lt =
           let go = begins f.message in
           let from = f.message.stream in
           let y = slice_index_or x.open_streams k d in
-          let inside : k < length s.streams = omega (arith, lt, ap length f.streams ∙ length-begun go from s.streams) in
-          ap (λ ls. slice_index_or ls k d) f.streams ∙ begun-at go from s.streams k d inside
+          let inside : k < length (join_each states inbounds s.progress) = omega (arith, lt, ap length left-streams ∙ length-begun go from (join_each states inbounds s.progress)) in
+          ap (λ ls. slice_index_or ls k d) left-streams ∙ begun-at go from (join_each states inbounds s.progress) k d inside
           ∙ ap (λ l. plus_begun (if (from == l.state.stream_identifier) && go then 1 else 0) l) (b.streams k d inside)
           ∙ ap (λ n. counted n y) (sym (begun-then y.state.stream_identifier))
 
@@ -295,47 +303,48 @@ module _ (x : State) (now : ℕ) (v : LinkRecord) (s : Sender) (b : Between x no
           ∙ ap (λ k. v.slots ++ slot_record (fragment_slot k f.message.sent) ∷ []) own
           ∙ ap (λ k. v.slots ++ slot_record (fragment_slot n k) ∷ []) (sent-is n made-of f.message at)
 
-      pub between-one : Between x now (with_slot v n false) t
+      pub between-one : Between states inbounds x now (with_slot v n false) t
       between-one = record {
+        alike = subst (Alike states inbounds) (sym f.progress) (begun-alike states inbounds s.progress b.alike f.message);
         going = subst (λ o. Going x.recorded.setup (send_fragment_of v o)) fr (going-takes x.recorded.setup v b.going);
         only = ap (λ (u : LinkRecord). record u { slots = (with_slot v n false).slots }) b.only;
         taken = let le : (with_slot v n false).taken ≤ length v.slots = b.taken in omega (arith, le, length-append v.slots (new ∷ []));
         outbound = outbound-then;
         begun = started-then;
         messages =
-            ap (map message_record) (f.messages ∙ ap (λ k. slice_set s.messages k (with_fragment s.streams f.message)) own)
-            ∙ map-set_same message_record s.messages n (with_fragment s.streams f.message) f.message (ap message_record at) ∙ b.messages;
+            ap (map message_record) (f.messages ∙ ap (λ k. slice_set s.messages k (with_fragment s.progress f.message)) own)
+            ∙ map-set_same message_record s.messages n (with_fragment s.progress f.message) f.message (ap message_record at) ∙ b.messages;
         sents = λ k lt. ap (λ (ps : List (ℕ × ℕ)). (slice_index_or ps k (0, 0)).0) progress ∙ sents-then k lt;
         indexed = subst (λ ps. Indexed (shape (with_slot v n false)) (index_kept ps)) (sym progress) indexed-then;
-        records = ap (map stream_record) f.streams ∙ records-begun (begins f.message) f.message.stream s.streams ∙ b.records;
-        numbers = ap stream_numbers f.streams ∙ numbers-begun (begins f.message) f.message.stream s.streams ∙ b.numbers;
+        records = ap (map stream_record) left-streams ∙ records-begun (begins f.message) f.message.stream (join_each states inbounds s.progress) ∙ b.records;
+        numbers = ap stream_numbers left-streams ∙ numbers-begun (begins f.message) f.message.stream (join_each states inbounds s.progress) ∙ b.numbers;
         streams = streams-then;
         slots = slots-then;
         next = f.next_tsn ∙ ap following_tsn b.next ∙ next-tsn v n;
       }
 
 -- where there is a next fragment, and it leaves
-pub between-more : (x : State) (now : ℕ) (v : LinkRecord) (s t : Sender) → Between x now v s → is_some (front v) ≡ true → Leaves now s t → Between x now (send_fragment v) t
-between-more x now v s t b some f = by (front v) refl some
+pub between-more : (states : List StreamState) (inbounds : List InboundStream) (x : State) (now : ℕ) (v : LinkRecord) (s t : Outgoing) → Between states inbounds x now v s → is_some (front v) ≡ true → Leaves now s t → Between states inbounds x now (send_fragment v) t
+between-more states inbounds x now v s t b some f = by (front v) refl some
   where
-    by : (o : Option ℕ) → front v ≡ o → is_some o ≡ true → Between x now (send_fragment_of v o) t
+    by : (o : Option ℕ) → front v ≡ o → is_some o ≡ true → Between states inbounds x now (send_fragment_of v o) t
     by None e h = cc
-    by (Some n) e h = between-one x now v s b n e t f
+    by (Some n) e h = between-one states inbounds x now v s b n e t f
 
-pub between-can : (x : State) (now : ℕ) (v : LinkRecord) (s : Sender) → Between x now v s → is_some (front v) ≡ true → CanSend s
-between-can x now v s b some = by (front v) refl some
+pub between-can : (states : List StreamState) (inbounds : List InboundStream) (x : State) (now : ℕ) (v : LinkRecord) (s : Outgoing) → Between states inbounds x now v s → is_some (front v) ≡ true → CanSend s
+between-can states inbounds x now v s b some = by (front v) refl some
   where
     by : (o : Option ℕ) → front v ≡ o → is_some o ≡ true → CanSend s
     by None e h = cc
-    by (Some n) e h = can-send x now v s b n e
+    by (Some n) e h = can-send states inbounds x now v s b n e
 
 -- ## So many
 
-pub between-after : (x : State) (now : ℕ) (u : LinkRecord) (s : Sender) → Between x now u s → (count : ℕ) → ((i : ℕ) → i < count → is_some (front (after_fragments i u)) ≡ true) → (i : ℕ) → i ≤ count → (t : Sender) → Leave now i s t → Between x now (after_fragments i u) t
-between-after x now u s b count some zero le t f = subst (Between x now u) (sym f) b
-between-after x now u s b count some (suc i) le t f =
-    subst (λ z. Between x now z t) (sym (after-next i u))
-    (between-more x now (after_fragments i u) f.0 t (between-after x now u s b count some i (omega (arith, le)) f.0 f.1.0) (some i (omega (arith, le))) f.1.1)
+pub between-after : (states : List StreamState) (inbounds : List InboundStream) (x : State) (now : ℕ) (u : LinkRecord) (s : Outgoing) → Between states inbounds x now u s → (count : ℕ) → ((i : ℕ) → i < count → is_some (front (after_fragments i u)) ≡ true) → (i : ℕ) → i ≤ count → (t : Outgoing) → Leave now i s t → Between states inbounds x now (after_fragments i u) t
+between-after states inbounds x now u s b count some zero le t f = subst (Between states inbounds x now u) (sym f) b
+between-after states inbounds x now u s b count some (suc i) le t f =
+    subst (λ z. Between states inbounds x now z t) (sym (after-next i u))
+    (between-more states inbounds x now (after_fragments i u) f.0 t (between-after states inbounds x now u s b count some i (omega (arith, le)) f.0 f.1.0) (some i (omega (arith, le))) f.1.1)
 
-pub each-can : (x : State) (now : ℕ) (u : LinkRecord) (s : Sender) → Between x now u s → (count : ℕ) → ((i : ℕ) → i < count → is_some (front (after_fragments i u)) ≡ true) → (i : ℕ) (t : Sender) → i < count → Leave now i s t → CanSend t
-each-can x now u s b count some i t lt f = between-can x now (after_fragments i u) t (between-after x now u s b count some i (omega (arith, lt)) t f) (some i lt)
+pub each-can : (states : List StreamState) (inbounds : List InboundStream) (x : State) (now : ℕ) (u : LinkRecord) (s : Outgoing) → Between states inbounds x now u s → (count : ℕ) → ((i : ℕ) → i < count → is_some (front (after_fragments i u)) ≡ true) → (i : ℕ) (t : Outgoing) → i < count → Leave now i s t → CanSend t
+each-can states inbounds x now u s b count some i t lt f = between-can states inbounds x now (after_fragments i u) t (between-after states inbounds x now u s b count some i (omega (arith, lt)) t f) (some i lt)

@@ -12,7 +12,7 @@ use Rattle.sctp_refinement.proofs.arriving.Opened
 use Rattle.sctp_refinement.proofs.acknowledging.QuietSender.{outbound-same, same-self}
 use Rattle.sctp_list_lemmas.specs.Lists.{change_where}
 use Rattle.sctp_sender.specs.Outgoing as Outgoing
-use Rattle.sctp_halves.specs.Streams.{OpenStream, has_number, on_state}
+use Rattle.sctp_link.specs.Streams.{OpenStream, has_number, on_state}
 use Rattle.sctp_link.specs.Records.{stream_record}
 use Rattle.sctp_link.specs.Linked.{State, IsOpenStream, IsLinked}
 use Rattle.sctp_link.proofs.upkeep.Facts.{stands-then}
@@ -38,7 +38,7 @@ module _ (sum : List ℕ → ℕ) (x : State) (l : IsLinked sum x) (s : ℕ) (un
   changes : (t : OpenStream) → IsOpenStream v t → IsOpenStream v (on_state (Outgoing.with_mode unordered reliability value) t)
   changes t i = record { held = i.held; si = i.si; largest = i.largest; size = i.size; ordered = i.ordered; number = i.number; begun = i.begun; next = i.next; amount = i.amount; stats = i.stats }
 
-  -- the halves in the mode
+  -- the streams in the mode
   abbrev pub streams_then : List OpenStream
   streams_then = change_where (has_number s) (on_state (Outgoing.with_mode unordered reliability value)) x.open_streams
 

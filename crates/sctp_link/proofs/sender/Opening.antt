@@ -21,7 +21,7 @@ use Rattle.sctp_refinement.proofs.amounts.StreamAmounts.{amount-none}
 use Rattle.sctp_refinement.proofs.amounts.StreamCounters.{counters-none}
 use Rattle.sctp_refinement.proofs.acknowledging.QuietSender.{outbound-same, same-self}
 use Rattle.sctp_refinement.specs.Holds.{reassembly_of}
-use Rattle.sctp_halves.specs.Streams.{OpenStream, has_number, new_open_stream}
+use Rattle.sctp_link.specs.Streams.{OpenStream, has_number, new_open_stream}
 use Rattle.sctp_link.specs.Records.{stream_record}
 use Rattle.sctp_link.specs.Linked.{State, IsOpenStream, IsLinked, stats_of}
 use Rattle.sctp_link.proofs.upkeep.Facts.{Facts, facts, stands-then}

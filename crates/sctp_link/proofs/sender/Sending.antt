@@ -39,12 +39,14 @@ use Rattle.sctp_refinement.proofs.sending.FilledDatagrams.{Fills, fill-sent, fil
 use Rattle.sctp_refinement.proofs.sending.Fragments.{shown, idle}
 use Rattle.sctp_refinement.proofs.sending.InLine.{before-started}
 use Rattle.sctp_refinement.proofs.acknowledging.QuietSender.{outbound-same, same-self}
-use Rattle.sctp_halves.specs.Streams.{OpenStream}
+use Rattle.sctp_link.specs.Streams.{OpenStream, join_each}
 use Rattle.sctp_link.specs.Places.{IsApart}
 use Rattle.sctp_link.specs.Encodings.{IsDatagram, packet_with, wire_data}
 use Rattle.sctp_link.specs.Linked.{State, IsLinked, IsOpenStream}
 use Rattle.sctp_link.specs.Records.{progress_of}
-use Rattle.sctp_link.specs.Sends.{Sender}
+use Rattle.sctp_stream.specs.declared.stream.StreamState.{StreamState}
+use Rattle.sctp_receiver.specs.declared.receiver.inbound_streams.InboundStream.{InboundStream}
+use Rattle.sctp_link.specs.Sends.{Outgoing}
 use Rattle.sctp_link.proofs.upkeep.Facts.{facts, stands-then}
 use Rattle.sctp_link.proofs.upkeep.Frames.{SameStream, stream-with, stream-quiet, filter-kept, encodings-more, fragments-same, written-kept}
 use Rattle.sctp_link.proofs.sender.Beginning.{index_kept}
@@ -202,14 +204,14 @@ module _ (sum : List ℕ → ℕ) (x : State) (l : IsLinked sum x) (now n : ℕ)
       ∙ ap (λ m. record u { slots = m; network = ns }) b
       ∙ ap (λ m. record u { slots = z.slots; network = m }) c
 
-  module _ (s : Sender) (b : Between x now (send_fragments (after_start x.recorded now)) s) (bytes : List ℕ) (encoding : IsDatagram sum (contents_of v (W.Data places)) bytes) (count : length x.datagrams ≡ length x.recorded.network) where
+  module _ (states : List StreamState) (inbounds : List InboundStream) (s : Outgoing) (b : Between states inbounds x now (send_fragments (after_start x.recorded now)) s) (bytes : List ℕ) (encoding : IsDatagram sum (contents_of v (W.Data places)) bytes) (count : length x.datagrams ≡ length x.recorded.network) where
     shape-same : shape (send_fragments (after_start x.recorded now)) ≡ shape v
     shape-same = ap shape only
 
-    stream-sent : (k : ℕ) (d : OpenStream) → k < length s.streams → IsOpenStream v (slice_index_or s.streams k d)
+    stream-sent : (k : ℕ) (d : OpenStream) → k < length (join_each states inbounds s.progress) → IsOpenStream v (slice_index_or (join_each states inbounds s.progress) k d)
     stream-sent k d lt =
         let y = slice_index_or x.open_streams k d in
-        let long : length s.streams ≡ length x.open_streams = sym (length-mapped (λ (l : OpenStream). l.state.stream_identifier) s.streams) ∙ ap length b.numbers ∙ length-mapped (λ (l : OpenStream). l.state.stream_identifier) x.open_streams in
+        let long : length (join_each states inbounds s.progress) ≡ length x.open_streams = sym (length-mapped (λ (l : OpenStream). l.state.stream_identifier) (join_each states inbounds s.progress)) ∙ ap length b.numbers ∙ length-mapped (λ (l : OpenStream). l.state.stream_identifier) x.open_streams in
         subst (IsOpenStream v) (sym (b.streams k d lt))
         (stream-with w v y (begun_on z y.state.stream_identifier) (stream-kept y.state.stream_identifier) (ap (λ h. Begun.begun h y.state.stream_identifier) shape-same) (l.open_streams k d (omega (arith, lt, long))))
 
@@ -224,7 +226,7 @@ module _ (sum : List ℕ → ℕ) (x : State) (l : IsLinked sum x) (now n : ℕ)
     outbound-sent : RefinesOutbound v s.outbound
     outbound-sent = let r : LinkRecord = record u { slots = z.slots } in outbound-same r v (same-self r v refl refl refl refl) s.outbound (subst (λ y. RefinesOutbound y s.outbound) only b.outbound)
 
-    pub linked-send : IsLinked sum (record x { recorded = v; open_streams = s.streams; progress = map progress_of s.messages; unstarted = length x.recorded.messages; datagrams = x.datagrams ++ bytes ∷ []; outbound = s.outbound; next_tsn = s.next_tsn })
+    pub linked-send : IsLinked sum (record x { recorded = v; open_streams = (join_each states inbounds s.progress); progress = map progress_of s.messages; unstarted = length x.recorded.messages; datagrams = x.datagrams ++ bytes ∷ []; outbound = s.outbound; next_tsn = s.next_tsn })
     linked-send = record {
       setup = l.setup;
       history = (E.Send now, reply_to w (E.Send now)) ∷ l.history;

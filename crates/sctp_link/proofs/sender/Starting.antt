@@ -5,12 +5,6 @@ use Rattle.std.proofs.Math.Path.{subst}
 use Rattle.std.proofs.lemmas.Bool.Decides.{nat_tests}
 use Rattle.sctp_list_lemmas.proofs.Getting.{length-mapped}
 use Rattle.sctp_outbound.specs.outbound_queue.OutboundQueue.{Outbound, all_started}
-use Rattle.sctp_receiver.specs.Receiver.{Reception}
-use Rattle.sctp_sender.specs.Flight.{with_queue}
-use Rattle.sctp_sender.specs.Sender as S
-use Rattle.sctp_sender.specs.Sender.{Transmission}
-use Rattle.sctp_halves.specs.declared.halves.progress.StreamProgress.{StreamProgress}
-use Rattle.sctp_halves.specs.Halves.{Sides, sides, with_flight}
 use Rattle.sctp_model.specs.declared.event.Event.TheVariants as E
 use Rattle.sctp_model.specs.Messages.{no_message, ordered_before}
 use Rattle.sctp_model.specs.Changes.{after_start, start_lifetime}
@@ -115,9 +109,3 @@ linked-starts sum x now ms started' unstarted q l em es e eu eq =
 
 pub start-moves : (sum : List ℕ → ℕ) (x : State) (now : ℕ) (ms started' : List Message) → IsLinked sum x → x.recorded.messages ≡ map message_record ms → started' ≡ start_from x.unstarted now ms → record x.recorded { messages = map message_record started' } ≡ after_start x.recorded now
 start-moves sum x now ms started' l em e = ap (λ a. record x.recorded { messages = a }) (ap (map message_record) e ∙ starts-records sum x l now ms em)
-
--- ## The halves
-
--- the sender starts them, of halves that are these parts
-pub started-sides : (t u : Transmission) (r : Reception) (ps : List StreamProgress) (now : ℕ) (x : Sides) → u ≡ S.with_flight (with_queue t.flight (all_started now t.flight.queue)) t → sides t r ps ≡ x → sides u r ps ≡ with_flight (with_queue x.flight (all_started now x.flight.queue)) x
-started-sides t u r ps now x starts is = ap (λ y. sides y r ps) starts ∙ ap (λ (y : Sides). with_flight (with_queue y.flight (all_started now y.flight.queue)) y) is

@@ -36,7 +36,7 @@ use Rattle.sctp_refinement.proofs.amounts.StreamAmounts.{amount-wrote}
 use Rattle.sctp_refinement.proofs.amounts.StreamCounters.{written-wrote, counters-wrote}
 use Rattle.sctp_list_lemmas.specs.Lists.{change_where}
 use Rattle.sctp_sender.specs.Outgoing.{fragments_with_mode, with_reliability}
-use Rattle.sctp_halves.specs.Streams.{OpenStream, both_ways, has_number, written_of, wrote_to}
+use Rattle.sctp_link.specs.Streams.{OpenStream, both_ways, has_number, written_of, wrote_to}
 use Rattle.sctp_link.specs.declared.record.Message.{Message}
 use Rattle.sctp_link.specs.Records.{stream_record, message_record}
 use Rattle.sctp_stream.specs.Stats.{with_sent}

@@ -23,7 +23,7 @@ use Rattle.sctp_sender.specs.Outgoing as Outgoing
 use Rattle.sctp_sender.specs.Outgoing.{fragments_with_mode}
 use Rattle.sctp_sender.specs.Sender.{Transmission, is_full_of, write_refusal}
 use Rattle.sctp_sender.proofs.SenderStreams
-use Rattle.sctp_halves.specs.Streams.{OpenStream, has_number, written_of, wrote_to}
+use Rattle.sctp_link.specs.Streams.{OpenStream, has_number, written_of, wrote_to}
 use Rattle.sctp_link.proofs.upkeep.StreamPlaces.{placed}
 use Rattle.sctp_link.specs.declared.record.Message.{Message}
 use Rattle.sctp_link.specs.Records.{stream_record, message_record, progress_of}

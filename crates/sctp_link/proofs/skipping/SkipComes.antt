@@ -29,7 +29,7 @@ use Rattle.sctp_refinement.proofs.reading.Taken
 use Rattle.sctp_refinement.proofs.skipping.SkipStep.{with_skip, skip-step}
 use Rattle.sctp_refinement.proofs.skipping.SkipSpans.{fits-both, skip-fits, next-short, least-start}
 use Rattle.sctp_refinement.proofs.arriving.SpanEnds.{sets-held}
-use Rattle.sctp_halves.specs.Streams.{OpenStream, has_number}
+use Rattle.sctp_link.specs.Streams.{OpenStream, has_number}
 use Rattle.sctp_link.specs.declared.skipped.Named.{Named}
 use Rattle.sctp_link.specs.declared.record.Message.{Message}
 use Rattle.sctp_link.specs.declared.record.Datagram.{Datagram}

@@ -29,16 +29,17 @@ use Rattle.sctp_receiver.specs.TsnFilter.{Filter, skipped_to, is_opposite}
 use Rattle.sctp_list_lemmas.specs.Serial.{at_or_before}
 use Rattle.sctp_receiver.specs.declared.receiver.refusal.ReceiverRefusal.{ReceiverRefusal}
 use Rattle.sctp_sender.specs.Sender.{Transmission}
-use Rattle.sctp_halves.specs.declared.halves.progress.StreamProgress.{StreamProgress}
-use Rattle.sctp_halves.specs.Streams.{OpenStream, stream_numbers, on_inbound, forwarded_on}
-use Rattle.sctp_halves.specs.Halves.{Sides, IsAligned, sides, reception_of, with_filter_of, follow_forward_tsn, after_forward}
-use Rattle.sctp_halves.proofs.Aligned.{reception-is, forward-numbers, forward-sides}
+use Rattle.sctp_progress.specs.Progress.{Standing}
+use Rattle.sctp_link.specs.Streams.{OpenStream, join, stream_numbers, on_inbound, forwarded_on}
+use Rattle.sctp_link.specs.Sides.{Sides, IsAligned, sides, reception_of, with_filter_of, follow_forward_tsn, after_forward}
+use Rattle.sctp_link.proofs.sides.Aligned.{reception-is, forward-aligned, forward-sides, standing-mapped, with-progress}
+use Rattle.sctp_link.proofs.sides.Joined.{progress-mapped}
 use Rattle.sctp_link.specs.declared.skipped.Named.{Named}
 use Rattle.sctp_link.specs.declared.record.Message.{Message}
 use Rattle.sctp_link.specs.Linked.{State, IsLinked, IsOpenStream, stats_of, filter_shown}
 use Rattle.sctp_link.specs.Places.{IsApart}
 use Rattle.sctp_link.specs.Records.{message_record, progress_of, stream_record}
-use Rattle.sctp_link.specs.Skips.{named_from, none_named, with_names, wire_skip}
+use Rattle.sctp_link.specs.Skips.{named_from, none_named, with_names, standing_named, wire_skip}
 use Rattle.sctp_link.proofs.receiver.Came.{filter-gone, never-opposite, passed-is}
 use Rattle.sctp_link.proofs.receiver.Hears.{raw-at}
 use Rattle.sctp_link.proofs.upkeep.Facts.{facts}
@@ -78,7 +79,7 @@ module _ (sum : List ℕ → ℕ) (x : State) (l : IsLinked sum x) (k upto : ℕ
   skips : Skips w upto names
   skips = skips-in sum x l k upto names e
 
-  -- ## Both halves
+  -- ## Both sides
 
   module _ (f : ForwardTsn) (y : Sides) (says : f ≡ wire_skip w upto names) (same : x.filter ≡ R.filter_of (reception_of y)) where
     -- its TSN is past what came
@@ -180,19 +181,31 @@ module _ (sum : List ℕ → ℕ) (x : State) (l : IsLinked sum x) (k upto : ℕ
     linked-follow skipped filter count is =
         linked-skip filter (record w { streams = map stream_record (map turned x.open_streams); skipped = skipped }) (filter-then filter is) (recorded-skipped skipped count)
 
--- ## The receiver of the halves
+-- ## The receiver, and the progress
 
 unless-refused : {T E P : Type 0} (r : Result T E) (o : Option E) → OnOk r P → IfErr r (λ e. o ≡ Some e) → o ≡ None → P
 unless-refused (Ok x) o p h none = p
 unless-refused (Err e) o p h none = absurd (cc)
 
-module _ (ns : List ℕ) (t : Transmission) (r s : Reception) (ps : List StreamProgress) (a : IsAligned ns t r ps) (y : Sides) (is : sides t r ps ≡ y) (f : ForwardTsn) (none : forward_refusal f (reception_of y) ≡ None) where
+module _ (t : Transmission) (r s : Reception) (ps : List Standing) (a : IsAligned t r ps) (f : ForwardTsn) (none : forward_refusal f (reception_of (sides t r ps)) ≡ None) where
   module _ {T : Type 0} (res : Result T ReceiverRefusal) (ok : OnOk res (s ≡ R.after_forward f r)) (refused : IfErr res (λ e. forward_refusal f r ≡ Some e)) where
     takes : s ≡ R.after_forward f r
-    takes = unless-refused res (forward_refusal f r) ok refused (ap (forward_refusal f) (sym (reception-is ns t r ps a) ∙ ap reception_of is) ∙ none)
+    takes = unless-refused res (forward_refusal f r) ok refused (ap (forward_refusal f) (sym (reception-is t r ps a)) ∙ none)
 
-    pub followed-aligned : IsAligned ns t s ps
-    followed-aligned = forward-numbers ns t r ps a f s takes
+    pub followed-aligned : IsAligned t s ps
+    followed-aligned = forward-aligned t r ps a f s takes
 
-    pub followed-sides : sides t s ps ≡ after_forward f y
-    followed-sides = forward-sides ns t r ps a f s takes ∙ ap (after_forward f) is
+    pub followed-sides : sides t s ps ≡ after_forward f (sides t r ps)
+    followed-sides = forward-sides t r ps a f s takes
+
+-- and it is recorded how far the messages of each stream were named
+module _ (t : Transmission) (r : Reception) (ps : List Standing) (a : IsAligned t r ps) (ms : List Message) (names : List ℕ) where
+  pub named-aligned : IsAligned t r (map (standing_named ms names) ps)
+  named-aligned = with-progress t r ps a _ (standing-mapped (standing_named ms names) (λ p. refl) ps)
+
+  pub named-sides : sides t r (map (standing_named ms names) ps) ≡ record (sides t r ps) { streams = map (with_names ms names) (sides t r ps).streams }
+  named-sides =
+      ap (λ ls. let y : Sides = record (sides t r ps) { streams = ls } in y)
+      (progress-mapped (standing_named ms names) (with_names ms names)
+      (λ s i p same. ap (λ n. join s i (let x : Standing = record p { next = max p.next (named_from ms n none_named names).end; named = max p.named (named_from ms n none_named names).end } in x)) (sym same))
+      t.streams r.streams ps a.progresses)

@@ -2,10 +2,10 @@
 use Rattle.std.proofs.Common.{◌≡◌, ℕ, zero, suc, ◌+◌, ◌<◌, List, [], ◌∷◌, ◌++◌, length, map, take, drop, ap, sym, ◌∙◌, subst, arith, add-one}
 use Rattle.std.specs.Prelude.{slice_index_or}
 use Rattle.sctp_list_lemmas.specs.Lists.{change_at}
-use Rattle.sctp_halves.specs.Streams.{OpenStream, with_named}
+use Rattle.sctp_progress.specs.Progress.{Standing, with_named}
 use Rattle.sctp_link.specs.declared.record.Message.{Message}
 use Rattle.sctp_link.specs.Records.{progress_of}
-use Rattle.sctp_link.specs.Skips.{index_in, named_from, none_named, with_names}
+use Rattle.sctp_link.specs.Skips.{index_in, named_from, none_named, standing_named}
 use Rattle.sctp_link.proofs.receiver.Hears.{raw-at}
 
 -- the index that is kept, where there is such a message
@@ -25,5 +25,5 @@ turned-next {X} f g xs ys i d lt is same =
     by (x ∷ xs) (suc i) lt e = ap (λ ys. f x ∷ ys) (by xs i (omega (arith, lt)) e)
 
 -- on each stream so far it is recorded how far it was named, and on one more
-pub names-next : (ms : List Message) (names : List ℕ) (ls now : List OpenStream) (i end : ℕ) (d : OpenStream) → i < length ls → now ≡ map (with_names ms names) (take i ls) ++ drop i ls → end ≡ (named_from ms (slice_index_or now i d).state.stream_identifier none_named names).end → change_at (with_named end) i now ≡ map (with_names ms names) (take (i + 1) ls) ++ drop (i + 1) ls
-names-next ms names ls now i end d lt is e = turned-next (with_names ms names) (with_named end) ls now i d lt is (ap (λ n. with_named n (slice_index_or now i d)) e)
+pub names-next : (ms : List Message) (names : List ℕ) (ls now : List Standing) (i end : ℕ) (d : Standing) → i < length ls → now ≡ map (standing_named ms names) (take i ls) ++ drop i ls → end ≡ (named_from ms (slice_index_or now i d).number none_named names).end → change_at (with_named end) i now ≡ map (standing_named ms names) (take (i + 1) ls) ++ drop (i + 1) ls
+names-next ms names ls now i end d lt is e = turned-next (standing_named ms names) (with_named end) ls now i d lt is (ap (λ n. with_named n (slice_index_or now i d)) e)

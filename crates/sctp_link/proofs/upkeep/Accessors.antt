@@ -13,7 +13,7 @@ use Rattle.sctp_refinement.proofs.amounts.InFlightBytes.{ledger-is, ledger_by}
 use Rattle.sctp_refinement.specs.Amount.{amount}
 use Rattle.sctp_refinement.specs.Counts.{counters_on}
 use Rattle.sctp_refinement.specs.Holds.{reassembly_of}
-use Rattle.sctp_halves.specs.Streams.{OpenStream, has_number, stats_in}
+use Rattle.sctp_link.specs.Streams.{OpenStream, has_number, stats_in}
 use Rattle.sctp_link.specs.declared.link.accessors.Ledger.{Ledger}
 use Rattle.sctp_link.specs.Linked.{State, IsLinked, ledger_of, stats_of}
 use Rattle.sctp_link.specs.Records.{stream_record}

@@ -12,7 +12,7 @@ use Rattle.sctp_model.specs.LinkRecord.{StreamRecord}
 use Rattle.sctp_refinement.proofs.arriving.Stays.{by_place}
 use Rattle.sctp_refinement.proofs.amounts.StreamAmounts.{same-turned}
 use Rattle.sctp_link.specs.Places.{IsApart}
-use Rattle.sctp_halves.specs.Streams.{OpenStream, has_number, stream_numbers}
+use Rattle.sctp_link.specs.Streams.{OpenStream, has_number, stream_numbers}
 use Rattle.sctp_link.specs.Records.{stream_record}
 use Rattle.sctp_serial.proofs.lemmas.ListEdits.{neither}
 

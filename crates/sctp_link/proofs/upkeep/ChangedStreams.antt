@@ -1,5 +1,5 @@
 -- Streams of one number are changed: what of a list stays, and what stands at each place.
-use Rattle.sctp_halves.specs.Streams.{OpenStream, has_number}
+use Rattle.sctp_link.specs.Streams.{OpenStream, has_number}
 use Rattle.std.proofs.Common.{◌≡◌, ℕ, ◌<◌, Bool, true, false, List, [], ◌∷◌, length, map, refl, ap, sym, ◌∙◌, arith}
 use Rattle.std.specs.Prelude.{if◌then◌else◌, ◌==◌, slice_index_or}
 use Rattle.sctp_list_lemmas.specs.Lists.{change_where}

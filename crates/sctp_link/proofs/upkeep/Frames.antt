@@ -7,7 +7,7 @@ use Rattle.sctp_list_lemmas.specs.Lists.{pieces}
 use Rattle.sctp_list_lemmas.proofs.Getting.{get-snoc_old, get-snoc_new, get-last, slice-front}
 use Rattle.sctp_list_lemmas.proofs.Cases.{by_last}
 use Rattle.sctp_model.specs.declared.event.Event.{Event}
-use Rattle.sctp_model.specs.LinkRecord.{Setup, LinkRecord}
+use Rattle.sctp_model.specs.LinkRecord.{LinkRecord}
 use Rattle.sctp_model.specs.LinkRecord as W
 use Rattle.sctp_model.specs.Messages.{ordered_before, message_at}
 use Rattle.sctp_model.specs.Receiver.{next_of}
@@ -33,7 +33,7 @@ use Rattle.sctp_refinement.proofs.amounts.StreamAmounts.{amount-same}
 use Rattle.sctp_model.proofs.receiver.ValidRun.{record_is_valid}
 use Rattle.sctp_refinement.proofs.sending.QuietReceiver.{reassembly-quiet, filter-quiet}
 use Rattle.sctp_refinement.proofs.reading.ReadOne.{KeepsNext, next-same}
-use Rattle.sctp_halves.specs.Streams.{OpenStream}
+use Rattle.sctp_link.specs.Streams.{OpenStream}
 use Rattle.sctp_link.specs.Encodings.{IsDatagram}
 use Rattle.sctp_link.specs.Linked.{State, IsOpenStream, IsLinked, stats_of}
 use Rattle.sctp_link.proofs.upkeep.Facts.{facts, says-still}

@@ -7,7 +7,7 @@ use Rattle.std.proofs.lemmas.Bool.{ne_eqb, eq-eqb}
 use Rattle.sctp_list_lemmas.specs.Lists.{change_where}
 use Rattle.sctp_list_lemmas.proofs.Edits.{change_where-only}
 use Rattle.sctp_refinement.proofs.arriving.Stays.{by_place}
-use Rattle.sctp_halves.specs.Streams.{OpenStream, number, has_number, stream_numbers}
+use Rattle.sctp_link.specs.Streams.{OpenStream, number, has_number, stream_numbers}
 use Rattle.sctp_link.specs.Places.{IsApart}
 use Rattle.sctp_link.proofs.upkeep.Apart.{number-found, differ}
 use Rattle.sctp_link.proofs.upkeep.ChangedStreams.{fields-same}

@@ -23,7 +23,7 @@ use Rattle.sctp_refinement.proofs.sending.Begun
 use Rattle.sctp_refinement.proofs.sending.Begun.{Indexed}
 use Rattle.sctp_refinement.proofs.acknowledging.QuietSender.{SameToSender, outbound-same}
 use Rattle.sctp_refinement.proofs.amounts.StreamAmounts.{amount-same}
-use Rattle.sctp_halves.specs.Streams.{OpenStream, stats_in, stream_numbers}
+use Rattle.sctp_link.specs.Streams.{OpenStream, stats_in, stream_numbers}
 use Rattle.sctp_link.specs.Linked.{State, IsLinked, IsOpenStream, stats_of, filter_shown}
 use Rattle.sctp_link.specs.Encodings.{IsDatagram}
 use Rattle.sctp_link.specs.Places.{IsApart}

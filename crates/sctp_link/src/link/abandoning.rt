@@ -6,7 +6,7 @@ ghost use Rattle.sctp_base.specs.declared.error.Error.TheVariants.{ErrOutOfMemor
 ghost use Rattle.sctp_link.specs.OpenStreams.{marks};
 
 use super::streams::fragments_in;
-use super::{Link, put};
+use super::{Link, memory, put};
 use crate::event::{LinkRefusal, Reply};
 use crate::record::{Message, Slot};
 use sctp_base::error::Result;
@@ -36,10 +36,7 @@ impl<C: Checksum + Drop> Link<C> {
         ensures { result ≡ is_partially_sent self.now.recorded number }
     {
         let message = &self.messages[number];
-        let count = fragments_in(
-            message.bytes.len(),
-            self.halves.sender().fragment_size() as usize,
-        );
+        let count = fragments_in(message.bytes.len(), self.sender.fragment_size() as usize);
         0 < message.sent && message.sent < count as u64 && !message.abandoned
     }
 
@@ -75,10 +72,13 @@ impl<C: Checksum + Drop> Link<C> {
         let number = self.slots[place].message;
         let half = self.is_partially_sent(number as usize);
         make_room(&mut self.slots, half)?;
-        let (stream, bytes) = self.halves.abandon(tsn)?;
+        let gone = match self.sender.abandon(tsn) {
+            Ok(gone) => gone,
+            Err(refusal) => return Err(memory(refusal)),
+        };
         let message = &mut self.messages[number as usize];
         settle(message, &mut self.slots, number, half);
-        Ok((stream, bytes as u64))
+        Ok((gone.stream, gone.bytes as u64))
     }
 
     /// Abandons the front message where it is partially sent and its lifetime is over;
@@ -91,7 +91,7 @@ impl<C: Checksum + Drop> Link<C> {
         ensures memory { IsOkUnless result ErrOutOfMemory }
         ensures wants { OnErr result (takes_memory self.old.recorded (E.Tail now) ≡ true) }
     {
-        let Some(chunk) = self.halves.sender().outbound().peek_pending() else {
+        let Some(chunk) = self.sender.outbound().peek_pending() else {
             return Ok(Reply::Idle);
         };
         if chunk.beginning_fragment {
@@ -101,12 +101,16 @@ impl<C: Checksum + Drop> Link<C> {
             return Ok(Reply::Idle);
         }
         make_room(&mut self.slots, true)?;
-        let (stream, number, bytes) = self.halves.expire_tail(now)?;
-        let message = &mut self.messages[number as usize];
-        settle(message, &mut self.slots, number, true);
+        let gone = match self.sender.expire_tail(now) {
+            Ok(gone) => gone,
+            Err(refusal) => return Err(memory(refusal)),
+        };
+        let Some(gone) = gone else { unreachable!() };
+        let message = &mut self.messages[gone.number as usize];
+        settle(message, &mut self.slots, gone.number, true);
         Ok(Reply::Released {
-            stream,
-            bytes: bytes as u64,
+            stream: gone.stream,
+            bytes: gone.bytes as u64,
         })
     }
 }

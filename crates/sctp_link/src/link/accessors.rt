@@ -50,8 +50,8 @@ impl<C: Checksum + Drop> Link<C> {
     pub fn ledger(&self) -> Ledger
         ensures { result ≡ ledger_of (ledger self.now.recorded) }
     {
-        let pending = self.halves.sender().outbound().pending_bytes() as u64;
-        let in_flight = self.halves.sender().outbound().inflight_bytes() as u64;
+        let pending = self.sender.outbound().pending_bytes() as u64;
+        let in_flight = self.sender.outbound().inflight_bytes() as u64;
         Ledger {
             written: self.written,
             pending,
@@ -67,7 +67,7 @@ impl<C: Checksum + Drop> Link<C> {
     pub fn buffered_amount(&self, stream: u16) -> Option<u64>
         ensures { result ≡ buffered_amount self.now.recorded stream }
     {
-        let amount = self.halves.buffered_amount(stream)?;
+        let amount = self.sender.buffered_amount(stream)?;
         Some(amount as u64)
     }
 
@@ -75,7 +75,16 @@ impl<C: Checksum + Drop> Link<C> {
     pub fn stats(&self, stream: u16) -> Option<DataChannelStats>
         ensures { result ≡ option_map stats_of (counters_of self.now.recorded stream) }
     {
-        self.halves.stats(stream)
+        let sent = self.sender.stats(stream)?;
+        let read = self.receiver.stats(stream)?;
+        Some(DataChannelStats {
+            stream_identifier: sent.stream_identifier,
+            generation: sent.generation,
+            messages_sent: sent.messages_sent,
+            bytes_sent: sent.bytes_sent,
+            messages_received: read.messages_received,
+            bytes_received: read.bytes_received,
+        })
     }
 
     /// What waits to be sent and what is in flight.
@@ -86,7 +95,7 @@ impl<C: Checksum + Drop> Link<C> {
         // what a further sending of each says, with its stream, stream sequence number and flags, while it has its bytes
         ensures says { map sending_of result.now.inflight.chunks ≡ sendings_of self.now.recorded }
     {
-        self.halves.sender().outbound()
+        self.sender.outbound()
     }
 
     /// The TSNs that came beyond the cumulative one, and those that came again
@@ -96,7 +105,7 @@ impl<C: Checksum + Drop> Link<C> {
             (cumulative_tsn self.now.recorded (cumulative self.now.recorded)) result.now
             ≡ filter_of self.now.recorded }
     {
-        self.halves.receiver().filter()
+        self.receiver.filter()
     }
 
     /// What came on an open stream and was not read; None where it is not open.
@@ -105,6 +114,6 @@ impl<C: Checksum + Drop> Link<C> {
             ≡ false) (λ q. (q.now.held ≡ reassembly_of self.now.recorded stream)
             × (q.now.si ≡ stream) × (q.now.max_message_size ≡ self.now.recorded.setup.largest)) }
     {
-        self.halves.reassembly(stream)
+        self.receiver.reassembly(stream)
     }
 }

@@ -18,17 +18,19 @@ impl<C: Checksum + Drop> Link<C> {
             (reply_of result) self.new.recorded }
         ensures checksum { self.new.checksum ≡ self.old.checksum }
     {
-        let Some(chunk) = self.halves.sender().outbound().peek_pending() else {
+        let Some(chunk) = self.sender.outbound().peek_pending() else {
             return Reply::Idle;
         };
         let number = chunk.message_id as usize;
-        let Some((stream, bytes)) = self.halves.expire(now) else {
+        let unordered = chunk.unordered;
+        let Some(gone) = self.sender.expire(now) else {
             return Reply::Idle;
         };
+        self.progress.record_expiry(gone.stream, unordered);
         self.messages[number].expired = true;
         Reply::Expired {
-            stream,
-            bytes: bytes as u64,
+            stream: gone.stream,
+            bytes: gone.bytes as u64,
         }
     }
 }

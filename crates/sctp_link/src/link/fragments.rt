@@ -8,17 +8,17 @@ ghost use Rattle.sctp_outbound.specs.pending_queue.PendingQueue.{next_pending};
 ghost use Rattle.sctp_outbound.specs.outbound_queue.OutboundQueue.{after_sends};
 ghost use Rattle.sctp_model.specs.Changes.{chunk_length};
 ghost use Rattle.sctp_refinement.specs.Filling.{chunks_taken};
-ghost use Rattle.sctp_halves.specs.Streams.{begun_of};
-ghost use Rattle.sctp_link.specs.OpenStreams.{fragment_slot, with_fragment, begun_by};
-ghost use Rattle.sctp_link.specs.Sends.{Sender, sender_of, CanSend, Leaves, Leave, SendsOnly};
+ghost use Rattle.sctp_link.specs.OpenStreams.{begun_of, fragment_slot, with_fragment, begun_by};
+ghost use Rattle.sctp_link.specs.Sends.{Outgoing, outgoing_of, CanSend, Leaves, Leave, SendsOnly};
 ghost use Rattle.sctp_serial.specs.DataChunks.{under_tsn};
 
 use crate::record::{Message, Slot};
 use sctp_base::error::Result;
 use sctp_chunks::chunk::chunk_kind::ChunkKind;
 use sctp_chunks::chunk::chunk_payload_data::ChunkPayloadData;
-use sctp_halves::Halves;
+use sctp_progress::Progress;
 use sctp_queues::outbound_queue::OutboundQueue;
+use sctp_sender::sender::Sender;
 use std::alloc::Global;
 
 /// The length of a packet's common header (RFC 4960 3.1).
@@ -101,60 +101,68 @@ pub(super) fn places_from(alloc: Global, first: usize, count: usize) -> Result<V
 /// Takes the next fragments, one after another: each gets a slot and the next TSN; `now` is in nanoseconds.
 /// Precondition: each can leave in its turn, and there is room for all of them.
 pub(super) fn take_fragments(
-    halves: &mut Halves,
+    sender: &mut Sender,
+    progress: &mut Progress,
     messages: &mut [Message],
     slots: &mut Vec<Slot>,
     now: u64,
     count: usize,
 )
-    requires able { (i : ℕ) (s : Sender) → i < count
-        → Leave now i (sender_of halves.old messages.old slots.old.items) s → CanSend s }
-    requires flight { count ≤ halves.old.flight.queue.inflight.room }
+    requires able { (i : ℕ) (s : Outgoing) → i < count
+        → Leave now i (outgoing_of sender.old progress.old messages.old slots.old.items) s → CanSend s }
+    requires flight { count ≤ sender.old.flight.queue.inflight.room }
     requires room { vec_len slots.old + count ≤ vec_capacity slots.old }
     ensures leave { Leave now count
-        (sender_of halves.old messages.old slots.old.items)
-        (sender_of halves.new messages.new slots.new.items) }
-    ensures rest { SendsOnly halves.old halves.new }
+        (outgoing_of sender.old progress.old messages.old slots.old.items)
+        (outgoing_of sender.new progress.new messages.new slots.new.items) }
+    ensures rest { SendsOnly sender.old sender.new }
 {
     for _at in 0..count {
-        take_next(halves, messages, slots, now);
+        take_next(sender, progress, messages, slots, now);
     }
 }
 
 /// Takes the next fragment: it gets a slot and the next TSN; `now` is in nanoseconds.
 /// Precondition: it can leave, and there is room for it.
-fn take_next(halves: &mut Halves, messages: &mut [Message], slots: &mut Vec<Slot>, now: u64)
-    requires able { CanSend (sender_of halves.old messages.old slots.old.items) }
-    requires flight { 0 < halves.old.flight.queue.inflight.room }
+fn take_next(
+    sender: &mut Sender,
+    progress: &mut Progress,
+    messages: &mut [Message],
+    slots: &mut Vec<Slot>,
+    now: u64,
+)
+    requires able { CanSend (outgoing_of sender.old progress.old messages.old slots.old.items) }
+    requires flight { 0 < sender.old.flight.queue.inflight.room }
     requires room { vec_len slots.old < vec_capacity slots.old }
-    ensures leaves { Leaves now (sender_of halves.old messages.old slots.old.items)
-        (sender_of halves.new messages.new slots.new.items) }
-    ensures rest { SendsOnly halves.old halves.new }
-    ensures flight { halves.old.flight.queue.inflight.room
-        ≡ halves.new.flight.queue.inflight.room + 1 }
+    ensures leaves { Leaves now (outgoing_of sender.old progress.old messages.old slots.old.items)
+        (outgoing_of sender.new progress.new messages.new slots.new.items) }
+    ensures rest { SendsOnly sender.old sender.new }
+    ensures flight { sender.old.flight.queue.inflight.room
+        ≡ sender.new.flight.queue.inflight.room + 1 }
     ensures len { vec_len slots.new ≡ vec_len slots.old + 1 }
     ensures capacity { vec_capacity slots.old ≤ vec_capacity slots.new }
 {
-    let Some(chunk) = halves.sender().outbound().peek_pending() else {
+    let Some(chunk) = sender.outbound().peek_pending() else {
         unreachable!()
     };
     let number = chunk.message_id;
-    halves.send_next(now);
-    let slot = take_fragment(&mut messages[number as usize], halves, number);
+    if sender.send_next_tsn_unbounded(now).is_err() {
+        unreachable!()
+    }
+    let slot = take_fragment(&mut messages[number as usize], progress, number);
     slots.push_reserved(slot);
 }
 
 /// The slot of the next fragment of a message, which it takes. The first one of an ordered message takes an index.
-fn take_fragment(message: &mut Message, halves: &mut Halves, number: u64) -> Slot
+fn take_fragment(message: &mut Message, progress: &mut Progress, number: u64) -> Slot
     requires fits { message.old.sent + 1 < 2 ^ 64 }
-    requires few { begun_of message.old.stream halves.old.streams + 1 < 2 ^ 64 }
+    requires few { begun_of message.old.stream progress.old + 1 < 2 ^ 64 }
     ensures slot { result ≡ fragment_slot number message.old.sent }
-    ensures taken { message.new ≡ with_fragment halves.old.streams message.old }
-    ensures rest { halves.new ≡
-        record halves.old { streams = begun_by message.old halves.old.streams } }
+    ensures taken { message.new ≡ with_fragment progress.old message.old }
+    ensures rest { progress.new ≡ begun_by message.old progress.old }
 {
     if message.ordered && message.sent == 0 {
-        message.index = halves.begin(message.stream);
+        message.index = progress.begin(message.stream);
     }
     let fragment = message.sent;
     message.sent += 1;

@@ -27,11 +27,7 @@ impl<C: Checksum + Drop> Link<C> {
         ensures memory { IsOkUnless result ErrOutOfMemory }
         ensures wants { OnErr result (takes_memory self.old.recorded (E.Late now) ≡ true) }
     {
-        let tsns = self
-            .halves
-            .sender()
-            .outbound()
-            .expired_inflight(self.alloc, now)?;
+        let tsns = self.sender.outbound().expired_inflight(self.alloc, now)?;
         // The partially sent message comes first: it alone takes memory, for its terminal chunk.
         let mut bytes = self.abandon_partially_sent(&tsns)?;
         for at in 0..tsns.len() {

@@ -82,10 +82,7 @@ impl<C: Checksum + Drop> Link<C> {
         ensures { result ≡ is_ended self.now.recorded number }
     {
         let message = &self.messages[number as usize];
-        let count = fragments_in(
-            message.bytes.len(),
-            self.halves.sender().fragment_size() as usize,
-        );
+        let count = fragments_in(message.bytes.len(), self.sender.fragment_size() as usize);
         message.abandoned || message.sent == count as u64
     }
 

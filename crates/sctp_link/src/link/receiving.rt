@@ -7,6 +7,7 @@ ghost use Rattle.sctp_model.specs.Steps.{unless};
 ghost use Rattle.sctp_model.specs.Reply as R;
 ghost use Rattle.sctp_link.specs.Replies.{reply_of};
 ghost use Rattle.sctp_model.specs.declared.event.LinkRefusal.TheVariants.{SpanTooWide};
+ghost use Rattle.sctp_receiver.specs.declared.receiver.refusal.ReceiverRefusal.TheVariants.{OutOfMemory};
 
 use super::Link;
 use super::arriving::{message_numbers, record_arrivals};
@@ -14,9 +15,10 @@ use super::skipping::count_of;
 use crate::datagram::read_data;
 use crate::event::{LinkRefusal, Reply};
 use crate::record::Kind;
-use sctp_base::error::Result;
+use sctp_base::error::{Error, Result};
 use sctp_base::util::Checksum;
 use sctp_queues::chunks::{Chunks, Fragments};
+use sctp_receiver::receiver::refusal::ReceiverRefusal;
 
 impl<C: Checksum + Drop> Link<C> {
     ghost use Rattle.sctp_model.specs.LinkRecord.{Data};
@@ -110,10 +112,10 @@ impl<C: Checksum + Drop> Link<C> {
         ensures high { result.1 ≡ greatest (next_of self.now.recorded stream)
             (map (index_of self.now.recorded) (held_on self.now.recorded stream)) }
     {
-        let Some(next) = self.halves.next_index(stream) else {
+        let Some(next) = self.progress.next_index(stream) else {
             unreachable!()
         };
-        let Some(queue) = self.halves.reassembly(stream) else {
+        let Some(queue) = self.receiver.reassembly(stream) else {
             unreachable!()
         };
         let held = queue.ordered();
@@ -144,7 +146,7 @@ impl<C: Checksum + Drop> Link<C> {
         requires { place < length self.now.recorded.slots }
         ensures { result ≡ is_new self.now.recorded place }
     {
-        let cumulative = count_of(self.halves.receiver().cumulative_tsn(), self.first_tsn);
+        let cumulative = count_of(self.receiver.cumulative_tsn(), self.first_tsn);
         cumulative <= place as u64 && !self.slots[place].arrived
     }
 
@@ -185,7 +187,13 @@ impl<C: Checksum + Drop> Link<C> {
         };
         let numbers = message_numbers(self.alloc, &self.slots, places)?;
         self.duplicates.reserve(places.len())?;
-        let arrivals = self.halves.data_each(&chunks, &numbers)?;
+        let arrivals = match self
+            .progress
+            .data_each(&mut self.receiver, &chunks, &numbers)
+        {
+            Ok(arrivals) => arrivals,
+            Err(refusal) => return Err(memory_of_receiver(refusal)),
+        };
         let new = record_arrivals(&mut self.slots, &mut self.duplicates, places, &arrivals);
         Ok(reply_to_data(new))
     }
@@ -198,7 +206,10 @@ impl<C: Checksum + Drop> Link<C> {
             (reply_of result) self.new.recorded }
         ensures checksum { self.new.checksum ≡ self.old.checksum }
     {
-        let Some(chunks) = self.halves.read(stream) else {
+        let Ok(message) = self.receiver.read(stream) else {
+            unreachable!()
+        };
+        let Some(chunks) = message else {
             return Reply::Nothing;
         };
         let place = first_tsn(&chunks).wrapping_sub(self.first_tsn) as usize;
@@ -206,13 +217,24 @@ impl<C: Checksum + Drop> Link<C> {
         let ppi = chunks.ppi();
         let message = &mut self.messages[number];
         message.read = true;
-        self.halves
+        self.progress
             .record_read(stream, message.ordered, message.index);
         Reply::Message {
             stream,
             ppi,
             chunks,
         }
+    }
+}
+
+// The error of a receiver that refused for memory.
+fn memory_of_receiver(refusal: ReceiverRefusal) -> Error
+    requires { refusal ≡ OutOfMemory }
+    ensures { result ≡ ErrOutOfMemory }
+{
+    match refusal {
+        ReceiverRefusal::OutOfMemory => Error::ErrOutOfMemory,
+        _ => unreachable!(),
     }
 }
 

@@ -7,7 +7,7 @@ ghost use Rattle.sctp_outbound.specs.payload_queue.Blocks.{is_in_blocks};
 ghost use Rattle.sctp_model.specs.LinkRecord.{LinkRecord};
 ghost use Rattle.sctp_link.specs.Acking.{IsMarking, IsNearer, and_run, and_blocks, in_block};
 
-use super::Link;
+use super::{Link, memory};
 use crate::datagram::read_sack;
 use crate::event::{LinkRefusal, Reply};
 use crate::record::{Kind, Slot};
@@ -53,12 +53,15 @@ impl<C: Checksum + Drop> Link<C> {
         // One that a later SACK overtook is told from the cumulative TSN of the later one.
         let upto = self.first_tsn.wrapping_sub(1).wrapping_add(taken as u32);
         rebase(&mut sack, upto, taken - cumulative);
-        let before = self.halves.sender().outbound().inflight_bytes();
-        self.halves.acked(&sack)?;
+        let before = self.sender.outbound().inflight_bytes();
+        match self.sender.acked(&sack) {
+            Ok(_) => {}
+            Err(refusal) => return Err(memory(refusal)),
+        }
         acknowledge_run(&mut self.slots, self.taken, taken);
         acknowledge_blocks(&mut self.slots, taken, &sack.gap_ack_blocks);
         self.taken = taken;
-        let bytes = before.saturating_sub(self.halves.sender().outbound().inflight_bytes()) as u64;
+        let bytes = before.saturating_sub(self.sender.outbound().inflight_bytes()) as u64;
         Ok(Reply::Acked { bytes })
     }
 }

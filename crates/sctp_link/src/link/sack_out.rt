@@ -7,7 +7,7 @@ use super::{Link, put};
 use crate::datagram::write_datagram;
 use crate::event::{LinkRefusal, Reply};
 use crate::record::{Datagram, Kind};
-use sctp_base::error::Result;
+use sctp_base::error::{Error, Result};
 use sctp_base::util::Checksum;
 use sctp_chunks::chunk::chunk_kind::ChunkKind;
 
@@ -24,7 +24,9 @@ impl<C: Checksum + Drop> Link<C> {
         ensures err { OnErr result (self.new.recorded ≡ self.old.recorded) }
         ensures memory { IsOkUnless result ErrOutOfMemory }
     {
-        let sack = self.halves.make_sack(credit)?;
+        let Ok(sack) = self.receiver.make_sack_with(credit) else {
+            return Err(Error::ErrOutOfMemory);
+        };
         let blocks = Vec::from_slice(self.alloc, &sack.gap_ack_blocks)?;
         let count = sack.duplicate_tsn.len();
         let duplicates = Vec::from_slice(self.alloc, &self.duplicates[..count])?;
@@ -41,8 +43,7 @@ impl<C: Checksum + Drop> Link<C> {
             duplicates,
         };
         let datagram = self.network.len() as u64;
-        let halves = &mut self.halves;
-        halves.receiver.sack_sent();
+        self.receiver.sack_sent();
         self.duplicates.clear();
         put(&mut self.network, Datagram { kind, bytes });
         Ok(Reply::Ack { datagram })

@@ -5,7 +5,7 @@ ghost use Rattle.sctp_base.specs.declared.error.Error.TheVariants.{ErrOutOfMemor
 
 use super::fragments::{next_chunks, places_from, take_fragments};
 use super::streams::start_from;
-use super::{Link, put};
+use super::{Link, memory, put};
 use crate::datagram::{write_chunks, write_datagram};
 use crate::event::{LinkRefusal, Reply};
 use crate::record::{Datagram, Kind};
@@ -29,31 +29,28 @@ impl<C: Checksum + Drop> Link<C> {
         ensures memory { IsOkUnless result ErrOutOfMemory }
         ensures wants { OnErr result (takes_memory self.old.recorded (E.Send now) ≡ true) }
     {
-        let Some(first) = self.halves.sender().outbound().peek_pending() else {
+        let Some(first) = self.sender.outbound().peek_pending() else {
             self.start(now);
             return Ok(Reply::Idle);
         };
         let ssn = first.stream_sequence_number;
-        let tsn = self.halves.sender().next_tsn();
-        let chunks = next_chunks(
-            self.alloc,
-            self.halves.sender().outbound(),
-            first,
-            tsn,
-            self.limit,
-        )?;
+        let tsn = self.sender.next_tsn();
+        let chunks = next_chunks(self.alloc, self.sender.outbound(), first, tsn, self.limit)?;
         let count = chunks.len();
         let bytes = write_chunks(self.alloc, chunks, &self.checksum)?;
         let places = places_from(self.alloc, self.slots.len(), count)?;
         self.slots.reserve(count)?;
         self.network.reserve(1)?;
-        self.halves.reserve(count)?;
-        let halves = &mut self.halves;
-        halves.sender.start(now);
+        match self.sender.reserve(count) {
+            Ok(()) => {}
+            Err(refusal) => return Err(memory(refusal)),
+        }
+        self.sender.start(now);
         start_from(&mut self.messages, self.unstarted, now);
         self.unstarted = self.messages.len();
         take_fragments(
-            &mut self.halves,
+            &mut self.sender,
+            &mut self.progress,
             &mut self.messages,
             &mut self.slots,
             now,
@@ -100,15 +97,14 @@ impl<C: Checksum + Drop> Link<C> {
         ensures err { OnErr result (self.new.recorded ≡ self.old.recorded) }
         ensures memory { IsOkUnless result ErrOutOfMemory }
     {
-        let Some(chunk) = self.halves.sender().outbound().get(tsn) else {
+        let Some(chunk) = self.sender.outbound().get(tsn) else {
             unreachable!()
         };
         let chunk = chunk.try_clone()?;
         let places = places_from(self.alloc, tsn.wrapping_sub(self.first_tsn) as usize, 1)?;
         let bytes = write_datagram(self.alloc, ChunkKind::PayloadData(chunk), &self.checksum)?;
         self.network.reserve(1)?;
-        let halves = &mut self.halves;
-        halves.sender.count_resend(tsn);
+        self.sender.count_resend(tsn);
         let datagram = self.network.len() as u64;
         let kind = Kind::Data { places };
         put(&mut self.network, Datagram { kind, bytes });

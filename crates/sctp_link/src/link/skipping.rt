@@ -31,7 +31,7 @@ impl<C: Checksum + Drop> Link<C> {
             ≡ Some (Forward upto names.now)) }
         ensures { result ≡ arrival_fits self.now.recorded (Some (Forward upto names.now)) }
     {
-        let cumulative = count_of(self.halves.receiver().cumulative_tsn(), self.first_tsn);
+        let cumulative = count_of(self.receiver.cumulative_tsn(), self.first_tsn);
         if cumulative > upto {
             return true;
         }
@@ -46,7 +46,7 @@ impl<C: Checksum + Drop> Link<C> {
             ≡ list_all (λ r. names_fit self.now.recorded r.stream names.now)
             self.now.recorded.streams }
     {
-        for at in 0..self.halves.stream_count() {
+        for at in 0..self.progress.len() {
             if !self.stream_fits(at, upto, names) {
                 return false;
             }
@@ -62,7 +62,7 @@ impl<C: Checksum + Drop> Link<C> {
         ensures { (r : StreamRecord) → slice_get self.now.recorded.streams at ≡ Some r
             → result ≡ names_fit self.now.recorded r.stream names.now }
     {
-        let stream = self.halves.stream_at(at);
+        let stream = self.progress.number_at(at);
         let named = named_on(&self.messages, stream, names);
         let (low, high) = self.index_range(stream);
         let span = low.min(named.low) + 0x8000;
@@ -78,7 +78,7 @@ impl<C: Checksum + Drop> Link<C> {
         ensures { result
             ≡ min_with (complete_first self.now.recorded (held_on self.now.recorded stream)) low }
     {
-        let Some(queue) = self.halves.reassembly(stream) else {
+        let Some(queue) = self.receiver.reassembly(stream) else {
             unreachable!()
         };
         let held = queue.ordered();
@@ -103,7 +103,7 @@ impl<C: Checksum + Drop> Link<C> {
         ensures memory { IsOkUnless result ErrOutOfMemory }
     {
         let chunk = read_forward_tsn(self.alloc, &self.network[k as usize].bytes, &self.checksum)?;
-        let cumulative = count_of(self.halves.receiver().cumulative_tsn(), self.first_tsn);
+        let cumulative = count_of(self.receiver.cumulative_tsn(), self.first_tsn);
         if cumulative > upto {
             return Ok(Reply::Stale);
         }
@@ -128,9 +128,8 @@ impl<C: Checksum + Drop> Link<C> {
         let Kind::Forward { messages, .. } = &self.network[k as usize].kind else {
             unreachable!()
         };
-        let halves = &mut self.halves;
-        let _ = halves.receiver.forward_tsn_by_names(chunk);
-        record_names(&mut self.halves, &self.messages, messages);
+        let _ = self.receiver.forward_tsn_by_names(chunk);
+        record_names(&mut self.progress, &self.messages, messages);
         self.skipped = upto as usize + 1;
     }
 }

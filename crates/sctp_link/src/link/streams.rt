@@ -3,17 +3,18 @@
 ghost use Rattle.std.specs.Prelude.{◌≡◌, ◌<◌, ◌≤◌, ◌+◌, ◌-◌, ◌^◌, ◌∷◌, ◌++◌, ℕ, [], None, Some, List, OnOk, OnErr, IfOk, IsOkUnless, length, nat_le, if◌then◌else◌, true};
 ghost use Rattle.sctp_base.specs.declared.error.Error.TheVariants.{ErrOutOfMemory};
 ghost use Rattle.sctp_list_lemmas.specs.Lists.{pieces};
+ghost use Rattle.sctp_data.specs.PayloadTypes.{is_ordered};
 ghost use Rattle.sctp_link.specs.OpenStreams.{start_from, message_written};
 ghost use Rattle.sctp_link.specs.declared.record.Message.{Message};
 
-use super::{Link, put};
+use super::{Link, memory, put};
 use crate::event::{LinkRefusal, Reply};
-use crate::record::Message;
+use crate::record::{Message, Written};
 use bytes::Bytes;
-use sctp_base::error::Result;
+use sctp_base::error::{Error, Result};
 use sctp_base::util::Checksum;
 use sctp_chunks::chunk::chunk_payload_data::{PayloadProtocolIdentifier, ReliabilityType};
-use sctp_halves::halves::progress::Written;
+use sctp_stream::stream::StreamState;
 
 impl<C: Checksum + Drop> Link<C> {
     ghost use Rattle.sctp_model.specs.Steps.{IsRight, refusal_of, takes_memory};
@@ -31,7 +32,18 @@ impl<C: Checksum + Drop> Link<C> {
         ensures err { OnErr result (self.new.recorded ≡ self.old.recorded) }
         ensures memory { IsOkUnless result ErrOutOfMemory }
     {
-        self.halves.open(stream)?;
+        if self.sender.open(stream).is_err() {
+            return Err(Error::ErrOutOfMemory);
+        }
+        if self.receiver.open(stream).is_err() {
+            self.sender.close(stream);
+            return Err(Error::ErrOutOfMemory);
+        }
+        if self.progress.open(stream).is_err() {
+            self.receiver.close(stream);
+            self.sender.close(stream);
+            return Err(Error::ErrOutOfMemory);
+        }
         Ok(Reply::Opened)
     }
 
@@ -49,10 +61,7 @@ impl<C: Checksum + Drop> Link<C> {
             (E.Mode stream unordered reliability value) (reply_of result) self.new.recorded }
         ensures checksum { self.new.checksum ≡ self.old.checksum }
     {
-        let halves = &mut self.halves;
-        let _ = halves
-            .sender
-            .set_mode(stream, unordered, reliability, value);
+        let _ = self.sender.set_mode(stream, unordered, reliability, value);
         Reply::Set
     }
 
@@ -65,10 +74,10 @@ impl<C: Checksum + Drop> Link<C> {
         if !self.is_open(stream) {
             return Some(LinkRefusal::StreamUnknown);
         }
-        if len > self.halves.sender().max_message_size() as usize {
+        if len > self.sender.max_message_size() as usize {
             return Some(LinkRefusal::MessageTooLarge);
         }
-        let fragments = fragments_in(len, self.halves.sender().fragment_size() as usize);
+        let fragments = fragments_in(len, self.sender.fragment_size() as usize);
         if self.fragments + fragments >= 0x8000_0000 {
             return Some(LinkRefusal::TsnsUsedUp);
         }
@@ -100,9 +109,17 @@ impl<C: Checksum + Drop> Link<C> {
             });
         }
         let len = bytes.len();
-        let count = fragments_in(len, self.halves.sender().fragment_size() as usize);
+        let count = fragments_in(len, self.sender.fragment_size() as usize);
         self.messages.reserve(1)?;
-        let written = self.halves.write(stream, ppi, &bytes)?;
+        let Some(state) = self.sender.stream(stream) else {
+            unreachable!()
+        };
+        let written = written_of(state, ppi, self.progress.ordered(stream));
+        match self.sender.write(stream, ppi, &bytes) {
+            Ok(_) => {}
+            Err(refusal) => return Err(memory(refusal)),
+        }
+        self.progress.record_write(stream, written.ordered);
         let number = self.messages.len() as u64;
         put(
             &mut self.messages,
@@ -122,11 +139,25 @@ impl<C: Checksum + Drop> Link<C> {
             (reply_of result) self.new.recorded }
         ensures checksum { self.new.checksum ≡ self.old.checksum }
     {
-        let halves = &mut self.halves;
-        halves.sender.start(now);
+        self.sender.start(now);
         start_from(&mut self.messages, self.unstarted, now);
         self.unstarted = self.messages.len();
         Reply::Started
+    }
+}
+
+/// What is recorded of a write to a stream on which so many ordered messages were written before.
+fn written_of(state: &StreamState, ppi: PayloadProtocolIdentifier, before: u64) -> Written
+    ensures ordered { result.ordered ≡ is_ordered state.now.unordered ppi }
+    ensures reliability { result.reliability ≡ state.now.reliability_type }
+    ensures value { result.value ≡ state.now.reliability_value }
+    ensures before { result.before ≡ before }
+{
+    Written {
+        ordered: state.is_ordered(ppi),
+        reliability: state.reliability_type(),
+        value: state.reliability_value(),
+        before,
     }
 }
 

@@ -1,10 +1,8 @@
-use Rattle.std.proofs.Common.{◌≡◌, map, ap, sym, ◌∙◌}
+use Rattle.std.proofs.Common.{◌≡◌, ap, sym, ◌∙◌}
 use Rattle.sctp_model.specs.Queues.{FilterRecord}
 use Rattle.sctp_model.specs.Receiver.{cumulative}
 use Rattle.sctp_model.specs.Contents.{cumulative_tsn}
 use Rattle.sctp_receiver.proofs.Marks.{tsns-mark}
-use Rattle.sctp_receiver.specs.Receiver.{Reception}
-use Rattle.sctp_receiver.specs.TsnFilter.{mark}
 use Rattle.sctp_link.specs.Fields.{record_in}
 use Rattle.sctp_link.proofs.link.Link.filter.Goals as goal
 use Rattle.sctp_serial.specs.DataChunks.{tsns}
@@ -12,11 +10,11 @@ use Rattle.sctp_serial.specs.DataChunks.{tsns}
 pub returns : goal.returns
 returns g c =
     let w = record_in c.self.inside in
-    let f = c.self.invariant.filter in
-    let held : tsns c.filter.result.now.chunks ≡ c.self.inside.halves.beyond = ap tsns (c.filter.ensures.beyond ∙ ap (λ (r : Reception). map mark r.beyond) c.receiver.ensures) ∙ tsns-mark c.self.inside.halves.beyond in
-    let base : cumulative_tsn w (cumulative w) ≡ c.self.inside.halves.cumulative_tsn = sym (ap (λ (r : FilterRecord). r.cumulative) f) in
+    let f = c.self.invariant.1.filter in
+    let held : tsns c.filter.result.now.chunks ≡ c.self.inside.receiver.beyond = ap tsns c.filter.ensures.beyond ∙ tsns-mark c.self.inside.receiver.beyond in
+    let base : cumulative_tsn w (cumulative w) ≡ c.self.inside.receiver.cumulative_tsn = sym (ap (λ (r : FilterRecord). r.cumulative) f) in
     rw (← c.self.view_is)
     (ap (λ t. let r : FilterRecord = record { cumulative = t; held = tsns c.filter.result.now.chunks; duplicates = c.filter.result.now.duplicates } in r) base
-    ∙ ap (λ ts. let r : FilterRecord = record { cumulative = c.self.inside.halves.cumulative_tsn; held = ts; duplicates = c.filter.result.now.duplicates } in r) held
-    ∙ ap (λ ds. let r : FilterRecord = record { cumulative = c.self.inside.halves.cumulative_tsn; held = c.self.inside.halves.beyond; duplicates = ds } in r) (c.filter.ensures.duplicates ∙ ap (λ (r : Reception). r.duplicates) c.receiver.ensures)
+    ∙ ap (λ ts. let r : FilterRecord = record { cumulative = c.self.inside.receiver.cumulative_tsn; held = ts; duplicates = c.filter.result.now.duplicates } in r) held
+    ∙ ap (λ ds. let r : FilterRecord = record { cumulative = c.self.inside.receiver.cumulative_tsn; held = c.self.inside.receiver.beyond; duplicates = ds } in r) c.filter.ensures.duplicates
     ∙ f)

@@ -16,7 +16,7 @@ overflow_step-later g c =
     let x = state_in c.self.inside in
     let slots = c.self.inside.slots.items in
     let messages = c.self.inside.messages.items in
-    let l = c.self.invariant in
+    let l = c.self.invariant.1 in
     let inside : c.args.place < length w.slots = rw (← c.self.view_is) at c.requires in
     omega (arith, inside, (facts sum x l).few)
 
@@ -27,7 +27,7 @@ returns-then-index-number g c =
     let x = state_in c.self.inside in
     let slots = c.self.inside.slots.items in
     let messages = c.self.inside.messages.items in
-    let l = c.self.invariant in
+    let l = c.self.invariant.1 in
     let inside : c.loop-later.later < length slots = omega (arith, c.loop-later-test.true, c.len-count.ensures) in
     let made : c.loop-later.later < length w.slots = omega (arith, inside, slots-made sum x l slots messages refl refl) in
     let of : message_of w c.loop-later.later ≡ c.index.result.now.message = slot-of sum x l slots messages refl refl c.loop-later.later c.index.result.now inside c.index.ensures in
@@ -41,7 +41,7 @@ loop-later-preserved g c =
     let x = state_in c.self.inside in
     let slots = c.self.inside.slots.items in
     let messages = c.self.inside.messages.items in
-    let l = c.self.invariant in
+    let l = c.self.invariant.1 in
     let inside : c.loop-later.later < length slots = omega (arith, c.loop-later-test.true, c.len-count.ensures) in
     let made : c.loop-later.later < length w.slots = omega (arith, inside, slots-made sum x l slots messages refl refl) in
     let of : message_of w c.loop-later.later ≡ c.index.result.now.message = slot-of sum x l slots messages refl refl c.loop-later.later c.index.result.now inside c.index.ensures in
@@ -56,6 +56,6 @@ returns g c =
     let x = state_in c.self.inside in
     let slots = c.self.inside.slots.items in
     let messages = c.self.inside.messages.items in
-    let l = c.self.invariant in
+    let l = c.self.invariant.1 in
     let so-far : (p : ℕ) → c.args.place < p → p < c.loop-later.later → belongs_to w c.args.number p ≡ false = rw (← c.self.view_is) at c.loop-later.invariant in
     rw (← c.self.view_is) (past-none w c.args.number c.args.place (λ p a b. so-far p a (omega (arith, b, c.loop-later-test.false, c.len-count.ensures, slots-made sum x l slots messages refl refl))))

@@ -15,7 +15,7 @@ index-requires g c =
     let a = c.self.inside in
     let sum = g.C.Checksum.sum a.checksum in
     let lies : LiesSomewhere (record_in a) c.args.place = rw (← c.self.view_is) at c.requires in
-    let k = kept-at sum a c.self.invariant c.args.place lies in
+    let k = kept-at sum a c.self.invariant.1 c.args.place lies in
     omega (arith, k.inside)
 
 pub index-message-requires : goal.index-message-requires
@@ -23,8 +23,8 @@ index-message-requires g c =
     let a = c.self.inside in
     let sum = g.C.Checksum.sum a.checksum in
     let lies : LiesSomewhere (record_in a) c.args.place = rw (← c.self.view_is) at c.requires in
-    let k = kept-at sum a c.self.invariant c.args.place lies in
-    let number = number-kept sum a c.self.invariant c.args.place k c.index.result.now c.index.ensures in
+    let k = kept-at sum a c.self.invariant.1 c.args.place lies in
+    let number = number-kept sum a c.self.invariant.1 c.args.place k c.index.result.now c.index.ensures in
     omega (arith, number, k.made)
 
 pub is_new-requires : goal.is_new-requires
@@ -32,7 +32,7 @@ is_new-requires g c =
     let a = c.self.inside in
     let sum = g.C.Checksum.sum a.checksum in
     let lies : LiesSomewhere (record_in a) c.args.place = rw (← c.self.view_is) at c.requires in
-    let k = kept-at sum a c.self.invariant c.args.place lies in
+    let k = kept-at sum a c.self.invariant.1 c.args.place lies in
     rw (← c.self.view_is) k.carried.made
 
 pub returns-then-not-adds : goal.returns-then-not-adds
@@ -42,9 +42,9 @@ returns-then-not-adds g c =
     let a = c.self.inside in
     let sum = g.C.Checksum.sum a.checksum in
     let lies : LiesSomewhere (record_in a) c.args.place = rw (← c.self.view_is) at c.requires in
-    let k = kept-at sum a c.self.invariant c.args.place lies in
+    let k = kept-at sum a c.self.invariant.1 c.args.place lies in
     let m = c.index-message.result.now in
-    let m_is = message-kept sum a c.self.invariant c.args.place k c.index.result.now c.index.ensures m c.index-message.ensures in
+    let m_is = message-kept sum a c.self.invariant.1 c.args.place k c.index.result.now c.index.ensures m c.index-message.ensures in
     let told : c.is_new.result ≡ is_new w p = rw (← c.self.view_is) at c.is_new.ensures in
     let told_on : (((message_at w (message_of w p)).stream == c.args.stream) && (message_at w (message_of w p)).ordered && is_new w p) ≡ ((m.stream == c.args.stream) && m.ordered && c.is_new.result) = ap (λ t. (t.stream == c.args.stream) && t.ordered && is_new w p) m_is ∙ ap (λ b. (m.stream == c.args.stream) && m.ordered && b) (sym told) in
     let none : adds_on w c.args.stream p ≡ false = sym (adds-is w c.args.stream p k.carried) ∙ told_on ∙ c.if-not-adds.true in
@@ -57,12 +57,12 @@ returns g c =
     let a = c.self.inside in
     let sum = g.C.Checksum.sum a.checksum in
     let lies : LiesSomewhere (record_in a) c.args.place = rw (← c.self.view_is) at c.requires in
-    let k = kept-at sum a c.self.invariant c.args.place lies in
+    let k = kept-at sum a c.self.invariant.1 c.args.place lies in
     let m = c.index-message.result.now in
-    let m_is = message-kept sum a c.self.invariant c.args.place k c.index.result.now c.index.ensures m c.index-message.ensures in
+    let m_is = message-kept sum a c.self.invariant.1 c.args.place k c.index.result.now c.index.ensures m c.index-message.ensures in
     let told : c.is_new.result ≡ is_new w p = rw (← c.self.view_is) at c.is_new.ensures in
     let told_on : (((message_at w (message_of w p)).stream == c.args.stream) && (message_at w (message_of w p)).ordered && is_new w p) ≡ ((m.stream == c.args.stream) && m.ordered && c.is_new.result) = ap (λ t. (t.stream == c.args.stream) && t.ordered && is_new w p) m_is ∙ ap (λ b. (m.stream == c.args.stream) && m.ordered && b) (sym told) in
     let on : adds_on w c.args.stream p ≡ true = sym (adds-is w c.args.stream p k.carried) ∙ told_on ∙ c.if-not-adds.false in
     let ordered = on-ordered w c.args.stream (message_of w p) (both (is_new w p) (is_ordered_on w c.args.stream (message_of w p)) on).1 in
-    let i = index-kept sum a c.self.invariant p k c.index.result.now c.index.ensures m c.index-message.ensures in
-    rw (← c.self.view_is) (ap Some (sym i ∙ come-index sum (state_in a) c.self.invariant p k.carried ordered) ∙ ap (λ b. if b then Some (index_of w (message_of w p)) else None) (sym on))
+    let i = index-kept sum a c.self.invariant.1 p k c.index.result.now c.index.ensures m c.index-message.ensures in
+    rw (← c.self.view_is) (ap Some (sym i ∙ come-index sum (state_in a) c.self.invariant.1 p k.carried ordered) ∙ ap (λ b. if b then Some (index_of w (message_of w p)) else None) (sym on))

@@ -12,9 +12,9 @@ index-requires g c =
     let slots = c.self.inside.slots.items in
     let messages = c.self.inside.messages.items in
     let r : (s : ℕ) × (n : ℕ) × (is_held (record_in c.self.inside) s n ≡ true) × (c.args.set.now ≡ set_of (record_in c.self.inside) n) = rw (← c.self.view_is) at c.requires in
-    let begins = held-begins sum x c.self.invariant slots messages refl refl r.0 r.1 c.args.set.now c.fragments.result.now c.fragments.ensures r.2 r.3 in
-    let made = held-made sum x c.self.invariant slots messages refl refl r.0 r.1 r.2 in
-    omega (arith, lead-slot sum x c.self.invariant slots messages refl refl r.1 c.fragments.result.now c.index-fragments-0.result begins made)
+    let begins = held-begins sum x c.self.invariant.1 slots messages refl refl r.0 r.1 c.args.set.now c.fragments.result.now c.fragments.ensures r.2 r.3 in
+    let made = held-made sum x c.self.invariant.1 slots messages refl refl r.0 r.1 r.2 in
+    omega (arith, lead-slot sum x c.self.invariant.1 slots messages refl refl r.1 c.fragments.result.now c.index-fragments-0.result begins made)
 
 pub index-requires-2 : goal.index-requires-2
 index-requires-2 g c =
@@ -23,9 +23,9 @@ index-requires-2 g c =
     let slots = c.self.inside.slots.items in
     let messages = c.self.inside.messages.items in
     let r : (s : ℕ) × (n : ℕ) × (is_held (record_in c.self.inside) s n ≡ true) × (c.args.set.now ≡ set_of (record_in c.self.inside) n) = rw (← c.self.view_is) at c.requires in
-    let begins = held-begins sum x c.self.invariant slots messages refl refl r.0 r.1 c.args.set.now c.fragments.result.now c.fragments.ensures r.2 r.3 in
-    let made = held-made sum x c.self.invariant slots messages refl refl r.0 r.1 r.2 in
-    omega (arith, lead-message sum x c.self.invariant slots messages refl refl r.1 c.fragments.result.now c.index-fragments-0.result begins made c.index.result.now c.index.ensures)
+    let begins = held-begins sum x c.self.invariant.1 slots messages refl refl r.0 r.1 c.args.set.now c.fragments.result.now c.fragments.ensures r.2 r.3 in
+    let made = held-made sum x c.self.invariant.1 slots messages refl refl r.0 r.1 r.2 in
+    omega (arith, lead-message sum x c.self.invariant.1 slots messages refl refl r.1 c.fragments.result.now c.index-fragments-0.result begins made c.index.result.now c.index.ensures)
 
 pub returns : goal.returns
 returns g c =
@@ -33,4 +33,4 @@ returns g c =
     let x = state_in c.self.inside in
     let slots = c.self.inside.slots.items in
     let messages = c.self.inside.messages.items in
-    rw (← c.self.view_is) (λ s n h e. lead-index sum x c.self.invariant slots messages refl refl n c.fragments.result.now c.index-fragments-0.result (held-begins sum x c.self.invariant slots messages refl refl s n c.args.set.now c.fragments.result.now c.fragments.ensures h e) (held-made sum x c.self.invariant slots messages refl refl s n h) refl (held-ordered sum x c.self.invariant slots messages refl refl s n h) c.index.result.now c.index-2.result.now c.index.ensures c.index-2.ensures)
+    rw (← c.self.view_is) (λ s n h e. lead-index sum x c.self.invariant.1 slots messages refl refl n c.fragments.result.now c.index-fragments-0.result (held-begins sum x c.self.invariant.1 slots messages refl refl s n c.args.set.now c.fragments.result.now c.fragments.ensures h e) (held-made sum x c.self.invariant.1 slots messages refl refl s n h) refl (held-ordered sum x c.self.invariant.1 slots messages refl refl s n h) c.index.result.now c.index-2.result.now c.index.ensures c.index-2.ensures)

@@ -2,7 +2,6 @@ use Rattle.std.proofs.Common.{◌≡◌, ◌<◌, ◌≤◌, true, length, not, 
 use Rattle.std.specs.Prelude.{◌&&◌, nat_le}
 use Rattle.std.proofs.lemmas.Bool.Decides.{nat_tests}
 use Rattle.sctp_model.specs.Receiver.{cumulative, arrived_at}
-use Rattle.sctp_receiver.specs.Receiver.{Reception}
 use Rattle.sctp_link.specs.declared.record.Slot.{Slot}
 use Rattle.sctp_link.specs.Fields.{record_in, state_in}
 use Rattle.sctp_link.proofs.acknowledging.Reporting.{cumulative-place}
@@ -17,8 +16,8 @@ returns-then-cumulative-place g c =
     let slots = c.self.inside.slots.items in
     let messages = c.self.inside.messages.items in
     let made : c.args.place < length w.slots = rw (← c.self.view_is) at c.requires in
-    let inside : c.args.place < length slots = omega (arith, made, slots-made sum x c.self.invariant slots messages refl refl) in
-    let at-place : arrived_at w c.args.place ≡ c.index.result.now.arrived = ap (λ t. t.arrived) (slot-raw sum x c.self.invariant slots messages refl refl c.args.place c.index.result.now inside) ∙ ap (λ (t : Slot). t.arrived) (sym c.index.ensures) in
-    let at : cumulative w ≤ c.args.place = omega (arith, c.if-cumulative-place.true, c.count_of-cumulative.ensures, c.cumulative_tsn.ensures, ap (λ (r : Reception). r.cumulative_tsn) c.receiver.ensures, cumulative-place sum x c.self.invariant 0) in
+    let inside : c.args.place < length slots = omega (arith, made, slots-made sum x c.self.invariant.1 slots messages refl refl) in
+    let at-place : arrived_at w c.args.place ≡ c.index.result.now.arrived = ap (λ t. t.arrived) (slot-raw sum x c.self.invariant.1 slots messages refl refl c.args.place c.index.result.now inside) ∙ ap (λ (t : Slot). t.arrived) (sym c.index.ensures) in
+    let at : cumulative w ≤ c.args.place = omega (arith, c.if-cumulative-place.true, c.count_of-cumulative.ensures, c.cumulative_tsn.ensures, cumulative-place sum x c.self.invariant.1 0) in
     let past : nat_le (cumulative w) c.args.place ≡ true = grind (arith, nat_tests) in
     rw (← c.self.view_is) (sym (ap (λ b. b && not (arrived_at w c.args.place)) past ∙ ap not at-place))

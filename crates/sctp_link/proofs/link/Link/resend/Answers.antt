@@ -2,7 +2,6 @@ use Rattle.std.proofs.Common.{◌≡◌, ◌+◌, ◌-◌, ◌^◌, ◌++◌, �
 use Rattle.std.specs.Prelude.{find, min}
 use Rattle.sctp_list_lemmas.proofs.Getting.{length-mapped}
 use Rattle.sctp_list_lemmas.specs.Lists.{change_where}
-use Rattle.sctp_data.specs.declared.chunk.chunk_payload_data.ChunkPayloadData.{ChunkPayloadData}
 use Rattle.sctp_serial.specs.DataChunks.{has_tsn}
 use Rattle.sctp_outbound.specs.Marks.{with_nsent}
 use Rattle.sctp_outbound.specs.outbound_queue.OutboundQueue.{with_inflight}
@@ -11,9 +10,8 @@ use Rattle.sctp_model.specs.Reply as R
 use Rattle.sctp_model.specs.Changes.{after_resend}
 use Rattle.sctp_model.specs.LinkRecord.{Data}
 use Rattle.sctp_model.specs.Steps.{refusal_of, IsRight}
-use Rattle.sctp_sender.specs.Flight.{resent}
-use Rattle.sctp_halves.specs.Halves.{Sides, sides, with_flight}
-use Rattle.sctp_halves.proofs.Sends.{counted-aligned}
+use Rattle.sctp_sender.specs.Sender.{Transmission}
+use Rattle.sctp_link.proofs.sides.Changes.{flight-aligned}
 use Rattle.sctp_link.specs.declared.record.Kind.TheVariants as K
 use Rattle.sctp_link.specs.declared.record.Datagram.{Datagram}
 use Rattle.sctp_link.specs.Records.{datagram_record}
@@ -26,47 +24,36 @@ use Rattle.sctp_link.proofs.link.Link.resend.Goals as goal
 pub unreachable-requires : goal.unreachable-requires
 unreachable-requires g c =
     let ok : refusal_of (record_in c.self.inside) (E.Resend c.args.tsn) ≡ None = rw (← c.self.view_is) at c.requires in
-    never-gone (g.C.Checksum.sum c.self.inside.checksum) (state_in c.self.inside) c.self.invariant c.args.tsn (search rules) ok (search rules)
+    never-gone (g.C.Checksum.sum c.self.inside.checksum) (state_in c.self.inside) c.self.invariant.1 c.args.tsn (search rules) ok (search rules)
 
 pub write_datagram-requires-clause-encoding : goal.write_datagram-requires-clause-encoding
 write_datagram-requires-clause-encoding g c =
     let ok : refusal_of (record_in c.self.inside) (E.Resend c.args.tsn) ≡ None = rw (← c.self.view_is) at c.requires in
-    let e : find (has_tsn c.args.tsn) c.self.inside.halves.flight.queue.inflight.chunks ≡ Some c.in_ok-chunk.chunk = search rules in
-    (tt, resend-fits (g.C.Checksum.sum c.self.inside.checksum) (state_in c.self.inside) c.self.invariant c.args.tsn (search rules) ok c.in_ok-chunk.chunk e)
-
-pub invariant_of-halves : goal.invariant_of-halves
-invariant_of-halves g c =
-    let h = c.halves.inside in
-    counted-aligned h.numbers h.sender h.receiver h.progress.items c.halves.invariant c.count_resend.new.self (find (has_tsn c.args.tsn) h.sender.flight.queue.inflight.chunks) (λ (d : ChunkPayloadData). resent c.args.tsn d h.sender.flight) c.count_resend.ensures.counted c.count_resend.ensures.none
+    let e : find (has_tsn c.args.tsn) c.self.inside.sender.flight.queue.inflight.chunks ≡ Some c.in_ok-chunk.chunk = search rules in
+    (tt, resend-fits (g.C.Checksum.sum c.self.inside.checksum) (state_in c.self.inside) c.self.invariant.1 c.args.tsn (search rules) ok c.in_ok-chunk.chunk e)
 
 pub invariant_of-self-2 : goal.invariant_of-self-2
 invariant_of-self-2 g c =
     let ok : refusal_of (record_in c.self.inside) (E.Resend c.args.tsn) ≡ None = rw (← c.self.view_is) at c.requires in
-    let e : find (has_tsn c.args.tsn) c.self.inside.halves.flight.queue.inflight.chunks ≡ Some c.in_ok-chunk.chunk = search rules in
+    let e : find (has_tsn c.args.tsn) c.self.inside.sender.flight.queue.inflight.chunks ≡ Some c.in_ok-chunk.chunk = search rules in
     let places = c.in_ok-places.places in
     let more : c.put.new.items.items ≡ c.self.inside.network.items ++ (let d : Datagram = record { kind = K.Data places; bytes = c.in_ok-bytes.bytes } in d) ∷ [] = search rules in
     let network = network-more c.self.inside.network.items c.put.new.items.items (K.Data places) c.in_ok-bytes.bytes more ∙ ap (λ ps. (record_in c.self.inside).network ++ Data ps ∷ []) c.in_ok-places.ensures.places in
     let bytes = bytes-more c.self.inside.network.items c.put.new.items.items (K.Data places) c.in_ok-bytes.bytes more in
-    let h = c.halves.inside in
-    let d = c.in_ok-chunk.chunk in
-    let here : find (has_tsn c.args.tsn) h.sender.flight.queue.inflight.chunks ≡ Some d = ap (λ (y : Sides). find (has_tsn c.args.tsn) y.flight.queue.inflight.chunks) c.halves.view_is ∙ e in
-    let counted : sides c.count_resend.new.self h.receiver h.progress.items ≡ with_flight (resent c.args.tsn d c.self.inside.halves.flight) c.self.inside.halves =
-    ap (λ t. sides t h.receiver h.progress.items) (c.count_resend.ensures.counted d here) ∙ ap (λ (y : Sides). with_flight (resent c.args.tsn d y.flight) y) c.halves.view_is in
-    subst (λ (y : Sides). IsLinked (g.C.Checksum.sum c.self.inside.checksum) (state_in (record c.self.inside { halves = y; network = c.put.new.items }))) (sym counted)
-    (moved _ _ (after_resend (record_in c.self.inside) c.args.tsn) (ap (λ ds. record (record_in c.self.inside) { network = ds }) network)
-    (rw bytes (linked-resend (g.C.Checksum.sum c.self.inside.checksum) (state_in c.self.inside) c.self.invariant c.args.tsn (search rules) ok c.in_ok-chunk.chunk c.in_ok-bytes.bytes (min (c.in_ok-chunk.chunk.nsent + 1) (2 ^ 32 - 1)) (with_inflight c.self.inside.halves.flight.queue (change_where (has_tsn c.args.tsn) (with_nsent (min (c.in_ok-chunk.chunk.nsent + 1) (2 ^ 32 - 1))) c.self.inside.halves.flight.queue.inflight.chunks)) e (search rules) (search rules) (length-mapped (λ (d : Datagram). d.bytes) c.self.inside.network.items ∙ sym (length-mapped datagram_record c.self.inside.network.items)) refl)))
+    let counted = c.count_resend.ensures.counted c.in_ok-chunk.chunk e in (
+      flight-aligned c.self.inside.sender c.self.inside.receiver c.self.inside.progress c.self.invariant.0 c.count_resend.new.self _ counted,
+      subst (λ (u : Transmission). IsLinked (g.C.Checksum.sum c.self.inside.checksum) (state_in (record c.self.inside { sender = u; network = c.put.new.items }))) (sym counted)
+          (moved _ _ (after_resend (record_in c.self.inside) c.args.tsn) (ap (λ ds. record (record_in c.self.inside) { network = ds }) network)
+          (rw bytes (linked-resend (g.C.Checksum.sum c.self.inside.checksum) (state_in c.self.inside) c.self.invariant.1 c.args.tsn (search rules) ok c.in_ok-chunk.chunk c.in_ok-bytes.bytes (min (c.in_ok-chunk.chunk.nsent + 1) (2 ^ 32 - 1)) (with_inflight c.self.inside.sender.flight.queue (change_where (has_tsn c.args.tsn) (with_nsent (min (c.in_ok-chunk.chunk.nsent + 1) (2 ^ 32 - 1))) c.self.inside.sender.flight.queue.inflight.chunks)) e (search rules) (search rules) (length-mapped (λ (d : Datagram). d.bytes) c.self.inside.network.items ∙ sym (length-mapped datagram_record c.self.inside.network.items)) refl))),
+    )
 
 pub returns-clause-ok : goal.returns-clause-ok
 returns-clause-ok g c =
-    let e : find (has_tsn c.args.tsn) c.self.inside.halves.flight.queue.inflight.chunks ≡ Some c.in_ok-chunk.chunk = search rules in
+    let e : find (has_tsn c.args.tsn) c.self.inside.sender.flight.queue.inflight.chunks ≡ Some c.in_ok-chunk.chunk = search rules in
     let places = c.in_ok-places.places in
     let more : c.put.new.items.items ≡ c.self.inside.network.items ++ (let d : Datagram = record { kind = K.Data places; bytes = c.in_ok-bytes.bytes } in d) ∷ [] = search rules in
     let network = network-more c.self.inside.network.items c.put.new.items.items (K.Data places) c.in_ok-bytes.bytes more ∙ ap (λ ps. (record_in c.self.inside).network ++ Data ps ∷ []) c.in_ok-places.ensures.places in
     let len : c.len-datagram.result ≡ length c.self.inside.network.items = search rules in
-    let h = c.halves.inside in
-    let d = c.in_ok-chunk.chunk in
-    let here : find (has_tsn c.args.tsn) h.sender.flight.queue.inflight.chunks ≡ Some d = ap (λ (y : Sides). find (has_tsn c.args.tsn) y.flight.queue.inflight.chunks) c.halves.view_is ∙ e in
-    let counted : sides c.count_resend.new.self h.receiver h.progress.items ≡ with_flight (resent c.args.tsn d c.self.inside.halves.flight) c.self.inside.halves =
-    ap (λ t. sides t h.receiver h.progress.items) (c.count_resend.ensures.counted d here) ∙ ap (λ (y : Sides). with_flight (resent c.args.tsn d y.flight) y) c.halves.view_is in
-    rw (← c.self.view_is) (subst (λ (y : Sides). IsRight (record_in c.self.inside) (E.Resend c.args.tsn) (R.Resent c.len-datagram.result) (record_in (record c.self.inside { halves = y; network = c.put.new.items }))) (sym counted)
+    let counted = c.count_resend.ensures.counted c.in_ok-chunk.chunk e in
+    rw (← c.self.view_is) (subst (λ (u : Transmission). IsRight (record_in c.self.inside) (E.Resend c.args.tsn) (R.Resent c.len-datagram.result) (record_in (record c.self.inside { sender = u; network = c.put.new.items }))) (sym counted)
     (record { right = ap R.Resent (len ∙ sym (length-mapped datagram_record c.self.inside.network.items)); moves = ap (λ ds. record (record_in c.self.inside) { network = ds }) network }))

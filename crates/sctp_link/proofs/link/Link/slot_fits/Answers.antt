@@ -14,7 +14,7 @@ index-requires g c =
     let a = c.self.inside in
     let sum = g.C.Checksum.sum a.checksum in
     let lies : LiesSomewhere (record_in a) c.args.place = rw (← c.self.view_is) at c.requires.place in
-    let k = kept-at sum a c.self.invariant c.args.place lies in
+    let k = kept-at sum a c.self.invariant.1 c.args.place lies in
     omega (arith, k.inside)
 
 pub index-message-requires : goal.index-message-requires
@@ -22,8 +22,8 @@ index-message-requires g c =
     let a = c.self.inside in
     let sum = g.C.Checksum.sum a.checksum in
     let lies : LiesSomewhere (record_in a) c.args.place = rw (← c.self.view_is) at c.requires.place in
-    let k = kept-at sum a c.self.invariant c.args.place lies in
-    let number = number-kept sum a c.self.invariant c.args.place k c.index.result.now c.index.ensures in
+    let k = kept-at sum a c.self.invariant.1 c.args.place lies in
+    let number = number-kept sum a c.self.invariant.1 c.args.place k c.index.result.now c.index.ensures in
     omega (arith, number, k.made)
 
 pub is_new-requires : goal.is_new-requires
@@ -31,7 +31,7 @@ is_new-requires g c =
     let a = c.self.inside in
     let sum = g.C.Checksum.sum a.checksum in
     let lies : LiesSomewhere (record_in a) c.args.place = rw (← c.self.view_is) at c.requires.place in
-    let k = kept-at sum a c.self.invariant c.args.place lies in
+    let k = kept-at sum a c.self.invariant.1 c.args.place lies in
     rw (← c.self.view_is) k.carried.made
 
 pub returns-then-not-message : goal.returns-then-not-message
@@ -41,9 +41,9 @@ returns-then-not-message g c =
     let a = c.self.inside in
     let sum = g.C.Checksum.sum a.checksum in
     let lies : LiesSomewhere (record_in a) c.args.place = rw (← c.self.view_is) at c.requires.place in
-    let k = kept-at sum a c.self.invariant c.args.place lies in
+    let k = kept-at sum a c.self.invariant.1 c.args.place lies in
     let m = c.index-message.result.now in
-    let m_is = message-kept sum a c.self.invariant c.args.place k c.index.result.now c.index.ensures m c.index-message.ensures in
+    let m_is = message-kept sum a c.self.invariant.1 c.args.place k c.index.result.now c.index.ensures m c.index-message.ensures in
     let ps = c.args.places.now in
     let n = message_of w p in
     let test = fits w (added_on w (message_at w n).stream ps) (message_at w n).stream in
@@ -67,9 +67,9 @@ index_range-range-requires g c =
     let a = c.self.inside in
     let sum = g.C.Checksum.sum a.checksum in
     let lies : LiesSomewhere (record_in a) c.args.place = rw (← c.self.view_is) at c.requires.place in
-    let k = kept-at sum a c.self.invariant c.args.place lies in
+    let k = kept-at sum a c.self.invariant.1 c.args.place lies in
     let m = c.index-message.result.now in
-    let m_is = message-kept sum a c.self.invariant c.args.place k c.index.result.now c.index.ensures m c.index-message.ensures in
+    let m_is = message-kept sum a c.self.invariant.1 c.args.place k c.index.result.now c.index.ensures m c.index-message.ensures in
     let open' : is_open w m.stream ≡ true = ap (λ t. is_open w t.stream) (sym m_is) ∙ ap is_some k.carried.known.1 in
     rw (← c.self.view_is) open'
 
@@ -80,9 +80,9 @@ returns g c =
     let a = c.self.inside in
     let sum = g.C.Checksum.sum a.checksum in
     let lies : LiesSomewhere (record_in a) c.args.place = rw (← c.self.view_is) at c.requires.place in
-    let k = kept-at sum a c.self.invariant c.args.place lies in
+    let k = kept-at sum a c.self.invariant.1 c.args.place lies in
     let m = c.index-message.result.now in
-    let m_is = message-kept sum a c.self.invariant c.args.place k c.index.result.now c.index.ensures m c.index-message.ensures in
+    let m_is = message-kept sum a c.self.invariant.1 c.args.place k c.index.result.now c.index.ensures m c.index-message.ensures in
     let ps = c.args.places.now in
     let n = message_of w p in
     let test = fits w (added_on w (message_at w n).stream ps) (message_at w n).stream in

@@ -3,5 +3,5 @@ use Rattle.sctp_link.proofs.link.Link.stands.Goals as goal
 
 pub returns : goal.returns
 returns g c =
-    let i = c.self.invariant in
+    let i = c.self.invariant.1 in
     rw (← c.self.view_is) ((state_in c.self.inside).recorded.setup, (i.setup, (i.history, i.stands)))

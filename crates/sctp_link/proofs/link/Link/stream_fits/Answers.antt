@@ -4,10 +4,14 @@ use Rattle.sctp_model.specs.LinkRecord.{Forward, StreamRecord}
 use Rattle.sctp_model.specs.Messages.{is_open, index_of}
 use Rattle.sctp_model.specs.Receiver.{held_on, next_of, least, greatest}
 use Rattle.sctp_refinement.specs.Naming.{names_fit, complete_first, min_with, lowest_held, highest_held}
-use Rattle.sctp_halves.specs.Streams.{OpenStream, new_open_stream}
+use Rattle.sctp_progress.specs.Progress.{fresh}
+use Rattle.sctp_link.specs.Sides.{IsAligned}
+use Rattle.sctp_link.specs.Streams.{OpenStream, new_open_stream}
+use Rattle.sctp_link.proofs.sides.Aligned.{count-is}
+use Rattle.sctp_link.proofs.sides.Changes.{number-told}
 use Rattle.sctp_link.specs.declared.link.Link.TheInside.{Inside}
 use Rattle.sctp_link.specs.declared.skipped.Named.{Named}
-use Rattle.sctp_link.specs.Fields.{record_in, state_in}
+use Rattle.sctp_link.specs.Fields.{record_in, state_in, sides_in}
 use Rattle.sctp_link.specs.Linked.{IsLinked}
 use Rattle.sctp_link.specs.Records.{stream_record}
 use Rattle.sctp_link.specs.Skips.{named_from, none_named}
@@ -20,13 +24,21 @@ record IsOpenAt {C : Type 0} (a : Inside C) (at s : ℕ) : Type 0 where
   opened : is_open (record_in a) s ≡ true
   there : (r : StreamRecord) → slice_get (record_in a).streams at ≡ Some r → s ≡ r.stream
 
-open-one : {C : Type 0} (a : Inside C) (at s : ℕ) → at < length (record_in a).streams → ((d : OpenStream) → s ≡ (slice_index_or a.halves.streams at d).state.stream_identifier) → IsOpenAt a at s
+at-inside : {C : Type 0} (a : Inside C) → IsAligned a.sender a.receiver a.progress → (at : ℕ) → at < length (record_in a).streams → at < length a.progress
+at-inside a al at inside = omega (arith, inside, length-mapped stream_record (sides_in a).streams, count-is a.sender a.receiver a.progress al)
+
+pub number_at-stream-requires : goal.number_at-stream-requires
+number_at-stream-requires g c =
+    let inside : c.args.at < length (record_in c.self.inside).streams = rw (← c.self.view_is) at c.requires.inside in
+    at-inside c.self.inside c.self.invariant.0 c.args.at inside
+
+open-one : {C : Type 0} (a : Inside C) (at s : ℕ) → at < length (record_in a).streams → ((d : OpenStream) → s ≡ (slice_index_or (sides_in a).streams at d).state.stream_identifier) → IsOpenAt a at s
 open-one a at s inside id =
     let y = new_open_stream 0 0 0 in
-    let lt : at < length a.halves.streams = omega (arith, inside, length-mapped stream_record a.halves.streams) in
+    let lt : at < length (sides_in a).streams = omega (arith, inside, length-mapped stream_record (sides_in a).streams) in
     record {
       opened = ap (is_open (record_in a)) (id y) ∙ ap is_some (open-at (state_in a) refl at y lt).1;
-      there = λ r e. id y ∙ sym (record-at a.halves.streams at y r e);
+      there = λ r e. id y ∙ sym (record-at (sides_in a).streams at y r e);
     }
 
 -- What was found of the stream and of the names is what the record has.
@@ -39,48 +51,48 @@ pub index_range-low-requires : goal.index_range-low-requires
 index_range-low-requires g c =
     let a = c.self.inside in
     let inside : c.args.at < length (record_in a).streams = rw (← c.self.view_is) at c.requires.inside in
-    rw (← c.self.view_is) (open-one a c.args.at c.stream_at-stream.result inside c.stream_at-stream.ensures).opened
+    rw (← c.self.view_is) (open-one a c.args.at c.number_at-stream.result inside (λ e. c.number_at-stream.ensures (fresh 0) ∙ number-told a.sender a.receiver a.progress c.self.invariant.0 c.args.at (fresh 0) e (at-inside a c.self.invariant.0 c.args.at inside))).opened
 
 pub overflow_add-span : goal.overflow_add-span
 overflow_add-span g c =
     let a = c.self.inside in
     let w = record_in a in
-    let s = c.stream_at-stream.result in
+    let s = c.number_at-stream.result in
     let low : c.index_range-low.result.0 ≡ least (next_of w s) (map (index_of w) (held_on w s)) = rw (← c.self.view_is) at c.index_range-low.ensures.low in
-    omega (arith, c.min-span.ensures, low, lowest-short (g.C.Checksum.sum a.checksum) (state_in a) c.self.invariant s)
+    omega (arith, c.min-span.ensures, low, lowest-short (g.C.Checksum.sum a.checksum) (state_in a) c.self.invariant.1 s)
 
 pub returns-then-max-span : goal.returns-then-max-span
 returns-then-max-span g c =
     let a = c.self.inside in
     let sum = g.C.Checksum.sum a.checksum in
     let w = record_in a in
-    let s = c.stream_at-stream.result in
+    let s = c.number_at-stream.result in
     let inside : c.args.at < length w.streams = rw (← c.self.view_is) at c.requires.inside in
-    let o = open-one a c.args.at s inside c.stream_at-stream.ensures in
+    let o = open-one a c.args.at s inside (λ e. c.number_at-stream.ensures (fresh 0) ∙ number-told a.sender a.receiver a.progress c.self.invariant.0 c.args.at (fresh 0) e (at-inside a c.self.invariant.0 c.args.at inside)) in
     let lies : (k : ℕ) × (slice_get w.network k ≡ Some (Forward c.args.upto c.args.names.now)) = rw (← c.self.view_is) at c.requires.lies in
     let low : c.index_range-low.result.0 ≡ least (next_of w s) (map (index_of w) (held_on w s)) = rw (← c.self.view_is) at c.index_range-low.ensures.low in
     let high : c.index_range-low.result.1 ≡ greatest (next_of w s) (map (index_of w) (held_on w s)) = rw (← c.self.view_is) at c.index_range-low.ensures.high in
-    let j = judged-at sum a c.self.invariant s c.args.upto c.args.names.now lies.0 lies.1 c.index_range-low.result.0 c.index_range-low.result.1 c.named_on-named.result low high (c.named_on-named.ensures ∙ ap (λ ms. named_from ms s none_named c.args.names.now) c.deref.ensures.value) in
+    let j = judged-at sum a c.self.invariant.1 s c.args.upto c.args.names.now lies.0 lies.1 c.index_range-low.result.0 c.index_range-low.result.1 c.named_on-named.result low high (c.named_on-named.ensures ∙ ap (λ ms. named_from ms s none_named c.args.names.now) c.deref.ensures.value) in
     rw (← c.self.view_is) (λ r e. j.no' (omega (arith, c.if-max-span.true, c.min-span.ensures, c.max.ensures, c.saturating_sub.ensures)) ∙ ap (λ t. names_fit w t c.args.names.now) (o.there r e))
 
 pub least_left-requires : goal.least_left-requires
 least_left-requires g c =
     let a = c.self.inside in
     let inside : c.args.at < length (record_in a).streams = rw (← c.self.view_is) at c.requires.inside in
-    rw (← c.self.view_is) (open-one a c.args.at c.stream_at-stream.result inside c.stream_at-stream.ensures).opened
+    rw (← c.self.view_is) (open-one a c.args.at c.number_at-stream.result inside (λ e. c.number_at-stream.ensures (fresh 0) ∙ number-told a.sender a.receiver a.progress c.self.invariant.0 c.args.at (fresh 0) e (at-inside a c.self.invariant.0 c.args.at inside))).opened
 
 pub returns-then-named-span : goal.returns-then-named-span
 returns-then-named-span g c =
     let a = c.self.inside in
     let sum = g.C.Checksum.sum a.checksum in
     let w = record_in a in
-    let s = c.stream_at-stream.result in
+    let s = c.number_at-stream.result in
     let inside : c.args.at < length w.streams = rw (← c.self.view_is) at c.requires.inside in
-    let o = open-one a c.args.at s inside c.stream_at-stream.ensures in
+    let o = open-one a c.args.at s inside (λ e. c.number_at-stream.ensures (fresh 0) ∙ number-told a.sender a.receiver a.progress c.self.invariant.0 c.args.at (fresh 0) e (at-inside a c.self.invariant.0 c.args.at inside)) in
     let lies : (k : ℕ) × (slice_get w.network k ≡ Some (Forward c.args.upto c.args.names.now)) = rw (← c.self.view_is) at c.requires.lies in
     let low : c.index_range-low.result.0 ≡ least (next_of w s) (map (index_of w) (held_on w s)) = rw (← c.self.view_is) at c.index_range-low.ensures.low in
     let high : c.index_range-low.result.1 ≡ greatest (next_of w s) (map (index_of w) (held_on w s)) = rw (← c.self.view_is) at c.index_range-low.ensures.high in
-    let j = judged-at sum a c.self.invariant s c.args.upto c.args.names.now lies.0 lies.1 c.index_range-low.result.0 c.index_range-low.result.1 c.named_on-named.result low high (c.named_on-named.ensures ∙ ap (λ ms. named_from ms s none_named c.args.names.now) c.deref.ensures.value) in
+    let j = judged-at sum a c.self.invariant.1 s c.args.upto c.args.names.now lies.0 lies.1 c.index_range-low.result.0 c.index_range-low.result.1 c.named_on-named.result low high (c.named_on-named.ensures ∙ ap (λ ms. named_from ms s none_named c.args.names.now) c.deref.ensures.value) in
     rw (← c.self.view_is) (λ r e. ap (λ n. nat_lt c.named_on-named.result.end (n + 32768)) c.min-span.ensures ∙ j.yes' (omega (arith, c.if-max-span.false, c.min-span.ensures, c.max.ensures, c.saturating_sub.ensures)) (omega (arith, c.if-named-span.true, c.min-span.ensures)) ∙ ap (λ t. names_fit w t c.args.names.now) (o.there r e))
 
 pub returns-else-named-span : goal.returns-else-named-span
@@ -88,12 +100,12 @@ returns-else-named-span g c =
     let a = c.self.inside in
     let sum = g.C.Checksum.sum a.checksum in
     let w = record_in a in
-    let s = c.stream_at-stream.result in
+    let s = c.number_at-stream.result in
     let inside : c.args.at < length w.streams = rw (← c.self.view_is) at c.requires.inside in
-    let o = open-one a c.args.at s inside c.stream_at-stream.ensures in
+    let o = open-one a c.args.at s inside (λ e. c.number_at-stream.ensures (fresh 0) ∙ number-told a.sender a.receiver a.progress c.self.invariant.0 c.args.at (fresh 0) e (at-inside a c.self.invariant.0 c.args.at inside)) in
     let lies : (k : ℕ) × (slice_get w.network k ≡ Some (Forward c.args.upto c.args.names.now)) = rw (← c.self.view_is) at c.requires.lies in
     let low : c.index_range-low.result.0 ≡ least (next_of w s) (map (index_of w) (held_on w s)) = rw (← c.self.view_is) at c.index_range-low.ensures.low in
     let high : c.index_range-low.result.1 ≡ greatest (next_of w s) (map (index_of w) (held_on w s)) = rw (← c.self.view_is) at c.index_range-low.ensures.high in
-    let j = judged-at sum a c.self.invariant s c.args.upto c.args.names.now lies.0 lies.1 c.index_range-low.result.0 c.index_range-low.result.1 c.named_on-named.result low high (c.named_on-named.ensures ∙ ap (λ ms. named_from ms s none_named c.args.names.now) c.deref.ensures.value) in
+    let j = judged-at sum a c.self.invariant.1 s c.args.upto c.args.names.now lies.0 lies.1 c.index_range-low.result.0 c.index_range-low.result.1 c.named_on-named.result low high (c.named_on-named.ensures ∙ ap (λ ms. named_from ms s none_named c.args.names.now) c.deref.ensures.value) in
     let left : c.least_left.result ≡ min_with (complete_first w (held_on w s)) c.named_on-named.result.low = rw (← c.self.view_is) at c.least_left.ensures in
     rw (← c.self.view_is) (λ r e. j.edge c.least_left.result left (omega (arith, c.if-max-span.false, c.min-span.ensures, c.max.ensures, c.saturating_sub.ensures)) (omega (arith, c.if-named-span.false, c.min-span.ensures)) ∙ ap (λ t. names_fit w t c.args.names.now) (o.there r e))

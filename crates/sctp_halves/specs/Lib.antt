@@ -1,3 +1,0 @@
-pub mod Streams
-pub mod Halves
-pub mod Rooms

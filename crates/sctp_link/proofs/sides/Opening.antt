@@ -1,0 +1,94 @@
+-- A stream is opened at both ends, or the opening is undone.
+use Rattle.std.proofs.Common.{◌≡◌, ℕ, List, [], ◌∷◌, ◌++◌, Some, None, Result, Ok, Err, Bool, true, false, Option, refl, ap, sym, ◌∙◌}
+use Rattle.std.specs.Prelude.{find, is_some, is_err, option_map, OnOk, OnErr, IsOk}
+use Rattle.std.proofs.lemmas.List.{map-append}
+use Rattle.sctp_list_lemmas.proofs.Cases.{same-yes}
+use Rattle.sctp_data.specs.declared.chunk.chunk_payload_data.PayloadProtocolIdentifier.TheVariants.{Unknown}
+use Rattle.sctp_stream.specs.Stream.{new_stream}
+use Rattle.sctp_stream.proofs.StreamPlaces.{taken-back}
+use Rattle.sctp_receiver.specs.Inbound as Inbound
+use Rattle.sctp_receiver.specs.Receiver as R
+use Rattle.sctp_receiver.specs.Receiver.{Reception}
+use Rattle.sctp_sender.specs.Outgoing as Outgoing
+use Rattle.sctp_sender.specs.Sender as S
+use Rattle.sctp_sender.specs.Sender.{Transmission}
+use Rattle.sctp_progress.specs.Progress as Progress
+use Rattle.sctp_progress.specs.Progress.{Standing}
+use Rattle.sctp_link.specs.Streams.{OpenStream, join_each, has_number, new_open_stream}
+use Rattle.sctp_link.specs.Sides.{Sides, IsAligned, stream_in, opened_on, sides}
+use Rattle.sctp_link.proofs.sides.Joined.{joined-more}
+use Rattle.sctp_link.proofs.sides.Aligned.{alike, state-in, inbound-in}
+use Rattle.sctp_link.proofs.sides.Changes.{open-told}
+
+pub on-error : {T E P : Type 0} (r : Result T E) (b : Bool) → b ≡ is_err r → b ≡ true → OnErr r P → P
+on-error (Ok x) b e t p = cc
+on-error (Err e) b is t p = p
+
+pub on-ok : {T E P : Type 0} (r : Result T E) (b : Bool) → b ≡ is_err r → b ≡ false → OnOk r P → P
+on-ok (Ok x) b e t p = p
+on-ok (Err e) b is t p = cc
+
+pub not-err : {T E : Type 0} (r : Result T E) → IsOk r → is_err r ≡ true → ⊥
+not-err (Ok x) ok e = let no : false ≡ true = e in cc
+not-err (Err x) ok e = let no : false ≡ true = ok in cc
+
+none-of : {A : Type 0} (o : Option A) → is_some o ≡ false → o ≡ None
+none-of None e = refl
+none-of (Some x) e = cc
+
+module _ (t : Transmission) (r : Reception) (ps : List Standing) (a : IsAligned t r ps) (s : ℕ) (none : stream_in s (sides t r ps) ≡ None) where
+  pub no-progress : find (Progress.has_number s) ps ≡ None
+  no-progress = none-of (find (Progress.has_number s) ps) (open-told t r ps a s ∙ ap is_some none)
+
+  no-state : find (Outgoing.has_number s) t.streams ≡ None
+  no-state = sym (state-in t r ps a s) ∙ ap (λ o. option_map (λ (l : OpenStream). l.state) o) none
+
+  no-inbound : find (Inbound.has_number s) r.streams ≡ None
+  no-inbound = sym (inbound-in t r ps a s) ∙ ap (λ o. option_map (λ (l : OpenStream). l.inbound) o) none
+
+  pub sender-undone : (x : Transmission) → x ≡ S.close_stream s (S.open_stream s t) → x ≡ t
+  sender-undone x e =
+      e ∙ ap (λ ss. let y : Transmission = record t { streams = ss } in y)
+      (taken-back (Outgoing.has_number s) t.streams (new_stream s t.fragment_size t.max_message_size Unknown) (same-yes s) no-state)
+
+  pub receiver-undone : (x : Reception) → x ≡ R.close_stream s (R.open_stream s r) → x ≡ r
+  receiver-undone x e =
+      e ∙ ap (λ is. let y : Reception = record r { streams = is } in y)
+      (taken-back (Inbound.has_number s) r.streams (Inbound.new_stream s r.max_message_size) (same-yes s) no-inbound)
+
+  -- ## The stream is open
+
+  module _ (x : Transmission) (y : Reception) (qs : List Standing) (sent : x ≡ S.open_stream s t) (received : y ≡ R.open_stream s r) (put : qs ≡ ps ++ Progress.fresh s ∷ []) where
+    pub opened-sides : sides x y qs ≡ opened_on s (sides t r ps)
+    opened-sides =
+        ap (λ z. sides z y qs) sent ∙ ap (λ z. sides (S.open_stream s t) z qs) received ∙ ap (sides (S.open_stream s t) (R.open_stream s r)) put
+        ∙ ap (λ ls. let z : Sides = record (sides t r ps) { streams = ls } in z)
+        (joined-more (new_stream s t.fragment_size t.max_message_size Unknown) (Inbound.new_stream s r.max_message_size) (Progress.fresh s) t.streams r.streams ps (alike t r ps a)
+        ∙ ap (λ m. let z : OpenStream = record (new_open_stream s t.fragment_size m) { state = new_stream s t.fragment_size t.max_message_size Unknown } in join_each t.streams r.streams ps ++ z ∷ []) a.size)
+
+    pub opened-aligned : IsAligned x y qs
+    opened-aligned = record {
+      receives =
+          ap (λ (z : Transmission). Outgoing.numbers_of z.streams) sent ∙ map-append Outgoing.number t.streams _ ∙ ap (λ ns. ns ++ s ∷ []) a.receives
+          ∙ sym (ap (λ (z : Reception). Inbound.numbers_of z.streams) received ∙ map-append Inbound.number r.streams _);
+      progresses =
+          ap (λ (z : Transmission). Outgoing.numbers_of z.streams) sent ∙ map-append Outgoing.number t.streams _ ∙ ap (λ ns. ns ++ s ∷ []) a.progresses
+          ∙ sym (ap Progress.numbers_of put ∙ map-append Progress.number ps _);
+      size = ap (λ (z : Reception). z.max_message_size) received ∙ a.size ∙ ap (λ (z : Transmission). z.max_message_size) (sym sent);
+      unlimited = ap (λ (z : Reception). z.limits) received ∙ a.unlimited;
+      forgets = ap (λ (z : Transmission). z.kept) sent ∙ a.forgets;
+    }
+
+-- each part is what it was
+module _ (t : Transmission) (r : Reception) (ps : List Standing) (x : Transmission) (y : Reception) (qs : List Standing) (sent : x ≡ t) (received : y ≡ r) (put : qs ≡ ps) where
+  pub aligned-same : IsAligned t r ps → IsAligned x y qs
+  aligned-same a = record {
+    receives = ap (λ (z : Transmission). Outgoing.numbers_of z.streams) sent ∙ a.receives ∙ ap (λ (z : Reception). Inbound.numbers_of z.streams) (sym received);
+    progresses = ap (λ (z : Transmission). Outgoing.numbers_of z.streams) sent ∙ a.progresses ∙ ap Progress.numbers_of (sym put);
+    size = ap (λ (z : Reception). z.max_message_size) received ∙ a.size ∙ ap (λ (z : Transmission). z.max_message_size) (sym sent);
+    unlimited = ap (λ (z : Reception). z.limits) received ∙ a.unlimited;
+    forgets = ap (λ (z : Transmission). z.kept) sent ∙ a.forgets;
+  }
+
+  pub sides-same : sides x y qs ≡ sides t r ps
+  sides-same = ap (λ z. sides z y qs) sent ∙ ap (λ z. sides t z qs) received ∙ ap (sides t r) put
