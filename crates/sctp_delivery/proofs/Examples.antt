@@ -1,11 +1,14 @@
 -- A worked session, by computation: a message of one byte is written, sent, taken, read and acknowledged.
-use Rattle.std.proofs.Common.{◌≡◌, ℕ, true, false, List, [], ◌∷◌, None, refl, ap, arith}
+use Rattle.std.proofs.Common.{◌≡◌, ℕ, Bool, true, false, List, [], ◌∷◌, Some, None, refl, ap, arith}
+use Rattle.std.specs.Prelude.{if◌then◌else◌, ◌==◌}
 use Rattle.sctp_list_lemmas.specs.Lists.{change_where}
 use Rattle.sctp_list_lemmas.specs.Serial.{at_or_before, at_or_before16, comes_before, comes_before16, distance, distance16}
 use Rattle.sctp_list_lemmas.proofs.Cases.{some-same}
 use Rattle.sctp_data.specs.declared.chunk.chunk_payload_data.ChunkPayloadData.{ChunkPayloadData}
 use Rattle.sctp_data.specs.declared.chunk.chunk_payload_data.PayloadProtocolIdentifier.TheVariants.{Binary, Unknown}
+use Rattle.sctp_data.specs.declared.chunk.chunk_payload_data.ReliabilityType.TheVariants.{Reliable}
 use Rattle.sctp_data.specs.ChunkSet.{fresh}
+use Rattle.sctp_data.specs.ForwardTsn.{ForwardTsn}
 use Rattle.sctp_data.specs.PayloadData.{Data}
 use Rattle.sctp_data.specs.SelectiveAck.{Sack}
 use Rattle.sctp_outbound.specs.outbound_queue.OutboundQueue.{sent_next}
@@ -14,16 +17,20 @@ use Rattle.sctp_receiver.specs.Inbound as inbound
 use Rattle.sctp_receiver.specs.Receiver as receiver
 use Rattle.sctp_receiver.specs.Receiver.{Reception}
 use Rattle.sctp_reassembly.specs.reassembly_queue.ReassemblyQueue.{after_ordered_push}
+use Rattle.sctp_outbound.specs.pending_queue.PendingQueue.{last_of}
+use Rattle.sctp_sender.specs.declared.sender.flight.late.AbandonedMessage.{AbandonedMessage}
 use Rattle.sctp_sender.specs.declared.sender.flight.Released.{Released}
-use Rattle.sctp_sender.specs.Flight.{released_by}
-use Rattle.sctp_sender.specs.Sender.{Transmission, after_acked, open_stream, with_flight, with_nothing, written_to}
+use Rattle.sctp_sender.specs.Abandonment.{Name, named_up_to, pairs_of}
+use Rattle.sctp_sender.specs.Flight.{message_to_abandon, released_by}
+use Rattle.sctp_sender.specs.Sender.{Transmission, after_abandon, after_acked, open_stream, with_flight, with_nothing, written_to}
 use Rattle.sctp_sender.specs.SenderRuns.{held_by_sender}
 use Rattle.sctp_sender.specs.Thresholds.{with_lows}
 use Rattle.sctp_stream.specs.Stream.{new_stream}
 use Rattle.sctp_delivery.specs.ReceiverCalls as incoming
 use Rattle.sctp_delivery.specs.ReceiverCalls.{reads, reports, takes}
+use Rattle.sctp_delivery.specs.Sacks.{is_reported, reports_tsn, tsns_given, was_passed, was_taken}
 use Rattle.sctp_delivery.specs.SenderCalls as outgoing
-use Rattle.sctp_delivery.specs.SenderCalls.{Write, data_chunk, made_after, sends, takes_sack, writes, written_after}
+use Rattle.sctp_delivery.specs.SenderCalls.{Write, abandons, data_chunk, forward_tsn, forwards, made_after, sends, takes_sack, writes, written_after}
 use Rattle.sctp_delivery.specs.Session.{Call, ReceiverFollows, RunsTo, SenderFollows, Session, at_start, of_receiver, of_sender}
 
 -- a sender of fragments of up to 1,200 bytes, with stream 1 open and one byte written
@@ -168,10 +175,81 @@ calls =
     of_sender (outgoing.opens 1) ∷ of_sender (writes 1 Binary (7 ∷ [])) ∷ of_sender (sends 5) ∷ of_receiver (incoming.opens 1)
     ∷ of_receiver (takes chunk (New true)) ∷ of_receiver (reads 1) ∷ of_receiver (reports 1000) ∷ of_sender (takes_sack one_sack gone) ∷ []
 
-session : RunsTo start calls acknowledged
+abbrev session : RunsTo start calls acknowledged
 session = (opened, (opens, (written, (writes-one, (in_flight, (sends-one, (both_open, (opens-too, (taken, (takes-one, (has_read, (reads-one, (reported, (reports-one, (acknowledged, (takes-sack, refl))))))))))))))))
 
 -- nothing is held any more
 drained : held_by_sender acknowledged.sending.sender ≡ 0
 unfolding at_or_before at_or_before16 comes_before comes_before16 distance distance16
 drained = refl
+
+-- ## What the SACK says
+
+-- one TSN was given out
+given : tsns_given start calls acknowledged session ≡ 1
+unfolding at_or_before at_or_before16 comes_before comes_before16 distance distance16
+given = refl
+
+-- the SACK reports it, and not the next one
+tells : reports_tsn 10 one_sack ≡ true
+unfolding at_or_before distance
+tells = refl
+
+no-more : reports_tsn 11 one_sack ≡ false
+unfolding at_or_before distance
+no-more = refl
+
+-- its chunk was taken, and no FORWARD-TSN goes there
+came : was_taken 10 reported ≡ true
+came = refl
+
+unpassed : was_passed 10 reported ≡ false
+unpassed = refl
+
+-- the chunk is in flight yet, and not acknowledged: but the SACK reports it
+in-flight-yet : reported.sending.sender.flight.queue.inflight.chunks ≡ record chunk { since = Some 5; nsent = 1; reliability = Some (Reliable, 0) } ∷ []
+in-flight-yet = refl
+
+is-reported : is_reported reported chunk ≡ true
+unfolding at_or_before distance
+is-reported = refl
+
+-- ## A message is abandoned
+
+abbrev lost : AbandonedMessage
+lost = record { stream = 1; number = 0; bytes = 1; is_low = true }
+
+abbrev abandoned_one : Session
+abandoned_one = record in_flight {
+  sending = record in_flight.sending { sender = after_abandon (message_to_abandon 10 in_flight.sending.sender.flight) 1 1 in_flight.sending.sender; released = 1 };
+}
+
+abandons-one : SenderFollows (abandons 10 lost) in_flight abandoned_one
+abandons-one = record { handed = tt; step = record { sender = refl; written = refl; released = refl; taken_back = refl }; exact = refl; accepted = refl; after = refl }
+
+abbrev skip : ForwardTsn
+skip = record { new_cumulative_tsn = 10; streams = record { identifier = 1; sequence = 0 } ∷ [] }
+
+abbrev skipped : Session
+skipped = record abandoned_one { made = forward_tsn skip ∷ abandoned_one.made }
+
+-- it names the message of stream 1, and none of another
+names : Name skip.streams (named_up_to 10 abandoned_one.sending.sender.flight)
+unfolding distance
+names s = by (1 == s)
+  where
+    by : (b : Bool) → (if b then skip.streams else []) ≡ pairs_of (last_of (if b then named_up_to 10 abandoned_one.sending.sender.flight else []))
+    by true = refl
+    by false = refl
+
+makes-skip : SenderFollows (forwards 10 skip) abandoned_one skipped
+unfolding at_or_before comes_before distance
+makes-skip = record { handed = tt; step = record { sender = refl; written = refl; released = refl; taken_back = refl }; exact = refl; accepted = (refl, names); after = refl }
+
+-- its chunk is passed, and abandoned
+passed : was_passed 10 skipped ≡ true
+unfolding at_or_before distance
+passed = refl
+
+abandoned : skipped.sending.sender.flight.queue.inflight.chunks ≡ record chunk { since = Some 5; nsent = 1; reliability = Some (Reliable, 0); abandoned = true; user_data = [] } ∷ []
+abandoned = refl

@@ -139,15 +139,15 @@ every : {A : Type 0} (p q : A → Bool) → ((x : A) → p x ≡ true → q x �
 every p q h [] e = refl
 every p q h (x ∷ xs) e = let b = both (p x) (list_all p xs) e in and (q x) (list_all q xs) (h x b.0) (every p q h xs b.1)
 
-or-more : (a b : Bool) → b ≡ true → (a || b) ≡ true
+pub or-more : (a b : Bool) → b ≡ true → (a || b) ≡ true
 or-more true b e = refl
 or-more false b e = e
 
 -- 1 where the test fails
-abbrev fails : (ChunkPayloadData → Bool) → ChunkPayloadData → ℕ
+abbrev pub fails : (ChunkPayloadData → Bool) → ChunkPayloadData → ℕ
 fails p c = if p c then 0 else 1
 
-none-fails : (p q : ChunkPayloadData → Bool) (cs : List ChunkPayloadData) → list_all p cs ≡ true → sum_by (fails p) (filter q cs) ≡ 0
+pub none-fails : (p q : ChunkPayloadData → Bool) (cs : List ChunkPayloadData) → list_all p cs ≡ true → sum_by (fails p) (filter q cs) ≡ 0
 none-fails p q [] e = refl
 none-fails p q (c ∷ cs) e = let b = both (p c) (list_all p cs) e in by (q c) b.0 (none-fails p q cs b.1)
   where
@@ -169,21 +169,22 @@ all-pass p (c ∷ cs) e = by (p c) refl (all-pass p cs)
     by true h rest = and (p c) (list_all p cs) h (rest (omega (arith, e, more)))
     by false h rest = let one : fails p c ≡ 1 = ap (λ b. if b then 0 else 1) h in absurd (omega (arith, e, more, one))
 
-each-read : (p : ChunkPayloadData → Bool) (ms : List Message) → ((st : ℕ) → sum_by (fails p) (fragments_read st ms) ≡ 0) → list_all (λ m. list_all p m.fragments) ms ≡ true
+-- what every fragment that was read on a stream passes, each message passes
+pub each-read : (p : ℕ → ChunkPayloadData → Bool) (ms : List Message) → ((st : ℕ) → sum_by (fails (p st)) (fragments_read st ms) ≡ 0) → list_all (λ m. list_all (p m.stream) m.fragments) ms ≡ true
 each-read p [] h = refl
-each-read p (m ∷ ms) h = and (list_all p m.fragments) (list_all (λ x. list_all p x.fragments) ms) first (each-read p ms rest)
+each-read p (m ∷ ms) h = and (list_all (p m.stream) m.fragments) (list_all (λ x. list_all (p x.stream) x.fragments) ms) first (each-read p ms rest)
   where
-    joined : sum_by (fails p) (m.fragments ++ fragments_read m.stream ms) ≡ 0
-    joined = ap (λ b. sum_by (fails p) (if b then m.fragments ++ fragments_read m.stream ms else fragments_read m.stream ms)) (sym (same-yes m.stream)) ∙ h m.stream
+    joined : sum_by (fails (p m.stream)) (m.fragments ++ fragments_read m.stream ms) ≡ 0
+    joined = ap (λ b. sum_by (fails (p m.stream)) (if b then m.fragments ++ fragments_read m.stream ms else fragments_read m.stream ms)) (sym (same-yes m.stream)) ∙ h m.stream
 
-    first : list_all p m.fragments ≡ true
-    first = let s = sum_by-append (fails p) m.fragments (fragments_read m.stream ms) in all-pass p m.fragments (omega (arith, joined, s))
+    first : list_all (p m.stream) m.fragments ≡ true
+    first = let s = sum_by-append (fails (p m.stream)) m.fragments (fragments_read m.stream ms) in all-pass (p m.stream) m.fragments (omega (arith, joined, s))
 
-    by : (st : ℕ) (b : Bool) → sum_by (fails p) (if b then m.fragments ++ fragments_read st ms else fragments_read st ms) ≡ 0 → sum_by (fails p) (fragments_read st ms) ≡ 0
-    by st true e = let s = sum_by-append (fails p) m.fragments (fragments_read st ms) in omega (arith, e, s)
+    by : (st : ℕ) (b : Bool) → sum_by (fails (p st)) (if b then m.fragments ++ fragments_read st ms else fragments_read st ms) ≡ 0 → sum_by (fails (p st)) (fragments_read st ms) ≡ 0
+    by st true e = let s = sum_by-append (fails (p st)) m.fragments (fragments_read st ms) in omega (arith, e, s)
     by st false e = e
 
-    rest : (st : ℕ) → sum_by (fails p) (fragments_read st ms) ≡ 0
+    rest : (st : ℕ) → sum_by (fails (p st)) (fragments_read st ms) ≡ 0
     rest st = by st (m.stream == st) (h st)
 
 -- ## Chunks
@@ -200,7 +201,7 @@ found p ms x e h = list_any_at p ms h.0 x h.1 (ap p h.2 ∙ e)
 abbrev made_among : List Made → ChunkPayloadData → Bool
 made_among ms c = list_any (is_made_so (data_of c)) ms
 
-more-made : (p : Made → Bool) (call : SenderCall) (t : Transmission) (ms : List Made) → list_any p ms ≡ true → list_any p (made_after call t ms) ≡ true
+pub more-made : (p : Made → Bool) (call : SenderCall) (t : Transmission) (ms : List Made) → list_any p ms ≡ true → list_any p (made_after call t ms) ≡ true
 more-made p (sends now) t ms e = by (next_chunk now t)
   where
     by : (o : Option ChunkPayloadData) → list_any p (with_chunk o ms) ≡ true
@@ -275,9 +276,26 @@ made tsn size max most limits cs s r =
     let start = at_start tsn size max most limits in
     let law = handed.accepted tsn most limits (receiver_calls cs) s.receiving (receiver-runs cs start s r) in
     let taken = all-made cs start s r refl in
-    all-found s.made s.receiving.read (each-read (made_among s.made) s.receiving.read (λ st. let l = law st (fails (made_among s.made)) in let z = none-fails (made_among s.made) (is_on st) s.receiving.accepted taken in omega (arith, l, z)))
+    all-found s.made s.receiving.read (each-read (λ _. made_among s.made) s.receiving.read (λ st. let l = law st (fails (made_among s.made)) in let z = none-fails (made_among s.made) (is_on st) s.receiving.accepted taken in omega (arith, l, z)))
 
 pub messages : AfterEachSession AreMessages
 messages tsn size max most limits cs s r =
     let run = receiver-runs cs (at_start tsn size max most limits) s r in
     (handed.complete tsn most limits (receiver_calls cs) s.receiving run, handed.alike tsn most limits (receiver_calls cs) s.receiving run)
+
+none-off : (st : ℕ) (cs : List ChunkPayloadData) → sum_by (fails (is_on st)) (filter (is_on st) cs) ≡ 0
+none-off st [] = refl
+none-off st (c ∷ cs) = by (is_on st c) refl (none-off st cs)
+  where
+    by : (b : Bool) → is_on st c ≡ b → sum_by (fails (is_on st)) (filter (is_on st) cs) ≡ 0 → sum_by (fails (is_on st)) (if b then c ∷ filter (is_on st) cs else filter (is_on st) cs) ≡ 0
+    by true e ih =
+        let more = sum_by-cons (fails (is_on st)) c (filter (is_on st) cs) in
+        let one : fails (is_on st) c ≡ 0 = ap (λ b. if b then 0 else 1) e in
+        omega (arith, more, one, ih)
+    by false e ih = ih
+
+-- the fragments of a message are of the stream that it was read on
+pub read-on : AfterEachSession (λ s. list_all (λ m. list_all (is_on m.stream) m.fragments) s.receiving.read ≡ true)
+read-on tsn size max most limits cs s r =
+    let law = handed.accepted tsn most limits (receiver_calls cs) s.receiving (receiver-runs cs (at_start tsn size max most limits) s r) in
+    each-read is_on s.receiving.read (λ st. let w = law st (fails (is_on st)) in let z = none-off st s.receiving.accepted in omega (arith, w, z))

@@ -1,3 +1,5 @@
 pub mod SenderCalls
 pub mod ReceiverCalls
 pub mod Session
+pub mod Sacks
+pub mod Messages

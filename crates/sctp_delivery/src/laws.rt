@@ -1,5 +1,7 @@
 //! What holds of every session of two hosts: laws, each the contract of a function that does nothing.
 
+pub mod messages;
+
 ghost use Rattle.sctp_delivery.specs.Session.{AfterEachSession, AreMade, AreMessages, AreRuns, IsAccounted};
 
 /// What the sender did in a session is a run of its calls, and what the receiver did one of its own: so the laws of `sctp_sender` and

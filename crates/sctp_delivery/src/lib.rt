@@ -1,7 +1,9 @@
 //! Two hosts: a sender, a receiver, and a network between them that loses, delays, repeats and reorders.
 #![tactic(auto)]
 
+pub mod arrived;
 pub mod drained;
 pub mod laws;
 pub mod receiver_steps;
+pub mod sacks;
 pub mod sender_steps;

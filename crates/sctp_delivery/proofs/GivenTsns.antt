@@ -1,0 +1,219 @@
+-- How many TSNs a sender gave out, and which of them are in flight.
+use Rattle.std.proofs.Common.{◌≡◌, ℕ, zero, suc, ◌+◌, ◌-◌, ◌<◌, ◌≤◌, ◌%◌, ◌^◌, Bool, true, false, List, [], ◌∷◌, ◌++◌, length, length-append, length-drop, drop, Option, Some, None, refl, ap, sym, subst, ◌∙◌, arith}
+use Rattle.std.specs.Prelude.{if◌then◌else◌, is_some, nat_lt}
+use Rattle.std.proofs.lemmas.List.{length-map}
+use Rattle.std.proofs.lemmas.Bool.Decides.{nat_tests}
+use Rattle.sctp_list_lemmas.specs.Lists.{change_where, insert_before}
+use Rattle.sctp_list_lemmas.specs.Serial.{distance, comes_before}
+use Rattle.sctp_list_lemmas.proofs.Edits.{length-change_where}
+use Rattle.sctp_list_lemmas.proofs.More.{not_both}
+use Rattle.sctp_list_lemmas.proofs.Round.{tsn, distance-tsn}
+use Rattle.sctp_data.specs.declared.chunk.chunk_payload_data.ChunkPayloadData.{ChunkPayloadData}
+use Rattle.sctp_data.specs.SelectiveAck.{Sack}
+use Rattle.sctp_serial.specs.DataChunks.{chunk_before, following_tsn, tsns}
+use Rattle.sctp_outbound.specs.Marks.{as_abandoned, as_acknowledged, is_of}
+use Rattle.sctp_outbound.specs.outbound_queue.OutboundQueue.{all_started, as_sent, sent_next, sent_of, terminal_chunk, with_terminal_chunk}
+use Rattle.sctp_outbound.specs.payload_queue.PayloadQueue as payload
+use Rattle.sctp_outbound.specs.pending_queue.PendingQueue.{last_removed, next_pending, without}
+use Rattle.sctp_outbound.specs.pending_queue.Whole.{waits}
+use Rattle.sctp_outbound.proofs.lemmas.outbound_queue.Abandoned.{last_removed_none, no_last}
+use Rattle.sctp_outbound.proofs.lemmas.outbound_queue.Outbounds.{peeked_all_started}
+use Rattle.sctp_sender.specs.Flight.{Flight, after_abandonment, after_sack, is_outdated, message_to_abandon, next_after_send, reports_anew, take_sack, tsns_from}
+use Rattle.sctp_sender.specs.Late.{abandoned_at, abandoned_each}
+use Rattle.sctp_sender.proofs.Flights.{put-last, started-inflight}
+use Rattle.sctp_sender.proofs.Runs.{IsRunFrom, changed-run, dropped, past-is}
+use Rattle.sctp_delivery.proofs.TsnPlaces.{before, tsn-small}
+
+-- n TSNs were given out: those up to the acknowledged one, and those in flight
+pub record IsNumbered (p n : ℕ) (f : Flight) : Type 0 where
+  pub acked : ℕ
+  pub acked_is : f.acked_tsn ≡ tsn p acked
+  pub next_is : f.next_tsn ≡ tsn p (n + 1)
+  pub run : IsRunFrom (tsn p (acked + 1)) f.queue.inflight.chunks
+  pub total : acked + length f.queue.inflight.chunks ≡ n
+
+count : (xs : List ChunkPayloadData) → length (tsns xs) ≡ length xs
+count xs = length-map xs (λ c. c.tsn)
+
+-- ## The same TSNs, and one more
+
+pub same-numbered : (p n : ℕ) (f g : Flight) → tsns g.queue.inflight.chunks ≡ tsns f.queue.inflight.chunks → g.next_tsn ≡ f.next_tsn
+    → g.acked_tsn ≡ f.acked_tsn → IsNumbered p n f → IsNumbered p n g
+same-numbered p n f g same next acked h =
+    let long : length g.queue.inflight.chunks ≡ length f.queue.inflight.chunks = sym (count g.queue.inflight.chunks) ∙ ap length same
+    ∙ count f.queue.inflight.chunks in
+    record {
+      acked = h.acked;
+      acked_is = acked ∙ h.acked_is;
+      next_is = next ∙ h.next_is;
+      run = same ∙ h.run ∙ ap (tsns_from (tsn p (h.acked + 1))) (sym long);
+      total = omega (arith, h.total, long);
+    }
+
+one-more : (t n : ℕ) → t < 2 ^ 32 → tsns_from t n ++ ((t + n) % 2 ^ 32) ∷ [] ≡ tsns_from t (suc n)
+one-more t zero small = ap (λ u. u ∷ []) {x = (t + 0) % 2 ^ 32} {y = t} (omega arith)
+one-more t (suc n) small =
+    let e : (t + suc n) % 2 ^ 32 ≡ (following_tsn t + n) % 2 ^ 32 = omega arith in
+    ap (λ u. t ∷ (tsns_from (following_tsn t) n ++ u ∷ [])) e ∙ ap (λ ts. t ∷ ts) (one-more (following_tsn t) n (omega arith))
+
+-- a chunk with the next TSN, put behind chunks with the TSNs of those in flight
+pub more-numbered : (p n : ℕ) (f g : Flight) (x : ChunkPayloadData) (cs : List ChunkPayloadData) → tsns cs ≡ tsns f.queue.inflight.chunks → x.tsn ≡ f.next_tsn
+    → g.queue.inflight.chunks ≡ insert_before chunk_before x cs → g.next_tsn ≡ following_tsn f.next_tsn → g.acked_tsn ≡ f.acked_tsn → n + 1 < 2 ^ 31
+    → IsNumbered p n f → IsNumbered p (n + 1) g
+more-numbered p n f g x cs same is put next acked few h =
+    let first = tsn p (h.acked + 1) in
+    let long : length cs ≡ length f.queue.inflight.chunks = sym (count cs) ∙ ap length same ∙ count f.queue.inflight.chunks in
+    let at : x.tsn ≡ (first + length cs) % 2 ^ 32 = omega (arith, is, h.next_is, h.total, long) in
+    let run : IsRunFrom first cs = same ∙ h.run ∙ ap (tsns_from first) (sym long) in
+    let all : tsns g.queue.inflight.chunks ≡ tsns cs ++ x.tsn ∷ [] = ap tsns put ∙ put-last x cs first (tsn-small p (h.acked + 1))
+    (omega (arith, few, h.total, long)) run at in
+    let more : length g.queue.inflight.chunks ≡ suc (length cs) = sym (count g.queue.inflight.chunks) ∙ ap length all ∙
+    (let a = length-append (tsns cs) (x.tsn ∷ []) in let b = count cs in omega (arith, a, b)) in
+    record {
+      acked = h.acked;
+      acked_is = acked ∙ h.acked_is;
+      next_is = omega (arith, next, h.next_is);
+      run =
+          all ∙ ap (λ ts. ts ++ x.tsn ∷ []) run ∙ ap (λ t. tsns_from first (length cs) ++ t ∷ []) at
+          ∙ one-more first (length cs) (tsn-small p (h.acked + 1)) ∙ ap (tsns_from first) (sym more);
+      total = omega (arith, h.total, more, long);
+    }
+
+-- ## A call
+
+-- so many more TSNs are given out, at most so many
+pub record Raises (p most : ℕ) (f g : Flight) : Type 0 where
+  pub count : ℕ
+  pub few : count ≤ most
+  pub acked : g.acked_tsn ≡ f.acked_tsn
+  pub next : (n : ℕ) → f.next_tsn ≡ tsn p n → g.next_tsn ≡ tsn p (n + count)
+  pub numbered : (n : ℕ) → n + count < 2 ^ 31 → IsNumbered p n f → IsNumbered p (n + count) g
+
+none-more : (n : ℕ) → n ≡ n + 0
+none-more n = omega arith
+
+pub raises-none : (p most : ℕ) (f g : Flight) → tsns g.queue.inflight.chunks ≡ tsns f.queue.inflight.chunks → g.next_tsn ≡ f.next_tsn
+    → g.acked_tsn ≡ f.acked_tsn → Raises p most f g
+raises-none p most f g same next acked = record {
+  count = 0;
+  few = omega arith;
+  acked = acked;
+  next = λ n e. next ∙ e ∙ ap (tsn p) (none-more n);
+  numbered = λ n few h. subst (λ m. IsNumbered p m g) (none-more n) (same-numbered p n f g same next acked h);
+}
+
+raises-one : (p most : ℕ) (f g : Flight) (x : ChunkPayloadData) (cs : List ChunkPayloadData) → 1 ≤ most → tsns cs ≡ tsns f.queue.inflight.chunks
+    → x.tsn ≡ f.next_tsn → g.queue.inflight.chunks ≡ insert_before chunk_before x cs → g.next_tsn ≡ following_tsn f.next_tsn → g.acked_tsn ≡ f.acked_tsn
+    → Raises p most f g
+raises-one p most f g x cs some same is put next acked = record {
+  count = 1;
+  few = some;
+  acked = acked;
+  next = λ n e. omega (arith, next, e);
+  numbered = λ n few h. more-numbered p n f g x cs same is put next acked few h;
+}
+
+pub raises-sent : (p most : ℕ) (now : ℕ) (f : Flight) → 1 ≤ most → Raises p most f
+    (record f { queue = sent_next f.queue f.next_tsn now; next_tsn = next_after_send f })
+raises-sent p most now f some = by (next_pending (all_started now f.queue).pending) (is_some (next_pending f.queue.pending)) (peeked_all_started now f.queue)
+  where
+    same : tsns (all_started now f.queue).inflight.chunks ≡ tsns f.queue.inflight.chunks
+    same = ap (λ (q : payload.Payload). tsns q.chunks) (started-inflight now f.queue)
+
+    by : (o : Option ChunkPayloadData) (b : Bool) → is_some o ≡ b → Raises p most f
+        (record f { queue = sent_of o (all_started now f.queue) f.next_tsn now; next_tsn = if b then following_tsn f.next_tsn else f.next_tsn })
+    by None true e = absurd (not_both e)
+    by None false e = raises-none p most f (record f { queue = all_started now f.queue; next_tsn = f.next_tsn }) same refl refl
+    by (Some c) false e = absurd (not_both (sym e))
+    by (Some c) true e =
+        raises-one p most f (record f { queue = sent_of (Some c) (all_started now f.queue) f.next_tsn now; next_tsn = following_tsn f.next_tsn })
+        (as_sent f.next_tsn now c) (all_started now f.queue).inflight.chunks some same refl refl refl refl
+
+pub raises-abandoned : (p most : ℕ) (o : Option ℕ) (f : Flight) → 1 ≤ most → Raises p most f (after_abandonment o f)
+raises-abandoned p most None f some = raises-none p most f (after_abandonment None f) refl refl refl
+raises-abandoned p most (Some m) f some = by (last_removed m f.queue.pending) (waits m f.queue.pending) refl refl
+  where
+    marked : tsns (change_where (is_of m) as_abandoned f.queue.inflight.chunks) ≡ tsns f.queue.inflight.chunks
+    marked = changed-run (is_of m) as_abandoned (λ c. refl) f.queue.inflight.chunks
+
+    by : (o : Option ChunkPayloadData) (b : Bool) → last_removed m f.queue.pending ≡ o → waits m f.queue.pending ≡ b → Raises p most f
+        (record f {
+          queue = record f.queue {
+            pending = without m f.queue.pending;
+            inflight = with_terminal_chunk o f.next_tsn
+                (payload.with_chunks f.queue.inflight
+                (change_where (is_of m) as_abandoned f.queue.inflight.chunks));
+          };
+          next_tsn = if b then following_tsn f.next_tsn else f.next_tsn;
+        })
+    by None true e w = absurd (no_last m f.queue.pending w e)
+    by None false e w = raises-none p most f _ marked refl refl
+    by (Some c) false e w = let none = last_removed_none m f.queue.pending w in absurd (cc)
+    by (Some c) true e w = raises-one p most f _ (terminal_chunk f.next_tsn c)
+        (change_where (is_of m) as_abandoned f.queue.inflight.chunks) some marked refl refl refl refl
+
+-- one call after another
+raises-both : (p a b : ℕ) (f g h : Flight) → Raises p a f g → Raises p b g h → Raises p (a + b) f h
+raises-both p a b f g h x y =
+    let sum : (n : ℕ) → (n + x.count) + y.count ≡ n + (x.count + y.count) = λ n. omega arith in
+    record {
+      count = x.count + y.count;
+      few = omega (arith, x.few, y.few);
+      acked = y.acked ∙ x.acked;
+      next = λ n e. y.next (n + x.count) (x.next n e) ∙ ap (tsn p) (sum n);
+      numbered = λ n few i. subst (λ m. IsNumbered p m h) (sum n) (y.numbered (n + x.count) (omega (arith, few)) (x.numbered n (omega (arith, few)) i));
+    }
+
+pub raises-fewer : (p a b : ℕ) (f g : Flight) → a ≤ b → Raises p a f g → Raises p b f g
+raises-fewer p a b f g le r = record { count = r.count; few = omega (arith, le, r.few); acked = r.acked; next = r.next; numbered = r.numbered }
+
+pub raises-each : (p : ℕ) (ts : List ℕ) (f : Flight) → Raises p (length ts) f (abandoned_each ts f)
+raises-each p [] f = raises-none p 0 f f refl refl refl
+raises-each p (t ∷ ts) f =
+    raises-fewer p (1 + length ts) (length (t ∷ ts)) f (abandoned_each (t ∷ ts) f) (omega arith)
+    (raises-both p 1 (length ts) f (abandoned_at t f) (abandoned_each ts (abandoned_at t f)) (raises-abandoned p 1 (message_to_abandon t f) f (omega arith))
+    (raises-each p ts (abandoned_at t f)))
+
+-- how many were given out is what the next TSN shows
+pub given : (p n most : ℕ) (f g : Flight) → most < 2 ^ 32 → f.next_tsn ≡ tsn p (n + 1) → (r : Raises p most f g) → distance f.next_tsn g.next_tsn ≡ r.count
+given p n most f g short is r =
+    let e = ap (distance f.next_tsn) (r.next (n + 1) is) ∙ ap (λ t. distance t (tsn p (n + 1 + r.count))) is in
+    let d = distance-tsn p (n + 1) (n + 1 + r.count) (omega arith) (omega (arith, short, r.few)) in
+    omega (arith, e, d)
+
+-- ## A SACK
+
+pub taken-numbered : (p n place : ℕ) (s : Sack) (f : Flight) → n < 2 ^ 31 → place ≤ n → s.cumulative_tsn_ack ≡ tsn p place → IsNumbered p n f → IsNumbered p n
+    (after_sack s f)
+taken-numbered p n place s f few within is h = by (is_outdated s f) refl
+  where
+    by : (b : Bool) → is_outdated s f ≡ b → IsNumbered p n (if b then f else take_sack s f)
+    by true e = h
+    by false e =
+        let cs = change_where (reports_anew s) as_acknowledged f.queue.inflight.chunks in
+        let long = length-change_where (reports_anew s) as_acknowledged f.queue.inflight.chunks in
+        let total = h.total in
+        let order : nat_lt place h.acked ≡ false = sym (before p place h.acked (omega (arith, within, few)) (omega (arith, total, few))) ∙ ap
+        (λ t. comes_before t (tsn p h.acked)) (sym is) ∙ ap (comes_before s.cumulative_tsn_ack) (sym h.acked_is) ∙ e in
+        let le : h.acked ≤ place = grind (arith, nat_tests, order) in
+        let far : distance f.acked_tsn s.cumulative_tsn_ack ≡ place - h.acked = ap (λ t. distance t s.cumulative_tsn_ack) h.acked_is ∙ ap
+        (distance (tsn p h.acked)) is ∙ distance-tsn p h.acked place le (omega (arith, within, few)) in
+        let small : f.acked_tsn < 2 ^ 32 = let t = tsn-small p h.acked in omega (arith, t, h.acked_is) in
+        let fits : s.cumulative_tsn_ack < 2 ^ 32 = let t = tsn-small p place in omega (arith, t, is) in
+        let run : IsRunFrom (tsn p (h.acked + 1)) cs = changed-run (reports_anew s) as_acknowledged (λ c. refl) f.queue.inflight.chunks ∙ h.run ∙ ap
+        (tsns_from (tsn p (h.acked + 1))) (sym long) in
+        let first : following_tsn f.acked_tsn ≡ tsn p (h.acked + 1) = let a = h.acked_is in omega (arith, a) in
+        let enough : distance f.acked_tsn s.cumulative_tsn_ack ≤ length cs = omega (arith, far, long, total, within) in
+        let left : payload.past s.cumulative_tsn_ack cs ≡ drop (place - h.acked) cs = past-is cs f.acked_tsn s.cumulative_tsn_ack small fits
+        (omega (arith, long, total, few)) enough (subst (λ t. IsRunFrom t cs) (sym first) run) ∙ ap (λ k. drop k cs) far in
+        let rest : IsRunFrom ((tsn p (h.acked + 1) + (place - h.acked)) % 2 ^ 32) (drop (place - h.acked) cs) = dropped cs (tsn p (h.acked + 1))
+        (place - h.acked) (tsn-small p (h.acked + 1)) run (omega (arith, enough, far)) in
+        let next : (tsn p (h.acked + 1) + (place - h.acked)) % 2 ^ 32 ≡ tsn p (place + 1) = omega (arith, le) in
+        let n' = length-drop (place - h.acked) cs in
+        record {
+          acked = place;
+          acked_is = is;
+          next_is = h.next_is;
+          run = subst (λ xs. IsRunFrom (tsn p (place + 1)) xs) (sym left) (subst (λ t. IsRunFrom t (drop (place - h.acked) cs)) next rest);
+          total = let l = ap length left in omega (arith, l, n', long, total, le, within);
+        }

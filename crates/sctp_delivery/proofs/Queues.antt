@@ -1,0 +1,250 @@
+-- The queues of a sender beside all that it gave TSNs to, while chunks come, leave and change.
+use Rattle.std.proofs.Common.{◌≡◌, ℕ, ◌+◌, ◌%◌, ◌^◌, Bool, true, false, List, [], ◌∷◌, length, Option, Some, None, ◌⊎◌, inl, inr, refl, ap, sym, subst, ◌∙◌, arith, not}
+use Rattle.std.specs.Prelude.{◌==◌, if◌then◌else◌}
+use Rattle.std.specs.List.{list_any}
+use Rattle.std.proofs.lemmas.Option.{none-some}
+use Rattle.sctp_list_lemmas.specs.Lists.{change_where, insert_before}
+use Rattle.sctp_list_lemmas.proofs.Cases.{or-left, same-yes, some-same}
+use Rattle.sctp_list_lemmas.proofs.More.{fails, not_both}
+use Rattle.sctp_data.specs.declared.chunk.chunk_payload_data.ChunkPayloadData.{ChunkPayloadData}
+use Rattle.sctp_data.specs.PayloadData.{data_of}
+use Rattle.sctp_outbound.specs.declared.pending_queue.Selected.{Selected}
+use Rattle.sctp_outbound.specs.Marks.{as_abandoned, is_of}
+use Rattle.sctp_outbound.specs.outbound_queue.OutboundQueue.{Outbound, abandon_chunks, abandoned_of, all_started, as_sent, sent_of, terminal_chunk, tsn_after_of, with_inflight, with_terminal_chunk}
+use Rattle.sctp_outbound.specs.payload_queue.PayloadQueue as payload
+use Rattle.sctp_outbound.specs.pending_queue.PendingQueue.{is_to_start, last_removed, next_pending, selected_without, start_pending, with_deadline, without, without_message}
+use Rattle.sctp_outbound.specs.pending_queue.Whole.{IsSendable, IsWhole, begun, free, half_of, partially_sent, waits}
+use Rattle.sctp_outbound.proofs.lemmas.outbound_queue.Abandoned.{abandoned_none, last_is_of, no_last, sendable-abandoned}
+use Rattle.sctp_outbound.proofs.lemmas.outbound_queue.Sendable.{half_gone, sendable-changed, sendable-fewer, sendable-marked, sendable-sent}
+use Rattle.sctp_outbound.proofs.lemmas.pending_queue.CompleteMessages.{KeepsMessage}
+use Rattle.sctp_serial.specs.DataChunks.{chunk_before, following_tsn}
+use Rattle.sctp_list_lemmas.proofs.Edits.{list_any-inserted, list_any-those}
+use Rattle.sctp_delivery.proofs.Begun.{IsBegun, begins, begins-changed, begun-ended, begun-less, begun-sent}
+use Rattle.sctp_delivery.proofs.InFlight.{AreKnown, KeepsData, abandoned-keeps, abandoned-not, known-changed, known-inserted, known-more}
+use Rattle.sctp_delivery.proofs.Sending.{Queued, queued-sent}
+use Rattle.sctp_delivery.proofs.Sent.{Entry, Numbered, fragment, terminal}
+use Rattle.sctp_delivery.proofs.Turns.{Turns, turns-rest, turns-started, without-none}
+use Rattle.sctp_delivery.proofs.Waiting.{Waits, between, inside, nowhere, place_of, waits-started, waits-without}
+
+-- the queues and the next TSN, where these entries got TSNs
+pub record Stands (ws : List Numbered) (first : ℕ) (number : ℕ → ℕ) (q : Outbound) (next : ℕ) (sent : List Entry) : Type 0 where
+  pub queued : Queued ws first number q.pending sent
+  pub sendable : IsSendable q.pending q.inflight.chunks q.next_message_id
+  pub known : AreKnown sent q.inflight.chunks
+  pub counted : next ≡ (first + length sent) % 2 ^ 32
+  pub begun' : IsBegun q.pending.ordered q.pending.unordered q.next_message_id sent
+  pub ids : q.next_message_id ≡ length ws
+
+-- ## Lifetimes
+
+pub started : (ws : List Numbered) (first : ℕ) (number : ℕ → ℕ) (now : ℕ) (q : Outbound) (next : ℕ) (sent : List Entry) → Stands ws first number q next sent → Stands ws first number (all_started now q) next sent
+started ws first number now q next sent s = by (q.next_unstarted == q.next_message_id)
+  where
+    keeps : KeepsMessage (with_deadline now)
+    keeps = record { number = λ _. refl; begins = λ _. refl; ends = λ _. refl; kind = λ _. refl }
+
+    p : ChunkPayloadData → Bool
+    p = is_to_start q.next_unstarted
+
+    by : (b : Bool) → Stands ws first number (if b then q else record q { pending = start_pending q.next_unstarted now q.pending; next_unstarted = q.next_message_id }) next sent
+    by true = s
+    by false = record {
+      queued = record {
+        line = s.queued.line;
+        ordered = waits-started ws now (is_to_start q.next_unstarted) q.pending.ordered (place_of false q.pending.selected sent) s.queued.ordered;
+        unordered = waits-started ws now (is_to_start q.next_unstarted) q.pending.unordered (place_of true q.pending.selected sent) s.queued.unordered;
+        turns = λ st. let t = s.queued.turns st in (t.0, (turns-started st now (is_to_start q.next_unstarted) q.pending.ordered t.0 (number st) t.1.0, t.1.1));
+      };
+      sendable = sendable-changed q.pending.ordered q.pending.unordered q.pending.selected q.pending.ordered_room q.pending.unordered_room q.pending.ordered_room q.pending.unordered_room q.inflight.chunks q.next_message_id (is_to_start q.next_unstarted) (is_to_start q.next_unstarted) (with_deadline now) (with_deadline now) keeps keeps s.sendable;
+      known = s.known;
+      counted = s.counted;
+      begun' = begun-less q.pending.ordered q.pending.unordered (change_where (is_to_start q.next_unstarted) (with_deadline now) q.pending.ordered) (change_where (is_to_start q.next_unstarted) (with_deadline now) q.pending.unordered) q.next_message_id sent
+          (λ m h. sym (begins-changed (is_to_start q.next_unstarted) (with_deadline now) keeps m q.pending.ordered) ∙ h) (λ m h. sym (begins-changed (is_to_start q.next_unstarted) (with_deadline now) keeps m q.pending.unordered) ∙ h) s.begun';
+      ids = s.ids;
+    }
+
+-- ## Sending
+
+-- as many entries as before, or one more
+abbrev pub IsOnceMore : List Entry → List Entry → Type 0
+IsOnceMore sent more = (more ≡ sent) ⊎ ((x : Entry) × (more ≡ x ∷ sent))
+
+-- the chunk, and what stands after it was sent
+pub record IsSent (ws : List Numbered) (first : ℕ) (number : ℕ → ℕ) (q : Outbound) (next : ℕ) (now : ℕ) (sent : List Entry) (c : ChunkPayloadData) : Type 0 where
+  pub write : Numbered
+  pub after : List ℕ
+  pub stands : Stands ws first number (sent_of (Some c) q next now) (following_tsn next) (fragment (data_of (as_sent next now c)) write after ∷ sent)
+
+pub sends : (ws : List Numbered) (first : ℕ) (number : ℕ → ℕ) (now : ℕ) (q : Outbound) (next : ℕ) (sent : List Entry) (c : ChunkPayloadData) → next_pending q.pending ≡ Some c → Stands ws first number q next sent → IsSent ws first number q next now sent c
+sends ws first number now q next sent c e s =
+    let p = q.pending in
+    let t = as_sent next now c in
+    let on = queued-sent ws first number sent next now s.counted p.ordered_room p.unordered_room c p.selected p.ordered p.unordered q.inflight.chunks q.next_message_id s.sendable e s.queued in
+    record {
+      write = on.0;
+      after = on.1;
+      stands = record {
+        queued = on.2.0;
+        sendable = (sendable-sent p q.inflight.chunks q.next_message_id c t refl s.sendable e).sendable;
+        known = known-inserted (fragment (data_of t) on.0 on.1 ∷ sent) chunk_before t q.inflight.chunks (λ o. (on.0, on.1, sent, inl refl)) (known-more (fragment (data_of t) on.0 on.1) sent q.inflight.chunks s.known);
+        counted = let n = s.counted in omega (arith, n);
+        begun' = begun-sent p q.inflight.chunks (insert_before chunk_before t q.inflight.chunks) q.next_message_id sent c (data_of t) on.0 on.1 refl on.2.1 e s.sendable (sendable-sent p q.inflight.chunks q.next_message_id c t refl s.sendable e).sendable
+            (list_any-inserted (is_of c.message_id) chunk_before t q.inflight.chunks ∙ or-left (c.message_id == c.message_id) (list_any (is_of c.message_id) q.inflight.chunks) (same-yes c.message_id)) s.begun';
+        ids = s.ids;
+      };
+    }
+
+-- ## Abandonment
+
+-- what stands after messages were abandoned
+pub record Abandons (ws : List Numbered) (first : ℕ) (number : ℕ → ℕ) (sent : List Entry) (q r : Outbound) (next : ℕ) : Type 0 where
+  pub more : List Entry
+  pub stands : Stands ws first number r next more
+  pub once : IsOnceMore sent more
+  pub last : (more ≡ sent) ⊎ (partially_sent r.pending ≡ None)
+  pub none : partially_sent q.pending ≡ None → (more ≡ sent) × (partially_sent r.pending ≡ None)
+
+pub no-abandons : (ws : List Numbered) (first : ℕ) (number : ℕ → ℕ) (sent : List Entry) (q : Outbound) (next : ℕ) → Stands ws first number q next sent → Abandons ws first number sent q q next
+no-abandons ws first number sent q next s = record { more = sent; stands = s; once = inl refl; last = inl refl; none = λ h. (refl, h) }
+
+pub abandons-then : (ws : List Numbered) (first : ℕ) (number : ℕ → ℕ) (sent : List Entry) (q r o : Outbound) (next last : ℕ) (a : Abandons ws first number sent q r next) → Abandons ws first number a.more r o last → Abandons ws first number sent q o last
+abandons-then ws first number sent q r o next last a b = record {
+  more = b.more;
+  stands = b.stands;
+  once = once a.last;
+  last = end a.last b.last;
+  none = λ h. let x = a.none h in let y = b.none x.1 in (y.0 ∙ x.0, y.1);
+}
+  where
+    once : (a.more ≡ sent) ⊎ (partially_sent r.pending ≡ None) → IsOnceMore sent b.more
+    once (inl e) = subst (λ xs. IsOnceMore xs b.more) e b.once
+    once (inr h) = subst (IsOnceMore sent) (sym (b.none h).0) a.once
+
+    end : (a.more ≡ sent) ⊎ (partially_sent r.pending ≡ None) → (b.more ≡ a.more) ⊎ (partially_sent o.pending ≡ None) → (b.more ≡ sent) ⊎ (partially_sent o.pending ≡ None)
+    end (inl e) (inl f) = inl (f ∙ e)
+    end (inl e) (inr h) = inr h
+    end (inr h) f = inr (b.none h).1
+
+nowhere-none : (ws : List Numbered) (cs : List ChunkPayloadData) → Waits ws cs nowhere → ⊥
+nowhere-none ws [] h = h
+nowhere-none ws (c ∷ cs) h = h.2.1.0
+
+-- the rest of the message in front is gone
+rest-gone : (ws : List Numbered) (m : ℕ) (cs : List ChunkPayloadData) (sent : List Entry) → Waits ws cs (inside m sent) → Waits ws (without_message m cs) between
+rest-gone ws m cs [] h = absurd (nowhere-none ws cs h)
+rest-gone ws m cs (terminal ∷ xs) h = absurd (nowhere-none ws cs h)
+rest-gone ws m cs (fragment d w after ∷ xs) h =
+    let g = waits-without ws m cs (inside m (fragment d w after ∷ xs)) h in
+    subst (Waits ws (without_message m cs)) (ap (λ b. if b then between else inside m (fragment d w after ∷ xs)) (same-yes m)) g
+
+pub marked : (ws : List Numbered) (first : ℕ) (number : ℕ → ℕ) (q : Outbound) (next : ℕ) (sent : List Entry) (p : ChunkPayloadData → Bool) (f : ChunkPayloadData → ChunkPayloadData) → KeepsMessage f → KeepsData f → Stands ws first number q next sent → Stands ws first number (with_inflight q (change_where p f q.inflight.chunks)) next sent
+marked ws first number q next sent p f keeps keeps' s = record {
+  queued = s.queued;
+  sendable = sendable-marked q.pending q.inflight.chunks q.next_message_id p f keeps s.sendable;
+  known = known-changed sent p f keeps' q.inflight.chunks s.known;
+  counted = s.counted;
+  begun' = s.begun';
+  ids = s.ids;
+}
+
+-- with other chunks in flight, of no other messages
+pub refilled : (ws : List Numbered) (first : ℕ) (number : ℕ → ℕ) (q : Outbound) (next : ℕ) (sent : List Entry) (cs : List ChunkPayloadData) → ((m : ℕ) → list_any (is_of m) cs ≡ true → list_any (is_of m) q.inflight.chunks ≡ true) → AreKnown sent cs → Stands ws first number q next sent → Stands ws first number (with_inflight q cs) next sent
+refilled ws first number q next sent cs fewer known s = record {
+  queued = s.queued;
+  sendable = sendable-fewer q.pending q.inflight.chunks cs q.next_message_id fewer s.sendable;
+  known = known;
+  counted = s.counted;
+  begun' = s.begun';
+  ids = s.ids;
+}
+
+module _ (ws : List Numbered) (first : ℕ) (number : ℕ → ℕ) (q : Outbound) (next : ℕ) (sent : List Entry) (s : Stands ws first number q next sent) (m : ℕ) where
+  abbrev xs : List ChunkPayloadData
+  xs = change_where (is_of m) as_abandoned q.inflight.chunks
+
+  keeps : KeepsMessage as_abandoned
+  keeps = record { number = λ _. refl; begins = λ _. refl; ends = λ _. refl; kind = λ _. refl }
+
+  -- none of it waits
+  whole-abandoned : waits m q.pending ≡ false → Abandons ws first number sent q (abandon_chunks m next q) next
+  whole-abandoned e =
+      let is = abandoned_none m next q s.sendable e in
+      subst (λ r. Abandons ws first number sent q r next) (sym is) (record {
+        more = sent;
+        stands = marked ws first number q next sent (is_of m) as_abandoned keeps abandoned-keeps s;
+        once = inl refl;
+        last = inl refl;
+        none = λ h. (refl, h);
+      })
+
+  -- its rest is in front
+  front : (t : Selected) (os us : List ChunkPayloadData) (ro ru n : ℕ) (ys : List ChunkPayloadData) → t.message_id ≡ m → IsSendable (record { ordered = os; unordered = us; selected = Some t; ordered_room = ro; unordered_room = ru }) ys n → Queued ws first number (record { ordered = os; unordered = us; selected = Some t; ordered_room = ro; unordered_room = ru }) sent → Queued ws first number (without m (record { ordered = os; unordered = us; selected = Some t; ordered_room = ro; unordered_room = ru })) (terminal ∷ sent)
+  front t os us ro ru n ys same k h = record {
+    line = h.line;
+    ordered = at false (kinds-ordered t.unordered h.ordered);
+    unordered = at true (kinds-unordered t.unordered h.unordered);
+    turns = λ st. let u = h.turns st in (u.0, (turned t.unordered k.ordered k.unordered st u.0 u.1.0, tt));
+  }
+    where
+      gone : selected_without m (Some t) ≡ None
+      gone = ap (λ b. if b then None else Some t) (subst (λ j. (j == m) ≡ true) (sym same) (same-yes m))
+
+      list : Bool → List ChunkPayloadData
+      list true = us
+      list false = os
+
+      at : (kind : Bool) → Waits ws (without_message m (list kind)) between → Waits ws (without_message m (list kind)) (place_of kind (selected_without m (Some t)) (terminal ∷ sent))
+      at true w = subst (λ o. Waits ws (without_message m us) (place_of true o (terminal ∷ sent))) (sym gone) w
+      at false w = subst (λ o. Waits ws (without_message m os) (place_of false o (terminal ∷ sent))) (sym gone) w
+
+      kinds-ordered : (b : Bool) → Waits ws os (if b then between else inside t.message_id sent) → Waits ws (without_message m os) between
+      kinds-ordered true w = waits-without ws m os between w
+      kinds-ordered false w = rest-gone ws m os sent (subst (λ j. Waits ws os (inside j sent)) same w)
+
+      kinds-unordered : (b : Bool) → Waits ws us (if b then inside t.message_id sent else between) → Waits ws (without_message m us) between
+      kinds-unordered true w = rest-gone ws m us sent (subst (λ j. Waits ws us (inside j sent)) same w)
+      kinds-unordered false w = waits-without ws m us between w
+
+      there : (cs : List ChunkPayloadData) → IsWhole true n (begun t.message_id) cs → list_any (is_of m) cs ≡ true
+      there [] w = absurd w
+      there (c ∷ cs) w = or-left (c.message_id == m) (list_any (is_of m) cs) (subst (λ j. (j == m) ≡ true) (sym (w.0.1 ∙ same)) (same-yes m))
+
+      turned : (b : Bool) → IsWhole false n (if b then free 0 else begun t.message_id) os → IsWhole true n (if b then begun t.message_id else free 0) us → (st i : ℕ) → Turns st os i (number st) → Turns st (without_message m os) i (number st)
+      turned true w v st i u =
+          let none : list_any (is_of m) os ≡ false = fails (list_any (is_of m) os) (λ e. not_both (sym (k.apart m e) ∙ there us v)) in
+          subst (λ cs. Turns st cs i (number st)) (sym (without-none m os none)) u
+      turned false w v st i u = turns-rest st m n false os i (number st) (subst (λ j. IsWhole false n (begun j) os) same w) u
+
+  rest-abandoned : waits m q.pending ≡ true → partially_sent q.pending ≡ Some m → (o : Option ChunkPayloadData) → last_removed m q.pending ≡ o → Abandons ws first number sent q (record q { pending = without m q.pending; inflight = with_terminal_chunk o next (payload.with_chunks q.inflight xs) }) (following_tsn next)
+  rest-abandoned e half None f = absurd (no_last m q.pending e f)
+  rest-abandoned e half (Some c) f =
+      let t = terminal_chunk next c in
+      let gone : partially_sent (without m q.pending) ≡ None = half_gone m q.pending.selected half in
+      record {
+        more = terminal ∷ sent;
+        stands = record {
+          queued = selected q.pending.selected half s.sendable s.queued;
+          sendable = sendable-abandoned q.pending q.inflight.chunks q.next_message_id m t (last_is_of m q.pending c f) e s.sendable;
+          known = known-inserted (terminal ∷ sent) chunk_before t xs (λ o. absurd (abandoned-not t refl o)) (known-more terminal sent xs (known-changed sent (is_of m) as_abandoned abandoned-keeps q.inflight.chunks s.known));
+          counted = let n = s.counted in omega (arith, n);
+          begun' = begun-ended (without_message m q.pending.ordered) (without_message m q.pending.unordered) q.next_message_id sent
+              (begun-less q.pending.ordered q.pending.unordered (without_message m q.pending.ordered) (without_message m q.pending.unordered) q.next_message_id sent
+              (λ k h. list_any-those (begins k) (λ c. not (is_of m c)) q.pending.ordered h) (λ k h. list_any-those (begins k) (λ c. not (is_of m c)) q.pending.unordered h) s.begun');
+          ids = s.ids;
+        };
+        once = inr (terminal, refl);
+        last = inr gone;
+        none = λ h. absurd (none-some m (sym h ∙ half));
+      }
+    where
+      selected : (sel : Option Selected) → half_of sel ≡ Some m → IsSendable (record q.pending { selected = sel }) q.inflight.chunks q.next_message_id → Queued ws first number (record q.pending { selected = sel }) sent → Queued ws first number (without m (record q.pending { selected = sel })) (terminal ∷ sent)
+      selected None h k r = absurd (none-some m h)
+      selected (Some t) h k r = front t q.pending.ordered q.pending.unordered q.pending.ordered_room q.pending.unordered_room q.next_message_id q.inflight.chunks (some-same h) k r
+
+pub abandoned : (ws : List Numbered) (first : ℕ) (number : ℕ → ℕ) (q : Outbound) (next : ℕ) (sent : List Entry) → Stands ws first number q next sent → (o : Option ℕ) → ((m : ℕ) → o ≡ Some m → waits m q.pending ≡ true → partially_sent q.pending ≡ Some m) → Abandons ws first number sent q (abandoned_of o next q) (tsn_after_of o next q)
+abandoned ws first number q next sent s None half = no-abandons ws first number sent q next s
+abandoned ws first number q next sent s (Some m) half = by (waits m q.pending) refl
+  where
+    by : (b : Bool) → waits m q.pending ≡ b → Abandons ws first number sent q (abandon_chunks m next q) (if waits m q.pending then following_tsn next else next)
+    by true e = subst (λ b. Abandons ws first number sent q (abandon_chunks m next q) (if b then following_tsn next else next)) (sym e) (rest-abandoned ws first number q next sent s m e (half m refl e) (last_removed m q.pending) refl)
+    by false e = subst (λ b. Abandons ws first number sent q (abandon_chunks m next q) (if b then following_tsn next else next)) (sym e) (whole-abandoned ws first number q next sent s m e)

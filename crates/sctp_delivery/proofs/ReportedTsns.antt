@@ -1,0 +1,150 @@
+-- What a SACK reports, where the filter of which it speaks heard of none but those that were given out.
+use Rattle.std.proofs.Common.{◌≡◌, ℕ, zero, suc, ◌+◌, ◌-◌, ◌<◌, ◌≤◌, ◌^◌, Bool, true, false, List, [], ◌∷◌, length, map, take, Some, None, refl, ap, sym, subst, ◌∙◌, inl, inr, arith}
+use Rattle.std.specs.Prelude.{if◌then◌else◌, ◌&&◌, ◌||◌, nat_lt, nat_le}
+use Rattle.std.specs.List.{filter, list_all, list_any}
+use Rattle.std.proofs.lemmas.Bool.{cases_lt}
+use Rattle.std.proofs.lemmas.Bool.Decides.{nat_tests}
+use Rattle.sctp_list_lemmas.specs.Kept.{runs_of}
+use Rattle.sctp_list_lemmas.specs.Serial.{distance, comes_before, at_or_before}
+use Rattle.sctp_list_lemmas.proofs.Cases.{or-left, or-right, or-split}
+use Rattle.sctp_list_lemmas.proofs.More.{and, both, not_both}
+use Rattle.sctp_list_lemmas.proofs.Round.{tsn, distance-tsn, distance-tsn_back}
+use Rattle.sctp_data.specs.declared.chunk.chunk_selective_ack.GapAckBlock.{GapAckBlock}
+use Rattle.sctp_data.specs.SelectiveAck.{Sack}
+use Rattle.sctp_outbound.specs.payload_queue.Blocks.{is_in_block, is_in_blocks, is_offset}
+use Rattle.sctp_receiver.specs.Receiver.{Reception, filter_of, max_sack_entries, sack}
+use Rattle.sctp_receiver.specs.TsnFilter.{block_of, gap_ack_blocks, offsets}
+use Rattle.sctp_sender.specs.declared.sender.refusal.SenderRefusal.TheVariants.{InflightQueueTsnPop, TsnRequestNotExist}
+use Rattle.sctp_sender.specs.Flight.{Flight, count_acked, is_outdated, is_within, sack_refusal}
+use Rattle.sctp_delivery.specs.Sacks.{reports_tsn}
+use Rattle.sctp_delivery.proofs.GivenTsns.{IsNumbered}
+use Rattle.sctp_delivery.proofs.HeardTsns.{IsHeard, IsKnownAfter, after-cumulative, in-runs, in_run}
+use Rattle.sctp_delivery.proofs.TsnPlaces.{at-or-before, before}
+
+-- all that it reports is known, and was given out
+pub record IsTruthful (p n : ℕ) (known : ℕ → Bool) (s : Sack) : Type 0 where
+  pub place : ℕ
+  pub within : place ≤ n
+  pub is : s.cumulative_tsn_ack ≡ tsn p place
+  pub so_far : (k : ℕ) → 0 < k → k ≤ place → known (tsn p k) ≡ true
+  pub blocks : (d : ℕ) → is_in_blocks s.gap_ack_blocks d ≡ true → IsKnownAfter p n known place d
+
+-- ## The SACK of a receiver
+
+pub any-run : (d : ℕ) (rs : List (ℕ × ℕ)) → is_in_blocks (map block_of rs) d ≡ list_any (in_run d) rs
+any-run d [] = refl
+any-run d (r ∷ rs) = ap (λ b. (nat_le r.0 d && nat_le d r.1) || b) (any-run d rs)
+
+any-taken : (d n : ℕ) (bs : List GapAckBlock) → is_in_blocks (take n bs) d ≡ true → is_in_blocks bs d ≡ true
+any-taken d zero bs e = absurd (not_both e)
+any-taken d (suc n) [] e = e
+any-taken d (suc n) (b ∷ bs) e = elim (or-split (is_in_block d b) (is_in_blocks (take n bs) d) e) [
+  | inl h ↦ or-left (is_in_block d b)
+      (is_in_blocks bs d) h
+  | inr h ↦ or-right (is_in_block d b) (is_in_blocks bs d) (any-taken d n bs h)
+]
+
+offset-is : (d : ℕ) → is_offset d ≡ true → (0 < d) × (d < 2 ^ 16)
+offset-is d e = let b = both (nat_lt 0 d) (nat_lt d (2 ^ 16)) e in (grind (arith, nat_tests, b.0), grind (arith, nat_tests, b.1))
+
+pub sack-truthful : (p n : ℕ) (known : ℕ → Bool) (credit : ℕ) (r : Reception) → n < 2 ^ 31 → IsHeard p n known r.cumulative_tsn r.beyond
+    → IsTruthful p n known (sack credit r)
+sack-truthful p n known credit r few h = record {
+  place = h.place;
+  within = h.within;
+  is = h.is;
+  so_far = h.so_far;
+  blocks = λ d e.
+      let bs = gap_ack_blocks (filter_of r) in
+      let ds = filter is_offset (map (distance (tsn p h.place)) r.beyond) in
+      let base : offsets (filter_of r) ≡ ds = ap (λ c. filter is_offset (map (distance c) r.beyond)) h.is in
+      let some = sym (any-run d (runs_of (offsets (filter_of r)))) ∙ any-taken d max_sack_entries bs e in
+      in-runs (IsKnownAfter p n known h.place) ds d (after-cumulative p n known h.place is_offset few h.within offset-is r.beyond h.each)
+      (subst (λ os. list_any (in_run d) (runs_of os) ≡ true) base some);
+}
+
+-- ## Later
+
+pub later-truthful : (p m n : ℕ) (known known' : ℕ → Bool) (s : Sack) → m ≤ n → ((t : ℕ) → known t ≡ true → known' t ≡ true) → IsTruthful p m known s
+    → IsTruthful p n known' s
+later-truthful p m n known known' s le more h = record {
+  place = h.place;
+  within = omega (arith, le, h.within);
+  is = h.is;
+  so_far = λ k pos l. more (tsn p k) (h.so_far k pos l);
+  blocks = λ d e. let b = h.blocks d e in record { some = b.some; within = omega (arith, le, b.within); so = more (tsn p (h.place + d)) b.so };
+}
+
+-- ## It is not refused
+
+within-each : (p n left : ℕ) (known : ℕ → Bool) (place : ℕ) (bs : List GapAckBlock) → n ≡ place + left →
+    ((d : ℕ) → is_in_blocks bs d ≡ true → IsKnownAfter p n known place d) → list_all (is_within left) bs ≡ true
+within-each p n left known place [] sum h = refl
+within-each p n left known place (b ∷ bs) sum h =
+    and (is_within left b) (list_all (is_within left) bs) here (within-each p n left known place bs sum
+    (λ d e. h d (or-right (is_in_block d b) (is_in_blocks bs d) e)))
+  where
+    here : is_within left b ≡ true
+    here = elim (cases_lt b.end b.start) [
+      | inl lt ↦ grind (arith, nat_tests, lt)
+      | inr ge ↦
+          let first : is_in_block b.start b ≡ true = grind (arith, nat_tests, ge) in
+          let last : is_in_block b.end b ≡ true = grind (arith, nat_tests, ge) in
+          let f = h b.start (or-left (is_in_block b.start b) (is_in_blocks bs b.start) first) in
+          let l = h b.end (or-left (is_in_block b.end b) (is_in_blocks bs b.end) last) in
+          let pos = f.some in
+          let le = l.within in
+          let short : b.end ≤ left = omega (arith, sum, le) in
+          grind (arith, nat_tests, pos, short)
+    ]
+
+pub not-refused : (p n : ℕ) (known : ℕ → Bool) (s : Sack) (f : Flight) → n < 2 ^ 31 → IsNumbered p n f → IsTruthful p n known s → sack_refusal s f ≡ None
+not-refused p n known s f few h t = by (is_outdated s f) refl
+  where
+    current : is_outdated s f ≡ false → h.acked ≤ t.place
+    current e =
+        let total = h.total in
+        let within = t.within in
+        let order : nat_lt t.place h.acked ≡ false = sym (before p t.place h.acked (omega (arith, within, few)) (omega (arith, total, few))) ∙ ap
+        (λ u. comes_before u (tsn p h.acked)) (sym t.is) ∙ ap (comes_before s.cumulative_tsn_ack) (sym h.acked_is) ∙ e in
+        grind (arith, nat_tests, order)
+
+    by : (b : Bool) → is_outdated s f ≡ b → (if b then None else (if nat_lt (length f.queue.inflight.chunks)
+        (count_acked s f) then Some InflightQueueTsnPop else (if list_all
+        (is_within (length f.queue.inflight.chunks - count_acked s f)) s.gap_ack_blocks then None else Some TsnRequestNotExist))) ≡ None
+    by true e = refl
+    by false e =
+        let total = h.total in
+        let within = t.within in
+        let le = current e in
+        let far : count_acked s f ≡ t.place - h.acked = ap (λ u. distance u s.cumulative_tsn_ack) h.acked_is ∙ ap (distance (tsn p h.acked)) t.is
+        ∙ distance-tsn p h.acked t.place le (omega (arith, within, few)) in
+        let enough : nat_lt (length f.queue.inflight.chunks) (count_acked s f) ≡ false = grind (arith, nat_tests, far, total, within) in
+        let fits : list_all (is_within (length f.queue.inflight.chunks - count_acked s f)) s.gap_ack_blocks ≡ true = within-each p n
+        (length f.queue.inflight.chunks - count_acked s f) known t.place s.gap_ack_blocks (omega (arith, far, total, within, le)) t.blocks in
+        rw (enough, fits) refl
+
+-- ## What it reports
+
+pub told-known : (p n : ℕ) (known : ℕ → Bool) (s : Sack) (k : ℕ) → n < 2 ^ 31 → 0 < k → k ≤ 2 ^ 31 → IsTruthful p n known s → reports_tsn (tsn p k) s ≡ true →
+    (known (tsn p k) ≡ true) × (k ≤ n)
+told-known p n known s k few pos far t e = elim (or-split (at_or_before (tsn p k) s.cumulative_tsn_ack)
+    (is_in_blocks s.gap_ack_blocks (distance s.cumulative_tsn_ack (tsn p k))) e) [
+      | inl a ↦
+          let within = t.within in
+          let order : nat_le k t.place ≡ true = sym (at-or-before p k t.place far (omega (arith, within, few))) ∙ ap (at_or_before (tsn p k)) (sym t.is) ∙ a in
+          let le : k ≤ t.place = grind (arith, nat_tests, order) in
+          (t.so_far k pos le, omega (arith, le, within))
+      | inr a ↦
+          let d = distance s.cumulative_tsn_ack (tsn p k) in
+          let b = t.blocks d a in
+          let within = b.within in
+          let is : d ≡ distance (tsn p t.place) (tsn p k) = ap (λ u. distance u (tsn p k)) t.is in
+          elim (cases_lt k t.place) [
+            | inl lt ↦ let back = distance-tsn_back p k t.place lt (omega (arith, few, t.within)) in absurd (omega (arith, is, back, within, few, t.within))
+            | inr ge ↦
+                let ahead = distance-tsn p t.place k ge (omega (arith, far)) in
+                let at : t.place + d ≡ k = omega (arith, is, ahead, ge) in
+                (subst (λ j. known (tsn p j) ≡ true) at b.so, omega (arith, at, within))
+          ]
+    ]

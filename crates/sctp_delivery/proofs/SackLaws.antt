@@ -1,0 +1,361 @@
+-- What SACKs and FORWARD-TSNs say after every session in which fewer than 2^31 TSNs are given out.
+use Rattle.std.proofs.Common.{◌≡◌, ℕ, ◌+◌, ◌<◌, ◌≤◌, ◌%◌, ◌^◌, Bool, true, false, List, [], ◌∷◌, length, map, Option, refl, ap, sym, subst, ◌∙◌, inl, inr, arith, None}
+use Rattle.std.specs.Prelude.{if◌then◌else◌, ◌||◌, not, nat_le, nat_lt, All}
+use Rattle.std.specs.List.{filter, list_any}
+use Rattle.std.proofs.lemmas.Bool.Decides.{nat_tests}
+use Rattle.sctp_list_lemmas.specs.Serial.{distance, at_or_before, comes_before}
+use Rattle.sctp_list_lemmas.proofs.Cases.{or-left, or-right, or-split}
+use Rattle.sctp_list_lemmas.proofs.More.{both}
+use Rattle.sctp_list_lemmas.proofs.Round.{tsn}
+use Rattle.sctp_data.specs.declared.chunk.chunk_payload_data.ChunkPayloadData.{ChunkPayloadData}
+use Rattle.sctp_data.specs.SelectiveAck.{Sack}
+use Rattle.sctp_receiver.specs.declared.receiver.arrival.Arrival.TheVariants.{New, Repeat}
+use Rattle.sctp_receiver.specs.declared.receiver.limits.Limits.{Limits}
+use Rattle.sctp_receiver.specs.Receiver.{Reception}
+use Rattle.sctp_receiver.specs.ReceiverRuns.{Stand}
+use Rattle.sctp_serial.specs.DataChunks.{following_tsn, has_tsn}
+use Rattle.sctp_sender.specs.Flight.{Flight, after_sack, is_outdated, is_whole, released_by, released_of, reports, reports_anew, sack_refusal, take_sack}
+use Rattle.sctp_delivery.specs.ReceiverCalls as incoming
+use Rattle.sctp_delivery.specs.ReceiverCalls.{ReceiverCall}
+use Rattle.sctp_delivery.specs.Sacks.{AcknowledgedCame, AfterEachSessionOfFewTsns, AllReportedLeaves, LeftCame, NextSackTells, NoneIsRefused, NoneIsTakenTwice, PassAbandoned, ReleasedCame, ReportWhatCame, is_reported, passes, reports_tsn, tsns_given, was_passed, was_taken}
+use Rattle.sctp_delivery.specs.SenderCalls.{SenderCall}
+use Rattle.sctp_delivery.specs.Session.{Call, ReceiverFollows, RunsTo, SenderFollows, Session, at_start, of_receiver, of_sender}
+use Rattle.sctp_delivery.proofs.Every.{Every, all-of-every, every-of, one-of}
+use Rattle.sctp_delivery.proofs.GivenTsns.{IsNumbered, taken-numbered}
+use Rattle.sctp_delivery.proofs.HeardCalls.{hears, more-heard, tells}
+use Rattle.sctp_delivery.proofs.HeardTsns.{IsHeard}
+use Rattle.sctp_delivery.proofs.PassedTsns.{flight-given}
+use Rattle.sctp_delivery.proofs.ReportedTsns.{IsTruthful, later-truthful, not-refused, told-known}
+use Rattle.sctp_delivery.proofs.SackMarks.{IsValidIn, stays-valid-with}
+use Rattle.sctp_delivery.proofs.SackSteps.{IsMadeGiven, known, made-given, moves}
+use Rattle.sctp_delivery.proofs.Sessions.{more-made, or-more}
+use Rattle.sctp_delivery.proofs.ValidMarks.{IsRight, IsValid, came-of, every-mapped, more-taken}
+use Rattle.sctp_delivery.proofs.TakenCalls.{AreTaken, more-come, takes-once}
+use Rattle.sctp_delivery.proofs.ToldCalls.{IsInOrder, keeps-order, next-sack-tells}
+use Rattle.sctp_delivery.proofs.TsnPlaces.{IsGiven, at-or-before, base, before, first-is, next-place, past-first, same-place}
+
+-- after n TSNs were given out nobody speaks of another
+pub record IsInStep (p n : ℕ) (s : Session) : Type 0 where
+  pub numbered : IsNumbered p n s.sending.sender.flight
+  pub made : Every (IsMadeGiven p n) s.made
+  pub heard : IsHeard p n (known s) s.receiving.receiver.cumulative_tsn s.receiving.receiver.beyond
+  pub sacks : Every (IsTruthful p n (known s)) s.sacks
+  pub settled : IsHeard p n (known s) s.sending.sender.flight.acked_tsn []
+  pub valid : IsValidIn s
+  pub taken : AreTaken p n s.receiving.receiver s.receiving.accepted
+  pub order : IsInOrder s.receiving.receiver
+
+begin : (first size max most : ℕ) (limits : Option Limits) → first < 2 ^ 32 → IsInStep (base first) 0 (at_start first size max most limits)
+begin first size max most limits small = record {
+  numbered = record { acked = 0; acked_is = omega arith; next_is = first-is first small; run = refl; total = refl };
+  made = tt;
+  heard = record { place = 0; within = omega arith; is = omega arith; so_far = λ k pos le. absurd (omega (arith, pos, le)); each = tt };
+  sacks = tt;
+  settled = record { place = 0; within = omega arith; is = omega arith; so_far = λ k pos le. absurd (omega (arith, pos, le)); each = tt };
+  valid = record { ordered = tt; unordered = tt; inflight = tt };
+  taken = record { each = tt; apart = refl };
+  order = record { small = omega arith; rise = refl };
+}
+
+more-known : (call : SenderCall) (old new : Session) → SenderFollows call old new → (t : ℕ) → known old t ≡ true → known new t ≡ true
+more-known call old new f t e =
+    let same : was_taken t old ≡ was_taken t new = sym (ap (was_taken t) f.after) in
+    elim (or-split (was_taken t old) (was_passed t old) e) [
+      | inl a ↦ or-left (was_taken t new) (was_passed t new) (sym same ∙ a)
+      | inr a ↦ or-right (was_taken t new) (was_passed t new) (ap (was_passed t) f.after ∙ more-made (passes t) call old.sending.sender old.made a)
+    ]
+
+sender-step : (p n : ℕ) (call : SenderCall) (old new : Session) → n + distance old.sending.sender.flight.next_tsn new.sending.sender.flight.next_tsn < 2 ^ 31
+    → SenderFollows call old new → IsInStep p n old → IsInStep p (n + distance old.sending.sender.flight.next_tsn new.sending.sender.flight.next_tsn) new
+sender-step p n call old new few f i =
+    let small : n < 2 ^ 31 = omega (arith, few) in
+    let after = n + distance old.sending.sender.flight.next_tsn new.sending.sender.flight.next_tsn in
+    let grows = more-known call old new f in
+    let move = moves p n (known old) old new small i.numbered call i.sacks f in
+    record {
+      numbered = move.numbered few;
+      settled = more-heard p n after (known old) (known new) new.sending.sender.flight.acked_tsn [] (omega arith) grows (move.settled i.settled);
+      made = subst (Every (IsMadeGiven p after)) (sym (ap (λ (s : Session). s.made) f.after)) (made-given p n old new small i.numbered call i.made f);
+      heard =
+          subst (λ (r : Reception). IsHeard p after (known new) r.cumulative_tsn r.beyond) (sym (ap (λ (s : Session). s.receiving.receiver) f.after))
+          (more-heard p n after (known old) (known new) old.receiving.receiver.cumulative_tsn old.receiving.receiver.beyond (omega arith) grows i.heard);
+      order = subst (λ (s : Stand). IsInOrder s.receiver) (sym (ap (λ (s : Session). s.receiving) f.after)) i.order;
+      taken =
+          subst (λ (s : Stand). AreTaken p after s.receiver s.accepted) (sym (ap (λ (s : Session). s.receiving) f.after))
+          (more-come p n after old.receiving.receiver old.receiving.accepted (omega arith) i.taken);
+      sacks =
+          subst (Every (IsTruthful p after (known new))) (sym (ap (λ (s : Session). s.sacks) f.after))
+          (every-of (IsTruthful p n (known old)) (IsTruthful p after (known new))
+          (λ k t. later-truthful p n after (known old) (known new) k (omega arith) grows t) old.sacks i.sacks);
+      valid =
+          more-taken (λ t. was_taken t old) (λ t. was_taken t new) (λ t. list_any (passes t) new.made) new.sending.sender.flight.queue
+          (λ t e. ap (was_taken t) f.after ∙ e)
+          (subst (λ ms. IsValid (λ t. was_taken t old) (λ t. list_any (passes t) ms) new.sending.sender.flight.queue)
+          (sym (ap (λ (s : Session). s.made) f.after)) (stays-valid-with p n old new small i.numbered i.valid call i.sacks i.made f));
+    }
+
+-- what was taken stays so
+more-accepted : (call : ReceiverCall) (old new : Session) → ReceiverFollows call old new → (t : ℕ) → was_taken t old ≡ true → was_taken t new ≡ true
+more-accepted (incoming.opens stream) old new f t e = ap (list_any (has_tsn t)) f.step.accepted ∙ e
+more-accepted (incoming.takes c Repeat) old new f t e = ap (list_any (has_tsn t)) f.step.accepted ∙ e
+more-accepted (incoming.takes c (New told)) old new f t e = ap (list_any (has_tsn t)) f.step.accepted ∙ or-more (has_tsn t c) (was_taken t old) e
+more-accepted (incoming.follows g) old new f t e = ap (list_any (has_tsn t)) f.step.accepted ∙ e
+more-accepted (incoming.reports credit) old new f t e = ap (list_any (has_tsn t)) f.step.accepted ∙ e
+more-accepted (incoming.reads stream) old new f t e = ap (list_any (has_tsn t)) f.step.accepted ∙ e
+
+receiver-step : (p n : ℕ) (call : ReceiverCall) (old new : Session) → n < 2 ^ 31 → ReceiverFollows call old new → IsInStep p n old → IsInStep p n new
+receiver-step p n call old new few f i =
+    let taken = more-accepted call old new f in
+    let made : new.made ≡ old.made = ap (λ (s : Session). s.made) f.after in
+    let sender : new.sending ≡ old.sending = ap (λ (s : Session). s.sending) f.after in
+    let grows : (t : ℕ) → known old t ≡ true → known new t ≡ true = λ t e. elim (or-split (was_taken t old) (was_passed t old) e) [
+      | inl a ↦ or-left (was_taken t new) (was_passed t new) (taken t a)
+      | inr a ↦ or-right (was_taken t new) (was_passed t new) (ap (list_any (passes t)) made ∙ a)
+    ] in
+    record {
+      numbered = subst (λ l. IsNumbered p n l.sender.flight) (sym sender) i.numbered;
+      settled = subst (λ l. IsHeard p n (known new) l.sender.flight.acked_tsn []) (sym sender)
+          (more-heard p n n (known old) (known new) old.sending.sender.flight.acked_tsn [] (omega arith) grows i.settled);
+      made = subst (Every (IsMadeGiven p n)) (sym made) i.made;
+      order = keeps-order p n (known old) old new few i.made i.heard i.order call f;
+      taken = takes-once p n (known old) old new few i.made i.heard i.taken call f;
+      heard = hears p n old new few i.made made grows i.heard call f;
+      sacks = subst (Every (IsTruthful p n (known new))) (sym (ap (λ (s : Session). s.sacks) f.after))
+          (tells p n old (known new) call few grows i.heard i.sacks);
+      valid =
+          subst (λ l. IsValid (λ t. was_taken t new) (λ t. list_any (passes t) new.made) l.sender.flight.queue) (sym sender)
+          (subst (λ ms. IsValid (λ t. was_taken t new) (λ t. list_any (passes t) ms) old.sending.sender.flight.queue) (sym made)
+          (more-taken (λ t. was_taken t old) (λ t. was_taken t new) (λ t. list_any (passes t) old.made) old.sending.sender.flight.queue taken i.valid));
+    }
+
+same-distance : (q k : ℕ) → distance (tsn q k) (tsn q k) ≡ 0
+unfolding distance
+same-distance q k = omega arith
+
+-- the next TSN stays where a receiver is called
+no-move : (p n : ℕ) (old new : Session) → new.sending ≡ old.sending → IsNumbered p n old.sending.sender.flight
+    → distance old.sending.sender.flight.next_tsn new.sending.sender.flight.next_tsn ≡ 0
+no-move p n old new e h =
+    let at = h.next_is in
+    ap (λ l. distance old.sending.sender.flight.next_tsn l.sender.flight.next_tsn) e ∙ ap (λ t. distance t t) at ∙ same-distance p (n + 1)
+
+all-steps : (p n : ℕ) (cs : List Call) (old new : Session) (run : RunsTo old cs new) → n + tsns_given old cs new run < 2 ^ 31 → IsInStep p n old → IsInStep p
+    (n + tsns_given old cs new run) new
+all-steps p n [] old new run few i = subst (λ k. IsInStep p k new) {x = n} {y = n + 0} (omega arith) (subst (IsInStep p n) (sym run) i)
+all-steps p n (of_sender call ∷ cs) old new run few i =
+    let d = distance old.sending.sender.flight.next_tsn run.0.sending.sender.flight.next_tsn in
+    let sum : (n + d) + tsns_given run.0 cs new run.1.1 ≡ n + (d + tsns_given run.0 cs new run.1.1) = omega arith in
+    subst (λ k. IsInStep p k new) sum (all-steps p (n + d) cs run.0 new run.1.1 (omega (arith, few))
+    (sender-step p n call old run.0 (omega (arith, few)) run.1.0 i))
+all-steps p n (of_receiver call ∷ cs) old new run few i =
+    let d = distance old.sending.sender.flight.next_tsn run.0.sending.sender.flight.next_tsn in
+    let none : d ≡ 0 = no-move p n old run.0 (ap (λ (s : Session). s.sending) run.1.0.after) i.numbered in
+    let sum : n + tsns_given run.0 cs new run.1.1 ≡ n + (d + tsns_given run.0 cs new run.1.1) = omega (arith, none) in
+    subst (λ k. IsInStep p k new) sum (all-steps p n cs run.0 new run.1.1 (omega (arith, few))
+    (receiver-step p n call old run.0 (omega (arith, few)) run.1.0 i))
+
+-- ## The laws
+
+pub in-step : (first size max most : ℕ) (limits : Option Limits) (cs : List Call) (s : Session) (run : RunsTo (at_start first size max most limits) cs s)
+    → first < 2 ^ 32 → tsns_given (at_start first size max most limits) cs s run < 2 ^ 31 → IsInStep (base first)
+    (tsns_given (at_start first size max most limits) cs s run) s
+in-step first size max most limits cs s run small few =
+    let n = tsns_given (at_start first size max most limits) cs s run in
+    subst (λ k. IsInStep (base first) k s) {x = 0 + n} {y = n} (omega arith)
+    (all-steps (base first) 0 cs (at_start first size max most limits) s run (omega (arith, few)) (begin first size max most limits small))
+
+accepts : (p n : ℕ) (s : Session) → n < 2 ^ 31 → IsInStep p n s → NoneIsRefused s
+accepts p n s few i =
+    all-of-every (λ k. sack_refusal k s.sending.sender.flight ≡ None) s.sacks
+    (every-of (IsTruthful p n (known s)) (λ k. sack_refusal k s.sending.sender.flight ≡ None)
+    (λ k t. not-refused p n (known s) k s.sending.sender.flight few i.numbered t) s.sacks i.sacks)
+
+pub none-refused : AfterEachSessionOfFewTsns (λ first count s. NoneIsRefused s)
+none-refused first size max most limits cs s run small few = accepts (base first) (tsns_given (at_start first size max most limits) cs s run) s few
+    (in-step first size max most limits cs s run small few)
+
+near-first : (first t : ℕ) → at_or_before first t ≡ true → distance first t < 2 ^ 31
+unfolding at_or_before
+near-first first t e = grind (arith, nat_tests, e)
+
+reports-given : (first n : ℕ) (s : Session) → first < 2 ^ 32 → n < 2 ^ 31 → IsInStep (base first) n s → ReportWhatCame first n s
+reports-given first n s small few i t fits from e =
+    let p = base first in
+    let k = distance first t + 1 in
+    let near = near-first first t from in
+    let at : t ≡ tsn p k = past-first first t small fits in
+    let one = one-of (IsTruthful p n (known s)) (reports_tsn t) s.sacks e i.sacks in
+    let r = told-known p n (known s) one.0 k few (omega arith) (omega (arith, near)) one.2 (subst (λ u. reports_tsn u one.0 ≡ true) at one.1) in
+    (subst (λ u. known s u ≡ true) (sym at) r.0, omega (arith, r.1))
+
+pub report-given : AfterEachSessionOfFewTsns ReportWhatCame
+report-given first size max most limits cs s run small few = reports-given first (tsns_given (at_start first size max most limits) cs s run) s small few
+    (in-step first size max most limits cs s run small few)
+
+left-came : (first n : ℕ) (s : Session) → first < 2 ^ 32 → n < 2 ^ 31 → IsInStep (base first) n s → LeftCame first s
+left-came first n s small few i t fits from upto =
+    let p = base first in
+    let k = distance first t + 1 in
+    let near = near-first first t from in
+    let at : t ≡ tsn p k = past-first first t small fits in
+    let a = i.settled in
+    let within = a.within in
+    let order : nat_le k a.place ≡ true =
+    sym (at-or-before p k a.place (omega (arith, near)) (omega (arith, within, few))) ∙ ap (λ u. at_or_before u (tsn p a.place)) (sym at) ∙ ap
+    (at_or_before t) (sym a.is) ∙ upto in
+    let le : k ≤ a.place = grind (arith, nat_tests, order) in
+    subst (λ u. known s u ≡ true) (sym at) (a.so_far k (omega arith) le)
+
+pub all-left-came : AfterEachSessionOfFewTsns (λ first count s. LeftCame first s)
+all-left-came first size max most limits cs s run small few =
+    left-came first (tsns_given (at_start first size max most limits) cs s run) s small few (in-step first size max most limits cs s run small few)
+
+-- ## What is acknowledged
+
+-- a SACK reports a chunk in flight
+told-of : (p n : ℕ) (s : Session) → n < 2 ^ 31 → (k : Sack) → IsTruthful p n (known s) k → (c : ChunkPayloadData) → IsGiven p n c.tsn → reports k c ≡ true
+    → known s c.tsn ≡ true
+told-of p n s few k t c g e =
+    let within = g.within in
+    let r = told-known p n (known s) k g.place few g.some (omega (arith, within, few)) t (subst (λ u. reports_tsn u k ≡ true) g.is e) in
+    subst (λ u. known s u ≡ true) (sym g.is) r.0
+
+came : (p n : ℕ) (s : Session) → n < 2 ^ 31 → IsInStep p n s → AcknowledgedCame s
+came p n s few i =
+    let cs = s.sending.sender.flight.queue.inflight.chunks in
+    all-of-every (λ (c : ChunkPayloadData). is_reported s c ≡ true → (was_taken c.tsn s || c.abandoned) ≡ true) cs
+    (each cs (flight-given p n s.sending.sender.flight i.numbered) i.valid.inflight)
+  where
+    told : (c : ChunkPayloadData) → IsGiven p n c.tsn → list_any (λ k. reports k c) s.sacks ≡ true → known s c.tsn ≡ true
+    told c g e =
+        let one = one-of (IsTruthful p n (known s)) (λ k. reports k c) s.sacks e i.sacks in
+        told-of p n s few one.0 one.2 c g one.1
+
+    each : (cs : List ChunkPayloadData) → Every (λ (c : ChunkPayloadData). IsGiven p n c.tsn) cs → Every
+        (IsRight (λ t. was_taken t s) (λ t. was_passed t s)) cs → Every
+        (λ (c : ChunkPayloadData). is_reported s c ≡ true → (was_taken c.tsn s || c.abandoned) ≡ true) cs
+    each [] g r = tt
+    each (c ∷ cs) g r = (
+      λ e. elim (or-split c.acked (list_any (λ k. reports k c) s.sacks) e) [
+        | inl a ↦ r.0.came a
+        | inr a ↦ came-of (λ t. was_taken t s) (λ t. was_passed t s) c r.0 (told c g.0 a)
+      ],
+      each cs g.1 r.1,
+    )
+
+pub acknowledged-came : AfterEachSessionOfFewTsns (λ first count s. AcknowledgedCame s)
+acknowledged-came first size max most limits cs s run small few = came (base first) (tsns_given (at_start first size max most limits) cs s run) s few
+    (in-step first size max most limits cs s run small few)
+
+pub pass-abandoned : AfterEachSessionOfFewTsns (λ first count s. PassAbandoned s)
+pass-abandoned first size max most limits cs s run small few =
+    let i = in-step first size max most limits cs s run small few in
+    let chunks = s.sending.sender.flight.queue.inflight.chunks in
+    all-of-every (λ (c : ChunkPayloadData). was_passed c.tsn s ≡ true → c.abandoned ≡ true) chunks
+    (every-of (IsRight (λ t. was_taken t s) (λ t. was_passed t s)) (λ (c : ChunkPayloadData). was_passed c.tsn s ≡ true → c.abandoned ≡ true)
+    (λ c r. r.gone) chunks i.valid.inflight)
+
+-- ## What is released
+
+filtered : {A : Type 0} (q : A → Bool) (Q : A → Type 0) (xs : List A) → Every (λ x. q x ≡ true → Q x) xs → Every Q (filter q xs)
+filtered q Q [] e = tt
+filtered q Q (x ∷ xs) e = by (q x) refl (filtered q Q xs e.1)
+  where
+    by : (b : Bool) → q x ≡ b → Every Q (filter q xs) → Every Q (if b then x ∷ filter q xs else filter q xs)
+    by true h ih = (e.0 h, ih)
+    by false h ih = ih
+
+-- a chunk with bytes was taken
+abbrev HasCome : Session → ChunkPayloadData → Type 0
+HasCome s c = 0 < length c.user_data → was_taken c.tsn s ≡ true
+
+released : (p n : ℕ) (s : Session) → n < 2 ^ 31 → IsInStep p n s → ReleasedCame s
+released p n s few i =
+    all-of-every (λ k. All (λ r. 0 < r.bytes → was_taken r.tsn s ≡ true) (released_by k s.sending.sender.flight)) s.sacks
+    (every-of (IsTruthful p n (known s)) (λ k. All (λ r. 0 < r.bytes → was_taken r.tsn s ≡ true) (released_by k s.sending.sender.flight))
+    (λ k t. of-sack k t) s.sacks i.sacks)
+  where
+    one : (k : Sack) → IsTruthful p n (known s) k → (c : ChunkPayloadData) → IsGiven p n c.tsn → IsRight (λ t. was_taken t s) (λ t. was_passed t s) c
+        → reports_anew k c ≡ true → HasCome s c
+    one k t c g r e some = elim (or-split (was_taken c.tsn s) c.abandoned
+        (came-of (λ u. was_taken u s) (λ u. was_passed u s) c r (told-of p n s few k t c g (both (not c.acked) (reports k c) e).1))) [
+          | inl a ↦ a
+          | inr a ↦ let none = r.bare a in absurd (omega (arith, none, some))
+        ]
+
+    each : (k : Sack) → IsTruthful p n (known s) k → (cs : List ChunkPayloadData) → Every (λ (c : ChunkPayloadData). IsGiven p n c.tsn) cs → Every
+        (IsRight (λ t. was_taken t s) (λ t. was_passed t s)) cs → Every (λ (c : ChunkPayloadData). reports_anew k c ≡ true → HasCome s c) cs
+    each k t [] g r = tt
+    each k t (c ∷ cs) g r = (λ e. one k t c g.0 r.0 e, each k t cs g.1 r.1)
+
+    of-sack : (k : Sack) → IsTruthful p n (known s) k → All (λ r. 0 < r.bytes → was_taken r.tsn s ≡ true) (released_by k s.sending.sender.flight)
+    of-sack k t = by (is_outdated k s.sending.sender.flight)
+      where
+        by : (b : Bool) → All (λ r. 0 < r.bytes → was_taken r.tsn s ≡ true)
+            (if b then [] else map (released_of (is_whole k s.sending.sender.flight)) (filter (reports_anew k) s.sending.sender.flight.queue.inflight.chunks))
+        by true = λ j d lt. absurd (omega (arith, lt))
+        by false =
+            let cs = s.sending.sender.flight.queue.inflight.chunks in
+            let w = is_whole k s.sending.sender.flight in
+            all-of-every (λ r. 0 < r.bytes → was_taken r.tsn s ≡ true) (map (released_of w) (filter (reports_anew k) cs))
+            (every-mapped (HasCome s) (λ r. 0 < r.bytes → was_taken r.tsn s ≡ true) (released_of w) (λ c h. h) (filter (reports_anew k) cs)
+            (filtered (reports_anew k) (HasCome s) cs (each k t cs (flight-given p n s.sending.sender.flight i.numbered) i.valid.inflight)))
+
+pub all-released-came : AfterEachSessionOfFewTsns (λ first count s. ReleasedCame s)
+all-released-came first size max most limits cs s run small few = released (base first) (tsns_given (at_start first size max most limits) cs s run) s few
+    (in-step first size max most limits cs s run small few)
+
+-- ## What is taken
+
+pub none-twice : AfterEachSessionOfFewTsns (λ first count s. NoneIsTakenTwice s)
+none-twice first size max most limits cs s run small few = (in-step first size max most limits cs s run small few).taken.apart
+
+-- ## What is told
+
+pub all-told : AfterEachSessionOfFewTsns (λ first count s. NextSackTells s)
+all-told first size max most limits cs s run small few =
+    let i = in-step first size max most limits cs s run small few in
+    next-sack-tells (base first) (tsns_given (at_start first size max most limits) cs s run) s (known s) few i.heard i.order i.taken
+
+-- ## Nothing is left
+
+none-of : (cs : List ChunkPayloadData) → length cs ≡ 0 → cs ≡ []
+none-of [] e = refl
+none-of (c ∷ cs) e = absurd (omega (arith, e))
+
+leaves-none : (p n : ℕ) (kn : ℕ → Bool) (k : Sack) (f : Flight) → n < 2 ^ 31 → IsNumbered p n f → IsTruthful p n kn k
+    → following_tsn k.cumulative_tsn_ack ≡ f.next_tsn → (after_sack k f).queue.inflight.chunks ≡ []
+leaves-none p n kn k f few h t e = by (is_outdated k f) refl (taken-numbered p n t.place k f few t.within t.is h)
+  where
+    last : t.place ≡ n
+    last =
+        let within = t.within in
+        let same : tsn p (t.place + 1) ≡ tsn p (n + 1) = sym (next-place p t.place) ∙ ap (λ u. (u + 1) % 2 ^ 32) (sym t.is) ∙ e ∙ h.next_is in
+        let one = same-place p (t.place + 1) (n + 1) (omega (arith, within, few)) (omega (arith, few)) same in
+        omega (arith, one)
+
+    by : (b : Bool) → is_outdated k f ≡ b → IsNumbered p n (if b then f else take_sack k f) → (if b then f else take_sack k f).queue.inflight.chunks ≡ []
+    by true o g =
+        let total = h.total in
+        let within = t.within in
+        let order : nat_lt t.place h.acked ≡ true =
+        sym (before p t.place h.acked (omega (arith, within, few)) (omega (arith, total, few))) ∙ ap (λ u. comes_before u (tsn p h.acked)) (sym t.is) ∙ ap
+        (comes_before k.cumulative_tsn_ack) (sym h.acked_is) ∙ o in
+        let lt : t.place < h.acked = grind (arith, nat_tests, order) in
+        absurd (omega (arith, lt, last, total))
+    by false o g =
+        let total = g.total in
+        let within = t.within in
+        let one = same-place p g.acked t.place (omega (arith, total, few)) (omega (arith, within, few)) (sym g.acked_is ∙ t.is) in
+        none-of (take_sack k f).queue.inflight.chunks (omega (arith, total, one, last))
+
+pub all-reported-leaves : AfterEachSessionOfFewTsns (λ first count s. AllReportedLeaves s)
+all-reported-leaves first size max most limits cs s run small few =
+    let n = tsns_given (at_start first size max most limits) cs s run in
+    let i = in-step first size max most limits cs s run small few in
+    let f = s.sending.sender.flight in
+    all-of-every (λ k. following_tsn k.cumulative_tsn_ack ≡ s.sending.sender.flight.next_tsn →
+    (after_sack k s.sending.sender.flight).queue.inflight.chunks ≡ []) s.sacks
+    (every-of (IsTruthful (base first) n (known s)) (λ k. following_tsn k.cumulative_tsn_ack ≡ s.sending.sender.flight.next_tsn →
+    (after_sack k s.sending.sender.flight).queue.inflight.chunks ≡ [])
+    (λ k t e. leaves-none (base first) n (known s) k f few i.numbered t e) s.sacks i.sacks)

@@ -1,0 +1,289 @@
+-- A session in which few TSNs are given out, call by call of the sender: what is given out, and what is made of it.
+use Rattle.std.proofs.Common.{◌≡◌, ℕ, ◌+◌, ◌-◌, ◌<◌, ◌≤◌, ◌^◌, Bool, true, false, List, [], ◌∷◌, ◌++◌, length, length-append, map, Option, Some, None, refl, ap, sym, subst, ◌∙◌, arith}
+use Rattle.std.specs.Prelude.{if◌then◌else◌, ◌||◌, not, is_some, nat_le, nat_lt, option_map, option_to_list, IfSome}
+use Rattle.std.specs.List.{filter, list_any}
+use Rattle.std.proofs.lemmas.Bool.Decides.{nat_tests}
+use Rattle.std.proofs.lemmas.List.{length-map}
+use Rattle.std.proofs.lemmas.Option.{none-some}
+use Rattle.sctp_list_lemmas.specs.Serial.{distance, at_or_before}
+use Rattle.sctp_list_lemmas.proofs.More.{not_both}
+use Rattle.sctp_list_lemmas.proofs.Round.{tsn, distance-tsn}
+use Rattle.sctp_data.specs.declared.chunk.chunk_payload_data.ChunkPayloadData.{ChunkPayloadData}
+use Rattle.sctp_data.specs.SelectiveAck.{Sack}
+use Rattle.sctp_outbound.specs.Marks.{is_outstanding, with_retransmit}
+use Rattle.sctp_outbound.specs.outbound_queue.OutboundQueue.{Outbound, all_started, as_sent, expired_of, expiring, expiring_tail, is_late, late_tsns, message_of, sent_next, with_message}
+use Rattle.sctp_outbound.specs.payload_queue.PayloadQueue as payload
+use Rattle.sctp_outbound.specs.pending_queue.PendingQueue.{next_pending}
+use Rattle.sctp_outbound.proofs.lemmas.outbound_queue.Outbounds.{peeked_all_started}
+use Rattle.sctp_serial.specs.DataChunks.{following_tsn, has_tsn, tsns}
+use Rattle.sctp_stream.specs.declared.stream.StreamState.{StreamState}
+use Rattle.sctp_sender.specs.declared.sender.refusal.SenderRefusal.TheVariants.{MessageTooLarge, QueueFull, StreamUnknown}
+use Rattle.sctp_sender.specs.Flight.{Flight, after_abandonment, after_sack, is_outdated, message_to_abandon, next_after_send, take_sack, with_queue, with_room}
+use Rattle.sctp_sender.specs.Late.{abandoned_each, late_order, with_tail, worn_order}
+use Rattle.sctp_sender.specs.Outgoing.{fragments_with_mode}
+use Rattle.sctp_sender.specs.Resending.{after_misses, all_marked, can_miss, count_again, is_worn, missed, resent_at, sent_again, worn_tsns}
+use Rattle.sctp_sender.specs.Sender.{Transmission, after_expire, is_full, stream_of, write_refusal}
+use Rattle.sctp_sender.proofs.Flights.{started-inflight}
+use Rattle.sctp_sender.proofs.Lates.{at-most-one}
+use Rattle.sctp_sender.proofs.MarkedRuns.{part-run}
+use Rattle.sctp_sender.proofs.Runs.{changed-run}
+use Rattle.sctp_delivery.specs.Sacks.{passes, was_passed, was_taken}
+use Rattle.sctp_delivery.specs.SenderCalls as outgoing
+use Rattle.sctp_delivery.specs.SenderCalls.{Made, SenderCall, data_chunk, forward_tsn, made_after, with_chunk}
+use Rattle.sctp_delivery.specs.Session.{SenderFollows, Session}
+use Rattle.sctp_delivery.proofs.Every.{Every, every-contained, every-found, every-of}
+use Rattle.sctp_delivery.proofs.GivenTsns.{IsNumbered, Raises, given, raises-abandoned, raises-each, raises-none, raises-sent, taken-numbered}
+use Rattle.sctp_delivery.proofs.HeardTsns.{IsHeard}
+use Rattle.sctp_delivery.proofs.PassedTsns.{flight-given, passable-end, passable-skip}
+use Rattle.sctp_delivery.proofs.ReportedTsns.{IsTruthful}
+use Rattle.sctp_delivery.proofs.TsnPlaces.{IsGiven, at-or-before, more-given, next-place}
+
+-- ## What is known
+
+-- a TSN was taken, or passed
+abbrev pub known : Session → ℕ → Bool
+known s t = was_taken t s || was_passed t s
+
+-- a chunk that was made has a TSN that was given out, or goes to one
+abbrev pub IsMadeGiven : ℕ → ℕ → Made → Type 0
+IsMadeGiven p n (data_chunk d) = IsGiven p n d.tsn
+IsMadeGiven p n (forward_tsn f) = IsGiven p n f.new_cumulative_tsn
+
+pub more-made-given : (p m n : ℕ) → m ≤ n → (x : Made) → IsMadeGiven p m x → IsMadeGiven p n x
+more-made-given p m n le (data_chunk d) g = more-given p m n d.tsn le g
+more-made-given p m n le (forward_tsn f) g = more-given p m n f.new_cumulative_tsn le g
+
+-- the next TSN is past all that FORWARD-TSNs pass
+pub next-unpassed : (p n : ℕ) (ms : List Made) → n < 2 ^ 31 → Every (IsMadeGiven p n) ms → list_any (passes (tsn p (n + 1))) ms ≡ false
+next-unpassed p n [] few h = refl
+next-unpassed p n (data_chunk d ∷ ms) few h = next-unpassed p n ms few h.1
+next-unpassed p n (forward_tsn f ∷ ms) few h =
+    let g = h.0 in
+    let within = g.within in
+    let here : at_or_before (tsn p (n + 1)) f.new_cumulative_tsn ≡ false = ap (at_or_before (tsn p (n + 1))) g.is ∙ at-or-before p (n + 1) g.place
+    (omega (arith, few)) (omega (arith, within, few)) ∙ (let e : nat_le (n + 1) g.place ≡ false = grind (arith, nat_tests, within) in e) in
+    ap (λ b. b || list_any (passes (tsn p (n + 1))) ms) here ∙ next-unpassed p n ms few h.1
+
+-- ## Calls of the sender
+
+-- so many TSNs more, as a session counts them; and what is acknowledged cumulatively is known still
+pub record IsMoved (p n : ℕ) (kn : ℕ → Bool) (f g : Flight) : Type 0 where
+  pub numbered : n + distance f.next_tsn g.next_tsn < 2 ^ 31 → IsNumbered p (n + distance f.next_tsn g.next_tsn) g
+  pub settled : IsHeard p n kn f.acked_tsn [] → IsHeard p n kn g.acked_tsn []
+
+moved : (p n most : ℕ) (kn : ℕ → Bool) (f g : Flight) → most < 2 ^ 32 → IsNumbered p n f → Raises p most f g → IsMoved p n kn f g
+moved p n most kn f g short h r =
+    let e = given p n most f g short h.next_is r in
+    record {
+      numbered = λ few. subst (λ k. IsNumbered p (n + k) g) (sym e) (r.numbered n (omega (arith, few, e)) h);
+      settled = λ k. subst
+          (λ t. IsHeard p n kn t []) (sym r.acked) k;
+    }
+
+-- where none is given out
+moved-none : (p n : ℕ) (kn : ℕ → Bool) (f g : Flight) → g.next_tsn ≡ f.next_tsn → (IsHeard p n kn f.acked_tsn [] → IsHeard p n kn g.acked_tsn [])
+    → IsNumbered p n f → IsNumbered p n g → IsMoved p n kn f g
+moved-none p n kn f g same settled h k =
+    let at = h.next_is in
+    let e : distance f.next_tsn g.next_tsn ≡ 0 = ap (λ t. distance f.next_tsn t) (same ∙ at) ∙ ap (λ t. distance t (tsn p (n + 1))) at ∙ distance-tsn p
+    (n + 1) (n + 1) (omega arith) (omega arith) ∙ (let z : n + 1 - (n + 1) ≡ 0 = omega arith in z) in
+    let z : n + distance f.next_tsn g.next_tsn ≡ n = omega (arith, e) in
+    record { numbered = λ few. subst (λ k. IsNumbered p k g) (sym z) k; settled = settled }
+
+fewer : {A : Type 0} (q : A → Bool) (xs : List A) → length (filter q xs) ≤ length xs
+fewer q [] = omega arith
+fewer q (x ∷ xs) = by (q x) (fewer q xs)
+  where
+    by : (b : Bool) → length (filter q xs) ≤ length xs → length (if b then x ∷ filter q xs else filter q xs) ≤ length (x ∷ xs)
+    by true ih = omega (arith, ih)
+    by false ih = omega (arith, ih)
+
+same-moved : (p n : ℕ) (kn : ℕ → Bool) (f g : Flight) → tsns g.queue.inflight.chunks ≡ tsns f.queue.inflight.chunks → g.next_tsn ≡ f.next_tsn
+    → g.acked_tsn ≡ f.acked_tsn → IsNumbered p n f → IsMoved p n kn f g
+same-moved p n kn f g same next acked h = moved p n 0 kn f g (omega arith) h (raises-none p 0 f g same next acked)
+
+-- where the call makes this of what is in flight
+moved-to : (p n : ℕ) (kn : ℕ → Bool) (f g k : Flight) → g ≡ k → IsMoved p n kn f k → IsMoved p n kn f g
+moved-to p n kn f g k e m = subst (IsMoved p n kn f) (sym e) m
+
+message-inflight : (cs : List ChunkPayloadData) (q : Outbound) → (with_message cs q).inflight ≡ q.inflight
+message-inflight [] q = refl
+message-inflight (c ∷ cs) q = refl
+
+-- a stream that a write is accepted for is open
+pub written-open : (stream len : ℕ) (t : Transmission) → write_refusal stream len t ≡ None → stream_of stream t ≡ None → ⊥
+written-open stream len t none closed = none-some StreamUnknown
+    (sym none ∙ ap (λ o. if not (is_some o) then Some StreamUnknown else
+    (if nat_lt t.max_message_size len then Some MessageTooLarge else (if is_full len t then Some QueueFull else None))) closed)
+
+order-short : (q : ChunkPayloadData → Bool) (f : Flight) (o : Option ℕ) → length
+    (option_to_list o ++ map (λ (c : ChunkPayloadData). c.tsn) (filter q f.queue.inflight.chunks)) ≤ 1 + length f.queue.inflight.chunks
+order-short q f o =
+    let a = length-append (option_to_list o) (map (λ (c : ChunkPayloadData). c.tsn) (filter q f.queue.inflight.chunks)) in
+    let b = at-most-one o in
+    let d = length-map (filter q f.queue.inflight.chunks) (λ (c : ChunkPayloadData). c.tsn) in
+    let e = fewer q f.queue.inflight.chunks in
+    omega (arith, a, b, d, e)
+
+each-moved : (p n : ℕ) (kn : ℕ → Bool) (f : Flight) (ts : List ℕ) → n < 2 ^ 31 → length ts ≤ 1 + length f.queue.inflight.chunks → IsNumbered p n f
+    → IsMoved p n kn f (abandoned_each ts f)
+each-moved p n kn f ts few short h = let total = h.total in moved p n (length ts) kn f (abandoned_each ts f) (omega (arith, few, short, total)) h
+    (raises-each p ts f)
+
+abandoned-moved : (p n : ℕ) (kn : ℕ → Bool) (o : Option ℕ) (f : Flight) → IsNumbered p n f → IsMoved p n kn f (after_abandonment o f)
+abandoned-moved p n kn o f h = moved p n 1 kn f (after_abandonment o f) (omega arith) h (raises-abandoned p 1 o f (omega arith))
+
+sack-next : (k : Sack) (f : Flight) → (after_sack k f).next_tsn ≡ f.next_tsn
+sack-next k f = by (is_outdated k f)
+  where
+    by : (b : Bool) → (if b then f else take_sack k f).next_tsn ≡ f.next_tsn
+    by true = refl
+    by false = refl
+
+sack-settled : (p n : ℕ) (kn : ℕ → Bool) (k : Sack) (f : Flight) → IsTruthful p n kn k → IsHeard p n kn f.acked_tsn [] → IsHeard p n kn
+    (after_sack k f).acked_tsn []
+sack-settled p n kn k f t h = by (is_outdated k f)
+  where
+    by : (b : Bool) → IsHeard p n kn (if b then f else take_sack k f).acked_tsn []
+    by true = h
+    by false = record { place = t.place; within = t.within; is = t.is; so_far = t.so_far; each = tt }
+
+abbrev pub flight_of : Session → Flight
+flight_of s = s.sending.sender.flight
+
+module _ (p n : ℕ) (kn : ℕ → Bool) (old new : Session) (few : n < 2 ^ 31) (h : IsNumbered p n old.sending.sender.flight) where
+  abbrev Moves : Type 0
+  Moves = IsMoved p n kn old.sending.sender.flight new.sending.sender.flight
+
+  stays : new.sending.sender.flight ≡ old.sending.sender.flight → Moves
+  stays e = moved-to p n kn (flight_of old) (flight_of new) (flight_of old) e (same-moved p n kn (flight_of old) (flight_of old) refl refl refl h)
+
+  same-queue : (q : Outbound) → tsns q.inflight.chunks ≡ tsns (flight_of old).queue.inflight.chunks → flight_of new ≡ with_queue (flight_of old) q → Moves
+  same-queue q same e = moved-to p n kn (flight_of old) (flight_of new) (with_queue (flight_of old) q) e
+      (same-moved p n kn (flight_of old) (with_queue (flight_of old) q) same refl refl h)
+
+  abandons-message : (o : Option ℕ) → flight_of new ≡ after_abandonment o (flight_of old) → Moves
+  abandons-message o e = moved-to p n kn (flight_of old) (flight_of new) (after_abandonment o (flight_of old)) e (abandoned-moved p n kn o (flight_of old) h)
+
+  abandons-each : (ts : List ℕ) → length ts ≤ 1 + length (flight_of old).queue.inflight.chunks → flight_of new ≡ abandoned_each ts (flight_of old) → Moves
+  abandons-each ts short e = moved-to p n kn (flight_of old) (flight_of new) (abandoned_each ts (flight_of old)) e
+      (each-moved p n kn (flight_of old) ts few short h)
+
+  pub moves : (call : SenderCall) → Every (IsTruthful p n kn) old.sacks → SenderFollows call old new → Moves
+  moves (outgoing.opens stream) t f = stays (ap (λ (u : Transmission). u.flight) f.step.sender)
+  moves (outgoing.sets_mode stream unordered reliability value) t f = stays (ap (λ (u : Transmission). u.flight) f.step.sender)
+  moves (outgoing.sets_size size) t f = stays (ap (λ (u : Transmission). u.flight) f.step.sender)
+  moves (outgoing.sets_low stream bytes) t f = stays (ap (λ (u : Transmission). u.flight) f.step.sender)
+  moves (outgoing.forwards u c) t f = stays (ap (λ (u : Transmission). u.flight) f.exact)
+  moves (outgoing.forwards_within bytes c) t f = stays (ap (λ (u : Transmission). u.flight) f.exact)
+  moves (outgoing.writes stream ppi []) t f = stays (ap (λ (u : Transmission). u.flight) (f.exact.0 refl))
+  moves (outgoing.writes stream ppi (b ∷ bs)) t f = by (stream_of stream old.sending.sender) refl
+    where
+      by : (o : Option StreamState) → stream_of stream old.sending.sender ≡ o → Moves
+      by None e = absurd (written-open stream (length (b ∷ bs)) old.sending.sender f.accepted e)
+      by (Some l) e =
+          let q = with_message (fragments_with_mode l ppi (b ∷ bs)) (flight_of old).queue in
+          same-queue q (ap (λ (w : payload.Payload). tsns w.chunks) (message-inflight (fragments_with_mode l ppi (b ∷ bs)) (flight_of old).queue))
+          (ap (λ (u : Transmission). u.flight) (f.exact.1 (omega arith) l e))
+  moves (outgoing.starts now) t f =
+      same-queue (all_started now (flight_of old).queue) (ap (λ (w : payload.Payload). tsns w.chunks) (started-inflight now (flight_of old).queue))
+      (ap (λ (u : Transmission). u.flight) f.step.sender)
+  moves (outgoing.reserves more) t f = same-queue (with_room more (flight_of old).queue) refl (ap (λ (u : Transmission). u.flight) f.step.sender)
+  moves (outgoing.sends now) t f =
+      let k = record (flight_of old) { queue = sent_next (flight_of old).queue (flight_of old).next_tsn now; next_tsn = next_after_send (flight_of old) } in
+      moved-to p n kn (flight_of old) (flight_of new) k (ap (λ (u : Transmission). u.flight) f.exact)
+      (moved p n 1 kn (flight_of old) k (omega arith) h (raises-sent p 1 now (flight_of old) (omega arith)))
+  moves (outgoing.resends u now c) t f = same-queue (resent_at u now c (flight_of old)).queue
+      (changed-run (has_tsn u) (sent_again (count_again c) now) (λ d. refl) (flight_of old).queue.inflight.chunks)
+      (ap (λ (u : Transmission). u.flight) f.step.sender)
+  moves outgoing.marks t f = same-queue (all_marked (flight_of old)).queue
+      (changed-run is_outstanding (with_retransmit true) (λ d. refl) (flight_of old).queue.inflight.chunks)
+      (ap (λ (u : Transmission). u.flight) f.step.sender)
+  moves (outgoing.misses count) t f = same-queue (after_misses count (flight_of old)).queue
+      (part-run can_miss missed (λ d. refl) (flight_of old).queue.inflight.chunks count) (ap (λ (u : Transmission). u.flight) f.step.sender)
+  moves (outgoing.abandons u a) t f = abandons-message (message_to_abandon u (flight_of old)) (ap (λ (u : Transmission). u.flight) f.exact)
+  moves (outgoing.expires now None) t f = stays (ap (λ (u : Transmission). u.flight) (f.exact.1.1 refl))
+  moves (outgoing.expires now (Some e)) t f = by (expiring now (flight_of old).queue) f.exact.0 f.exact.1.0
+    where
+      by : (o : Option ChunkPayloadData) → true ≡ is_some o → IfSome o (λ c. new.sending.sender ≡ after_expire c e.bytes now old.sending.sender) → Moves
+      by None s i = absurd (not_both (sym s))
+      by (Some c) s i = same-queue (expired_of (Some c) (flight_of old).queue) refl (ap (λ (u : Transmission). u.flight) i)
+  moves (outgoing.expires_tail now None) t f = stays (ap (λ (u : Transmission). u.flight) (f.exact.1 refl))
+  moves (outgoing.expires_tail now (Some a)) t f = abandons-message (message_of (expiring_tail now (flight_of old).queue))
+      (ap (λ (u : Transmission). u.flight) f.exact.0)
+  moves (outgoing.expires_late now gone) t f =
+      abandons-each (late_order now (flight_of old)) (order-short (is_late now (flight_of old).queue.pending) (flight_of old)
+      (with_tail (late_tsns now (flight_of old).queue) (flight_of old))) (ap (λ (u : Transmission). u.flight) f.exact)
+  moves (outgoing.expires_rexmit gone) t f =
+      abandons-each (worn_order (flight_of old)) (order-short is_worn (flight_of old) (with_tail (worn_tsns (flight_of old)) (flight_of old)))
+      (ap (λ (u : Transmission). u.flight) f.exact)
+  moves (outgoing.takes_sack k gone) t f =
+      let truth = every-contained (IsTruthful p n kn) old.sacks k f.handed t in
+      let g = after_sack k (flight_of old) in
+      moved-to p n kn (flight_of old) (flight_of new) g (ap (λ (u : Transmission). u.flight) f.exact)
+      (moved-none p n kn (flight_of old) g (sack-next k (flight_of old)) (sack-settled p n kn k (flight_of old) truth) h
+      (taken-numbered p n truth.place k (flight_of old) few truth.within truth.is h))
+
+-- ## What they make
+
+module _ (p n : ℕ) (old new : Session) (few : n < 2 ^ 31) (h : IsNumbered p n old.sending.sender.flight) where
+  abbrev after : ℕ
+  after = n + distance (flight_of old).next_tsn (flight_of new).next_tsn
+
+  abbrev AreGiven : List Made → Type 0
+  AreGiven ms = Every (IsMadeGiven p after) ms
+
+  kept-given : (ms : List Made) → Every (IsMadeGiven p n) ms → AreGiven ms
+  kept-given ms m = every-of (IsMadeGiven p n) (IsMadeGiven p after) (more-made-given p n after (omega arith)) ms m
+
+  -- the next TSN is given out where something waits
+  next-given : (b : Bool) → true ≡ b → (flight_of new).next_tsn ≡ (if b then following_tsn (flight_of old).next_tsn else (flight_of old).next_tsn)
+      → IsGiven p after (flight_of old).next_tsn
+  next-given false s e = absurd (not_both (sym s))
+  next-given true s e =
+      let at = h.next_is in
+      let one : distance (flight_of old).next_tsn (flight_of new).next_tsn ≡ 1 = ap (distance (flight_of old).next_tsn)
+      (e ∙ ap following_tsn at ∙ next-place p (n + 1)) ∙ ap (λ t. distance t (tsn p (n + 1 + 1))) at ∙ distance-tsn p (n + 1) (n + 1 + 1) (omega arith)
+      (omega arith) ∙ (let z : n + 1 + 1 - (n + 1) ≡ 1 = omega arith in z) in
+      record { place = n + 1; some = omega arith; within = omega (arith, one); is = at }
+
+  pub made-given : (call : SenderCall) → Every (IsMadeGiven p n) old.made → SenderFollows call old new → AreGiven (made_after call old.sending.sender old.made)
+  made-given (outgoing.sends now) m f = by (next_pending (all_started now (flight_of old).queue).pending) (peeked_all_started now (flight_of old).queue)
+    where
+      moved-on : (flight_of new).next_tsn ≡ next_after_send (flight_of old)
+      moved-on = ap (λ (u : Transmission). u.flight.next_tsn) f.exact
+
+      by : (o : Option ChunkPayloadData) → is_some o ≡ is_some (next_pending (flight_of old).queue.pending) → AreGiven
+          (with_chunk (option_map (as_sent (flight_of old).next_tsn now) o) old.made)
+      by None s = kept-given old.made m
+      by (Some c) s = (next-given (is_some (next_pending (flight_of old).queue.pending)) s moved-on, kept-given old.made m)
+  made-given (outgoing.resends u now c) m f = (
+    more-given p n after c.tsn (omega arith) (every-found (λ (d : ChunkPayloadData). IsGiven p n d.tsn) (has_tsn u)
+        (flight_of old).queue.inflight.chunks c f.accepted.1 (flight-given p n (flight_of old) h)),
+    kept-given old.made m,
+  )
+  made-given (outgoing.forwards u c) m f = (
+    more-given p n after c.new_cumulative_tsn (omega arith)
+        (passable-skip p n (flight_of old) h few u c.new_cumulative_tsn f.accepted.0).given,
+    kept-given old.made m,
+  )
+  made-given (outgoing.forwards_within bytes c) m f = (
+    more-given p n after c.new_cumulative_tsn (omega arith)
+        (passable-end p n (flight_of old) h few c.new_cumulative_tsn f.accepted.0 f.accepted.1).given,
+    kept-given old.made m,
+  )
+  made-given outgoing.marks m f = kept-given old.made m
+  made-given (outgoing.misses count) m f = kept-given old.made m
+  made-given (outgoing.sets_size size) m f = kept-given old.made m
+  made-given (outgoing.sets_low stream bytes) m f = kept-given old.made m
+  made-given (outgoing.reserves more) m f = kept-given old.made m
+  made-given (outgoing.opens stream) m f = kept-given old.made m
+  made-given (outgoing.sets_mode stream unordered reliability value) m f = kept-given old.made m
+  made-given (outgoing.writes stream ppi bytes) m f = kept-given old.made m
+  made-given (outgoing.starts now) m f = kept-given old.made m
+  made-given (outgoing.abandons u a) m f = kept-given old.made m
+  made-given (outgoing.expires now e) m f = kept-given old.made m
+  made-given (outgoing.expires_tail now a) m f = kept-given old.made m
+  made-given (outgoing.expires_late now gone) m f = kept-given old.made m
+  made-given (outgoing.expires_rexmit gone) m f = kept-given old.made m
+  made-given (outgoing.takes_sack k gone) m f = kept-given old.made m

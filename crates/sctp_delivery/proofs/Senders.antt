@@ -1,0 +1,188 @@
+-- What each call of a sender makes of its queues, its streams, and what it gave TSNs to.
+use Rattle.std.proofs.Common.{◌≡◌, ℕ, ◌<◌, Bool, true, false, List, [], ◌∷◌, ◌++◌, take, drop, Option, Some, None, is_some, inl, inr, refl, ap, sym, subst, ◌∙◌}
+use Rattle.std.specs.Prelude.{⊤, ◌||◌, if◌then◌else◌, option_map, find}
+use Rattle.std.specs.List.{list_any}
+use Rattle.std.proofs.lemmas.List.{take-append-drop}
+use Rattle.sctp_list_lemmas.specs.Lists.{change_where}
+use Rattle.sctp_list_lemmas.proofs.Edits.{list_any-append, list_any-those}
+use Rattle.sctp_data.specs.declared.chunk.chunk_payload_data.ChunkPayloadData.{ChunkPayloadData}
+use Rattle.sctp_data.specs.PayloadData.{data_of}
+use Rattle.sctp_data.specs.SelectiveAck.{Sack}
+use Rattle.sctp_outbound.specs.Marks.{as_acknowledged, is_of}
+use Rattle.sctp_outbound.specs.outbound_queue.OutboundQueue.{Outbound, all_started, as_sent, sent_next, sent_of, with_inflight}
+use Rattle.sctp_outbound.specs.payload_queue.PayloadQueue.{past}
+use Rattle.sctp_outbound.specs.pending_queue.PendingQueue.{next_pending}
+use Rattle.sctp_outbound.specs.pending_queue.Whole.{partially_sent, waits}
+use Rattle.sctp_outbound.proofs.lemmas.outbound_queue.Outbounds.{peeked_all_started}
+use Rattle.sctp_outbound.proofs.lemmas.pending_queue.CompleteMessages.{KeepsMessage, list_any-change_where}
+use Rattle.sctp_serial.specs.DataChunks.{following_tsn, has_tsn}
+use Rattle.sctp_sender.specs.Flight.{Flight, after_abandonment, is_outdated, message_to_abandon, next_after_send, released_by, reports_anew, take_sack}
+use Rattle.sctp_sender.specs.Late.{abandoned_at, abandoned_each, after_abandoning, after_leaving, leaving_each}
+use Rattle.sctp_sender.specs.Outgoing.{has_number, less_by}
+use Rattle.sctp_sender.specs.Sender.{Transmission, after_abandon, after_acked, with_flight}
+use Rattle.sctp_sender.proofs.InLine.{found-half}
+use Rattle.sctp_stream.specs.declared.stream.StreamState.{StreamState}
+use Rattle.sctp_delivery.specs.SenderCalls.{Made, data_chunk, forward_tsn, next_chunk, with_chunk}
+use Rattle.sctp_delivery.proofs.InFlight.{KeepsData, acknowledged-keeps, known-changed, known-part-changed, known-those}
+use Rattle.sctp_delivery.proofs.Numbers.{AreOpen, AreSized, IsSteady, all-open, number_of, steady-left, steady-less, steady-released, steady-same}
+use Rattle.sctp_delivery.proofs.Queues.{sends as sends-one, Abandons, IsOnceMore, Stands, abandoned, abandons-then, marked, no-abandons, refilled, started}
+use Rattle.sctp_delivery.proofs.Sent.{Entry, Numbered, WasSent, fragment, sent-more}
+use Rattle.sctp_delivery.proofs.Turns.{Turns}
+
+-- a sender, where these were written, and these entries got TSNs from the first one on
+pub record IsHeld (ws : List Numbered) (first : ℕ) (t : Transmission) (sent : List Entry) : Type 0 where
+  pub stands : Stands ws first (λ s. number_of s t.streams) t.flight.queue t.flight.next_tsn sent
+  pub open' : AreOpen t.streams ws
+  pub sized : AreSized t.streams
+  pub size : 0 < t.fragment_size
+
+-- each DATA chunk that was made is one that got a TSN
+abbrev pub AreSent : List Entry → List Made → Type 0
+AreSent sent [] = ⊤
+AreSent sent (data_chunk d ∷ ms) = WasSent sent d × AreSent sent ms
+AreSent sent (forward_tsn f ∷ ms) = AreSent sent ms
+
+pub sent-then : (x : Entry) (sent : List Entry) (ms : List Made) → AreSent sent ms → AreSent (x ∷ sent) ms
+sent-then x sent [] a = tt
+sent-then x sent (data_chunk d ∷ ms) a = (sent-more x sent d a.0, sent-then x sent ms a.1)
+sent-then x sent (forward_tsn f ∷ ms) a = sent-then x sent ms a
+
+-- what a call makes of it
+pub record Result (ws vs : List Numbered) (first : ℕ) (sent : List Entry) (u : Transmission) (ms ns : List Made) : Type 0 where
+  pub more : List Entry
+  pub held : IsHeld vs first u more
+  pub once : IsOnceMore sent more
+  pub made : AreSent sent ms → AreSent more ns
+
+-- nothing gets a TSN
+pub calm : (ws vs : List Numbered) (first : ℕ) (sent : List Entry) (u : Transmission) (ms : List Made) → IsHeld vs first u sent → Result ws vs first sent u ms ms
+calm ws vs first sent u ms h = record { more = sent; held = h; once = inl refl; made = λ a. a }
+
+pub renumbered : (ws : List Numbered) (first : ℕ) (number number' : ℕ → ℕ) (q : Outbound) (next : ℕ) (sent : List Entry) → ((s : ℕ) → number' s ≡ number s) → Stands ws first number q next sent → Stands ws first number' q next sent
+renumbered ws first number number' q next sent same s = record {
+  queued = record {
+    line = s.queued.line;
+    ordered = s.queued.ordered;
+    unordered = s.queued.unordered;
+    turns = λ r. let t = s.queued.turns r in (t.0, (subst (λ k. Turns r q.pending.ordered t.0 k) (sym (same r)) t.1.0, t.1.1));
+  };
+  sendable = s.sendable;
+  known = s.known;
+  counted = s.counted;
+  begun' = s.begun';
+  ids = s.ids;
+}
+
+-- other streams, as steady, and what stands then
+pub steady : (ws : List Numbered) (first : ℕ) (t : Transmission) (sent : List Entry) (h : IsHeld ws first t sent) (ls : List StreamState) → IsSteady t.streams ls → (f : Flight) (more : List Entry) → Stands ws first (λ s. number_of s t.streams) f.queue f.next_tsn more → IsHeld ws first (record t { streams = ls; flight = f }) more
+steady ws first t sent h ls st f more s = record {
+  stands = renumbered ws first (λ r. number_of r t.streams) (λ r. number_of r ls) f.queue f.next_tsn more st.numbers s;
+  open' = all-open t.streams ls st.there ws h.open';
+  sized = st.sized h.sized;
+  size = h.size;
+}
+
+-- ## What is in flight changes
+
+-- a change of some chunks in flight
+pub changed : (ws : List Numbered) (first : ℕ) (t : Transmission) (sent : List Entry) (p : ChunkPayloadData → Bool) (f : ChunkPayloadData → ChunkPayloadData) → KeepsMessage f → KeepsData f → IsHeld ws first t sent → IsHeld ws first (record t { flight = record t.flight { queue = with_inflight t.flight.queue (change_where p f t.flight.queue.inflight.chunks) } }) sent
+changed ws first t sent p f keeps keeps' h =
+    steady ws first t sent h t.streams (steady-same t.streams) (record t.flight { queue = with_inflight t.flight.queue (change_where p f t.flight.queue.inflight.chunks) }) sent
+    (marked ws first (λ s. number_of s t.streams) t.flight.queue t.flight.next_tsn sent p f keeps keeps' h.stands)
+
+-- of the first so many
+pub first-changed : (ws : List Numbered) (first : ℕ) (t : Transmission) (sent : List Entry) (p : ChunkPayloadData → Bool) (f : ChunkPayloadData → ChunkPayloadData) (i : ℕ) → KeepsMessage f → KeepsData f → IsHeld ws first t sent → IsHeld ws first (record t { flight = record t.flight { queue = with_inflight t.flight.queue (change_where p f (take i t.flight.queue.inflight.chunks) ++ drop i t.flight.queue.inflight.chunks) } }) sent
+first-changed ws first t sent p f i keeps keeps' h =
+    let cs = t.flight.queue.inflight.chunks in
+    let ds = change_where p f (take i cs) ++ drop i cs in
+    steady ws first t sent h t.streams (steady-same t.streams) (record t.flight { queue = with_inflight t.flight.queue ds }) sent
+    (refilled ws first (λ s. number_of s t.streams) t.flight.queue t.flight.next_tsn sent ds (λ m e. sym (same m) ∙ e) (known-part-changed sent p f keeps' i cs h.stands.known) h.stands)
+  where
+    same : (m : ℕ) → list_any (is_of m) (change_where p f (take i t.flight.queue.inflight.chunks) ++ drop i t.flight.queue.inflight.chunks) ≡ list_any (is_of m) t.flight.queue.inflight.chunks
+    same m =
+        let cs = t.flight.queue.inflight.chunks in
+        list_any-append (is_of m) (change_where p f (take i cs)) (drop i cs)
+        ∙ ap (λ b. b || list_any (is_of m) (drop i cs)) (list_any-change_where p f keeps m (take i cs))
+        ∙ sym (list_any-append (is_of m) (take i cs) (drop i cs))
+        ∙ ap (list_any (is_of m)) (take-append-drop i cs)
+
+pub acked : (ws : List Numbered) (first : ℕ) (t : Transmission) (sent : List Entry) (s : Sack) → IsHeld ws first t sent → IsHeld ws first (after_acked s t) sent
+acked ws first t sent s h =
+    let st = steady-released (released_by s t.flight) t.streams in
+    record {
+      stands = renumbered ws first (λ r. number_of r t.streams) (λ r. number_of r (after_acked s t).streams) (after_acked s t).flight.queue (after_acked s t).flight.next_tsn sent st.numbers (stands (is_outdated s t.flight));
+      open' = all-open t.streams (after_acked s t).streams st.there ws h.open';
+      sized = st.sized h.sized;
+      size = h.size;
+    }
+  where
+    keeps : KeepsMessage as_acknowledged
+    keeps = record { number = λ _. refl; begins = λ _. refl; ends = λ _. refl; kind = λ _. refl }
+
+    fewer : (m : ℕ) → list_any (is_of m) (past s.cumulative_tsn_ack (change_where (reports_anew s) as_acknowledged t.flight.queue.inflight.chunks)) ≡ true → list_any (is_of m) t.flight.queue.inflight.chunks ≡ true
+    fewer m e = sym (list_any-change_where (reports_anew s) as_acknowledged keeps m t.flight.queue.inflight.chunks) ∙ list_any-those (is_of m) _ (change_where (reports_anew s) as_acknowledged t.flight.queue.inflight.chunks) e
+
+    stands : (b : Bool) → Stands ws first (λ r. number_of r t.streams) (if b then t.flight else take_sack s t.flight).queue (if b then t.flight else take_sack s t.flight).next_tsn sent
+    stands true = h.stands
+    stands false =
+        refilled ws first (λ r. number_of r t.streams) t.flight.queue t.flight.next_tsn sent (past s.cumulative_tsn_ack (change_where (reports_anew s) as_acknowledged t.flight.queue.inflight.chunks)) fewer
+        (known-those sent _ (change_where (reports_anew s) as_acknowledged t.flight.queue.inflight.chunks) (known-changed sent (reports_anew s) as_acknowledged acknowledged-keeps t.flight.queue.inflight.chunks h.stands.known))
+        h.stands
+
+-- ## Messages are abandoned
+
+gone-one : (ws : List Numbered) (first : ℕ) (number : ℕ → ℕ) (f : Flight) (sent : List Entry) → Stands ws first number f.queue f.next_tsn sent → (tsn : ℕ) → Abandons ws first number sent f.queue (abandoned_at tsn f).queue (abandoned_at tsn f).next_tsn
+gone-one ws first number f sent s tsn =
+    abandoned ws first number f.queue f.next_tsn sent s (message_to_abandon tsn f) (found-half f.queue s.sendable tsn (find (has_tsn tsn) f.queue.inflight.chunks) refl)
+
+gone-each : (ws : List Numbered) (first : ℕ) (number : ℕ → ℕ) (tsns : List ℕ) (f : Flight) (sent : List Entry) → Stands ws first number f.queue f.next_tsn sent → Abandons ws first number sent f.queue (abandoned_each tsns f).queue (abandoned_each tsns f).next_tsn
+gone-each ws first number [] f sent s = no-abandons ws first number sent f.queue f.next_tsn s
+gone-each ws first number (tsn ∷ tsns) f sent s =
+    let a = gone-one ws first number f sent s tsn in
+    let g = abandoned_at tsn f in
+    let b = gone-each ws first number tsns g a.more a.stands in
+    abandons-then ws first number sent f.queue g.queue (abandoned_each tsns g).queue g.next_tsn (abandoned_each tsns g).next_tsn a b
+
+grown : (sent more : List Entry) (ms : List Made) → IsOnceMore sent more → AreSent sent ms → AreSent more ms
+grown sent more ms (inl e) a = subst (λ xs. AreSent xs ms) (sym e) a
+grown sent more ms (inr x) a = subst (λ xs. AreSent xs ms) (sym x.1) (sent-then x.0 sent ms a)
+
+-- the streams have less, and the flight is what is left
+left : (ws : List Numbered) (first : ℕ) (t : Transmission) (sent : List Entry) (ms : List Made) (ls : List StreamState) (f : Flight) → IsHeld ws first t sent → IsSteady t.streams ls → Abandons ws first (λ s. number_of s t.streams) sent t.flight.queue f.queue f.next_tsn → Result ws ws first sent (record t { streams = ls; flight = f }) ms ms
+left ws first t sent ms ls f h st a = record {
+  more = a.more;
+  held = steady ws first t sent h ls st f a.more a.stands;
+  once = a.once;
+  made = grown sent a.more ms a.once;
+}
+
+pub abandons-message : (ws : List Numbered) (first : ℕ) (t : Transmission) (sent : List Entry) (ms : List Made) → IsHeld ws first t sent → (o : Option ℕ) → ((m : ℕ) → o ≡ Some m → waits m t.flight.queue.pending ≡ true → partially_sent t.flight.queue.pending ≡ Some m) → (stream bytes : ℕ) → Result ws ws first sent (after_abandon o stream bytes t) ms ms
+abandons-message ws first t sent ms h o half stream bytes =
+    left ws first t sent ms (change_where (has_number stream) (less_by bytes) t.streams) (after_abandonment o t.flight) h (steady-less stream bytes t.streams)
+    (abandoned ws first (λ s. number_of s t.streams) t.flight.queue t.flight.next_tsn sent h.stands o half)
+
+pub abandons-all : (ws : List Numbered) (first : ℕ) (t : Transmission) (sent : List Entry) (ms : List Made) → IsHeld ws first t sent → (tsns : List ℕ) → Result ws ws first sent (after_abandoning tsns t) ms ms
+abandons-all ws first t sent ms h tsns =
+    left ws first t sent ms (after_leaving (leaving_each tsns t.flight) t.streams) (abandoned_each tsns t.flight) h (steady-left (leaving_each tsns t.flight) t.streams)
+    (gone-each ws first (λ s. number_of s t.streams) tsns t.flight sent h.stands)
+
+-- ## Sending
+
+sent-of : (ws : List Numbered) (first : ℕ) (t : Transmission) (sent : List Entry) (ms : List Made) (now : ℕ) → IsHeld ws first t sent → (q : Outbound) → Stands ws first (λ s. number_of s t.streams) q t.flight.next_tsn sent → (o : Option ChunkPayloadData) → next_pending q.pending ≡ o → Result ws ws first sent (record t { flight = record t.flight { queue = sent_of o q t.flight.next_tsn now; next_tsn = if is_some o then following_tsn t.flight.next_tsn else t.flight.next_tsn } }) ms (with_chunk (option_map (as_sent t.flight.next_tsn now) o) ms)
+sent-of ws first t sent ms now h q s None e = calm ws ws first sent (record t { flight = record t.flight { queue = q } }) ms (steady ws first t sent h t.streams (steady-same t.streams) (record t.flight { queue = q }) sent s)
+sent-of ws first t sent ms now h q s (Some c) e =
+    let next = t.flight.next_tsn in
+    let x = sends-one ws first (λ r. number_of r t.streams) now q next sent c e s in
+    let entry = fragment (data_of (as_sent next now c)) x.write x.after in
+    record {
+      more = entry ∷ sent;
+      held = steady ws first t sent h t.streams (steady-same t.streams) (record t.flight { queue = sent_of (Some c) q next now; next_tsn = following_tsn next }) (entry ∷ sent) x.stands;
+      once = inr (entry, refl);
+      made = λ a. ((x.write, x.after, sent, inl refl), sent-then entry sent ms a);
+    }
+
+pub sends-next : (ws : List Numbered) (first : ℕ) (t : Transmission) (sent : List Entry) (ms : List Made) (now : ℕ) → IsHeld ws first t sent → Result ws ws first sent (with_flight (record t.flight { queue = sent_next t.flight.queue t.flight.next_tsn now; next_tsn = next_after_send t.flight }) t) ms (with_chunk (next_chunk now t) ms)
+sends-next ws first t sent ms now h =
+    let r = all_started now t.flight.queue in
+    subst (λ b. Result ws ws first sent (with_flight (record t.flight { queue = sent_next t.flight.queue t.flight.next_tsn now; next_tsn = if b then following_tsn t.flight.next_tsn else t.flight.next_tsn }) t) ms (with_chunk (next_chunk now t) ms)) (peeked_all_started now t.flight.queue)
+    (sent-of ws first t sent ms now h r (started ws first (λ s. number_of s t.streams) now t.flight.queue t.flight.next_tsn sent h.stands) (next_pending r.pending) refl)

@@ -1,0 +1,99 @@
+-- A TSN that a filter heard of stays one that came.
+use Rattle.std.proofs.Common.{◌≡◌, ℕ, ◌+◌, ◌<◌, ◌≤◌, ◌%◌, ◌^◌, Bool, true, false, List, [], ◌∷◌, refl, ap, sym, ◌∙◌, inl, inr, arith}
+use Rattle.std.specs.Prelude.{if◌then◌else◌, ◌==◌, ◌||◌, ◌⊎◌, not, nat_le}
+use Rattle.std.specs.List.{filter, list_any}
+use Rattle.std.proofs.lemmas.Bool.Decides.{nat_tests}
+use Rattle.sctp_list_lemmas.specs.Lists.{advance_over, insert_before, Seen}
+use Rattle.sctp_list_lemmas.specs.Serial.{at_or_before}
+use Rattle.sctp_list_lemmas.proofs.Cases.{or-left, or-right, or-split, same-is}
+use Rattle.sctp_list_lemmas.proofs.More.{not_both}
+use Rattle.sctp_list_lemmas.proofs.Round.{tsn}
+use Rattle.sctp_delivery.proofs.Every.{Every}
+use Rattle.sctp_delivery.proofs.TsnPlaces.{IsGiven, at-or-before, next-place, same-place}
+
+-- at or before the cumulative TSN, or one of those beyond
+abbrev pub come : ℕ → ℕ → List ℕ → Bool
+come t cumulative beyond = at_or_before t cumulative || list_any (λ u. u == t) beyond
+
+pub any-inserted : {A : Type 0} (q : A → Bool) (b : A → A → Bool) (x : A) (xs : List A) → (q x || list_any q xs) ≡ true → list_any q
+    (insert_before b x xs) ≡ true
+any-inserted q b x [] e = e
+any-inserted q b x (y ∷ ys) e = by (b x y) (λ f. any-inserted q b x ys f) (or-split (q x) (list_any q (y ∷ ys)) e)
+  where
+    by : (k : Bool) → ((q x || list_any q ys) ≡ true → list_any q (insert_before b x ys) ≡ true) → (q x ≡ true) ⊎ (list_any q (y ∷ ys) ≡ true) → list_any q
+        (if k then x ∷ y ∷ ys else y ∷ insert_before b x ys) ≡ true
+    by true ih s = e
+    by false ih (inl a) = or-right (q y) (list_any q (insert_before b x ys)) (ih (or-left (q x) (list_any q ys) a))
+    by false ih (inr a) = elim (or-split (q y) (list_any q ys) a) [
+      | inl c ↦ or-left (q y) (list_any q (insert_before b x ys)) c
+      | inr c ↦ or-right (q y) (list_any q (insert_before b x ys)) (ih (or-right (q x) (list_any q ys) c))
+    ]
+
+any-passing : (q : ℕ → Bool) (t : ℕ) (ts : List ℕ) → q t ≡ true → list_any (λ u. u == t) ts ≡ true → list_any (λ u. u == t) (filter q ts) ≡ true
+any-passing q t [] h e = e
+any-passing q t (x ∷ xs) h e = by (q x) refl (λ f. any-passing q t xs h f) (or-split (x == t) (list_any (λ u. u == t) xs) e)
+  where
+    by : (k : Bool) → q x ≡ k → (list_any (λ u. u == t) xs ≡ true → list_any (λ u. u == t) (filter q xs) ≡ true) → ((x == t) ≡ true) ⊎
+        (list_any (λ u. u == t) xs ≡ true) → list_any (λ u. u == t) (if k then x ∷ filter q xs else filter q xs) ≡ true
+    by true f ih (inl a) = or-left (x == t) (list_any (λ u. u == t) (filter q xs)) a
+    by true f ih (inr a) = or-right (x == t) (list_any (λ u. u == t) (filter q xs)) (ih a)
+    by false f ih (inl a) = absurd (not_both (sym f ∙ ap q (same-is x t a) ∙ h))
+    by false f ih (inr a) = ih a
+
+-- one that came by an earlier cumulative TSN came by a later one
+upto-later : (p n a b : ℕ) (t : ℕ) → n < 2 ^ 31 → a ≤ b → b ≤ n → IsGiven p n t → at_or_before t (tsn p a) ≡ true → at_or_before t (tsn p b) ≡ true
+upto-later p n a b t few le within g e =
+    let in' = g.within in
+    let first : nat_le g.place a ≡ true = sym (at-or-before p g.place a (omega (arith, in', few)) (omega (arith, le, within, few))) ∙ ap
+    (λ u. at_or_before u (tsn p a)) (sym g.is) ∙ e in
+    ap (λ u. at_or_before u (tsn p b)) g.is ∙ at-or-before p g.place b (omega (arith, in', few)) (omega (arith, within, few)) ∙
+    (let f : nat_le g.place b ≡ true = grind (arith, nat_tests, first, le) in f)
+
+pub advance-keeps : (p n c place : ℕ) (ts : List ℕ) → n < 2 ^ 31 → place ≤ n → c ≡ tsn p place → Every (IsGiven p n) ts → (t : ℕ) → IsGiven p n t
+    → come t c ts ≡ true → come t (advance_over c ts).cum (advance_over c ts).held ≡ true
+advance-keeps p n c place [] few le is each t g h = h
+advance-keeps p n c place (x ∷ xs) few le is each t g h = by (x == (c + 1) % 2 ^ 32) refl (λ l i f. advance-keeps p n x (place + 1) xs few l i each.1 t g f)
+  where
+    by : (b : Bool) → (x == (c + 1) % 2 ^ 32) ≡ b → (place + 1 ≤ n → x ≡ tsn p (place + 1) → come t x xs ≡ true → come t (advance_over x xs).cum
+        (advance_over x xs).held ≡ true) → (let s : Seen = if b then advance_over x xs else
+        (let r : Seen = record { cum = c; held = x ∷ xs } in r) in come t s.cum s.held ≡ true)
+    by false e ih = h
+    by true e ih =
+        let g' = each.0 in
+        let next : x ≡ tsn p (place + 1) = same-is x ((c + 1) % 2 ^ 32) e ∙ ap (λ u. (u + 1) % 2 ^ 32) is ∙ next-place p place in
+        let one : g'.place ≡ place + 1 = same-place p g'.place (place + 1) (let w = g'.within in omega (arith, w, few)) (omega (arith, le, few))
+        (sym g'.is ∙ next) in
+        let l : place + 1 ≤ n = let w = g'.within in omega (arith, w, one) in
+        let here : (x == t) ≡ true → at_or_before t x ≡ true = λ a. ap (at_or_before t) (same-is x t a) ∙ ap (λ u. at_or_before u t) g.is ∙ ap
+        (at_or_before (tsn p g.place)) g.is ∙ at-or-before p g.place g.place (let w = g.within in omega (arith, w, few))
+        (let w = g.within in omega (arith, w, few)) ∙ (let f : nat_le g.place g.place ≡ true = grind (arith, nat_tests) in f) in
+        ih l next (elim (or-split (at_or_before t c) (list_any (λ u. u == t) (x ∷ xs)) h) [
+          | inl a ↦ or-left (at_or_before t x) (list_any (λ u. u == t) xs)
+              (ap (at_or_before t) next ∙ upto-later p n place (place + 1) t few (omega arith) l g (ap (at_or_before t) (sym is) ∙ a))
+          | inr a ↦ elim (or-split (x == t) (list_any (λ u. u == t) xs) a) [
+            | inl b ↦ or-left (at_or_before t x) (list_any (λ u. u == t) xs) (here b)
+            | inr b ↦ or-right (at_or_before t x) (list_any (λ u. u == t) xs) b
+          ]
+        ])
+
+-- a TSN comes
+pub insert-keeps : (b : ℕ → ℕ → Bool) (x c : ℕ) (ts : List ℕ) (t : ℕ) → come t c ts ≡ true → come t c (insert_before b x ts) ≡ true
+insert-keeps b x c ts t h = elim (or-split (at_or_before t c) (list_any (λ u. u == t) ts) h) [
+  | inl a ↦ or-left (at_or_before t c) (list_any (λ u. u == t) (insert_before b x ts)) a
+  | inr a ↦ or-right (at_or_before t c) (list_any (λ u. u == t) (insert_before b x ts))
+      (any-inserted (λ u. u == t) b x ts (or-right (x == t) (list_any (λ u. u == t) ts) a))
+]
+
+-- all up to a later one counts as come
+pub skip-keeps : (p n a b : ℕ) (ts : List ℕ) (t : ℕ) → n < 2 ^ 31 → a ≤ b → b ≤ n → IsGiven p n t → come t (tsn p a) ts ≡ true → come t (tsn p b)
+    (filter (λ u. not (at_or_before u (tsn p b))) ts) ≡ true
+skip-keeps p n a b ts t few le within g h = elim (or-split (at_or_before t (tsn p a)) (list_any (λ u. u == t) ts) h) [
+  | inl e ↦ or-left (at_or_before t (tsn p b)) (list_any (λ u. u == t) (filter (λ u. not (at_or_before u (tsn p b))) ts))
+      (upto-later p n a b t few le within g e)
+  | inr e ↦ by (at_or_before t (tsn p b)) refl e
+]
+  where
+    by : (k : Bool) → at_or_before t (tsn p b) ≡ k → list_any (λ u. u == t) ts ≡ true →
+        (k || list_any (λ u. u == t) (filter (λ u. not (at_or_before u (tsn p b))) ts)) ≡ true
+    by true f e = refl
+    by false f e = any-passing (λ u. not (at_or_before u (tsn p b))) t ts (ap not f) e

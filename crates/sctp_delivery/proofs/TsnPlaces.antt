@@ -1,0 +1,54 @@
+-- TSNs and their places: place k of a base p is the TSN p + k modulo 2^32, and serial order is that of places below 2^31.
+use Rattle.std.proofs.Common.{◌≡◌, ℕ, ◌+◌, ◌-◌, ◌<◌, ◌≤◌, ◌%◌, ◌^◌, inl, inr, arith}
+use Rattle.std.specs.Prelude.{◌⊎◌, nat_lt, nat_le, ◌&&◌}
+use Rattle.std.proofs.lemmas.Bool.{cases_lt}
+use Rattle.std.proofs.lemmas.Bool.Decides.{nat_tests}
+use Rattle.sctp_list_lemmas.specs.Serial.{distance, comes_before, at_or_before}
+use Rattle.sctp_list_lemmas.proofs.Round.{tsn, distance-tsn, distance-tsn_back}
+
+pub same-place : (p j k : ℕ) → j < 2 ^ 32 → k < 2 ^ 32 → tsn p j ≡ tsn p k → j ≡ k
+same-place p j k a b e = omega (arith, e)
+
+pub next-place : (p k : ℕ) → (tsn p k + 1) % 2 ^ 32 ≡ tsn p (k + 1)
+next-place p k = omega arith
+
+pub tsn-small : (p k : ℕ) → tsn p k < 2 ^ 32
+tsn-small p k = omega arith
+
+pub at-or-before : (p j k : ℕ) → j ≤ 2 ^ 31 → k < 2 ^ 31 → at_or_before (tsn p j) (tsn p k) ≡ nat_le j k
+unfolding at_or_before
+at-or-before p j k a b = step (cases_lt k j)
+  where
+    step : (k < j) ⊎ (j ≤ k) → nat_lt (distance (tsn p j) (tsn p k)) (2 ^ 31) ≡ nat_le j k
+    step (inl lt) = rw (distance-tsn_back p k j lt (omega (arith, a))) (grind (arith, nat_tests))
+    step (inr ge) = rw (distance-tsn p j k ge (omega (arith, b))) (grind (arith, nat_tests))
+
+pub before : (p j k : ℕ) → j < 2 ^ 31 → k < 2 ^ 31 → comes_before (tsn p j) (tsn p k) ≡ nat_lt j k
+unfolding comes_before
+before p j k a b = step (cases_lt k j)
+  where
+    step : (k < j) ⊎ (j ≤ k) → (nat_lt 0 (distance (tsn p j) (tsn p k)) && nat_lt (distance (tsn p j) (tsn p k)) (2 ^ 31)) ≡ nat_lt j k
+    step (inl lt) = rw (distance-tsn_back p k j lt (omega (arith, a))) (grind (arith, nat_tests))
+    step (inr ge) = rw (distance-tsn p j k ge (omega (arith, b))) (grind (arith, nat_tests))
+
+-- one of the first n places behind the base
+pub record IsGiven (p n t : ℕ) : Type 0 where
+  pub place : ℕ
+  pub some : 0 < place
+  pub within : place ≤ n
+  pub is : t ≡ tsn p place
+
+pub more-given : (p m n t : ℕ) → m ≤ n → IsGiven p m t → IsGiven p n t
+more-given p m n t le g = record { place = g.place; some = g.some; within = omega (arith, le, g.within); is = g.is }
+
+-- ## The base: the TSN before the first
+
+abbrev pub base : ℕ → ℕ
+base first = first + (2 ^ 32 - 1)
+
+pub first-is : (first : ℕ) → first < 2 ^ 32 → first ≡ tsn (base first) 1
+first-is first small = omega (arith, small)
+
+pub past-first : (first t : ℕ) → first < 2 ^ 32 → t < 2 ^ 32 → t ≡ tsn (base first) (distance first t + 1)
+unfolding distance
+past-first first t a b = omega (arith, a, b)

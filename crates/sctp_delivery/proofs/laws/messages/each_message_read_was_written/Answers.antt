@@ -1,0 +1,5 @@
+use Rattle.sctp_delivery.proofs.Delivered as delivered
+use Rattle.sctp_delivery.proofs.laws.messages.each_message_read_was_written.Goals as goal
+
+pub returns : goal.returns
+returns c = delivered.law

@@ -1,0 +1,26 @@
+//! What is sent and what is read is what was written.
+
+ghost use Rattle.sctp_delivery.specs.Messages.{AfterEachFitSession, AreParts, AreSame, AreWrites, AreWritesOfTheirOwn, NoneIsReadTwice, WhileFewTsns, WhileTsnsLast};
+ghost use Rattle.sctp_delivery.specs.Sacks.{AfterEachSessionOfFewTsns};
+
+/// Each DATA chunk that a sender makes, for the first time or again, is a part of a write: on its stream, with its payload type, and its
+/// user data are bytes of the write, one behind another. Two that it makes under one TSN are the same, while it has given out fewer
+/// than 2^32 TSNs.
+pub fn each_chunk_made_is_a_part_of_a_write()
+    ensures part { AfterEachFitSession AreParts }
+    ensures same { WhileTsnsLast AreSame }
+{}
+
+/// Whatever the network loses, delays, repeats and reorders: each message that is read is one that was written, on the stream that it
+/// is read on, with its payload type and byte for byte, while the sender has given out fewer than 2^32 TSNs, so that none is given out
+/// twice.
+pub fn each_message_read_was_written()
+    ensures { WhileTsnsLast AreWrites }
+{}
+
+/// No TSN stands in two messages that are read, or twice in one, however often the network hands its chunk over; and no write is read
+/// twice: each message is a write at a place of its own. So it is in sessions that give out fewer than 2^31 TSNs.
+pub fn no_message_is_read_twice()
+    ensures tsns { AfterEachSessionOfFewTsns (λ first given s. NoneIsReadTwice s) }
+    ensures writes { WhileFewTsns AreWritesOfTheirOwn }
+{}
