@@ -42,6 +42,22 @@ static unsigned passed, failed;
         CHECK(held == 0); \
     } while (0)
 
+/* Makes the call again and again with none, one, two allocations granted and so on, until it is not refused memory; `unchanged` has to
+ * hold whenever it is. Blocks may be held. */
+#define TRY(call, wanted, unchanged) \
+    do { \
+        sctp_code code; \
+        long times = 0; \
+        for (;; times++) { \
+            granted = times; \
+            code = (call); \
+            granted = -1; \
+            if (code != SCTP_NO_MEMORY) break; \
+            CHECK(unchanged); \
+        } \
+        CHECK(code == (wanted)); \
+    } while (0)
+
 /* The last line of a test, and its status. */
 static int report(const char *name) {
     printf("%s: %u passed, %u failed\n", name, passed, failed);

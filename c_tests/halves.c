@@ -1,22 +1,6 @@
 /* A sender and a receiver behind handles: messages go over, whatever allocation is refused, and each refusal changes nothing. */
 #include "check.h"
 
-/* Makes the call again and again with none, one, two allocations granted and so on, until it is not refused memory; `unchanged` has to
- * hold whenever it is. */
-#define TRY(call, wanted, unchanged) \
-    do { \
-        sctp_code code; \
-        long times = 0; \
-        for (;; times++) { \
-            granted = times; \
-            code = (call); \
-            granted = -1; \
-            if (code != SCTP_NO_MEMORY) break; \
-            CHECK(unchanged); \
-        } \
-        CHECK(code == (wanted)); \
-    } while (0)
-
 static sctp_sender sender;
 static sctp_receiver receiver;
 

@@ -39,7 +39,7 @@ enum {
     SCTP_OK = 0,
     /* Done: a DATA chunk's TSN came before. */
     SCTP_REPEAT = 1,
-    /* Done: a FORWARD-TSN is not past what came. */
+    /* Done, and nothing changed: a FORWARD-TSN is not past what came, or a SACK is before what was acknowledged. */
     SCTP_STALE = 2,
     /* Done: there is nothing to send, to read or to tell. */
     SCTP_NOTHING = 3,
@@ -234,6 +234,27 @@ enum {
     SCTP_PARAM_FORWARD_TSN_SUPPORTED = 49152
 };
 
+/* Codes of error causes (RFC 4960 3.3.10). */
+enum {
+    SCTP_CAUSE_INVALID_STREAM_IDENTIFIER = 1,
+    SCTP_CAUSE_MISSING_MANDATORY_PARAMETER = 2,
+    SCTP_CAUSE_STALE_COOKIE = 3,
+    SCTP_CAUSE_OUT_OF_RESOURCE = 4,
+    SCTP_CAUSE_UNRESOLVABLE_ADDRESS = 5,
+    SCTP_CAUSE_UNRECOGNIZED_CHUNK_TYPE = 6,
+    SCTP_CAUSE_INVALID_MANDATORY_PARAMETER = 7,
+    SCTP_CAUSE_UNRECOGNIZED_PARAMETERS = 8,
+    SCTP_CAUSE_NO_USER_DATA = 9,
+    SCTP_CAUSE_COOKIE_RECEIVED_WHILE_SHUTTING_DOWN = 10,
+    SCTP_CAUSE_RESTART_WITH_NEW_ADDRESSES = 11,
+    SCTP_CAUSE_USER_INITIATED_ABORT = 12,
+    SCTP_CAUSE_PROTOCOL_VIOLATION = 13
+};
+
+/* The flag of an ABORT or SHUTDOWN-COMPLETE whose packet has the verification tag of the packet that it answers, and not the one that the
+ * peer gave (RFC 4960 3.3.7, 3.3.13, 8.5.1). */
+enum { SCTP_FLAG_T = 1 };
+
 /* What the user data are (RFC 8831 8). Any other number is sent and read as SCTP_PPID_OTHER. */
 enum {
     SCTP_PPID_DCEP = 50,
@@ -271,6 +292,27 @@ sctp_code sctp_read_packet(const uint8_t *packet, size_t length, struct sctp_hea
 /* The same under a sum that the caller took: of the first eight bytes, four zeros, and the bytes from the twelfth on. */
 sctp_code sctp_read_packet_with_sum(const uint8_t *packet, size_t length, uint32_t sum, struct sctp_head *head, struct sctp_chunk *rows,
                                     size_t room, size_t *count);
+
+/* A chunk of a packet that may have chunks of unknown types. `is_known` is 1 where its type is one that sctp_read_packet reads; else it is
+ * 0, and `is_reported` is 1 where its sender is to be told of it: in an ERROR, by the cause SCTP_CAUSE_UNRECOGNIZED_CHUNK_TYPE with the
+ * chunk as its value (RFC 4960 3.2, 3.3.10.6). */
+struct sctp_any_chunk {
+    size_t at;
+    size_t length;
+    uint8_t type;
+    uint8_t flags;
+    uint8_t is_known;
+    uint8_t is_reported;
+};
+
+/* The same for a packet with chunks of unknown types, as I-DATA, AUTH and PAD are here (RFC 4960 3.2): one whose type has the highest bit
+ * set is skipped; any other is the last one that is looked at, and the last row. `count` becomes how many chunks there are so far, and the
+ * first `room` of them stand in `rows`. Chunks of known types are read whole, as above, and one that is refused refuses the packet; of the
+ * others the header is read. SCTP_UNKNOWN_CHUNK is no refusal of it; the other ones are those of sctp_read_packet. */
+sctp_code sctp_read_any_packet(const uint8_t *packet, size_t length, struct sctp_head *head, struct sctp_any_chunk *rows, size_t room,
+                               size_t *count);
+sctp_code sctp_read_any_packet_with_sum(const uint8_t *packet, size_t length, uint32_t sum, struct sctp_head *head,
+                                        struct sctp_any_chunk *rows, size_t room, size_t *count);
 
 /* The readers below take the bytes of a chunk. They refuse with an error of the header or of that kind, or with SCTP_NO_MEMORY, and have
  * written nothing then. */
@@ -323,6 +365,9 @@ struct sctp_init {
 };
 sctp_code sctp_read_init(const uint8_t *chunk, size_t length, struct sctp_init *init);
 
+/* A SHUTDOWN (RFC 4960 3.3.8): `cumulative_tsn` becomes the TSN up to which its sender received all. */
+sctp_code sctp_read_shutdown(const uint8_t *chunk, size_t length, uint32_t *cumulative_tsn);
+
 /* The parameter that the bytes begin with (RFC 4960 3.2.1): its value is `length` bytes from byte 4 on, and the next one begins at byte
  * `next`, or there is none where that is all of the bytes. SCTP_ERR_PARAM_TYPE_UNHANDLED of a type that is not read and stops reading. */
 struct sctp_param {
@@ -331,6 +376,16 @@ struct sctp_param {
     uint16_t type;
 };
 sctp_code sctp_read_param(const uint8_t *bytes, size_t length, struct sctp_param *param);
+
+/* The error cause that the bytes begin with, as those from byte 4 of an ABORT or ERROR on do (RFC 4960 3.3.10): its value is `length` bytes
+ * from byte 4 on, and the next one begins at byte `next`, or there is none where that is all of the bytes.
+ * SCTP_ERR_ERROR_CAUSE_TOO_SMALL, where they begin with none; SCTP_NO_MEMORY. */
+struct sctp_cause {
+    size_t length;
+    size_t next;
+    uint16_t code;
+};
+sctp_code sctp_read_cause(const uint8_t *bytes, size_t length, struct sctp_cause *cause);
 
 /* ---- Writing --------------------------------------------------------------------------------------------------------------- */
 
@@ -342,12 +397,21 @@ sctp_code sctp_read_param(const uint8_t *bytes, size_t length, struct sctp_param
  * chunk comes out that a reader refuses: else the reader's error. SCTP_LENGTH_TOO_LARGE of more than 65,531 bytes. SCTP_NO_MEMORY. */
 sctp_code sctp_write_chunk(uint8_t type, const uint8_t *value, size_t length, uint8_t *out, size_t room, size_t *written);
 
+/* The same with flags, as they are given: SCTP_FLAG_T, and those of DATA (3.3.1). */
+sctp_code sctp_write_chunk_with_flags(uint8_t type, uint8_t flags, const uint8_t *value, size_t length, uint8_t *out, size_t room,
+                                      size_t *written);
+
 /* An INIT or INIT-ACK. `params` are its parameters, as sctp_write_param writes them one behind the other. Refuses as sctp_write_chunk. */
 sctp_code sctp_write_init(const struct sctp_init *init, const uint8_t *params, size_t length, uint8_t *out, size_t room,
                           size_t *written);
 
 /* A parameter (RFC 4960 3.2.1). Refuses as sctp_write_chunk. */
 sctp_code sctp_write_param(uint16_t type, const uint8_t *value, size_t length, uint8_t *out, size_t room, size_t *written);
+
+/* An error cause (RFC 4960 3.3.10): what an ABORT or ERROR has as its value. SCTP_LENGTH_TOO_LARGE of more than 65,531 bytes,
+ * SCTP_NO_MEMORY. Of several causes in one chunk all but the last have to be multiples of four long without padding: sctp_read_packet and
+ * sctp_write_chunk look for none between them. */
+sctp_code sctp_write_cause(uint16_t code, const uint8_t *value, size_t length, uint8_t *out, size_t room, size_t *written);
 
 /* Writes header and CRC-32C into the first twelve bytes of a packet (RFC 4960 3.1, 6.8). SCTP_SHORT_BUFFER under twelve bytes. It takes no
  * memory. */
@@ -540,12 +604,16 @@ struct sctp_acked {
     uint8_t is_low;
 };
 
-/* Takes the bytes of a SACK (RFC 4960 6.2.1). `count` becomes how many chunks it reports anew, and the first so many `rows` tell of them,
- * in the order of their TSNs; one that is out of date reports none. SCTP_SHORT_BUFFER, where there are fewer rows than
- * sctp_sender_chunks_in_flight, so that no row is ever lost: `count` becomes how many are wanted. Refuses with an error of bytes that are
- * no SACK, with SCTP_SACK_BEYOND_SENT and SCTP_SACK_BAD_GAP, where it reports what is not in flight, and with SCTP_NO_MEMORY. `rows` stay
- * then, and `count` too but for the first. */
+/* Takes the bytes of a SACK (RFC 4960 6.2.1). SCTP_OK: `count` becomes how many chunks it reports anew, and the first so many `rows` tell
+ * of them, in the order of their TSNs. SCTP_STALE: its cumulative TSN is before sctp_sender_acked_tsn; `count` becomes 0, and nothing else
+ * changed. SCTP_SHORT_BUFFER, where there are fewer rows than sctp_sender_chunks_in_flight, so that no row is ever lost: `count` becomes
+ * how many are wanted. Refuses with an error of bytes that are no SACK, with SCTP_SACK_BEYOND_SENT and SCTP_SACK_BAD_GAP, where it reports
+ * what is not in flight, and with SCTP_NO_MEMORY. `rows` stay then, and `count` too but for the first. */
 sctp_code sctp_sender_acked(sctp_sender *sender, const uint8_t *chunk, size_t length, struct sctp_acked *rows, size_t room, size_t *count);
+
+/* Takes the TSN of a SHUTDOWN, as sctp_read_shutdown tells it (RFC 4960 3.3.8, 9.2): as a SACK with this cumulative TSN and no gap ack
+ * block, with rows, count and codes as above. It is not handed to sctp_sender_take_back: a SHUTDOWN can't tell of gaps (3.3.8). */
+sctp_code sctp_sender_acked_up_to(sctp_sender *sender, uint32_t tsn, struct sctp_acked *rows, size_t room, size_t *count);
 
 /* From here on what gap ack blocks report is kept until the cumulative TSN passes it, so that it can be taken back.
  * SCTP_CHUNKS_IN_FLIGHT, where any chunk is in flight. */
@@ -560,9 +628,9 @@ struct sctp_taken_back {
 };
 
 /* Takes back what a SACK no longer reports (RFC 4960 6.2.1 D iv). A SACK that comes late, with the same cumulative TSN, takes back what
- * a later one reported, and the next one reports it anew. Call it before sctp_sender_acked with the same SACK. Rows, count and
- * refusals are as there, with a row for each chunk that comes back; and SCTP_QUEUE_FULL, where all bytes would be more than the greatest
- * size_t. */
+ * a later one reported, and the next one reports it anew. Call it before sctp_sender_acked with the same SACK. Rows, count and codes are
+ * as there, with a row for each chunk that comes back, and none without sctp_sender_keep_reported; and SCTP_QUEUE_FULL, where all bytes
+ * would be more than the greatest size_t. */
 sctp_code sctp_sender_take_back(sctp_sender *sender, const uint8_t *chunk, size_t length, struct sctp_taken_back *rows, size_t room,
                                 size_t *count);
 
@@ -603,8 +671,8 @@ sctp_code sctp_sender_expire_late(sctp_sender *sender, uint64_t now, struct sctp
 sctp_code sctp_sender_expire_rexmit(sctp_sender *sender, struct sctp_abandoned *rows, size_t room, size_t *count);
 
 /* Writes the FORWARD-TSN that is to be sent (RFC 3758 3.5 C3, C4): up to the advanced ack point, or as far as its names fit the buffer.
- * `written` becomes its length, a multiple of four. SCTP_NOTHING: there is nothing to tell, or nothing that fits. SCTP_NO_MEMORY. `out` and
- * `written` stay, but with SCTP_OK. */
+ * `written` becomes its length, a multiple of four. SCTP_NOTHING: there is nothing to tell. SCTP_SHORT_BUFFER: nothing of it fits;
+ * `written` becomes the length of all of it, 65,532 at most. SCTP_NO_MEMORY. `out` stays, but with SCTP_OK. */
 sctp_code sctp_sender_forward_tsn(sctp_sender *sender, uint8_t *out, size_t room, size_t *written);
 
 /* Writes the FORWARD-TSN up to a TSN, or to the last TSN before it at which a message ends. SCTP_NOTHING: no message ends up to there, or

@@ -5,8 +5,8 @@
 enum { PACKET_HEADER = 12, HEADERS = 28, CHUNK_ROWS = 400 };
 /* Chunks in flight at most, and rows that are enough for them: abandoning a message that was sent in part gives out one TSN more. */
 enum { MAX_CHUNKS_IN_FLIGHT = 512, ROWS = MAX_CHUNKS_IN_FLIGHT + 8 };
-/* The longest time before a SACK is sent, in nanoseconds (RFC 4960 6.2), and two cause codes (3.3.10). */
-enum { SACK_DELAY = 200000000, INVALID_STREAM_IDENTIFIER = 1, USER_INITIATED_ABORT = 12 };
+/* The longest time before a SACK is sent, in nanoseconds (RFC 4960 6.2). */
+enum { SACK_DELAY = 200000000 };
 
 /* Whether a TSN is past another one (RFC 1982 3.2). */
 static int is_after(uint32_t tsn, uint32_t other) { return tsn != other && tsn - other < 0x80000000u; }
@@ -39,6 +39,13 @@ static void put_chunk(struct endpoint *e, uint8_t type, const uint8_t *value, si
     size_t written = 0;
     make_place(e, 4 + length + 3);
     if (sctp_write_chunk(type, value, length, end_of(e), room_of(e), &written) == SCTP_OK) e->length += written;
+}
+
+/* Puts an ERROR or an ABORT of one cause into the packet (RFC 4960 3.3.10). */
+static void put_cause(struct endpoint *e, uint8_t type, uint16_t code, const uint8_t *value, size_t length) {
+    uint8_t cause[1500];
+    size_t written = 0;
+    if (sctp_write_cause(code, value, length, cause, sizeof cause, &written) == SCTP_OK) put_chunk(e, type, cause, written);
 }
 
 void endpoint_init(struct endpoint *e, const struct endpoint_config *config) {
@@ -105,7 +112,8 @@ void endpoint_connect(struct endpoint *e, uint64_t now) {
     start_timer(e);
 }
 
-/* Reads what the peer says of itself, and where its cookie lies, if there is one, in an INIT or INIT-ACK (RFC 4960 3.3.2, 3.3.3). */
+/* Reads what the peer says of itself, and where its cookie lies, if there is one, in an INIT or INIT-ACK (RFC 4960 3.3.2, 3.3.3). That it
+ * follows a FORWARD-TSN stands in a parameter of its own or among its extensions (RFC 3758 3.1, RFC 5061 4.2.7). */
 static int read_peer(const uint8_t *chunk, size_t length, struct endpoint_peer *peer, const uint8_t **cookie, size_t *cookie_length) {
     struct sctp_init init;
     struct sctp_param param;
@@ -113,9 +121,11 @@ static int read_peer(const uint8_t *chunk, size_t length, struct endpoint_peer *
     if (init.initiate_tag == 0 || init.inbound_streams == 0 || init.outbound_streams == 0) return 0;
     *peer = (struct endpoint_peer){ init.initiate_tag, init.initial_tsn, init.credit, init.inbound_streams, 0, 0 };
     for (size_t at = 20; at < length && sctp_read_param(chunk + at, length - at, &param) == SCTP_OK; at += param.next) {
+        const uint8_t *value = chunk + at + 4;
         if (param.type == SCTP_PARAM_FORWARD_TSN_SUPPORTED) peer->has_forward_tsn = 1;
+        if (param.type == SCTP_PARAM_SUPPORTED_EXTENSIONS && memchr(value, SCTP_FORWARD_TSN, param.length)) peer->has_forward_tsn = 1;
         if (param.type == SCTP_PARAM_STATE_COOKIE) {
-            *cookie = chunk + at + 4;
+            *cookie = value;
             *cookie_length = param.length;
         }
     }
@@ -179,7 +189,7 @@ static void measure(struct endpoint *e, uint64_t rtt) {
 }
 
 /* Takes a SACK (RFC 4960 6.2.1): what it takes back, then what it reports anew. T3-rtx stops where all is acknowledged, and starts anew
- * where the cumulative TSN rose (6.3.2). What three SACKs miss is marked (7.2.4). */
+ * where the cumulative TSN rose (6.3.2). What three SACKs miss is marked (7.2.4); one without gap ack blocks misses nothing. */
 static void on_sack(struct endpoint *e, const uint8_t *chunk, size_t length) {
     struct sctp_taken_back back[ROWS];
     struct sctp_acked rows[ROWS];
@@ -190,7 +200,7 @@ static void on_sack(struct endpoint *e, const uint8_t *chunk, size_t length) {
     if (code == SCTP_OK) code = sctp_sender_take_back(&e->sender, chunk, length, back, ROWS, &taken_back);
     if (code == SCTP_OK) code = sctp_sender_acked(&e->sender, chunk, length, rows, ROWS, &count);
     e->counts.chunks[code]++;
-    if (code != SCTP_OK || is_after(acked, sack.cumulative_tsn)) return;
+    if (code != SCTP_OK) return;
     e->counts.taken_back += taken_back;
     e->credit = sack.credit;
     e->errors = 0;
@@ -199,23 +209,27 @@ static void on_sack(struct endpoint *e, const uint8_t *chunk, size_t length) {
         start_timer(e);
     }
     if (sctp_sender_chunks_in_flight(&e->sender) == 0) e->timer = 0;
+    if (taken_back > 0) e->has_marked = 1;
     if (count == 0) return;
     const struct sctp_acked *last = &rows[count - 1];
     if (last->has_sent_at && last->sent == 1) measure(e, e->now - last->sent_at);
-    if (sctp_sender_add_miss_indications(&e->sender, last->tsn) > 0) e->counts.fast_retransmissions++;
+    if (sack.blocks > 0 && sctp_sender_add_miss_indications(&e->sender, last->tsn) > 0) {
+        e->has_marked = 1;
+        e->counts.fast_retransmissions++;
+    }
 }
 
 /* Takes a DATA chunk (RFC 4960 6.2). One of a stream that is not open is reported, and counts as come (6.5); so does one of a message that
  * is too long. A SACK goes at once where the chunk came before, asks for it (RFC 7053), or leaves a gap. */
 static void on_data(struct endpoint *e, const uint8_t *chunk, size_t length) {
     struct sctp_data data;
-    uint8_t complete = 0, cause[8] = { 0, INVALID_STREAM_IDENTIFIER, 0, 8, 0, 0, 0, 0 };
+    uint8_t complete = 0;
     if (sctp_read_data(chunk, length, &data) != SCTP_OK) return;
     sctp_code code = sctp_receiver_data(&e->receiver, chunk, length, &complete);
     e->counts.chunks[code]++;
     if (code == SCTP_STREAM_UNKNOWN) {
-        memcpy(cause + 4, chunk + 8, 2);
-        put_chunk(e, SCTP_ERROR, cause, sizeof cause);
+        const uint8_t stream[4] = { chunk[8], chunk[9], 0, 0 };
+        put_cause(e, SCTP_ERROR, SCTP_CAUSE_INVALID_STREAM_IDENTIFIER, stream, sizeof stream);
     }
     if (code == SCTP_STREAM_UNKNOWN || code == SCTP_MESSAGE_TOO_LARGE) sctp_receiver_discard(&e->receiver, data.tsn);
     if (code == SCTP_REPEAT || data.wants_sack || is_after(data.tsn, sctp_receiver_cumulative_tsn(&e->receiver))) e->sack_due = e->now;
@@ -246,6 +260,17 @@ static void send_shutdown_ack(struct endpoint *e) {
     start_timer(e);
 }
 
+/* A SHUTDOWN acknowledges as a SACK does (RFC 4960 9.2). */
+static void on_shutdown(struct endpoint *e, const uint8_t *chunk, size_t length) {
+    struct sctp_acked rows[ROWS];
+    uint32_t tsn;
+    size_t count = 0;
+    if (sctp_read_shutdown(chunk, length, &tsn) != SCTP_OK) return;
+    e->counts.chunks[sctp_sender_acked_up_to(&e->sender, tsn, rows, ROWS, &count)]++;
+    if (e->state >= ENDPOINT_SHUTDOWN_SENT) send_shutdown_ack(e);
+    else e->state = ENDPOINT_SHUTDOWN_RECEIVED;
+}
+
 /* It is answered also once the association is shut down: our SHUTDOWN-COMPLETE may have been lost. */
 static void on_shutdown_ack(struct endpoint *e) {
     if (e->state < ENDPOINT_SHUTDOWN_SENT || e->state == ENDPOINT_ABORTED) return;
@@ -269,10 +294,7 @@ static void on_transfer(struct endpoint *e, const uint8_t *chunk, size_t length)
     case SCTP_FORWARD_TSN: on_forward_tsn(e, chunk, length); break;
     case SCTP_HEARTBEAT: put_chunk(e, SCTP_HEARTBEAT_ACK, chunk + 4, length - 4); break;
     case SCTP_HEARTBEAT_ACK: on_heartbeat_ack(e, chunk, length); break;
-    case SCTP_SHUTDOWN:
-        if (e->state >= ENDPOINT_SHUTDOWN_SENT) send_shutdown_ack(e);
-        else e->state = ENDPOINT_SHUTDOWN_RECEIVED;
-        break;
+    case SCTP_SHUTDOWN: on_shutdown(e, chunk, length); break;
     }
 }
 
@@ -293,10 +315,10 @@ static void on_chunk(struct endpoint *e, const uint8_t *chunk, size_t length) {
 
 /* Whether a packet is one of this association (RFC 4960 8.5): an INIT stands alone under the tag 0, and an ABORT or SHUTDOWN-COMPLETE with
  * the T bit is under the tag of the side that it comes from. */
-static int is_ours(const struct endpoint *e, const struct sctp_head *head, const struct sctp_chunk *first, size_t count) {
+static int is_ours(const struct endpoint *e, const struct sctp_head *head, const struct sctp_any_chunk *first, size_t count) {
     if (head->destination_port != e->config.port || head->source_port != e->config.peer_port || count == 0) return 0;
     if (first->type == SCTP_INIT) return count == 1 && head->verification_tag == 0;
-    if ((first->type == SCTP_ABORT || first->type == SCTP_SHUTDOWN_COMPLETE) && first->flags & 1)
+    if ((first->type == SCTP_ABORT || first->type == SCTP_SHUTDOWN_COMPLETE) && first->flags & SCTP_FLAG_T)
         return e->peer.tag != 0 && head->verification_tag == e->peer.tag;
     return head->verification_tag == e->config.tag;
 }
@@ -328,11 +350,11 @@ static void send_sack_if_due(struct endpoint *e) {
 
 void endpoint_receive(struct endpoint *e, const uint8_t *packet, size_t length, uint64_t now) {
     struct sctp_head head;
-    struct sctp_chunk rows[CHUNK_ROWS];
+    struct sctp_any_chunk rows[CHUNK_ROWS];
     size_t count = 0;
     uint8_t has_data = 0;
     e->now = now;
-    sctp_code code = sctp_read_packet(packet, length, &head, rows, CHUNK_ROWS, &count);
+    sctp_code code = sctp_read_any_packet(packet, length, &head, rows, CHUNK_ROWS, &count);
     e->counts.packets[code]++;
     if (code != SCTP_OK) return;
     if (!is_ours(e, &head, rows, count)) {
@@ -341,7 +363,9 @@ void endpoint_receive(struct endpoint *e, const uint8_t *packet, size_t length, 
     }
     if (e->unacknowledged == 0) e->sack_due = now + SACK_DELAY;
     for (size_t i = 0; i < count && i < CHUNK_ROWS; i++) {
-        on_chunk(e, packet + rows[i].at, rows[i].length);
+        const uint8_t *chunk = packet + rows[i].at;
+        if (rows[i].is_known) on_chunk(e, chunk, rows[i].length);
+        if (rows[i].is_reported) put_cause(e, SCTP_ERROR, SCTP_CAUSE_UNRECOGNIZED_CHUNK_TYPE, chunk, rows[i].length);
         has_data |= rows[i].type == SCTP_DATA;
     }
     e->unacknowledged += has_data;
@@ -356,20 +380,23 @@ sctp_code endpoint_write(struct endpoint *e, uint16_t stream, uint32_t payload_t
     return sctp_sender_write(&e->sender, stream, payload_type, message, length, &number, &fragments);
 }
 
-/* Abandons what is past its lifetime, or is marked and was sent as often as it may be (RFC 3758 3.5, RFC 7496 3.1), where the peer follows
- * a FORWARD-TSN. */
+/* Abandons what is past its lifetime, once for each time that is handed in, and what is marked and was sent as often as it may be (RFC 3758
+ * 3.5, RFC 7496 3.1), where the peer follows a FORWARD-TSN. */
 static void abandon(struct endpoint *e) {
     struct sctp_abandoned rows[ROWS];
     struct sctp_expired row;
-    size_t late = 0, often = 0;
+    size_t tails = 0, late = 0, often = 0;
     if (!e->peer.has_forward_tsn) return;
     sctp_sender_start(&e->sender, e->now);
-    size_t tails = sctp_sender_expire_tail(&e->sender, e->now, rows) == SCTP_OK;
-    if (sctp_sender_expire_late(&e->sender, e->now, rows, ROWS, &late) != SCTP_OK) late = 0;
-    if (sctp_sender_expire_rexmit(&e->sender, rows, ROWS, &often) != SCTP_OK) often = 0;
+    if (e->abandoned_at != e->now) {
+        tails = sctp_sender_expire_tail(&e->sender, e->now, rows) == SCTP_OK;
+        if (sctp_sender_expire_late(&e->sender, e->now, rows, ROWS, &late) != SCTP_OK) late = 0;
+        while (sctp_sender_expire(&e->sender, e->now, &row) == SCTP_OK) e->counts.expired++;
+    }
+    if (e->has_marked && sctp_sender_expire_rexmit(&e->sender, rows, ROWS, &often) != SCTP_OK) often = 0;
+    e->abandoned_at = e->now;
     e->counts.abandoned += tails + late + often;
     if (tails + late + often > 0) e->wants_forward_tsn = 1;
-    while (sctp_sender_expire(&e->sender, e->now, &row) == SCTP_OK) e->counts.expired++;
 }
 
 /* Sends the FORWARD-TSN, if there is one: after the cumulative TSN rose, after messages were abandoned, and when T3-rtx runs out. The rule
@@ -402,11 +429,12 @@ static int note_data(struct endpoint *e, sctp_code code, size_t written) {
 static void send_marked(struct endpoint *e) {
     struct sctp_in_flight row;
     size_t written = 0;
-    while (sctp_sender_next_to_retransmit(&e->sender, &row) == SCTP_OK) {
+    while (e->has_marked && sctp_sender_next_to_retransmit(&e->sender, &row) == SCTP_OK) {
         sctp_code code = sctp_sender_resend(&e->sender, row.tsn, e->now, end_of(e), room_of(e), &written);
         if (!note_data(e, code, written)) return;
         e->counts.data_sent_again += code == SCTP_OK;
     }
+    e->has_marked = 0;
 }
 
 /* Whether a new chunk may go: within what the peer has room for and what may be in flight; one always may (RFC 4960 6.1 A, B). */
@@ -454,7 +482,7 @@ static void on_timeout(struct endpoint *e) {
     case ENDPOINT_SHUTDOWN_ACK_SENT: send_shutdown_ack(e); break;
     default:
         sctp_sender_retransmit_all(&e->sender);
-        e->wants_forward_tsn = 1;
+        e->has_marked = e->wants_forward_tsn = 1;
     }
 }
 
@@ -490,9 +518,8 @@ void endpoint_shutdown(struct endpoint *e, uint64_t now) {
 }
 
 void endpoint_abort(struct endpoint *e) {
-    static const uint8_t cause[4] = { 0, USER_INITIATED_ABORT, 0, 4 };
     if (endpoint_is_over(e)) return;
-    if (e->peer.tag != 0) put_chunk(e, SCTP_ABORT, cause, sizeof cause);
+    if (e->peer.tag != 0) put_cause(e, SCTP_ABORT, SCTP_CAUSE_USER_INITIATED_ABORT, NULL, 0);
     flush(e);
     e->state = ENDPOINT_ABORTED;
 }

@@ -67,7 +67,10 @@ struct endpoint {
     /* Packets with DATA since our last SACK, and when it is due. */
     uint32_t unacknowledged;
     uint64_t sack_due;
-    uint8_t wants_forward_tsn;
+    /* Whether chunks may be marked for retransmission, and when messages past their lifetimes were last looked for: both take a walk over
+     * all that is in flight. */
+    uint8_t wants_forward_tsn, has_marked;
+    uint64_t abandoned_at;
     /* The peer's cookie, and the ABORT that came. */
     uint8_t cookie[ENDPOINT_COOKIE_ROOM], abort_chunk[ENDPOINT_ABORT_ROOM];
     size_t cookie_length, abort_length;

@@ -1,3 +1,4 @@
+pub mod AnyWalk
 pub mod Filling
 pub mod Forwards
 pub mod Leaving
@@ -7,6 +8,7 @@ pub mod ReceiverBox
 pub mod Rows
 pub mod Sacks
 pub mod SenderBox
+pub mod Strict
 pub mod Tails
 pub mod Writes
 pub mod Written

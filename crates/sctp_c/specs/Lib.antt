@@ -1,5 +1,7 @@
 pub mod Abandoning
 pub mod Acks
+pub mod AnyChunks
+pub mod Causes
 pub mod Codes
 pub mod Flags
 pub mod Forwards

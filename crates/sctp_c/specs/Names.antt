@@ -34,9 +34,9 @@ call_names =
     ∷ (39, codes "SCTP_RESET_IN_PROGRESS")
     ∷ []
 
--- of errors of what stands below the two halves
-abbrev pub error_names : List (ℕ × List ℕ)
-error_names =
+-- of errors of packets and of chunks' headers and types
+abbrev pub chunk_error_names : List (ℕ × List ℕ)
+chunk_error_names =
     (40, codes "SCTP_ERR_PACKET_RAW_TOO_SMALL")
     ∷ (41, codes "SCTP_ERR_PARSE_SCTP_CHUNK_NOT_ENOUGH_DATA")
     ∷ (42, codes "SCTP_ERR_SCTP_PACKET_SOURCE_PORT_ZERO")
@@ -61,7 +61,12 @@ error_names =
     ∷ (61, codes "SCTP_ERR_CHUNK_TYPE_NOT_SHUTDOWN")
     ∷ (62, codes "SCTP_ERR_CHUNK_TYPE_NOT_SHUTDOWN_ACK")
     ∷ (63, codes "SCTP_ERR_CHUNK_TYPE_NOT_SHUTDOWN_COMPLETE")
-    ∷ (64, codes "SCTP_ERR_CHUNK_TOO_SHORT")
+    ∷ []
+
+-- of errors of chunks' values
+abbrev pub value_error_names : List (ℕ × List ℕ)
+value_error_names =
+    (64, codes "SCTP_ERR_CHUNK_TOO_SHORT")
     ∷ (65, codes "SCTP_ERR_CHUNK_PAYLOAD_SMALL")
     ∷ (66, codes "SCTP_ERR_CHUNK_VALUE_NOT_LONG_ENOUGH")
     ∷ (67, codes "SCTP_ERR_CHUNK_TYPE_INIT_FLAG_ZERO")
@@ -95,4 +100,7 @@ name_among [] n = codes "SCTP_UNKNOWN"
 name_among (x ∷ xs) n = if n == x.0 then x.1 else name_among xs n
 
 unfoldable pub name_of : ℕ → List ℕ
-name_of code = if nat_lt code 40 then name_among call_names code else name_among error_names code
+name_of code =
+    if nat_lt code 40 then name_among call_names code
+    else (if nat_lt code 64 then name_among chunk_error_names code
+    else name_among value_error_names code)

@@ -1,7 +1,7 @@
 //! The names of codes.
 
 ghost use Rattle.std.specs.Prelude.{◌≡◌, ◌≢◌, ◌+◌, ◌<◌, ◌∷◌, [], ◌++◌, length};
-ghost use Rattle.sctp_c.specs.Names.{name_among, call_names, error_names, name_of};
+ghost use Rattle.sctp_c.specs.Names.{name_among, call_names, chunk_error_names, value_error_names, name_of};
 ghost use Rattle.sctp_c.specs.Out.{at_front};
 
 use crate::code::{SCTP_OK, SCTP_SHORT_BUFFER};
@@ -33,9 +33,12 @@ fn name(code: u32) -> &'static str
     ensures { result.now ≡ name_of code }
 {
     if code < 40 {
-        return call_name(code);
+        call_name(code)
+    } else if code < 64 {
+        chunk_error_name(code)
+    } else {
+        value_error_name(code)
     }
-    error_name(code)
 }
 
 fn call_name(code: u32) -> &'static str
@@ -74,8 +77,8 @@ fn call_name(code: u32) -> &'static str
     }
 }
 
-fn error_name(code: u32) -> &'static str
-    ensures { result.now ≡ name_among error_names code }
+fn chunk_error_name(code: u32) -> &'static str
+    ensures { result.now ≡ name_among chunk_error_names code }
 {
     match code {
         40 => "SCTP_ERR_PACKET_RAW_TOO_SMALL",
@@ -102,6 +105,14 @@ fn error_name(code: u32) -> &'static str
         61 => "SCTP_ERR_CHUNK_TYPE_NOT_SHUTDOWN",
         62 => "SCTP_ERR_CHUNK_TYPE_NOT_SHUTDOWN_ACK",
         63 => "SCTP_ERR_CHUNK_TYPE_NOT_SHUTDOWN_COMPLETE",
+        _ => "SCTP_UNKNOWN",
+    }
+}
+
+fn value_error_name(code: u32) -> &'static str
+    ensures { result.now ≡ name_among value_error_names code }
+{
+    match code {
         64 => "SCTP_ERR_CHUNK_TOO_SHORT",
         65 => "SCTP_ERR_CHUNK_PAYLOAD_SMALL",
         66 => "SCTP_ERR_CHUNK_VALUE_NOT_LONG_ENOUGH",

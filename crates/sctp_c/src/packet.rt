@@ -15,6 +15,8 @@ ghost use Rattle.sctp_c.specs.Head.{IsPacket, chunks_from, head_bytes, sealed, p
 ghost use Rattle.sctp_c.specs.Out.{filled};
 ghost use Rattle.sctp_c.specs.Refusal.{IsRefusal};
 
+pub mod any;
+
 use crate::code::{SCTP_OK, SCTP_SHORT_BUFFER, of_error};
 use bytes::Bytes;
 use sctp_base::error::Result;

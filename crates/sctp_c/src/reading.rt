@@ -1,12 +1,12 @@
 //! Chunks and parameters that came, as numbers.
 
-ghost use Rattle.std.specs.Prelude.{◌≡◌, ◌≢◌, length, map, IfOk, IfErr};
+ghost use Rattle.std.specs.Prelude.{◌≡◌, ◌≢◌, ℕ, length, map, IfOk, IfErr};
 ghost use Rattle.sctp_base.specs.Outcome.{OrMemory, GivesUnlessMemory};
 ghost use Rattle.sctp_base.specs.Param.{Parameter};
 ghost use Rattle.sctp_base.specs.ParamKind.{ReadsParam, ParamFault, parameter_of};
-ghost use Rattle.sctp_chunks.specs.Fault.{DataFault, SackFault, ForwardTsnFault, InitFault};
+ghost use Rattle.sctp_chunks.specs.Fault.{DataFault, SackFault, ForwardTsnFault, InitFault, ShutdownFault};
 ghost use Rattle.sctp_chunks.specs.Init.{Init};
-ghost use Rattle.sctp_chunks.specs.Wire.{Wire, ReadsChunk, data_chunk, sack_chunk, forward_tsn_chunk, init_chunk};
+ghost use Rattle.sctp_chunks.specs.Wire.{Wire, ReadsChunk, data_chunk, sack_chunk, forward_tsn_chunk, init_chunk, shutdown_chunk};
 ghost use Rattle.sctp_data.specs.PayloadData.{Data, data_of, weight};
 ghost use Rattle.sctp_data.specs.SelectiveAck.{Sack};
 ghost use Rattle.sctp_data.specs.ForwardTsn.{ForwardTsn};
@@ -25,6 +25,7 @@ use sctp_chunks::chunk::chunk_forward_tsn::{ChunkForwardTsn, ChunkForwardTsnStre
 use sctp_chunks::chunk::chunk_init::ChunkInit;
 use sctp_chunks::chunk::chunk_payload_data::ChunkPayloadData;
 use sctp_chunks::chunk::chunk_selective_ack::{ChunkSelectiveAck, GapAckBlock};
+use sctp_chunks::chunk::chunk_shutdown::ChunkShutdown;
 use std::alloc::Global;
 
 /// A DATA chunk but for its user data, which are `length` bytes from byte 16 of the chunk on (RFC 4960 3.3.1). The flags are 0 or 1.
@@ -252,6 +253,24 @@ pub extern "C" fn sctp_read_init(alloc: Global, chunk: &[u8], init: &mut SctpIni
                 inbound_streams: read.num_inbound_streams,
                 is_ack: flag(read.is_ack),
             };
+            SCTP_OK
+        }
+        Err(e) => of_error(e),
+    }
+}
+
+/// Reads a SHUTDOWN: `cumulative_tsn` becomes the TSN up to which its sender received all (RFC 4960 3.3.8). Refuses as
+/// `ChunkShutdown::unmarshal` does, and then changes nothing.
+#[unsafe(no_mangle)]
+pub extern "C" fn sctp_read_shutdown(alloc: Global, chunk: &[u8], cumulative_tsn: &mut u32) -> u32
+    ensures read { result ≡ 0 → ReadsChunk chunk.now (shutdown_chunk cumulative_tsn.new) }
+    ensures only { (n : ℕ) → ReadsChunk chunk.now (shutdown_chunk n) → result ≢ 0 → result ≡ 16 }
+    ensures refused { result ≢ 0 → IsRefusal (λ e. ShutdownFault e chunk.now) result }
+    ensures kept { result ≢ 0 → cumulative_tsn.new ≡ cumulative_tsn.old }
+{
+    match read::<ChunkShutdown>(alloc, chunk) {
+        Ok(read) => {
+            *cumulative_tsn = read.cumulative_tsn_ack;
             SCTP_OK
         }
         Err(e) => of_error(e),

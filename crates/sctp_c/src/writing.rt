@@ -8,10 +8,10 @@ ghost use Rattle.sctp_base.specs.ParamFraming.{param_framed};
 ghost use Rattle.sctp_base.specs.ParamKind.{ReadsParam};
 ghost use Rattle.sctp_chunks.specs.Framing.{chunk_encoding};
 ghost use Rattle.sctp_chunks.specs.Kind.{wire_of};
-ghost use Rattle.sctp_chunks.specs.Wire.{Wire, ReadsChunk, HasEncoding, encoding_of};
+ghost use Rattle.sctp_chunks.specs.Wire.{Wire, ReadsChunk, HasEncoding, encoding_of, type_of, value_of};
 ghost use Rattle.sctp_c.specs.Out.{padded, IsWritten, IsTooShort};
 ghost use Rattle.sctp_c.specs.Refusal.{IsRefusal};
-ghost use Rattle.sctp_c.specs.Written.{IsChunk, IsParam, ChunkFault, ParameterFault, init_type, init_bytes};
+ghost use Rattle.sctp_c.specs.Written.{IsChunk, IsFlaggedChunk, IsParam, ChunkFault, FlaggedChunkFault, ParameterFault, init_type, init_bytes};
 
 use crate::bytes_out::put_padded;
 use crate::code::of_error;
@@ -25,15 +25,15 @@ use sctp_chunks::chunk::chunk_kind::ChunkKind;
 use sctp_chunks::chunk::{Chunk, ChunkType};
 use std::alloc::Global;
 
-// A header with flags 0, and the value behind it.
-fn framed(alloc: Global, typ: u8, value: &[u8]) -> Result<Bytes>
-    ensures ok { IfOk result (λ b. b ≡ chunk_encoding typ 0 value.now) }
+// A header, and the value behind it.
+fn framed(alloc: Global, typ: u8, flags: u8, value: &[u8]) -> Result<Bytes>
+    ensures ok { IfOk result (λ b. b ≡ chunk_encoding typ flags value.now) }
     ensures short { IfOk result (λ _. 4 + length value.now < 2 ^ 16) }
     ensures err { IfErr result (λ e. OrMemory e
         ((e ≡ ErrLengthTooLarge) × (65531 < length value.now))) }
 {
     let mut raw = BytesMut::new(alloc);
-    put_header(&mut raw, ChunkType(typ), 0, value.len())?;
+    put_header(&mut raw, ChunkType(typ), flags, value.len())?;
     raw.extend_reserved(value);
     Ok(raw.freeze()?)
 }
@@ -53,7 +53,7 @@ fn chunk_of(alloc: Global, typ: u8, value: &[u8]) -> Result<Bytes>
         → 4 + length value.now < 2 ^ 16 → IsOkUnless result ErrOutOfMemory }
     ensures fault { IfErr result (λ e. OrMemory e (ChunkFault typ value.now e)) }
 {
-    let raw = framed(alloc, typ, value)?;
+    let raw = framed(alloc, typ, 0, value)?;
     let chunk = ChunkKind::unmarshal(alloc, &raw)?;
     encoded(alloc, &chunk)
 }
@@ -79,6 +79,60 @@ pub extern "C" fn sctp_write_chunk(
         → (out.new ≡ out.old) × (written.new ≡ written.old) }
 {
     match chunk_of(alloc, typ, value) {
+        Ok(bytes) => put_padded(out, written, &bytes),
+        Err(e) => of_error(e),
+    }
+}
+
+// A chunk under these flags, whatever flags its kind is written with.
+fn encoded_under(alloc: Global, flags: u8, chunk: &ChunkKind) -> Result<Bytes>
+    requires { HasEncoding (wire_of chunk.now) }
+    ensures ok { IfOk result (λ b. b ≡ chunk_encoding (type_of (wire_of chunk.now)) flags
+        (value_of (wire_of chunk.now))) }
+    ensures memory { IsOkUnless result ErrOutOfMemory }
+{
+    let mut raw = BytesMut::new(alloc);
+    put_header(&mut raw, chunk.chunk_type(), flags, chunk.value_length())?;
+    chunk.put_value(&mut raw);
+    Ok(raw.freeze()?)
+}
+
+// The chunk of a type, flags and a value, read as a chunk of its kind and written as that kind is, under the flags.
+fn flagged_chunk_of(alloc: Global, typ: u8, flags: u8, value: &[u8]) -> Result<Bytes>
+    ensures found { IfOk result (λ b. IsFlaggedChunk typ flags value.now (padded b)) }
+    ensures only { (w : Wire) → ReadsChunk (chunk_encoding typ flags value.now) w
+        → 4 + length value.now < 2 ^ 16 → IsOkUnless result ErrOutOfMemory }
+    ensures fault { IfErr result (λ e. OrMemory e (FlaggedChunkFault typ flags value.now e)) }
+{
+    let raw = framed(alloc, typ, flags, value)?;
+    let read = ChunkKind::unmarshal(alloc, &raw)?;
+    encoded_under(alloc, flags, &read)
+}
+
+/// As `sctp_write_chunk`, with flags, as they are given. So the T bit of an ABORT or a SHUTDOWN-COMPLETE is set, which is 1 (RFC 4960
+/// 3.3.7, 3.3.13): its packet has the verification tag of the packet that it answers (8.4, 8.5.1). An INIT or INIT-ACK is refused with
+/// flags other than 0.
+#[unsafe(no_mangle)]
+pub extern "C" fn sctp_write_chunk_with_flags(
+    alloc: Global,
+    typ: u8,
+    flags: u8,
+    value: &[u8],
+    out: &mut [u8],
+    written: &mut usize,
+) -> u32
+    ensures done { result ≡ 0
+        → IsWritten (IsFlaggedChunk typ flags value.now) out.old out.new written.new }
+    ensures short { result ≡ 17
+        → IsTooShort (IsFlaggedChunk typ flags value.now) out.old out.new written.new }
+    ensures only { (w : Wire) → ReadsChunk (chunk_encoding typ flags value.now) w
+        → 4 + length value.now < 2 ^ 16 → result ≢ 0 → result ≢ 17 → result ≡ 16 }
+    ensures refused { result ≢ 0 → result ≢ 17
+        → IsRefusal (FlaggedChunkFault typ flags value.now) result }
+    ensures kept { result ≢ 0 → result ≢ 17
+        → (out.new ≡ out.old) × (written.new ≡ written.old) }
+{
+    match flagged_chunk_of(alloc, typ, flags, value) {
         Ok(bytes) => put_padded(out, written, &bytes),
         Err(e) => of_error(e),
     }

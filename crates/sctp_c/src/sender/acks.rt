@@ -1,23 +1,29 @@
 //! What a peer acknowledges, and what it takes back (RFC 4960 6.2.1).
 
-ghost use Rattle.std.specs.Prelude.{◌≡◌, ◌≢◌, ◌<◌, ◌≤◌, ◌⊎◌, IfOk, IfErr, is_some, length, map};
+ghost use Rattle.std.specs.Prelude.{◌≡◌, ◌≢◌, ◌<◌, ◌≤◌, ◌⊎◌, true, IfOk, IfErr, is_some, length, map};
 ghost use Rattle.sctp_base.specs.Outcome.{OrMemory};
-ghost use Rattle.sctp_c.specs.Acks.{RefusesSack, RefusesTakeBack, TakesBack, TakesSack};
+ghost use Rattle.sctp_c.specs.Acks.{IsStale, RefusesSack, RefusesTakeBack, Takes, TakesBack, TakesSack, up_to};
 ghost use Rattle.sctp_c.specs.Out.{at_front};
 ghost use Rattle.sctp_c.specs.Refusal.{IsRefusal};
 ghost use Rattle.sctp_c.specs.Rows.{acked_row, taken_back_row};
 ghost use Rattle.sctp_chunks.specs.Fault.{SackFault};
 ghost use Rattle.sctp_chunks.specs.Wire.{ReadsChunk, sack_chunk};
 ghost use Rattle.sctp_data.specs.SelectiveAck.{sack_of};
+ghost use Rattle.sctp_sender.specs.Flight.{is_outdated, sack_refusal};
 ghost use Rattle.sctp_sender.specs.Sender.{keeping};
+ghost use Rattle.sctp_c.specs.Sending.{sender_code_for};
 
 use super::SctpSender;
 use super::queries::moment_of;
-use crate::code::{SCTP_CHUNKS_IN_FLIGHT, SCTP_OK, SCTP_SHORT_BUFFER, of_error, of_sender};
+use crate::code::{
+    SCTP_CHUNKS_IN_FLIGHT, SCTP_OK, SCTP_SHORT_BUFFER, SCTP_STALE, of_error, of_sender,
+};
 use bytes::Bytes;
 use sctp_base::error::Error;
+use sctp_base::util::sna32lt;
 use sctp_chunks::chunk::Chunk;
 use sctp_chunks::chunk::chunk_selective_ack::ChunkSelectiveAck;
+use sctp_sender::sender::Sender;
 use sctp_sender::sender::flight::Released;
 use sctp_sender::sender::flight::keeping::TakenBack;
 use std::alloc::Global;
@@ -118,11 +124,51 @@ fn fill_taken_back(rows: &mut [SctpTakenBack], told: &[TakenBack])
     }
 }
 
-/// Takes the bytes of a SACK chunk (RFC 4960 6.2.1). `count` becomes how many chunks it reports anew, and the first so many `rows` tell
-/// of them, in the order of their TSNs; one that is out of date reports none, and changes nothing. Refuses with `SCTP_SHORT_BUFFER`,
-/// where there are fewer rows than chunks in flight, so that no row is ever lost: `count` becomes how many are wanted; with the codes of
-/// bytes that are no SACK; with `SCTP_SACK_BEYOND_SENT` and `SCTP_SACK_BAD_GAP`, where it reports what is not in flight; and with
-/// `SCTP_NO_MEMORY`. `rows` stay then, and `count` too but for the first.
+// Whether a SACK is out of date.
+fn is_stale(own: &Sender, sack: &ChunkSelectiveAck) -> bool
+    ensures { result ≡ is_outdated (sack_of sack.now) own.now.flight }
+{
+    sna32lt(sack.cumulative_tsn_ack, own.acked_tsn())
+}
+
+// Takes a SACK, and fills a row for each chunk that it reports anew.
+fn take_sack(
+    own: &mut Sender,
+    sack: &ChunkSelectiveAck,
+    rows: &mut [SctpAcked],
+    count: &mut usize,
+) -> u32
+    requires { length own.old.flight.queue.inflight.chunks ≤ length rows.old }
+    ensures codes { (result ≡ 0) ⊎ ((result ≡ 2) ⊎ (16 ≤ result)) }
+    ensures ok { result ≡ 0
+        → Takes (sack_of sack.now) rows.old rows.new count.new own.old own.new }
+    ensures stale { result ≡ 2 → (is_outdated (sack_of sack.now) own.old.flight ≡ true)
+        × (count.new ≡ 0) }
+    ensures refused { result ≢ 0 → (own.new ≡ own.old) × (rows.new ≡ rows.old) }
+    ensures reason { 16 ≤ result
+        → result ≡ sender_code_for (sack_refusal (sack_of sack.now) own.old.flight) }
+    ensures kept { 16 ≤ result → (result ≢ 17) × (count.new ≡ count.old) }
+{
+    if is_stale(own, sack) {
+        *count = 0;
+        return SCTP_STALE;
+    }
+    match own.acked(sack) {
+        Ok(released) => {
+            fill_acked(rows, &released);
+            *count = released.len();
+            SCTP_OK
+        }
+        Err(e) => of_sender(e),
+    }
+}
+
+/// Takes the bytes of a SACK chunk (RFC 4960 6.2.1). `SCTP_OK`: `count` becomes how many chunks it reports anew, and the first so many
+/// `rows` tell of them, in the order of their TSNs. `SCTP_STALE`: its cumulative TSN is before the last one that was acknowledged;
+/// `count` becomes 0, and nothing else changed. Refuses with `SCTP_SHORT_BUFFER`, where there are fewer rows than chunks in flight, so
+/// that no row is ever lost: `count` becomes how many are wanted; with the codes of bytes that are no SACK; with `SCTP_SACK_BEYOND_SENT`
+/// and `SCTP_SACK_BAD_GAP`, where it reports what is not in flight; and with `SCTP_NO_MEMORY`. `rows` stay then, and `count` too but for
+/// the first.
 #[unsafe(no_mangle)]
 pub extern "C" fn sctp_sender_acked(
     alloc: Global,
@@ -131,9 +177,10 @@ pub extern "C" fn sctp_sender_acked(
     rows: &mut [SctpAcked],
     count: &mut usize,
 ) -> u32
-    ensures codes { (result ≡ 0) ⊎ (16 ≤ result) }
+    ensures codes { (result ≡ 0) ⊎ ((result ≡ 2) ⊎ (16 ≤ result)) }
     ensures ok { result ≡ 0 → TakesSack chunk.now rows.old rows.new count.new
         sender.old.value sender.new.value }
+    ensures stale { result ≡ 2 → IsStale chunk.now sender.old.value × (count.new ≡ 0) }
     ensures short { result ≡ 17 → (length rows.old < count.new)
         × (count.new ≡ length sender.old.value.flight.queue.inflight.chunks) }
     ensures refused { result ≢ 0 → (sender.new.value ≡ sender.old.value) × (rows.new ≡ rows.old) }
@@ -147,18 +194,47 @@ pub extern "C" fn sctp_sender_acked(
         *count = most;
         return SCTP_SHORT_BUFFER;
     }
-    let sack = match sack_in(alloc, chunk) {
-        Ok(sack) => sack,
-        Err(e) => return of_error(e),
-    };
-    match own.acked(&sack) {
-        Ok(released) => {
-            fill_acked(rows, &released);
-            *count = released.len();
-            SCTP_OK
-        }
-        Err(e) => of_sender(e),
+    match sack_in(alloc, chunk) {
+        Ok(sack) => take_sack(own, &sack, rows, count),
+        Err(e) => of_error(e),
     }
+}
+
+/// Takes the Cumulative TSN Ack of a SHUTDOWN (RFC 4960 3.3.8, 9.2), as `sctp_sender_acked` takes a SACK with this TSN and no gap ack
+/// blocks: rows, `count` and refusals are as there. Nothing is taken back by it, as a SHUTDOWN can't tell of gaps (3.3.8).
+#[unsafe(no_mangle)]
+pub extern "C" fn sctp_sender_acked_up_to(
+    alloc: Global,
+    sender: &mut SctpSender,
+    tsn: u32,
+    rows: &mut [SctpAcked],
+    count: &mut usize,
+) -> u32
+    ensures codes { (result ≡ 0) ⊎ ((result ≡ 2) ⊎ (16 ≤ result)) }
+    ensures ok { result ≡ 0 → Takes (up_to tsn) rows.old rows.new count.new
+        sender.old.value sender.new.value }
+    ensures stale { result ≡ 2 → (is_outdated (up_to tsn) sender.old.value.flight ≡ true)
+        × (count.new ≡ 0) }
+    ensures short { result ≡ 17 → (length rows.old < count.new)
+        × (count.new ≡ length sender.old.value.flight.queue.inflight.chunks) }
+    ensures refused { result ≢ 0 → (sender.new.value ≡ sender.old.value) × (rows.new ≡ rows.old) }
+    ensures reason { 16 ≤ result → result ≢ 17
+        → result ≡ sender_code_for (sack_refusal (up_to tsn) sender.old.value.flight) }
+    ensures kept { 16 ≤ result → result ≢ 17 → count.new ≡ count.old }
+{
+    let own = sender.get_mut();
+    let most = own.chunks_in_flight();
+    if rows.len() < most {
+        *count = most;
+        return SCTP_SHORT_BUFFER;
+    }
+    let sack = ChunkSelectiveAck {
+        cumulative_tsn_ack: tsn,
+        advertised_receiver_window_credit: 0,
+        gap_ack_blocks: Vec::new(alloc),
+        duplicate_tsn: Vec::new(alloc),
+    };
+    take_sack(own, &sack, rows, count)
 }
 
 /// From here on the user data of each chunk that a gap ack block reports is kept until the cumulative TSN passes it, so that
@@ -177,9 +253,9 @@ pub extern "C" fn sctp_sender_keep_reported(sender: &mut SctpSender) -> u32
 }
 
 /// Takes back what a SACK, of which these are the bytes, no longer reports (RFC 4960 6.2.1 D iv): such a chunk is outstanding again, with
-/// its bytes. Call it before `sctp_sender_acked` with the same SACK. `count` becomes how many chunks come back, and the first so many
-/// `rows` tell of them, in the order of their TSNs. The refusals are those of `sctp_sender_acked`, and `SCTP_QUEUE_FULL`, where all bytes
-/// would be more than the greatest `size_t`.
+/// its bytes. Call it before `sctp_sender_acked` with the same SACK. `SCTP_OK`: `count` becomes how many chunks come back, and the first so
+/// many `rows` tell of them, in the order of their TSNs; none, where the sender does not keep what is reported. `SCTP_STALE` and the
+/// refusals are those of `sctp_sender_acked`; and `SCTP_QUEUE_FULL`, where all bytes would be more than the greatest `size_t`.
 #[unsafe(no_mangle)]
 pub extern "C" fn sctp_sender_take_back(
     alloc: Global,
@@ -188,9 +264,10 @@ pub extern "C" fn sctp_sender_take_back(
     rows: &mut [SctpTakenBack],
     count: &mut usize,
 ) -> u32
-    ensures codes { (result ≡ 0) ⊎ (16 ≤ result) }
+    ensures codes { (result ≡ 0) ⊎ ((result ≡ 2) ⊎ (16 ≤ result)) }
     ensures ok { result ≡ 0 → TakesBack chunk.now rows.old rows.new count.new
         sender.old.value sender.new.value }
+    ensures stale { result ≡ 2 → IsStale chunk.now sender.old.value × (count.new ≡ 0) }
     ensures short { result ≡ 17 → (length rows.old < count.new)
         × (count.new ≡ length sender.old.value.flight.queue.inflight.chunks) }
     ensures refused { result ≢ 0 → (sender.new.value ≡ sender.old.value) × (rows.new ≡ rows.old) }
@@ -208,6 +285,10 @@ pub extern "C" fn sctp_sender_take_back(
         Ok(sack) => sack,
         Err(e) => return of_error(e),
     };
+    if is_stale(own, &sack) {
+        *count = 0;
+        return SCTP_STALE;
+    }
     match own.take_back(&sack) {
         Ok(told) => {
             fill_taken_back(rows, &told);

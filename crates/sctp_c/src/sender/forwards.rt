@@ -1,22 +1,45 @@
 //! FORWARD-TSN chunks that are to be sent (RFC 3758 3.2, 3.5).
 
-ghost use Rattle.std.specs.Prelude.{◌≡◌, ◌≢◌, ◌<◌, ◌≤◌, ◌⊎◌, ℕ, None, length, true};
-ghost use Rattle.sctp_c.specs.Forwards.{WritesForwardTo, WritesForwardTsn, forward_tsn_room};
-ghost use Rattle.sctp_sender.specs.Abandonment.{IsTooLong, is_end, skip_end};
+ghost use Rattle.std.specs.Prelude.{◌≡◌, ◌≢◌, ◌≤◌, ◌⊎◌, None};
+ghost use Rattle.sctp_c.specs.Forwards.{IsWanted, WantsForwardTo, WantsForwardTsn, WritesForwardTo, WritesForwardTsn};
+ghost use Rattle.sctp_sender.specs.Abandonment.{advanced_ack_point, skip_end};
 
 use super::SctpSender;
 use crate::bytes_out::put_padded;
-use crate::code::{SCTP_NOTHING, SCTP_OK, of_error, of_sender};
+use crate::code::{SCTP_NOTHING, SCTP_OK, SCTP_SHORT_BUFFER, of_error, of_sender};
 use crate::fills::put_bytes;
 use sctp_chunks::chunk::Chunk;
+use sctp_sender::sender::Sender;
 use std::alloc::Global;
 
 /// The greatest length of a FORWARD-TSN chunk, in bytes: a multiple of four that two bytes declare.
 pub const MAX_FORWARD_TSN_SIZE: usize = 65_532;
 
+/// The greatest number of streams that a FORWARD-TSN chunk names.
+pub const MAX_NAMES: usize = 16_381;
+
+// Where none fits the buffer: whether there is one to be sent, and how many bytes are wanted.
+fn want_forward_tsn(own: &Sender, written: &mut usize) -> u32
+    ensures codes { (result ≡ 3) ⊎ ((result ≡ 16) ⊎ (result ≡ 17)) }
+    ensures nothing { result ≡ 3 → skip_end (advanced_ack_point own.now.flight) own.now.flight ≡ None }
+    ensures short { result ≡ 17 → IsWanted written.new own.now.flight }
+    ensures kept { result ≢ 17 → written.new ≡ written.old }
+{
+    match own.forward_tsn() {
+        Ok(Some(whole)) => {
+            let names = whole.streams.len().min(MAX_NAMES);
+            *written = 8 + 4 * names;
+            SCTP_SHORT_BUFFER
+        }
+        Ok(None) => SCTP_NOTHING,
+        Err(e) => of_sender(e),
+    }
+}
+
 /// Writes the FORWARD-TSN that is to be sent to the front of the buffer (RFC 3758 3.5 C3, C4): up to the advanced ack point, or as far as
-/// its names fit the buffer. `written` becomes its length, a multiple of four. `SCTP_NOTHING`: there is nothing to tell, or nothing that
-/// fits. Refuses with `SCTP_NO_MEMORY`. `out` and `written` stay, but with `SCTP_OK`.
+/// its names fit the buffer. `written` becomes its length, a multiple of four. `SCTP_NOTHING`: there is nothing to tell. Refuses with
+/// `SCTP_SHORT_BUFFER`, where nothing of it fits: `written` becomes the length of all of it then, or the greatest one that a chunk may
+/// have; and with `SCTP_NO_MEMORY`. `out` stays, but with `SCTP_OK`.
 #[unsafe(no_mangle)]
 pub extern "C" fn sctp_sender_forward_tsn(
     alloc: Global,
@@ -27,16 +50,20 @@ pub extern "C" fn sctp_sender_forward_tsn(
     ensures codes { (result ≡ 0) ⊎ ((result ≡ 3) ⊎ (16 ≤ result)) }
     ensures ok { result ≡ 0 → WritesForwardTsn out.old out.new written.new
         sender.old.value.flight }
-    ensures nothing { result ≡ 3 → (t : ℕ) → is_end t sender.old.value.flight ≡ true
-        → IsTooLong (forward_tsn_room out.old) t sender.old.value.flight }
-    ensures memory { 16 ≤ result → result ≡ 16 }
+    ensures nothing { result ≡ 3
+        → skip_end (advanced_ack_point sender.old.value.flight) sender.old.value.flight ≡ None }
+    ensures short { result ≡ 17
+        → WantsForwardTsn out.old written.new sender.old.value.flight }
+    ensures reason { 16 ≤ result → (result ≡ 16) ⊎ (result ≡ 17) }
     ensures same { sender.new.value ≡ sender.old.value }
-    ensures kept { result ≢ 0 → (out.new ≡ out.old) × (written.new ≡ written.old) }
+    ensures kept { result ≢ 0 → out.new ≡ out.old }
+    ensures untold { result ≢ 0 → result ≢ 17 → written.new ≡ written.old }
 {
+    let own = sender.get_mut();
     let room = out.len().min(MAX_FORWARD_TSN_SIZE);
-    let chunk = match sender.get_mut().forward_tsn_within(room) {
+    let chunk = match own.forward_tsn_within(room) {
         Ok(Some(chunk)) => chunk,
-        Ok(None) => return SCTP_NOTHING,
+        Ok(None) => return want_forward_tsn(own, written),
         Err(e) => return of_sender(e),
     };
     match chunk.marshal(alloc) {
@@ -65,10 +92,12 @@ pub extern "C" fn sctp_sender_forward_tsn_to(
     ensures ok { result ≡ 0 → WritesForwardTo tsn out.old out.new written.new
         sender.old.value.flight }
     ensures nothing { result ≡ 3 → skip_end tsn sender.old.value.flight ≡ None }
-    ensures short { result ≡ 17 → length out.old < written.new }
+    ensures short { result ≡ 17
+        → WantsForwardTo tsn out.old written.new sender.old.value.flight }
     ensures reason { 16 ≤ result → (result ≡ 16) ⊎ ((result ≡ 17) ⊎ (result ≡ 19)) }
     ensures same { sender.new.value ≡ sender.old.value }
     ensures kept { result ≢ 0 → out.new ≡ out.old }
+    ensures untold { result ≢ 0 → result ≢ 17 → written.new ≡ written.old }
 {
     let chunk = match sender.get_mut().forward_tsn_to(tsn) {
         Ok(Some(chunk)) => chunk,

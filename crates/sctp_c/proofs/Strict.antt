@@ -1,0 +1,55 @@
+-- What the strict reading of a packet reads, the reading past unknown chunks reads too.
+use Rattle.std.proofs.Common.{◌≡◌, ℕ, ◌+◌, Bool, true, false, List, [], ◌∷◌, refl, sym, subst, ap, inl, drop}
+use Rattle.std.specs.Prelude.{not, ◌&&◌, nat_lt}
+use Rattle.std.proofs.lemmas.List.{drop-drop}
+use Rattle.sctp_base.specs.Padding.{padded_length}
+use Rattle.sctp_base.specs.Walk.{Walks}
+use Rattle.sctp_chunks.specs.Framing.{declared_length, type_at}
+use Rattle.sctp_chunks.specs.Init.{ack_type}
+use Rattle.sctp_chunks.specs.Wire.{Wire, data_chunk, init_chunk, sack_chunk, heartbeat_chunk, heartbeat_ack_chunk, abort_chunk, shutdown_chunk, shutdown_ack_chunk, error_chunk, cookie_echo_chunk, cookie_ack_chunk, shutdown_complete_chunk, reconfig_chunk, forward_tsn_chunk, i_forward_tsn_chunk, type_of}
+use Rattle.sctp_packets.specs.Packet.{Steps, after}
+use Rattle.sctp_c.specs.AnyChunks.{IsThere, Passes, TellsAll, any_chunk_at, is_read_type, is_stopping}
+use Rattle.sctp_c.specs.declared.packet.any.SctpAnyChunk.{SctpAnyChunk}
+
+ack-read : (b : Bool) → is_read_type (ack_type b) ≡ true
+ack-read true = refl
+ack-read false = refl
+
+-- the types of chunks that are read
+read-type : (w : Wire) → is_read_type (type_of w) ≡ true
+read-type (data_chunk d) = refl
+read-type (init_chunk i) = ack-read i.is_ack
+read-type (sack_chunk s) = refl
+read-type (heartbeat_chunk ps) = refl
+read-type (heartbeat_ack_chunk ps) = refl
+read-type (abort_chunk cs) = refl
+read-type (shutdown_chunk n) = refl
+read-type shutdown_ack_chunk = refl
+read-type (error_chunk cs) = refl
+read-type (cookie_echo_chunk b) = refl
+read-type cookie_ack_chunk = refl
+read-type shutdown_complete_chunk = refl
+read-type (reconfig_chunk r) = refl
+read-type (forward_tsn_chunk f) = refl
+read-type (i_forward_tsn_chunk f) = refl
+
+-- none of them stops the reading
+goes-on-behind : (bytes : List ℕ) (w : Wire) → Steps bytes w → is_stopping (type_at bytes) ≡ false
+goes-on-behind bytes w step =
+    let known : is_read_type (type_at bytes) ≡ true = subst (λ (t : ℕ). is_read_type t ≡ true) (sym step.chunk.typ) (read-type w) in
+    ap (λ (b : Bool). not b && nat_lt (type_at bytes) 128) known
+
+pub strict-passes : (packet : List ℕ) (at : ℕ) (ws : List Wire) → Walks Steps after (drop at packet) ws []
+    → (rows : List SctpAnyChunk) × (end : ℕ) × Passes packet at rows end × (drop end packet ≡ [])
+unfolding Walks after
+strict-passes packet at [] walk = ([], at, refl, walk)
+strict-passes packet at (w ∷ ws) walk =
+    let next = at + padded_length (declared_length (drop at packet)) in
+    let there : IsThere (drop at packet) = record { is_framed = walk.0.chunk.is_framed; whole = walk.0.whole; reads = λ _. (w, walk.0.chunk) } in
+    let later = strict-passes packet next ws (subst (λ (b : List ℕ). Walks Steps after b ws []) (drop-drop (padded_length (declared_length (drop at packet))) at packet) walk.1) in
+    (any_chunk_at packet at ∷ later.0, later.1, (refl, there, goes-on-behind (drop at packet) w walk.0, later.2), later.3)
+
+pub strict-told : (packet : List ℕ) (ws : List Wire) → Walks Steps after (drop 12 packet) ws [] → (rows : List SctpAnyChunk) × TellsAll packet rows
+strict-told packet ws walk =
+    let all = strict-passes packet 12 ws walk in
+    (all.0, record { passed = all.0; end = all.1; passes = all.2; ended = inl (all.3, refl) })
