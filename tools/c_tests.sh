@@ -1,8 +1,12 @@
 #!/bin/sh
-# Builds the static library for C, where its crate is proved, and runs the tests in C on it, with sanitizers and an allocator that refuses,
-# and the example of examples/c.
-# The last line is 'N passed, M failed'; the status is 0 where nothing failed. It needs the kit's command rt, gcc and g++, or the
-# CC and CXX given.
+# Builds the static library for C, where its crate is proved, installs it into a folder of its own, and runs on it
+#   - the tests in C, with sanitizers and an allocator that refuses, and eight million calls in any order
+#   - the endpoints of examples/c: with one another, and with usrsctp
+#   - the wrappers for C++, Rust and Go: their tests, and the echo, which prints the same in each
+# The last line is 'N passed, M failed'; the status is 0 where nothing failed. It needs the kit's command rt, gcc and g++, or the CC and CXX
+# given. What else it asks for are Debian's packages libusrsctp-dev, valgrind, golang-go, make and pkgconf: as root it installs those that
+# are missing, unless C_TESTS_INSTALL=no. Where one can't be had, and where there is no cargo, a line that begins with 'left out:' says
+# what is not run; that is no failure.
 set -eu
 cd "$(dirname "$0")/.."
 CC=${CC:-gcc}
@@ -10,20 +14,87 @@ CXX=${CXX:-g++}
 KIT=$(dirname "$(dirname "$(readlink -f "$(command -v rt)")")")
 BUILD=$(mktemp -d)
 trap 'rm -rf "$BUILD"' EXIT
-(cd crates/sctp_c && rt lib) >"$BUILD/lib.log" 2>&1 || { tail -20 "$BUILD/lib.log"; echo "0 passed, 1 failed"; exit 1; }
-ARCHIVE=crates/sctp_c/out/libsctp_c.a
-sed -n '/^typedef uint32_t sctp_code;/,/^};/s/^    \(SCTP_[A-Z0-9_]*\) = [0-9]*,*$/ROW(\1)/p' include/sctp.h >"$BUILD/codes.inc"
+PREFIX=$BUILD/prefix
+export PKG_CONFIG_PATH="$PREFIX/lib/pkgconfig"
 passed=0
 failed=0
 
-# The header is C++ too, and the kit's memory calls serve.
 try() {
     if "$@"; then passed=$((passed + 1)); else failed=$((failed + 1)); fi
 }
+
+# The same for what prints much: its output is shown where it fails.
+quietly() {
+    if "$@" >"$BUILD/quiet.log" 2>&1; then return 0; fi
+    cat "$BUILD/quiet.log"
+    return 1
+}
+
+leave_out() {
+    echo "left out: $1, since $2"
+}
+
+# ---- Packages ----------------------------------------------------------------------------------------------------------------
+
+may_install=${C_TESTS_INSTALL:-yes}
+if [ "$(id -u)" != 0 ] || ! command -v apt-get >/dev/null; then may_install=no; fi
+is_updated=no
+
+apt_get() {
+    timeout 180 env DEBIAN_FRONTEND=noninteractive apt-get -o Acquire::Retries=1 -o Acquire::http::Timeout=20 "$@" >>"$BUILD/apt.log" 2>&1
+}
+
+# Whether a package is there: the command behind its name says so. It is installed where it is not, at the second try at the latest.
+has() {
+    package=$1
+    shift
+    for attempt in 1 2; do
+        if "$@" >/dev/null 2>&1; then return 0; fi
+        if [ "$may_install" = no ]; then return 1; fi
+        if [ "$is_updated" = no ] && ! apt_get update && ! apt_get update; then
+            may_install=no
+            return 1
+        fi
+        is_updated=yes
+        apt_get install -y --no-install-recommends "$package" || true
+    done
+    "$@" >/dev/null 2>&1
+}
+has libusrsctp-dev test -e /usr/include/usrsctp.h && usrsctp=yes || usrsctp=no
+has valgrind command -v valgrind && valgrind=yes || valgrind=no
+has golang-go command -v go && go=yes || go=no
+has make command -v make && make=yes || make=no
+has pkgconf command -v pkg-config && pkg_config=yes || pkg_config=no
+
+# ---- The library -------------------------------------------------------------------------------------------------------------
+
+(cd crates/sctp_c && rt lib) >"$BUILD/lib.log" 2>&1 || { tail -20 "$BUILD/lib.log"; echo "0 passed, 1 failed"; exit 1; }
+ARCHIVE=crates/sctp_c/out/libsctp_c.a
+sed -n '/^typedef uint32_t sctp_code;/,/^};/s/^    \(SCTP_[A-Z0-9_]*\) = [0-9]*,*$/ROW(\1)/p' include/sctp.h >"$BUILD/codes.inc"
+
+# usrsctp takes two minutes; the rest goes on meanwhile.
+if [ "$usrsctp" = yes ]; then
+    tools/interop.sh 5 14000 1 >"$BUILD/interop.log" 2>&1 &
+    interop=$!
+fi
+
+# The header is C++ too, and the kit's memory calls serve.
 try "$CXX" -std=c++11 -Wall -Wextra -Werror -pedantic -fsyntax-only -x c++ include/sctp.h
 printf '#include "sctp.h"\nint main(void) { size_t n; uint8_t out[4]; return (int)sctp_write_chunk(SCTP_COOKIE_ACK, NULL, 0, out, 4, &n); }\n' >"$BUILD/one.c"
 try $CC -std=c99 -Iinclude "$BUILD/one.c" "$ARCHIVE" "$KIT/c/liblibc_c.a" -o "$BUILD/one"
 try "$BUILD/one"
+
+# Takes a test's counts from its log's line 'NAME: N passed, M failed'.
+count() {
+    cat "$BUILD/$1.log"
+    counts=$(sed -n "s/^$1: \([0-9]*\) passed, \([0-9]*\) failed\$/\1 \2/p" "$BUILD/$1.log")
+    if [ -z "$counts" ]; then
+        failed=$((failed + 1))
+        return
+    fi
+    passed=$((passed + ${counts% *}))
+    failed=$((failed + ${counts#* }))
+}
 
 for test in c_tests/*.c; do
     name=$(basename "$test" .c)
@@ -34,15 +105,16 @@ for test in c_tests/*.c; do
         continue
     fi
     "$BUILD/$name" >"$BUILD/$name.log" 2>&1 || true
-    cat "$BUILD/$name.log"
-    counts=$(sed -n "s/^$name: \([0-9]*\) passed, \([0-9]*\) failed\$/\1 \2/p" "$BUILD/$name.log")
-    if [ -z "$counts" ]; then
-        failed=$((failed + 1))
-        continue
-    fi
-    passed=$((passed + ${counts% *}))
-    failed=$((failed + ${counts#* }))
+    count "$name"
 done
+
+# The archive is not compiled with a sanitizer: valgrind sees what it reads and writes.
+if [ "$valgrind" = yes ]; then
+    try $CC -std=c99 -g -O1 -Iinclude c_tests/any_calls.c c_tests/memory.c "$ARCHIVE" -o "$BUILD/any_calls_plain"
+    try quietly valgrind -q --error-exitcode=1 --leak-check=full "$BUILD/any_calls_plain" 400000 2 exact
+else
+    leave_out "any calls under valgrind" "there is no valgrind"
+fi
 
 # Two endpoints over a network that loses, repeats, delays and damages; each of three runs is a test.
 if $CC -std=c99 -Wall -Wextra -Werror -pedantic -g -O1 -fsanitize=address,undefined -Iinclude examples/c/*.c c_tests/memory.c "$ARCHIVE" \
@@ -58,6 +130,98 @@ if $CC -std=c99 -Wall -Wextra -Werror -pedantic -g -O1 -fsanitize=address,undefi
     done
 else
     failed=$((failed + 1))
+fi
+
+# ---- Installed ---------------------------------------------------------------------------------------------------------------
+
+# What the wrappers repeat of the header, versions too, is what it says.
+try python3 tools/c_bindings.py --check
+
+# Whether a program prints the line of the echo in C.
+prints_echo() {
+    "$@" >"$BUILD/echo.out" && cmp "$BUILD/echo.out" "$BUILD/echo.want"
+}
+
+# Whether pkg-config tells the header's version.
+tells_version() {
+    told=$(pkg-config --modversion sctp-rattle)
+    [ "$told" = "$(sed -n 's/^.define SCTP_VERSION_[A-Z]* \([0-9]*\)$/\1/p' include/sctp.h | paste -sd .)" ]
+}
+
+# Whether nothing is left of the install.
+is_gone() {
+    [ -z "$(find "$PREFIX" -type f)" ]
+}
+
+try_cpp() {
+    flags=$(pkg-config --cflags --libs sctp-rattle)
+    # shellcheck disable=SC2086
+    if $CXX -std=c++20 -Wall -Wextra -Werror -pedantic -fno-exceptions -g -O1 -fsanitize=address,undefined c_tests/wrapper.cpp $flags \
+        -o "$BUILD/wrapper"; then
+        "$BUILD/wrapper" >"$BUILD/wrapper.log" 2>&1 || true
+        count wrapper
+    else
+        failed=$((failed + 1))
+    fi
+    # shellcheck disable=SC2086
+    try $CXX -std=c++20 -Wall -Wextra -Werror -pedantic -O2 examples/echo/echo.cpp $flags -o "$BUILD/echo_cpp"
+    try prints_echo "$BUILD/echo_cpp"
+}
+
+try_rust() {
+    export CARGO_TARGET_DIR="$BUILD/target"
+    manifest=wrappers/rust/Cargo.toml
+    try quietly cargo test -q --offline --manifest-path "$manifest"
+    try quietly cargo build -q --offline --no-default-features -p sctp-rattle --manifest-path "$manifest"
+    try quietly cargo build -q --offline --examples --manifest-path "$manifest"
+    try prints_echo "$BUILD/target/debug/examples/echo"
+}
+
+try_go() {
+    export GOCACHE="$BUILD/go" GOFLAGS=-mod=mod GOPROXY=off
+    try quietly env -C wrappers/go go vet ./...
+    try quietly env -C wrappers/go go test ./...
+    try quietly env -C wrappers/go go build -o "$BUILD/echo_go" ./echo
+    try prints_echo "$BUILD/echo_go"
+}
+
+try_installed() {
+    flags=$(pkg-config --cflags --libs sctp-rattle)
+    try tells_version
+    # shellcheck disable=SC2086
+    try $CC -std=c99 -Wall -Wextra -Werror -O2 examples/echo/echo.c $flags -o "$BUILD/echo"
+    try "$BUILD/echo"
+    "$BUILD/echo" >"$BUILD/echo.want" || true
+    # a program's own memory calls go before those of the archive
+    # shellcheck disable=SC2086
+    try $CC -std=c99 c_tests/halves.c c_tests/memory.c $flags -o "$BUILD/own_memory"
+    try quietly "$BUILD/own_memory"
+    try_cpp
+    if command -v cargo >/dev/null; then try_rust; else leave_out "the wrapper for Rust" "there is no cargo"; fi
+    if [ "$go" = yes ]; then try_go; else leave_out "the wrapper for Go" "there is no go"; fi
+    try quietly make uninstall PREFIX="$PREFIX" OUT="$BUILD/out"
+    try is_gone
+}
+
+if [ "$make" = no ] || [ "$pkg_config" = no ]; then
+    leave_out "what is installed, and the wrappers" "there is no make or no pkg-config"
+elif quietly make install PREFIX="$PREFIX" OUT="$BUILD/out" CC="$CC"; then
+    try_installed
+else
+    failed=$((failed + 1))
+fi
+
+# ---- usrsctp -----------------------------------------------------------------------------------------------------------------
+
+# Each of the five runs is a test.
+if [ "$usrsctp" = yes ]; then
+    wait "$interop" || true
+    cat "$BUILD/interop.log"
+    good=$(grep -c '^usrsctp: .* 0 faults' "$BUILD/interop.log" || true)
+    passed=$((passed + good))
+    failed=$((failed + 5 - good))
+else
+    leave_out "the exchange with usrsctp" "there is no libusrsctp-dev"
 fi
 echo "$passed passed, $failed failed"
 [ "$failed" -eq 0 ]

@@ -1,18 +1,18 @@
 #!/bin/sh
-# Builds c_tests/interop on the static library, and lets the endpoint of examples/c and usrsctp exchange messages: RUNS runs of SECONDS
-# each, with seeds from SEED on.
+# Builds c_tests/interop on the static library, and lets the endpoint of examples/c and usrsctp exchange messages: RUNS runs that write for
+# TICKS ticks of 10 ms each, in no real time, with seeds from SEED on.
 #
-#     tools/interop.sh [RUNS] [SECONDS] [SEED]
+#     tools/interop.sh [RUNS] [TICKS] [SEED]
 #
-# It needs Debian's package libusrsctp-dev, gcc or the CC given, and the archive crates/sctp_c/out/libsctp_c.a, which 'rt lib' writes. It
-# is run by hand: the gate has no such package. The last line sums the runs up; the status is 0 where no fault was found.
+# It needs Debian's package libusrsctp-dev, gcc or the CC given, and the archive crates/sctp_c/out/libsctp_c.a, which 'rt lib' writes.
+# tools/c_tests.sh runs it, five short runs; longer ones are run by hand. A seed's run is the same each time. The last line sums the runs
+# up; the status is 0 where no fault was found.
 set -eu
 cd "$(dirname "$0")/.."
 CC=${CC:-gcc}
-RUNS=${1:-6}
-SECONDS_EACH=${2:-10}
+RUNS=${1:-5}
+TICKS=${2:-10000}
 SEED=${3:-1}
-KIT=$(dirname "$(dirname "$(readlink -f "$(command -v rt)")")")
 BUILD=$(mktemp -d)
 trap 'rm -rf "$BUILD"' EXIT
 ARCHIVE=crates/sctp_c/out/libsctp_c.a
@@ -21,19 +21,21 @@ ARCHIVE=crates/sctp_c/out/libsctp_c.a
 build() {
     name=$1
     shift
-    $CC -std=gnu99 -Wall -Wextra -Werror -pedantic -O2 -Iinclude -Iexamples/c "$@" examples/c/endpoint.c examples/c/network.c "$ARCHIVE" \
-        "$KIT/c/liblibc_c.a" -l:libusrsctp.a -lpthread -o "$BUILD/$name"
+    $CC -std=gnu99 -Wall -Wextra -Werror -pedantic -O2 -Iinclude -Iexamples/c "$@" examples/c/endpoint.c examples/c/network.c \
+        packaging/memory.c "$ARCHIVE" -l:libusrsctp.a -lpthread -o "$BUILD/$name"
 }
-build usrsctp c_tests/interop/usrsctp.c c_tests/interop/legal.c examples/c/messages.c
+build usrsctp c_tests/interop/usrsctp.c c_tests/interop/legal.c examples/c/messages.c -Wl,--wrap=read_random
 build usrsctp_abort c_tests/interop/usrsctp_abort.c
 "$BUILD/usrsctp_abort" || true
 
-# Two runs at 2 % loss, one at 10 %, and one with messages of one and of several chunks mixed, and so on.
+# By the seed two runs at 2 % loss, one at 10 %, one with messages of one and of several chunks mixed, and one whose stream sequence numbers
+# pass 65,535.
 one() {
-    case $(($1 % 4)) in
-    2) "$BUILD/usrsctp" "$1" "$SECONDS_EACH" 1000 200 1000 50 ;;
-    3) "$BUILD/usrsctp" "$1" "$SECONDS_EACH" 200 100 500 20 mixed ;;
-    *) "$BUILD/usrsctp" "$1" "$SECONDS_EACH" 200 100 500 20 ;;
+    case $(($1 % 5)) in
+    2) "$BUILD/usrsctp" "$1" "$TICKS" 1000 200 1000 50 ;;
+    3) "$BUILD/usrsctp" "$1" "$TICKS" 200 100 500 20 mixed ;;
+    4) "$BUILD/usrsctp" "$1" $((TICKS > 20000 ? TICKS : 20000)) 200 100 500 20 short ;;
+    *) "$BUILD/usrsctp" "$1" "$TICKS" 200 100 500 20 ;;
     esac
 }
 failed=0

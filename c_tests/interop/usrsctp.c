@@ -2,12 +2,13 @@
  * and damages datagrams. Each message that is read is compared, byte for byte, with what was written; of the reliable streams each has to
  * come.
  *
- *     usrsctp [seed] [seconds] [lost repeated late damaged, each of 10,000 datagrams] [mixed]
+ *     usrsctp [seed] [ticks] [lost repeated late damaged, each of 10,000 datagrams] [mixed | short]
  *
- * It writes for so many seconds, then waits until all came, and shuts down. By the seed our side connects, or usrsctp, or both. With
- * `mixed` an unordered stream has messages of one chunk and of several: usrsctp 0.9.5.0 then may abort over legal chunks, which is no
- * fault of ours; legal.c looks at every chunk that we send. The last line says how many messages came and how many faults there were; the
- * status is 0 where there was none, and 3 where usrsctp aborted so. */
+ * It writes for so many ticks of 10 ms, in no real time, then waits until all came, and shuts down. By the seed our side connects, or
+ * usrsctp, or both; a seed's run is the same each time. With `mixed` an unordered stream has messages of one chunk and of several: usrsctp
+ * 0.9.5.0 then may abort over legal chunks, which is no fault of ours; legal.c looks at every chunk that we send. With `short` messages
+ * have under 64 bytes, and enough of them are written that stream sequence numbers pass 65,535 within 20,000 ticks. The last line says how
+ * many messages came and how many faults there were; the status is 0 where there was none, and 3 where usrsctp aborted so. */
 #include "endpoint.h"
 #include "legal.h"
 #include "messages.h"
@@ -19,17 +20,16 @@
 #include <string.h>
 #include <sys/socket.h>
 #include <sys/time.h>
-#include <time.h>
 #include <usrsctp.h>
 
-enum { TICK_MS = 10, OURS = 0, THEIRS = 1, WRITES = 20 };
+enum { TICK_MS = 10, OURS = 0, THEIRS = 1, WRITES = 20, SHORT_WRITES = 80 };
 /* What usrsctp says where it aborts over legal chunks. */
 static const char own_abort[] = "Illegal message sequence, missing end for MID";
 
 static struct network network;
 static struct endpoint endpoint;
 static struct socket *listener, *theirs;
-static int is_mixed;
+static int is_mixed, is_short;
 
 static uint64_t now(void) { return (network.tick + 1) * TICK_MS * 1000000; }
 
@@ -42,6 +42,20 @@ int gettimeofday(struct timeval *restrict t, void *restrict zone) {
     return 0;
 }
 
+/* The random numbers that usrsctp asks for, by the linker's --wrap: drawn by a seed, so that a run is the same each time. */
+static uint64_t their_random;
+int __wrap_read_random(void *bytes, int length);
+int __wrap_read_random(void *bytes, int length) {
+    for (int i = 0; i < length; i++) ((uint8_t *)bytes)[i] = (uint8_t)random_next(&their_random);
+    return length;
+}
+
+static int writes_a_tick(void) { return is_short ? SHORT_WRITES : WRITES; }
+
+static uint32_t a_length(int stream, int separate) {
+    return is_short ? 8 + (uint32_t)(random_next(&message_random) % 56) : message_length(stream, separate);
+}
+
 /* ---- Our side -------------------------------------------------------------------------------------------------------------- */
 
 static void our_output(void *context, const uint8_t *packet, size_t length) {
@@ -52,12 +66,12 @@ static void our_output(void *context, const uint8_t *packet, size_t length) {
 
 static void we_write(void) {
     static uint8_t message[MAX_MESSAGE];
-    for (int i = 0; i < WRITES && sctp_sender_pending(&endpoint.sender) < 2000; i++) {
+    for (int i = 0; i < writes_a_tick() && sctp_sender_pending(&endpoint.sender) < 2000; i++) {
         int stream = (int)(random_next(&message_random) % STREAMS);
         size_t amount = 0;
         sctp_sender_buffered_amount(&endpoint.sender, (uint16_t)stream, &amount);
         if (amount > 1 << 20) continue;
-        uint32_t length = message_length(stream, !is_mixed);
+        uint32_t length = a_length(stream, !is_mixed);
         message_fill(message, length, OURS, stream, channels[OURS][stream].written);
         sctp_code code = endpoint_write(&endpoint, (uint16_t)stream, SCTP_PPID_BINARY, message, length);
         if (code != SCTP_OK) fault("a write is refused with %u", (unsigned)code);
@@ -141,10 +155,10 @@ static void they_write(void) {
     static uint8_t message[MAX_MESSAGE];
     static int stream = -1;
     static uint32_t length;
-    for (int i = 0; i < WRITES; i++) {
+    for (int i = 0; i < writes_a_tick(); i++) {
         if (stream < 0) {
             stream = (int)(random_next(&message_random) % STREAMS);
-            length = message_length(stream, 0);
+            length = a_length(stream, 0);
         }
         struct sctp_sendv_spa info = send_info(stream);
         message_fill(message, length, THEIRS, stream, channels[THEIRS][stream].written);
@@ -218,12 +232,6 @@ static void one_tick(void) {
     endpoint_poll(&endpoint, now());
 }
 
-static double seconds(void) {
-    struct timespec t;
-    clock_gettime(CLOCK_MONOTONIC, &t);
-    return (double)t.tv_sec + 1e-9 * (double)t.tv_nsec;
-}
-
 static void set_up_endpoint(void) {
     struct endpoint_config config = { 0 };
     config.port = 5001;
@@ -278,13 +286,12 @@ static int they_are_done(void) {
     return status.sstat_unackdata == 0 && status.sstat_penddata == 0;
 }
 
-static void exchange(double limit) {
-    double start = seconds();
+static void exchange(long ticks) {
     for (uint16_t i = 0; i < STREAMS; i++) {
         const struct mode *m = &modes[i];
         if (sctp_sender_set_mode(&endpoint.sender, i, m->unordered, m->reliability, m->value) != SCTP_OK) fault("mode %u", i);
     }
-    while (seconds() - start < limit && endpoint.state == ENDPOINT_ESTABLISHED && faults == 0) {
+    for (long i = 0; i < ticks && endpoint.state == ENDPOINT_ESTABLISHED && faults == 0; i++) {
         we_write();
         they_write();
         one_tick();
@@ -294,6 +301,8 @@ static void exchange(double limit) {
     /* what usrsctp may still skip */
     for (int i = 0; i < 500 && endpoint.state == ENDPOINT_ESTABLISHED; i++) one_tick();
     if (endpoint.state == ENDPOINT_ESTABLISHED && !is_done()) fault("not all came");
+    for (int i = 0; i < 2 * STREAMS && is_short; i++)
+        if (channels[i % 2][i / 2].written <= 65536) fault("direction %d, stream %d: too few messages", i % 2, i / 2);
     messages_forget(0);
 }
 
@@ -343,12 +352,14 @@ int main(int argc, char **argv) {
         rates.damaged = (uint32_t)atoi(argv[6]);
     }
     is_mixed = argc > 7 && strcmp(argv[7], "mixed") == 0;
+    is_short = argc > 7 && strcmp(argv[7], "short") == 0;
     message_random = seed * 0x9e3779b97f4a7c15ull | 1;
+    their_random = seed * 0xbf58476d1ce4e5b9ull | 1;
     network_init(&network, seed, rates);
     set_up_usrsctp();
     set_up_endpoint();
     connect_sides(seed);
-    if (faults == 0) exchange(argc > 2 ? atof(argv[2]) : 5);
+    if (faults == 0) exchange(argc > 2 ? atol(argv[2]) : 3000);
     if (faults == 0) shut_down(seed / 3 % 2);
     print_all();
     int is_own = is_own_abort();

@@ -1,0 +1,3 @@
+module sctprattle
+
+go 1.19

@@ -1,0 +1,320 @@
+package sctprattle
+
+/*
+#include <sctp.h>
+*/
+import "C"
+
+// A Head is a packet's header but for the checksum (RFC 4960 3.1).
+type Head struct {
+	VerificationTag             uint32
+	SourcePort, DestinationPort uint16
+}
+
+func (h Head) inC() C.struct_sctp_head {
+	return C.struct_sctp_head{
+		verification_tag: C.uint32_t(h.VerificationTag),
+		source_port:      C.uint16_t(h.SourcePort),
+		destination_port: C.uint16_t(h.DestinationPort),
+	}
+}
+
+// A Chunk is a chunk of a packet; Bytes are its header and value without padding, a part of the packet's, and what the functions and
+// methods take that take a chunk.
+type Chunk struct {
+	Type, Flags uint8
+	Bytes       []byte
+}
+
+// Value is what follows the header of four bytes.
+func (c Chunk) Value() []byte { return c.Bytes[4:] }
+
+// ReadPacket reads a packet under CRC-32C: header, checksum, and each of its chunks whole.
+func ReadPacket(packet []byte) (Head, []Chunk, error) {
+	return readPacket(packet, func(head *C.struct_sctp_head, rows *C.struct_sctp_chunk, room C.size_t, count *C.size_t) C.sctp_code {
+		at, length := bytesOf(packet)
+		return C.sctp_read_packet(at, length, head, rows, room, count)
+	})
+}
+
+// ReadPacketWithSum does the same under a sum that the caller took: of the first eight bytes, four zeros, and the bytes from the twelfth
+// on.
+func ReadPacketWithSum(packet []byte, sum uint32) (Head, []Chunk, error) {
+	return readPacket(packet, func(head *C.struct_sctp_head, rows *C.struct_sctp_chunk, room C.size_t, count *C.size_t) C.sctp_code {
+		at, length := bytesOf(packet)
+		return C.sctp_read_packet_with_sum(at, length, C.uint32_t(sum), head, rows, room, count)
+	})
+}
+
+func readPacket(packet []byte, read func(*C.struct_sctp_head, *C.struct_sctp_chunk, C.size_t, *C.size_t) C.sctp_code) (Head, []Chunk, error) {
+	// a chunk has four bytes or more, so that there is a row for each
+	rows := make([]C.struct_sctp_chunk, len(packet)/4+1)
+	var head C.struct_sctp_head
+	var count C.size_t
+	if err := errorOf(read(&head, &rows[0], C.size_t(len(rows)), &count), 0); err != nil {
+		return Head{}, nil, err
+	}
+	chunks := make([]Chunk, least(count, len(rows)))
+	for i := range chunks {
+		r := rows[i]
+		chunks[i] = Chunk{uint8(r._type), uint8(r.flags), packet[r.at : r.at+r.length]}
+	}
+	return Head{uint32(head.verification_tag), uint16(head.source_port), uint16(head.destination_port)}, chunks, nil
+}
+
+// An AnyChunk is a chunk of a type that may be unknown. Where Known is true it was read whole; where Reported is true its sender is to be
+// told of it: in an ERROR, by the cause 6 with the chunk as its value (RFC 4960 3.2, 3.3.10.6).
+type AnyChunk struct {
+	Chunk
+	Known, Reported bool
+}
+
+// ReadAnyPacket reads a packet under CRC-32C that may have chunks of unknown types.
+func ReadAnyPacket(packet []byte) (Head, []AnyChunk, error) {
+	return readAnyPacket(packet, func(head *C.struct_sctp_head, rows *C.struct_sctp_any_chunk, room C.size_t, count *C.size_t) C.sctp_code {
+		at, length := bytesOf(packet)
+		return C.sctp_read_any_packet(at, length, head, rows, room, count)
+	})
+}
+
+// ReadAnyPacketWithSum does the same under a sum that the caller took, as ReadPacketWithSum.
+func ReadAnyPacketWithSum(packet []byte, sum uint32) (Head, []AnyChunk, error) {
+	return readAnyPacket(packet, func(head *C.struct_sctp_head, rows *C.struct_sctp_any_chunk, room C.size_t, count *C.size_t) C.sctp_code {
+		at, length := bytesOf(packet)
+		return C.sctp_read_any_packet_with_sum(at, length, C.uint32_t(sum), head, rows, room, count)
+	})
+}
+
+func readAnyPacket(packet []byte, read func(*C.struct_sctp_head, *C.struct_sctp_any_chunk, C.size_t, *C.size_t) C.sctp_code) (Head, []AnyChunk, error) {
+	rows := make([]C.struct_sctp_any_chunk, len(packet)/4+1)
+	var head C.struct_sctp_head
+	var count C.size_t
+	if err := errorOf(read(&head, &rows[0], C.size_t(len(rows)), &count), 0); err != nil {
+		return Head{}, nil, err
+	}
+	chunks := make([]AnyChunk, least(count, len(rows)))
+	for i := range chunks {
+		r := rows[i]
+		chunks[i] = AnyChunk{Chunk{uint8(r._type), uint8(r.flags), packet[r.at : r.at+r.length]}, r.is_known != 0, r.is_reported != 0}
+	}
+	return Head{uint32(head.verification_tag), uint16(head.source_port), uint16(head.destination_port)}, chunks, nil
+}
+
+// Data is a DATA chunk (RFC 4960 3.3.1); UserData are a part of its bytes.
+type Data struct {
+	TSN, PayloadType                   uint32
+	Stream, Sequence                   uint16
+	Unordered, Begins, Ends, WantsSack bool
+	UserData                           []byte
+}
+
+// ReadData reads a DATA chunk.
+func ReadData(chunk []byte) (Data, error) {
+	at, length := bytesOf(chunk)
+	var d C.struct_sctp_data
+	if err := errorOf(C.sctp_read_data(at, length, &d), 0); err != nil {
+		return Data{}, err
+	}
+	return Data{
+		uint32(d.tsn), uint32(d.payload_type), uint16(d.stream), uint16(d.sequence),
+		d.is_unordered != 0, d.begins != 0, d.ends != 0, d.wants_sack != 0, chunk[16 : 16+d.length],
+	}, nil
+}
+
+// A Gap is a run of TSNs that came: the distances of its first and its last from the cumulative one.
+type Gap struct{ Start, End uint16 }
+
+// A Sack is a SACK (RFC 4960 3.3.4).
+type Sack struct {
+	CumulativeTSN, Credit uint32
+	Gaps                  []Gap
+	Duplicates            []uint32
+}
+
+// ReadSack reads a SACK.
+func ReadSack(chunk []byte) (Sack, error) {
+	at, length := bytesOf(chunk)
+	var s C.struct_sctp_sack
+	// as many rows as its bytes can be
+	gaps, repeats := make([]C.struct_sctp_gap, len(chunk)/4+1), make([]C.uint32_t, len(chunk)/4+1)
+	if err := errorOf(C.sctp_read_sack(at, length, &s, &gaps[0], C.size_t(len(gaps)), &repeats[0], C.size_t(len(repeats))), 0); err != nil {
+		return Sack{}, err
+	}
+	sack := Sack{uint32(s.cumulative_tsn), uint32(s.credit), make([]Gap, least(s.blocks, len(gaps))), make([]uint32, least(s.duplicates, len(repeats)))}
+	for i := range sack.Gaps {
+		sack.Gaps[i] = Gap{uint16(gaps[i].start), uint16(gaps[i].end)}
+	}
+	for i := range sack.Duplicates {
+		sack.Duplicates[i] = uint32(repeats[i])
+	}
+	return sack, nil
+}
+
+// A Skip is a stream that a FORWARD-TSN names, and its last number that is skipped.
+type Skip struct{ Stream, Sequence uint16 }
+
+// ReadForwardTSN reads a FORWARD-TSN (RFC 3758 3.2): up to where it skips, and the streams that it names.
+func ReadForwardTSN(chunk []byte) (newCumulativeTSN uint32, streams []Skip, err error) {
+	at, length := bytesOf(chunk)
+	rows := make([]C.struct_sctp_skip, len(chunk)/4+1)
+	var tsn C.uint32_t
+	var count C.size_t
+	if err := errorOf(C.sctp_read_forward_tsn(at, length, &tsn, &rows[0], C.size_t(len(rows)), &count), 0); err != nil {
+		return 0, nil, err
+	}
+	streams = make([]Skip, least(count, len(rows)))
+	for i := range streams {
+		streams[i] = Skip{uint16(rows[i].stream), uint16(rows[i].sequence)}
+	}
+	return uint32(tsn), streams, nil
+}
+
+// An Init is what an INIT or INIT-ACK says (RFC 4960 3.3.2, 3.3.3), but for its parameters.
+type Init struct {
+	InitiateTag, Credit, InitialTSN uint32
+	OutboundStreams, InboundStreams uint16
+	Ack                             bool
+}
+
+// ReadInit reads an INIT or INIT-ACK. Params are its parameters, as ReadParam takes them.
+func ReadInit(chunk []byte) (init Init, params []byte, err error) {
+	at, length := bytesOf(chunk)
+	var i C.struct_sctp_init
+	if err := errorOf(C.sctp_read_init(at, length, &i), 0); err != nil {
+		return Init{}, nil, err
+	}
+	init = Init{
+		uint32(i.initiate_tag), uint32(i.credit), uint32(i.initial_tsn), uint16(i.outbound_streams), uint16(i.inbound_streams), i.is_ack != 0,
+	}
+	return init, chunk[20:], nil
+}
+
+// ReadShutdown reads a SHUTDOWN (RFC 4960 3.3.8): the TSN up to which its sender received all.
+func ReadShutdown(chunk []byte) (cumulativeTSN uint32, err error) {
+	at, length := bytesOf(chunk)
+	var tsn C.uint32_t
+	err = errorOf(C.sctp_read_shutdown(at, length, &tsn), 0)
+	return uint32(tsn), err
+}
+
+// A Cause is an error cause (RFC 4960 3.3.10); Value is a part of the bytes that it was read from.
+type Cause struct {
+	Code  uint16
+	Value []byte
+}
+
+// ReadCause reads the error cause that the bytes begin with, as the value of an ABORT or ERROR does. Rest is what follows it; there is none
+// where it has no bytes.
+func ReadCause(bytes []byte) (cause Cause, rest []byte, err error) {
+	at, length := bytesOf(bytes)
+	var c C.struct_sctp_cause
+	if err := errorOf(C.sctp_read_cause(at, length, &c), 0); err != nil {
+		return Cause{}, nil, err
+	}
+	return Cause{uint16(c.code), bytes[4 : 4+c.length]}, bytes[c.next:], nil
+}
+
+// A Param is a parameter (RFC 4960 3.2.1); Value is a part of the bytes that it was read from.
+type Param struct {
+	Type  uint16
+	Value []byte
+}
+
+// ReadParam reads the parameter that the bytes begin with. Rest is what follows it; there is none where it has no bytes.
+func ReadParam(bytes []byte) (param Param, rest []byte, err error) {
+	at, length := bytesOf(bytes)
+	var p C.struct_sctp_param
+	if err := errorOf(C.sctp_read_param(at, length, &p), 0); err != nil {
+		return Param{}, nil, err
+	}
+	return Param{uint16(p._type), bytes[4 : 4+p.length]}, bytes[p.next:], nil
+}
+
+// WriteChunk writes a chunk of a type and a value to the front of a buffer, its flags 0. This and the functions below answer how many
+// bytes they wrote, padding included.
+func WriteChunk(chunkType uint8, value, out []byte) (int, error) {
+	from, length := bytesOf(value)
+	to, room := bytesOf(out)
+	var n C.size_t
+	err := errorOf(C.sctp_write_chunk(C.uint8_t(chunkType), from, length, to, room, &n), n)
+	return written(n, err)
+}
+
+// WriteChunkWithFlags does the same with flags, as they are given.
+func WriteChunkWithFlags(chunkType, flags uint8, value, out []byte) (int, error) {
+	from, length := bytesOf(value)
+	to, room := bytesOf(out)
+	var n C.size_t
+	err := errorOf(C.sctp_write_chunk_with_flags(C.uint8_t(chunkType), C.uint8_t(flags), from, length, to, room, &n), n)
+	return written(n, err)
+}
+
+// WriteCause writes an error cause: what an ABORT or ERROR has as its value.
+func WriteCause(code uint16, value, out []byte) (int, error) {
+	from, length := bytesOf(value)
+	to, room := bytesOf(out)
+	var n C.size_t
+	err := errorOf(C.sctp_write_cause(C.uint16_t(code), from, length, to, room, &n), n)
+	return written(n, err)
+}
+
+// WriteInit writes an INIT or INIT-ACK. Params are as WriteParam writes them, one behind the other.
+func WriteInit(init Init, params, out []byte) (int, error) {
+	i := C.struct_sctp_init{
+		initiate_tag:     C.uint32_t(init.InitiateTag),
+		credit:           C.uint32_t(init.Credit),
+		initial_tsn:      C.uint32_t(init.InitialTSN),
+		outbound_streams: C.uint16_t(init.OutboundStreams),
+		inbound_streams:  C.uint16_t(init.InboundStreams),
+		is_ack:           flag(init.Ack),
+	}
+	from, length := bytesOf(params)
+	to, room := bytesOf(out)
+	var n C.size_t
+	err := errorOf(C.sctp_write_init(&i, from, length, to, room, &n), n)
+	return written(n, err)
+}
+
+// WriteParam writes a parameter.
+func WriteParam(paramType uint16, value, out []byte) (int, error) {
+	from, length := bytesOf(value)
+	to, room := bytesOf(out)
+	var n C.size_t
+	err := errorOf(C.sctp_write_param(C.uint16_t(paramType), from, length, to, room, &n), n)
+	return written(n, err)
+}
+
+// SealPacket writes header and CRC-32C into the first twelve bytes of a packet.
+func SealPacket(head Head, packet []byte) error {
+	h := head.inC()
+	at, length := bytesOf(packet)
+	return errorOf(C.sctp_seal_packet(&h, at, length), 12)
+}
+
+// WriteHead writes the header, with zeros in the checksum's place: the first step of sealing under a sum that the caller takes, of all of
+// the packet.
+func WriteHead(head Head, packet []byte) error {
+	h := head.inC()
+	at, length := bytesOf(packet)
+	return errorOf(C.sctp_write_head(&h, at, length), 12)
+}
+
+// StoreSum puts the sum of a packet there.
+func StoreSum(sum uint32, packet []byte) error {
+	at, length := bytesOf(packet)
+	return errorOf(C.sctp_store_sum(C.uint32_t(sum), at, length), 12)
+}
+
+func written(n C.size_t, err error) (int, error) {
+	if err != nil {
+		return 0, err
+	}
+	return int(n), nil
+}
+
+func flag(is bool) C.uint8_t {
+	if is {
+		return 1
+	}
+	return 0
+}
