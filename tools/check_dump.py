@@ -6,7 +6,8 @@
 PROGRAM is crates/sctpdump/out/sctpdump unless told otherwise (`rt run` in crates/sctpdump makes it). Each line has to be JSON. Where the capture is
 lines of hex text, each datagram is put together again from its members, and has to be the one of the capture. What `--summary` says of packets,
 bytes and chunks in all, and for each tag of DATA, I-DATA, SACK and FORWARD-TSN, has to be what the records have; associations are taken not to share
-a tag. Prints a line for each capture, and one for each fault; the exit status is 0 where there is none.
+a tag. What `--messages` prints of associations whose INIT was captured has to be each message of which every fragment was, put together by TSNs
+alone, but for those that a FORWARD-TSN or a reset stream cut off; and those of a stream in the order of their TSNs. Prints a line for each capture, and one for each fault; the exit status is 0 where there is none.
 """
 import json
 import subprocess
@@ -102,6 +103,42 @@ def check_summary(capture, records, summary):
     return [f"{capture}: {name}: {one} is not {other}" for name, (one, other) in tests.items() if one != other]
 
 
+def whole_messages(chunks):
+    """Returns the messages of DATA, each by TSNs, stream, whether unordered, payload type and bytes: runs of TSNs from B to E."""
+    data = {}
+    for raw in (it for it in chunks if it[0] == 0 and len(it) > 16):
+        data.setdefault(number(raw, 4, 4), raw)
+    found = []
+    for first in (tsn for tsn, raw in data.items() if raw[1] & 2):
+        run = [data[first]]
+        while not run[-1][1] & 1 and (following := data.get((number(run[-1], 4, 4) + 1) % 2**32)) and not following[1] & 2:
+            run.append(following)
+        if run[-1][1] & 1:
+            body = b"".join(raw[16:number(raw, 2, 2)] for raw in run)
+            found.append((first, number(run[-1], 4, 4), number(run[0], 8, 2), bool(run[0][1] & 4), number(run[0], 12, 4), body.hex()))
+    return found
+
+
+def check_messages(capture, records, said):
+    """Returns the faults of the messages that were read of these records."""
+    by_tag = defaultdict(list)
+    for record in (r for r in records if "tag" in r):
+        by_tag[record["tag"]] += [bytes.fromhex(c["bytes"]) for c in record["chunks"]]
+    sent = Counter(it for chunks in by_tag.values() for it in whole_messages(chunks))
+    told = [m for m in said if "first_tsn" in m]
+    read = Counter((m["first_tsn"], m["last_tsn"], m["stream"], m["unordered"], m["ppid"], m["data"]) for m in told)
+    faults = [f"{capture}: message of TSN {it[0]} was not sent so, or is read twice" for it in read - sent]
+    is_cut = any(it[0] in (130, 192) for chunks in by_tag.values() for it in chunks)
+    faults += [f"{capture}: message of TSN {it[0]} is not read" for it in sent - read if not is_cut]
+    last = {}
+    for m in (m for m in told if not m["unordered"]):
+        way = (m["association"], m["way"], m["stream"])
+        if way in last and not 0 < (m["first_tsn"] - last[way]) % 2**32 < 2**31:
+            faults.append(f"{capture}: message of TSN {m['first_tsn']} is out of order")
+        last[way] = m["first_tsn"]
+    return faults
+
+
 def check(program, capture):
     """Returns the faults of a capture, and how many datagrams it has."""
     records = [r for r in said(program, [], capture)[:-1] if "not_shown" not in r]
@@ -110,7 +147,8 @@ def check(program, capture):
         faults = [f"{capture}: datagram {n} is another one" for n, (r, w) in enumerate(zip(records, wanted), 1) if datagram(r) != w]
         if len(records) != len(wanted):
             faults.append(f"{capture}: {len(records)} datagrams of {len(wanted)}")
-    return faults + check_summary(capture, records, said(program, ["--summary"], capture)), len(records)
+    faults += check_summary(capture, records, said(program, ["--summary"], capture))
+    return faults + check_messages(capture, records, said(program, ["--messages"], capture)), len(records)
 
 
 def main(words):
@@ -129,4 +167,5 @@ def main(words):
     return 1 if faults else 0
 
 
-sys.exit(main(sys.argv[1:]))
+if __name__ == "__main__":
+    sys.exit(main(sys.argv[1:]))

@@ -1,2 +1,3 @@
 pub mod Flow
 pub mod Ladder
+pub mod Plot

@@ -27,6 +27,16 @@ pub enum Way {
     Back,
 }
 
+impl Way {
+    /// The other one.
+    pub fn other(self) -> Self {
+        match self {
+            Way::Forth => Way::Back,
+            Way::Back => Way::Forth,
+        }
+    }
+}
+
 /// What says which association a packet is of.
 #[derive(Clone, Copy)]
 pub struct Place {

@@ -84,7 +84,7 @@ fn payload_length(bytes: &[u8]) -> u64
 }
 
 /// Whether the bytes of a chunk are INIT or INIT-ACK, with all of the fixed part.
-fn is_init(bytes: &[u8]) -> bool
+pub fn is_init(bytes: &[u8]) -> bool
     ensures { result ≡ flows.is_init bytes.now }
 {
     bytes.len() >= 20 && (bytes[0] == 1 || bytes[0] == 2)

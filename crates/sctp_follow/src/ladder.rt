@@ -221,20 +221,6 @@ impl Ladders {
             None => Ok(()),
         }
     }
-
-    /// The ladders, one below the other, and the last line.
-    pub fn text(&self, alloc: Global, counts: Counts) -> Result<String, AllocError> {
-        let mut text = String::new(alloc);
-        let mut at = 0usize;
-        for association in &self.associations.items {
-            if let Some(rungs) = self.texts.get(at) {
-                put_ladder(alloc, &mut text, at, association, rungs)?;
-            }
-            at = at.saturating_add(1);
-        }
-        put_end(&mut text, Form::Text, counts, &self.associations)?;
-        Ok(text)
-    }
 }
 
 impl Take for Ladders {
@@ -247,12 +233,28 @@ impl Take for Ladders {
         alloc: Global,
         packet: &Packet<'_>,
         is_shown: bool,
-    ) -> Result<(), AllocError> {
+    ) -> Result<String, AllocError> {
         let place = self.associations.note_packet(alloc, packet)?;
-        match place {
-            Some((at, way)) if is_shown => self.draw(alloc, at, way, packet),
-            _ => Ok(()),
+        if let Some((at, way)) = place
+            && is_shown
+        {
+            self.draw(alloc, at, way, packet)?;
         }
+        Ok(String::new(alloc))
+    }
+
+    /// The ladders, one below the other, and the last line.
+    fn end(&self, alloc: Global, counts: Counts) -> Result<String, AllocError> {
+        let mut text = String::new(alloc);
+        let mut at = 0usize;
+        for association in &self.associations.items {
+            if let Some(rungs) = self.texts.get(at) {
+                put_ladder(alloc, &mut text, at, association, rungs)?;
+            }
+            at = at.saturating_add(1);
+        }
+        put_end(&mut text, Form::Text, counts, &self.associations)?;
+        Ok(text)
     }
 }
 

@@ -5,6 +5,8 @@ pub mod associations;
 pub mod flow;
 pub mod ladder;
 pub mod packet;
+pub mod plot;
 pub mod summarize;
+pub mod svg;
 pub mod text;
 pub mod track;

@@ -8,6 +8,8 @@ use std::net::IpAddr;
 /// A packet of a record.
 #[derive(Drop)]
 pub struct Packet<'a> {
+    /// The number of its record in the input, from 1 on.
+    pub number: u64,
     pub seen: &'a Dissection,
     /// The addresses between which it went, where they are known.
     pub ends: Option<(IpAddr, IpAddr)>,

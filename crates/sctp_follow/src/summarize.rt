@@ -2,59 +2,45 @@
 
 ghost use Rattle.std.specs.Prelude.{◌≡◌, ◌≤◌, IfOk};
 
-use crate::associations::Associations;
 use crate::flow::Extent;
 use crate::packet::Packet;
 use sctp_capture::blocks::{Section, Taken};
 use sctp_capture::frame::datagram_in;
-use sctp_capture::input::{next_piece, open_input, unread_of};
+use sctp_capture::input::{holds_piece, next_piece, open_input, unread_of};
 use sctp_capture::record::{Record, Time};
 use sctp_capture::window::Window;
 use sctp_show::checksum::Sum;
-use sctp_show::run::{Counts, RunFault};
+use sctp_show::run::{Counts, RunFault, send_off, write_text};
 use sctp_show::text::{Options, seen_in};
 use std::alloc::{AllocError, Global};
-use std::io::Read;
+use std::io::{Read, Write};
 
-/// Takes the packets of an input, one after the other.
+/// Takes the packets of an input, one after the other, and says what is written of them.
 pub trait Take {
     /// Looks at the time of a record, also of one with no packet.
     fn see_time(&mut self, time: &Option<Time>);
 
-    /// Takes a packet, which is shown or not. Refuses only for memory.
+    /// Takes a packet, which is shown or not, and answers what is written before the next one is taken. Refuses only for memory.
     fn take(
         &mut self,
         alloc: Global,
         packet: &Packet<'_>,
         is_shown: bool,
-    ) -> Result<(), AllocError>;
+    ) -> Result<String, AllocError>;
+
+    /// What is written at the end of an input of which so much was read. Refuses only for memory.
+    fn end(&self, alloc: Global, counts: Counts) -> Result<String, AllocError>;
 }
 
-impl Take for Associations {
-    fn see_time(&mut self, time: &Option<Time>) {
-        self.note_time(time);
-    }
-
-    fn take(
-        &mut self,
-        alloc: Global,
-        packet: &Packet<'_>,
-        is_shown: bool,
-    ) -> Result<(), AllocError> {
-        if is_shown {
-            let _place = self.note_packet(alloc, packet)?;
-        }
-        Ok(())
-    }
-}
-
-/// Takes the packet of a record, if it has one. Answers how many are shown, 0 or 1.
-fn take_record<T: Take>(
+/// Takes the packet of a record, if it has one, and writes what is written of it. Answers how many are shown, 0 or 1.
+fn take_record<T: Take, W: Write>(
     alloc: Global,
     options: &Options,
+    number: u64,
     record: &Record,
     taker: &mut T,
-) -> Result<u64, AllocError>
+    output: &mut W,
+) -> Result<u64, RunFault>
     ensures { IfOk result (λ shown. shown ≤ 1) }
 {
     taker.see_time(&record.time);
@@ -70,6 +56,7 @@ fn take_record<T: Take>(
         is_cut: datagram.missing > 0,
     };
     let packet = Packet {
+        number,
         seen: &seen,
         ends: datagram.ends,
         time: record.time,
@@ -77,17 +64,31 @@ fn take_record<T: Take>(
         missing: datagram.missing,
     };
     let is_shown = options.filter.passes(&seen);
-    taker.take(alloc, &packet, is_shown)?;
+    let text = taker.take(alloc, &packet, is_shown)?;
+    write_text(output, &text)?;
     Ok(if is_shown { 1 } else { 0 })
 }
 
-/// Reads each record of an input, and has its packet taken, until as many as are to be shown at most have what is asked for. Answers how many
-/// records were read, how many have no frame, and how many packets are shown. An input of a kind that is known, but not read, is refused.
-pub fn summarize<R: Read + Drop, T: Take>(
+/// Writes what is written at the end.
+fn finish<T: Take, W: Write>(
+    alloc: Global,
+    counts: Counts,
+    taker: &T,
+    output: &mut W,
+) -> Result<(), RunFault> {
+    let text = taker.end(alloc, counts)?;
+    write_text(output, &text)
+}
+
+/// Reads each record of an input, has its packet taken, and writes what is written of it, until as many as are to be shown at most have
+/// what is asked for. What was written is sent off before more of the input is waited for. Answers how many records were read, how many
+/// have no frame, and how many packets are shown. An input of a kind that is known, but not read, is refused.
+pub fn summarize<R: Read + Drop, T: Take, W: Write>(
     alloc: Global,
     options: &Options,
     input: R,
     taker: &mut T,
+    output: &mut W,
 ) -> Result<Counts, RunFault>
     ensures { IfOk result (λ counts. counts.shown ≤ options.now.limit) }
 {
@@ -103,16 +104,21 @@ pub fn summarize<R: Read + Drop, T: Take>(
             shown,
         };
         if shown >= options.limit {
+            finish(alloc, counts, taker, output)?;
             return Ok(counts);
         }
+        send_off(output, holds_piece(format, &section, window.held()))?;
         match next_piece(alloc, &mut window, &mut section, format)? {
             Taken::Record(record) => {
                 records += 1;
                 unread += unread_of(&record);
-                shown += take_record(alloc, options, &record, taker)?;
+                shown += take_record(alloc, options, records, &record, taker, output)?;
             }
             Taken::Nothing => {}
-            Taken::End => return Ok(counts),
+            Taken::End => {
+                finish(alloc, counts, taker, output)?;
+                return Ok(counts);
+            }
         }
     }
     Err(RunFault::Input(None))

@@ -2,12 +2,13 @@
 
 use crate::associations::{Association, Associations};
 use crate::flow::Flow;
+use crate::packet::Packet;
+use crate::summarize::Take;
 use itoa::Buffer;
 use sctp_capture::record::Time;
 use sctp_show::names::ChunkName;
 use sctp_show::page::Form;
 use sctp_show::run::Counts;
-use sctp_show::text::Options;
 use sctp_show::time::time_since;
 use std::alloc::{AllocError, Global};
 
@@ -207,7 +208,7 @@ fn put_way(
 }
 
 /// The ends of an association: addresses, where they are known, and ports.
-pub(crate) fn put_ends(
+pub fn put_ends(
     text: &mut String,
     form: Form,
     association: &Association,
@@ -251,7 +252,7 @@ fn put_association(
 }
 
 /// The last line.
-pub(crate) fn put_end(
+pub fn put_end(
     text: &mut String,
     form: Form,
     counts: Counts,
@@ -271,27 +272,57 @@ pub(crate) fn put_end(
     }
 }
 
-/// A summary.
-pub fn summary_text(
-    alloc: Global,
-    options: &Options,
-    counts: Counts,
-    associations: &Associations,
-) -> Result<String, AllocError> {
-    let style = Style {
-        form: options.form,
-        start: if options.is_absolute {
-            None
-        } else {
-            associations.start
-        },
-    };
-    let mut text = String::new(alloc);
-    let mut number = 1u64;
-    for association in &associations.items {
-        put_association(&mut text, &style, number, association)?;
-        number = number.saturating_add(1);
+/// What the packets of an input are summed up to.
+#[derive(Drop)]
+pub struct Sums {
+    associations: Associations,
+    form: Form,
+    /// Whether times are as they were captured, and not since the first record.
+    is_absolute: bool,
+}
+
+impl Sums {
+    /// Nothing is summed up yet.
+    pub fn new(alloc: Global, form: Form, is_absolute: bool) -> Self {
+        Sums {
+            associations: Associations::new(alloc),
+            form,
+            is_absolute,
+        }
     }
-    put_end(&mut text, style.form, counts, associations)?;
-    Ok(text)
+}
+
+impl Take for Sums {
+    fn see_time(&mut self, time: &Option<Time>) {
+        self.associations.note_time(time);
+    }
+
+    fn take(
+        &mut self,
+        alloc: Global,
+        packet: &Packet<'_>,
+        is_shown: bool,
+    ) -> Result<String, AllocError> {
+        if is_shown {
+            let _place = self.associations.note_packet(alloc, packet)?;
+        }
+        Ok(String::new(alloc))
+    }
+
+    /// Each association, and the last line.
+    fn end(&self, alloc: Global, counts: Counts) -> Result<String, AllocError> {
+        let start = self.associations.start;
+        let style = Style {
+            form: self.form,
+            start: if self.is_absolute { None } else { start },
+        };
+        let mut text = String::new(alloc);
+        let mut number = 1u64;
+        for association in &self.associations.items {
+            put_association(&mut text, &style, number, association)?;
+            number = number.saturating_add(1);
+        }
+        put_end(&mut text, style.form, counts, &self.associations)?;
+        Ok(text)
+    }
 }

@@ -66,6 +66,7 @@ impl Follow for Tracker {
         ends: Option<(IpAddr, IpAddr)>,
     ) -> Result<Known, AllocError> {
         let packet = Packet {
+            number: 0,
             seen,
             ends,
             time: None,

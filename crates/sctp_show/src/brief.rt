@@ -27,7 +27,7 @@ fn put_number(text: &mut String, word: &str, number: u32) -> Result<(), AllocErr
 }
 
 /// Appends a TSN behind a word: how far it lies after the base, modulo 2^32.
-fn put_tsn(text: &mut String, word: &str, base: u32, tsn: u32) -> Result<(), AllocError>
+pub fn put_tsn(text: &mut String, word: &str, base: u32, tsn: u32) -> Result<(), AllocError>
     ensures { OnOk result (string_bytes text.new
         ≡ string_bytes text.old ++ (word.now ++ decimal (distance base tsn))) }
 {
@@ -58,7 +58,7 @@ fn put_flags(text: &mut String, flags: u8) -> Result<(), AllocError> {
 }
 
 /// Appends a payload protocol identifier, and its name.
-fn put_payload_type(text: &mut String, identifier: u32) -> Result<(), AllocError> {
+pub fn put_payload_type(text: &mut String, identifier: u32) -> Result<(), AllocError> {
     put_number(text, " ", identifier)?;
     let name = payload_name(identifier);
     if name.is_empty() {

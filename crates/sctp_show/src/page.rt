@@ -47,7 +47,7 @@ fn push_plain(text: &mut String, words: &str) -> Result<(), AllocError>
 }
 
 /// Appends texts, one behind the other.
-pub(crate) fn put_all(text: &mut String, parts: &[&str]) -> Result<(), AllocError>
+pub fn put_all(text: &mut String, parts: &[&str]) -> Result<(), AllocError>
     ensures { OnOk result (string_bytes text.new
         ≡ string_bytes text.old ++ flat_map (λ part. part.now) parts.now) }
 {
@@ -70,7 +70,7 @@ fn put_char(text: &mut String, c: char) -> Result<(), AllocError> {
 }
 
 /// Appends bytes between quotes: their characters, or, where they are no UTF-8, their hex digits.
-pub(crate) fn put_quoted(text: &mut String, bytes: &[u8]) -> Result<(), AllocError> {
+pub fn put_quoted(text: &mut String, bytes: &[u8]) -> Result<(), AllocError> {
     text.push('"')?;
     match str::from_utf8(bytes) {
         Ok(words) => {

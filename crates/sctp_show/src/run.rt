@@ -47,7 +47,7 @@ impl From<AllocError> for RunFault {
 }
 
 /// Sends off what was written, where it is not to wait for more.
-fn send_off<W: Write>(output: &mut W, waits: bool) -> Result<(), RunFault>
+pub fn send_off<W: Write>(output: &mut W, waits: bool) -> Result<(), RunFault>
     ensures { OnOk result (Keeps (W.contents output.old) (W.contents output.new)) }
 {
     if waits {
@@ -60,7 +60,7 @@ fn send_off<W: Write>(output: &mut W, waits: bool) -> Result<(), RunFault>
 }
 
 /// Writes a text.
-fn write_text<W: Write>(output: &mut W, text: &str) -> Result<(), RunFault>
+pub fn write_text<W: Write>(output: &mut W, text: &str) -> Result<(), RunFault>
     ensures { OnOk result (Appends (W.contents output.old) (W.contents output.new) text.now) }
 {
     match output.write_all(text.as_bytes()) {

@@ -2,11 +2,13 @@
 #![tactic(auto)]
 
 use clap::{Arg, ArgAction, ArgMatches, Command};
-use sctp_follow::associations::Associations;
 use sctp_follow::ladder::{Ladders, Style};
 use sctp_follow::summarize::summarize;
-use sctp_follow::text::summary_text;
+use sctp_follow::svg::Pictures;
+use sctp_follow::text::Sums;
 use sctp_follow::track::Tracker;
+use sctp_messages::messages::Messages;
+use sctp_messages::text;
 use sctp_show::checksum::Sum;
 use sctp_show::filter::Filter;
 use sctp_show::follow::Alone;
@@ -32,6 +34,10 @@ const AT_ONCE: usize = 65_536;
 const FILTER_WORDS: &str =
     "a filter is port, tag, type, stream, tsn or ppid, = and values (tsn=5-9 is a range), or refused";
 
+/// What is printed in place of packets.
+const VIEW_WORDS: &str =
+    "--summary, --flow, --messages and --svg do not go together, nor --flow or --svg with --json or -V, nor --messages with -V";
+
 const FILTER_HELP: &str =
     "Show only packets with one of these: port, tag, type, stream, tsn (also FROM-TO), ppid; or `refused`";
 
@@ -51,6 +57,12 @@ const SUMMARY_HELP: &str =
     "Print no packets, but for each association what went each way: chunks, bytes, TSNs, streams";
 
 const FLOW_HELP: &str = "Print the packets of each association as arrows between its two ends";
+
+const MESSAGES_HELP: &str =
+    "Print the messages of each association, each whole, as a receiver reads them";
+
+const SVG_HELP: &str =
+    "Draw the TSNs of each association over time into FILE, whose name ends in .svg; - for standard output";
 
 const COUNT_HELP: &str = "End after COUNT records are shown";
 
@@ -115,14 +127,6 @@ fn report_counts(rt: &HostRuntime, name: &str, counts: Counts) -> anyhow::Result
     Ok(false)
 }
 
-/// Writes a text.
-fn write_out<W: Write>(output: &mut W, text: &str) -> Result<(), RunFault> {
-    match output.write_all(text.as_bytes()) {
-        Ok(()) => Ok(()),
-        Err(e) => Err(RunFault::Output(e.raw_os_error())),
-    }
-}
-
 /// Prints what an input is summed up to.
 fn run_summary<R: Read + Drop, W: Write>(
     alloc: Global,
@@ -130,17 +134,14 @@ fn run_summary<R: Read + Drop, W: Write>(
     input: R,
     output: &mut W,
 ) -> Result<Counts, RunFault> {
-    let mut associations = Associations::new(alloc);
-    let counts = summarize(alloc, options, input, &mut associations)?;
-    let text = summary_text(alloc, options, counts, &associations)?;
-    write_out(output, &text)?;
-    Ok(counts)
+    let mut sums = Sums::new(alloc, options.form, options.is_absolute);
+    summarize(alloc, options, input, &mut sums, output)
 }
 
 /// Prints the ladders of an input.
 fn run_ladders<R: Read + Drop, W: Write>(
     alloc: Global,
-    task: &Task,
+    task: &Task<'_>,
     input: R,
     output: &mut W,
 ) -> Result<Counts, RunFault> {
@@ -150,10 +151,34 @@ fn run_ladders<R: Read + Drop, W: Write>(
         is_colored: task.options.is_colored,
     };
     let mut ladders = Ladders::new(alloc, style);
-    let counts = summarize(alloc, &task.options, input, &mut ladders)?;
-    let text = ladders.text(alloc, counts)?;
-    write_out(output, &text)?;
-    Ok(counts)
+    summarize(alloc, &task.options, input, &mut ladders, output)
+}
+
+/// Prints the messages of an input.
+fn run_messages<R: Read + Drop, W: Write>(
+    alloc: Global,
+    task: &Task<'_>,
+    input: R,
+    output: &mut W,
+) -> Result<Counts, RunFault> {
+    let style = text::Style {
+        form: task.options.form,
+        is_absolute: task.options.is_absolute,
+        is_relative: task.is_relative,
+    };
+    let mut messages = Messages::new(alloc, style);
+    summarize(alloc, &task.options, input, &mut messages, output)
+}
+
+/// Draws the associations of an input.
+fn run_pictures<R: Read + Drop, W: Write>(
+    alloc: Global,
+    options: &Options,
+    input: R,
+    output: &mut W,
+) -> Result<Counts, RunFault> {
+    let mut pictures = Pictures::new(alloc);
+    summarize(alloc, options, input, &mut pictures, output)
 }
 
 /// What is printed of an input.
@@ -164,21 +189,27 @@ enum View {
     Summary,
     /// The packets between the ends of their associations.
     Ladders,
+    /// What receivers read of them.
+    Messages,
+    /// Their TSNs over time.
+    Pictures,
 }
 
 /// How an input is printed.
 #[derive(Drop)]
-struct Task {
+struct Task<'a> {
     options: Options,
     view: View,
     /// Whether TSNs are printed relative to those that they are counted from.
     is_relative: bool,
+    /// The file that pictures are written to.
+    picture: Option<&'a str>,
 }
 
 /// Prints the records of an input. The packets before one are kept in mind only where its line depends on them.
 fn run_records<R: Read + Drop, W: Write>(
     alloc: Global,
-    task: &Task,
+    task: &Task<'_>,
     input: R,
     output: &mut W,
 ) -> Result<Counts, RunFault> {
@@ -189,18 +220,44 @@ fn run_records<R: Read + Drop, W: Write>(
     run(alloc, &task.options, input, &mut Alone, output)
 }
 
+/// Writes the picture of an input to a file, once all of it is read.
+fn run_picture<R: Read + Drop>(
+    rt: &HostRuntime,
+    task: &Task<'_>,
+    name: &str,
+    input: R,
+    picture: &str,
+) -> anyhow::Result<bool> {
+    let mut drawn = Vec::new(rt.alloc());
+    let counts = match run_pictures(rt.alloc(), &task.options, input, &mut drawn) {
+        Ok(counts) => counts,
+        Err(fault) => return report_fault(rt, name, fault),
+    };
+    match fs::write(rt, picture, drawn.as_slice()) {
+        Ok(()) => report_counts(rt, name, counts),
+        Err(error) => report_error(rt, picture, error),
+    }
+}
+
 /// Prints an input, and says what went wrong. Answers whether all of it was read.
 fn run_on<R: Read + Drop>(
     rt: &HostRuntime,
-    task: &Task,
+    task: &Task<'_>,
     name: &str,
     input: R,
 ) -> anyhow::Result<bool> {
+    if let Some(picture) = task.picture
+        && picture != "-"
+    {
+        return run_picture(rt, task, name, input, picture);
+    }
     let mut output = BufWriter::with_capacity(rt.alloc(), AT_ONCE, io::writer(rt))?;
     let result = match task.view {
         View::Records => run_records(rt.alloc(), task, input, &mut output),
         View::Summary => run_summary(rt.alloc(), &task.options, input, &mut output),
         View::Ladders => run_ladders(rt.alloc(), task, input, &mut output),
+        View::Messages => run_messages(rt.alloc(), task, input, &mut output),
+        View::Pictures => run_pictures(rt.alloc(), &task.options, input, &mut output),
     };
     match (result, output.flush()) {
         (Err(fault), _) => report_fault(rt, name, fault),
@@ -209,7 +266,7 @@ fn run_on<R: Read + Drop>(
     }
 }
 
-fn run_file(rt: &HostRuntime, task: &Task, file: &str) -> anyhow::Result<bool> {
+fn run_file(rt: &HostRuntime, task: &Task<'_>, file: &str) -> anyhow::Result<bool> {
     if file == "-" {
         return run_on(rt, task, STANDARD_INPUT, rt.reader());
     }
@@ -220,7 +277,7 @@ fn run_file(rt: &HostRuntime, task: &Task, file: &str) -> anyhow::Result<bool> {
 }
 
 /// Prints each file under its name.
-fn run_each(rt: &HostRuntime, task: &Task, files: &[&str]) -> anyhow::Result<bool> {
+fn run_each(rt: &HostRuntime, task: &Task<'_>, files: &[&str]) -> anyhow::Result<bool> {
     let mut is_all = true;
     for file in files {
         let heading = heading(rt.alloc(), task.options.form, file)?;
@@ -316,7 +373,9 @@ fn with_forms<'a>(alloc: Global, command: Command<'a>) -> Result<Command<'a>, Al
         .arg(valued(alloc, "color", "WHEN", COLOR_HELP))?
         .arg(flag(alloc, "json", JSON_HELP))?
         .arg(flag(alloc, "summary", SUMMARY_HELP))?
-        .arg(flag(alloc, "flow", FLOW_HELP))
+        .arg(flag(alloc, "flow", FLOW_HELP))?
+        .arg(flag(alloc, "messages", MESSAGES_HELP))?
+        .arg(valued(alloc, "svg", "FILE", SVG_HELP))
 }
 
 /// Adds the words that say which records are printed.
@@ -357,16 +416,31 @@ fn filter_in<'a>(
     Ok(Ok(filter))
 }
 
-/// What is to be printed. Ladders are text, and stand alone.
+/// What is to be printed. Ladders and pictures have one form, and but for records nothing is printed in full.
 fn view_in(matches: &ArgMatches<'_>) -> Option<View> {
-    let is_other = matches.get_flag("json")
-        || matches.get_flag("summary")
-        || matches.get_flag("full");
-    match (matches.get_flag("flow"), matches.get_flag("summary")) {
-        (true, _) if is_other => None,
-        (true, _) => Some(View::Ladders),
-        (false, true) => Some(View::Summary),
-        (false, false) => Some(View::Records),
+    let is_json = matches.get_flag("json");
+    let is_full = matches.get_flag("full");
+    let flags = (
+        matches.get_flag("summary"),
+        matches.get_flag("flow"),
+        matches.get_flag("messages"),
+        matches.get_str("svg").is_some(),
+    );
+    match flags {
+        (false, false, false, false) => Some(View::Records),
+        (true, false, false, false) => Some(View::Summary),
+        (false, true, false, false) if !is_json && !is_full => Some(View::Ladders),
+        (false, false, true, false) if !is_full => Some(View::Messages),
+        (false, false, false, true) if !is_json && !is_full => Some(View::Pictures),
+        _ => None,
+    }
+}
+
+/// Whether a picture may be written to this file, of so many inputs: it has one input, and overwrites no capture by mistake.
+fn is_picture(picture: Option<&str>, inputs: usize) -> bool {
+    match picture {
+        None => true,
+        Some(name) => inputs <= 1 && (name == "-" || name.ends_with(".svg")),
     }
 }
 
@@ -397,7 +471,7 @@ fn options_in(matches: &ArgMatches<'_>, filter: Filter, is_colored: bool) -> Opt
 }
 
 /// Prints the files of the command line, each under its name where there are more than one.
-fn run_files(rt: &HostRuntime, task: &Task, files: &[&str]) -> anyhow::Result<ExitCode> {
+fn run_files(rt: &HostRuntime, task: &Task<'_>, files: &[&str]) -> anyhow::Result<ExitCode> {
     let is_all = match files {
         [] => run_file(rt, task, "-")?,
         [file] => run_file(rt, task, file)?,
@@ -439,13 +513,20 @@ fn main(rt: HostRuntime) -> anyhow::Result<ExitCode> {
         return Ok(ExitCode::from(2));
     };
     let Some(view) = view_in(&matches) else {
-        eprintln!(rt; "sctpdump: --flow is without --json, --summary and -V")?;
+        eprintln!(rt; "sctpdump: {VIEW_WORDS}")?;
         return Ok(ExitCode::from(2));
     };
+    let files = matches.get_strs("file").unwrap_or(&[]);
+    let picture = matches.get_str("svg");
+    if !is_picture(picture, files.len()) {
+        eprintln!(rt; "sctpdump: --svg has one input, and its FILE is - or ends in .svg")?;
+        return Ok(ExitCode::from(2));
+    }
     let task = Task {
         options,
         view,
         is_relative: matches.get_flag("relative"),
+        picture,
     };
-    run_files(&rt, &task, matches.get_strs("file").unwrap_or(&[]))
+    run_files(&rt, &task, files)
 }

@@ -1,0 +1,289 @@
+//! A message as it is printed, as text or as JSON.
+
+use crate::hearing::bytes_of;
+use crate::way::{Message, Missed, Unread, WayReader};
+use itoa::Buffer;
+use sctp_capture::record::Time;
+use sctp_dissect::dissection::Item;
+use sctp_follow::associations::Way;
+use sctp_show::brief::{DCEP, put_brief, put_payload_type, put_tsn};
+use sctp_show::dcep::{put_brief_message, put_message};
+use sctp_show::follow::Bases;
+use sctp_show::names::payload_name;
+use sctp_show::page::{Form, Page, put_all, put_quoted};
+use sctp_show::time::time_since;
+use std::alloc::{AllocError, Global};
+use std::str;
+
+/// How messages are printed.
+#[derive(Clone, Copy)]
+pub struct Style {
+    pub form: Form,
+    /// Whether times are as they were captured, and not since the first record, where messages are printed as text.
+    pub is_absolute: bool,
+    /// Whether TSNs are printed relative to those that they are counted from, likewise.
+    pub is_relative: bool,
+}
+
+/// With which packet a message could be read.
+#[derive(Clone, Copy)]
+pub struct Moment {
+    /// The number of its record.
+    pub number: u64,
+    pub time: Option<Time>,
+    /// The first time of the input.
+    pub start: Option<Time>,
+    /// The number of its association, and its way.
+    pub association: usize,
+    pub way: Way,
+    pub bases: Bases,
+}
+
+/// When a packet was captured.
+fn put_when(text: &mut String, style: Style, moment: &Moment) -> Result<(), AllocError> {
+    match (style.form, &moment.start, &moment.time) {
+        (Form::Text, _, None) => text.push_str(" -"),
+        (Form::Text, Some(start), Some(time)) if !style.is_absolute => {
+            let elapsed = time_since(start, time);
+            write!(text, " {elapsed}")
+        }
+        (Form::Text, _, Some(time)) => write!(text, " {time}"),
+        (Form::Json, _, None) => Ok(()),
+        (Form::Json, _, Some(time)) => write!(text, ",\"time\":\"{time}\""),
+    }
+}
+
+/// The association and the way.
+fn put_way(text: &mut String, form: Form, association: usize, way: Way) -> Result<(), AllocError> {
+    let (arrow, word) = match way {
+        Way::Forth => (">", "forth"),
+        Way::Back => ("<", "back"),
+    };
+    match form {
+        Form::Text => write!(text, "{association} {arrow}"),
+        Form::Json => write!(text, "\"association\":{association},\"way\":\"{word}\""),
+    }
+}
+
+/// What stands before a message.
+fn put_lead(text: &mut String, style: Style, moment: &Moment) -> Result<(), AllocError> {
+    let number = moment.number;
+    match style.form {
+        Form::Text => write!(text, "{number}")?,
+        Form::Json => write!(text, "{{\"record\":{number}")?,
+    }
+    put_when(text, style, moment)?;
+    text.push_str(if style.form == Form::Text { " " } else { "," })?;
+    put_way(text, style.form, moment.association, moment.way)
+}
+
+/// Whether bytes are shown as text: they are UTF-8, and no control characters but tabs and ends of lines.
+fn is_text(bytes: &[u8]) -> bool {
+    match str::from_utf8(bytes) {
+        Ok(words) => words
+            .chars()
+            .all(|c| !c.is_control() || c == '\t' || c == '\n' || c == '\r'),
+        Err(_) => false,
+    }
+}
+
+/// The first and the last TSN of a message, where it has any.
+fn tsns_of(message: &Message) -> (u32, u32) {
+    match message.chunks.fragments() {
+        [] => (0, 0),
+        [one] => (one.tsn, one.tsn),
+        [one, .., last] => (one.tsn, last.tsn),
+    }
+}
+
+/// Whether a message is unordered.
+fn is_unordered(message: &Message) -> bool {
+    match message.chunks.fragments().first() {
+        Some(fragment) => fragment.unordered,
+        None => false,
+    }
+}
+
+/// The stream, and the number of an ordered message.
+fn put_stream(text: &mut String, message: &Message) -> Result<(), AllocError> {
+    let (stream, number) = (message.stream, message.origin.sequence);
+    if is_unordered(message) {
+        return write!(text, " s{stream} unordered");
+    }
+    write!(text, " s{stream}/{number}")
+}
+
+/// The bytes of a message: as text between quotes, or as hex digits.
+fn put_bytes(alloc: Global, text: &mut String, bytes: &[u8]) -> Result<(), AllocError> {
+    text.push_str(" ")?;
+    if is_text(bytes) {
+        return put_quoted(text, bytes);
+    }
+    let digits = hex::encode(alloc, bytes)?;
+    text.push_str(digits.as_str())
+}
+
+/// A message as a line.
+fn put_line(
+    alloc: Global,
+    text: &mut String,
+    bases: Bases,
+    message: &Message,
+    bytes: &[u8],
+) -> Result<(), AllocError> {
+    put_stream(text, message)?;
+    put_payload_type(text, message.origin.identifier)?;
+    let (first, last) = tsns_of(message);
+    put_tsn(text, " TSN ", bases.own, first)?;
+    if first != last {
+        put_tsn(text, "-", bases.own, last)?;
+    }
+    put_all(text, &[" ", Buffer::new().format(bytes.len()), " bytes"])?;
+    if message.origin.identifier == DCEP {
+        put_brief_message(text, bytes)?;
+    } else {
+        put_bytes(alloc, text, bytes)?;
+    }
+    text.push_str("\n")
+}
+
+/// The members that say which message it is.
+fn put_members(page: &mut Page, message: &Message) -> Result<(), AllocError> {
+    let unordered = is_unordered(message);
+    let (first, last) = tsns_of(message);
+    page.number("Stream", "stream", message.stream as u32)?;
+    if !unordered {
+        page.number("Number", "ssn", message.origin.sequence as u32)?;
+    }
+    page.number("Type", "ppid", message.origin.identifier)?;
+    let name = payload_name(message.origin.identifier);
+    if !name.is_empty() {
+        page.words("Name", "payload_type", name)?;
+    }
+    page.truth("Unordered", "unordered", unordered)?;
+    page.number("First TSN", "first_tsn", first)?;
+    page.number("Last TSN", "last_tsn", last)
+}
+
+/// A message as JSON.
+fn put_object(
+    alloc: Global,
+    text: &mut String,
+    message: &Message,
+    bytes: &[u8],
+) -> Result<(), AllocError> {
+    let mut page = Page::new(alloc, Form::Json);
+    put_members(&mut page, message)?;
+    page.bytes(alloc, "Data", "data", bytes)?;
+    if message.origin.identifier == DCEP {
+        put_message(&mut page, bytes)?;
+    } else if is_text(bytes) {
+        page.text.push_str(",\"text\":")?;
+        put_quoted(&mut page.text, bytes)?;
+    }
+    text.push_str(&page.text)?;
+    text.push_str("}\n")
+}
+
+/// Appends a message, and answers how many bytes it has.
+pub fn put_read(
+    alloc: Global,
+    text: &mut String,
+    style: Style,
+    moment: &Moment,
+    message: &Message,
+) -> Result<usize, AllocError> {
+    let bytes = bytes_of(alloc, &message.chunks)?;
+    put_lead(text, style, moment)?;
+    match style.form {
+        Form::Text => put_line(alloc, text, moment.bases, message, &bytes)?,
+        Form::Json => put_object(alloc, text, message, &bytes)?,
+    }
+    Ok(bytes.len())
+}
+
+/// Why a chunk is not read, in words.
+fn put_why(text: &mut String, why: Unread) -> Result<(), AllocError> {
+    match why {
+        Unread::Refused(refusal) => write!(text, "{refusal:?}"),
+        Unread::Early => text.push_str("TSN before the first one"),
+        Unread::NoBeginning => text.push_str("beginning not captured"),
+        Unread::Interleaved => text.push_str("I-DATA"),
+        Unread::Malformed => text.push_str("malformed"),
+    }
+}
+
+/// Appends that a chunk is not read, and why.
+pub fn put_unread(
+    text: &mut String,
+    style: Style,
+    moment: &Moment,
+    item: &Item,
+    why: Unread,
+) -> Result<(), AllocError> {
+    put_lead(text, style, moment)?;
+    let (before, between, after) = match style.form {
+        Form::Text => (" not read: ", ": ", "\n"),
+        Form::Json => (",\"chunk\":\"", "\",\"not_read\":\"", "\"}\n"),
+    };
+    text.push_str(before)?;
+    put_brief(text, moment.bases, item)?;
+    text.push_str(between)?;
+    put_why(text, why)?;
+    text.push_str(after)
+}
+
+/// Appends that TSNs were acknowledged and not captured.
+pub fn put_missed(
+    text: &mut String,
+    style: Style,
+    moment: &Moment,
+    missed: Missed,
+) -> Result<(), AllocError> {
+    put_lead(text, style, moment)?;
+    let (first, acknowledged) = (missed.first, missed.acknowledged);
+    if style.form == Form::Json {
+        return write!(
+            text,
+            ",\"not_captured\":{first},\"acknowledged\":{acknowledged}}}\n"
+        );
+    }
+    put_tsn(text, " not captured: TSN ", moment.bases.own, first)?;
+    put_tsn(
+        text,
+        ", acknowledged up to ",
+        moment.bases.own,
+        acknowledged,
+    )?;
+    text.push_str("\n")
+}
+
+/// Appends what is held of one way and was not read, stream by stream.
+pub fn put_held(
+    text: &mut String,
+    form: Form,
+    association: usize,
+    way: Way,
+    reader: &WayReader,
+) -> Result<(), AllocError> {
+    for inbound in reader.receiver.open_streams() {
+        let (chunks, bytes) = (inbound.queue.chunk_count(), inbound.queue.get_num_bytes());
+        if chunks == 0 {
+            continue;
+        }
+        let stream = inbound.queue.si();
+        text.push_str(if form == Form::Text { "" } else { "{" })?;
+        put_way(text, form, association, way)?;
+        match form {
+            Form::Text => write!(
+                text,
+                " s{stream} not complete: {chunks} chunks, {bytes} bytes\n"
+            )?,
+            Form::Json => write!(
+                text,
+                ",\"stream\":{stream},\"held_chunks\":{chunks},\"held_bytes\":{bytes}}}\n"
+            )?,
+        }
+    }
+    Ok(())
+}
