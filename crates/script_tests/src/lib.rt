@@ -4,6 +4,8 @@
 #[cfg(test)]
 mod events;
 #[cfg(test)]
+mod exchanges;
+#[cfg(test)]
 mod limits;
 #[cfg(test)]
 mod packets;

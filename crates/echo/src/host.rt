@@ -1,0 +1,135 @@
+//! A host: what a data-channel library does with a `Sender` and a `Receiver`, after a handshake that told the first TSNs and the
+//! verification tags (RFC 4960 5.1).
+
+use bytes::Bytes;
+use sctp_chunks::chunk::chunk_kind::ChunkKind;
+use sctp_chunks::chunk::chunk_payload_data::{ChunkPayloadData, PayloadProtocolIdentifier};
+use sctp_packets::checksum::Crc32c;
+use sctp_packets::packet::{CommonHeader, Packet};
+use sctp_receiver::receiver::Receiver;
+use sctp_receiver::receiver::limits::Limits;
+use sctp_sender::sender::Sender;
+use std::alloc::Global;
+
+/// The one stream.
+const STREAM: u16 = 0;
+
+/// How many bytes of a message a chunk has at most: a path MTU of 1,200, less the headers of packet and chunk.
+const FRAGMENT: u32 = 1172;
+
+/// How many bytes a message has at most.
+const MESSAGE: u32 = 65_536;
+
+/// How many bytes may be held unread, and how far past the cumulative TSN a TSN may lie.
+const LIMITS: Limits = Limits {
+    window: 100_000,
+    reach: 1000,
+};
+
+/// One of two hosts.
+#[derive(Drop)]
+pub(crate) struct Host {
+    alloc: Global,
+    sender: Sender,
+    receiver: Receiver,
+    header: CommonHeader,
+    // Whether DATA came since the last SACK.
+    owes_sack: bool,
+}
+
+impl Host {
+    /// A host whose own TSNs begin with the first, its peer's with the second; its stream is open in both directions.
+    pub fn new(alloc: Global, first_tsn: u32, peer_tsn: u32, peer_tag: u32) -> Option<Host> {
+        let mut host = Host {
+            alloc,
+            sender: Sender::new(alloc, first_tsn, FRAGMENT, MESSAGE),
+            receiver: Receiver::new(alloc, peer_tsn, MESSAGE, Some(LIMITS)),
+            header: CommonHeader {
+                source_port: 5000,
+                destination_port: 5000,
+                verification_tag: peer_tag,
+            },
+            owes_sack: false,
+        };
+        host.sender.open(STREAM).ok()?;
+        host.receiver.open(STREAM).ok()?;
+        Some(host)
+    }
+
+    /// Writes a message: it waits until it is sent.
+    pub fn write(&mut self, text: &[u8]) -> Option<()> {
+        let bytes = Bytes::copy_from_slice(self.alloc, text).ok()?;
+        self.sender
+            .write(STREAM, PayloadProtocolIdentifier::String, &bytes)
+            .ok()?;
+        Some(())
+    }
+
+    /// Reads the next message that came, in the order in which the peer wrote them.
+    pub fn read(&mut self) -> Option<Bytes> {
+        let message = self.receiver.read(STREAM).ok()??;
+        let mut text = [0u8; 64];
+        let length = message.read(&mut text).ok()?;
+        Bytes::copy_from_slice(self.alloc, text.get(..length)?).ok()
+    }
+
+    /// The next datagram, for the moment `now`: the SACK that is owed, and the chunk that is next; None where nothing is to be sent.
+    pub fn datagram(&mut self, now: u64) -> Option<Bytes> {
+        let mut chunks = Vec::new(self.alloc);
+        if self.owes_sack {
+            let sack = self.receiver.sack().ok()?;
+            chunks.push(ChunkKind::SelectiveAck(sack)).ok()?;
+            self.owes_sack = false;
+        }
+        if let Some(data) = self.next_data(now) {
+            chunks.push(ChunkKind::PayloadData(data)).ok()?;
+        }
+        if chunks.is_empty() {
+            return None;
+        }
+        let packet = Packet {
+            common_header: self.header,
+            chunks,
+        };
+        packet.marshal(self.alloc, &Crc32c).ok()
+    }
+
+    // What is to be sent again goes first (RFC 4960 6.1 C).
+    fn next_data(&mut self, now: u64) -> Option<ChunkPayloadData> {
+        match self.sender.next_to_retransmit() {
+            Some(lost) => {
+                let tsn = lost.tsn;
+                self.sender.resend(tsn, now).ok()
+            }
+            None => self.sender.send_next(now).ok()?,
+        }
+    }
+
+    /// Takes a datagram of the peer.
+    pub fn take(&mut self, datagram: &Bytes) -> Option<()> {
+        let packet = Packet::unmarshal(self.alloc, datagram, &Crc32c).ok()?;
+        for chunk in &packet.chunks {
+            match chunk {
+                ChunkKind::PayloadData(data) => {
+                    self.owes_sack = true;
+                    self.receiver.data(data).ok()?;
+                }
+                ChunkKind::SelectiveAck(sack) => {
+                    self.sender.acked(sack).ok()?;
+                }
+                _ => {}
+            }
+        }
+        Some(())
+    }
+
+    /// The retransmission timer runs out (RFC 4960 6.3.3): what is in flight and not acknowledged is sent again.
+    pub fn time_out(&mut self) {
+        self.sender.retransmit_all();
+    }
+
+    /// Whether all that was written is acknowledged.
+    pub fn is_done(&self) -> bool {
+        self.sender.is_drained(STREAM)
+    }
+}
