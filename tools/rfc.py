@@ -6,14 +6,15 @@
 
 run at the top of the repository. With nothing it lists the sections and how often each is cited; with an RFC (`4960`), and a section of it
 (`6.2.1`, which takes those below it too), it prints each call with its clauses' names and the tests that call it, and each definition of the specs.
-With --page it prints docs/RFC.md. A citation is `RFC 4960 6.5, 6.6` in a comment; it counts for what the comment stands before, or for its file.
+With --page it prints docs/RFC.md, which begins with rules by their words, and ends with status 1 where one of those names what isn't there. A
+citation is `RFC 4960 6.5, 6.6` in a comment; it counts for what the comment stands before, or for its file.
 """
 import os
 import re
 import sys
 
 from sources import Sources, crates, files_below, lines_of
-from trace import Callers
+from trace import Callers, definition_at
 
 CITED = re.compile(r"RFC (\d{4})((?: (?:[A-C]|\d+(?:\.\d+)*)\b(?:, (?:[A-C]|\d+(?:\.\d+)*)\b(?! (?:bytes|bits|times|streams)))*)?)")
 DEFINED = re.compile(r"^(?:abbrev |opaque |unfoldable )?pub (?:record |data )?([^\s:(]+)")
@@ -23,6 +24,7 @@ TITLES = {
     "4960": {
         "1.6": "Serial Number Arithmetic", "3": "SCTP Packet Format", "3.1": "SCTP Common Header", "3.2": "Chunk Field Descriptions",
         "3.2.1": "Optional/Variable-Length Parameter Format", "3.2.2": "Reporting of Unrecognized Parameters", "3.3.1": "DATA", "3.3.2": "INIT",
+        "3.3": "SCTP Chunk Definitions", "7.2.2": "Congestion Avoidance", "15": "Suggested SCTP Protocol Parameter Values",
         "3.3.2.1": "Parameters in INIT", "3.3.3": "INIT ACK", "3.3.3.1": "Parameters in INIT ACK", "3.3.4": "SACK", "3.3.5": "HEARTBEAT",
         "3.3.6": "HEARTBEAT ACK", "3.3.7": "ABORT", "3.3.8": "SHUTDOWN", "3.3.9": "SHUTDOWN ACK", "3.3.10": "ERROR", "3.3.11": "COOKIE ECHO",
         "3.3.10.1": "Invalid Stream Identifier", "3.3.10.2": "Missing Mandatory Parameter", "3.3.10.3": "Stale Cookie Error",
@@ -47,7 +49,9 @@ TITLES = {
     "6525": {
         "3.1": "RE-CONFIG Chunk", "4": "New Parameter Types", "4.1": "Outgoing SSN Reset Request", "4.2": "Incoming SSN Reset Request",
         "4.3": "SSN/TSN Reset Request", "4.4": "Re-configuration Response", "4.5": "Add Outgoing Streams Request", "4.6": "Add Incoming Streams Request",
-        "5.1": "Sender-Side Procedures", "5.2": "Receiver-Side Procedures", "5.2.2": "Receiver-Side Procedures for the Outgoing SSN Reset Request",
+        "5": "Procedures", "5.1": "Sender-Side Procedures", "5.1.1": "Sender-Side Procedures for the RE-CONFIG Chunk",
+        "5.1.2": "Sender-Side Procedures for the Outgoing SSN Reset Request", "5.2": "Receiver-Side Procedures",
+        "5.2.1": "Receiver-Side Procedures for the RE-CONFIG Chunk", "5.2.7": "Receiver-Side Procedures for the Re-configuration Response", "5.2.2": "Receiver-Side Procedures for the Outgoing SSN Reset Request",
     },
     "8260": {
         "2.1": "I-DATA Chunk", "2.2": "Procedures", "2.3": "Interaction with Other SCTP Extensions", "2.3.1": "I-FORWARD-TSN Chunk",
@@ -71,6 +75,33 @@ REASONS = {
     ("8260", "2.2"): "chunks alone: messages aren't interleaved",
     ("8260", "2.3"): "chunks alone: messages aren't interleaved",
 }
+# rules that are asked for by their words: section, definition with its place, calls, tests
+RULES = [
+    ("a DATA chunk without user data is taken as one of no bytes; an ABORT with cause 9 is the association's", "4960 6.2, 3.3.10.9",
+     [("sctp_data", "PayloadData", "ReadsData")], ["sctp_chunks::ChunkPayloadData::unmarshal", "sctp_receiver::Receiver::data"], []),
+    ("the checksum is taken with 0 in its field", "4960 6.8",
+     [("sctp_packets", "Packet", "checksum_input")], ["sctp_packets::Packet::unmarshal", "sctp_packets::Packet::marshal"], ["crc32c::datagrams"]),
+    ("padding is not counted in a chunk's length", "4960 3.2",
+     [("sctp_base", "Padding", "padded_length"), ("sctp_packets", "Packet", "after")],
+     ["sctp_base::get_padding_size", "sctp_packets::Packet::unmarshal"], ["packet_tests::fronts"]),
+    ("a chunk whose length is under 4 is refused", "4960 3.2",
+     [("sctp_chunks", "Fault", "HeaderFault")], ["sctp_chunks::ChunkHeader::unmarshal", "sctp_dissect::dissect"], ["packet_tests::first_chunks_refused"]),
+    ("an INIT stands alone, under tag 0", "4960 6.10, 8.5.1",
+     [("sctp_packets", "Valid", "IsValid")], ["sctp_packets::Packet::check_packet"], ["packet_tests::rules_for_all_packets"]),
+    ("a SACK that a later one overtook changes nothing", "4960 6.2.1 D i",
+     [("sctp_sender", "Flight", "is_outdated")], ["sctp_sender::Sender::acked"], ["transfer_tests::forged_sacks"]),
+    ("what gap ack blocks reported, and a later SACK does not, is sent again", "4960 6.2.1 D iv",
+     [("sctp_sender", "Sender", "taken_back_by")], ["sctp_sender::Sender::keep_reported", "sctp_sender::Sender::take_back"],
+     ["transfer_tests::taken_back", "transfer_tests::missed_after_it_was_taken_back"]),
+    ("the Advanced.Peer.Ack.Point", "3758 3.5 C1, C2",
+     [("sctp_sender", "Abandonment", "advanced_ack_point")], ["sctp_sender::Sender::advanced_ack_point", "sctp_sender::Sender::forward_tsn"],
+     ["transfer_tests::lifetime_ends_in_flight"]),
+    ("of a message that is abandoned when partially sent the rest takes one TSN, which is never sent", "3758 3.5",
+     [("sctp_outbound", "outbound_queue.OutboundQueue", "terminal_chunk"), ("sctp_model", "Laws", "NoTerminalChunkIsSent")],
+     ["sctp_sender::Sender::abandon", "sctp_sender::Sender::expire_tail", "sctp_model::slots_are_valid"], ["transfer_tests::lifetime_ends_in_flight"]),
+    ("a FORWARD-TSN that is not past the cumulative TSN changes nothing", "3758 3.6",
+     [("sctp_receiver", "Receiver", "is_stale")], ["sctp_receiver::Receiver::forward_tsn"], ["transfer_tests::skips"]),
+]
 
 
 def sections_in(text):
@@ -155,11 +186,28 @@ def cell(places):
     return ", ".join(named) or ", ".join(sorted({f"`{os.path.basename(path)}`" for path, _, _ in places}))
 
 
+def rules():
+    """Prints the table of RULES; ends with status 1 where one of them names what isn't there."""
+    functions = {it.title() for it in Sources().functions}
+    missing = [f"{crate} {word}" for rule in RULES for crate, module, word in rule[2] if not definition_at(crate, module, word)]
+    missing += [title for rule in RULES for title in rule[3] + rule[4] if title not in functions]
+    if missing:
+        sys.exit("rfc.py: RULES names what is not there: " + ", ".join(missing))
+    print("\n## Rules by their words\n\n| rule | RFC | definition | call | test |\n|---|---|---|---|---|")
+    for rule, section, definitions, calls, tests in RULES:
+        words = ", ".join(f"`{crate}::{word}`" for crate, _, word in definitions)
+        named = ", ".join(f"`{it.partition('::')[2]}`" for it in calls)
+        tested = ", ".join(f"`{it}`" for it in tests) or "none: the contract of `unmarshal` says it"
+        print(f"| {rule} | {section} | {words} | {named} | {tested} |")
+
+
 def page(citations):
     print("# Which rule of an RFC stands where\n")
     print("Made by `python3 tools/rfc.py --page` out of the comments. A name is a call, a type or a definition whose comment cites the section;")
     print("`python3 tools/rfc.py RFC SECTION` prints where each stands, its clauses and its tests. RFC 9260 replaced RFC 4960; section numbers here are")
-    print("those of RFC 4960. Last come the sections of data transfer that nothing cites, and why.")
+    print("those of RFC 4960. First come rules by their words: `python3 tools/trace.py NAME` prints the contract, the definitions and the tests of a")
+    print("call, or where a definition stands. Last come the sections of data transfer that nothing cites, and why.")
+    rules()
     for rfc in sorted({key[0] for key in citations}, key=lambda it: (it not in TITLES, list(TITLES).index(it) if it in TITLES else int(it))):
         rows = sorted((key[1] for key in citations if key[0] == rfc and key[1]), key=order)
         if not rows:

@@ -5,8 +5,8 @@
     python3 tools/trace.py --all
 
 run at the top of the repository. NAME is a function (`sna32lt`), a type's function (`PayloadQueue::push`), or either behind a crate's
-name (`sctp_outbound::PayloadQueue::push`), public or not; or a word of the clauses (`after_sack`), of which it prints the definition and the
-calls whose clauses name it. With --all it prints each public call of a library that misses something: a clause or a test that
+name (`sctp_outbound::PayloadQueue::push`), public or not; or a word of the clauses (`after_sack`, `sctp_receiver::is_stale`), of which it prints
+the definition and the calls whose clauses name it. With --all it prints each public call of a library that misses something: a clause or a test that
 reaches it, and a wrong body or a caller, or, of a law, its proof; then a count, and the exit status is 0 where nothing is missing. It reads
 texts alone, and proves nothing.
 
@@ -169,12 +169,23 @@ def trace(call, traits, bodies, callers):
         show("perhaps", [row for row, _ in perhaps], "none")
 
 
-def trace_word(word, sources):
-    """Prints where a word of the clauses is defined, and the calls whose clauses name it; returns whether there is such a word."""
-    found = [at for crate in crates() for path in files_below(f"crates/{crate}/specs", ".antt")
+def text_at(place):
+    """Returns the definition at a place, with the comment before it."""
+    path, line = place.rsplit(":", 1)
+    lines, begin = lines_of(path), int(line) - 1
+    end = next((it for it in range(begin, len(lines)) if not lines[it].strip()), len(lines))
+    while begin and lines[begin - 1].startswith("--"):
+        begin -= 1
+    return lines[begin:end]
+
+
+def trace_word(word, sources, rooms):
+    """Prints the definition of a word of the clauses in these crates, and the calls whose clauses name it; returns whether there is such a word."""
+    found = [at for crate in rooms for path in files_below(f"crates/{crate}/specs", ".antt")
              for at in [definition_at(crate, path.removeprefix(f"crates/{crate}/specs/").removesuffix(".antt").replace("/", "."), word)] if at]
     for at in found:
         print(f"{word}  {at}")
+        show("definition", text_at(at), "", 20)
         crate = at.split("/")[1]
         rows = [f"{it.title()}  {it.path}:{it.line}" for it in sources.functions
                 if any(own == word and room == crate and re.search(rf"(?<![\w.]){re.escape(named)}\b", " ".join(it.clauses))
@@ -195,7 +206,8 @@ def main():
                  (it.crate == parts[0] and it.title().split("::")[1:][-len(parts[1:]):] == parts[1:])]
         for call in sorted(found, key=lambda it: not it.is_public):
             trace(call, traits, bodies[call.crate], callers)
-        word = trace_word(parts[-1], sources) if len(parts) == 1 else False
+        rooms = crates() if len(parts) == 1 else [parts[0]] if len(parts) == 2 and parts[0] in crates() else []
+        word = trace_word(parts[-1], sources, rooms)
         sys.exit(0 if found or word else f"trace.py: no call and no word of the clauses is named {sys.argv[1]}")
     calls = [it for it in sources.functions if it.is_public and (it.crate not in PROGRAMS or it.path.endswith("laws.rt")) and not it.crate.endswith("_tests")]
     count = 0
