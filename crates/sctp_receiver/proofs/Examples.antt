@@ -1,5 +1,6 @@
 -- Worked examples, by computation.
-use Rattle.std.proofs.Common.{◌≡◌, ℕ, Bool, true, false, List, [], ◌∷◌, Some, None, refl}
+use Rattle.std.proofs.Common.{◌≡◌, ℕ, Bool, true, false, List, [], ◌∷◌, ◌++◌, length, Some, None, refl, ap}
+use Rattle.std.specs.Prelude.{nat_le, if◌then◌else◌}
 use Rattle.sctp_data.specs.ChunkSet.{fresh}
 use Rattle.sctp_data.specs.ForwardTsn.{ForwardTsn}
 use Rattle.sctp_data.specs.declared.chunk.chunk_payload_data.PayloadProtocolIdentifier.TheVariants as identifiers
@@ -9,7 +10,7 @@ use Rattle.sctp_receiver.specs.declared.receiver.limits.Limits.{Limits}
 use Rattle.sctp_receiver.specs.declared.receiver.refusal.ReceiverRefusal.TheVariants.{StreamUnknown, MessageTooLarge, TsnTooFar, WindowFull, SsnTooFar, NamedStreamUnknown, NamedSsnTooFar}
 use Rattle.sctp_receiver.specs.declared.receiver.arrival.Arrival.TheVariants.{New, Repeat}
 use Rattle.sctp_receiver.specs.Inbound.{new_stream, has_number, with_queue}
-use Rattle.sctp_receiver.specs.Receiver.{Reception, at_first, open_stream, data_refusal, arrival_refusal, filter_of, with_filter, repeat_tsn, TakesEach, discard_refusal, window}
+use Rattle.sctp_receiver.specs.Receiver.{Reception, at_first, open_stream, data_refusal, arrival_refusal, filter_of, with_filter, repeat_tsn, noted_by, TakesEach, discard_refusal, window}
 use Rattle.sctp_list_lemmas.specs.Lists.{change_where}
 use Rattle.sctp_reassembly.specs.reassembly_queue.ReassemblyQueue.{Reassembly, ReassemblyState, after_ordered_push}
 use Rattle.sctp_receiver.specs.Ssns.{lowest_ssn, is_ssn_too_far, is_name_too_far}
@@ -200,6 +201,16 @@ all_left = refl
 
 no_limits : window (at_first 7 2 None) ≡ 4294967295
 no_limits = refl
+
+-- with limits the duplicate of which a SACK is full is noted, and the next one is not; without limits each is
+last_noted : (ds : List ℕ) → length ds ≡ 16378 → noted_by (Some narrow) 7 ds ≡ ds ++ 7 ∷ []
+last_noted ds e = ap (λ n. if nat_le 16379 n then ds else ds ++ 7 ∷ []) e
+
+not_noted : (ds : List ℕ) → length ds ≡ 16379 → noted_by (Some narrow) 7 ds ≡ ds
+not_noted ds e = ap (λ n. if nat_le 16379 n then ds else ds ++ 7 ∷ []) e
+
+each_noted : (ds : List ℕ) → noted_by None 7 ds ≡ ds ++ 7 ∷ []
+each_noted ds = refl
 
 -- ## Stream sequence numbers
 

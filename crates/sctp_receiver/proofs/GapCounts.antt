@@ -3,6 +3,7 @@ use Rattle.std.proofs.Common.{◌≡◌, ℕ, zero, suc, ◌+◌, ◌-◌, ◌<�
 use Rattle.std.specs.Prelude.{if◌then◌else◌, ◌==◌, not, slice_get, unwrap_or}
 use Rattle.std.specs.List.{list_any, filter}
 use Rattle.std.proofs.lemmas.Bool.{cases_lt}
+use Rattle.std.proofs.lemmas.List.Sums.{length-filter, count_by-le-length}
 use Rattle.sctp_list_lemmas.specs.Lists.{insert_before, advance_over, Seen}
 use Rattle.sctp_list_lemmas.specs.Serial.{distance, comes_before, at_or_before}
 use Rattle.sctp_list_lemmas.proofs.Distances.{before_is}
@@ -12,6 +13,7 @@ use Rattle.sctp_serial.proofs.lemmas.ListEdits.{neither}
 use Rattle.sctp_receiver.specs.TsnFilter.{Filter, rise_beyond, has_come, is_opposite, highest_tsn, with_tsn, skipped_to}
 use Rattle.sctp_receiver.proofs.TsnLists.{IsStep, step-of, nearer, rebased, rise-inserted, rise-past, moved, behind-it, before-it}
 use Rattle.sctp_receiver.proofs.Receptions.{after}
+use Rattle.sctp_receiver.proofs.Retracts.{advance-short}
 
 -- how far the last one lies from the base; where there is none, what is handed in
 abbrev pub far_of : ℕ → ℕ → List ℕ → ℕ
@@ -190,3 +192,21 @@ next-skipped f n a small after' =
     let w = (advanced n (left n f.beyond) small rise).le in
     let past = subst (λ k. far_of n k (left n f.beyond) + length f.beyond + (0 - k) ≤ far_of c 0 f.beyond + length (left n f.beyond)) none (far-past c n 0 f.beyond a.small small d.1 (from-zero f a)) in
     record { ascending = record { small = m.small; rise = m.rise }; le = omega arith }
+
+-- the highest TSN lies within what is reached, after a call as before it
+pub reached-with : (f : Filter) (t m : ℕ) → IsAscending f → t < 2 ^ 32 → has_come t f ≡ false → is_opposite t f ≡ false
+    → distance f.cumulative_tsn t ≤ m → far_in f ≤ m → far_in (with_tsn t f) ≤ m
+reached-with f t m a small fresh near le far =
+    let next = (next-with f t m a small fresh near le far).le in
+    let short = advance-short f.cumulative_tsn (insert_before comes_before t f.beyond) in
+    let more = length-inserted t f.beyond in
+    omega (arith, next, short, more)
+
+pub reached-skipped : (f : Filter) (n m : ℕ) → IsAscending f → n < 2 ^ 32 → comes_before f.cumulative_tsn n ≡ true → far_in f ≤ m
+    → far_in (skipped_to n f) ≤ m
+reached-skipped f n m a small after' far =
+    let next = (next-skipped f n a small after').le in
+    let short = advance-short n (left n f.beyond) in
+    let is = length-filter (λ t. not (at_or_before t n)) f.beyond in
+    let few = count_by-le-length (λ t. not (at_or_before t n)) f.beyond in
+    omega (arith, next, short, is, few)

@@ -6,6 +6,7 @@ use Rattle.std.specs.List.{sum_by, filter}
 use Rattle.std.specs.Option.{option_or}
 use Rattle.std.proofs.lemmas.Bool.{cases_lt}
 use Rattle.std.proofs.lemmas.Bool.Decides.{nat_tests}
+use Rattle.std.proofs.lemmas.List.{length-append, length-drop}
 use Rattle.std.proofs.lemmas.List.Sums.{sum_by-cons, sum_by-le-sum_by}
 use Rattle.sctp_list_lemmas.specs.Lists.{change_where}
 use Rattle.sctp_list_lemmas.specs.Serial.{distance, comes_before}
@@ -19,15 +20,15 @@ use Rattle.sctp_receiver.specs.declared.receiver.refusal.ReceiverRefusal.{Receiv
 use Rattle.sctp_receiver.specs.declared.receiver.refusal.ReceiverRefusal.TheVariants.{TsnOpposite, TsnTooFar, WindowFull}
 use Rattle.sctp_receiver.specs.Inbound.{number, numbers_of, has_number, new_stream, with_queue, stream_read, named_forwarded, unassembled_forwarded}
 use Rattle.sctp_receiver.specs.Limits.{cost_of, held_cost, refusal_within, refusal_by}
-use Rattle.sctp_receiver.specs.Receiver.{Reception, filter_of, with_filter, Accepts, repeat_tsn, new_refusal, stream_of, stream_refusal, data_refusal, discard_refusal, forward_refusal, arrival_of, after_discard, after_sack_within, is_stale, follow_forward_tsn, after_forward}
-use Rattle.sctp_receiver.specs.ReceiverRuns.{Call, opens, closes, takes, discards, reports, reports_within, reads, resets, forwards, forwards_by_names, Stand, Makes, accepted_after, Follows, at_start, IsAnswered, IsUnrefused, RunsUnrefused, AfterEachRunWithin, HoldsFewChunks, CostsLittle}
+use Rattle.sctp_receiver.specs.Receiver.{Reception, filter_of, with_filter, Accepts, noted_by, repeat_tsn, new_refusal, stream_of, stream_refusal, data_refusal, discard_refusal, forward_refusal, arrival_of, after_discard, max_sack_entries, duplicates_told, sack_entries, after_sack_within, is_stale, follow_forward_tsn, after_forward}
+use Rattle.sctp_receiver.specs.ReceiverRuns.{Call, opens, closes, takes, discards, reports, reports_within, reads, resets, forwards, forwards_by_names, Stand, Makes, accepted_after, Follows, at_start, IsAnswered, IsUnrefused, RunsUnrefused, AfterEachRunWithin, HoldsFewChunks, CostsLittle, NotesFewDuplicates, KeepsFewTsns}
 use Rattle.sctp_receiver.specs.Resets.{stream_reset}
 use Rattle.sctp_receiver.specs.Skips.{incomplete_forwarded, without_incomplete, after_forward_tsn}
 use Rattle.sctp_receiver.proofs.Inbounds.{stays-mapped, stays-changed}
 use Rattle.sctp_receiver.specs.TsnFilter.{Filter, has_come, is_opposite, highest_tsn, with_tsn, skipped_to}
 use Rattle.sctp_receiver.proofs.DataEach.{takes-keeps}
 use Rattle.sctp_receiver.proofs.Forwarded.{followed-numbers}
-use Rattle.sctp_receiver.proofs.GapCounts.{IsAscending, far_in, few-beyond, past-highest, lies-beyond, next-with, next-skipped}
+use Rattle.sctp_receiver.proofs.GapCounts.{IsAscending, far_in, few-beyond, past-highest, lies-beyond, next-with, next-skipped, reached-with, reached-skipped}
 use Rattle.sctp_receiver.proofs.Receptions.{after, read-numbers}
 use Rattle.sctp_receiver.proofs.StreamCosts.{IsCost, chunk_cost, chunks-cost, all-cost, are_apart, changed-cost, mapped-cost, named-cost, kept-cost, opened-cost, one-changed, kept-apart, more-apart}
 
@@ -102,6 +103,8 @@ module _ (m : InboundStream → ℕ) (fits : ChunkPayloadData → Type 0) (most 
     ascending : IsAscending (filter_of r)
     apart : are_apart (numbers_of r.streams) ≡ true
     bound : All fits cs → IsWithinLimits r
+    reached : far_in (filter_of r) ≤ l.reach
+    noted : length r.duplicates ≤ max_sack_entries
 
   -- a new TSN comes, and no more than one chunk with it
   module _ (t : ℕ) (r : Reception) (small : t < 2 ^ 32) (a : IsAscending (filter_of r)) (fresh : has_come t (filter_of r) ≡ false) (taken : IsTaken l t r) where
@@ -135,15 +138,33 @@ module _ (m : InboundStream → ℕ) (fits : ChunkPayloadData → Type 0) (most 
     ascending = record { small = b.ascending.small; rise = b.ascending.rise };
     apart = apart;
     bound = λ fit. let h = b.bound fit in omega (arith, less, h);
+    reached = b.reached;
+    noted = b.noted;
   }
 
-  duplicated : (r : Reception) (ds : List ℕ) (cs : List ChunkPayloadData) → IsBounded r cs → IsBounded (record r { duplicates = ds }) cs
-  duplicated r ds cs b = record {
+  duplicated : (r : Reception) (ds : List ℕ) (cs : List ChunkPayloadData) → IsBounded r cs → length ds ≤ max_sack_entries
+      → IsBounded (record r { duplicates = ds }) cs
+  duplicated r ds cs b few = record {
     limited = b.limited;
     ascending = record { small = b.ascending.small; rise = b.ascending.rise };
     apart = b.apart;
     bound = b.bound;
+    reached = b.reached;
+    noted = few;
   }
+
+  -- a TSN comes again
+  few-noted : (limits : Option Limits) (t : ℕ) (ds : List ℕ) → limits ≡ Some l → length ds ≤ max_sack_entries
+      → length (noted_by limits t ds) ≤ max_sack_entries
+  few-noted None t ds some few = cc
+  few-noted (Some x) t ds some few = by (nat_le max_sack_entries (length ds)) refl
+    where
+      by : (c : Bool) → nat_le max_sack_entries (length ds) ≡ c → length (if c then ds else ds ++ t ∷ []) ≤ max_sack_entries
+      by true h = few
+      by false h = let room : length ds < max_sack_entries = grind (arith, nat_tests, h) in omega (arith, room, length-append ds (t ∷ []))
+
+  repeated : (t : ℕ) (r : Reception) (cs : List ChunkPayloadData) → IsBounded r cs → IsBounded (repeat_tsn t r) cs
+  repeated t r cs b = duplicated r (noted_by r.limits t r.duplicates) cs b (few-noted r.limits t r.duplicates b.limited b.noted)
 
   tail : (c : ChunkPayloadData) (cs : List ChunkPayloadData) → All fits (c ∷ cs) → All fits cs
   tail c cs h = λ k d lt. h (suc k) d (omega (arith, lt))
@@ -181,6 +202,8 @@ module _ (m : InboundStream → ℕ) (fits : ChunkPayloadData → Type 0) (most 
         bound = λ fit.
             let more = one-changed m c.stream_identifier most (with_queue a.queue) a.stream old.streams b.apart a.found (is.pushed c told a.stream a.queue (head c cs fit) a.pushed) in
             new-bound c.tsn old answered.fits b.ascending fresh taken (sum_by m ls) more (b.bound (tail c cs fit));
+        reached = reached-with (filter_of old) c.tsn l.reach b.ascending answered.fits fresh taken.near taken.limits.near b.reached;
+        noted = b.noted;
       } in
       subst (λ r. IsBounded r (c ∷ cs)) (sym a.after) bounded
 
@@ -190,7 +213,7 @@ module _ (m : InboundStream → ℕ) (fits : ChunkPayloadData → Type 0) (most 
   discarded t r cs b small e = by (has_come t (filter_of r)) refl e
     where
       by : (c : Bool) → has_come t (filter_of r) ≡ c → (if c then None else (if is_opposite t (filter_of r) then Some TsnOpposite else new_refusal t r)) ≡ None → IsBounded (if c then repeat_tsn t r else with_filter (with_tsn t (filter_of r)) r) cs
-      by true h e = duplicated r (r.duplicates ++ t ∷ []) cs b
+      by true h e = repeated t r cs b
       by false h e =
           let taken = new-taken l t r None b.limited (alone (is_opposite t (filter_of r)) e) in
           let ascending = new-ascending t r small b.ascending h taken in
@@ -199,6 +222,8 @@ module _ (m : InboundStream → ℕ) (fits : ChunkPayloadData → Type 0) (most 
             ascending = record { small = ascending.small; rise = ascending.rise };
             apart = b.apart;
             bound = λ fit. new-bound t r small b.ascending h taken (sum_by m r.streams) (omega arith) (b.bound fit);
+            reached = reached-with (filter_of r) t l.reach b.ascending small h taken.near taken.limits.near b.reached;
+            noted = b.noted;
           }
         where
           alone : (c : Bool) → (if c then Some TsnOpposite else new_refusal t r) ≡ None → (if c then Some TsnOpposite else option_or (new_refusal t r) None) ≡ None
@@ -228,6 +253,8 @@ module _ (m : InboundStream → ℕ) (fits : ChunkPayloadData → Type 0) (most 
             ascending = record { small = next.ascending.small; rise = next.ascending.rise };
             apart = ap are_apart (followed-numbers g r) ∙ b.apart;
             bound = λ fit. no-more (sum_by m r.streams) (sum_by m (follow_forward_tsn g r).streams) l.window (far_in (filter_of r)) (far_in (skipped_to t (filter_of r))) (length r.beyond) (length (skipped_to t (filter_of r)).beyond) l.reach most (omega (arith, named, less)) narrower (b.bound fit);
+            reached = reached-skipped (filter_of r) t l.reach b.ascending small past b.reached;
+            noted = b.noted;
           }
 
   -- and what it leaves that can't become complete is discarded
@@ -253,10 +280,12 @@ module _ (m : InboundStream → ℕ) (fits : ChunkPayloadData → Type 0) (most 
       by (closes stream) u made = subst (λ r. IsBounded r old.accepted) (sym made)
           (quiet old.receiver (filter (λ x. not (has_number stream x)) old.receiver.streams) old.accepted b (kept-apart (λ x. not (has_number stream x)) old.receiver.streams b.apart) (kept-cost m (λ x. not (has_number stream x)) old.receiver.streams))
       by (takes c (New told)) u made = accepts c told old.receiver new.receiver old.accepted b u made
-      by (takes c Repeat) u made = subst (λ r. IsBounded r old.accepted) (sym made) (duplicated old.receiver (old.receiver.duplicates ++ c.tsn ∷ []) old.accepted b)
+      by (takes c Repeat) u made = subst (λ r. IsBounded r old.accepted) (sym made) (repeated c.tsn old.receiver old.accepted b)
       by (discards tsn) u made = subst (λ r. IsBounded r old.accepted) (sym made) (discarded tsn old.receiver old.accepted b u.0 u.1)
-      by reports u made = subst (λ r. IsBounded r old.accepted) (sym made) (duplicated old.receiver [] old.accepted b)
-      by (reports_within bytes) u made = subst (λ r. IsBounded r old.accepted) (sym made) (duplicated old.receiver (after_sack_within bytes old.receiver).duplicates old.accepted b)
+      by reports u made = subst (λ r. IsBounded r old.accepted) (sym made) (duplicated old.receiver [] old.accepted b (omega arith))
+      by (reports_within bytes) u made = subst (λ r. IsBounded r old.accepted) (sym made)
+          (duplicated old.receiver (after_sack_within bytes old.receiver).duplicates old.accepted b
+          (let e = length-drop (duplicates_told (sack_entries bytes) old.receiver) old.receiver.duplicates in omega (arith, e, b.noted)))
       by (reads stream) u made = subst (λ r. IsBounded r old.accepted) (sym made)
           (quiet old.receiver (change_where (has_number stream) stream_read old.receiver.streams) old.accepted b (ap are_apart (read-numbers stream old.receiver) ∙ b.apart) (changed-cost m (has_number stream) stream_read is.read old.receiver.streams))
       by (resets stream last) u made = subst (λ r. IsBounded r old.accepted) (sym made)
@@ -274,12 +303,29 @@ module _ (m : InboundStream → ℕ) (fits : ChunkPayloadData → Type 0) (most 
     ascending = record { small = omega arith; rise = refl };
     apart = refl;
     bound = λ fit. omega arith;
+    reached = omega arith;
+    noted = omega arith;
   }
+
+  after-run : (tsn max : ℕ) (calls : List Call) (s : Stand) → RunsUnrefused (at_start tsn max (Some l)) calls s → IsBounded s.receiver s.accepted
+  after-run tsn max calls s r = run calls (at_start tsn max (Some l)) s (start tsn max) r
+
+  -- the TSNs beyond the cumulative one, and those that came again
+  pub beyond : (tsn max : ℕ) (calls : List Call) (s : Stand) → RunsUnrefused (at_start tsn max (Some l)) calls s → length s.receiver.beyond ≤ l.reach
+  beyond tsn max calls s r =
+      let b = after-run tsn max calls s r in
+      let few = few-beyond (filter_of s.receiver) b.ascending in
+      let reached = b.reached in
+      omega (arith, few, reached)
+
+  pub duplicates : (tsn max : ℕ) (calls : List Call) (s : Stand) → RunsUnrefused (at_start tsn max (Some l)) calls s
+      → length s.receiver.duplicates ≤ max_sack_entries
+  duplicates tsn max calls s r = (after-run tsn max calls s r).noted
 
   -- what is held alone
   pub held : (tsn max : ℕ) (calls : List Call) (s : Stand) → RunsUnrefused (at_start tsn max (Some l)) calls s → All fits s.accepted → sum_by m s.receiver.streams ≤ l.window + l.reach * most
   held tsn max calls s r fit =
-      let b = run calls (at_start tsn max (Some l)) s (start tsn max) r in
+      let b = after-run tsn max calls s r in
       let bound = b.bound fit in
       let few = mul-le-mul_right most (few-beyond (filter_of s.receiver) b.ascending) in
       omega (arith, bound, few, add-mul l.reach (length s.receiver.beyond) most)
@@ -298,3 +344,9 @@ few-chunks tsn max l calls s usize r =
 
 pub little : AfterEachRunWithin CostsLittle
 little tsn max l calls s usize r = λ most fit. held cost_of (λ c. length c.user_data ≤ most) (most + 200) (all-cost most) l usize tsn max calls s r fit
+
+pub few-tsns : AfterEachRunWithin KeepsFewTsns
+few-tsns tsn max l calls s usize r = beyond chunk_cost (λ c. ⊤) 200 chunks-cost l usize tsn max calls s r
+
+pub few-duplicates : AfterEachRunWithin NotesFewDuplicates
+few-duplicates tsn max l calls s usize r = duplicates chunk_cost (λ c. ⊤) 200 chunks-cost l usize tsn max calls s r

@@ -1,5 +1,5 @@
 -- The receiving half of a link as callers see it (RFC 4960 6; RFC 3758 3.6).
-use Rattle.std.specs.Prelude.{◌≡◌, ◌⊎◌, ℕ, Bool, true, false, not, ◌&&◌, ◌||◌, if◌then◌else◌, ◌-◌, ◌/◌, min, List, [], ◌∷◌, ◌++◌, length, map, take, drop, slice_get, Option, Some, None, is_some}
+use Rattle.std.specs.Prelude.{◌≡◌, ◌⊎◌, ℕ, Bool, true, false, not, ◌&&◌, ◌==◌, nat_le, if◌then◌else◌, ◌-◌, ◌/◌, min, List, [], ◌∷◌, ◌++◌, length, map, take, drop, slice_get, Option, Some, None, is_some}
 use Rattle.std.specs.List.{find, filter}
 use Rattle.std.specs.Option.{option_or}
 use Rattle.sctp_list_lemmas.specs.Lists.{change_where}
@@ -20,8 +20,8 @@ use Rattle.sctp_receiver.specs.declared.receiver.arrival.Forwarded.TheVariants.{
 use Rattle.sctp_receiver.specs.Inbound.{number, has_number, new_stream, with_queue, Pushes, stream_read, named_forwarded, unassembled_forwarded}
 use Rattle.sctp_receiver.specs.Limits.{refusal_by, window_left}
 use Rattle.sctp_receiver.specs.Ssns.{is_too_far_on}
-use Rattle.sctp_receiver.specs.TsnFilter.{Filter, has_come, is_opposite, with_tsn, with_duplicate, skipped_to, gap_ack_blocks}
-use Rattle.sctp_serial.specs.DataChunks.{preceding_tsn}
+use Rattle.sctp_receiver.specs.TsnFilter.{Filter, has_come, is_opposite, with_tsn, skipped_to, gap_ack_blocks}
+use Rattle.sctp_serial.specs.DataChunks.{following_tsn, preceding_tsn}
 
 -- the open streams in the order in which they were opened; the cumulative TSN, the TSNs that came beyond it, and those that
 -- came again since the last SACK; how long a message may be, and the limits of what is taken, if there are any
@@ -115,9 +115,25 @@ pub record Accepts (c : ChunkPayloadData) (complete : Bool) (old new : Reception
             (with_queue queue) old.streams;
       })
 
+-- the greatest count of blocks and duplicates in a SACK that fits its length
+abbrev pub max_sack_entries : ℕ
+max_sack_entries = 16379
+
+-- there are limits, and as many duplicates are noted as one SACK can report: no more is noted
+abbrev pub is_full_by : Option Limits → List ℕ → Bool
+is_full_by None ds = false
+is_full_by (Some l) ds = nat_le max_sack_entries (length ds)
+
+abbrev pub is_duplicates_full : Reception → Bool
+is_duplicates_full r = is_full_by r.limits r.duplicates
+
+-- a duplicate is noted where there is a place for it
+abbrev pub noted_by : Option Limits → ℕ → List ℕ → List ℕ
+noted_by limits tsn ds = if is_full_by limits ds then ds else ds ++ tsn ∷ []
+
 -- a TSN that came comes again
 abbrev pub repeat_tsn : ℕ → Reception → Reception
-repeat_tsn tsn r = with_filter (with_duplicate tsn (filter_of r)) r
+repeat_tsn tsn r = record r { duplicates = noted_by r.limits tsn r.duplicates }
 
 -- what the chunk of a TSN is; where it is new, whether a message became complete with it is handed in
 abbrev pub arrival_of : ℕ → Bool → Reception → Arrival
@@ -175,8 +191,8 @@ StopsAt = StopsAtBy arrival_refusal
 -- whether memory may be asked for: a duplicate is to be noted, or a fragment to be kept
 abbrev pub takes_memory : ChunkPayloadData → Reception → Bool
 takes_memory c r =
-    has_come c.tsn (filter_of r) || (not (is_opposite c.tsn (filter_of r))
-    && is_open c.stream_identifier r)
+    if has_come c.tsn (filter_of r) then not (is_duplicates_full r)
+    else not (is_opposite c.tsn (filter_of r)) && is_open c.stream_identifier r
 
 -- ## A chunk is dropped
 
@@ -192,15 +208,17 @@ after_discard tsn r =
     if has_come tsn (filter_of r) then repeat_tsn tsn r
     else with_filter (with_tsn tsn (filter_of r)) r
 
+-- whether memory may be asked for: a duplicate is to be noted, or a TSN to be kept beyond the cumulative one
+abbrev pub discard_takes_memory : ℕ → Reception → Bool
+discard_takes_memory tsn r =
+    if has_come tsn (filter_of r) then not (is_duplicates_full r)
+    else not (tsn == following_tsn r.cumulative_tsn)
+
 -- ## SACK
 
 -- the window to advertise: what is left of it, or the greatest u32
 abbrev pub window : Reception → ℕ
 window r = window_left r.limits r.streams
-
--- the greatest count of blocks and duplicates in a SACK that fits its length
-abbrev pub max_sack_entries : ℕ
-max_sack_entries = 16379
 
 -- how many duplicates fit behind the blocks, of so many blocks and duplicates in all
 abbrev pub duplicates_told : ℕ → Reception → ℕ

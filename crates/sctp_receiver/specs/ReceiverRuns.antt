@@ -10,7 +10,7 @@ use Rattle.sctp_receiver.specs.declared.receiver.arrival.Arrival.{Arrival}
 use Rattle.sctp_receiver.specs.declared.receiver.arrival.Arrival.TheVariants.{New, Repeat}
 use Rattle.sctp_receiver.specs.declared.receiver.limits.Limits.{Limits}
 use Rattle.sctp_receiver.specs.Limits.{cost_of}
-use Rattle.sctp_receiver.specs.Receiver.{Reception, at_first, is_open, open_stream, close_stream, data_refusal, arrival_of, is_told_complete, Takes, discard_refusal, after_discard, forward_refusal, without_duplicates, after_sack_within, message_on, after_read, after_forward}
+use Rattle.sctp_receiver.specs.Receiver.{Reception, at_first, is_open, open_stream, close_stream, data_refusal, arrival_of, is_told_complete, Takes, discard_refusal, after_discard, forward_refusal, without_duplicates, max_sack_entries, after_sack_within, message_on, after_read, after_forward}
 use Rattle.sctp_receiver.specs.Resets.{reset_stream, reset_refusal}
 use Rattle.sctp_receiver.specs.Skips.{after_forward_tsn}
 use Rattle.sctp_serial.specs.DataChunks.{is_on}
@@ -198,3 +198,11 @@ abbrev pub CostsLittle : Limits → Stand → Type 0
 CostsLittle l s =
     (most : ℕ) → All (λ c. length c.user_data ≤ most) s.accepted
     → sum_by cost_of s.receiver.streams ≤ l.window + l.reach * (most + 200)
+
+-- no more duplicates are noted than one SACK can report
+abbrev pub NotesFewDuplicates : Limits → Stand → Type 0
+NotesFewDuplicates l s = length s.receiver.duplicates ≤ max_sack_entries
+
+-- no more TSNs are kept beyond the cumulative one than there are within reach
+abbrev pub KeepsFewTsns : Limits → Stand → Type 0
+KeepsFewTsns l s = length s.receiver.beyond ≤ l.reach

@@ -1,5 +1,5 @@
 -- What a chunk made of a receiver is taken back.
-use Rattle.std.specs.Prelude.{◌≡◌, ℕ, zero, suc, ◌+◌, ◌-◌, ◌<◌, ◌≤◌, ◌^◌, ◌==◌, true, not, if◌then◌else◌, List, [], ◌∷◌, ◌++◌, length, take, IfSome}
+use Rattle.std.specs.Prelude.{◌≡◌, ℕ, zero, suc, ◌+◌, ◌-◌, ◌<◌, ◌≤◌, ◌^◌, ◌==◌, Bool, true, false, not, if◌then◌else◌, List, [], ◌∷◌, ◌++◌, length, take, IfSome}
 use Rattle.std.specs.List.{find, filter}
 use Rattle.sctp_list_lemmas.specs.Lists.{change_where}
 use Rattle.sctp_list_lemmas.specs.Serial.{distance}
@@ -91,14 +91,19 @@ abbrev pub without_duplicate : Filter → Filter
 without_duplicate f =
     record f { duplicates = take (length f.duplicates - 1) f.duplicates }
 
+-- a TSN that came again is taken back: of one that was not noted nothing was kept
+abbrev pub repeat_undone : Bool → Filter → Filter
+repeat_undone true f = without_duplicate f
+repeat_undone false f = f
+
 -- a chunk is taken back
 abbrev pub chunk_undone : ChunkUndo → Parts → Parts
-chunk_undone Repeat p = record p { filter = without_duplicate p.filter }
+chunk_undone (Repeat noted) p = record p { filter = repeat_undone noted p.filter }
 chunk_undone (New tsn place s u) p =
     parts (undone_on s u p.streams) (retracted tsn p.filter)
 
 abbrev pub CanUndoChunk : ChunkUndo → Parts → Type 0
-CanUndoChunk Repeat p = Unit {0}
+CanUndoChunk (Repeat noted) p = Unit {0}
 CanUndoChunk (New tsn place s u) p =
     CanRetract tsn p.filter × CanUndoOn s place u p.streams
 

@@ -1,6 +1,6 @@
 //! What holds after every run of calls of a receiver: a law, the contract of a function that does nothing.
 
-ghost use Rattle.sctp_receiver.specs.ReceiverRuns.{AfterEachRun, AfterEachRunWithin, AreComplete, AreOfOneMessage, CostsLittle, HoldsFewChunks, WereAccepted};
+ghost use Rattle.sctp_receiver.specs.ReceiverRuns.{AfterEachRun, AfterEachRunWithin, AreComplete, AreOfOneMessage, CostsLittle, HoldsFewChunks, KeepsFewTsns, NotesFewDuplicates, WereAccepted};
 
 /// Whatever chunks come to a receiver, and whichever streams are opened and closed, each message that it hands out is complete: its
 /// fragments have consecutive TSNs, the first begins and the last ends. They are alike: all unordered, or all ordered with one stream
@@ -16,8 +16,11 @@ pub fn messages_are_of_accepted_chunks()
 
 /// Whatever chunks come to a receiver with limits, and whichever streams are opened, closed and read, what it holds stays within them:
 /// at 200 bytes a chunk, the chunks that are held count for no more than the window and one chunk for each TSN within reach; and with
-/// their bytes too, where each chunk that was taken has at most so many.
+/// their bytes too, where each chunk that was taken has at most so many. No more TSNs stand beyond the cumulative one than within reach,
+/// and no more duplicates are noted than one SACK can report.
 pub fn what_is_held_is_bounded()
     ensures chunks { AfterEachRunWithin HoldsFewChunks }
     ensures bytes { AfterEachRunWithin CostsLittle }
+    ensures beyond { AfterEachRunWithin KeepsFewTsns }
+    ensures duplicates { AfterEachRunWithin NotesFewDuplicates }
 {}

@@ -23,7 +23,7 @@ use self::arrival::{Arrival, Forwarded};
 use self::inbound_streams::{InboundStream, InboundStreams};
 use self::limits::Limits;
 use self::refusal::ReceiverRefusal;
-use self::taking::{Rules, take};
+use self::taking::{Rules, note_repeat, take};
 use self::tsn_filter::TsnFilter;
 use sctp_base::util::sna32lte;
 use sctp_data::chunk::chunk_forward_tsn::{ChunkForwardTsn, ChunkForwardTsnStream};
@@ -39,8 +39,8 @@ use std::marker::Model;
 /// a peer may send: each has its answer or its refusal, and nothing is asked of the caller.
 ///
 /// It keeps the open streams, with what came on them and was not read, the TSNs beyond the cumulative one, and those
-/// that came again since the last SACK. Of a message that was read, and of a TSN that the cumulative one passed,
-/// nothing is kept but the counters.
+/// that came again since the last SACK, with limits no more of these than one SACK can report. Of a message that was read,
+/// and of a TSN that the cumulative one passed, nothing is kept but the counters.
 #[derive(Drop)]
 pub struct Receiver {
     alloc: Global,
@@ -71,11 +71,11 @@ impl Receiver {
     ghost use Rattle.sctp_receiver.specs.Ssns.{is_kept_on};
     ghost use Rattle.sctp_receiver.specs.TsnFilter.{has_come, mark};
     ghost use Rattle.sctp_serial.specs.DataChunks.{bytes_of};
-    ghost use Rattle.sctp_receiver.specs.Receiver.{at_first, filter_of, stream_of, is_open, open_stream, close_stream, data_refusal, arrival_refusal, refusal_for, IsRefusedFor, takes_memory, arrival_of, is_told_complete, Takes, discard_refusal, after_discard, message_on, readable_streams, after_read, forward_refusal, forwarded_of, after_forward};
+    ghost use Rattle.sctp_receiver.specs.Receiver.{at_first, filter_of, stream_of, is_open, open_stream, close_stream, data_refusal, arrival_refusal, refusal_for, IsRefusedFor, takes_memory, arrival_of, is_told_complete, Takes, discard_refusal, after_discard, discard_takes_memory, message_on, readable_streams, after_read, forward_refusal, forwarded_of, after_forward};
 
     /// A receiver with no stream, to which nothing came. The first TSN is expected next, and a message may have
-    /// `max_message_size` bytes. The limits stay as they are handed in; where there are none, nothing is refused for them. It takes no
-    /// memory.
+    /// `max_message_size` bytes. The limits stay as they are handed in; where there are none, nothing is refused for them, and each TSN
+    /// that comes again is noted. It takes no memory.
     pub fn new(alloc: Global, first_tsn: u32, max_message_size: u32, limits: Option<Limits>) -> Self
         ensures { result ≡ at_first first_tsn max_message_size limits }
     {
@@ -112,7 +112,8 @@ impl Receiver {
     }
 
     /// Takes a DATA chunk (RFC 4960 6.2): `New`, where its TSN is new, with whether a message of its stream became complete with it;
-    /// and `Repeat`, where it came before or a FORWARD-TSN skipped it: then the next SACK reports it as a duplicate. The refusals, in
+    /// and `Repeat`, where it came before or a FORWARD-TSN skipped it: then it is noted, and the next SACK reports it as a duplicate;
+    /// with limits no more are noted than one SACK can report, so that a peer that repeats a chunk fills no memory. The refusals, in
     /// the order in which they are looked for, of a TSN that did not come:
     ///
     /// - `SsnTooFar`, where it is ordered, its stream is open, and its stream sequence number lies 2^15 or more, modulo 2^16, past the
@@ -199,17 +200,19 @@ impl Receiver {
 
     /// Takes the TSN of a DATA chunk that is dropped, as one of a stream that is not open, or of a message that is too long (RFC 4960
     /// 6.5): it counts as come, and is acknowledged. `New`, with no message complete, where it is new, and `Repeat`, where it
-    /// came before: then the next SACK reports it as a duplicate. The refusals are those of `data`, but of the stream: `TsnOpposite`,
+    /// came before: then it is noted as `data` notes it. The refusals are those of `data`, but of the stream: `TsnOpposite`,
     /// `TsnTooFar`, `WindowFull`, and `OutOfMemory` in the place of none. The receiver is as it was then.
     pub fn discard(&mut self, tsn: u32) -> Result<Arrival, ReceiverRefusal>
         ensures answer { IfOk result (λ arrival. arrival ≡ arrival_of tsn false self.old) }
         ensures ok { OnOk result (self.new ≡ after_discard tsn self.old) }
         ensures accepted { IsOk result → discard_refusal tsn self.old ≡ None }
         ensures refused { IfErr result (λ e. IsRefusedFor (discard_refusal tsn self.old) e) }
+        ensures wants { IfErr result (λ e. e ≡ OutOfMemory
+            → discard_takes_memory tsn self.old ≡ true) }
         ensures err { OnErr result (self.new ≡ self.old) }
     {
         if self.filter.has_come(tsn) {
-            self.filter.record_duplicate(tsn)?;
+            note_repeat(&mut self.filter, self.limits, tsn)?;
             return Ok(Arrival::Repeat);
         }
         if self.filter.is_opposite(tsn) {

@@ -1,16 +1,17 @@
 //! A DATA chunk is taken so that it can be taken back (RFC 4960 6.2, 6.10).
 
-ghost use Rattle.std.specs.Prelude.{◌≡◌, true, false, None, OnErr, IfOk, IfErr, IsOk};
+ghost use Rattle.std.specs.Prelude.{◌≡◌, true, false, None, OnOk, OnErr, IfOk, IfErr, IsOk};
 ghost use Rattle.sctp_receiver.specs.declared.receiver.refusal.ReceiverRefusal.TheVariants.{OutOfMemory};
-ghost use Rattle.sctp_receiver.specs.Receiver.{data_refusal, refusal_for, IsRefusedFor, takes_memory, arrival_of, is_told_complete, Takes, stream_of};
+ghost use Rattle.sctp_receiver.specs.Receiver.{data_refusal, refusal_for, IsRefusedFor, takes_memory, arrival_of, is_told_complete, Takes, stream_of, is_full_by, noted_by};
 ghost use Rattle.sctp_receiver.specs.Ssns.{is_kept_on};
 ghost use Rattle.sctp_receiver.specs.TsnFilter.{has_come};
-ghost use Rattle.sctp_receiver.specs.Undo.{parts, reception_of, chunk_undone, CanUndoChunk, chunks_undone, CanUndoChunks};
+ghost use Rattle.sctp_receiver.specs.Undo.{parts, reception_of, chunk_undone, CanUndoChunk, chunks_undone, CanUndoChunks, repeat_undone};
 
 use crate::receiver::arrival::Arrival;
 use crate::receiver::inbound_streams::InboundStreams;
 use crate::receiver::limits::{Limits, refusal_by};
 use crate::receiver::refusal::ReceiverRefusal;
+use crate::receiver::sack_out::MAX_SACK_ENTRIES;
 use crate::receiver::ssns::is_new_too_far;
 use crate::receiver::tsn_filter::TsnFilter;
 use crate::receiver::tsn_filter::undo::FilterUndo;
@@ -31,8 +32,10 @@ pub(crate) struct Rules {
 /// What a chunk did, so that it can be taken back.
 #[derive(Drop)]
 pub(crate) enum ChunkUndo {
-    /// Its TSN came again, and was noted.
-    Repeat,
+    /// Its TSN came again, and was noted or not.
+    Repeat {
+        noted: bool,
+    },
     /// Its TSN came, and its stream, which stands at a place, has it.
     New {
         tsn: FilterUndo,
@@ -101,8 +104,8 @@ fn take_any_ssn(
     ensures err { OnErr result (parts streams.new filter.new ≡ parts streams.old filter.old) }
 {
     if filter.has_come(chunk.tsn) {
-        filter.record_duplicate(chunk.tsn)?;
-        return Ok((Arrival::Repeat, ChunkUndo::Repeat));
+        let noted = note_repeat(filter, rules.limits, chunk.tsn)?;
+        return Ok((Arrival::Repeat, ChunkUndo::Repeat { noted }));
     }
     if filter.is_opposite(chunk.tsn) {
         return Err(ReceiverRefusal::TsnOpposite);
@@ -128,6 +131,49 @@ fn take_any_ssn(
     Ok((Arrival::New { complete }, undo))
 }
 
+// A TSN comes again: it is noted, unless the limits are there and as many duplicates are noted as a SACK can report. Answers whether it
+// was noted. Where it is not it takes no memory.
+// Precondition: it came.
+pub(crate) fn note_repeat(
+    filter: &mut TsnFilter,
+    limits: Option<Limits>,
+    tsn: u32,
+) -> Result<bool, ReceiverRefusal>
+    requires { has_come tsn filter.old ≡ true }
+    ensures ok { OnOk result (filter.new ≡ record filter.old {
+      duplicates = noted_by limits tsn filter.old.duplicates;
+    }) }
+    ensures undo { IfOk result (λ noted. repeat_undone noted filter.new ≡ filter.old) }
+    ensures refused { IfErr result (λ e. (e ≡ OutOfMemory)
+        × (is_full_by limits filter.old.duplicates ≡ false)) }
+    ensures err { OnErr result (filter.new ≡ filter.old) }
+{
+    if is_full_by(limits, filter) {
+        return Ok(false);
+    }
+    filter.record_duplicate(tsn)?;
+    Ok(true)
+}
+
+// Whether the limits are there, and as many duplicates are noted as a SACK can report.
+fn is_full_by(limits: Option<Limits>, filter: &TsnFilter) -> bool
+    ensures { result ≡ is_full_by limits filter.now.duplicates }
+{
+    match limits {
+        Some(_) => filter.queue().duplicates().len() >= MAX_SACK_ENTRIES,
+        None => false,
+    }
+}
+
+// A TSN that came again is taken back.
+fn forget_repeat(filter: &mut TsnFilter, noted: bool)
+    ensures { filter.new ≡ repeat_undone noted filter.old }
+{
+    if noted {
+        filter.forget_last_duplicate();
+    }
+}
+
 // Takes chunks back, the last one first. It takes no memory.
 // Precondition: all is as the last one left it.
 pub(crate) fn undo_each(streams: &mut InboundStreams, filter: &mut TsnFilter, undos: Vec<ChunkUndo>)
@@ -148,7 +194,7 @@ fn undo_chunk(streams: &mut InboundStreams, filter: &mut TsnFilter, undo: ChunkU
         ≡ chunk_undone undo (parts streams.old filter.old) }
 {
     match undo {
-        ChunkUndo::Repeat => filter.forget_last_duplicate(),
+        ChunkUndo::Repeat { noted } => forget_repeat(filter, noted),
         ChunkUndo::New {
             tsn,
             place,

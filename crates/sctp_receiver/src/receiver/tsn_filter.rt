@@ -1,11 +1,11 @@
 //! The TSNs that came (RFC 4960 6.2).
 
-ghost use Rattle.std.specs.Prelude.{◌≡◌, ◌<◌, ◌≤◌, ◌+◌, ◌^◌, ◌∷◌, ◌++◌, [], ℕ, true, false, OnOk, OnErr, IfOk, IsOkUnless, length, map, drop, take, slice_get, IsTrue};
+ghost use Rattle.std.specs.Prelude.{◌≡◌, ◌==◌, ◌<◌, ◌≤◌, ◌+◌, ◌^◌, ◌∷◌, ◌++◌, [], ℕ, true, false, OnOk, OnErr, IfOk, IsOkUnless, length, map, drop, take, slice_get, IsTrue};
 ghost use Rattle.sctp_base.specs.declared.error.Error.TheVariants.{ErrOutOfMemory};
 ghost use Rattle.sctp_list_lemmas.specs.Lists.{advance_over};
 ghost use Rattle.sctp_list_lemmas.specs.Serial.{comes_before};
 ghost use Rattle.sctp_receiver.specs.TsnFilter.{mark};
-ghost use Rattle.sctp_serial.specs.DataChunks.{preceding_tsn, tsns};
+ghost use Rattle.sctp_serial.specs.DataChunks.{following_tsn, preceding_tsn, tsns};
 
 pub mod undo;
 
@@ -133,6 +133,8 @@ impl TsnFilter {
         ensures rest { self.new ≡ record self.old { room = self.new.room } }
         ensures more { self.old.room ≤ self.new.room }
         ensures err { OnErr result (self.new ≡ self.old) }
+        ensures wants { OnErr result
+            ((tsn == following_tsn self.old.cumulative_tsn) ≡ false) }
         ensures memory { IsOkUnless result ErrOutOfMemory }
     {
         if tsn == self.cumulative_tsn.wrapping_add(1) {
