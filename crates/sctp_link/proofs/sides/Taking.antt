@@ -86,7 +86,9 @@ module _ (t : Transmission) (r : Reception) (ps : List Standing) (a : IsAligned 
 
 -- one is taken
 pub takes-one : (t : Transmission) (r : Reception) (ps : List Standing) → IsAligned t r ps → IsApart (Outgoing.numbers_of t.streams) → (c : ChunkPayloadData) (n : ℕ) (b : Arrival) (x : Reception) → R.Takes c b r x → Takes c n b (sides t r ps) (sides t x (after_one c n b ps))
-takes-one t r ps a apart c n Repeat x h = ap (λ z. sides t z ps) h
+takes-one t r ps a apart c n Repeat x h =
+    ap (λ z. sides t z ps) h
+    ∙ ap (λ l. let z : Reception = record r { duplicates = R.noted_by l c.tsn r.duplicates } in sides t z ps) a.unlimited
 takes-one t r ps a apart c n (New b) x h =
     let s = c.stream_identifier in
     let gone = b && c.unordered in

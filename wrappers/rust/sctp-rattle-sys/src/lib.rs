@@ -489,7 +489,8 @@ extern "C" {
     pub fn sctp_receiver_reset(receiver: *mut sctp_receiver, stream: u16, last_tsn: u32) -> sctp_code;
 
     /// Takes the bytes of a DATA chunk, without its padding or with it (RFC 4960 6.2). SCTP_OK: its TSN is new, and `complete` becomes 1 where
-    /// a message of its stream became complete with it, else 0. SCTP_REPEAT: its TSN came before; the next SACK reports it as a duplicate.
+    /// a message of its stream became complete with it, else 0. SCTP_REPEAT: its TSN came before; the next SACK reports it as a duplicate,
+    /// but a receiver with limits notes no more of them than one SACK can report, 16,379.
     /// Refuses with an error of bytes that are no DATA chunk, and, of a new TSN, in this order, with SCTP_SSN_TOO_FAR, SCTP_TSN_OPPOSITE,
     /// SCTP_TSN_TOO_FAR, SCTP_WINDOW_FULL, SCTP_STREAM_UNKNOWN, SCTP_MESSAGE_TOO_LARGE, SCTP_NO_MEMORY: nothing is acknowledged then, and
     /// the chunk may come again. `complete` stays, but with SCTP_OK.
