@@ -21,6 +21,8 @@ mod part;
 mod receiver_tests;
 pub mod receiving;
 #[cfg(test)]
+mod repeat_tests;
+#[cfg(test)]
 mod saving_tests;
 #[cfg(test)]
 mod sender_tests;
