@@ -9,9 +9,17 @@ use Rattle.std_heap.proofs.Global.TheLaws as heap
 use Rattle.sctp_receiver.specs.contracts.receiver.Receiver as Value
 use Rattle.sctp_receiver.proofs.receiver.Receiver.TheLaws as value
 use Rattle.sctp_c.specs.contracts.receiver.SctpReceiver as Handle
+use Rattle.sctp_c.specs.contracts.receiver.SctpNewReceiver as New
+use Rattle.sctp_c.specs.contracts.parts.Parts as Parts
 
 abbrev pub E : Bx
 E = record { row = Value.the_row; laws = value.the_row_laws; al = record { row = Heap.the_row; laws = heap.the_row_laws; g = ghosts; d = dict; drops = impl [] tnil dnil } }
 
 abbrev pub FromHandle : Slot 0
 FromHandle = plain (λ _. Handle.the_row)
+
+abbrev pub FromNew : Slot 0
+FromNew = plain (λ _. New.the_row)
+
+abbrev pub FromParts : Slot 1
+FromParts = plain (λ _. Parts.the_row Value.the_row Heap.the_row ghosts)

@@ -3,13 +3,13 @@
 //! A handle is one pointer. Each call says what it makes of the value behind it, which is a `Receiver`, in that type's own words. A code
 //! of 16 or more is a refusal: the receiver is as it was then.
 
-ghost use Rattle.std.specs.Prelude.{◌≡◌, ◌≢◌, ◌⊎◌, false, if◌then◌else◌};
+ghost use Rattle.std.specs.Prelude.{◌≡◌, ◌≢◌, ◌⊎◌, false, Option, None, Some, if◌then◌else◌};
 ghost use Rattle.std.specs.Borrow.{sem};
-ghost use Rattle.sctp_c.specs.OwnedReceiver.{receiver_owns, receiver_coded};
+ghost use Rattle.sctp_c.specs.OwnedReceiver.{receiver_owns, receiver_coded, new_receiver_owns, new_receiver_coded};
 ghost use Rattle.sctp_c.specs.Codes.{receiver_code};
 ghost use Rattle.sctp_c.specs.Receiving.{receiver_code_for};
 ghost use Rattle.sctp_receiver.specs.Limits.{held_cost};
-ghost use Rattle.sctp_receiver.specs.Receiver.{Reception, is_open, open_stream, close_stream, window};
+ghost use Rattle.sctp_receiver.specs.Receiver.{Reception, at_first, is_open, open_stream, close_stream, window};
 ghost use Rattle.sctp_receiver.specs.Resets.{reset_stream, reset_refusal};
 ghost use Rattle.sctp_receiver.specs.declared.receiver.refusal.ReceiverRefusal.TheVariants.{StreamOpen, OutOfMemory};
 
@@ -65,21 +65,48 @@ impl SctpReceiver {
     }
 }
 
-// The same pointer, as C has it.
-fn hide(at: *mut Receiver) -> *mut ReceiverMemory
-    ensures { result ≡ at }
-{
-    at as *mut ReceiverMemory
+/// Where a new receiver's handle is written: `value` is what stands behind the handle that was written, none before. Letting it go frees
+/// nothing.
+#[repr(C)]
+#[derive(Drop)]
+pub struct SctpNewReceiver {
+    at: *mut ReceiverMemory,
+    alloc: Global,
+    pub ghost value: { Option Reception } by { new_receiver_coded },
+}
+
+impl Model for SctpNewReceiver {
+    ghost also_owns = { λ h. new_receiver_owns h.alloc h.at h.value };
+}
+
+impl SctpNewReceiver {
+    // Writes the handle of what the parts own.
+    fn hold(&mut self, parts: Parts<Receiver, Global>)
+        ensures { self.new.value ≡ Some parts.value }
+    {
+        let Parts { ptr, alloc: _ } = parts;
+        self.at = ptr as *mut ReceiverMemory;
+    }
+
+    /// The handle that was written.
+    pub fn into_handle(self) -> SctpReceiver
+        requires written { self.value ≢ None }
+        ensures { Some result.value ≡ self.value }
+    {
+        let SctpNewReceiver { at, alloc } = self;
+        SctpReceiver { at, alloc }
+    }
 }
 
 // Puts a receiver on the heap, and its handle into `out`.
-fn hand_out(alloc: Global, receiver: Receiver, out: &mut *mut ReceiverMemory) -> u32
+fn hand_out(alloc: Global, receiver: Receiver, out: &mut SctpNewReceiver) -> u32
     ensures codes { (result ≡ 0) ⊎ (result ≡ 16) }
+    ensures ok { result ≡ 0 → out.new.value ≡ Some receiver }
     ensures refused { result ≢ 0 → out.new ≡ out.old }
 {
     match Box::new(alloc, receiver) {
         Ok(held) => {
-            *out = hide(Box::into_raw(held));
+            out.hold(Parts::of(held));
             SCTP_OK
         }
         Err(_) => SCTP_NO_MEMORY,
@@ -96,9 +123,11 @@ pub extern "C" fn sctp_receiver_new(
     max_message_size: u32,
     window: usize,
     reach: u32,
-    out: &mut *mut ReceiverMemory,
+    out: &mut SctpNewReceiver,
 ) -> u32
     ensures codes { (result ≡ 0) ⊎ (result ≡ 16) }
+    ensures ok { result ≡ 0 → out.new.value ≡ Some (at_first first_tsn max_message_size
+        (Some (record { window = window; reach = reach }))) }
     ensures refused { result ≢ 0 → out.new ≡ out.old }
 {
     let limits = Some(Limits { window, reach });
@@ -112,9 +141,10 @@ pub extern "C" fn sctp_receiver_new_unlimited(
     alloc: Global,
     first_tsn: u32,
     max_message_size: u32,
-    out: &mut *mut ReceiverMemory,
+    out: &mut SctpNewReceiver,
 ) -> u32
     ensures codes { (result ≡ 0) ⊎ (result ≡ 16) }
+    ensures ok { result ≡ 0 → out.new.value ≡ Some (at_first first_tsn max_message_size None) }
     ensures refused { result ≢ 0 → out.new ≡ out.old }
 {
     let receiver = Receiver::new(alloc, first_tsn, max_message_size, None);

@@ -3,12 +3,12 @@
 //! A handle is one pointer. Each call says what it makes of the value behind it, which is a `Sender`, in that type's own words. A code of
 //! 16 or more is a refusal: the sender is as it was then. `now` is in nanoseconds from any one moment.
 
-ghost use Rattle.std.specs.Prelude.{◌≡◌, ◌≢◌, ◌<◌, ◌≤◌, ◌⊎◌, ◌==◌, not, false, None, Some, length, option_map, if◌then◌else◌};
+ghost use Rattle.std.specs.Prelude.{◌≡◌, ◌≢◌, ◌<◌, ◌≤◌, ◌⊎◌, ◌==◌, not, false, Option, None, Some, length, option_map, if◌then◌else◌};
 ghost use Rattle.std.specs.Borrow.{sem};
-ghost use Rattle.sctp_c.specs.OwnedSender.{sender_owns, sender_coded};
+ghost use Rattle.sctp_c.specs.OwnedSender.{sender_owns, sender_coded, new_sender_owns, new_sender_coded};
 ghost use Rattle.sctp_c.specs.Codes.{sender_code};
 ghost use Rattle.sctp_c.specs.Sending.{IsSenderCode, Writes, reliability_named};
-ghost use Rattle.sctp_sender.specs.Sender.{Transmission, is_open, open_stream, close_stream, with_mode_on, write_refusal};
+ghost use Rattle.sctp_sender.specs.Sender.{Transmission, with_nothing, is_open, open_stream, close_stream, with_mode_on, write_refusal};
 ghost use Rattle.sctp_sender.specs.Settings.{reset_on, reset_refusal, with_fragment_size, with_low_on};
 ghost use Rattle.sctp_sender.specs.declared.sender.refusal.SenderRefusal.TheVariants.{StreamOpen, OutOfMemory};
 
@@ -69,11 +69,37 @@ impl SctpSender {
     }
 }
 
-// The same pointer, as C has it.
-fn hide(at: *mut Sender) -> *mut SenderMemory
-    ensures { result ≡ at }
-{
-    at as *mut SenderMemory
+/// Where a new sender's handle is written: `value` is what stands behind the handle that was written, none before. Letting it go frees
+/// nothing.
+#[repr(C)]
+#[derive(Drop)]
+pub struct SctpNewSender {
+    at: *mut SenderMemory,
+    alloc: Global,
+    pub ghost value: { Option Transmission } by { new_sender_coded },
+}
+
+impl Model for SctpNewSender {
+    ghost also_owns = { λ h. new_sender_owns h.alloc h.at h.value };
+}
+
+impl SctpNewSender {
+    // Writes the handle of what the parts own.
+    fn hold(&mut self, parts: Parts<Sender, Global>)
+        ensures { self.new.value ≡ Some parts.value }
+    {
+        let Parts { ptr, alloc: _ } = parts;
+        self.at = ptr as *mut SenderMemory;
+    }
+
+    /// The handle that was written.
+    pub fn into_handle(self) -> SctpSender
+        requires written { self.value ≢ None }
+        ensures { Some result.value ≡ self.value }
+    {
+        let SctpNewSender { at, alloc } = self;
+        SctpSender { at, alloc }
+    }
 }
 
 /// Makes a sender with no stream, whose first chunk gets `first_tsn`. A chunk has `fragment_size` bytes of user data at most, 1 to
@@ -85,10 +111,12 @@ pub extern "C" fn sctp_sender_new(
     first_tsn: u32,
     fragment_size: u32,
     max_message_size: u32,
-    out: &mut *mut SenderMemory,
+    out: &mut SctpNewSender,
 ) -> u32
     ensures codes { (result ≡ 0) ⊎ ((result ≡ 16) ⊎ (result ≡ 18)) }
-    ensures ok { result ≡ 0 → (0 < fragment_size) × (fragment_size ≤ 65519) }
+    ensures ok { result ≡ 0
+        → out.new.value ≡ Some (with_nothing first_tsn fragment_size max_message_size) }
+    ensures valid { result ≢ 18 → (0 < fragment_size) × (fragment_size ≤ 65519) }
     ensures invalid { result ≡ 18 → (fragment_size ≡ 0) ⊎ (65519 < fragment_size) }
     ensures refused { result ≢ 0 → out.new ≡ out.old }
 {
@@ -98,7 +126,7 @@ pub extern "C" fn sctp_sender_new(
     let sender = Sender::new(alloc, first_tsn, fragment_size, max_message_size);
     match Box::new(alloc, sender) {
         Ok(held) => {
-            *out = hide(Box::into_raw(held));
+            out.hold(Parts::of(held));
             SCTP_OK
         }
         Err(_) => SCTP_NO_MEMORY,
