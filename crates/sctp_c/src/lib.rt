@@ -4,6 +4,7 @@
 ghost use Rattle.std.specs.Prelude.{◌≡◌};
 
 mod bytes_out;
+pub mod callers;
 pub mod causes;
 pub mod code;
 mod fills;
