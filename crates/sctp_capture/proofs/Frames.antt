@@ -1,8 +1,9 @@
 -- Which parts of a frame its headers rule out.
-use Rattle.std.proofs.Common.{◌≡◌, ℕ, ◌+◌, ◌-◌, ◌/◌, ◌<◌, ◌≤◌, ◌⊎◌, inl, inr, List, length, slice_range, Result, Ok, Err, IfErr, arith}
+use Rattle.std.proofs.Common.{◌≡◌, ℕ, ◌+◌, ◌/◌, ◌<◌, ◌≤◌, ◌⊎◌, inl, inr, List, length, Result, Ok, Err, IfErr, arith}
 use Rattle.std.specs.Prelude.{slice_index}
-use Rattle.std.proofs.lemmas.Grind.{common_steps}
-use Rattle.sctp_capture.specs.Frame.{InUdp, IsCarried, InIpv4, InIpv6, InIp, IsTypePlace, IsEthernetPlace, IsRawIp, IsPlace}
+use Rattle.sctp_base.specs.Field.{u16_at}
+use Rattle.std.proofs.lemmas.Bool.{cases_order}
+use Rattle.sctp_capture.specs.Frame.{InUdp, IsCarried, IsIpv4Payload, IsIpv6Payload, IsIpPayload, IsTypePlace, IsMplsPlace, IsNetworkPlace, IsEthernetPlace, IsRawIp, IsPlace}
 
 -- what holds with no look at the error
 pub of_err : {T E : Type 0} (r : Result T E) (P : E → Type 0) → ((y : E) → P y) → IfErr r P
@@ -16,24 +17,20 @@ only_udp port protocol payload cut bytes missing e (inl it) = absurd (omega (ari
 only_udp port protocol payload cut bytes missing e (inr it) = it.1
 
 -- the version of a packet leaves one form
-pub only_ipv4 : (port : ℕ) (packet bytes : List ℕ) (missing : ℕ) → slice_index packet 0 / 16 ≡ 4 → InIp port packet bytes missing → InIpv4 port packet bytes missing
-only_ipv4 port packet bytes missing e (inl it) = it.1
-only_ipv4 port packet bytes missing e (inr it) = absurd (omega (arith, e, it.0))
+pub only_ipv4 : (packet : List ℕ) (protocol : ℕ) (payload : List ℕ) (cut : ℕ) → slice_index packet 0 / 16 ≡ 4 → IsIpPayload packet protocol payload cut
+    → IsIpv4Payload packet protocol payload cut
+only_ipv4 packet protocol payload cut e (inl it) = it.1
+only_ipv4 packet protocol payload cut e (inr it) = absurd (omega (arith, e, it.0))
 
-pub only_ipv6 : (port : ℕ) (packet bytes : List ℕ) (missing : ℕ) → slice_index packet 0 / 16 ≡ 6 → InIp port packet bytes missing → InIpv6 port packet bytes missing
-only_ipv6 port packet bytes missing e (inl it) = absurd (omega (arith, e, it.0))
-only_ipv6 port packet bytes missing e (inr it) = it.1
+pub only_ipv6 : (packet : List ℕ) (protocol : ℕ) (payload : List ℕ) (cut : ℕ) → slice_index packet 0 / 16 ≡ 6 → IsIpPayload packet protocol payload cut
+    → IsIpv6Payload packet protocol payload cut
+only_ipv6 packet protocol payload cut e (inl it) = absurd (omega (arith, e, it.0))
+only_ipv6 packet protocol payload cut e (inr it) = it.1
 
 -- no packet is shorter than the header of IPv4
-pub has_header : (port : ℕ) (packet bytes : List ℕ) (missing : ℕ) → InIp port packet bytes missing → 20 ≤ length packet
-has_header port packet bytes missing (inl it) = it.1.long
-has_header port packet bytes missing (inr it) = omega (arith, it.1.long)
-
-pub no_room : (port : ℕ) (frame bytes : List ℕ) (missing at : ℕ) → length frame < at + 20
-    → InIp port (slice_range frame at (length frame)) bytes missing → ⊥
-no_room port frame bytes missing at short it =
-    let all : length (slice_range frame at (length frame)) ≡ length frame - at = grind (arith, common_steps) in
-    let long = has_header port (slice_range frame at (length frame)) bytes missing it in omega (arith, all, short, long)
+pub has_header : (packet : List ℕ) (protocol : ℕ) (payload : List ℕ) (cut : ℕ) → IsIpPayload packet protocol payload cut → 20 ≤ length packet
+has_header packet protocol payload cut (inl it) = it.1.long
+has_header packet protocol payload cut (inr it) = omega (arith, it.1.long)
 
 -- the place of Ethernet is the only one for its link type
 pub only_ethernet : (link_type : ℕ) (frame : List ℕ) (at : ℕ) → link_type ≡ 1 → IsPlace link_type frame at → IsEthernetPlace frame at
@@ -55,8 +52,47 @@ only_type_place frame a b (inr (t, inr (v, inl x))) (inr (u, inr (w, inr y))) = 
 only_type_place frame a b (inr (t, inr (v, inr x))) (inr (u, inr (w, inl y))) = absurd (y.0 x.0)
 only_type_place frame a b (inr (t, inr (v, inr x))) (inr (u, inr (w, inr y))) = omega (arith, x.1, y.1)
 
-only_behind : (frame : List ℕ) (a b : ℕ) → IsEthernetPlace frame a → IsEthernetPlace frame b → a ≡ b
-only_behind frame a b x y = let same = only_type_place frame x.0 y.0 x.1 y.1 in omega (arith, same, x.3, y.3)
+bottom_is_not_above : (frame : List ℕ) (from a b : ℕ) (x : IsMplsPlace frame from a) (y : IsMplsPlace frame from b) → x.last < y.last → ⊥
+bottom_is_not_above frame from a b x y lt = let zero = y.above x.last lt in omega (arith, zero, x.bottom)
+
+-- the first label that says bottom of stack is one
+only_mpls : (frame : List ℕ) (from a b : ℕ) → IsMplsPlace frame from a → IsMplsPlace frame from b → a ≡ b
+only_mpls frame from a b x y = elim (cases_order x.last y.last) [
+  | inl same ↦ omega (arith, same, x.is, y.is)
+  | inr apart ↦ elim apart [
+    | inl lt ↦ absurd (bottom_is_not_above frame from a b x y lt)
+    | inr lt ↦ absurd (bottom_is_not_above frame from b a y x lt)
+  ]
+]
+
+-- behind a protocol number is one place
+pub only_network : (typ : ℕ) (frame : List ℕ) (from a b : ℕ) → IsNetworkPlace typ frame from a → IsNetworkPlace typ frame from b → a ≡ b
+only_network typ frame from a b (inl x) (inl y) = omega (arith, x.1, y.1)
+only_network typ frame from a b (inl x) (inr (inl y)) = absurd (grind (arith, x.0, y.0))
+only_network typ frame from a b (inl x) (inr (inr y)) = absurd (grind (arith, x.0, y.0))
+only_network typ frame from a b (inr (inl x)) (inl y) = absurd (grind (arith, x.0, y.0))
+only_network typ frame from a b (inr (inl x)) (inr (inl y)) = omega (arith, x.1.2, y.1.2)
+only_network typ frame from a b (inr (inl x)) (inr (inr y)) = absurd (grind (arith, x.0, y.0))
+only_network typ frame from a b (inr (inr x)) (inl y) = absurd (grind (arith, x.0, y.0))
+only_network typ frame from a b (inr (inr x)) (inr (inl y)) = absurd (grind (arith, x.0, y.0))
+only_network typ frame from a b (inr (inr x)) (inr (inr y)) = only_mpls frame from a b x.1 y.1
+
+-- and in an Ethernet frame
+pub only_behind : (frame : List ℕ) (a b : ℕ) → IsEthernetPlace frame a → IsEthernetPlace frame b → a ≡ b
+only_behind frame a b x y =
+    let same = only_type_place frame x.0 y.0 x.1 y.1 in only_network (u16_at frame y.0) frame (y.0 + 2) a b (rw same at x.2) y.2
+
+-- which stands behind the protocol number that was found
+pub ethernet_network : (typ : ℕ) (frame : List ℕ) (type_at at : ℕ) → IsTypePlace frame type_at → typ ≡ u16_at frame type_at → IsEthernetPlace frame at
+    → IsNetworkPlace typ frame (type_at + 2) at
+ethernet_network typ frame type_at at place is it =
+    let same = only_type_place frame it.0 type_at it.1 place in rw is (rw same at it.2)
+
+-- the protocol numbers of MPLS leave one form
+pub only_labels : (typ : ℕ) (frame : List ℕ) (from at : ℕ) → 34887 ≤ typ → typ < 34889 → IsNetworkPlace typ frame from at → IsMplsPlace frame from at
+only_labels typ frame from at low high (inl it) = absurd (grind (arith, low, high, it.0))
+only_labels typ frame from at low high (inr (inl it)) = absurd (grind (arith, low, high, it.0))
+only_labels typ frame from at low high (inr (inr it)) = it.1
 
 -- each other link type has one place
 only_loopback : (link_type : ℕ) (frame : List ℕ) (at : ℕ) → (link_type ≡ 0) ⊎ (link_type ≡ 108) → IsPlace link_type frame at → at ≡ 4

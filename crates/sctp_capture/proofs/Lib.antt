@@ -6,5 +6,6 @@ pub mod Leads
 pub mod Heads
 pub mod Uppers
 pub mod Frames
+pub mod Tunnels
 pub mod BlockPieces
 pub mod Pieces

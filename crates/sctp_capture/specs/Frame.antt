@@ -1,5 +1,5 @@
 -- The SCTP datagram that stands in a frame.
-use Rattle.std.specs.Prelude.{◌≡◌, ◌≢◌, ℕ, zero, suc, ◌+◌, ◌-◌, ◌*◌, ◌/◌, ◌%◌, ◌≤◌, ◌⊎◌, ◌==◌, if◌then◌else◌, min, List, length, slice_index, slice_range}
+use Rattle.std.specs.Prelude.{◌≡◌, ◌≢◌, ℕ, zero, suc, ◌+◌, ◌-◌, ◌*◌, ◌/◌, ◌%◌, ◌≤◌, ◌<◌, ◌⊎◌, ◌==◌, if◌then◌else◌, min, List, length, slice_index, slice_range}
 use Rattle.std.specs.Prelude.{Option, IsSomeAnd}
 use Rattle.std.specs.Net.Addr.{ipv4_octets, ipv6_segments, segments_of, IsV4And, IsV6And}
 use Rattle.std.specs.declared.net.ip_addr.IpAddr.{IpAddr}
@@ -43,16 +43,16 @@ ipv4_header packet = (slice_index packet 0 % 16) * 4
 abbrev pub ipv4_end : List ℕ → ℕ
 ipv4_end packet = end_of packet 2 (length packet)
 
--- in an IPv4 packet that is no fragment: behind its header, to its total length
-pub record InIpv4 (port : ℕ) (packet bytes : List ℕ) (missing : ℕ) : Type 0 where
+-- what an IPv4 packet that is no fragment carries, and how many bytes of it are cut off: behind its header, to its total length
+pub record IsIpv4Payload (packet : List ℕ) (protocol : ℕ) (payload : List ℕ) (cut : ℕ) : Type 0 where
   pub long : 20 ≤ length packet
   pub is_no_fragment : u16_at packet 6 % 16384 ≡ 0
   pub has_header : 20 ≤ ipv4_header packet
   pub is_held : ipv4_header packet ≤ length packet
   pub has_length : ipv4_header packet ≤ ipv4_end packet
-  pub carried : IsCarried port (slice_index packet 9)
-      (slice_range packet (ipv4_header packet) (held_to (ipv4_end packet) packet))
-      (cut_to (ipv4_end packet) packet) bytes missing
+  pub is_protocol : protocol ≡ slice_index packet 9
+  pub is : payload ≡ slice_range packet (ipv4_header packet) (held_to (ipv4_end packet) packet)
+  pub is_cut : cut ≡ cut_to (ipv4_end packet) packet
 
 -- a fragment header of a packet that is whole: no offset, and no more fragments (RFC 6946)
 abbrev pub IsAtomic : List ℕ → Type 0
@@ -81,14 +81,18 @@ IsUpper (suc count) first payload protocol upper =
 abbrev pub ipv6_end : List ℕ → ℕ
 ipv6_end packet = 40 + u16_at packet 4
 
--- in an IPv6 packet: behind its headers, of which fifteen may follow the first, to its length
-pub record InIpv6 (port : ℕ) (packet bytes : List ℕ) (missing : ℕ) : Type 0 where
+-- what an IPv6 packet carries, and how many bytes of it are cut off: behind its headers, of which fifteen may follow the first, to its length
+pub record IsIpv6Payload (packet : List ℕ) (protocol : ℕ) (payload : List ℕ) (cut : ℕ) : Type 0 where
   pub long : 40 ≤ length packet
-  pub protocol : ℕ
-  pub upper : List ℕ
   pub is : IsUpper 16 (slice_index packet 6)
-      (slice_range packet 40 (held_to (ipv6_end packet) packet)) protocol upper
-  pub carried : IsCarried port protocol upper (cut_to (ipv6_end packet) packet) bytes missing
+      (slice_range packet 40 (held_to (ipv6_end packet) packet)) protocol payload
+  pub is_cut : cut ≡ cut_to (ipv6_end packet) packet
+
+-- what an IP packet carries, by its version
+abbrev pub IsIpPayload : List ℕ → ℕ → List ℕ → ℕ → Type 0
+IsIpPayload packet protocol payload cut =
+    ((slice_index packet 0 / 16 ≡ 4) × IsIpv4Payload packet protocol payload cut)
+    ⊎ ((slice_index packet 0 / 16 ≡ 6) × IsIpv6Payload packet protocol payload cut)
 
 -- the address that stands in a packet from a place on
 abbrev pub IsIpv4At : List ℕ → ℕ → IpAddr → Type 0
@@ -105,11 +109,13 @@ AreEnds packet ends =
     ((slice_index packet 0 / 16 ≡ 4) × IsIpv4At packet 12 ends.0 × IsIpv4At packet 16 ends.1)
     ⊎ ((slice_index packet 0 / 16 ≡ 6) × IsIpv6At packet 8 ends.0 × IsIpv6At packet 24 ends.1)
 
--- in an IP packet, by its version
-abbrev pub InIp : ℕ → List ℕ → List ℕ → ℕ → Type 0
-InIp port packet bytes missing =
-    ((slice_index packet 0 / 16 ≡ 4) × InIpv4 port packet bytes missing)
-    ⊎ ((slice_index packet 0 / 16 ≡ 6) × InIpv6 port packet bytes missing)
+-- in an IP packet
+pub record InIp (port : ℕ) (packet bytes : List ℕ) (missing : ℕ) : Type 0 where
+  pub protocol : ℕ
+  pub payload : List ℕ
+  pub cut : ℕ
+  pub is : IsIpPayload packet protocol payload cut
+  pub carried : IsCarried port protocol payload cut bytes missing
 
 -- the protocol number of a VLAN tag: of the inner or the outer one (IEEE 802.1Q), or of an outer one by its older number
 abbrev pub IsTag : ℕ → Type 0
@@ -123,10 +129,73 @@ IsTypePlace frame at =
     ⊎ (IsTag (u16_at frame 16) × (((IsTag (u16_at frame 20) → ⊥) × (at ≡ 20))
     ⊎ (IsTag (u16_at frame 20) × (at ≡ 24))))))
 
--- where an IP packet begins in an Ethernet frame: behind the protocol number, which is that of IPv4 or IPv6
+-- where the IP packet of a PPPoE session begins: behind version and type 1, code 0, session, length, and PPP's number of IPv4 or IPv6 (RFC 2516 4)
+abbrev pub IsPppoePlace : List ℕ → ℕ → ℕ → Type 0
+IsPppoePlace frame from at =
+    (u16_at frame from ≡ 4352)
+    × ((u16_at frame (from + 6) ≡ 33) ⊎ (u16_at frame (from + 6) ≡ 87)) × (at ≡ from + 8)
+
+-- where the IP packet below MPLS labels begins: behind the first one with the bit that says bottom of stack; a label has four bytes (RFC 3032 2.1)
+pub record IsMplsPlace (frame : List ℕ) (from at : ℕ) : Type 0 where
+  pub last : ℕ
+  pub above : (k : ℕ) → k < last → slice_index frame (from + 4 * k + 2) % 2 ≡ 0
+  pub bottom : slice_index frame (from + 4 * last + 2) % 2 ≡ 1
+  pub is : at ≡ from + 4 * last + 4
+
+-- where the IP packet begins behind such a protocol number, which ends here: that of IPv4 or IPv6, of a PPPoE session, or of MPLS
+abbrev pub IsNetworkPlace : ℕ → List ℕ → ℕ → ℕ → Type 0
+IsNetworkPlace typ frame from at =
+    (((typ ≡ 2048) ⊎ (typ ≡ 34525)) × (at ≡ from))
+    ⊎ (((typ ≡ 34916) × IsPppoePlace frame from at)
+    ⊎ (((typ ≡ 34887) ⊎ (typ ≡ 34888)) × IsMplsPlace frame from at))
+
+-- where an IP packet begins in an Ethernet frame: behind the protocol number
 abbrev pub IsEthernetPlace : List ℕ → ℕ → Type 0
 IsEthernetPlace frame at = (type_at : ℕ) × IsTypePlace frame type_at
-    × ((u16_at frame type_at ≡ 2048) ⊎ (u16_at frame type_at ≡ 34525)) × (at ≡ type_at + 2)
+    × IsNetworkPlace (u16_at frame type_at) frame (type_at + 2) at
+
+-- a header of GRE whose bits 1, 4 and 5 and version are 0 (RFC 2784 2.2, 2.3; RFC 2890 2 has given bits 2 and 3 a meaning)
+abbrev pub IsVersion0 : List ℕ → Type 0
+IsVersion0 gre = (slice_index gre 0 / 64 % 2 ≡ 0)
+    × ((slice_index gre 0 / 4 % 4 ≡ 0) × (slice_index gre 1 % 8 ≡ 0))
+
+-- the bytes of that header: four, and four each for a checksum, a key and a sequence number, where their bits are set (RFC 2890 2)
+abbrev pub gre_header : List ℕ → ℕ
+gre_header gre = 4 + 4 * (slice_index gre 0 / 128) + 4 * (slice_index gre 0 / 32 % 2)
+    + 4 * (slice_index gre 0 / 16 % 2)
+
+-- what stands behind it
+abbrev pub gre_rest : List ℕ → List ℕ
+gre_rest gre = slice_range gre (gre_header gre) (length gre)
+
+-- where an IP packet begins there: in an Ethernet frame, or behind another protocol number
+abbrev pub IsGrePlace : ℕ → List ℕ → ℕ → Type 0
+IsGrePlace typ rest at = ((typ ≡ 25944) × IsEthernetPlace rest at)
+    ⊎ ((typ ≢ 25944) × IsNetworkPlace typ rest 0 at)
+
+-- the IP packet that GRE carries, with room for its header
+pub record IsGre (gre packet : List ℕ) : Type 0 where
+  pub long : 4 ≤ length gre
+  pub version : IsVersion0 gre
+  pub is_held : gre_header gre ≤ length gre
+  pub at : ℕ
+  pub place : IsGrePlace (u16_at gre 2) (gre_rest gre) at
+  pub room : at + 20 ≤ length (gre_rest gre)
+  pub is : packet ≡ slice_range (gre_rest gre) at (length (gre_rest gre))
+
+-- the IP packet that an IP packet carries in GRE
+pub record IsTunnelled (packet inner : List ℕ) : Type 0 where
+  pub gre : List ℕ
+  pub cut : ℕ
+  pub is : IsIpPayload packet 47 gre cut
+  pub inside : IsGre gre inner
+
+-- the IP packet behind so many tunnels, one in the other, or fewer where there are no more
+unfoldable pub IsInner : ℕ → List ℕ → List ℕ → Type 0
+IsInner zero packet inner = inner ≡ packet
+IsInner (suc count) packet inner =
+    ((next : List ℕ) × IsTunnelled packet next × IsInner count next inner)
+    ⊎ (((next : List ℕ) → IsTunnelled packet next → ⊥) × (inner ≡ packet))
 
 -- link types of a raw IP packet
 abbrev pub IsRawIp : ℕ → Type 0
@@ -141,14 +210,18 @@ IsPlace link_type frame at =
     ⊎ ((IsRawIp link_type × (at ≡ 0))
     ⊎ (((link_type ≡ 113) × (at ≡ 16)) ⊎ ((link_type ≡ 276) × (at ≡ 20)))))
 
--- in a frame that holds an IP packet, or as much of one as its capture kept: so many bytes of the datagram are missing
+-- in a frame that holds an IP packet, alone or in up to four tunnels, or as much of one as its capture kept: so many bytes of the datagram are missing
 pub record InFrame (link_type port : ℕ) (frame bytes : List ℕ) (missing : ℕ) : Type 0 where
   pub at : ℕ
   pub place : IsPlace link_type frame at
-  pub inside : InIp port (slice_range frame at (length frame)) bytes missing
+  pub packet : List ℕ
+  pub inner : IsInner 4 (slice_range frame at (length frame)) packet
+  pub inside : InIp port packet bytes missing
 
--- in a frame that holds an IP packet, between these addresses
+-- in a frame that holds an IP packet: the addresses of the innermost one
 pub record HasEnds (link_type : ℕ) (frame : List ℕ) (ends : Option (IpAddr × IpAddr)) : Type 0 where
   pub at : ℕ
   pub place : IsPlace link_type frame at
-  pub are : IsSomeAnd ends (AreEnds (slice_range frame at (length frame)))
+  pub packet : List ℕ
+  pub inner : IsInner 4 (slice_range frame at (length frame)) packet
+  pub are : IsSomeAnd ends (AreEnds packet)

@@ -1,20 +1,33 @@
 //! The SCTP datagram inside a frame.
 
-ghost use Rattle.std.specs.Prelude.{◌≡◌, ◌≢◌, ◌↔◌, ◌+◌, ◌≤◌, ◌<◌, ◌^◌, ℕ, List, length, slice_range, IsTrue, IfOk, IfErr, IsOkAnd, IsSomeAnd, None};
-ghost use Rattle.sctp_capture.specs.Frame.{InUdp, IsCarried, end_of, held_to, cut_to, InIpv4, IsAtomic, IsPassed, passed_bytes, IsUpper, InIpv6, InIp, IsTag, IsTypePlace, IsEthernetPlace, IsPlace, InFrame, IsIpv4At, IsIpv6At, AreEnds, HasEnds};
+ghost use Rattle.std.specs.Prelude.{◌≡◌, ◌≢◌, ◌↔◌, ◌+◌, ◌≤◌, ◌<◌, ◌^◌, ℕ, List, length, IsTrue, IfOk, IfErr, IfSome, IfNone, IsOkAnd, IsSomeAnd, None};
+ghost use Rattle.sctp_capture.specs.Frame.{InUdp, IsCarried, end_of, held_to, cut_to, IsIpv4Payload, IsAtomic, IsPassed, passed_bytes, IsUpper, IsIpv6Payload, IsIpPayload, InIp, IsTag, IsTypePlace, IsPppoePlace, IsMplsPlace, IsNetworkPlace, IsEthernetPlace, IsVersion0, gre_header, IsGrePlace, IsGre, IsTunnelled, IsInner, IsPlace, InFrame, IsIpv4At, IsIpv6At, AreEnds, HasEnds};
 ghost use Rattle.sctp_base.specs.Field;
 
 use crate::record::Fault;
 use sctp_base::field::read_u16;
 use std::net::IpAddr;
 
-/// The protocol numbers of UDP and SCTP.
+/// The protocol numbers of UDP, GRE and SCTP.
 const UDP: u8 = 17;
+
+const GRE: u8 = 47;
 
 const SCTP: u8 = 132;
 
 /// How many headers are looked at behind that of IPv6, what they carry among them.
 const MAX_HEADERS: usize = 16;
+
+/// How many tunnels one in the other are looked into.
+const MAX_TUNNELS: usize = 4;
+
+/// The bytes of a PPPoE header with the protocol number of PPP behind it, and those of an MPLS label.
+const PPPOE_HEADER: usize = 8;
+
+const MPLS_LABEL: usize = 4;
+
+/// The bytes of the shortest IP packet.
+const IP_HEADER: usize = 20;
 
 /// A datagram, and the addresses between which it went, where the frame names them.
 #[derive(Drop)]
@@ -23,6 +36,16 @@ pub struct Datagram<'a> {
     pub bytes: &'a [u8],
     /// How many of its bytes are missing at the end, as in a capture that cuts frames.
     pub missing: usize,
+}
+
+/// What an IP packet carries, its protocol number, and the addresses between which it went.
+#[derive(Drop)]
+struct Upper<'a> {
+    ends: (IpAddr, IpAddr),
+    protocol: u8,
+    bytes: &'a [u8],
+    /// How many of its bytes are cut off at the end.
+    cut: usize,
 }
 
 /// Where an IP packet or a UDP datagram ends that has its length at this place: there, or, if it is 0, with the bytes that it is in, as
@@ -108,14 +131,16 @@ fn ipv4_at(packet: &[u8], at: usize) -> IpAddr
     IpAddr::from(octets)
 }
 
-fn inside_ipv4(packet: &[u8], port: u16) -> Result<Datagram<'_>, Fault>
-    ensures found { IfOk result (λ d. InIpv4 port packet.now d.bytes.now d.missing) }
-    ensures refused { IfErr result
-        (λ _. (bytes : List ℕ) → (missing : ℕ) → InIpv4 port packet.now bytes missing → ⊥) }
-    ensures ends { IfOk result (λ d. IsSomeAnd d.ends
-        (λ ends. IsIpv4At packet.now 12 ends.0 × IsIpv4At packet.now 16 ends.1)) }
+/// What an IPv4 packet carries, if it is no fragment.
+fn ipv4_payload(packet: &[u8]) -> Result<Upper<'_>, Fault>
+    ensures found { IfOk result (λ u. IsIpv4Payload packet.now u.protocol u.bytes.now u.cut) }
+    ensures refused { IfErr result (λ _. (protocol : ℕ) → (payload : List ℕ) → (cut : ℕ)
+        → IsIpv4Payload packet.now protocol payload cut → ⊥) }
+    ensures ends { IfOk result
+        (λ u. IsIpv4At packet.now 12 u.ends.0 × IsIpv4At packet.now 16 u.ends.1) }
+    ensures few { IfOk result (λ u. u.cut < 2 ^ 17) }
 {
-    if packet.len() < 20 {
+    if packet.len() < IP_HEADER {
         return Err(Fault::Short);
     }
     if read_u16(packet, 6) % 0x4000 != 0 {
@@ -124,15 +149,14 @@ fn inside_ipv4(packet: &[u8], port: u16) -> Result<Datagram<'_>, Fault>
     let header = ((packet[0] % 16) as usize) * 4;
     let end = end_of(packet, 2, packet.len());
     let held = held_to(end, packet);
-    if header < 20 || held < header {
+    if header < IP_HEADER || held < header {
         return Err(Fault::Short);
     }
-    let payload = &packet[header..held];
-    let (bytes, missing) = inside_transport(packet[9], payload, cut_to(end, packet), port)?;
-    Ok(Datagram {
-        ends: Some((ipv4_at(packet, 12), ipv4_at(packet, 16))),
-        bytes,
-        missing,
+    Ok(Upper {
+        ends: (ipv4_at(packet, 12), ipv4_at(packet, 16)),
+        protocol: packet[9],
+        bytes: &packet[header..held],
+        cut: cut_to(end, packet),
     })
 }
 
@@ -206,45 +230,61 @@ fn inside_extensions(first: u8, payload: &[u8]) -> Result<(u8, &[u8]), Fault>
     Err(Fault::OtherProtocol)
 }
 
-fn inside_ipv6(packet: &[u8], port: u16) -> Result<Datagram<'_>, Fault>
-    ensures found { IfOk result (λ d. InIpv6 port packet.now d.bytes.now d.missing) }
-    ensures refused { IfErr result
-        (λ _. (bytes : List ℕ) → (missing : ℕ) → InIpv6 port packet.now bytes missing → ⊥) }
-    ensures ends { IfOk result (λ d. IsSomeAnd d.ends
-        (λ ends. IsIpv6At packet.now 8 ends.0 × IsIpv6At packet.now 24 ends.1)) }
+/// What an IPv6 packet carries behind its headers.
+fn ipv6_payload(packet: &[u8]) -> Result<Upper<'_>, Fault>
+    ensures found { IfOk result (λ u. IsIpv6Payload packet.now u.protocol u.bytes.now u.cut) }
+    ensures refused { IfErr result (λ _. (protocol : ℕ) → (payload : List ℕ) → (cut : ℕ)
+        → IsIpv6Payload packet.now protocol payload cut → ⊥) }
+    ensures ends { IfOk result
+        (λ u. IsIpv6At packet.now 8 u.ends.0 × IsIpv6At packet.now 24 u.ends.1) }
+    ensures few { IfOk result (λ u. u.cut < 2 ^ 17) }
 {
     if packet.len() < 40 {
         return Err(Fault::Short);
     }
     let end = 40 + read_u16(packet, 4) as usize;
     let held = &packet[40..held_to(end, packet)];
-    let (protocol, payload) = inside_extensions(packet[6], held)?;
-    let (bytes, missing) = inside_transport(protocol, payload, cut_to(end, packet), port)?;
-    Ok(Datagram {
-        ends: Some((ipv6_at(packet, 8), ipv6_at(packet, 24))),
+    let (protocol, bytes) = inside_extensions(packet[6], held)?;
+    Ok(Upper {
+        ends: (ipv6_at(packet, 8), ipv6_at(packet, 24)),
+        protocol,
         bytes,
-        missing,
+        cut: cut_to(end, packet),
     })
 }
 
-/// The datagram of the IP packet that stands from `at` on.
-fn inside_ip(frame: &[u8], at: usize, port: u16) -> Result<Datagram<'_>, Fault>
-    ensures found { IfOk result
-        (λ d. InIp port (slice_range frame.now at (length frame.now)) d.bytes.now d.missing) }
-    ensures refused { IfErr result (λ _. (bytes : List ℕ) → (missing : ℕ)
-        → InIp port (slice_range frame.now at (length frame.now)) bytes missing → ⊥) }
-    ensures ends { IfOk result
-        (λ d. IsSomeAnd d.ends (AreEnds (slice_range frame.now at (length frame.now)))) }
+/// What an IP packet carries, by its version.
+fn ip_payload(packet: &[u8]) -> Result<Upper<'_>, Fault>
+    ensures found { IfOk result (λ u. IsIpPayload packet.now u.protocol u.bytes.now u.cut) }
+    ensures refused { IfErr result (λ _. (protocol : ℕ) → (payload : List ℕ) → (cut : ℕ)
+        → IsIpPayload packet.now protocol payload cut → ⊥) }
+    ensures ends { IfOk result (λ u. AreEnds packet.now u.ends) }
+    ensures few { IfOk result (λ u. u.cut < 2 ^ 17) }
 {
-    if frame.len() <= at {
+    if packet.is_empty() {
         return Err(Fault::Short);
     }
-    let packet = &frame[at..];
     match packet[0] / 16 {
-        4 => inside_ipv4(packet, port),
-        6 => inside_ipv6(packet, port),
+        4 => ipv4_payload(packet),
+        6 => ipv6_payload(packet),
         _ => Err(Fault::OtherProtocol),
     }
+}
+
+/// The datagram of an IP packet.
+fn inside_ip(packet: &[u8], port: u16) -> Result<Datagram<'_>, Fault>
+    ensures found { IfOk result (λ d. InIp port packet.now d.bytes.now d.missing) }
+    ensures refused { IfErr result (λ _. (bytes : List ℕ) → (missing : ℕ)
+        → InIp port packet.now bytes missing → ⊥) }
+    ensures ends { IfOk result (λ d. IsSomeAnd d.ends (AreEnds packet.now)) }
+{
+    let upper = ip_payload(packet)?;
+    let (bytes, missing) = inside_transport(upper.protocol, upper.bytes, upper.cut, port)?;
+    Ok(Datagram {
+        ends: Some(upper.ends),
+        bytes,
+        missing,
+    })
 }
 
 /// Whether this is the protocol number of a VLAN tag: of the inner or the outer one (IEEE 802.1Q), or of an outer one by its older number.
@@ -275,6 +315,59 @@ fn ethertype_in(frame: &[u8]) -> (u16, usize)
     (read_u16(frame, 24), 24)
 }
 
+/// Where the IP packet of a PPPoE session begins whose header begins here (RFC 2516). Refuses where there is none, or no room for its header.
+fn pppoe_place(frame: &[u8], from: usize) -> Result<usize, Fault>
+    requires { from ≤ length frame.now }
+    ensures found { IfOk result (λ at. IsPppoePlace frame.now from at) }
+    ensures refused { IfErr result (λ _. (at : ℕ)
+        → IsPppoePlace frame.now from at → length frame.now < at + 20) }
+{
+    if frame.len() < from + PPPOE_HEADER {
+        return Err(Fault::Short);
+    }
+    let protocol = read_u16(frame, from + 6);
+    if read_u16(frame, from) != 0x1100 || (protocol != 0x0021 && protocol != 0x0057) {
+        return Err(Fault::OtherProtocol);
+    }
+    Ok(from + PPPOE_HEADER)
+}
+
+/// Where the IP packet below the MPLS labels begins of which the first one begins here (RFC 3032). Refuses where there is none, or no room
+/// for its header.
+fn mpls_place(frame: &[u8], from: usize) -> Result<usize, Fault>
+    requires { from ≤ length frame.now }
+    ensures found { IfOk result (λ at. IsMplsPlace frame.now from at) }
+    ensures refused { IfErr result (λ _. (at : ℕ)
+        → IsMplsPlace frame.now from at → length frame.now < at + 20) }
+{
+    for k in 0..frame.len() {
+        let label = from + MPLS_LABEL * k;
+        if frame.len() < label + MPLS_LABEL {
+            return Err(Fault::Short);
+        }
+        if frame[label + 2] % 2 == 1 {
+            return Ok(label + MPLS_LABEL);
+        }
+    }
+    Err(Fault::Short)
+}
+
+/// Where the IP packet begins behind this protocol number of Ethernet, which ends here. Refuses where there is none, or no room for its
+/// header.
+fn network_place(typ: u16, frame: &[u8], from: usize) -> Result<usize, Fault>
+    requires { from ≤ length frame.now }
+    ensures found { IfOk result (λ at. IsNetworkPlace typ frame.now from at) }
+    ensures refused { IfErr result (λ _. (at : ℕ)
+        → IsNetworkPlace typ frame.now from at → length frame.now < at + 20) }
+{
+    match typ {
+        0x0800 | 0x86dd => Ok(from),
+        0x8864 => pppoe_place(frame, from),
+        0x8847 | 0x8848 => mpls_place(frame, from),
+        _ => Err(Fault::OtherProtocol),
+    }
+}
+
 /// Where the IP packet of an Ethernet frame begins. Refuses where there is none, or no room for its header.
 fn ethernet_place(frame: &[u8]) -> Result<usize, Fault>
     ensures found { IfOk result (λ at. IsEthernetPlace frame.now at) }
@@ -285,10 +378,88 @@ fn ethernet_place(frame: &[u8]) -> Result<usize, Fault>
         return Err(Fault::Short);
     }
     let (typ, at) = ethertype_in(frame);
-    if typ == 0x0800 || typ == 0x86dd {
-        return Ok(at + 2);
+    network_place(typ, frame, at + 2)
+}
+
+/// Whether a header of GRE is of version 0, and has no bits set but those of checksum, key and sequence number, and bits to be ignored.
+fn is_version_0(gre: &[u8]) -> bool
+    requires { 4 ≤ length gre.now }
+    ensures { IsTrue result ↔ IsVersion0 gre.now }
+{
+    gre[0] / 64 % 2 == 0 && gre[0] / 4 % 4 == 0 && gre[1] % 8 == 0
+}
+
+/// How many bytes the header of GRE takes.
+fn gre_header(gre: &[u8]) -> usize
+    requires { 4 ≤ length gre.now }
+    ensures { result ≡ gre_header gre.now }
+{
+    let flags = gre[0] as usize;
+    4 + 4 * (flags / 128) + 4 * (flags / 32 % 2) + 4 * (flags / 16 % 2)
+}
+
+/// Where the IP packet begins in what GRE carries under this protocol number. Refuses where there is none, or no room for its header.
+fn gre_place(typ: u16, rest: &[u8]) -> Result<usize, Fault>
+    ensures found { IfOk result (λ at. IsGrePlace typ rest.now at) }
+    ensures refused { IfErr result (λ _. (at : ℕ)
+        → IsGrePlace typ rest.now at → length rest.now < at + 20) }
+{
+    if typ == 0x6558 {
+        return ethernet_place(rest);
     }
-    Err(Fault::OtherProtocol)
+    network_place(typ, rest, 0)
+}
+
+/// The IP packet in what begins with a header of GRE (RFC 2784, RFC 2890), if there is one.
+fn inside_gre(gre: &[u8]) -> Option<&[u8]>
+    ensures some { IfSome result (λ packet. IsGre gre.now packet.now) }
+    ensures none { IfNone result ((packet : List ℕ) → IsGre gre.now packet → ⊥) }
+{
+    if gre.len() < 4 || !is_version_0(gre) {
+        return None;
+    }
+    let header = gre_header(gre);
+    if gre.len() < header {
+        return None;
+    }
+    let rest = &gre[header..];
+    let at = match gre_place(read_u16(gre, 2), rest) {
+        Ok(at) => at,
+        Err(_) => return None,
+    };
+    if rest.len().saturating_sub(at) < IP_HEADER {
+        return None;
+    }
+    Some(&rest[at..])
+}
+
+/// The IP packet that an IP packet carries in GRE, if there is one.
+fn tunnelled(packet: &[u8]) -> Option<&[u8]>
+    ensures some { IfSome result (λ inner. IsTunnelled packet.now inner.now) }
+    ensures none { IfNone result ((inner : List ℕ) → IsTunnelled packet.now inner → ⊥) }
+{
+    let upper = match ip_payload(packet) {
+        Ok(upper) => upper,
+        Err(_) => return None,
+    };
+    if upper.protocol != GRE {
+        return None;
+    }
+    inside_gre(upper.bytes)
+}
+
+/// The IP packet behind up to four tunnels, one in the other.
+fn innermost(packet: &[u8]) -> &[u8]
+    ensures { IsInner 4 packet.now result.now }
+{
+    let mut inner = packet;
+    for _passed in 0..MAX_TUNNELS {
+        match tunnelled(inner) {
+            Some(next) => inner = next,
+            None => return inner,
+        }
+    }
+    inner
 }
 
 /// Where the IP packet of a frame of this link type begins: loopback, Ethernet, raw IP, or Linux
@@ -308,9 +479,10 @@ fn place_in(link_type: u32, frame: &[u8]) -> Result<usize, Fault>
     }
 }
 
-/// The datagram of a frame of this link type: what an IP packet carries, alone or in UDP to or from `port` (RFC 6951), or the frame as
-/// it is, where the link type is 248 (SCTP). Of one that the frame does not hold to its end it has what is there, and how many bytes are
-/// missing. Refuses with `OtherLink`, `Short`, `Fragment` or `OtherProtocol`, and only where the frame holds none. It takes no memory.
+/// The datagram of a frame of this link type: what an IP packet carries, alone or in UDP to or from `port` (RFC 6951), also where that packet
+/// stands in up to four tunnels of GRE, and its ends are then its own; or the frame as it is, where the link type is 248 (SCTP). Of one that
+/// the frame does not hold to its end it has what is there, and how many bytes are missing. Refuses with `OtherLink`, `Short`, `Fragment` or
+/// `OtherProtocol`, and only where the frame holds none. It takes no memory.
 pub fn datagram_in(link_type: u32, frame: &[u8], port: u16) -> Result<Datagram<'_>, Fault>
     ensures alone { link_type ≡ 248
         → IsOkAnd result (λ d. (d.ends ≡ None) × (d.bytes.now ≡ frame.now) × (d.missing ≡ 0)) }
@@ -330,5 +502,8 @@ pub fn datagram_in(link_type: u32, frame: &[u8], port: u16) -> Result<Datagram<'
         });
     }
     let at = place_in(link_type, frame)?;
-    inside_ip(frame, at, port)
+    if frame.len() <= at {
+        return Err(Fault::Short);
+    }
+    inside_ip(innermost(&frame[at..]), port)
 }

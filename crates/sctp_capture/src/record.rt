@@ -86,7 +86,8 @@ pub enum Fault {
     Short,
     /// The frame holds a fragment of an IP packet.
     Fragment,
-    /// The frame holds no SCTP, or it stands behind more than three VLAN tags or fifteen extension headers of IPv6.
+    /// The frame holds no SCTP, or it stands behind more than three VLAN tags or fifteen extension headers of IPv6, or in more than four
+    /// tunnels.
     OtherProtocol,
     /// The link type, which this is, is not known.
     OtherLink(u32),

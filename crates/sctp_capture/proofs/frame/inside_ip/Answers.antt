@@ -1,11 +1,12 @@
-use Rattle.std.proofs.lemmas.Result.{IfErr-weaker}
-use Rattle.sctp_capture.proofs.Frames.{only_ipv4, only_ipv6}
+use Rattle.sctp_capture.proofs.Frames.{of_err}
+use Rattle.sctp_capture.proofs.Tunnels.{only_payload}
 use Rattle.sctp_capture.proofs.frame.inside_ip.Goals as goal
 
-pub returns-in-4-clause-refused : goal.returns-in-4-clause-refused
-returns-in-4-clause-refused c =
-    IfErr-weaker c.inside_ipv4.result _ _ (λ e no bytes missing it. no bytes missing (only_ipv4 c.args.port _ bytes missing c.in-4.is it)) c.inside_ipv4.ensures.refused
+pub returns-in_err-upper-clause-refused : goal.returns-in_err-upper-clause-refused
+returns-in_err-upper-clause-refused c = of_err c.from_residual.result _ (λ e bytes missing it.
+    c.in_err-upper.ensures.refused it.protocol it.payload it.cut it.is)
 
-pub returns-in-6-clause-refused : goal.returns-in-6-clause-refused
-returns-in-6-clause-refused c =
-    IfErr-weaker c.inside_ipv6.result _ _ (λ e no bytes missing it. no bytes missing (only_ipv6 c.args.port _ bytes missing c.in-6.is it)) c.inside_ipv6.ensures.refused
+pub returns-in_err-bytes-clause-refused : goal.returns-in_err-bytes-clause-refused
+returns-in_err-bytes-clause-refused c = of_err c.from_residual-in_err-bytes.result _ (λ e bytes missing it.
+    let same = only_payload c.args.packet.now it.protocol it.payload it.cut _ _ _ it.is c.in_ok-upper.ensures.found in
+    c.in_err-bytes.ensures.refused bytes missing (rw (← same.0, ← same.1, ← same.2) it.carried))

@@ -1,0 +1,127 @@
+-- What stands in tunnels, one tunnel further.
+use Rattle.std.proofs.Common.{◌≡◌, ◌≢◌, ℕ, zero, suc, ◌+◌, ◌-◌, ◌<◌, ◌≤◌, inl, inr, List, length, slice_range, refl, sym, ◌∙◌, Some, None, arith}
+use Rattle.std.specs.Prelude.{Option}
+use Rattle.std.specs.Option.{IfNone}
+use Rattle.std.proofs.lemmas.Grind.{common_steps}
+use Rattle.sctp_base.specs.Field.{u16_at}
+use Rattle.sctp_capture.specs.Frame.{IsIpPayload, IsVersion0, gre_header, gre_rest, IsNetworkPlace, IsEthernetPlace, IsGrePlace, IsGre, IsTunnelled, IsInner, InIp}
+use Rattle.sctp_capture.proofs.Uppers.{only_upper}
+use Rattle.sctp_capture.proofs.Frames.{has_header, only_network, only_behind}
+
+-- what is said of none follows from more
+pub none_of : {T : Type 0} (r : Option T) (P Q : Type 0) → (P → Q) → IfNone r P → IfNone r Q
+none_of None P Q f p = f p
+none_of (Some x) P Q f p = tt
+
+-- an IP packet carries one thing
+pub only_payload : (packet : List ℕ) (p : ℕ) (q : List ℕ) (c : ℕ) (p' : ℕ) (q' : List ℕ) (c' : ℕ) → IsIpPayload packet p q c → IsIpPayload packet p' q' c'
+    → (p ≡ p') × (q ≡ q') × (c ≡ c')
+only_payload packet p q c p' q' c' (inl x) (inl y) = (x.1.is_protocol ∙ sym y.1.is_protocol, x.1.is ∙ sym y.1.is, x.1.is_cut ∙ sym y.1.is_cut)
+only_payload packet p q c p' q' c' (inl x) (inr y) = absurd (omega (arith, x.0, y.0))
+only_payload packet p q c p' q' c' (inr x) (inl y) = absurd (omega (arith, x.0, y.0))
+only_payload packet p q c p' q' c' (inr x) (inr y) =
+    let same = only_upper 16 _ _ p q p' q' x.1.is y.1.is in (same.0, same.1, x.1.is_cut ∙ sym y.1.is_cut)
+
+only_gre_place : (typ : ℕ) (rest : List ℕ) (a b : ℕ) → IsGrePlace typ rest a → IsGrePlace typ rest b → a ≡ b
+only_gre_place typ rest a b (inl x) (inl y) = only_behind rest a b x.1 y.1
+only_gre_place typ rest a b (inl x) (inr y) = absurd (y.0 x.0)
+only_gre_place typ rest a b (inr x) (inl y) = absurd (x.0 y.0)
+only_gre_place typ rest a b (inr x) (inr y) = only_network typ rest 0 a b x.1 y.1
+
+-- GRE carries no packet where what it carries has no place for one
+pub no_gre_place : (gre packet : List ℕ) (header typ : ℕ) → header ≡ gre_header gre → typ ≡ u16_at gre 2
+    → ((at : ℕ) → IsGrePlace typ (slice_range gre header (length gre)) at → length (slice_range gre header (length gre)) < at + 20)
+    → IsGre gre packet → ⊥
+no_gre_place gre packet header typ is number short_at it =
+    let short = short_at it.at (rw (is, number) it.place) in omega (arith, rw is at short, it.room)
+
+-- or no room
+pub no_gre_room : (gre packet : List ℕ) (header typ at : ℕ) → header ≡ gre_header gre → typ ≡ u16_at gre 2
+    → IsGrePlace typ (slice_range gre header (length gre)) at → length (slice_range gre header (length gre)) - at < 20
+    → IsGre gre packet → ⊥
+no_gre_room gre packet header typ at is number place short it =
+    let same = only_gre_place (u16_at gre 2) (gre_rest gre) it.at at it.place (rw (is, number) at place) in
+    omega (arith, rw is at short, it.room, same)
+
+-- else it carries this one
+pub gre_here : (gre : List ℕ) (header typ at : ℕ) → 4 ≤ length gre → IsVersion0 gre → header ≡ gre_header gre → header ≤ length gre → typ ≡ u16_at gre 2
+    → IsGrePlace typ (slice_range gre header (length gre)) at → 20 ≤ length (slice_range gre header (length gre)) - at
+    → IsGre gre (slice_range (slice_range gre header (length gre)) at (length (slice_range gre header (length gre))))
+gre_here gre header typ at long version is held number place room =
+    rw is (record {
+      long = long;
+      version = version;
+      is_held = rw is at held;
+      at = at;
+      place = rw (is, number) at place;
+      room = omega (arith, rw is at room);
+      is = refl;
+    })
+
+-- the protocol number leaves one form
+pub only_bridged : (typ : ℕ) (rest : List ℕ) (at : ℕ) → typ ≡ 25944 → IsGrePlace typ rest at → IsEthernetPlace rest at
+only_bridged typ rest at e (inl it) = it.1
+only_bridged typ rest at e (inr it) = absurd (it.0 e)
+
+pub only_routed : (typ : ℕ) (rest : List ℕ) (at : ℕ) → typ ≢ 25944 → IsGrePlace typ rest at → IsNetworkPlace typ rest 0 at
+only_routed typ rest at e (inl it) = absurd (e it.0)
+only_routed typ rest at e (inr it) = it.1
+
+only_gre : (gre a b : List ℕ) → IsGre gre a → IsGre gre b → a ≡ b
+only_gre gre a b x y =
+    let same = only_gre_place _ (gre_rest gre) x.at y.at x.place y.place in rw (x.is, y.is, same) refl
+
+only_tunnelled : (packet a b : List ℕ) → IsTunnelled packet a → IsTunnelled packet b → a ≡ b
+only_tunnelled packet a b x y =
+    let same = only_payload packet 47 x.gre x.cut 47 y.gre y.cut x.is y.is in only_gre y.gre a b (rw same.1 at x.inside) y.inside
+
+-- behind so many tunnels stands one packet
+pub only_inner : (n : ℕ) (packet a b : List ℕ) → IsInner n packet a → IsInner n packet b → a ≡ b
+unfolding IsInner
+only_inner zero packet a b x y = x ∙ sym y
+only_inner (suc n) packet a b (inl x) (inl y) =
+    let same = only_tunnelled packet x.0 y.0 x.1 y.1 in only_inner n y.0 a b (rw same at x.2) y.2
+only_inner (suc n) packet a b (inl x) (inr y) = absurd (y.0 x.0 x.1)
+only_inner (suc n) packet a b (inr x) (inl y) = absurd (x.0 y.0 y.1)
+only_inner (suc n) packet a b (inr x) (inr y) = x.1 ∙ sym y.1
+
+further_of : (n : ℕ) (packet next q : List ℕ) → IsTunnelled packet next → IsInner n next q → IsInner (suc n) packet q
+unfolding IsInner
+further_of n packet next q is inner = inl (next, is, inner)
+
+-- one tunnel is passed
+pub tunnel_further : (k : ℕ) (packet next q : List ℕ) → k < 4 → IsTunnelled packet next → IsInner (4 - (k + 1)) next q → IsInner (4 - k) packet q
+tunnel_further k packet next q lt is inner =
+    let e : 4 - k ≡ suc (4 - (k + 1)) = omega arith in rw e (further_of (4 - (k + 1)) packet next q is inner)
+
+here_of : (n : ℕ) (packet : List ℕ) → ((next : List ℕ) → IsTunnelled packet next → ⊥) → IsInner (suc n) packet packet
+unfolding IsInner
+here_of n packet none = inr (none, refl)
+
+-- no tunnel follows
+pub tunnel_ends : (k : ℕ) (packet : List ℕ) → k < 4 → ((next : List ℕ) → IsTunnelled packet next → ⊥) → IsInner (4 - k) packet packet
+tunnel_ends k packet lt none =
+    let e : 4 - k ≡ suc (4 - (k + 1)) = omega arith in rw e (here_of (4 - (k + 1)) packet none)
+
+last_of : (n : ℕ) (packet : List ℕ) → n ≡ 0 → IsInner n packet packet
+unfolding IsInner
+last_of zero packet e = refl
+last_of (suc n) packet e = absurd (omega (arith, e))
+
+-- no further one is looked into
+pub tunnel_last : (k : ℕ) (packet : List ℕ) → 4 ≤ k → IsInner (4 - k) packet packet
+tunnel_last k packet le = last_of (4 - k) packet (omega arith)
+
+inner_long : (n : ℕ) (packet inner : List ℕ) → IsInner n packet inner → 20 ≤ length inner → 20 ≤ length packet
+unfolding IsInner
+inner_long zero packet inner x long = rw (sym x) long
+inner_long (suc n) packet inner (inl x) long = has_header packet 47 x.1.gre x.1.cut x.1.is
+inner_long (suc n) packet inner (inr x) long = rw (sym x.1) long
+
+-- no packet stands where there is no room for a header
+pub no_room : (port : ℕ) (frame packet bytes : List ℕ) (missing at : ℕ) → length frame < at + 20
+    → IsInner 4 (slice_range frame at (length frame)) packet → InIp port packet bytes missing → ⊥
+no_room port frame packet bytes missing at short inner it =
+    let all : length (slice_range frame at (length frame)) ≡ length frame - at = grind (arith, common_steps) in
+    let long = inner_long 4 (slice_range frame at (length frame)) packet inner (has_header packet it.protocol it.payload it.cut it.is) in
+    omega (arith, all, short, long)
