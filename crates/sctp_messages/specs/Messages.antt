@@ -1,5 +1,5 @@
 -- What is read of a stream.
-use Rattle.std.specs.Prelude.{◌≡◌, ℕ, List, [], ◌∷◌, Some, option_map}
+use Rattle.std.specs.Prelude.{◌≡◌, ℕ, List, [], ◌∷◌, ◌++◌, Some, option_map}
 use Rattle.sctp_data.specs.declared.chunk.chunk_payload_data.ChunkPayloadData.{ChunkPayloadData}
 use Rattle.sctp_reassembly.specs.declared.reassembly_queue.chunks.Chunks.{Chunks}
 use Rattle.sctp_reassembly.specs.reassembly_queue.ReassemblyQueue.{at_start}
@@ -13,9 +13,15 @@ Reads stream (m ∷ ms) old new =
     (option_map at_start (message_on stream old) ≡ Some m)
     × Reads stream ms (after_read stream old) new
 
+-- and they are appended to those that were read before
+pub record ReadsOnto (stream : ℕ) (before after : List Chunks) (old new : Reception) : Type 0 where
+  pub messages : List Chunks
+  pub read : Reads stream messages old new
+  pub joined : after ≡ before ++ messages
+
 -- a DATA chunk is taken, and then messages of its stream are read
-pub record Hears (chunk : ChunkPayloadData) (arrival : Arrival) (messages : List Chunks)
+pub record TakesChunk (chunk : ChunkPayloadData) (arrival : Arrival) (before after : List Chunks)
     (old new : Reception) : Type 0 where
   pub mid : Reception
   pub taken : Takes chunk arrival old mid
-  pub read : Reads chunk.stream_identifier messages mid new
+  pub read : ReadsOnto chunk.stream_identifier before after mid new

@@ -171,7 +171,7 @@ impl Messages {
     }
 
     /// Tells the reader of a way what the other way acknowledges, if anything was read.
-    fn hear_sack(
+    fn take_sack(
         &mut self,
         alloc: Global,
         at: usize,
@@ -185,7 +185,7 @@ impl Messages {
     }
 
     /// Gives a chunk to the reader of its way.
-    fn hear(
+    fn take_item(
         &mut self,
         alloc: Global,
         at: usize,
@@ -255,10 +255,10 @@ impl Messages {
                 let other = way.other();
                 (
                     other,
-                    self.hear_sack(alloc, at, other, sack.cumulative_tsn_ack)?,
+                    self.take_sack(alloc, at, other, sack.cumulative_tsn_ack)?,
                 )
             }
-            _ => (way, self.hear(alloc, at, way, item)?),
+            _ => (way, self.take_item(alloc, at, way, item)?),
         };
         let (Some(outcome), Some(moment)) = (outcome, self.moment_of(at, way, packet)) else {
             return Ok(());

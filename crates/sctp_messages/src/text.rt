@@ -1,6 +1,6 @@
 //! A message as it is printed, as text or as JSON.
 
-use crate::hearing::bytes_of;
+use crate::reading::bytes_of;
 use crate::way::{Message, Missed, Unread, WayReader};
 use itoa::Buffer;
 use sctp_capture::record::Time;

@@ -1,6 +1,6 @@
 //! The messages that go one way in an association.
 
-use crate::hearing::{hear, read_all};
+use crate::reading::{read_all, take_chunk};
 use sctp_base::field::{read_u16, read_u32};
 use sctp_base::param::param_kind::ParamKind;
 use sctp_base::param::param_outgoing_reset_request::ParamOutgoingResetRequest;
@@ -241,7 +241,8 @@ impl WayReader {
     fn add_readable(&mut self, alloc: Global, outcome: &mut Outcome) -> Result<(), AllocError> {
         let streams = self.receiver.readable_streams().map_err(no_memory)?;
         for stream in &streams {
-            let messages = read_all(alloc, &mut self.receiver, *stream).map_err(no_memory)?;
+            let mut messages = Vec::new(alloc);
+            read_all(&mut self.receiver, *stream, &mut messages)?;
             self.add_each(outcome, *stream, messages)?;
         }
         Ok(())
@@ -277,17 +278,21 @@ impl WayReader {
             return Ok(Outcome::unread(alloc, Unread::Early));
         }
         let received = self.as_received(chunk)?;
-        let heard = match hear(alloc, &mut self.receiver, &received) {
-            Ok(heard) => heard,
+        let mut messages = Vec::new(alloc);
+        let taken = match take_chunk(&mut self.receiver, &received, &mut messages) {
+            Ok(taken) => taken,
             Err(refusal) => return self.refuse(alloc, chunk, refusal),
         };
-        let mut outcome = Outcome::none(alloc);
-        if heard.arrival == Arrival::Repeat {
-            self.receiver.sack_sent();
-            return Ok(outcome);
+        if !taken.is_all {
+            return Err(AllocError);
         }
-        self.note_origin(chunk, bytes)?;
-        self.add_each(&mut outcome, chunk.stream_identifier, heard.messages)?;
+        if taken.arrival == Arrival::Repeat {
+            self.receiver.sack_sent();
+        } else {
+            self.note_origin(chunk, bytes)?;
+        }
+        let mut outcome = Outcome::none(alloc);
+        self.add_each(&mut outcome, chunk.stream_identifier, messages)?;
         Ok(outcome)
     }
 

@@ -1,0 +1,9 @@
+use Rattle.std.proofs.Common.{◌≤◌, vec_len}
+use Rattle.sctp_messages.specs.Messages.{ReadsOnto}
+use Rattle.sctp_messages.proofs.reading.read_all.Given as goal
+
+abbrev pub invariant-reading : goal.invariant-reading
+invariant-reading l = record {
+  reads : ReadsOnto l.stream l.initial.messages.items l.messages.items l.initial.receiver l.receiver;
+  count : l.turn ≤ vec_len l.messages;
+}
