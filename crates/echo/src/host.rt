@@ -38,9 +38,9 @@ pub(crate) struct Host {
 }
 
 impl Host {
-    /// A host whose own TSNs begin with the first, its peer's with the second; its stream is open in both directions.
-    pub fn new(alloc: Global, first_tsn: u32, peer_tsn: u32, peer_tag: u32) -> Option<Host> {
-        let mut host = Host {
+    /// A host whose own TSNs begin with the first, its peer's with the second.
+    pub fn new(alloc: Global, first_tsn: u32, peer_tsn: u32, peer_tag: u32) -> Host {
+        Host {
             alloc,
             sender: Sender::new(alloc, first_tsn, FRAGMENT, MESSAGE),
             receiver: Receiver::new(alloc, peer_tsn, MESSAGE, Some(LIMITS)),
@@ -50,10 +50,13 @@ impl Host {
                 verification_tag: peer_tag,
             },
             owes_sack: false,
-        };
-        host.sender.open(STREAM).ok()?;
-        host.receiver.open(STREAM).ok()?;
-        Some(host)
+        }
+    }
+
+    /// Opens the stream in both directions.
+    pub fn open(&mut self) -> Option<()> {
+        self.sender.open(STREAM).ok()?;
+        self.receiver.open(STREAM).ok()
     }
 
     /// Writes a message: it waits until it is sent.
@@ -73,25 +76,36 @@ impl Host {
         Bytes::copy_from_slice(self.alloc, text.get(..length)?).ok()
     }
 
-    /// The next datagram, for the moment `now`: the SACK that is owed, and the chunk that is next; None where nothing is to be sent.
+    /// The next datagram, for the moment `now`; None where nothing is to be sent.
     pub fn datagram(&mut self, now: u64) -> Option<Bytes> {
-        let mut chunks = Vec::new(self.alloc);
+        let mut packet = Packet {
+            common_header: self.header,
+            chunks: Vec::new(self.alloc),
+        };
+        self.put_sack(&mut packet.chunks)?;
+        self.put_data(&mut packet.chunks, now)?;
+        if packet.chunks.is_empty() {
+            return None;
+        }
+        packet.marshal(self.alloc, &Crc32c).ok()
+    }
+
+    // Puts the SACK that is owed, if one is.
+    fn put_sack(&mut self, chunks: &mut Vec<ChunkKind>) -> Option<()> {
         if self.owes_sack {
             let sack = self.receiver.sack().ok()?;
             chunks.push(ChunkKind::SelectiveAck(sack)).ok()?;
             self.owes_sack = false;
         }
-        if let Some(data) = self.next_data(now) {
-            chunks.push(ChunkKind::PayloadData(data)).ok()?;
+        Some(())
+    }
+
+    // Puts the DATA chunk that is next, if there is one.
+    fn put_data(&mut self, chunks: &mut Vec<ChunkKind>, now: u64) -> Option<()> {
+        match self.next_data(now) {
+            Some(data) => chunks.push(ChunkKind::PayloadData(data)).ok(),
+            None => Some(()),
         }
-        if chunks.is_empty() {
-            return None;
-        }
-        let packet = Packet {
-            common_header: self.header,
-            chunks,
-        };
-        packet.marshal(self.alloc, &Crc32c).ok()
     }
 
     // What is to be sent again goes first (RFC 4960 6.1 C).
@@ -108,17 +122,28 @@ impl Host {
     /// Takes a datagram of the peer.
     pub fn take(&mut self, datagram: &Bytes) -> Option<()> {
         let packet = Packet::unmarshal(self.alloc, datagram, &Crc32c).ok()?;
-        for chunk in &packet.chunks {
-            match chunk {
-                ChunkKind::PayloadData(data) => {
-                    self.owes_sack = true;
-                    self.receiver.data(data).ok()?;
-                }
-                ChunkKind::SelectiveAck(sack) => {
-                    self.sender.acked(sack).ok()?;
-                }
-                _ => {}
+        self.take_all(&packet.chunks)
+    }
+
+    // Takes the chunks of a packet, in their order.
+    fn take_all(&mut self, chunks: &[ChunkKind]) -> Option<()> {
+        for chunk in chunks {
+            self.take_chunk(chunk)?;
+        }
+        Some(())
+    }
+
+    // DATA goes to the receiver, a SACK to the sender.
+    fn take_chunk(&mut self, chunk: &ChunkKind) -> Option<()> {
+        match chunk {
+            ChunkKind::PayloadData(data) => {
+                self.owes_sack = true;
+                self.receiver.data(data).ok()?;
             }
+            ChunkKind::SelectiveAck(sack) => {
+                self.sender.acked(sack).ok()?;
+            }
+            _ => {}
         }
         Some(())
     }

@@ -50,31 +50,41 @@ fn collect(client: &mut Host, line: &mut String) -> Option<()> {
     Some(())
 }
 
-// Has the words echoed, and answers what came back. A turn takes as long as the retransmission timer.
-fn exchange(alloc: Global) -> Option<String> {
-    let mut client = Host::new(alloc, 4_294_967_294, 7, 1)?;
-    let mut server = Host::new(alloc, 7, 4_294_967_294, 2)?;
+// Has the words echoed, and adds what came back to the line. A turn takes as long as the retransmission timer.
+fn exchange(client: &mut Host, server: &mut Host, line: &mut String) -> Option<()> {
+    client.open()?;
+    server.open()?;
     for word in WORDS {
         client.write(word.as_bytes())?;
     }
-    let mut line = String::new(alloc);
     let mut sent = 0u32;
     for now in 0..MOST {
-        carry(&mut client, &mut server, &mut sent, now)?;
-        echo(&mut server)?;
-        carry(&mut server, &mut client, &mut sent, now)?;
-        collect(&mut client, &mut line)?;
+        carry(client, server, &mut sent, now)?;
+        echo(server)?;
+        carry(server, client, &mut sent, now)?;
+        collect(client, line)?;
         if client.is_done() && server.is_done() {
             break;
         }
         client.time_out();
         server.time_out();
     }
-    Some(line)
+    Some(())
+}
+
+// Has the words echoed by two hosts, and answers what came back.
+fn echoed(alloc: Global) -> Option<String> {
+    let mut client = Host::new(alloc, 4_294_967_294, 7, 1);
+    let mut server = Host::new(alloc, 7, 4_294_967_294, 2);
+    let mut line = String::new(alloc);
+    match exchange(&mut client, &mut server, &mut line) {
+        Some(()) => Some(line),
+        None => None,
+    }
 }
 
 fn main(rt: HostRuntime) -> anyhow::Result<ExitCode> {
-    let Some(line) = exchange(rt.alloc()) else {
+    let Some(line) = echoed(rt.alloc()) else {
         return Ok(ExitCode::FAILURE);
     };
     println!(rt; "{line}")?;
