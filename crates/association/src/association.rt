@@ -165,21 +165,27 @@ impl Association {
     /// The chunks of the next packet: none where nothing is to be sent now. Call it again until there are none, after `receive`,
     /// `write` and `read`, and at the `next_time`. Control chunks come first (RFC 4960 6.10).
     pub fn transmit(&mut self, now: u64) -> Result<Vec<ChunkKind>, Fault> {
+        let mut packet = Outgoing::new(self.alloc);
+        self.fill(&mut packet, now)?;
+        Ok(packet.chunks)
+    }
+
+    // Puts what is due into a packet.
+    fn fill(&mut self, packet: &mut Outgoing, now: u64) -> Result<(), Fault> {
         if self.timer.runs_out(now) {
             self.congestion.timed_out();
             self.sender.retransmit_all();
             self.is_skip_due = true;
         }
         self.abandon(now)?;
-        let mut packet = Outgoing::new(self.alloc);
-        self.put_sack(&mut packet, now)?;
-        self.put_skip(&mut packet)?;
-        self.put_error(&mut packet)?;
-        self.put_resets(&mut packet, now)?;
-        self.put_lost(&mut packet, now)?;
-        self.put_new(&mut packet, now)?;
+        self.put_sack(packet, now)?;
+        self.put_skip(packet)?;
+        self.put_error(packet)?;
+        self.put_resets(packet, now)?;
+        self.put_lost(packet, now)?;
+        self.put_new(packet, now)?;
         self.run_timer(now);
-        Ok(packet.chunks)
+        Ok(())
     }
 
     // Abandons what is past its lifetime (RFC 3758 4.1), and what was sent as often as it may be (RFC 7496 3.1).

@@ -25,22 +25,28 @@ struct Host {
 }
 
 impl Host {
-    fn new(alloc: Global, first_tsn: u32, peer_tsn: u32) -> Result<Host, Fault> {
-        let mut association = Association::new(alloc, first_tsn, peer_tsn, 100_000);
-        let mut inboxes = Vec::new(alloc);
-        for channel in CHANNELS {
-            let stream = channel.stream;
-            association.open(stream)?;
-            let mode = (channel.reliability, channel.value);
-            association
-                .sender
-                .set_mode(stream, channel.unordered, mode.0, mode.1)?;
-            inboxes.push(Inbox::new(alloc))?;
+    fn new(alloc: Global, first_tsn: u32, peer_tsn: u32) -> Host {
+        Host {
+            association: Association::new(alloc, first_tsn, peer_tsn, 100_000),
+            inboxes: Vec::new(alloc),
         }
-        Ok(Host {
-            association,
-            inboxes,
-        })
+    }
+
+    // Opens each stream, and sets its mode.
+    fn open(&mut self, alloc: Global) -> Result<(), Fault> {
+        for channel in CHANNELS {
+            self.open_channel(channel)?;
+            self.inboxes.push(Inbox::new(alloc))?;
+        }
+        Ok(())
+    }
+
+    fn open_channel(&mut self, channel: Channel) -> Result<(), Fault> {
+        let (stream, unordered) = (channel.stream, channel.unordered);
+        self.association.open(stream)?;
+        let sender = &mut self.association.sender;
+        sender.set_mode(stream, unordered, channel.reliability, channel.value)?;
+        Ok(())
     }
 
     // Writes a message to each of these streams.
@@ -139,14 +145,19 @@ struct Exchange {
 }
 
 impl Exchange {
-    fn new(alloc: Global, loss: u32) -> Result<Exchange, Fault> {
-        Ok(Exchange {
+    fn new(alloc: Global, loss: u32) -> Exchange {
+        Exchange {
             alloc,
-            first: Host::new(alloc, u32::MAX - 50, 77)?,
-            second: Host::new(alloc, 77, u32::MAX - 50)?,
+            first: Host::new(alloc, u32::MAX - 50, 77),
+            second: Host::new(alloc, 77, u32::MAX - 50),
             network: Network::new(alloc, loss),
             now: 0,
-        })
+        }
+    }
+
+    fn open(&mut self) -> Result<(), Fault> {
+        self.first.open(self.alloc)?;
+        self.second.open(self.alloc)
     }
 
     // Lets both write a message to each of these streams.
@@ -219,19 +230,24 @@ impl Exchange {
         }
         self.drain()
     }
+
+    // What `goes_well` says, of two new hosts.
+    fn goes_well(&mut self, loss: u32) -> Result<bool, Fault> {
+        self.open()?;
+        let reliable = CHANNELS.get(..2).unwrap_or(&[]);
+        let came = self.exchange(&CHANNELS, 0, MESSAGES)?;
+        self.reset(reliable)?;
+        let are_reset = self.drain()?;
+        self.first.write_unknown(self.alloc, self.now)?;
+        let more = self.exchange(reliable, MESSAGES, MESSAGES + LATER)?;
+        let is_told = loss > 0 || self.first.association.errors() > 0;
+        Ok(came && are_reset && more && is_told && self.is_served())
+    }
 }
 
 /// Whether all goes well over a network that loses so many of 100 packets: reliable messages all come, each once, ordered ones in
 /// order; of the others those that come are such as were written; a stream that is reset begins with the number 0 again; a chunk
 /// of a stream that is not open is acknowledged; and in the end nothing waits, is in flight or is held.
 pub fn goes_well(alloc: Global, loss: u32) -> Result<bool, Fault> {
-    let mut exchange = Exchange::new(alloc, loss)?;
-    let reliable = CHANNELS.get(..2).unwrap_or(&[]);
-    let came = exchange.exchange(&CHANNELS, 0, MESSAGES)?;
-    exchange.reset(reliable)?;
-    let are_reset = exchange.drain()?;
-    exchange.first.write_unknown(alloc, exchange.now)?;
-    let more = exchange.exchange(reliable, MESSAGES, MESSAGES + LATER)?;
-    let is_told = loss > 0 || exchange.first.association.errors() > 0;
-    Ok(came && are_reset && more && is_told && exchange.is_served())
+    Exchange::new(alloc, loss).goes_well(loss)
 }
