@@ -50,7 +50,7 @@ fn collect(client: &mut Host, line: &mut String) -> Option<()> {
     Some(())
 }
 
-// Has the words echoed, and adds what came back to the line. A turn takes as long as the retransmission timer.
+// Has the words echoed, as `run` says. A turn takes as long as the retransmission timer.
 fn exchange(client: &mut Host, server: &mut Host, line: &mut String) -> Option<()> {
     client.open()?;
     server.open()?;
@@ -72,21 +72,18 @@ fn exchange(client: &mut Host, server: &mut Host, line: &mut String) -> Option<(
     Some(())
 }
 
-// Has the words echoed by two hosts, and answers what came back.
-fn echoed(alloc: Global) -> Option<String> {
+// Has the words echoed by two hosts, and adds what came back to the line.
+fn run(alloc: Global, line: &mut String) -> Option<()> {
     let mut client = Host::new(alloc, 4_294_967_294, 7, 1);
     let mut server = Host::new(alloc, 7, 4_294_967_294, 2);
-    let mut line = String::new(alloc);
-    match exchange(&mut client, &mut server, &mut line) {
-        Some(()) => Some(line),
-        None => None,
-    }
+    exchange(&mut client, &mut server, line)
 }
 
 fn main(rt: HostRuntime) -> anyhow::Result<ExitCode> {
-    let Some(line) = echoed(rt.alloc()) else {
+    let mut line = String::new(rt.alloc());
+    if run(rt.alloc(), &mut line).is_none() {
         return Ok(ExitCode::FAILURE);
-    };
+    }
     println!(rt; "{line}")?;
     Ok(ExitCode::SUCCESS)
 }
