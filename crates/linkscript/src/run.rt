@@ -2,10 +2,11 @@
 
 ghost use Rattle.std.specs.Prelude.{◌≡◌, ◌⊎◌, IfOk};
 
-use crate::script::{LineFault, print_reply, read_event, read_link};
+use crate::script::{LineFault, Play, print_reply, read_event, read_link};
 use sctp_base::util::Checksum;
 use std::alloc::Global;
 use std::io::{ErrorKind, Read, Write};
+use std::str::Split;
 
 /// Why a run ended early.
 #[derive(Clone, Copy, Debug, PartialEq, Eq)]
@@ -52,19 +53,46 @@ fn run_text<C: Checksum + Drop, W: Write>(
     let text = text.strip_suffix('\n').unwrap_or(text);
     let mut lines = text.split('\n');
     let first = lines.next().unwrap_or("");
-    let Some(mut play) = read_link(alloc, checksum, first) else {
-        return bad_line(output, 1);
-    };
+    match read_link(alloc, checksum, first) {
+        Some(mut play) => run_lines(alloc, &mut play, lines, output),
+        None => bad_line(output, 1),
+    }
+}
+
+/// Runs the lines behind the first one.
+fn run_lines<C: Checksum + Drop, W: Write>(
+    alloc: Global,
+    play: &mut Play<C>,
+    lines: Split<'_, char>,
+    output: &mut W,
+) -> Result<u8, RunFault>
+    ensures { IfOk result (λ status. (status ≡ 0) ⊎ (status ≡ 2)) }
+{
     let mut number = 1u64;
     for line in lines {
         number = number.saturating_add(1);
-        match read_event(alloc, line) {
-            Ok(event) => print_reply(alloc, output, &play.link.step(event), play.counts)?,
-            Err(LineFault::Unreadable) => return bad_line(output, number),
-            Err(LineFault::Memory) => return Err(RunFault::Memory),
+        if !run_line(alloc, play, line, output)? {
+            return bad_line(output, number);
         }
     }
     Ok(0)
+}
+
+/// Runs a line as an event, and prints the reply; false where it cannot be read.
+fn run_line<C: Checksum + Drop, W: Write>(
+    alloc: Global,
+    play: &mut Play<C>,
+    line: &str,
+    output: &mut W,
+) -> Result<bool, RunFault> {
+    match read_event(alloc, line) {
+        Ok(event) => {
+            print_reply(alloc, output, &play.link.step(event), play.counts)?;
+            Ok(true)
+        }
+        Err(LineFault::Unreadable) => Ok(false),
+        Err(LineFault::Memory) => Err(RunFault::Memory),
+    }
 }
 
 fn bad_line<W: Write>(output: &mut W, number: u64) -> Result<u8, RunFault>
