@@ -4,6 +4,7 @@ use Rattle.std.specs.Prelude.{Contains, IfSome, find, slice_index_or}
 use Rattle.sctp_list_lemmas.proofs.More.{not_both}
 use Rattle.sctp_data.specs.declared.chunk.chunk_payload_data.ChunkPayloadData.{ChunkPayloadData}
 use Rattle.sctp_data.specs.declared.chunk.chunk_payload_data.PayloadProtocolIdentifier.TheVariants.{Unknown}
+use Rattle.sctp_data.specs.ForwardTsn.{ForwardTsn}
 use Rattle.sctp_outbound.specs.Marks.{is_outstanding, with_retransmit}
 use Rattle.sctp_outbound.specs.outbound_queue.OutboundQueue.{all_started, expiring, expiring_tail, message_of}
 use Rattle.sctp_outbound.specs.pending_queue.PendingQueue.{next_pending}
@@ -11,6 +12,7 @@ use Rattle.sctp_outbound.proofs.lemmas.pending_queue.CompleteMessages.{KeepsMess
 use Rattle.sctp_serial.specs.DataChunks.{has_tsn}
 use Rattle.sctp_sender.specs.declared.sender.ExpiredMessage.{ExpiredMessage}
 use Rattle.sctp_sender.specs.declared.sender.flight.late.AbandonedMessage.{AbandonedMessage}
+use Rattle.sctp_sender.specs.Abandonment.{Name, named_up_to}
 use Rattle.sctp_sender.specs.Flight.{is_outstanding_in, message_to_abandon, with_queue, with_room}
 use Rattle.sctp_sender.specs.Late.{late_order, worn_order}
 use Rattle.sctp_sender.specs.Outgoing.{has_number, with_low, with_mode}
@@ -18,8 +20,9 @@ use Rattle.sctp_sender.specs.Resending.{can_miss, count_again, missed, sent_agai
 use Rattle.sctp_sender.specs.Sender.{Transmission, after_expire, written_to}
 use Rattle.sctp_sender.specs.SenderRuns.{Makes}
 use Rattle.sctp_sender.proofs.InLine.{found-half, tail-half}
-use Rattle.sctp_delivery.specs.SenderCalls.{Expires, ExpiresTail, IsAccepted, Made, MakesExactly, SenderCall, abandons, as_run, expires, expires_late, expires_rexmit, expires_tail, forwards, forwards_within, made_after, marks, misses, opens, resends, reserves, sends, sets_low, sets_mode, sets_size, starts, takes_sack, writes, written_after, Write}
+use Rattle.sctp_delivery.specs.SenderCalls.{Expires, ExpiresTail, IsAccepted, Made, MakesExactly, SenderCall, abandons, as_run, expires, expires_late, expires_rexmit, expires_tail, forward_tsn, forwards, forwards_within, made_after, marks, misses, opens, resends, reserves, sends, sets_low, sets_mode, sets_size, starts, takes_sack, writes, written_after, Write}
 use Rattle.sctp_delivery.proofs.InFlight.{known-found}
+use Rattle.sctp_delivery.proofs.OrderedNames.{names-known}
 use Rattle.sctp_delivery.proofs.Numbers.{all-open, number_of, numbers-sized, opened, sized-all, steady-changed, steady-same, there-sized}
 use Rattle.sctp_delivery.proofs.Queues.{started}
 use Rattle.sctp_delivery.proofs.Senders.{IsHeld, Result, abandons-all, abandons-message, acked, calm, changed, first-changed, renumbered, sends-next, steady}
@@ -76,10 +79,18 @@ module _ (ws : List Numbered) (first : ℕ) (t : Transmission) (sent : List Entr
       subst (λ y. Result ws ws first sent y ms (made_after (resends tsn now c) t ms)) (sym m)
       (record {
         more = sent;
-        held = changed ws first t sent (has_tsn tsn) (sent_again (count_again c) now) (again-keeps (count_again c) now) (λ d o. (o, refl)) h;
+        held = changed ws first t sent (has_tsn tsn) (sent_again (count_again c) now) (again-keeps (count_again c) now) (λ d. (λ o. (o, refl), record { kind = refl; stream = refl; number = refl })) h;
         once = inl refl;
-        made = λ s. (known-found sent (has_tsn tsn) t.flight.queue.inflight.chunks c a.1 h.stands.known (subst (λ o. is_outstanding_in o ≡ true) a.1 a.0), s);
+        made = λ s. ((known-found sent (has_tsn tsn) t.flight.queue.inflight.chunks c a.1 h.stands.known).0 (subst (λ o. is_outstanding_in o ≡ true) a.1 a.0), s);
       })
+
+  forwards-call : (f : ForwardTsn) (u : Transmission) → u ≡ t → Name f.streams (named_up_to f.new_cumulative_tsn t.flight) → Result ws ws first sent u ms (forward_tsn f ∷ ms)
+  forwards-call f u x n = subst (λ y. Result ws ws first sent y ms (forward_tsn f ∷ ms)) (sym x) (record {
+    more = sent;
+    held = h;
+    once = inl refl;
+    made = λ s. (names-known sent f.streams f.new_cumulative_tsn t.flight h.stands.known n, s);
+  })
 
   pub stepped : (call : SenderCall) (u : Transmission) → Makes (as_run call) t u → MakesExactly call t u → IsAccepted call t → Result ws (numbered_after call ws) first sent u ms (made_after call t ms)
   stepped (opens stream) u m x a =
@@ -105,14 +116,14 @@ module _ (ws : List Numbered) (first : ℕ) (t : Transmission) (sent : List Entr
   stepped (expires_tail now m') u m x a = expires-tail-call now m' u x
   stepped (expires_late now gone) u m x a = subst (λ y. Result ws ws first sent y ms ms) (sym x) (abandons-all ws first t sent ms h (late_order now t.flight))
   stepped (expires_rexmit gone) u m x a = subst (λ y. Result ws ws first sent y ms ms) (sym x) (abandons-all ws first t sent ms h (worn_order t.flight))
-  stepped (forwards tsn f) u m x a = let r = same u x in record { more = r.more; held = r.held; once = r.once; made = r.made }
-  stepped (forwards_within bytes f) u m x a = let r = same u x in record { more = r.more; held = r.held; once = r.once; made = r.made }
+  stepped (forwards tsn f) u m x a = forwards-call f u x a.1
+  stepped (forwards_within bytes f) u m x a = forwards-call f u x a.2
   stepped marks u m x a =
       subst (λ y. Result ws ws first sent y ms ms) (sym m)
-      (calm ws ws first sent _ ms (changed ws first t sent is_outstanding (with_retransmit true) (record { number = λ _. refl; begins = λ _. refl; ends = λ _. refl; kind = λ _. refl }) (λ d o. (o, refl)) h))
+      (calm ws ws first sent _ ms (changed ws first t sent is_outstanding (with_retransmit true) (record { number = λ _. refl; begins = λ _. refl; ends = λ _. refl; kind = λ _. refl }) (λ d. (λ o. (o, refl), record { kind = refl; stream = refl; number = refl })) h))
   stepped (misses count) u m x a =
       subst (λ y. Result ws ws first sent y ms ms) (sym m)
-      (calm ws ws first sent _ ms (first-changed ws first t sent can_miss missed count (record { number = λ _. refl; begins = λ _. refl; ends = λ _. refl; kind = λ _. refl }) (λ d o. (o, refl)) h))
+      (calm ws ws first sent _ ms (first-changed ws first t sent can_miss missed count (record { number = λ _. refl; begins = λ _. refl; ends = λ _. refl; kind = λ _. refl }) (λ d. (λ o. (o, refl), record { kind = refl; stream = refl; number = refl })) h))
   stepped (sets_size size) u m x a =
       subst (λ y. Result ws ws first sent y ms ms) (sym m)
       (calm ws ws first sent _ ms (record {

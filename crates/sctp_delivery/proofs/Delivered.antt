@@ -18,6 +18,8 @@ use Rattle.sctp_delivery.specs.SenderCalls.{written_after, Made, SenderCall, Wri
 use Rattle.sctp_delivery.specs.Session.{Call, ReceiverFollows, RunsTo, SenderFollows, Session, at_start, of_receiver, of_sender}
 use Rattle.sctp_delivery.proofs.Begun.{AreOnce}
 use Rattle.sctp_delivery.proofs.Calls.{contains-forgotten, forget, forgotten, forgotten-after, numbered_after, stepped}
+use Rattle.sctp_delivery.proofs.OrderedEntries.{AreIndexed, AreRising, begun_on, written_on}
+use Rattle.sctp_delivery.proofs.OrderedPlaces.{AreNumbered, numbered-after}
 use Rattle.sctp_delivery.proofs.Queues.{IsOnceMore}
 use Rattle.sctp_delivery.proofs.Senders.{AreSent, IsHeld}
 use Rattle.sctp_delivery.proofs.Sent.{Numbered, AreApart, Entry, GoesOn, IsLine, IsPart, WasSent, fragment, part-line, same-tsn, stands-behind}
@@ -33,6 +35,7 @@ record Holds (first : ℕ) (s : Session) (ns : List Numbered) (sent : List Entry
   held : IsHeld ns first s.sending.sender sent
   made : AreSent sent s.made
   writes : forgotten ns ≡ s.written
+  placed : AreNumbered ns
 
 -- a TSN for each entry
 counted : (first : ℕ) (sent more : List Entry) (a b : ℕ) → a ≡ (first + length sent) % 2 ^ 32 → b ≡ (first + length more) % 2 ^ 32 → IsOnceMore sent more → length more ≤ length sent + distance a b
@@ -56,13 +59,14 @@ sender-step first call old new ns sent f h =
           held = r.held;
           made = subst (AreSent r.more) (sym (ap (λ (s : Session). s.made) f.after)) (r.made h.made);
           writes = forgotten-after call ns ∙ ap (written_after call) h.writes ∙ sym (ap (λ (s : Session). s.written) f.after);
+          placed = numbered-after call ns h.placed;
         },
         counted first sent r.more (next_tsn old) (next_tsn new) h.held.stands.counted r.held.stands.counted r.once,
       ),
     )
 
 receiver-step : (first : ℕ) (call : _) (old new : Session) (ns : List Numbered) (sent : List Entry) → ReceiverFollows call old new → Holds first old ns sent → Holds first new ns sent
-receiver-step first call old new ns sent f h = subst (λ s. Holds first s ns sent) (sym f.after) (record { held = h.held; made = h.made; writes = h.writes })
+receiver-step first call old new ns sent f h = subst (λ s. Holds first s ns sent) (sym f.after) (record { held = h.held; made = h.made; writes = h.writes; placed = h.placed })
 
 held-after : (first : ℕ) (cs : List Call) (old new : Session) (ns : List Numbered) (sent : List Entry) (r : RunsTo old cs new) → Holds first old ns sent → After first old cs new r sent
 held-after first [] old new ns sent r h = record { numbered = ns; more = sent; holds = subst (λ s. Holds first s ns sent) (sym r) h; few = omega arith }
@@ -81,7 +85,7 @@ at-first : (tsn size max most : ℕ) (limits : Option Limits) → tsn < 2 ^ 32 �
 at-first tsn size max most limits small some = record {
   held = record {
     stands = record {
-      queued = record { line = tt; ordered = tt; unordered = tt; turns = λ s. (0, (refl, tt)) };
+      queued = record { line = tt; ordered = tt; unordered = tt; turns = λ s. (0, (refl, tt, refl)); indexed = tt; ranked = record { top = 0; under = tt; waiting = omega arith; rising = tt; few = λ s. omega arith } };
       sendable = record { ordered = tt; unordered = tt; apart = λ m h. refl; sent = λ m h k. absurd (not_both h); below = λ m le. refl };
       known = tt;
       counted = omega (arith, small);
@@ -94,6 +98,7 @@ at-first tsn size max most limits small some = record {
   };
   made = tt;
   writes = refl;
+  placed = tt;
 }
 
 -- ## The fragments of a message
@@ -106,7 +111,7 @@ found-sent sent ms d a c = at ms c.0 c.1 c.2 a
     at (data_chunk x ∷ ms) zero lt e a = let same : x ≡ d = cc in subst (WasSent sent) same a.0
     at (forward_tsn f ∷ ms) zero lt e a = cc
     at (data_chunk x ∷ ms) (suc k) lt e a = at ms k (omega (arith, lt)) e a.1
-    at (forward_tsn f ∷ ms) (suc k) lt e a = at ms k (omega (arith, lt)) e a
+    at (forward_tsn f ∷ ms) (suc k) lt e a = at ms k (omega (arith, lt)) e a.1
 
 -- each of these chunks got a TSN
 abbrev EachSent : List Entry → List ChunkPayloadData → Type 0
@@ -185,6 +190,11 @@ pub record IsReadSession (s : Session) : Type 0 where
   pub sent : List Entry
   pub writes : forgotten numbered ≡ s.written
   pub once : AreOnce sent
+  pub indexed : AreIndexed sent
+  pub rising : AreRising sent
+  pub few : (s : ℕ) → begun_on s sent ≤ written_on s numbered
+  pub sent-made : AreSent sent s.made
+  pub placed : AreNumbered numbered
   pub each : All (λ m. IsReadOf numbered sent m) s.receiving.read
 
 module _ (ws : List Numbered) (first : ℕ) (sent : List Entry) (few : length sent < 2 ^ 32) (line : IsLine ws first sent) where
@@ -280,6 +290,11 @@ read-of tsn size max most limits cs s small some r few =
       sent = a.more;
       writes = a.holds.writes;
       once = a.holds.held.stands.begun'.once;
+      indexed = a.holds.held.stands.queued.indexed;
+      rising = a.holds.held.stands.queued.ranked.rising;
+      few = λ st. let k = a.holds.held.stands.queued.ranked.few st in omega (arith, k);
+      sent-made = a.holds.made;
+      placed = a.holds.placed;
       each = λ k m lt.
           let it = slice_index_or s.receiving.read k m in
           message-is a.numbered tsn a.more (omega (arith, n, few)) a.holds.held.stands.queued.line it

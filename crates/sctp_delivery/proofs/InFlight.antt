@@ -1,4 +1,5 @@
--- What is outstanding was sent: it is in the line of entries, with the same wire fields.
+-- What is outstanding was sent: it is in the line of entries, with the same wire fields. What is ordered has the number of a message that
+-- was begun.
 use Rattle.std.proofs.Common.{◌≡◌, ℕ, zero, suc, Bool, true, false, not, List, [], ◌∷◌, ◌++◌, take, drop, Some, refl, ap, sym, subst, ◌∙◌}
 use Rattle.std.specs.Prelude.{⊤, if◌then◌else◌}
 use Rattle.std.specs.List.{filter, find}
@@ -9,40 +10,60 @@ use Rattle.sctp_list_lemmas.proofs.More.{both, not_both}
 use Rattle.sctp_data.specs.declared.chunk.chunk_payload_data.ChunkPayloadData.{ChunkPayloadData}
 use Rattle.sctp_data.specs.PayloadData.{data_of}
 use Rattle.sctp_outbound.specs.Marks.{as_abandoned, as_acknowledged, is_outstanding}
+use Rattle.sctp_delivery.proofs.OrderedEntries.{IsNumberOf, number-more}
 use Rattle.sctp_delivery.proofs.Sent.{Entry, WasSent, sent-more}
 
 abbrev pub IsKnown : List Entry → ChunkPayloadData → Type 0
-IsKnown sent c = is_outstanding c ≡ true → WasSent sent (data_of c)
+IsKnown sent c =
+    (is_outstanding c ≡ true → WasSent sent (data_of c))
+    × (c.unordered ≡ false → IsNumberOf sent c.stream_identifier c.stream_sequence_number)
 
--- each chunk that is outstanding was sent
+-- each chunk is so
 abbrev pub AreKnown : List Entry → List ChunkPayloadData → Type 0
 AreKnown sent [] = ⊤
 AreKnown sent (c ∷ cs) = IsKnown sent c × AreKnown sent cs
 
 pub known-more : (x : Entry) (sent : List Entry) (cs : List ChunkPayloadData) → AreKnown sent cs → AreKnown (x ∷ sent) cs
 known-more x sent [] k = tt
-known-more x sent (c ∷ cs) k = (λ o. sent-more x sent (data_of c) (k.0 o), known-more x sent cs k.1)
+known-more x sent (c ∷ cs) k = (
+  (λ o. sent-more x sent (data_of c) (k.0.0 o), λ u. number-more x sent c.stream_identifier c.stream_sequence_number (k.0.1 u)),
+  known-more x sent cs k.1,
+)
 
--- a change after which a chunk is outstanding only where it was, with the same wire fields
+-- of the same kind, stream and number
+pub record IsAlike (c d : ChunkPayloadData) : Type 0 where
+  pub kind : d.unordered ≡ c.unordered
+  pub stream : d.stream_identifier ≡ c.stream_identifier
+  pub number : d.stream_sequence_number ≡ c.stream_sequence_number
+
+-- a change after which a chunk is outstanding only where it was, with the same wire fields, and is always of the same kind, stream and
+-- number
 abbrev pub KeepsData : (ChunkPayloadData → ChunkPayloadData) → Type 0
-KeepsData f = (c : ChunkPayloadData) → is_outstanding (f c) ≡ true → (is_outstanding c ≡ true) × (data_of (f c) ≡ data_of c)
+KeepsData f =
+    (c : ChunkPayloadData)
+    → (is_outstanding (f c) ≡ true → (is_outstanding c ≡ true) × (data_of (f c) ≡ data_of c)) × IsAlike c (f c)
 
 pub acknowledged-keeps : KeepsData as_acknowledged
-acknowledged-keeps c o = absurd (not_both o)
+acknowledged-keeps c = (λ o. absurd (not_both o), record { kind = refl; stream = refl; number = refl })
 
 pub abandoned-not : (c : ChunkPayloadData) → c.abandoned ≡ true → is_outstanding c ≡ true → ⊥
 abandoned-not c e o = not_both (ap not (sym e) ∙ (both (not c.acked) (not c.abandoned) o).1)
 
 pub abandoned-keeps : KeepsData as_abandoned
-abandoned-keeps c o = absurd (abandoned-not (as_abandoned c) refl o)
+abandoned-keeps c = (λ o. absurd (abandoned-not (as_abandoned c) refl o), record { kind = refl; stream = refl; number = refl })
 
 pub known-changed : (sent : List Entry) (p : ChunkPayloadData → Bool) (f : ChunkPayloadData → ChunkPayloadData) → KeepsData f → (cs : List ChunkPayloadData) → AreKnown sent cs → AreKnown sent (change_where p f cs)
 known-changed sent p f keeps [] k = tt
 known-changed sent p f keeps (c ∷ cs) k = (by (p c), known-changed sent p f keeps cs k.1)
   where
     by : (b : Bool) → IsKnown sent (if b then f c else c)
-    by true o = let h = keeps c o in subst (WasSent sent) (sym h.1) (k.0 h.0)
-    by false o = k.0 o
+    by true = (
+      λ o. let h = (keeps c).0 o in subst (WasSent sent) (sym h.1) (k.0.0 h.0),
+      λ u.
+          let a = (keeps c).1 in
+          subst (λ s. IsNumberOf sent s (f c).stream_sequence_number) (sym a.stream) (subst (IsNumberOf sent c.stream_identifier) (sym a.number) (k.0.1 (sym a.kind ∙ u))),
+    )
+    by false = k.0
 
 -- only the first so many are changed
 pub known-part-changed : (sent : List Entry) (p : ChunkPayloadData → Bool) (f : ChunkPayloadData → ChunkPayloadData) → KeepsData f → (i : ℕ) (cs : List ChunkPayloadData) → AreKnown sent cs → AreKnown sent (change_where p f (take i cs) ++ drop i cs)

@@ -2,9 +2,12 @@ pub mod SameData
 pub mod Sent
 pub mod Waiting
 pub mod Turns
+pub mod OrderedEntries
 pub mod Sending
 pub mod Begun
 pub mod InFlight
+pub mod OrderedRest
+pub mod OrderedNames
 pub mod Queues
 pub mod Pushing
 pub mod Fragments
@@ -12,6 +15,7 @@ pub mod Numbers
 pub mod Senders
 pub mod Writing
 pub mod Calls
+pub mod OrderedPlaces
 pub mod Sessions
 pub mod Delivered
 pub mod OneRead
@@ -32,4 +36,7 @@ pub mod SackMarks
 pub mod SackLaws
 pub mod ReadOnce
 pub mod OnceWritten
+pub mod OrderedReads
+pub mod OrderedCalls
+pub mod OrderedLaw
 mod Examples

@@ -26,7 +26,7 @@ part-begun (terminal ∷ ys) d w after xs b (inr p) = part-begun ys d w after xs
 part-begun (fragment e v rest ∷ ys) d w after xs b (inr p) = or-right (e.beginning_fragment && (v.place == w.place)) (was_begun w.place ys) (part-begun ys d w after xs b p)
 
 -- two first fragments of one write are one chunk
-one-first : (sent : List Entry) → AreOnce sent → (d e : Data) (w v : Numbered) (after rest : List ℕ) (xs ys : List Entry) → d.beginning_fragment ≡ true → e.beginning_fragment ≡ true → w.place ≡ v.place → IsPart (fragment d w after ∷ xs) sent → IsPart (fragment e v rest ∷ ys) sent → d ≡ e
+pub one-first : (sent : List Entry) → AreOnce sent → (d e : Data) (w v : Numbered) (after rest : List ℕ) (xs ys : List Entry) → d.beginning_fragment ≡ true → e.beginning_fragment ≡ true → w.place ≡ v.place → IsPart (fragment d w after ∷ xs) sent → IsPart (fragment e v rest ∷ ys) sent → d ≡ e
 one-first [] o d e w v after rest xs ys b c same p q = cc
 one-first (x ∷ zs) o d e w v after rest xs ys b c same (inl p) (inl q) = let it : fragment d w after ∷ xs ≡ fragment e v rest ∷ ys = p ∙ sym q in cc
 one-first (x ∷ zs) o d e w v after rest xs ys b c same (inl p) (inr q) =
@@ -45,19 +45,19 @@ one-first (fragment f u left ∷ zs) o d e w v after rest xs ys b c same (inr p)
 -- ## Places
 
 module _ (ns : List Numbered) (sent : List Entry) (once : AreOnce sent) where
-  abbrev EachRead : List Message → Type 0
+  abbrev pub EachRead : List Message → Type 0
   EachRead [] = ⊤
   EachRead (m ∷ ms) = IsReadOf ns sent m × EachRead ms
 
-  each-read : (ms : List Message) → All (λ m. IsReadOf ns sent m) ms → EachRead ms
+  pub each-read : (ms : List Message) → All (λ m. IsReadOf ns sent m) ms → EachRead ms
   each-read [] all = tt
   each-read (m ∷ ms) all = (all 0 m (omega arith), each-read ms (λ k d lt. all (suc k) d (omega (arith, lt))))
 
-  abbrev places : (ms : List Message) → EachRead ms → List ℕ
+  abbrev pub places : (ms : List Message) → EachRead ms → List ℕ
   places [] e = []
   places (m ∷ ms) e = e.0.written.0 ∷ places ms e.1
 
-  stand : (ms : List Message) (e : EachRead ms) → StandAt (forgotten ns) ms (places ms e)
+  pub stand : (ms : List Message) (e : EachRead ms) → StandAt (forgotten ns) ms (places ms e)
   stand [] e = tt
   stand (m ∷ ms) e = (
     (
@@ -98,7 +98,7 @@ module _ (ns : List Numbered) (sent : List Entry) (once : AreOnce sent) where
   later-apart [] ys e = e
   later-apart (x ∷ xs) ys e = later-apart xs ys (both (not (list_any (has_tsn x.tsn) (xs ++ ys))) (are_apart (xs ++ ys)) e).1
 
-  apart : (ms : List Message) (e : EachRead ms) → are_apart (fragments_of_all ms) ≡ true → AllPairs (λ p q. p ≢ q) (places ms e)
+  pub apart : (ms : List Message) (e : EachRead ms) → are_apart (fragments_of_all ms) ≡ true → AllPairs (λ p q. p ≢ q) (places ms e)
   apart [] e h = λ i j d lt short. absurd (omega (arith, short))
   apart (m ∷ ms) e h =
       let x = e.0 in

@@ -25,6 +25,7 @@ use Rattle.sctp_stream.specs.declared.stream.StreamState.{StreamState}
 use Rattle.sctp_delivery.specs.SenderCalls.{Made, data_chunk, forward_tsn, next_chunk, with_chunk}
 use Rattle.sctp_delivery.proofs.InFlight.{KeepsData, acknowledged-keeps, known-changed, known-part-changed, known-those}
 use Rattle.sctp_delivery.proofs.Numbers.{AreOpen, AreSized, IsSteady, all-open, number_of, steady-left, steady-less, steady-released, steady-same}
+use Rattle.sctp_delivery.proofs.OrderedNames.{AreNamed, named-more}
 use Rattle.sctp_delivery.proofs.Queues.{sends as sends-one, Abandons, IsOnceMore, Stands, abandoned, abandons-then, marked, no-abandons, refilled, started}
 use Rattle.sctp_delivery.proofs.Sent.{Entry, Numbered, WasSent, fragment, sent-more}
 use Rattle.sctp_delivery.proofs.Turns.{Turns}
@@ -36,16 +37,16 @@ pub record IsHeld (ws : List Numbered) (first : ℕ) (t : Transmission) (sent : 
   pub sized : AreSized t.streams
   pub size : 0 < t.fragment_size
 
--- each DATA chunk that was made is one that got a TSN
+-- each DATA chunk that was made is one that got a TSN, and each name of a FORWARD-TSN is of a message that was begun
 abbrev pub AreSent : List Entry → List Made → Type 0
 AreSent sent [] = ⊤
 AreSent sent (data_chunk d ∷ ms) = WasSent sent d × AreSent sent ms
-AreSent sent (forward_tsn f ∷ ms) = AreSent sent ms
+AreSent sent (forward_tsn f ∷ ms) = AreNamed sent f.streams × AreSent sent ms
 
 pub sent-then : (x : Entry) (sent : List Entry) (ms : List Made) → AreSent sent ms → AreSent (x ∷ sent) ms
 sent-then x sent [] a = tt
 sent-then x sent (data_chunk d ∷ ms) a = (sent-more x sent d a.0, sent-then x sent ms a.1)
-sent-then x sent (forward_tsn f ∷ ms) a = sent-then x sent ms a
+sent-then x sent (forward_tsn f ∷ ms) a = (named-more x sent f.streams a.0, sent-then x sent ms a.1)
 
 -- what a call makes of it
 pub record Result (ws vs : List Numbered) (first : ℕ) (sent : List Entry) (u : Transmission) (ms ns : List Made) : Type 0 where
@@ -64,7 +65,9 @@ renumbered ws first number number' q next sent same s = record {
     line = s.queued.line;
     ordered = s.queued.ordered;
     unordered = s.queued.unordered;
-    turns = λ r. let t = s.queued.turns r in (t.0, (subst (λ k. Turns r q.pending.ordered t.0 k) (sym (same r)) t.1.0, t.1.1));
+    turns = λ r. let t = s.queued.turns r in (t.0, (subst (λ k. Turns r q.pending.ordered t.0 k) (sym (same r)) t.1.0, t.1.1, t.1.2));
+    indexed = s.queued.indexed;
+    ranked = s.queued.ranked;
   };
   sendable = s.sendable;
   known = s.known;

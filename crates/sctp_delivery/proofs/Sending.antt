@@ -1,5 +1,5 @@
 -- A fragment is sent: it goes on where the last entry ends, and what waits behind it goes on with it.
-use Rattle.std.proofs.Common.{◌≡◌, ℕ, ◌+◌, ◌%◌, ◌^◌, Bool, true, false, not, List, [], ◌∷◌, length, Option, Some, None, slice_get, ◌⊎◌, inl, inr, refl, ap, sym, subst, ◌∙◌, arith}
+use Rattle.std.proofs.Common.{◌≡◌, ℕ, ◌+◌, ◌%◌, ◌^◌, ◌≤◌, Bool, true, false, not, List, [], ◌∷◌, length, Option, Some, None, slice_get, ◌⊎◌, inl, inr, refl, ap, sym, subst, ◌∙◌, arith}
 use Rattle.std.specs.Prelude.{⊤, ◌==◌, ◌&&◌, if◌then◌else◌}
 use Rattle.std.proofs.lemmas.Option.{none-some}
 use Rattle.sctp_list_lemmas.proofs.Cases.{some-same, same-yes}
@@ -11,6 +11,7 @@ use Rattle.sctp_outbound.specs.outbound_queue.OutboundQueue.{as_sent}
 use Rattle.sctp_outbound.specs.pending_queue.PendingQueue.{Pending, list_of, list_to_pop, next_pending, rest_after, rest_from, selected_after}
 use Rattle.sctp_outbound.specs.pending_queue.Whole.{IsSendable, IsWhole, begun, free}
 use Rattle.sctp_outbound.proofs.lemmas.outbound_queue.Sendable.{made}
+use Rattle.sctp_delivery.proofs.OrderedEntries.{AreIndexed, AreRanked, AreRising, IsIndexed, IsUnder, begins-inner, begins-ordered, begins-unordered, begins_on, begun_on, one, ranked-ordered, ranked-unordered, under-more}
 use Rattle.sctp_delivery.proofs.Sent.{AreApart, Entry, Fits, GoesOn, IsLine, Numbered, fragment, terminal}
 use Rattle.sctp_delivery.proofs.Waiting.{Goes, Place, Waits, between, inside, nowhere, place_after, place_of, within}
 use Rattle.sctp_delivery.proofs.Turns.{IsAfter, Turns, counts, inner-not, number_after}
@@ -20,7 +21,9 @@ pub record Queued (ws : List Numbered) (first : ℕ) (number : ℕ → ℕ) (q :
   pub line : IsLine ws first sent
   pub ordered : Waits ws q.ordered (place_of false q.selected sent)
   pub unordered : Waits ws q.unordered (place_of true q.selected sent)
-  pub turns : (s : ℕ) → (n : ℕ) × (Turns s q.ordered n (number s) × IsAfter s n sent)
+  pub turns : (s : ℕ) → (n : ℕ) × (Turns s q.ordered n (number s) × IsAfter s n sent × (n ≡ begun_on s sent % 2 ^ 16))
+  pub indexed : AreIndexed sent
+  pub ranked : AreRanked ws q.ordered sent
 
 -- ## The places
 
@@ -131,6 +134,34 @@ module _ (c : ChunkPayloadData) (tsn now : ℕ) (w : Numbered) (after : List ℕ
       let same : e.stream_identifier ≡ s = l.0.stream ∙ ap (λ (x : Numbered). x.stream) (sym g.write) ∙ sym f.stream ∙ on in
       ap (λ j. (j + 1) % 2 ^ 16) g.same_number ∙ a (sym g.same_kind ∙ k) same ∙ ap (λ b. number_after b n) (sym (inner-not s c g.inner))
 
+  -- one that goes on has the number of the last entry, and its place
+  index-inner : (ws : List Numbered) (first m : ℕ) (xs : List Entry) → Fits ws c.tsn (data_of c) w after → IsLine ws first xs → AreIndexed xs → Goes (inside m xs) c w after → IsIndexed (data_of (as_sent tsn now c)) xs
+  index-inner ws first m [] f l i g = absurd g
+  index-inner ws first m (terminal ∷ xs) f l i g = absurd g
+  index-inner ws first m (fragment e v rest ∷ xs) f l i g = λ k.
+      let same : e.stream_identifier ≡ c.stream_identifier = l.0.stream ∙ ap (λ (x : Numbered). x.stream) (sym g.write) ∙ sym f.stream in
+      let n = i.0 (sym g.same_kind ∙ k) in
+      let z = ap one (begins-inner c.stream_identifier (data_of (as_sent tsn now c)) g.inner) in
+      let here = n.1 in
+      let moved = ap (λ s. one (begins_on s e) + begun_on s xs) same in
+      (n.0, omega (arith, here, z, moved), g.same_number ∙ n.2)
+
+  under-inner : (m : ℕ) (xs : List Entry) → c.unordered ≡ false → AreRising xs → Goes (inside m xs) c w after → IsUnder w.place xs
+  under-inner m [] k r g = absurd g
+  under-inner m (terminal ∷ xs) k r g = absurd g
+  under-inner m (fragment e v rest ∷ xs) k r g =
+      subst (λ p. IsUnder p (fragment e v rest ∷ xs)) (ap (λ (x : Numbered). x.place) (sym g.write)) ((λ ek. omega arith), r.0 (sym g.same_kind ∙ k))
+
+  place-inner : (m top : ℕ) (xs : List Entry) → c.unordered ≡ false → IsUnder top xs → Goes (inside m xs) c w after → w.place ≤ top
+  place-inner m top [] k u g = absurd g
+  place-inner m top (terminal ∷ xs) k u g = absurd g
+  place-inner m top (fragment e v rest ∷ xs) k u g = subst (λ p. p ≤ top) (ap (λ (x : Numbered). x.place) (sym g.write)) (u.0 (sym g.same_kind ∙ k))
+
+  -- so many were begun then
+  begun-next : (n m : ℕ) (b : Bool) → n ≡ m % 2 ^ 16 → number_after b n ≡ (one b + m) % 2 ^ 16
+  begun-next n m true e = omega (arith, e)
+  begun-next n m false e = omega (arith, e)
+
   -- an unordered one counts nowhere
   after-unordered : (s n : ℕ) (xs : List Entry) → c.unordered ≡ true → IsAfter s n (sent_entry ∷ xs)
   after-unordered s n xs k = λ dk on. absurd (not_both (sym dk ∙ k))
@@ -158,7 +189,9 @@ module _ (ws : List Numbered) (first : ℕ) (number : ℕ → ℕ) (sent : List 
             line = in-line w after fits (goes-behind c tsn now w after sent sent new start) q.line;
             ordered = subst (Waits ws os) (sym (own-place c tsn now w after sent false sel turn)) q.ordered.2.1.1;
             unordered = subst (Waits ws us) (sym (other-place c tsn now w after sent false sel (fragment (data_of (as_sent tsn now c)) w after ∷ sent) turn)) q.unordered;
-            turns = λ s. (number_after (counts s c) (q.turns s).0, ((q.turns s).1.0.1, λ dk on. numbered s on start));
+            turns = λ s. (number_after (counts s c) (q.turns s).0, ((q.turns s).1.0.1, (λ dk on. numbered s on start), begun-so s));
+            indexed = (index start, q.indexed);
+            ranked = ranked-ordered (data_of (as_sent tsn now c)) w after ws c os sent q.ranked (under start) (at-most start) (λ s. begins-ordered s (data_of (as_sent tsn now c)) kind);
           }),
           placed c tsn now w after sent (place_of false sel sent) q.ordered.2.1.0,
         ),
@@ -170,6 +203,34 @@ module _ (ws : List Numbered) (first : ℕ) (number : ℕ → ℕ) (sent : List 
 
       start : Starts c tsn now q.ordered.0 q.ordered.1 sent
       start = starts sel turn q.ordered.2.1.0
+
+      begun-so : (s : ℕ) → number_after (counts s c) (q.turns s).0 ≡ (one (begins_on s (data_of (as_sent tsn now c))) + begun_on s sent) % 2 ^ 16
+      begun-so s =
+          begun-next c tsn now q.ordered.0 q.ordered.1 sent (q.turns s).0 (begun_on s sent) (counts s c) (q.turns s).1.2
+          ∙ ap (λ b. (one b + begun_on s sent) % 2 ^ 16) (sym (begins-ordered s (data_of (as_sent tsn now c)) kind))
+
+      counted : c.beginning_fragment ≡ true → counts c.stream_identifier c ≡ true
+      counted b = and (c.stream_identifier == c.stream_identifier) c.beginning_fragment (same-yes c.stream_identifier) b
+
+      index : Starts c tsn now q.ordered.0 q.ordered.1 sent → IsIndexed (data_of (as_sent tsn now c)) sent
+      index (inl b) = λ k.
+          let t = q.turns c.stream_identifier in
+          let z = ap one (begins-ordered c.stream_identifier (data_of (as_sent tsn now c)) kind ∙ counted b) in
+          (begun_on c.stream_identifier sent, omega (arith, z), t.1.0.0 (counted b) ∙ t.1.2)
+      index (inr g) = index-inner c tsn now q.ordered.0 q.ordered.1 sent ws first g.0 sent q.ordered.2.0 q.line q.indexed g.1
+
+      at-most : Starts c tsn now q.ordered.0 q.ordered.1 sent → q.ordered.0.place ≤ c.message_id
+      at-most (inl b) = let e = placed c tsn now q.ordered.0 q.ordered.1 sent (place_of false sel sent) q.ordered.2.1.0 b in omega (arith, e)
+      at-most (inr g) =
+          let le = place-inner c tsn now q.ordered.0 q.ordered.1 sent g.0 q.ranked.top sent kind q.ranked.under g.1 in
+          let up = q.ranked.waiting.0 in
+          omega (arith, le, up)
+
+      under : Starts c tsn now q.ordered.0 q.ordered.1 sent → IsUnder q.ordered.0.place sent
+      under (inl b) =
+          let e = placed c tsn now q.ordered.0 q.ordered.1 sent (place_of false sel sent) q.ordered.2.1.0 b in
+          subst (λ p. IsUnder p sent) (sym e) (under-more q.ranked.top c.message_id sent q.ranked.waiting.0 q.ranked.under)
+      under (inr g) = under-inner c tsn now q.ordered.0 q.ordered.1 sent g.0 sent kind q.ranked.rising g.1
 
       new : c.beginning_fragment ≡ true → IsNew c tsn now q.ordered.0 q.ordered.1 sent sent
       new b =
@@ -193,7 +254,9 @@ module _ (ws : List Numbered) (first : ℕ) (number : ℕ → ℕ) (sent : List 
             line = in-line w after fits (goes-behind c tsn now w after sent sent (λ b. new-unordered c tsn now w after sent kind sent) (starts sel turn q.unordered.2.1.0)) q.line;
             ordered = subst (Waits ws os) (sym (other-place c tsn now w after sent true sel (fragment (data_of (as_sent tsn now c)) w after ∷ sent) turn)) q.ordered;
             unordered = subst (Waits ws us) (sym (own-place c tsn now w after sent true sel turn)) q.unordered.2.1.1;
-            turns = λ s. ((q.turns s).0, ((q.turns s).1.0, after-unordered c tsn now w after sent s (q.turns s).0 sent kind));
+            turns = λ s. ((q.turns s).0, ((q.turns s).1.0, after-unordered c tsn now w after sent s (q.turns s).0 sent kind, begun-so s));
+            indexed = ((λ k. absurd (not_both (sym k ∙ kind))), q.indexed);
+            ranked = ranked-unordered (data_of (as_sent tsn now c)) w after ws os sent kind q.ranked;
           }),
           placed c tsn now w after sent (place_of true sel sent) q.unordered.2.1.0,
         ),
@@ -202,6 +265,9 @@ module _ (ws : List Numbered) (first : ℕ) (number : ℕ → ℕ) (sent : List 
       starts : (o : Option Selected) → OnTurn o true c → Goes (place_of true o sent) c q.unordered.0 q.unordered.1 → Starts c tsn now q.unordered.0 q.unordered.1 sent
       starts None t g = inl g.0
       starts (Some s) t g = inr (s.message_id, subst (λ b. Goes (if b then inside s.message_id sent else between) c q.unordered.0 q.unordered.1) t.0 g)
+
+      begun-so : (s : ℕ) → (q.turns s).0 ≡ (one (begins_on s (data_of (as_sent tsn now c))) + begun_on s sent) % 2 ^ 16
+      begun-so s = let z = ap one (begins-unordered s (data_of (as_sent tsn now c)) kind) in let e = (q.turns s).1.2 in omega (arith, z, e)
 
   -- what is next is sent
   pub queued-sent : (sel : Option Selected) (os us xs : List ChunkPayloadData) (n : ℕ) → IsSendable (made os us sel ro ru) xs n → next_pending (made os us sel ro ru) ≡ Some c → Queued ws first number (made os us sel ro ru) sent → SendsOn ws first number (made os us sel ro ru) sent c tsn now

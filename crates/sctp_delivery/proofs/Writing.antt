@@ -104,7 +104,7 @@ module _ (ws : List Numbered) (first : ℕ) (t : Transmission) (sent : List Entr
   writes-some = calm ws (write ∷ ws) first sent (written_to l stream ppi (b ∷ bs) t) ms (record {
     stands = pushed ws first (λ s. number_of s t.streams) (λ s. number_of s after) t.flight.queue t.flight.next_tsn sent h.stands write
         (made l ppi (b ∷ bs) 0) (map (with_reliability l.reliability_type l.reliability_value) (map (fragment_at l ppi (b ∷ bs)) (numbers_where always (0 + 1) later)))
-        (one-message l ppi (b ∷ bs) (omega arith)) waits unordered-same ordered-turns;
+        (one-message l ppi (b ∷ bs) (omega arith)) is-stream waits unordered-same ordered-turns;
     open' =
         let kept : (s : ℕ) → is_there s t.streams ≡ true → is_there s after ≡ true = λ s o. there-changed (has_number stream) (wrote ppi (b ∷ bs)) (λ x. refl) s t.streams ∙ o in
         (kept stream (there-found stream t.streams l found), all-open t.streams after kept ws h.open');

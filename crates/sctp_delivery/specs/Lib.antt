@@ -3,3 +3,4 @@ pub mod ReceiverCalls
 pub mod Session
 pub mod Sacks
 pub mod Messages
+pub mod Order

@@ -1,0 +1,254 @@
+-- The ordered messages of a stream that got TSNs: each has the number after that of the one before it, and they were written in this order.
+use Rattle.std.proofs.Common.{◌≡◌, ℕ, ◌+◌, ◌%◌, ◌^◌, ◌<◌, ◌≤◌, Bool, true, false, not, List, [], ◌∷◌, ◌++◌, length, map, refl, ap, sym, subst, ◌∙◌, arith}
+use Rattle.std.specs.Prelude.{⊤, ◌==◌, ◌&&◌, if◌then◌else◌}
+use Rattle.std.specs.List.{filter}
+use Rattle.sctp_list_lemmas.specs.Lists.{change_where}
+use Rattle.sctp_list_lemmas.proofs.Cases.{and-none, and-true}
+use Rattle.sctp_list_lemmas.proofs.More.{not_both}
+use Rattle.sctp_data.specs.declared.chunk.chunk_payload_data.ChunkPayloadData.{ChunkPayloadData}
+use Rattle.sctp_data.specs.PayloadData.{Data}
+use Rattle.sctp_outbound.specs.outbound_queue.OutboundQueue.{with_message_id}
+use Rattle.sctp_outbound.specs.pending_queue.Whole.{IsMessage}
+use Rattle.sctp_delivery.proofs.Sent.{Entry, Numbered, fragment, terminal}
+use Rattle.sctp_delivery.proofs.Turns.{counts, inner-not}
+
+-- ## Numbers
+
+-- the chunk begins an ordered message of the stream
+abbrev pub begins_on : ℕ → Data → Bool
+begins_on s d = (d.stream_identifier == s) && (d.beginning_fragment && not d.unordered)
+
+abbrev pub one : Bool → ℕ
+one b = if b then 1 else 0
+
+-- so many ordered messages of the stream were begun
+abbrev pub begun_on : ℕ → List Entry → ℕ
+begun_on s [] = 0
+begun_on s (terminal ∷ xs) = begun_on s xs
+begun_on s (fragment d w after ∷ xs) = one (begins_on s d) + begun_on s xs
+
+-- the number is that of an ordered message of the stream that was begun
+abbrev pub IsNumberOf : List Entry → ℕ → ℕ → Type 0
+IsNumberOf sent stream ssn = (k : ℕ) × (k < begun_on stream sent) × (ssn ≡ k % 2 ^ 16)
+
+-- the number of an ordered chunk says how many ordered messages of its stream were begun before its own
+abbrev pub IsIndexed : Data → List Entry → Type 0
+IsIndexed d xs =
+    d.unordered ≡ false → (k : ℕ) × (k + 1 ≡ one (begins_on d.stream_identifier d) + begun_on d.stream_identifier xs) × (d.stream_sequence_number ≡ k % 2 ^ 16)
+
+abbrev pub AreIndexed : List Entry → Type 0
+AreIndexed [] = ⊤
+AreIndexed (terminal ∷ xs) = AreIndexed xs
+AreIndexed (fragment d w after ∷ xs) = IsIndexed d xs × AreIndexed xs
+
+pub begins-ordered : (s : ℕ) (d : Data) → d.unordered ≡ false → begins_on s d ≡ ((d.stream_identifier == s) && d.beginning_fragment)
+begins-ordered s d k =
+    ap (λ b. (d.stream_identifier == s) && (d.beginning_fragment && not b)) k ∙ ap (λ b. (d.stream_identifier == s) && b) (and-true d.beginning_fragment)
+
+pub begins-unordered : (s : ℕ) (d : Data) → d.unordered ≡ true → begins_on s d ≡ false
+begins-unordered s d k =
+    ap (λ b. (d.stream_identifier == s) && (d.beginning_fragment && not b)) k ∙ ap (λ b. (d.stream_identifier == s) && b) (and-none d.beginning_fragment) ∙ and-none (d.stream_identifier == s)
+
+pub begins-inner : (s : ℕ) (d : Data) → d.beginning_fragment ≡ false → begins_on s d ≡ false
+begins-inner s d k = ap (λ b. (d.stream_identifier == s) && (b && not d.unordered)) k ∙ and-none (d.stream_identifier == s)
+
+pub number-more : (x : Entry) (sent : List Entry) (stream ssn : ℕ) → IsNumberOf sent stream ssn → IsNumberOf (x ∷ sent) stream ssn
+number-more terminal sent stream ssn n = n
+number-more (fragment d w after) sent stream ssn n = let lt = n.1 in (n.0, omega (arith, lt), n.2)
+
+-- the number of an entry
+pub number-here : (d : Data) (w : Numbered) (after : List ℕ) (xs : List Entry) → d.unordered ≡ false → IsIndexed d xs → IsNumberOf (fragment d w after ∷ xs) d.stream_identifier d.stream_sequence_number
+number-here d w after xs k i = let x = i k in let e = x.1 in (x.0, omega (arith, e), x.2)
+
+-- ## Places
+
+-- no ordered entry is of a write past this place
+abbrev pub IsUnder : ℕ → List Entry → Type 0
+IsUnder p [] = ⊤
+IsUnder p (terminal ∷ xs) = IsUnder p xs
+IsUnder p (fragment d w after ∷ xs) = (d.unordered ≡ false → w.place ≤ p) × IsUnder p xs
+
+-- the places of ordered entries do not fall
+abbrev pub AreRising : List Entry → Type 0
+AreRising [] = ⊤
+AreRising (terminal ∷ xs) = AreRising xs
+AreRising (fragment d w after ∷ xs) = (d.unordered ≡ false → IsUnder w.place xs) × AreRising xs
+
+-- nor do those of the messages that wait, from one place to another
+abbrev pub Rises : ℕ → List ChunkPayloadData → ℕ → Type 0
+Rises m [] n = m ≤ n
+Rises m (c ∷ cs) n = (m ≤ c.message_id) × Rises c.message_id cs n
+
+-- how many messages of the stream the chunks begin, and how many writes are on it
+abbrev pub waiting_on : ℕ → List ChunkPayloadData → ℕ
+waiting_on s [] = 0
+waiting_on s (c ∷ cs) = one (counts s c) + waiting_on s cs
+
+abbrev pub written_on : ℕ → List Numbered → ℕ
+written_on s [] = 0
+written_on s (w ∷ ws) = one (w.stream == s) + written_on s ws
+
+-- the ordered messages that wait are behind those that got TSNs in the order of the writes, and together they are no more than these
+pub record AreRanked (ws : List Numbered) (os : List ChunkPayloadData) (sent : List Entry) : Type 0 where
+  pub top : ℕ
+  pub under : IsUnder top sent
+  pub waiting : Rises top os (length ws)
+  pub rising : AreRising sent
+  pub few : (s : ℕ) → waiting_on s os + begun_on s sent ≤ written_on s ws
+
+pub under-more : (p q : ℕ) (xs : List Entry) → p ≤ q → IsUnder p xs → IsUnder q xs
+under-more p q [] le u = tt
+under-more p q (terminal ∷ xs) le u = under-more p q xs le u
+under-more p q (fragment d w after ∷ xs) le u = ((λ k. let h = u.0 k in omega (arith, h, le)), under-more p q xs le u.1)
+
+rises-from : (k m n : ℕ) (cs : List ChunkPayloadData) → k ≤ m → Rises m cs n → Rises k cs n
+rises-from k m n [] le r = omega (arith, le, r)
+rises-from k m n (c ∷ cs) le r = (let h = r.0 in omega (arith, h, le), r.1)
+
+rises-to : (m n : ℕ) (cs : List ChunkPayloadData) → Rises m cs n → Rises m cs (n + 1)
+rises-to m n [] r = omega (arith, r)
+rises-to m n (c ∷ cs) r = (r.0, rises-to c.message_id n cs r.1)
+
+-- ## Changes of what waits
+
+-- with the same message numbers, streams and first fragments
+pub record KeepsPlaces (f : ChunkPayloadData → ChunkPayloadData) : Type 0 where
+  pub message : (c : ChunkPayloadData) → (f c).message_id ≡ c.message_id
+  pub begins : (s : ℕ) (c : ChunkPayloadData) → counts s (f c) ≡ counts s c
+
+rises-changed : (p : ChunkPayloadData → Bool) (f : ChunkPayloadData → ChunkPayloadData) → KeepsPlaces f → (m n : ℕ) (cs : List ChunkPayloadData) → Rises m cs n → Rises m (change_where p f cs) n
+rises-changed p f keeps m n [] r = r
+rises-changed p f keeps m n (c ∷ cs) r = by (p c) (rises-changed p f keeps c.message_id n cs r.1)
+  where
+    by : (b : Bool) → Rises c.message_id (change_where p f cs) n → Rises m ((if b then f c else c) ∷ change_where p f cs) n
+    by true ih = subst (λ k. (m ≤ k) × Rises k (change_where p f cs) n) (sym (keeps.message c)) (r.0, ih)
+    by false ih = (r.0, ih)
+
+waiting-changed : (p : ChunkPayloadData → Bool) (f : ChunkPayloadData → ChunkPayloadData) → KeepsPlaces f → (s : ℕ) (cs : List ChunkPayloadData) → waiting_on s (change_where p f cs) ≡ waiting_on s cs
+waiting-changed p f keeps s [] = refl
+waiting-changed p f keeps s (c ∷ cs) = by (p c) (waiting-changed p f keeps s cs)
+  where
+    by : (b : Bool) → waiting_on s (change_where p f cs) ≡ waiting_on s cs → waiting_on s ((if b then f c else c) ∷ change_where p f cs) ≡ waiting_on s (c ∷ cs)
+    by true ih = ap (λ b. one b + waiting_on s (change_where p f cs)) (keeps.begins s c) ∙ ap (λ n. one (counts s c) + n) ih
+    by false ih = ap (λ n. one (counts s c) + n) ih
+
+pub ranked-changed : (p : ChunkPayloadData → Bool) (f : ChunkPayloadData → ChunkPayloadData) → KeepsPlaces f → (ws : List Numbered) (os : List ChunkPayloadData) (sent : List Entry) → AreRanked ws os sent → AreRanked ws (change_where p f os) sent
+ranked-changed p f keeps ws os sent r = record {
+  top = r.top;
+  under = r.under;
+  waiting = rises-changed p f keeps r.top (length ws) os r.waiting;
+  rising = r.rising;
+  few = λ s. let e = waiting-changed p f keeps s os in let n = r.few s in omega (arith, e, n);
+}
+
+rises-those : (p : ChunkPayloadData → Bool) (m n : ℕ) (cs : List ChunkPayloadData) → Rises m cs n → Rises m (filter p cs) n
+rises-those p m n [] r = r
+rises-those p m n (c ∷ cs) r = by (p c) (rises-those p c.message_id n cs r.1)
+  where
+    by : (b : Bool) → Rises c.message_id (filter p cs) n → Rises m (if b then c ∷ filter p cs else filter p cs) n
+    by true ih = (r.0, ih)
+    by false ih = rises-from m c.message_id n (filter p cs) r.0 ih
+
+waiting-those : (p : ChunkPayloadData → Bool) (s : ℕ) (cs : List ChunkPayloadData) → waiting_on s (filter p cs) ≤ waiting_on s cs
+waiting-those p s [] = omega arith
+waiting-those p s (c ∷ cs) = by (p c) (waiting-those p s cs)
+  where
+    by : (b : Bool) → waiting_on s (filter p cs) ≤ waiting_on s cs → waiting_on s (if b then c ∷ filter p cs else filter p cs) ≤ waiting_on s (c ∷ cs)
+    by true ih = omega (arith, ih)
+    by false ih = omega (arith, ih)
+
+-- a message is gone
+pub ranked-those : (p : ChunkPayloadData → Bool) (ws : List Numbered) (os : List ChunkPayloadData) (sent : List Entry) → AreRanked ws os sent → AreRanked ws (filter p os) sent
+ranked-those p ws os sent r = record {
+  top = r.top;
+  under = r.under;
+  waiting = rises-those p r.top (length ws) os r.waiting;
+  rising = r.rising;
+  few = λ s. let le = waiting-those p s os in let n = r.few s in omega (arith, le, n);
+}
+
+pub ranked-ended : (ws : List Numbered) (os : List ChunkPayloadData) (sent : List Entry) → AreRanked ws os sent → AreRanked ws os (terminal ∷ sent)
+ranked-ended ws os sent r = record { top = r.top; under = r.under; waiting = r.waiting; rising = r.rising; few = r.few }
+
+-- ## A write
+
+pub ranked-more : (w : Numbered) (ws : List Numbered) (os : List ChunkPayloadData) (sent : List Entry) → AreRanked ws os sent → AreRanked (w ∷ ws) os sent
+ranked-more w ws os sent r = record {
+  top = r.top;
+  under = r.under;
+  waiting = subst (Rises r.top os) (let e : length ws + 1 ≡ length (w ∷ ws) = omega arith in e) (rises-to r.top (length ws) os r.waiting);
+  rising = r.rising;
+  few = λ s. let n = r.few s in omega (arith, n);
+}
+
+rises-behind : (m n : ℕ) (cs ms : List ChunkPayloadData) → Rises m cs n → Rises m (cs ++ map (with_message_id n) ms) (n + 1)
+rises-behind m n (c ∷ cs) ms r = (r.0, rises-behind c.message_id n cs ms r.1)
+rises-behind m n [] [] r = omega (arith, r)
+rises-behind m n [] (x ∷ xs) r = (r, rises-behind n n [] xs (omega arith))
+
+waiting-behind : (s : ℕ) (xs ys : List ChunkPayloadData) → waiting_on s (xs ++ ys) ≡ waiting_on s xs + waiting_on s ys
+waiting-behind s [] ys = omega arith
+waiting-behind s (c ∷ cs) ys = let ih = waiting-behind s cs ys in omega (arith, ih)
+
+-- behind its first fragment a message begins none
+rest-begins-none : (kind : Bool) (s n : ℕ) (cs : List ChunkPayloadData) → IsMessage kind true cs → waiting_on s (map (with_message_id n) cs) ≡ 0
+rest-begins-none kind s n [] m = absurd m
+rest-begins-none kind s n (c ∷ []) m = ap (λ b. one b + 0) (inner-not s (with_message_id n c) m.0)
+rest-begins-none kind s n (c ∷ d ∷ ds) m =
+    let ih = rest-begins-none kind s n (d ∷ ds) m.3 in
+    let e = ap one (inner-not s (with_message_id n c) m.0) in
+    omega (arith, ih, e)
+
+message-begins-one : (kind : Bool) (s n : ℕ) (c : ChunkPayloadData) (cs : List ChunkPayloadData) → IsMessage kind false (c ∷ cs) → waiting_on s (map (with_message_id n) (c ∷ cs)) ≤ one (c.stream_identifier == s)
+message-begins-one kind s n c [] m = let h = counted (c.stream_identifier == s) c.beginning_fragment in omega (arith, h)
+  where
+    counted : (a b : Bool) → one (a && b) ≤ one a
+    counted true true = omega arith
+    counted true false = omega arith
+    counted false b = omega arith
+message-begins-one kind s n c (d ∷ ds) m =
+    let h = counted (c.stream_identifier == s) c.beginning_fragment in
+    let z = rest-begins-none kind s n (d ∷ ds) m.3 in
+    omega (arith, h, z)
+  where
+    counted : (a b : Bool) → one (a && b) ≤ one a
+    counted true true = omega arith
+    counted true false = omega arith
+    counted false b = omega arith
+
+pub ranked-written : (w : Numbered) (ws : List Numbered) (os : List ChunkPayloadData) (sent : List Entry) (n : ℕ) (c : ChunkPayloadData) (cs : List ChunkPayloadData) (kind : Bool) → n ≡ length ws → c.stream_identifier ≡ w.stream → IsMessage kind false (c ∷ cs) → AreRanked ws os sent → AreRanked (w ∷ ws) (os ++ map (with_message_id n) (c ∷ cs)) sent
+ranked-written w ws os sent n c cs kind same on message r = record {
+  top = r.top;
+  under = r.under;
+  waiting =
+      let e : n + 1 ≡ length (w ∷ ws) = omega (arith, same) in
+      subst (Rises r.top (os ++ map (with_message_id n) (c ∷ cs))) e (rises-behind r.top n os (c ∷ cs) (subst (Rises r.top os) (sym same) r.waiting));
+  rising = r.rising;
+  few = λ s.
+      let e = waiting-behind s os (map (with_message_id n) (c ∷ cs)) in
+      let m = message-begins-one kind s n c cs message in
+      let k = r.few s in
+      let t : one (c.stream_identifier == s) ≡ one (w.stream == s) = ap (λ (j : ℕ). one (j == s)) on in
+      omega (arith, e, m, k, t);
+}
+
+-- ## A fragment is sent
+
+pub ranked-unordered : (d : Data) (w : Numbered) (after : List ℕ) (ws : List Numbered) (os : List ChunkPayloadData) (sent : List Entry) → d.unordered ≡ true → AreRanked ws os sent → AreRanked ws os (fragment d w after ∷ sent)
+ranked-unordered d w after ws os sent k r = record {
+  top = r.top;
+  under = ((λ h. absurd (not_both (sym h ∙ k))), r.under);
+  waiting = r.waiting;
+  rising = ((λ h. absurd (not_both (sym h ∙ k))), r.rising);
+  few = λ s. let n = r.few s in let e = ap one (begins-unordered s d k) in omega (arith, n, e);
+}
+
+-- its write is at a place from the top on, up to its number
+pub ranked-ordered : (d : Data) (w : Numbered) (after : List ℕ) (ws : List Numbered) (c : ChunkPayloadData) (os : List ChunkPayloadData) (sent : List Entry) (r : AreRanked ws (c ∷ os) sent) → IsUnder w.place sent → w.place ≤ c.message_id → ((s : ℕ) → begins_on s d ≡ counts s c) → AreRanked ws os (fragment d w after ∷ sent)
+ranked-ordered d w after ws c os sent r under le same = record {
+  top = c.message_id;
+  under = ((λ h. le), under-more r.top c.message_id sent r.waiting.0 r.under);
+  waiting = r.waiting.1;
+  rising = ((λ h. under), r.rising);
+  few = λ s. let n = r.few s in let e = ap one (same s) in omega (arith, n, e);
+}

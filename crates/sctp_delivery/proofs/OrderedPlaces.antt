@@ -1,0 +1,49 @@
+-- The place of a write among the writes, from where it stands in their list.
+use Rattle.std.proofs.Common.{◌≡◌, ℕ, zero, suc, ◌+◌, ◌<◌, Bool, true, false, List, [], ◌∷◌, length, refl, ap, ◌∙◌, arith}
+use Rattle.std.specs.Prelude.{⊤, ◌==◌, if◌then◌else◌, slice_index_or}
+use Rattle.std.specs.List.{filter}
+use Rattle.sctp_delivery.specs.SenderCalls.{SenderCall, abandons, expires, expires_late, expires_rexmit, expires_tail, forwards, forwards_within, marks, misses, opens, resends, reserves, sends, sets_low, sets_mode, sets_size, starts, takes_sack, writes}
+use Rattle.sctp_delivery.proofs.Calls.{forget, forgotten, numbered_after}
+use Rattle.sctp_delivery.proofs.OrderedEntries.{one, written_on}
+use Rattle.sctp_delivery.proofs.Sent.{Numbered}
+
+-- the writes, the last one first, have the numbers of their places
+abbrev pub AreNumbered : List Numbered → Type 0
+AreNumbered [] = ⊤
+AreNumbered (w ∷ ws) = (w.place ≡ length ws) × AreNumbered ws
+
+pub numbered-after : (call : SenderCall) (ns : List Numbered) → AreNumbered ns → AreNumbered (numbered_after call ns)
+numbered-after (writes stream ppi []) ns h = h
+numbered-after (writes stream ppi (b ∷ bs)) ns h = (refl, h)
+numbered-after (opens stream) ns h = h
+numbered-after (sets_mode stream unordered reliability value) ns h = h
+numbered-after (starts now) ns h = h
+numbered-after (sends now) ns h = h
+numbered-after (resends tsn now c) ns h = h
+numbered-after (abandons tsn a) ns h = h
+numbered-after (expires now m) ns h = h
+numbered-after (expires_tail now m) ns h = h
+numbered-after (expires_late now gone) ns h = h
+numbered-after (expires_rexmit gone) ns h = h
+numbered-after (forwards tsn f) ns h = h
+numbered-after (forwards_within bytes f) ns h = h
+numbered-after marks ns h = h
+numbered-after (misses count) ns h = h
+numbered-after (sets_size size) ns h = h
+numbered-after (sets_low stream bytes) ns h = h
+numbered-after (reserves more) ns h = h
+numbered-after (takes_sack sack gone) ns h = h
+
+pub place-at : (ns : List Numbered) (k : ℕ) (n : Numbered) → AreNumbered ns → k < length ns → slice_index_or ns k n ≡ n → n.place + k + 1 ≡ length ns
+place-at [] k n h lt e = absurd (omega (arith, lt))
+place-at (w ∷ ws) zero n h lt e = let same = ap (λ (x : Numbered). x.place) e in let p = h.0 in omega (arith, same, p)
+place-at (w ∷ ws) (suc k) n h lt e = let ih = place-at ws k n h.1 (omega (arith, lt)) e in omega (arith, ih)
+
+-- so many writes are on a stream
+pub written-few : (s : ℕ) (ns : List Numbered) → length (filter (λ w. w.stream == s) (forgotten ns)) ≡ written_on s ns
+written-few s [] = refl
+written-few s (n ∷ ns) = by (n.stream == s) (written-few s ns)
+  where
+    by : (b : Bool) → length (filter (λ w. w.stream == s) (forgotten ns)) ≡ written_on s ns → length (if b then forget n ∷ filter (λ w. w.stream == s) (forgotten ns) else filter (λ w. w.stream == s) (forgotten ns)) ≡ one b + written_on s ns
+    by true ih = omega (arith, ih)
+    by false ih = omega (arith, ih)
