@@ -79,12 +79,18 @@ module _ (ws : List Numbered) (first : ℕ) (t : Transmission) (sent : List Entr
       subst (λ y. Result ws ws first sent y ms (made_after (resends tsn now c) t ms)) (sym m)
       (record {
         more = sent;
-        held = changed ws first t sent (has_tsn tsn) (sent_again (count_again c) now) (again-keeps (count_again c) now) (λ d. (λ o. (o, refl), record { kind = refl; stream = refl; number = refl })) h;
+        held = changed ws first t sent (has_tsn tsn) (sent_again (count_again c) now) (again-keeps (count_again c) now)
+            (λ d. (λ o. (o, refl), record { kind = refl; stream = refl; number = refl })) h;
         once = inl refl;
-        made = λ s. ((known-found sent (has_tsn tsn) t.flight.queue.inflight.chunks c a.1 h.stands.known).0 (subst (λ o. is_outstanding_in o ≡ true) a.1 a.0), s);
+        made = λ s. (
+          (known-found sent (has_tsn tsn) t.flight.queue.inflight.chunks c a.1 h.stands.known).0
+              (subst (λ o. is_outstanding_in o ≡ true) a.1 a.0),
+          s,
+        );
       })
 
-  forwards-call : (f : ForwardTsn) (u : Transmission) → u ≡ t → Name f.streams (named_up_to f.new_cumulative_tsn t.flight) → Result ws ws first sent u ms (forward_tsn f ∷ ms)
+  forwards-call : (f : ForwardTsn) (u : Transmission) → u ≡ t → Name f.streams (named_up_to f.new_cumulative_tsn t.flight)
+      → Result ws ws first sent u ms (forward_tsn f ∷ ms)
   forwards-call f u x n = subst (λ y. Result ws ws first sent y ms (forward_tsn f ∷ ms)) (sym x) (record {
     more = sent;
     held = h;
@@ -120,10 +126,14 @@ module _ (ws : List Numbered) (first : ℕ) (t : Transmission) (sent : List Entr
   stepped (forwards_within bytes f) u m x a = forwards-call f u x a.2
   stepped marks u m x a =
       subst (λ y. Result ws ws first sent y ms ms) (sym m)
-      (calm ws ws first sent _ ms (changed ws first t sent is_outstanding (with_retransmit true) (record { number = λ _. refl; begins = λ _. refl; ends = λ _. refl; kind = λ _. refl }) (λ d. (λ o. (o, refl), record { kind = refl; stream = refl; number = refl })) h))
+      (calm ws ws first sent _ ms (changed ws first t sent is_outstanding (with_retransmit true)
+      (record { number = λ _. refl; begins = λ _. refl; ends = λ _. refl; kind = λ _. refl })
+      (λ d. (λ o. (o, refl), record { kind = refl; stream = refl; number = refl })) h))
   stepped (misses count) u m x a =
       subst (λ y. Result ws ws first sent y ms ms) (sym m)
-      (calm ws ws first sent _ ms (first-changed ws first t sent can_miss missed count (record { number = λ _. refl; begins = λ _. refl; ends = λ _. refl; kind = λ _. refl }) (λ d. (λ o. (o, refl), record { kind = refl; stream = refl; number = refl })) h))
+      (calm ws ws first sent _ ms (first-changed ws first t sent can_miss missed count
+      (record { number = λ _. refl; begins = λ _. refl; ends = λ _. refl; kind = λ _. refl })
+      (λ d. (λ o. (o, refl), record { kind = refl; stream = refl; number = refl })) h))
   stepped (sets_size size) u m x a =
       subst (λ y. Result ws ws first sent y ms ms) (sym m)
       (calm ws ws first sent _ ms (record {

@@ -66,7 +66,8 @@ sender-step first call old new ns sent f h =
     )
 
 receiver-step : (first : ℕ) (call : _) (old new : Session) (ns : List Numbered) (sent : List Entry) → ReceiverFollows call old new → Holds first old ns sent → Holds first new ns sent
-receiver-step first call old new ns sent f h = subst (λ s. Holds first s ns sent) (sym f.after) (record { held = h.held; made = h.made; writes = h.writes; placed = h.placed })
+receiver-step first call old new ns sent f h =
+    subst (λ s. Holds first s ns sent) (sym f.after) (record { held = h.held; made = h.made; writes = h.writes; placed = h.placed })
 
 held-after : (first : ℕ) (cs : List Call) (old new : Session) (ns : List Numbered) (sent : List Entry) (r : RunsTo old cs new) → Holds first old ns sent → After first old cs new r sent
 held-after first [] old new ns sent r h = record { numbered = ns; more = sent; holds = subst (λ s. Holds first s ns sent) (sym r) h; few = omega arith }
@@ -85,7 +86,15 @@ at-first : (tsn size max most : ℕ) (limits : Option Limits) → tsn < 2 ^ 32 �
 at-first tsn size max most limits small some = record {
   held = record {
     stands = record {
-      queued = record { line = tt; ordered = tt; unordered = tt; turns = λ s. (0, (refl, tt, refl)); indexed = tt; ranked = record { top = 0; under = tt; waiting = omega arith; rising = tt; few = λ s. omega arith } };
+      queued = record {
+        line = tt;
+        ordered = tt;
+        unordered = tt;
+        turns = λ s. (0, (refl, tt, refl));
+        indexed = tt;
+        ranked =
+            record { top = 0; under = tt; waiting = omega arith; rising = tt; few = λ s. omega arith };
+      };
       sendable = record { ordered = tt; unordered = tt; apart = λ m h. refl; sent = λ m h k. absurd (not_both h); below = λ m le. refl };
       known = tt;
       counted = omega (arith, small);

@@ -61,7 +61,8 @@ known-changed sent p f keeps (c ∷ cs) k = (by (p c), known-changed sent p f ke
       λ o. let h = (keeps c).0 o in subst (WasSent sent) (sym h.1) (k.0.0 h.0),
       λ u.
           let a = (keeps c).1 in
-          subst (λ s. IsNumberOf sent s (f c).stream_sequence_number) (sym a.stream) (subst (IsNumberOf sent c.stream_identifier) (sym a.number) (k.0.1 (sym a.kind ∙ u))),
+          subst (λ s. IsNumberOf sent s (f c).stream_sequence_number) (sym a.stream)
+          (subst (IsNumberOf sent c.stream_identifier) (sym a.number) (k.0.1 (sym a.kind ∙ u))),
     )
     by false = k.0
 

@@ -65,7 +65,8 @@ due-found : (st k : ℕ) (ls : List InboundStream) (x : InboundStream) → find 
 due-found st k [] x e d = absurd (none-some x e)
 due-found st k (l ∷ ls) x e d = by (has_number st l) e d (due-found st k ls x)
   where
-    by : (b : Bool) → (if b then Some l else find (has_number st) ls) ≡ Some x → (Where b (IsDue k l.queue.held) (Due st k ls)) → (find (has_number st) ls ≡ Some x → Due st k ls → IsDue k x.queue.held) → IsDue k x.queue.held
+    by : (b : Bool) → (if b then Some l else find (has_number st) ls) ≡ Some x → (Where b (IsDue k l.queue.held) (Due st k ls))
+        → (find (has_number st) ls ≡ Some x → Due st k ls → IsDue k x.queue.held) → IsDue k x.queue.held
     by true f h ih = subst (λ (y : InboundStream). IsDue k y.queue.held) (some-same f) h
     by false f h ih = ih f h
 
@@ -73,7 +74,8 @@ found-number : (st : ℕ) (ls : List InboundStream) (x : InboundStream) → find
 found-number st [] x e = absurd (none-some x e)
 found-number st (l ∷ ls) x e = by (has_number st l) refl e (found-number st ls x)
   where
-    by : (b : Bool) → has_number st l ≡ b → (if b then Some l else find (has_number st) ls) ≡ Some x → (find (has_number st) ls ≡ Some x → x.queue.si ≡ st) → x.queue.si ≡ st
+    by : (b : Bool) → has_number st l ≡ b → (if b then Some l else find (has_number st) ls) ≡ Some x
+        → (find (has_number st) ls ≡ Some x → x.queue.si ≡ st) → x.queue.si ≡ st
     by true h f ih = subst (λ (y : InboundStream). y.queue.si ≡ st) (some-same f) (same-is l.queue.si st h)
     by false h f ih = ih f
 
@@ -82,11 +84,13 @@ record Keeps (st k : ℕ) (p : InboundStream → Bool) (f : InboundStream → In
   number : (l : InboundStream) → p l ≡ true → (f l).queue.si ≡ l.queue.si
   due : (l : InboundStream) → p l ≡ true → l.queue.si ≡ st → IsDue k l.queue.held → IsDue k (f l).queue.held
 
-due-changed : (st k : ℕ) (p : InboundStream → Bool) (f : InboundStream → InboundStream) → Keeps st k p f → (ls : List InboundStream) → Due st k ls → Due st k (change_where p f ls)
+due-changed : (st k : ℕ) (p : InboundStream → Bool) (f : InboundStream → InboundStream) → Keeps st k p f → (ls : List InboundStream) → Due st k ls
+    → Due st k (change_where p f ls)
 due-changed st k p f keeps [] d = d
 due-changed st k p f keeps (l ∷ ls) d = by (p l) refl (has_number st l) refl d (due-changed st k p f keeps ls)
   where
-    by : (b : Bool) → p l ≡ b → (c : Bool) → has_number st l ≡ c → (Where c (IsDue k l.queue.held) (Due st k ls)) → (Due st k ls → Due st k (change_where p f ls)) → Due st k ((if b then f l else l) ∷ change_where p f ls)
+    by : (b : Bool) → p l ≡ b → (c : Bool) → has_number st l ≡ c → (Where c (IsDue k l.queue.held) (Due st k ls))
+        → (Due st k ls → Due st k (change_where p f ls)) → Due st k ((if b then f l else l) ∷ change_where p f ls)
     by true g true h e ih =
         subst (λ (n : ℕ). Where (n == st) (IsDue k (f l).queue.held) (Due st k (change_where p f ls))) (sym (keeps.number l g))
         (subst (λ b. Where b (IsDue k (f l).queue.held) (Due st k (change_where p f ls))) (sym h) (keeps.due l g (same-is l.queue.si st h) e))
@@ -96,12 +100,15 @@ due-changed st k p f keeps (l ∷ ls) d = by (p l) refl (has_number st l) refl d
     by false g true h e ih = subst (λ b. Where b (IsDue k l.queue.held) (Due st k (change_where p f ls))) (sym h) e
     by false g false h e ih = subst (λ b. Where b (IsDue k l.queue.held) (Due st k (change_where p f ls))) (sym h) (ih e)
 
-due-mapped : (st k : ℕ) (f : InboundStream → InboundStream) → ((l : InboundStream) → (f l).queue.si ≡ l.queue.si) → ((l : InboundStream) → IsDue k l.queue.held → IsDue k (f l).queue.held) → (ls : List InboundStream) → Due st k ls → Due st k (map f ls)
+due-mapped : (st k : ℕ) (f : InboundStream → InboundStream) → ((l : InboundStream) → (f l).queue.si ≡ l.queue.si)
+    → ((l : InboundStream) → IsDue k l.queue.held → IsDue k (f l).queue.held) → (ls : List InboundStream) → Due st k ls → Due st k (map f ls)
 due-mapped st k f number due [] d = d
 due-mapped st k f number due (l ∷ ls) d =
-    subst (λ (n : ℕ). Where (n == st) (IsDue k (f l).queue.held) (Due st k (map f ls))) (sym (number l)) (by (has_number st l) d (due-mapped st k f number due ls))
+    subst (λ (n : ℕ). Where (n == st) (IsDue k (f l).queue.held) (Due st k (map f ls))) (sym (number l))
+    (by (has_number st l) d (due-mapped st k f number due ls))
   where
-    by : (b : Bool) → (Where b (IsDue k l.queue.held) (Due st k ls)) → (Due st k ls → Due st k (map f ls)) → Where b (IsDue k (f l).queue.held) (Due st k (map f ls))
+    by : (b : Bool) → (Where b (IsDue k l.queue.held) (Due st k ls)) → (Due st k ls → Due st k (map f ls))
+        → Where b (IsDue k (f l).queue.held) (Due st k (map f ls))
     by true e ih = due l e
     by false e ih = ih e
 
@@ -113,26 +120,34 @@ due-opened st k s max [] d = by (s == st)
     by false = d
 due-opened st k s max (l ∷ ls) d = by (has_number st l) d (due-opened st k s max ls)
   where
-    by : (b : Bool) → (Where b (IsDue k l.queue.held) (Due st k ls)) → (Due st k ls → Due st k (ls ++ new_stream s max ∷ [])) → Where b (IsDue k l.queue.held) (Due st k (ls ++ new_stream s max ∷ []))
+    by : (b : Bool) → (Where b (IsDue k l.queue.held) (Due st k ls)) → (Due st k ls → Due st k (ls ++ new_stream s max ∷ []))
+        → Where b (IsDue k l.queue.held) (Due st k (ls ++ new_stream s max ∷ []))
     by true e ih = e
     by false e ih = ih e
 
 -- ## A message is read
 
 -- on this stream
-due-read : (st k : ℕ) (ls : List InboundStream) → Due st k ls → Due st (due_after k (message_of (find (has_number st) ls))) (change_where (has_number st) stream_read ls)
+due-read : (st k : ℕ) (ls : List InboundStream) → Due st k ls
+    → Due st (due_after k (message_of (find (has_number st) ls))) (change_where (has_number st) stream_read ls)
 due-read st k [] d = d
 due-read st k (l ∷ ls) d = by (has_number st l) refl d (due-read st k ls)
   where
-    by : (b : Bool) → has_number st l ≡ b → (Where b (IsDue k l.queue.held) (Due st k ls)) → (Due st k ls → Due st (due_after k (message_of (find (has_number st) ls))) (change_where (has_number st) stream_read ls)) → Due st (due_after k (message_of (if b then Some l else find (has_number st) ls))) ((if b then stream_read l else l) ∷ change_where (has_number st) stream_read ls)
+    by : (b : Bool) → has_number st l ≡ b → (Where b (IsDue k l.queue.held) (Due st k ls))
+        → (Due st k ls → Due st (due_after k (message_of (find (has_number st) ls))) (change_where (has_number st) stream_read ls))
+        → Due st (due_after k (message_of (if b then Some l else find (has_number st) ls)))
+        ((if b then stream_read l else l) ∷ change_where (has_number st) stream_read ls)
     by true h e ih =
-        subst (λ b. Where b (IsDue (due_after k (message_read l.queue.held)) (stream_read l).queue.held) (Due st (due_after k (message_read l.queue.held)) (change_where (has_number st) stream_read ls))) (sym h)
+        subst (λ b. Where b (IsDue (due_after k (message_read l.queue.held)) (stream_read l).queue.held)
+        (Due st (due_after k (message_read l.queue.held)) (change_where (has_number st) stream_read ls))) (sym h)
         (read-due k l.queue.held e).due
     by false h e ih =
-        subst (λ b. Where b (IsDue (due_after k (message_of (find (has_number st) ls))) l.queue.held) (Due st (due_after k (message_of (find (has_number st) ls))) (change_where (has_number st) stream_read ls))) (sym h) (ih e)
+        subst (λ b. Where b (IsDue (due_after k (message_of (find (has_number st) ls))) l.queue.held)
+        (Due st (due_after k (message_of (find (has_number st) ls))) (change_where (has_number st) stream_read ls))) (sym h) (ih e)
 
 -- the message is due
-message-due : (st k : ℕ) (ls : List InboundStream) (set : ChunkSet) → Due st k ls → message_of (find (has_number st) ls) ≡ Some set → starts_ordered set.chunks ≡ true → k ≤ first_number set.chunks
+message-due : (st k : ℕ) (ls : List InboundStream) (set : ChunkSet) → Due st k ls → message_of (find (has_number st) ls) ≡ Some set
+    → starts_ordered set.chunks ≡ true → k ≤ first_number set.chunks
 message-due st k ls set d e o = by (find (has_number st) ls) refl e
   where
     by : (f : Option InboundStream) → find (has_number st) ls ≡ f → message_of f ≡ Some set → k ≤ first_number set.chunks
@@ -156,9 +171,12 @@ same-streams : (old new : Stand) → AreDue old → new.read ≡ old.read → ne
 same-streams old new d e f = kept old new d e (λ st k h. subst (Due st k) (sym f) h)
 
 -- a chunk with a number below 2^15 that is not too far past the lowest
-taken : (c : ChunkPayloadData) (told : Bool) (old new : Stand) → AreDue old → Accepts c told old.receiver new.receiver → new.read ≡ old.read → (c.unordered ≡ false → c.stream_sequence_number < 2 ^ 15) → is_too_far_on c (stream_of c.stream_identifier old.receiver) ≡ false → AreDue new
+taken : (c : ChunkPayloadData) (told : Bool) (old new : Stand) → AreDue old → Accepts c told old.receiver new.receiver → new.read ≡ old.read
+    → (c.unordered ≡ false → c.stream_sequence_number < 2 ^ 15) → is_too_far_on c (stream_of c.stream_identifier old.receiver) ≡ false → AreDue new
 taken c told old new d a e small near = record {
-  due = λ st. subst (λ ms. Due st (passed st ms) new.receiver.streams) (sym e) (subst (λ (r : Reception). Due st (passed st old.read) r.streams) (sym a.after) (due-changed st (passed st old.read) (has_number c.stream_identifier) (with_queue a.queue) (keeps st) old.receiver.streams (d.due st)));
+  due = λ st. subst (λ ms. Due st (passed st ms) new.receiver.streams) (sym e)
+      (subst (λ (r : Reception). Due st (passed st old.read) r.streams) (sym a.after)
+      (due-changed st (passed st old.read) (has_number c.stream_identifier) (with_queue a.queue) (keeps st) old.receiver.streams (d.due st)));
   turns = λ st. subst (AreInTurn st) (sym e) (d.turns st);
 }
   where
@@ -166,7 +184,11 @@ taken c told old new d a e small near = record {
     far = subst (λ o. is_too_far_on c o ≡ false) a.found near
 
     from : (k : ℕ) → IsDue k a.stream.queue.held → c.unordered ≡ false → (k ≤ c.stream_sequence_number) × (c.stream_sequence_number < 2 ^ 15)
-    from k h u = (kept-from k c.stream_sequence_number a.stream.queue.held (small u) (ap (λ b. not b && is_ssn_too_far c.stream_sequence_number a.stream.queue.held) (sym u) ∙ far) h, small u)
+    from k h u = (
+      kept-from k c.stream_sequence_number a.stream.queue.held (small u)
+          (ap (λ b. not b && is_ssn_too_far c.stream_sequence_number a.stream.queue.held) (sym u) ∙ far) h,
+      small u,
+    )
 
     keeps : (st : ℕ) → Keeps st (passed st old.read) (has_number c.stream_identifier) (with_queue a.queue)
     keeps st = record {
@@ -176,7 +198,8 @@ taken c told old new d a e small near = record {
       due = λ l g same h.
           let k = passed st old.read in
           let here : c.stream_identifier ≡ st = sym (same-is l.queue.si c.stream_identifier g) ∙ same in
-          let held = due-found st k old.receiver.streams a.stream (subst (λ s. find (has_number s) old.receiver.streams ≡ Some a.stream) here a.found) (d.due st) in
+          let held = due-found st k old.receiver.streams a.stream (subst (λ s. find (has_number s) old.receiver.streams ≡ Some a.stream) here a.found)
+          (d.due st) in
           push-due k c told a.stream.queue a.queue (from k held) a.pushed held;
     }
 
@@ -189,7 +212,8 @@ named-due : (st k : ℕ) (ns : List ChunkForwardTsnStream) (ls : List InboundStr
 named-due st k [] ls s d = d
 named-due st k (n ∷ ns) ls s d =
     named-due st k ns (change_where (has_number n.identifier) (ssn_forwarded n.sequence) ls) s.1
-    (due-changed st k (has_number n.identifier) (ssn_forwarded n.sequence) (record { number = λ l g. refl; due = λ l g same h. name-due k n.sequence l.queue.held s.0 h }) ls d)
+    (due-changed st k (has_number n.identifier) (ssn_forwarded n.sequence)
+    (record { number = λ l g. refl; due = λ l g same h. name-due k n.sequence l.queue.held s.0 h }) ls d)
 
 followed-due : (st k : ℕ) (f : ForwardTsn) (r : Reception) → AreSmall f.streams → Due st k r.streams → Due st k (after_forward_tsn f r).streams
 followed-due st k f r s d = by (is_stale f r)
@@ -197,8 +221,10 @@ followed-due st k f r s d = by (is_stale f r)
     by : (b : Bool) → Due st k (if b then r else without_incomplete f.new_cumulative_tsn (if b then r else follow_forward_tsn f r)).streams
     by true = d
     by false =
-        due-mapped st k (incomplete_forwarded f.new_cumulative_tsn) (λ l. refl) (λ l h. incomplete-due k f.new_cumulative_tsn l.queue.held h) (map (unassembled_forwarded f.new_cumulative_tsn) (named_forwarded f.streams r.streams))
-        (due-mapped st k (unassembled_forwarded f.new_cumulative_tsn) (λ l. refl) (λ l h. unassembled-due k f.new_cumulative_tsn l.queue.held h) (named_forwarded f.streams r.streams)
+        due-mapped st k (incomplete_forwarded f.new_cumulative_tsn) (λ l. refl) (λ l h. incomplete-due k f.new_cumulative_tsn l.queue.held h)
+        (map (unassembled_forwarded f.new_cumulative_tsn) (named_forwarded f.streams r.streams))
+        (due-mapped st k (unassembled_forwarded f.new_cumulative_tsn) (λ l. refl) (λ l h. unassembled-due k f.new_cumulative_tsn l.queue.held h)
+        (named_forwarded f.streams r.streams)
         (named-due st k f.streams r.streams s d))
 
 -- the numbers after a read
@@ -210,35 +236,51 @@ passed-elsewhere : (st stream : ℕ) → (stream == st) ≡ false → (o : Optio
 passed-elsewhere st stream e None ms = refl
 passed-elsewhere st stream e (Some set) ms = ap (λ b. if b && starts_ordered set.chunks then first_number set.chunks + 1 else passed st ms) e
 
-turn-here : (st : ℕ) (o : Option ChunkSet) (ms : List Message) → ((set : ChunkSet) → o ≡ Some set → starts_ordered set.chunks ≡ true → passed st ms ≤ first_number set.chunks) → AreInTurn st ms → AreInTurn st (with_message st o ms)
+turn-here : (st : ℕ) (o : Option ChunkSet) (ms : List Message)
+    → ((set : ChunkSet) → o ≡ Some set → starts_ordered set.chunks ≡ true → passed st ms ≤ first_number set.chunks) → AreInTurn st ms
+    → AreInTurn st (with_message st o ms)
 turn-here st None ms h t = t
 turn-here st (Some set) ms h t = ((λ e. h set refl (both (st == st) (starts_ordered set.chunks) e).1), t)
 
-turn-elsewhere : (st stream : ℕ) → (stream == st) ≡ false → (o : Option ChunkSet) (ms : List Message) → AreInTurn st ms → AreInTurn st (with_message stream o ms)
+turn-elsewhere : (st stream : ℕ) → (stream == st) ≡ false → (o : Option ChunkSet) (ms : List Message) → AreInTurn st ms
+    → AreInTurn st (with_message stream o ms)
 turn-elsewhere st stream e None ms t = t
 turn-elsewhere st stream e (Some set) ms t = ((λ h. absurd (not_both (sym e ∙ (both (stream == st) (starts_ordered set.chunks) h).0))), t)
 
-read-on : (stream : ℕ) (old new : Stand) → AreDue old → new.receiver.streams ≡ change_where (has_number stream) stream_read old.receiver.streams → new.read ≡ with_message stream (message_on stream old.receiver) old.read → AreDue new
+read-on : (stream : ℕ) (old new : Stand) → AreDue old → new.receiver.streams ≡ change_where (has_number stream) stream_read old.receiver.streams
+    → new.read ≡ with_message stream (message_on stream old.receiver) old.read → AreDue new
 read-on stream old new d f e = record {
-  due = λ st. subst (λ ms. Due st (passed st ms) new.receiver.streams) (sym e) (subst (Due st (passed st (with_message stream (message_on stream old.receiver) old.read))) (sym f) (due (stream == st) st refl));
+  due = λ st. subst (λ ms. Due st (passed st ms) new.receiver.streams) (sym e)
+      (subst (Due st (passed st (with_message stream (message_on stream old.receiver) old.read))) (sym f) (due (stream == st) st refl));
   turns = λ st. subst (AreInTurn st) (sym e) (turn (stream == st) st refl);
 }
   where
-    due : (b : Bool) (st : ℕ) → (stream == st) ≡ b → Due st (passed st (with_message stream (message_on stream old.receiver) old.read)) (change_where (has_number stream) stream_read old.receiver.streams)
+    due : (b : Bool) (st : ℕ) → (stream == st) ≡ b
+        → Due st (passed st (with_message stream (message_on stream old.receiver) old.read))
+        (change_where (has_number stream) stream_read old.receiver.streams)
     due true st h =
-        subst (λ s. Due s (passed s (with_message stream (message_on stream old.receiver) old.read)) (change_where (has_number stream) stream_read old.receiver.streams)) (same-is stream st h)
-        (subst (λ k. Due stream k (change_where (has_number stream) stream_read old.receiver.streams)) (sym (passed-here stream (message_on stream old.receiver) old.read))
+        subst (λ s. Due s (passed s (with_message stream (message_on stream old.receiver) old.read))
+        (change_where (has_number stream) stream_read old.receiver.streams)) (same-is stream st h)
+        (subst (λ k. Due stream k (change_where (has_number stream) stream_read old.receiver.streams))
+        (sym (passed-here stream (message_on stream old.receiver) old.read))
         (due-read stream (passed stream old.read) old.receiver.streams (d.due stream)))
     due false st h =
-        subst (λ k. Due st k (change_where (has_number stream) stream_read old.receiver.streams)) (sym (passed-elsewhere st stream h (message_on stream old.receiver) old.read))
+        subst (λ k. Due st k (change_where (has_number stream) stream_read old.receiver.streams))
+        (sym (passed-elsewhere st stream h (message_on stream old.receiver) old.read))
         (due-changed st (passed st old.read) (has_number stream) stream_read
-        (record { number = λ l g. refl; due = λ l g same k. absurd (not_both (sym h ∙ subst (λ s. (s == st) ≡ true) (same-is l.queue.si stream g) (subst (λ s. (l.queue.si == s) ≡ true) same (same-yes l.queue.si)))) })
+        (record {
+          number = λ l g. refl;
+          due = λ l g same k. absurd
+              (not_both (sym h ∙ subst (λ s. (s == st) ≡ true) (same-is l.queue.si stream g)
+              (subst (λ s. (l.queue.si == s) ≡ true) same (same-yes l.queue.si))));
+        })
         old.receiver.streams (d.due st))
 
     turn : (b : Bool) (st : ℕ) → (stream == st) ≡ b → AreInTurn st (with_message stream (message_on stream old.receiver) old.read)
     turn true st h =
         subst (λ s. AreInTurn s (with_message stream (message_on stream old.receiver) old.read)) (same-is stream st h)
-        (turn-here stream (message_on stream old.receiver) old.read (λ set g o. message-due stream (passed stream old.read) old.receiver.streams set (d.due stream) g o) (d.turns stream))
+        (turn-here stream (message_on stream old.receiver) old.read
+        (λ set g o. message-due stream (passed stream old.read) old.receiver.streams set (d.due stream) g o) (d.turns stream))
     turn false st h = turn-elsewhere st stream h (message_on stream old.receiver) old.read (d.turns st)
 
 -- ## Numbers of what was made
@@ -252,20 +294,23 @@ none-large : (ms : List Made) (x : Made) → list_any is_large ms ≡ false → 
 none-large ms x e c = fails (is_large x) (λ h. not_both (sym e ∙ list_any_at is_large ms c.0 x c.1 (ap is_large c.2 ∙ h)))
 
 small-chunk : (c : ChunkPayloadData) → is_large (data_chunk (data_of c)) ≡ false → c.unordered ≡ false → c.stream_sequence_number < 2 ^ 15
-small-chunk c e u = let h : nat_le (2 ^ 15) c.stream_sequence_number ≡ false = ap (λ b. not b && nat_le (2 ^ 15) c.stream_sequence_number) (sym u) ∙ e in grind (arith, nat_tests, h)
+small-chunk c e u = let h : nat_le (2 ^ 15) c.stream_sequence_number ≡ false =
+    ap (λ b. not b && nat_le (2 ^ 15) c.stream_sequence_number) (sym u) ∙ e in grind (arith, nat_tests, h)
 
 small-names : (ns : List ChunkForwardTsnStream) → list_any (λ n. nat_le (2 ^ 15) n.sequence) ns ≡ false → AreSmall ns
 small-names [] e = tt
 small-names (n ∷ ns) e = by (nat_le (2 ^ 15) n.sequence) refl e (small-names ns)
   where
-    by : (b : Bool) → nat_le (2 ^ 15) n.sequence ≡ b → (b || list_any (λ m. nat_le (2 ^ 15) m.sequence) ns) ≡ false → (list_any (λ m. nat_le (2 ^ 15) m.sequence) ns ≡ false → AreSmall ns) → (n.sequence < 2 ^ 15) × AreSmall ns
+    by : (b : Bool) → nat_le (2 ^ 15) n.sequence ≡ b → (b || list_any (λ m. nat_le (2 ^ 15) m.sequence) ns) ≡ false
+        → (list_any (λ m. nat_le (2 ^ 15) m.sequence) ns ≡ false → AreSmall ns) → (n.sequence < 2 ^ 15) × AreSmall ns
     by true h f ih = absurd (not_both (sym f))
     by false h f ih = (grind (arith, nat_tests, h), ih f)
 
 -- ## Sessions
 
 -- a new TSN whose number is not refused
-not-far : (c : ChunkPayloadData) (r : Reception) → has_come c.tsn (filter_of r) ≡ false → arrival_refusal c r ≡ None → is_too_far_on c (stream_of c.stream_identifier r) ≡ false
+not-far : (c : ChunkPayloadData) (r : Reception) → has_come c.tsn (filter_of r) ≡ false → arrival_refusal c r ≡ None
+    → is_too_far_on c (stream_of c.stream_identifier r) ≡ false
 not-far c r fresh e = by (has_come c.tsn (filter_of r)) (is_too_far_on c (stream_of c.stream_identifier r)) fresh e
   where
     by : (a b : Bool) → a ≡ false → (if not a && b then Some SsnTooFar else data_refusal c r) ≡ None → b ≡ false
@@ -273,32 +318,41 @@ not-far c r fresh e = by (has_come c.tsn (filter_of r)) (is_too_far_on c (stream
     by true true f g = absurd (not_both (sym f))
     by false true f g = absurd (none-some SsnTooFar (sym g))
 
-receiver-step : (call : ReceiverCall) (old new : Session) → list_any is_large old.made ≡ false → ReceiverFollows call old new → AreDue old.receiving → AreDue new.receiving
+receiver-step : (call : ReceiverCall) (old new : Session) → list_any is_large old.made ≡ false → ReceiverFollows call old new → AreDue old.receiving
+    → AreDue new.receiving
 receiver-step (incoming.opens stream) old new small f d =
     kept old.receiving new.receiving d f.step.read
-    (λ st k h. subst (λ (r : Reception). Due st k r.streams) (sym f.step.receiver.1) (due-opened st k stream old.receiving.receiver.max_message_size old.receiving.receiver.streams h))
+    (λ st k h. subst (λ (r : Reception). Due st k r.streams) (sym f.step.receiver.1)
+    (due-opened st k stream old.receiving.receiver.max_message_size old.receiving.receiver.streams h))
 receiver-step (incoming.takes c (New told)) old new small f d =
     taken c told old.receiving new.receiving d f.step.receiver f.step.read (small-chunk c (none-large old.made (data_chunk (data_of c)) small f.handed))
     (not-far c old.receiving.receiver (fresh-new c.tsn told old.receiving.receiver f.accepted.1) f.accepted.0)
-receiver-step (incoming.takes c Repeat) old new small f d = same-streams old.receiving new.receiving d f.step.read (ap (λ (r : Reception). r.streams) f.step.receiver)
+receiver-step (incoming.takes c Repeat) old new small f d =
+    same-streams old.receiving new.receiving d f.step.read (ap (λ (r : Reception). r.streams) f.step.receiver)
 receiver-step (incoming.follows g) old new small f d =
     kept old.receiving new.receiving d f.step.read
-    (λ st k h. subst (λ (r : Reception). Due st k r.streams) (sym f.step.receiver) (followed-due st k g old.receiving.receiver (small-names g.streams (none-large old.made (forward_tsn g) small f.handed)) h))
-receiver-step (incoming.reports credit) old new small f d = same-streams old.receiving new.receiving d f.step.read (ap (λ (r : Reception). r.streams) f.step.receiver)
-receiver-step (incoming.reads stream) old new small f d = read-on stream old.receiving new.receiving d (ap (λ (r : Reception). r.streams) f.step.receiver) f.step.read
+    (λ st k h. subst (λ (r : Reception). Due st k r.streams) (sym f.step.receiver)
+    (followed-due st k g old.receiving.receiver (small-names g.streams (none-large old.made (forward_tsn g) small f.handed)) h))
+receiver-step (incoming.reports credit) old new small f d =
+    same-streams old.receiving new.receiving d f.step.read (ap (λ (r : Reception). r.streams) f.step.receiver)
+receiver-step (incoming.reads stream) old new small f d =
+    read-on stream old.receiving new.receiving d (ap (λ (r : Reception). r.streams) f.step.receiver) f.step.read
 
 -- what was made earlier is among what was made
 none-earlier : (cs : List Call) (old new : Session) → RunsTo old cs new → list_any is_large new.made ≡ false → list_any is_large old.made ≡ false
 none-earlier [] old new r e = ap (λ (s : Session). list_any is_large s.made) (sym r) ∙ e
 none-earlier (of_sender call ∷ cs) old new r e =
     let mid = none-earlier cs r.0 new r.1.1 e in
-    fails (list_any is_large old.made) (λ h. not_both (sym mid ∙ ap (λ (s : Session). list_any is_large s.made) r.1.0.after ∙ more-made is_large call old.sending.sender old.made h))
+    fails (list_any is_large old.made) (λ h. not_both
+    (sym mid ∙ ap (λ (s : Session). list_any is_large s.made) r.1.0.after ∙ more-made is_large call old.sending.sender old.made h))
 none-earlier (of_receiver call ∷ cs) old new r e = sym (ap (λ (s : Session). list_any is_large s.made) r.1.0.after) ∙ none-earlier cs r.0 new r.1.1 e
 
 due-after : (cs : List Call) (old new : Session) → RunsTo old cs new → list_any is_large new.made ≡ false → AreDue old.receiving → AreDue new.receiving
 due-after [] old new r e d = subst (λ (s : Session). AreDue s.receiving) (sym r) d
 due-after (of_sender call ∷ cs) old new r e d = due-after cs r.0 new r.1.1 e (subst AreDue (sym (ap (λ (s : Session). s.receiving) r.1.0.after)) d)
-due-after (of_receiver call ∷ cs) old new r e d = due-after cs r.0 new r.1.1 e (receiver-step call old r.0 (none-earlier (of_receiver call ∷ cs) old new r e) r.1.0 d)
+due-after (of_receiver call ∷ cs) old new r e d =
+    due-after cs r.0 new r.1.1 e (receiver-step call old r.0 (none-earlier (of_receiver call ∷ cs) old new r e) r.1.0 d)
 
-pub in-turn : (tsn size max most : ℕ) (limits : Option Limits) (cs : List Call) (s : Session) → RunsTo (at_start tsn size max most limits) cs s → list_any is_large s.made ≡ false → (st : ℕ) → AreInTurn st s.receiving.read
+pub in-turn : (tsn size max most : ℕ) (limits : Option Limits) (cs : List Call) (s : Session) → RunsTo (at_start tsn size max most limits) cs s
+    → list_any is_large s.made ≡ false → (st : ℕ) → AreInTurn st s.receiving.read
 in-turn tsn size max most limits cs s r e st = (due-after cs (at_start tsn size max most limits) s r e (record { due = λ k. refl; turns = λ k. tt })).turns st

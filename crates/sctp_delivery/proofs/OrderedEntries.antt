@@ -31,10 +31,11 @@ begun_on s (fragment d w after ∷ xs) = one (begins_on s d) + begun_on s xs
 abbrev pub IsNumberOf : List Entry → ℕ → ℕ → Type 0
 IsNumberOf sent stream ssn = (k : ℕ) × (k < begun_on stream sent) × (ssn ≡ k % 2 ^ 16)
 
--- the number of an ordered chunk says how many ordered messages of its stream were begun before its own
+-- the number of an ordered chunk is its message's index modulo 2^16: so many ordered messages of its stream were begun before
 abbrev pub IsIndexed : Data → List Entry → Type 0
 IsIndexed d xs =
-    d.unordered ≡ false → (k : ℕ) × (k + 1 ≡ one (begins_on d.stream_identifier d) + begun_on d.stream_identifier xs) × (d.stream_sequence_number ≡ k % 2 ^ 16)
+    d.unordered ≡ false → (k : ℕ) × (k + 1 ≡ one (begins_on d.stream_identifier d) + begun_on d.stream_identifier xs) ×
+    (d.stream_sequence_number ≡ k % 2 ^ 16)
 
 abbrev pub AreIndexed : List Entry → Type 0
 AreIndexed [] = ⊤
@@ -47,7 +48,8 @@ begins-ordered s d k =
 
 pub begins-unordered : (s : ℕ) (d : Data) → d.unordered ≡ true → begins_on s d ≡ false
 begins-unordered s d k =
-    ap (λ b. (d.stream_identifier == s) && (d.beginning_fragment && not b)) k ∙ ap (λ b. (d.stream_identifier == s) && b) (and-none d.beginning_fragment) ∙ and-none (d.stream_identifier == s)
+    ap (λ b. (d.stream_identifier == s) && (d.beginning_fragment && not b)) k ∙ ap (λ b. (d.stream_identifier == s) && b)
+    (and-none d.beginning_fragment) ∙ and-none (d.stream_identifier == s)
 
 pub begins-inner : (s : ℕ) (d : Data) → d.beginning_fragment ≡ false → begins_on s d ≡ false
 begins-inner s d k = ap (λ b. (d.stream_identifier == s) && (b && not d.unordered)) k ∙ and-none (d.stream_identifier == s)
@@ -57,7 +59,8 @@ number-more terminal sent stream ssn n = n
 number-more (fragment d w after) sent stream ssn n = let lt = n.1 in (n.0, omega (arith, lt), n.2)
 
 -- the number of an entry
-pub number-here : (d : Data) (w : Numbered) (after : List ℕ) (xs : List Entry) → d.unordered ≡ false → IsIndexed d xs → IsNumberOf (fragment d w after ∷ xs) d.stream_identifier d.stream_sequence_number
+pub number-here : (d : Data) (w : Numbered) (after : List ℕ) (xs : List Entry) → d.unordered ≡ false → IsIndexed d xs
+    → IsNumberOf (fragment d w after ∷ xs) d.stream_identifier d.stream_sequence_number
 number-here d w after xs k i = let x = i k in let e = x.1 in (x.0, omega (arith, e), x.2)
 
 -- ## Places
@@ -116,7 +119,8 @@ pub record KeepsPlaces (f : ChunkPayloadData → ChunkPayloadData) : Type 0 wher
   pub message : (c : ChunkPayloadData) → (f c).message_id ≡ c.message_id
   pub begins : (s : ℕ) (c : ChunkPayloadData) → counts s (f c) ≡ counts s c
 
-rises-changed : (p : ChunkPayloadData → Bool) (f : ChunkPayloadData → ChunkPayloadData) → KeepsPlaces f → (m n : ℕ) (cs : List ChunkPayloadData) → Rises m cs n → Rises m (change_where p f cs) n
+rises-changed : (p : ChunkPayloadData → Bool) (f : ChunkPayloadData → ChunkPayloadData) → KeepsPlaces f → (m n : ℕ) (cs : List ChunkPayloadData)
+    → Rises m cs n → Rises m (change_where p f cs) n
 rises-changed p f keeps m n [] r = r
 rises-changed p f keeps m n (c ∷ cs) r = by (p c) (rises-changed p f keeps c.message_id n cs r.1)
   where
@@ -124,15 +128,18 @@ rises-changed p f keeps m n (c ∷ cs) r = by (p c) (rises-changed p f keeps c.m
     by true ih = subst (λ k. (m ≤ k) × Rises k (change_where p f cs) n) (sym (keeps.message c)) (r.0, ih)
     by false ih = (r.0, ih)
 
-waiting-changed : (p : ChunkPayloadData → Bool) (f : ChunkPayloadData → ChunkPayloadData) → KeepsPlaces f → (s : ℕ) (cs : List ChunkPayloadData) → waiting_on s (change_where p f cs) ≡ waiting_on s cs
+waiting-changed : (p : ChunkPayloadData → Bool) (f : ChunkPayloadData → ChunkPayloadData) → KeepsPlaces f → (s : ℕ) (cs : List ChunkPayloadData)
+    → waiting_on s (change_where p f cs) ≡ waiting_on s cs
 waiting-changed p f keeps s [] = refl
 waiting-changed p f keeps s (c ∷ cs) = by (p c) (waiting-changed p f keeps s cs)
   where
-    by : (b : Bool) → waiting_on s (change_where p f cs) ≡ waiting_on s cs → waiting_on s ((if b then f c else c) ∷ change_where p f cs) ≡ waiting_on s (c ∷ cs)
+    by : (b : Bool) → waiting_on s (change_where p f cs) ≡ waiting_on s cs
+        → waiting_on s ((if b then f c else c) ∷ change_where p f cs) ≡ waiting_on s (c ∷ cs)
     by true ih = ap (λ b. one b + waiting_on s (change_where p f cs)) (keeps.begins s c) ∙ ap (λ n. one (counts s c) + n) ih
     by false ih = ap (λ n. one (counts s c) + n) ih
 
-pub ranked-changed : (p : ChunkPayloadData → Bool) (f : ChunkPayloadData → ChunkPayloadData) → KeepsPlaces f → (ws : List Numbered) (os : List ChunkPayloadData) (sent : List Entry) → AreRanked ws os sent → AreRanked ws (change_where p f os) sent
+pub ranked-changed : (p : ChunkPayloadData → Bool) (f : ChunkPayloadData → ChunkPayloadData) → KeepsPlaces f
+    → (ws : List Numbered) (os : List ChunkPayloadData) (sent : List Entry) → AreRanked ws os sent → AreRanked ws (change_where p f os) sent
 ranked-changed p f keeps ws os sent r = record {
   top = r.top;
   under = r.under;
@@ -158,7 +165,8 @@ waiting-those p s (c ∷ cs) = by (p c) (waiting-those p s cs)
     by false ih = omega (arith, ih)
 
 -- a message is gone
-pub ranked-those : (p : ChunkPayloadData → Bool) (ws : List Numbered) (os : List ChunkPayloadData) (sent : List Entry) → AreRanked ws os sent → AreRanked ws (filter p os) sent
+pub ranked-those : (p : ChunkPayloadData → Bool) (ws : List Numbered) (os : List ChunkPayloadData) (sent : List Entry) → AreRanked ws os sent
+    → AreRanked ws (filter p os) sent
 ranked-those p ws os sent r = record {
   top = r.top;
   under = r.under;
@@ -199,7 +207,8 @@ rest-begins-none kind s n (c ∷ d ∷ ds) m =
     let e = ap one (inner-not s (with_message_id n c) m.0) in
     omega (arith, ih, e)
 
-message-begins-one : (kind : Bool) (s n : ℕ) (c : ChunkPayloadData) (cs : List ChunkPayloadData) → IsMessage kind false (c ∷ cs) → waiting_on s (map (with_message_id n) (c ∷ cs)) ≤ one (c.stream_identifier == s)
+message-begins-one : (kind : Bool) (s n : ℕ) (c : ChunkPayloadData) (cs : List ChunkPayloadData) → IsMessage kind false (c ∷ cs)
+    → waiting_on s (map (with_message_id n) (c ∷ cs)) ≤ one (c.stream_identifier == s)
 message-begins-one kind s n c [] m = let h = counted (c.stream_identifier == s) c.beginning_fragment in omega (arith, h)
   where
     counted : (a b : Bool) → one (a && b) ≤ one a
@@ -216,7 +225,9 @@ message-begins-one kind s n c (d ∷ ds) m =
     counted true false = omega arith
     counted false b = omega arith
 
-pub ranked-written : (w : Numbered) (ws : List Numbered) (os : List ChunkPayloadData) (sent : List Entry) (n : ℕ) (c : ChunkPayloadData) (cs : List ChunkPayloadData) (kind : Bool) → n ≡ length ws → c.stream_identifier ≡ w.stream → IsMessage kind false (c ∷ cs) → AreRanked ws os sent → AreRanked (w ∷ ws) (os ++ map (with_message_id n) (c ∷ cs)) sent
+pub ranked-written : (w : Numbered) (ws : List Numbered) (os : List ChunkPayloadData) (sent : List Entry) (n : ℕ) (c : ChunkPayloadData)
+    (cs : List ChunkPayloadData) (kind : Bool) → n ≡ length ws → c.stream_identifier ≡ w.stream → IsMessage kind false (c ∷ cs) → AreRanked ws os sent
+    → AreRanked (w ∷ ws) (os ++ map (with_message_id n) (c ∷ cs)) sent
 ranked-written w ws os sent n c cs kind same on message r = record {
   top = r.top;
   under = r.under;
@@ -234,7 +245,8 @@ ranked-written w ws os sent n c cs kind same on message r = record {
 
 -- ## A fragment is sent
 
-pub ranked-unordered : (d : Data) (w : Numbered) (after : List ℕ) (ws : List Numbered) (os : List ChunkPayloadData) (sent : List Entry) → d.unordered ≡ true → AreRanked ws os sent → AreRanked ws os (fragment d w after ∷ sent)
+pub ranked-unordered : (d : Data) (w : Numbered) (after : List ℕ) (ws : List Numbered) (os : List ChunkPayloadData) (sent : List Entry)
+    → d.unordered ≡ true → AreRanked ws os sent → AreRanked ws os (fragment d w after ∷ sent)
 ranked-unordered d w after ws os sent k r = record {
   top = r.top;
   under = ((λ h. absurd (not_both (sym h ∙ k))), r.under);
@@ -244,7 +256,9 @@ ranked-unordered d w after ws os sent k r = record {
 }
 
 -- its write is at a place from the top on, up to its number
-pub ranked-ordered : (d : Data) (w : Numbered) (after : List ℕ) (ws : List Numbered) (c : ChunkPayloadData) (os : List ChunkPayloadData) (sent : List Entry) (r : AreRanked ws (c ∷ os) sent) → IsUnder w.place sent → w.place ≤ c.message_id → ((s : ℕ) → begins_on s d ≡ counts s c) → AreRanked ws os (fragment d w after ∷ sent)
+pub ranked-ordered : (d : Data) (w : Numbered) (after : List ℕ) (ws : List Numbered) (c : ChunkPayloadData) (os : List ChunkPayloadData)
+    (sent : List Entry) (r : AreRanked ws (c ∷ os) sent) → IsUnder w.place sent → w.place ≤ c.message_id → ((s : ℕ) → begins_on s d ≡ counts s c)
+    → AreRanked ws os (fragment d w after ∷ sent)
 ranked-ordered d w after ws c os sent r under le same = record {
   top = c.message_id;
   under = ((λ h. le), under-more r.top c.message_id sent r.waiting.0 r.under);

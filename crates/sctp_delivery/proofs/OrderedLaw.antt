@@ -1,5 +1,5 @@
 -- The ordered messages of a stream are read in the order of their writes.
-use Rattle.std.proofs.Common.{◌≡◌, ℕ, zero, suc, ◌+◌, ◌%◌, ◌^◌, ◌<◌, ◌≤◌, Bool, true, false, not, List, [], ◌∷◌, length, ◌⊎◌, inl, inr, refl, ap, sym, subst, ◌∙◌, arith}
+use Rattle.std.proofs.Common.{◌≡◌, ℕ, zero, suc, ◌+◌, ◌^◌, ◌<◌, ◌≤◌, Bool, true, false, not, List, [], ◌∷◌, length, ◌⊎◌, inl, inr, refl, ap, sym, subst, ◌∙◌, arith}
 use Rattle.std.specs.Prelude.{All, AllPairs, ◌==◌, ◌&&◌, ◌||◌, if◌then◌else◌, nat_le}
 use Rattle.std.specs.List.{filter, list_all, list_any}
 use Rattle.std.proofs.lemmas.Bool.Decides.{nat_tests}
@@ -65,7 +65,8 @@ parts-meet (x ∷ xs) ys zs (inr p) (inr q) = parts-meet xs ys zs p q
 
 module _ (sent : List Entry) (indexed : AreIndexed sent) (few : (s : ℕ) → begun_on s sent ≤ 2 ^ 15) where
   -- the number of an entry is how many were begun before it
-  number-is : (d : Data) (w : Numbered) (after : List ℕ) (xs : List Entry) → IsPart (fragment d w after ∷ xs) sent → d.unordered ≡ false → (d.stream_sequence_number + 1 ≡ begun_on d.stream_identifier (fragment d w after ∷ xs)) × (d.stream_sequence_number < 2 ^ 15)
+  number-is : (d : Data) (w : Numbered) (after : List ℕ) (xs : List Entry) → IsPart (fragment d w after ∷ xs) sent → d.unordered ≡ false
+      → (d.stream_sequence_number + 1 ≡ begun_on d.stream_identifier (fragment d w after ∷ xs)) × (d.stream_sequence_number < 2 ^ 15)
   number-is d w after xs p k =
       let i = (part-indexed sent (fragment d w after ∷ xs) p indexed).0 k in
       let n = i.1 in
@@ -100,14 +101,18 @@ all-cons P x xs h a zero d lt = h
 all-cons P x xs h a (suc k) d lt = a k d (omega (arith, lt))
 
 -- an ordered message begins with an ordered chunk
-starts : (st : ℕ) (m : Message) (c : ChunkPayloadData) (cs : List ChunkPayloadData) → m.fragments ≡ c ∷ cs → is_ordered_on st m ≡ true → (m.stream ≡ st) × (c.unordered ≡ false) × (is_in_order st m ≡ true)
+starts : (st : ℕ) (m : Message) (c : ChunkPayloadData) (cs : List ChunkPayloadData) → m.fragments ≡ c ∷ cs → is_ordered_on st m ≡ true
+    → (m.stream ≡ st) × (c.unordered ≡ false) × (is_in_order st m ≡ true)
 starts st m c cs is e =
     let b = both (m.stream == st) (list_all (λ x. not x.unordered) m.fragments) e in
     let f = both (not c.unordered) (list_all (λ x. not x.unordered) cs) (subst (λ xs. list_all (λ x. not x.unordered) xs ≡ true) is b.1) in
     (same-is m.stream st b.0, negated c.unordered f.0, and (m.stream == st) (starts_ordered m.fragments) b.0 (ap starts_ordered is ∙ f.0))
 
-module _ (ns : List Numbered) (sent : List Entry) (once : AreOnce sent) (indexed : AreIndexed sent) (rising : AreRising sent) (few : (s : ℕ) → begun_on s sent ≤ 2 ^ 15) (numbered : AreNumbered ns) (st : ℕ) where
-  module _ (m o : Message) (x : IsReadOf ns sent m) (y : IsReadOf ns sent o) (kx : x.chunk.unordered ≡ false) (ky : y.chunk.unordered ≡ false) (sx : x.chunk.stream_identifier ≡ st) (sy : y.chunk.stream_identifier ≡ st) (lt : y.chunk.stream_sequence_number < x.chunk.stream_sequence_number) where
+module _ (ns : List Numbered) (sent : List Entry) (once : AreOnce sent) (indexed : AreIndexed sent) (rising : AreRising sent)
+    (few : (s : ℕ) → begun_on s sent ≤ 2 ^ 15) (numbered : AreNumbered ns) (st : ℕ) where
+  module _ (m o : Message) (x : IsReadOf ns sent m) (y : IsReadOf ns sent o) (kx : x.chunk.unordered ≡ false) (ky : y.chunk.unordered ≡ false)
+      (sx : x.chunk.stream_identifier ≡ st) (sy : y.chunk.stream_identifier ≡ st)
+      (lt : y.chunk.stream_sequence_number < x.chunk.stream_sequence_number) where
     abbrev later : List Entry
     later = fragment (data_of x.chunk) x.numbered x.after ∷ x.entries
 
@@ -132,7 +137,8 @@ module _ (ns : List Numbered) (sent : List Entry) (once : AreOnce sent) (indexed
 
     differ : x.numbered.place ≡ y.numbered.place → ⊥
     differ same =
-        let it = one-first sent once (data_of x.chunk) (data_of y.chunk) x.numbered y.numbered x.after y.after x.entries y.entries x.begins y.begins same x.part y.part in
+        let it = one-first sent once (data_of x.chunk)
+        (data_of y.chunk) x.numbered y.numbered x.after y.after x.entries y.entries x.begins y.begins same x.part y.part in
         let n = ap (λ (d : Data). d.stream_sequence_number) it in
         omega (arith, n, lt)
 
@@ -148,14 +154,16 @@ module _ (ns : List Numbered) (sent : List Entry) (once : AreOnce sent) (indexed
   -- its first chunk is on the stream
   chunk-on : (m : Message) (x : IsReadOf ns sent m) → m.stream ≡ st → list_all (is_on m.stream) m.fragments ≡ true → x.chunk.stream_identifier ≡ st
   chunk-on m x same on =
-      same-is x.chunk.stream_identifier m.stream (both (is_on m.stream x.chunk) (list_all (is_on m.stream) x.others) (subst (λ cs. list_all (is_on m.stream) cs ≡ true) x.fragments on)).0 ∙ same
+      same-is x.chunk.stream_identifier m.stream
+      (both (is_on m.stream x.chunk) (list_all (is_on m.stream) x.others) (subst (λ cs. list_all (is_on m.stream) cs ≡ true) x.fragments on)).0 ∙ same
 
   abbrev AreOn : List Message → Type 0
   AreOn ms = list_all (λ o. list_all (is_on o.stream) o.fragments) ms ≡ true
 
   -- an ordered message, and those that were read before it
   module _ (m : Message) (x : IsReadOf ns sent m) (kx : x.chunk.unordered ≡ false) (sx : x.chunk.stream_identifier ≡ st) where
-    away : (ms : List Message) (e : EachRead ns sent once ms) → AreOn ms → AreInTurn st ms → passed st ms ≤ x.chunk.stream_sequence_number → All (λ q. x.written.0 < q) (ordered_places st ms (places ns sent once ms e))
+    away : (ms : List Message) (e : EachRead ns sent once ms) → AreOn ms → AreInTurn st ms → passed st ms ≤ x.chunk.stream_sequence_number
+        → All (λ q. x.written.0 < q) (ordered_places st ms (places ns sent once ms e))
     away [] e on t le = λ k d lt. absurd (omega (arith, lt))
     away (o ∷ os) e on t le = by (is_ordered_on st o) refl (is_in_order st o) refl le t.0 (away os e.1 ons.1 t.1)
       where
@@ -169,15 +177,20 @@ module _ (ns : List Numbered) (sent : List Entry) (once : AreOnce sent) (indexed
             let n = ap first_number y.fragments in
             before m o x y kx s.1 sx (chunk-on o y s.0 ons.0) (omega (arith, less, n))
 
-        by : (b : Bool) → is_ordered_on st o ≡ b → (c : Bool) → is_in_order st o ≡ c → (if c then first_number o.fragments + 1 else passed st os) ≤ x.chunk.stream_sequence_number → (c ≡ true → passed st os ≤ first_number o.fragments)
+        by : (b : Bool) → is_ordered_on st o ≡ b → (c : Bool) → is_in_order st o ≡ c
+            → (if c then first_number o.fragments + 1 else passed st os) ≤ x.chunk.stream_sequence_number
+            → (c ≡ true → passed st os ≤ first_number o.fragments)
             → (passed st os ≤ x.chunk.stream_sequence_number → All (λ q. x.written.0 < q) (ordered_places st os (places ns sent once os e.1)))
-            → All (λ q. x.written.0 < q) (if b then e.0.written.0 ∷ ordered_places st os (places ns sent once os e.1) else ordered_places st os (places ns sent once os e.1))
+            → All (λ q. x.written.0 < q) (if b then e.0.written.0 ∷ ordered_places st os (places ns sent once os e.1) else ordered_places st os
+            (places ns sent once os e.1))
         by true h false g less turn ih = absurd (not_both (sym g ∙ (starts st o e.0.chunk e.0.others e.0.fragments h).2))
-        by true h true g less turn ih = all-cons (λ q. x.written.0 < q) e.0.written.0 (ordered_places st os (places ns sent once os e.1)) (here h less) (ih (let u = turn refl in omega (arith, u, less)))
+        by true h true g less turn ih = all-cons (λ q. x.written.0 < q) e.0.written.0 (ordered_places st os (places ns sent once os e.1))
+            (here h less) (ih (let u = turn refl in omega (arith, u, less)))
         by false h true g less turn ih = ih (let u = turn refl in omega (arith, u, less))
         by false h false g less turn ih = ih less
 
-  ordered : (ms : List Message) (e : EachRead ns sent once ms) → AreOn ms → AreInTurn st ms → AllPairs (λ p q. p < q) (ordered_places st ms (places ns sent once ms e))
+  ordered : (ms : List Message) (e : EachRead ns sent once ms) → AreOn ms → AreInTurn st ms
+      → AllPairs (λ p q. p < q) (ordered_places st ms (places ns sent once ms e))
   ordered [] e on t = λ i j d lt short. absurd (omega (arith, short))
   ordered (m ∷ ms) e on t = by (is_ordered_on st m) refl (ordered ms e.1 ons.1 t.1)
     where
@@ -185,14 +198,16 @@ module _ (ns : List Numbered) (sent : List Entry) (once : AreOnce sent) (indexed
       ons = both (list_all (is_on m.stream) m.fragments) (list_all (λ p. list_all (is_on p.stream) p.fragments) ms) on
 
       by : (b : Bool) → is_ordered_on st m ≡ b → AllPairs (λ p q. p < q) (ordered_places st ms (places ns sent once ms e.1))
-          → AllPairs (λ p q. p < q) (if b then e.0.written.0 ∷ ordered_places st ms (places ns sent once ms e.1) else ordered_places st ms (places ns sent once ms e.1))
+          → AllPairs (λ p q. p < q) (if b then e.0.written.0 ∷ ordered_places st ms (places ns sent once ms e.1) else ordered_places st ms
+          (places ns sent once ms e.1))
       by false h ih = ih
       by true h ih =
           let x = e.0 in
           let s = starts st m x.chunk x.others x.fragments h in
           let n = ap first_number x.fragments in
           let u = t.0 s.2 in
-          pairs_cons (λ p q. p < q) x.written.0 (ordered_places st ms (places ns sent once ms e.1)) (away m x s.1 (chunk-on m x s.0 ons.0) ms e.1 ons.1 t.1 (omega (arith, n, u))) ih
+          pairs_cons (λ p q. p < q) x.written.0 (ordered_places st ms (places ns sent once ms e.1))
+          (away m x s.1 (chunk-on m x s.0 ons.0) ms e.1 ons.1 t.1 (omega (arith, n, u))) ih
 
 -- ## The law
 
@@ -208,7 +223,8 @@ in-order tsn size max most limits cs s small some r few short =
     let turns = in-turn tsn size max most limits cs s r (small-made a.sent a.indexed last s.made a.sent-made) in
     let on = sessions.read-on tsn size max most limits cs s r in (
       places a.numbered a.sent a.once s.receiving.read e,
-      subst (λ ws. StandAt ws s.receiving.read (places a.numbered a.sent a.once s.receiving.read e)) a.writes (stand a.numbered a.sent a.once s.receiving.read e),
+      subst (λ ws. StandAt ws s.receiving.read (places a.numbered a.sent a.once s.receiving.read e)) a.writes
+          (stand a.numbered a.sent a.once s.receiving.read e),
       apart a.numbered a.sent a.once s.receiving.read e (read_once.none-twice tsn size max most limits cs s r small few),
       λ st. ordered a.numbered a.sent a.once a.indexed a.rising last a.placed st s.receiving.read e on (turns st),
     )

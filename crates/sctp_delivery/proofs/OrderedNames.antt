@@ -1,6 +1,6 @@
 -- Each name of a FORWARD-TSN has the number of a message that was begun.
-use Rattle.std.proofs.Common.{◌≡◌, ℕ, zero, suc, Bool, true, false, List, [], ◌∷◌, take, Option, Some, None, refl, ap, sym, subst, ◌∙◌}
-use Rattle.std.specs.Prelude.{◌==◌, if◌then◌else◌}
+use Rattle.std.proofs.Common.{◌≡◌, ℕ, Bool, true, false, List, [], ◌∷◌, take, refl, sym, subst}
+use Rattle.std.specs.Prelude.{if◌then◌else◌}
 use Rattle.std.specs.List.{filter}
 use Rattle.sctp_list_lemmas.proofs.Cases.{negated, same-yes}
 use Rattle.sctp_list_lemmas.proofs.More.{both}
@@ -43,7 +43,8 @@ both-each P Q R f [] h k = tt
 both-each P Q R f (x ∷ xs) h k = (f x h.0 k.0, both-each P Q R f xs h.1 k.1)
 
 -- the pair of the last of these
-last-named : (sent : List Entry) (cs : List ChunkPayloadData) → Every (λ c. IsNumberOf sent c.stream_identifier c.stream_sequence_number) cs → AreNamed sent (pairs_of (last_of cs))
+last-named : (sent : List Entry) (cs : List ChunkPayloadData) → Every (λ c. IsNumberOf sent c.stream_identifier c.stream_sequence_number) cs
+    → AreNamed sent (pairs_of (last_of cs))
 last-named sent [] h = tt
 last-named sent (c ∷ []) h = (h.0, tt)
 last-named sent (c ∷ d ∷ ds) h = last-named sent (d ∷ ds) h.1
@@ -54,7 +55,8 @@ own-pairs sent [] h = tt
 own-pairs sent (n ∷ ns) h = (here, own-pairs sent ns later)
   where
     here : IsNamed sent n
-    here = (subst (λ b. AreNamed sent (if b then n ∷ filter (is_pair_of n.identifier) ns else filter (is_pair_of n.identifier) ns)) (same-yes n.identifier) (h n.identifier)).0
+    here = (subst (λ b. AreNamed sent (if b then n ∷ filter (is_pair_of n.identifier) ns else filter (is_pair_of n.identifier) ns))
+        (same-yes n.identifier) (h n.identifier)).0
 
     later : (s : ℕ) → AreNamed sent (filter (is_pair_of s) ns)
     later s = by (is_pair_of s n) (h s)
@@ -63,13 +65,17 @@ own-pairs sent (n ∷ ns) h = (here, own-pairs sent ns later)
         by true k = k.1
         by false k = k
 
-pub names-known : (sent : List Entry) (ns : List ChunkForwardTsnStream) (tsn : ℕ) (f : Flight) → AreKnown sent f.queue.inflight.chunks → Name ns (named_up_to tsn f) → AreNamed sent ns
+pub names-known : (sent : List Entry) (ns : List ChunkForwardTsnStream) (tsn : ℕ) (f : Flight) → AreKnown sent f.queue.inflight.chunks
+    → Name ns (named_up_to tsn f) → AreNamed sent ns
 names-known sent ns tsn f known name =
-    own-pairs sent ns (λ s. subst (AreNamed sent) (sym (name s)) (last-named sent (filter (is_on s) (named_up_to tsn f)) (every-passing (λ c. IsNumberOf sent c.stream_identifier c.stream_sequence_number) (is_on s) (named_up_to tsn f) numbered)))
+    own-pairs sent ns (λ s. subst (AreNamed sent) (sym (name s))
+    (last-named sent (filter (is_on s) (named_up_to tsn f))
+    (every-passing (λ c. IsNumberOf sent c.stream_identifier c.stream_sequence_number) (is_on s) (named_up_to tsn f) numbered)))
   where
     numbered : Every (λ c. IsNumberOf sent c.stream_identifier c.stream_sequence_number) (named_up_to tsn f)
     numbered =
         both-each (IsKnown sent) (λ c. is_named c ≡ true) (λ c. IsNumberOf sent c.stream_identifier c.stream_sequence_number)
         (λ c k e. k.1 (negated c.unordered (both c.abandoned _ e).1)) (named_up_to tsn f)
-        (every-passing (IsKnown sent) is_named (take (ahead f tsn) f.queue.inflight.chunks) (every-taken (IsKnown sent) (ahead f tsn) f.queue.inflight.chunks (known-each sent f.queue.inflight.chunks known)))
+        (every-passing (IsKnown sent) is_named (take (ahead f tsn) f.queue.inflight.chunks)
+        (every-taken (IsKnown sent) (ahead f tsn) f.queue.inflight.chunks (known-each sent f.queue.inflight.chunks known)))
         (passing-each (λ c. is_named c ≡ true) is_named (take (ahead f tsn) f.queue.inflight.chunks) (λ c e. e))

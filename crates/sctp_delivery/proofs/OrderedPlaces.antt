@@ -1,5 +1,5 @@
 -- The place of a write among the writes, from where it stands in their list.
-use Rattle.std.proofs.Common.{◌≡◌, ℕ, zero, suc, ◌+◌, ◌<◌, Bool, true, false, List, [], ◌∷◌, length, refl, ap, ◌∙◌, arith}
+use Rattle.std.proofs.Common.{◌≡◌, ℕ, zero, suc, ◌+◌, ◌<◌, Bool, true, false, List, [], ◌∷◌, length, refl, ap, arith}
 use Rattle.std.specs.Prelude.{⊤, ◌==◌, if◌then◌else◌, slice_index_or}
 use Rattle.std.specs.List.{filter}
 use Rattle.sctp_delivery.specs.SenderCalls.{SenderCall, abandons, expires, expires_late, expires_rexmit, expires_tail, forwards, forwards_within, marks, misses, opens, resends, reserves, sends, sets_low, sets_mode, sets_size, starts, takes_sack, writes}
@@ -44,6 +44,8 @@ pub written-few : (s : ℕ) (ns : List Numbered) → length (filter (λ w. w.str
 written-few s [] = refl
 written-few s (n ∷ ns) = by (n.stream == s) (written-few s ns)
   where
-    by : (b : Bool) → length (filter (λ w. w.stream == s) (forgotten ns)) ≡ written_on s ns → length (if b then forget n ∷ filter (λ w. w.stream == s) (forgotten ns) else filter (λ w. w.stream == s) (forgotten ns)) ≡ one b + written_on s ns
+    by : (b : Bool) → length (filter (λ w. w.stream == s) (forgotten ns)) ≡ written_on s ns
+        → length (if b then forget n ∷ filter (λ w. w.stream == s) (forgotten ns) else filter (λ w. w.stream == s) (forgotten ns)) ≡ one b +
+        written_on s ns
     by true ih = omega (arith, ih)
     by false ih = omega (arith, ih)

@@ -1,6 +1,6 @@
 -- What a stream holds of ordered messages while their numbers are below 2^15: they stand with rising numbers, each past those read.
-use Rattle.std.proofs.Common.{◌≡◌, ℕ, ◌+◌, ◌%◌, ◌^◌, ◌<◌, ◌≤◌, Bool, true, false, not, List, [], ◌∷◌, ◌++◌, map, take, drop, Option, Some, None, refl, ap, ap₂, sym, subst, ◌∙◌, arith}
-use Rattle.std.specs.Prelude.{⊤, ◌==◌, ◌&&◌, ◌||◌, if◌then◌else◌, nat_le, nat_lt}
+use Rattle.std.proofs.Common.{◌≡◌, ℕ, ◌+◌, ◌%◌, ◌^◌, ◌<◌, ◌≤◌, Bool, true, false, not, List, [], ◌∷◌, take, drop, Option, Some, None, refl, ap, ap₂, sym, subst, ◌∙◌, arith}
+use Rattle.std.specs.Prelude.{⊤, ◌==◌, ◌||◌, if◌then◌else◌, nat_lt}
 use Rattle.std.specs.List.{filter, list_any}
 use Rattle.std.proofs.lemmas.Bool.Decides.{nat_tests}
 use Rattle.std.proofs.lemmas.Option.{none-some}
@@ -94,20 +94,25 @@ module _ (x : ChunkPayloadData) where
   ascend-changed p k [] a = tt
   ascend-changed p k (set ∷ sets) a = by (p set) (ascend-changed p (set.ssn + 1) sets a.2)
     where
-      by : (b : Bool) → Ascend (set.ssn + 1) (change_first p (with_chunk x) sets) → Ascend k (if b then with_chunk x set ∷ sets else set ∷ change_first p (with_chunk x) sets)
+      by : (b : Bool) → Ascend (set.ssn + 1) (change_first p (with_chunk x) sets)
+          → Ascend k (if b then with_chunk x set ∷ sets else set ∷ change_first p (with_chunk x) sets)
       by true ih = a
       by false ih = (a.0, a.1, ih)
 
-  ascend-inserted : (k : ℕ) (sets : List ChunkSet) → k ≤ x.stream_sequence_number → x.stream_sequence_number < 2 ^ 15 → list_any (has_ssn x.stream_sequence_number) sets ≡ false → Ascend k sets → Ascend k (insert_before set_before (new_set x) sets)
+  ascend-inserted : (k : ℕ) (sets : List ChunkSet) → k ≤ x.stream_sequence_number → x.stream_sequence_number < 2 ^ 15
+      → list_any (has_ssn x.stream_sequence_number) sets ≡ false → Ascend k sets → Ascend k (insert_before set_before (new_set x) sets)
   ascend-inserted k [] le lt none a = (le, lt, tt)
   ascend-inserted k (set ∷ sets) le lt none a = by (set.ssn == x.stream_sequence_number) refl none (ascend-inserted (set.ssn + 1) sets)
     where
-      put : (b : Bool) → comes_before16 x.stream_sequence_number set.ssn ≡ b → (set.ssn ≡ x.stream_sequence_number → ⊥) → (set.ssn + 1 ≤ x.stream_sequence_number → Ascend (set.ssn + 1) (insert_before set_before (new_set x) sets)) → Ascend k (if b then new_set x ∷ set ∷ sets else set ∷ insert_before set_before (new_set x) sets)
+      put : (b : Bool) → comes_before16 x.stream_sequence_number set.ssn ≡ b → (set.ssn ≡ x.stream_sequence_number → ⊥)
+          → (set.ssn + 1 ≤ x.stream_sequence_number → Ascend (set.ssn + 1) (insert_before set_before (new_set x) sets))
+          → Ascend k (if b then new_set x ∷ set ∷ sets else set ∷ insert_before set_before (new_set x) sets)
       put true e differ ih = (le, lt, ((let h = before-up x.stream_sequence_number set.ssn lt a.1 e in omega (arith, h)), a.1, a.2))
       put false e differ ih = (a.0, a.1, ih (let h = not-before-down x.stream_sequence_number set.ssn lt a.1 e in omega (arith, h, differ)))
 
       by : (b : Bool) → (set.ssn == x.stream_sequence_number) ≡ b → (b || list_any (has_ssn x.stream_sequence_number) sets) ≡ false
-          → (set.ssn + 1 ≤ x.stream_sequence_number → x.stream_sequence_number < 2 ^ 15 → list_any (has_ssn x.stream_sequence_number) sets ≡ false → Ascend (set.ssn + 1) sets → Ascend (set.ssn + 1) (insert_before set_before (new_set x) sets))
+          → (set.ssn + 1 ≤ x.stream_sequence_number → x.stream_sequence_number < 2 ^ 15 → list_any (has_ssn x.stream_sequence_number) sets ≡ false
+          → Ascend (set.ssn + 1) sets → Ascend (set.ssn + 1) (insert_before set_before (new_set x) sets))
           → Ascend k (if comes_before16 x.stream_sequence_number set.ssn then new_set x ∷ set ∷ sets else set ∷ insert_before set_before (new_set x) sets)
       by true h e ih = absurd (not_both (sym e))
       by false h e ih =
@@ -118,7 +123,8 @@ module _ (x : ChunkPayloadData) where
   put-ascend : (k : ℕ) (sets : List ChunkSet) → k ≤ x.stream_sequence_number → x.stream_sequence_number < 2 ^ 15 → Ascend k sets → Ascend k (sets_with x sets)
   put-ascend k sets le lt a = by (list_any (has_ssn x.stream_sequence_number) sets) refl
     where
-      by : (b : Bool) → list_any (has_ssn x.stream_sequence_number) sets ≡ b → Ascend k (if b then change_first (has_ssn x.stream_sequence_number) (with_chunk x) sets else insert_before set_before (new_set x) sets)
+      by : (b : Bool) → list_any (has_ssn x.stream_sequence_number) sets ≡ b
+          → Ascend k (if b then change_first (has_ssn x.stream_sequence_number) (with_chunk x) sets else insert_before set_before (new_set x) sets)
       by true e = ascend-changed (has_ssn x.stream_sequence_number) k sets a
       by false e = ascend-inserted k sets le lt e a
 
@@ -130,18 +136,22 @@ module _ (x : ChunkPayloadData) where
       by true = h
       by false = every-inserted (λ c. c.stream_sequence_number ≡ set.ssn) chunk_before x set.chunks (sym same) h
 
-  changed-numbered : (sets : List ChunkSet) → Every IsNumberedSet sets → Every IsNumberedSet (change_first (has_ssn x.stream_sequence_number) (with_chunk x) sets)
+  changed-numbered : (sets : List ChunkSet) → Every IsNumberedSet sets
+      → Every IsNumberedSet (change_first (has_ssn x.stream_sequence_number) (with_chunk x) sets)
   changed-numbered [] h = tt
   changed-numbered (set ∷ sets) h = by (set.ssn == x.stream_sequence_number) refl (changed-numbered sets h.1)
     where
-      by : (b : Bool) → (set.ssn == x.stream_sequence_number) ≡ b → Every IsNumberedSet (change_first (has_ssn x.stream_sequence_number) (with_chunk x) sets) → Every IsNumberedSet (if b then with_chunk x set ∷ sets else set ∷ change_first (has_ssn x.stream_sequence_number) (with_chunk x) sets)
+      by : (b : Bool) → (set.ssn == x.stream_sequence_number) ≡ b
+          → Every IsNumberedSet (change_first (has_ssn x.stream_sequence_number) (with_chunk x) sets)
+          → Every IsNumberedSet (if b then with_chunk x set ∷ sets else set ∷ change_first (has_ssn x.stream_sequence_number) (with_chunk x) sets)
       by true e ih = (with-numbered set (same-is set.ssn x.stream_sequence_number e) h.0, h.1)
       by false e ih = (h.0, ih)
 
   put-numbered : (sets : List ChunkSet) → Every IsNumberedSet sets → Every IsNumberedSet (sets_with x sets)
   put-numbered sets h = by (list_any (has_ssn x.stream_sequence_number) sets)
     where
-      by : (b : Bool) → Every IsNumberedSet (if b then change_first (has_ssn x.stream_sequence_number) (with_chunk x) sets else insert_before set_before (new_set x) sets)
+      by : (b : Bool) → Every IsNumberedSet (if b then change_first (has_ssn x.stream_sequence_number)
+          (with_chunk x) sets else insert_before set_before (new_set x) sets)
       by true = changed-numbered sets h
       by false = every-inserted IsNumberedSet set_before (new_set x) sets (refl, tt) h
 
@@ -158,12 +168,15 @@ taken-due k xs old new t all d =
       last = d.last;
       ascend = d.ascend;
       numbered = d.numbered;
-      unordered = every-joined IsUnorderedSet old.unordered (set_of_run run ∷ []) d.unordered (run-each P run (every-taken P t.count (drop t.first xs) (every-left P t.first xs all)), tt);
+      unordered = every-joined IsUnorderedSet old.unordered (set_of_run run ∷ []) d.unordered
+          (run-each P run (every-taken P t.count (drop t.first xs) (every-left P t.first xs all)), tt);
       unassembled = every-joined P (take t.first xs) (drop (t.first + t.count) xs) (every-taken P t.first xs all) (every-left P (t.first + t.count) xs all);
     })
 
 -- an ordered one has a number below 2^15, from this one on
-pub push-due : (k : ℕ) (c : ChunkPayloadData) (told : Bool) (old new : ReassemblyState) → (c.unordered ≡ false → (k ≤ c.stream_sequence_number) × (c.stream_sequence_number < 2 ^ 15)) → Pushes c told old new → IsDue k old.held → IsDue k new.held
+pub push-due : (k : ℕ) (c : ChunkPayloadData) (told : Bool) (old new : ReassemblyState)
+    → (c.unordered ≡ false → (k ≤ c.stream_sequence_number) × (c.stream_sequence_number < 2 ^ 15)) → Pushes c told old new → IsDue k old.held
+    → IsDue k new.held
 push-due k c told old new num p d = by c.unordered refl p
   where
     in-order : c.unordered ≡ false → (b : Bool) → IsDue k (if b then old.held else record old.held { ordered = sets_with c old.held.ordered })
@@ -182,7 +195,8 @@ push-due k c told old new num p d = by c.unordered refl p
 
     becomes : c.unordered ≡ true → (b : Bool) → BecomesComplete (insert_before chunk_before c old.held.unassembled) old.held new.held b → IsDue k new.held
     becomes e true t = taken-due k (insert_before chunk_before c old.held.unassembled) old.held new.held t (all e) d
-    becomes e false t = subst (IsDue k) (sym t.1) (record { next = d.next; last = d.last; ascend = d.ascend; numbered = d.numbered; unordered = d.unordered; unassembled = all e })
+    becomes e false t = subst (IsDue k) (sym t.1)
+        (record { next = d.next; last = d.last; ascend = d.ascend; numbered = d.numbered; unordered = d.unordered; unassembled = all e })
 
     by : (b : Bool) → c.unordered ≡ b → PushesAs b c told old new → IsDue k new.held
     by false e q = subst (λ (s : ReassemblyState). IsDue k s.held) (sym q.0) (in-order e (comes_before16 c.stream_sequence_number old.held.next_ssn))
@@ -227,7 +241,8 @@ first-is n [] e h = absurd (not_both e)
 first-is n (c ∷ cs) e h = h.0
 
 -- the front set is read
-front-due : (k : ℕ) (q : Reassembly) (set : ChunkSet) (sets : List ChunkSet) → q.ordered ≡ set ∷ sets → is_readable q.next_ssn set ≡ true → IsDue k q → IsDue (set.ssn + 1) (after_read (Some set) q)
+front-due : (k : ℕ) (q : Reassembly) (set : ChunkSet) (sets : List ChunkSet) → q.ordered ≡ set ∷ sets → is_readable q.next_ssn set ≡ true → IsDue k q
+    → IsDue (set.ssn + 1) (after_read (Some set) q)
 front-due k q set sets is e d = record {
   next = by (set.ssn == q.next_ssn) refl;
   last = low (set.ssn == q.next_ssn) refl;
@@ -245,7 +260,8 @@ front-due k q set sets is e d = record {
 
     by : (b : Bool) → (set.ssn == q.next_ssn) ≡ b → set.ssn + 1 ≤ (if b then (q.next_ssn + 1) % 2 ^ 16 else q.next_ssn)
     by true h = let same = same-is set.ssn q.next_ssn h in let s = a.1 in omega (arith, same, s)
-    by false h = let differ : set.ssn ≡ q.next_ssn → ⊥ = λ same. not_both (sym h ∙ subst (λ n. (set.ssn == n) ≡ true) same (same-yes set.ssn)) in omega (arith, up, differ)
+    by false h = let differ : set.ssn ≡ q.next_ssn → ⊥ =
+        λ same. not_both (sym h ∙ subst (λ n. (set.ssn == n) ≡ true) same (same-yes set.ssn)) in omega (arith, up, differ)
 
     low : (b : Bool) → (set.ssn == q.next_ssn) ≡ b → (if b then (q.next_ssn + 1) % 2 ^ 16 else q.next_ssn) ≤ 2 ^ 15
     low true h = let same = same-is set.ssn q.next_ssn h in let s = a.1 in omega (arith, same, s)
@@ -257,7 +273,9 @@ pub record Reads (k : ℕ) (q : Reassembly) : Type 0 where
   pub turn : (set : ChunkSet) → message_read q ≡ Some set → starts_ordered set.chunks ≡ true → k ≤ first_number set.chunks
 
 module _ (k : ℕ) (q : Reassembly) (d : IsDue k q) where
-  at-front : (os : List ChunkSet) → q.ordered ≡ os → (IsDue (due_after k (front_readable q.next_ssn os)) (after_read (front_readable q.next_ssn os) q)) × ((set : ChunkSet) → front_readable q.next_ssn os ≡ Some set → starts_ordered set.chunks ≡ true → k ≤ first_number set.chunks)
+  at-front : (os : List ChunkSet) → q.ordered ≡ os
+      → (IsDue (due_after k (front_readable q.next_ssn os)) (after_read (front_readable q.next_ssn os) q)) ×
+      ((set : ChunkSet) → front_readable q.next_ssn os ≡ Some set → starts_ordered set.chunks ≡ true → k ≤ first_number set.chunks)
   at-front [] is = (d, λ set e. absurd (none-some set e))
   at-front (s ∷ ss) is = by (is_readable q.next_ssn s) refl
     where
@@ -267,18 +285,22 @@ module _ (k : ℕ) (q : Reassembly) (d : IsDue k q) where
       numbered : Every IsNumberedSet (s ∷ ss)
       numbered = subst (Every IsNumberedSet) is d.numbered
 
-      after : is_readable q.next_ssn s ≡ true → (b : Bool) → starts_ordered s.chunks ≡ b → IsDue (if b then first_number s.chunks + 1 else k) (after_read (Some s) q)
+      after : is_readable q.next_ssn s ≡ true → (b : Bool) → starts_ordered s.chunks ≡ b
+          → IsDue (if b then first_number s.chunks + 1 else k) (after_read (Some s) q)
       after e true o = subst (λ n. IsDue (n + 1) (after_read (Some s) q)) (sym (first-is s.ssn s.chunks o numbered.0)) (front-due k q s ss is e d)
       after e false o = due-from k (s.ssn + 1) (after_read (Some s) q) (let h = a.0 in omega (arith, h)) (front-due k q s ss is e d)
 
-      by : (b : Bool) → is_readable q.next_ssn s ≡ b → (IsDue (due_after k (if b then Some s else None)) (after_read (if b then Some s else None) q)) × ((set : ChunkSet) → (if b then Some s else None) ≡ Some set → starts_ordered set.chunks ≡ true → k ≤ first_number set.chunks)
+      by : (b : Bool) → is_readable q.next_ssn s ≡ b
+          → (IsDue (due_after k (if b then Some s else None)) (after_read (if b then Some s else None) q)) ×
+          ((set : ChunkSet) → (if b then Some s else None) ≡ Some set → starts_ordered set.chunks ≡ true → k ≤ first_number set.chunks)
       by false e = (d, λ set f. absurd (none-some set f))
       by true e = (
         after e (starts_ordered s.chunks) refl,
         λ set f o.
             let same = some-same f in
             subst (λ (x : ChunkSet). k ≤ first_number x.chunks) same
-            (let h = first-is s.ssn s.chunks (subst (λ (x : ChunkSet). starts_ordered x.chunks ≡ true) (sym same) o) numbered.0 in let z = a.0 in omega (arith, h, z)),
+            (let h = first-is s.ssn s.chunks (subst (λ (x : ChunkSet). starts_ordered x.chunks ≡ true) (sym same) o) numbered.0 in let z = a.0 in
+            omega (arith, h, z)),
       )
 
   pub read-due : Reads k q
@@ -306,7 +328,9 @@ module _ (k : ℕ) (q : Reassembly) (d : IsDue k q) where
 -- ## A FORWARD-TSN comes
 
 -- past a number below 2^15
-past-up : (next last : ℕ) → next ≤ 2 ^ 15 → last < 2 ^ 15 → (next ≤ (if at_or_before16 next last then (last + 1) % 2 ^ 16 else next)) × ((if at_or_before16 next last then (last + 1) % 2 ^ 16 else next) ≤ 2 ^ 15)
+past-up : (next last : ℕ) → next ≤ 2 ^ 15 → last < 2 ^ 15
+    → (next ≤ (if at_or_before16 next last then (last + 1) % 2 ^ 16 else next)) ×
+    ((if at_or_before16 next last then (last + 1) % 2 ^ 16 else next) ≤ 2 ^ 15)
 past-up next last hn hl = by (at_or_before16 next last) refl
   where
     by : (b : Bool) → at_or_before16 next last ≡ b → (next ≤ (if b then (last + 1) % 2 ^ 16 else next)) × ((if b then (last + 1) % 2 ^ 16 else next) ≤ 2 ^ 15)

@@ -26,7 +26,12 @@ use Rattle.sctp_delivery.proofs.Waiting.{Waits, between, lower, place_of, waits-
 
 -- ## A write
 
-pub pushed : (ws : List Numbered) (first : ℕ) (number number' : ℕ → ℕ) (q : Outbound) (next : ℕ) (sent : List Entry) → Stands ws first number q next sent → (w : Numbered) (c : ChunkPayloadData) (cs : List ChunkPayloadData) → IsMessage c.unordered false (c ∷ cs) → c.stream_identifier ≡ w.stream → Waits (w ∷ ws) (map (with_message_id q.next_message_id) (c ∷ cs)) between → (c.unordered ≡ true → (r : ℕ) → number' r ≡ number r) → (c.unordered ≡ false → (r : ℕ) → Turns r (map (with_message_id q.next_message_id) (c ∷ cs)) (number r) (number' r)) → Stands (w ∷ ws) first number' (with_message (c ∷ cs) q) next sent
+pub pushed : (ws : List Numbered) (first : ℕ) (number number' : ℕ → ℕ) (q : Outbound) (next : ℕ) (sent : List Entry)
+    → Stands ws first number q next sent → (w : Numbered) (c : ChunkPayloadData) (cs : List ChunkPayloadData) → IsMessage c.unordered false (c ∷ cs)
+    → c.stream_identifier ≡ w.stream → Waits (w ∷ ws) (map (with_message_id q.next_message_id) (c ∷ cs)) between
+    → (c.unordered ≡ true → (r : ℕ) → number' r ≡ number r)
+    → (c.unordered ≡ false → (r : ℕ) → Turns r (map (with_message_id q.next_message_id) (c ∷ cs)) (number r) (number' r))
+    → Stands (w ∷ ws) first number' (with_message (c ∷ cs) q) next sent
 pushed ws first number number' q next sent s w c cs message stream waits' same turns' = by c.unordered refl message
   where
     p : ℕ
@@ -53,7 +58,15 @@ pushed ws first number number' q next sent s w c cs message stream waits' same t
         line = line-more w ws first sent s.queued.line;
         ordered = waits-behind (w ∷ ws) q.pending.ordered (map (with_message_id q.next_message_id) (c ∷ cs)) (place_of false q.pending.selected sent) (waits-more w ws q.pending.ordered (place_of false q.pending.selected sent) s.queued.ordered) waits';
         unordered = waits-more w ws q.pending.unordered (place_of true q.pending.selected sent) s.queued.unordered;
-        turns = λ r. let t = s.queued.turns r in (t.0, (turns-behind r q.pending.ordered (map (with_message_id q.next_message_id) (c ∷ cs)) t.0 (number r) (number' r) t.1.0 (turns' e r), t.1.1, t.1.2));
+        turns = λ r. let t = s.queued.turns r in (
+          t.0,
+          (
+            turns-behind r q.pending.ordered (map (with_message_id q.next_message_id) (c ∷ cs)) t.0 (number r) (number' r) t.1.0
+                (turns' e r),
+            t.1.1,
+            t.1.2,
+          ),
+        );
         indexed = s.queued.indexed;
         ranked = ranked-written w ws q.pending.ordered sent q.next_message_id c cs false s.ids stream m s.queued.ranked;
       };
@@ -91,8 +104,15 @@ module _ (ws : List Numbered) (first : ℕ) (number number' : ℕ → ℕ) (ro r
       ordered = waits-without ws u.message_id os between s.queued.ordered;
       unordered = waits-without ws u.message_id (u ∷ us) between s.queued.unordered;
       turns = λ r.
-          let t = s.queued.turns r in
-          (t.0, (subst (λ cs. Turns r cs t.0 (number' r)) (sym (without-none u.message_id os none)) (subst (Turns r os t.0) (sym (same r)) t.1.0), t.1.1, t.1.2));
+          let t = s.queued.turns r in (
+            t.0,
+            (
+              subst (λ cs. Turns r cs t.0 (number' r)) (sym (without-none u.message_id os none))
+                  (subst (Turns r os t.0) (sym (same r)) t.1.0),
+              t.1.1,
+              t.1.2,
+            ),
+          );
       indexed = s.queued.indexed;
       ranked = ranked-those (λ c. not (is_of u.message_id c)) ws os sent s.queued.ranked;
     };
@@ -112,9 +132,12 @@ module _ (ws : List Numbered) (first : ℕ) (number number' : ℕ → ℕ) (ro r
       line = s.queued.line;
       ordered = waits-lower ws o.stream_identifier (without_message o.message_id (o ∷ os)) between (waits-without ws o.message_id (o ∷ os) between s.queued.ordered);
       unordered = s.queued.unordered;
-      turns = λ r. by_same r o.stream_identifier (λ e. subst (λ k. (n : ℕ) × (Turns k (lowered o os) n (number' k) × IsAfter k n sent × (n ≡ begun_on k sent % 2 ^ 16))) (sym e) here) (λ differ e. elsewhere r differ);
+      turns = λ r. by_same r o.stream_identifier
+          (λ e. subst (λ k. (n : ℕ) × (Turns k (lowered o os) n (number' k) × IsAfter k n sent × (n ≡ begun_on k sent % 2 ^ 16))) (sym e) here)
+          (λ differ e. elsewhere r differ);
       indexed = s.queued.indexed;
-      ranked = ranked-changed (is_on o.stream_identifier) one_lower (record { message = λ c. refl; begins = λ r c. refl }) ws (without_message o.message_id (o ∷ os)) sent (ranked-those (λ c. not (is_of o.message_id c)) ws (o ∷ os) sent s.queued.ranked);
+      ranked = ranked-changed (is_on o.stream_identifier) one_lower (record { message = λ c. refl; begins = λ r c. refl }) ws
+          (without_message o.message_id (o ∷ os)) sent (ranked-those (λ c. not (is_of o.message_id c)) ws (o ∷ os) sent s.queued.ranked);
     };
     sendable = sendable-ordered_changed (without_message o.message_id (o ∷ os)) [] None ro ru fl.chunks id (is_on o.stream_identifier) one_lower keeps (sendable-without (o ∷ os) [] None ro ru fl.chunks id o.message_id s.sendable);
     known = s.known;
@@ -126,21 +149,37 @@ module _ (ws : List Numbered) (first : ℕ) (number number' : ℕ → ℕ) (ro r
       keeps : KeepsMessage one_lower
       keeps = record { number = λ _. refl; begins = λ _. refl; ends = λ _. refl; kind = λ _. refl }
 
-      here : (n : ℕ) × (Turns o.stream_identifier (lowered o os) n (number' o.stream_identifier) × IsAfter o.stream_identifier n sent × (n ≡ begun_on o.stream_identifier sent % 2 ^ 16))
+      here : (n : ℕ) × (Turns o.stream_identifier (lowered o os) n (number' o.stream_identifier) × IsAfter o.stream_identifier n sent ×
+          (n ≡ begun_on o.stream_identifier sent % 2 ^ 16))
       here =
           let st = o.stream_identifier in
           let t = s.queued.turns st in
           let counted : counts st o ≡ true = ap (λ b. b && o.beginning_fragment) (same-yes st) ∙ begins-it in
-          let gone = subst (λ b. Turns st (without_message o.message_id (o ∷ os)) (number_after b t.0) (number st)) counted (turns-first st id false o os t.0 (number st) s.sendable.ordered t.1.0) in
-          (lower ((t.0 + 1) % 2 ^ 16), (subst (Turns st (lowered o os) (lower ((t.0 + 1) % 2 ^ 16))) (sym lowers.here) (turns-lower st (without_message o.message_id (o ∷ os)) ((t.0 + 1) % 2 ^ 16) (number st) gone), after-lower st t.0 sent t.1.1, (let e = t.1.2 in omega (arith, e))))
+          let gone = subst (λ b. Turns st (without_message o.message_id (o ∷ os)) (number_after b t.0) (number st)) counted (turns-first st id false o os t.0 (number st) s.sendable.ordered t.1.0) in (
+            lower ((t.0 + 1) % 2 ^ 16),
+            (
+              subst (Turns st (lowered o os) (lower ((t.0 + 1) % 2 ^ 16))) (sym lowers.here)
+                  (turns-lower st (without_message o.message_id (o ∷ os)) ((t.0 + 1) % 2 ^ 16) (number st) gone),
+              after-lower st t.0 sent t.1.1,
+              (let e = t.1.2 in omega (arith, e)),
+            ),
+          )
 
-      elsewhere : (r : ℕ) → (r ≡ o.stream_identifier → ⊥) → (n : ℕ) × (Turns r (lowered o os) n (number' r) × IsAfter r n sent × (n ≡ begun_on r sent % 2 ^ 16))
+      elsewhere : (r : ℕ) → (r ≡ o.stream_identifier → ⊥)
+          → (n : ℕ) × (Turns r (lowered o os) n (number' r) × IsAfter r n sent × (n ≡ begun_on r sent % 2 ^ 16))
       elsewhere r differ =
           let t = s.queued.turns r in
           let not-on : (o.stream_identifier == r) ≡ false = fails (o.stream_identifier == r) (λ e. differ (sym (same-is o.stream_identifier r e))) in
           let uncounted : counts r o ≡ false = ap (λ b. b && o.beginning_fragment) not-on in
-          let gone = subst (λ b. Turns r (without_message o.message_id (o ∷ os)) (number_after b t.0) (number r)) uncounted (turns-first r id false o os t.0 (number r) s.sendable.ordered t.1.0) in
-          (t.0, (subst (Turns r (lowered o os) t.0) (sym (lowers.elsewhere r differ)) (turns-other r o.stream_identifier differ (without_message o.message_id (o ∷ os)) t.0 (number r) gone), t.1.1, t.1.2))
+          let gone = subst (λ b. Turns r (without_message o.message_id (o ∷ os)) (number_after b t.0) (number r)) uncounted (turns-first r id false o os t.0 (number r) s.sendable.ordered t.1.0) in (
+            t.0,
+            (
+              subst (Turns r (lowered o os) t.0) (sym (lowers.elsewhere r differ))
+                  (turns-other r o.stream_identifier differ (without_message o.message_id (o ∷ os)) t.0 (number r) gone),
+              t.1.1,
+              t.1.2,
+            ),
+          )
 
   -- the message in front, which is unsent
   front-expired : (sel : Option Selected) (os us : List ChunkPayloadData) (c : ChunkPayloadData) → next_pending (made os us sel ro ru) ≡ Some c → c.beginning_fragment ≡ true → Stands ws first number (queue sel os us) next sent → (c.unordered ≡ true → (r : ℕ) → number' r ≡ number r) → (c.unordered ≡ false → IsLower c.stream_identifier number number') → Stands ws first number' (expired_of (Some c) (queue sel os us)) next sent

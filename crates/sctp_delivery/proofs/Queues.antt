@@ -55,9 +55,11 @@ started ws first number now q next sent s = by (q.next_unstarted == q.next_messa
         line = s.queued.line;
         ordered = waits-started ws now (is_to_start q.next_unstarted) q.pending.ordered (place_of false q.pending.selected sent) s.queued.ordered;
         unordered = waits-started ws now (is_to_start q.next_unstarted) q.pending.unordered (place_of true q.pending.selected sent) s.queued.unordered;
-        turns = λ st. let t = s.queued.turns st in (t.0, (turns-started st now (is_to_start q.next_unstarted) q.pending.ordered t.0 (number st) t.1.0, t.1.1, t.1.2));
+        turns = λ st. let t = s.queued.turns st in
+            (t.0, (turns-started st now (is_to_start q.next_unstarted) q.pending.ordered t.0 (number st) t.1.0, t.1.1, t.1.2));
         indexed = s.queued.indexed;
-        ranked = ranked-changed (is_to_start q.next_unstarted) (with_deadline now) (record { message = λ c. refl; begins = λ r c. refl }) ws q.pending.ordered sent s.queued.ranked;
+        ranked = ranked-changed (is_to_start q.next_unstarted) (with_deadline now)
+            (record { message = λ c. refl; begins = λ r c. refl }) ws q.pending.ordered sent s.queued.ranked;
       };
       sendable = sendable-changed q.pending.ordered q.pending.unordered q.pending.selected q.pending.ordered_room q.pending.unordered_room q.pending.ordered_room q.pending.unordered_room q.inflight.chunks q.next_message_id (is_to_start q.next_unstarted) (is_to_start q.next_unstarted) (with_deadline now) (with_deadline now) keeps keeps s.sendable;
       known = s.known;
@@ -90,7 +92,9 @@ sends ws first number now q next sent c e s =
       stands = record {
         queued = on.2.0;
         sendable = (sendable-sent p q.inflight.chunks q.next_message_id c t refl s.sendable e).sendable;
-        known = known-inserted (fragment (data_of t) on.0 on.1 ∷ sent) chunk_before t q.inflight.chunks ((λ o. (on.0, on.1, sent, inl refl)), λ u. number-here (data_of t) on.0 on.1 sent u on.2.0.indexed.0) (known-more (fragment (data_of t) on.0 on.1) sent q.inflight.chunks s.known);
+        known = known-inserted (fragment (data_of t) on.0 on.1 ∷ sent) chunk_before t q.inflight.chunks
+            ((λ o. (on.0, on.1, sent, inl refl)), λ u. number-here (data_of t) on.0 on.1 sent u on.2.0.indexed.0)
+            (known-more (fragment (data_of t) on.0 on.1) sent q.inflight.chunks s.known);
         counted = let n = s.counted in omega (arith, n);
         begun' = begun-sent p q.inflight.chunks (insert_before chunk_before t q.inflight.chunks) q.next_message_id sent c (data_of t) on.0 on.1 refl on.2.1 e s.sendable (sendable-sent p q.inflight.chunks q.next_message_id c t refl s.sendable e).sendable
             (list_any-inserted (is_of c.message_id) chunk_before t q.inflight.chunks ∙ or-left (c.message_id == c.message_id) (list_any (is_of c.message_id) q.inflight.chunks) (same-yes c.message_id)) s.begun';
@@ -231,7 +235,12 @@ module _ (ws : List Numbered) (first : ℕ) (number : ℕ → ℕ) (q : Outbound
         stands = record {
           queued = selected q.pending.selected half s.sendable s.queued;
           sendable = sendable-abandoned q.pending q.inflight.chunks q.next_message_id m t (last_is_of m q.pending c f) e s.sendable;
-          known = known-inserted (terminal ∷ sent) chunk_before t xs ((λ o. absurd (abandoned-not t refl o)), λ u. last-number ws first number sent m c q.pending q.inflight.chunks q.next_message_id s.sendable half f s.queued u) (known-more terminal sent xs (known-changed sent (is_of m) as_abandoned abandoned-keeps q.inflight.chunks s.known));
+          known = known-inserted (terminal ∷ sent) chunk_before t xs (
+            (λ o. absurd (abandoned-not t refl o)),
+            λ u. last-number ws first number sent m c q.pending q.inflight.chunks q.next_message_id
+                s.sendable half f s.queued u,
+          ) (known-more terminal sent xs
+              (known-changed sent (is_of m) as_abandoned abandoned-keeps q.inflight.chunks s.known));
           counted = let n = s.counted in omega (arith, n);
           begun' = begun-ended (without_message m q.pending.ordered) (without_message m q.pending.unordered) q.next_message_id sent
               (begun-less q.pending.ordered q.pending.unordered (without_message m q.pending.ordered) (without_message m q.pending.unordered) q.next_message_id sent

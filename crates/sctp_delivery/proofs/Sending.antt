@@ -135,7 +135,8 @@ module _ (c : ChunkPayloadData) (tsn now : ℕ) (w : Numbered) (after : List ℕ
       ap (λ j. (j + 1) % 2 ^ 16) g.same_number ∙ a (sym g.same_kind ∙ k) same ∙ ap (λ b. number_after b n) (sym (inner-not s c g.inner))
 
   -- one that goes on has the number of the last entry, and its place
-  index-inner : (ws : List Numbered) (first m : ℕ) (xs : List Entry) → Fits ws c.tsn (data_of c) w after → IsLine ws first xs → AreIndexed xs → Goes (inside m xs) c w after → IsIndexed (data_of (as_sent tsn now c)) xs
+  index-inner : (ws : List Numbered) (first m : ℕ) (xs : List Entry) → Fits ws c.tsn (data_of c) w after → IsLine ws first xs → AreIndexed xs
+      → Goes (inside m xs) c w after → IsIndexed (data_of (as_sent tsn now c)) xs
   index-inner ws first m [] f l i g = absurd g
   index-inner ws first m (terminal ∷ xs) f l i g = absurd g
   index-inner ws first m (fragment e v rest ∷ xs) f l i g = λ k.
@@ -191,7 +192,8 @@ module _ (ws : List Numbered) (first : ℕ) (number : ℕ → ℕ) (sent : List 
             unordered = subst (Waits ws us) (sym (other-place c tsn now w after sent false sel (fragment (data_of (as_sent tsn now c)) w after ∷ sent) turn)) q.unordered;
             turns = λ s. (number_after (counts s c) (q.turns s).0, ((q.turns s).1.0.1, (λ dk on. numbered s on start), begun-so s));
             indexed = (index start, q.indexed);
-            ranked = ranked-ordered (data_of (as_sent tsn now c)) w after ws c os sent q.ranked (under start) (at-most start) (λ s. begins-ordered s (data_of (as_sent tsn now c)) kind);
+            ranked = ranked-ordered (data_of (as_sent tsn now c)) w after ws c os sent q.ranked (under start) (at-most start)
+                (λ s. begins-ordered s (data_of (as_sent tsn now c)) kind);
           }),
           placed c tsn now w after sent (place_of false sel sent) q.ordered.2.1.0,
         ),
