@@ -1,6 +1,6 @@
 -- A worked session, by computation: a message of one byte is written, sent, taken, read and acknowledged.
-use Rattle.std.proofs.Common.{◌≡◌, ℕ, Bool, true, false, List, [], ◌∷◌, Some, None, refl, ap, arith}
-use Rattle.std.specs.Prelude.{if◌then◌else◌, ◌==◌}
+use Rattle.std.proofs.Common.{◌≡◌, ℕ, ◌<◌, Bool, true, false, List, [], ◌∷◌, Some, None, refl, ap, arith}
+use Rattle.std.specs.Prelude.{AllPairs, if◌then◌else◌, ◌==◌}
 use Rattle.sctp_list_lemmas.specs.Lists.{change_where}
 use Rattle.sctp_list_lemmas.specs.Serial.{at_or_before, at_or_before16, comes_before, comes_before16, distance, distance16}
 use Rattle.sctp_list_lemmas.proofs.Cases.{some-same}
@@ -26,6 +26,8 @@ use Rattle.sctp_sender.specs.Sender.{Transmission, after_abandon, after_acked, o
 use Rattle.sctp_sender.specs.SenderRuns.{held_by_sender}
 use Rattle.sctp_sender.specs.Thresholds.{with_lows}
 use Rattle.sctp_stream.specs.Stream.{new_stream}
+use Rattle.sctp_receiver.specs.ReceiverRuns.{Message}
+use Rattle.sctp_delivery.specs.Order.{ordered_places}
 use Rattle.sctp_delivery.specs.ReceiverCalls as incoming
 use Rattle.sctp_delivery.specs.ReceiverCalls.{reads, reports, takes}
 use Rattle.sctp_delivery.specs.Sacks.{is_reported, reports_tsn, tsns_given, was_passed, was_taken}
@@ -253,3 +255,23 @@ passed = refl
 
 abandoned : skipped.sending.sender.flight.queue.inflight.chunks ≡ record chunk { since = Some 5; nsent = 1; reliability = Some (Reliable, 0); abandoned = true; user_data = [] } ∷ []
 abandoned = refl
+
+-- ## The order of what is read
+
+abbrev of_chunk : ChunkPayloadData → Message
+of_chunk c = record { stream = 1; fragments = c ∷ [] }
+
+-- an ordered message, an unordered one and an ordered one were read
+abbrev three : List Message
+three = of_chunk chunk ∷ of_chunk (record chunk { unordered = true }) ∷ of_chunk chunk ∷ []
+
+-- the places of the ordered ones; on another stream there is none
+places-here : ordered_places 1 three (0 ∷ 1 ∷ 2 ∷ []) ≡ 0 ∷ 2 ∷ []
+places-here = refl
+
+places-elsewhere : ordered_places 2 three (0 ∷ 1 ∷ 2 ∷ []) ≡ []
+places-elsewhere = refl
+
+-- the write at place 2 is older than that at place 0, so it may not be read later
+not-in-order : AllPairs (λ p q. p < q) (2 ∷ 0 ∷ []) → ⊥
+not-in-order h = let lt = h 0 1 0 (omega arith) (omega arith) in omega (arith, lt)
