@@ -39,4 +39,5 @@ pub mod OnceWritten
 pub mod OrderedReads
 pub mod OrderedCalls
 pub mod OrderedLaw
+pub mod OrderedNext
 mod Examples

@@ -2,6 +2,7 @@
 use Rattle.std.proofs.Common.{◌≡◌, ℕ, ◌+◌, ◌^◌, ◌<◌, true, List, [], ◌∷◌, ◌++◌, Option, Some, None, refl, ap, sym, subst, ◌∙◌, arith, Result, Ok, Err}
 use Rattle.std.specs.Prelude.{IfOk, IfSome, IsOk, option_map}
 use Rattle.sctp_list_lemmas.specs.Serial.{distance}
+use Rattle.sctp_data.specs.declared.chunk.chunk_payload_data.ChunkPayloadData.{ChunkPayloadData}
 use Rattle.sctp_data.specs.ChunkSet.{ChunkSet}
 use Rattle.sctp_reassembly.specs.declared.reassembly_queue.chunks.Chunks.{Chunks}
 use Rattle.sctp_reassembly.specs.reassembly_queue.ReassemblyQueue.{at_start as start_of}
@@ -16,22 +17,22 @@ use Rattle.sctp_delivery.proofs.Delivered as delivered
 use Rattle.sctp_delivery.proofs.Delivered.{next_tsn}
 
 -- one call more
-run-then : (cs : List Call) (c : Call) (old mid new : Session) → RunsTo old cs mid → Follows c mid new → RunsTo old (cs ++ c ∷ []) new
+pub run-then : (cs : List Call) (c : Call) (old mid new : Session) → RunsTo old cs mid → Follows c mid new → RunsTo old (cs ++ c ∷ []) new
 run-then [] c old mid new r f = (new, (subst (λ s. Follows c s new) r f, refl))
 run-then (d ∷ cs) c old mid new r f = (r.0, (r.1.0, run-then cs c r.0 mid new r.1.1 f))
 
-given-then : (cs : List Call) (c : Call) (old mid new : Session) (r : RunsTo old cs mid) (f : Follows c mid new) → tsns_given old (cs ++ c ∷ []) new (run-then cs c old mid new r f) ≡ tsns_given old cs mid r + distance (next_tsn mid) (next_tsn new)
+pub given-then : (cs : List Call) (c : Call) (old mid new : Session) (r : RunsTo old cs mid) (f : Follows c mid new) → tsns_given old (cs ++ c ∷ []) new (run-then cs c old mid new r f) ≡ tsns_given old cs mid r + distance (next_tsn mid) (next_tsn new)
 unfolding run-then
 given-then [] c old mid new r f = let e = ap (λ s. distance (next_tsn s) (next_tsn new)) r in omega (arith, e)
 given-then (d ∷ cs) c old mid new r f = let e = given-then cs c r.0 mid new r.1.1 f in omega (arith, e)
 
 -- no way from a TSN to itself, or all the way round
-no-way : (n : ℕ) → n < 2 ^ 32 → distance n n ≡ 0
+pub no-way : (n : ℕ) → n < 2 ^ 32 → distance n n ≡ 0
 unfolding distance
 no-way n small = omega (arith, small)
 
 -- after a read
-read_of : ℕ → Session → Session
+unfoldable pub read_of : ℕ → Session → Session
 read_of stream s = record s {
   receiving = record s.receiving {
     receiver = after_read stream s.receiving.receiver;
@@ -39,7 +40,7 @@ read_of stream s = record s {
   };
 }
 
-reads-on : (stream : ℕ) (s : Session) → is_open stream s.receiving.receiver ≡ true → ReceiverFollows (reads stream) s (read_of stream s)
+pub reads-on : (stream : ℕ) (s : Session) → is_open stream s.receiving.receiver ≡ true → ReceiverFollows (reads stream) s (read_of stream s)
 unfolding read_of
 reads-on stream s e = record { handed = tt; step = record { receiver = refl; accepted = refl; read = refl }; accepted = e; after = refl }
 
@@ -56,10 +57,16 @@ read-next r stream set open' message tsn size max most limits cs s small some ru
     (subst (λ ms. delivered.AllWrites s.written ms) read law) 0 m (omega arith)
 
 -- what the call answers
-pub answers-write : (r : Reception) (stream : ℕ) (o : Result (Option Chunks) ReceiverRefusal) → IfOk o (λ message. message ≡ option_map start_of (message_on stream r)) → (IsOk o → is_open stream r ≡ true) → IfOk o (λ message. IfSome message (λ chunks. WhileTsnsLast (IsReadIn r stream chunks.set.chunks)))
-answers-write r stream (Err e) m a = tt
-answers-write r stream (Ok v) m a = by (message_on stream r) refl m
+pub answers : (P : List ChunkPayloadData → Type 0) (r : Reception) (stream : ℕ) (o : Result (Option Chunks) ReceiverRefusal)
+    → ((set : ChunkSet) → is_open stream r ≡ true → message_on stream r ≡ Some set → P set.chunks)
+    → IfOk o (λ message. message ≡ option_map start_of (message_on stream r)) → (IsOk o → is_open stream r ≡ true)
+    → IfOk o (λ message. IfSome message (λ chunks. P chunks.set.chunks))
+answers P r stream (Err e) h m a = tt
+answers P r stream (Ok v) h m a = by (message_on stream r) refl m
   where
-    by : (o : Option ChunkSet) → message_on stream r ≡ o → v ≡ option_map start_of o → IfSome v (λ chunks. WhileTsnsLast (IsReadIn r stream chunks.set.chunks))
-    by None e is = subst (λ x. IfSome x (λ chunks. WhileTsnsLast (IsReadIn r stream chunks.set.chunks))) (sym is) tt
-    by (Some set) e is = subst (λ x. IfSome x (λ chunks. WhileTsnsLast (IsReadIn r stream chunks.set.chunks))) (sym is) (read-next r stream set (a refl) e)
+    by : (o : Option ChunkSet) → message_on stream r ≡ o → v ≡ option_map start_of o → IfSome v (λ chunks. P chunks.set.chunks)
+    by None e is = subst (λ x. IfSome x (λ chunks. P chunks.set.chunks)) (sym is) tt
+    by (Some set) e is = subst (λ x. IfSome x (λ chunks. P chunks.set.chunks)) (sym is) (h set (a refl) e)
+
+pub answers-write : (r : Reception) (stream : ℕ) (o : Result (Option Chunks) ReceiverRefusal) → IfOk o (λ message. message ≡ option_map start_of (message_on stream r)) → (IsOk o → is_open stream r ≡ true) → IfOk o (λ message. IfSome message (λ chunks. WhileTsnsLast (IsReadIn r stream chunks.set.chunks)))
+answers-write r stream o m a = answers (λ cs. WhileTsnsLast (IsReadIn r stream cs)) r stream o (read-next r stream) m a

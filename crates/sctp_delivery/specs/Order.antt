@@ -1,7 +1,9 @@
 -- In which order ordered messages are read (RFC 4960 6.6): on each stream in that of their writes, while stream sequence numbers last.
-use Rattle.std.specs.Prelude.{◌≢◌, AllPairs, ℕ, ◌^◌, ◌<◌, ◌≤◌, ◌==◌, Bool, not, ◌&&◌, if◌then◌else◌, List, [], ◌∷◌, length, Option}
+use Rattle.std.specs.Prelude.{◌≡◌, ◌≢◌, AllPairs, ℕ, ◌^◌, ◌<◌, ◌≤◌, ◌==◌, Bool, not, ◌&&◌, if◌then◌else◌, List, [], ◌∷◌, length, Option}
 use Rattle.std.specs.List.{filter, list_all}
+use Rattle.sctp_data.specs.declared.chunk.chunk_payload_data.ChunkPayloadData.{ChunkPayloadData}
 use Rattle.sctp_receiver.specs.declared.receiver.limits.Limits.{Limits}
+use Rattle.sctp_receiver.specs.Receiver.{Reception}
 use Rattle.sctp_receiver.specs.ReceiverRuns.{Message}
 use Rattle.sctp_delivery.specs.Messages.{StandAt}
 use Rattle.sctp_delivery.specs.Sacks.{tsns_given}
@@ -44,3 +46,13 @@ AreReadInOrder s =
     × AllPairs (λ p q. p ≢ q) places
     × ((stream : ℕ) → AllPairs (λ p q. p < q)
     (ordered_places stream s.receiving.read places))
+
+-- where the receiver of the session is this one: with these fragments, read next on a stream, messages are read in order still
+abbrev pub IsNextIn : Reception → ℕ → List ChunkPayloadData → Session → Type 0
+IsNextIn r stream cs s =
+    s.receiving.receiver ≡ r
+    → AreReadInOrder (record s {
+      receiving = record s.receiving {
+        read = record { stream = stream; fragments = cs } ∷ s.receiving.read;
+      };
+    })

@@ -3,6 +3,7 @@
 
 pub mod arrived;
 pub mod drained;
+pub mod in_order;
 pub mod laws;
 pub mod receiver_steps;
 pub mod sacks;
