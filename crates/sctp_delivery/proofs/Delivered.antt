@@ -38,7 +38,7 @@ record Holds (first : ℕ) (s : Session) (ns : List Numbered) (sent : List Entry
   placed : AreNumbered ns
 
 -- a TSN for each entry
-counted : (first : ℕ) (sent more : List Entry) (a b : ℕ) → a ≡ (first + length sent) % 2 ^ 32 → b ≡ (first + length more) % 2 ^ 32 → IsOnceMore sent more → length more ≤ length sent + distance a b
+pub counted : (first : ℕ) (sent more : List Entry) (a b : ℕ) → a ≡ (first + length sent) % 2 ^ 32 → b ≡ (first + length more) % 2 ^ 32 → IsOnceMore sent more → length more ≤ length sent + distance a b
 unfolding distance
 counted first sent more a b e f (inl same) = let n = ap length same in omega (arith, n)
 counted first sent more a b e f (inr x) = let n = ap length x.1 in omega (arith, n, e, f)
@@ -123,16 +123,16 @@ found-sent sent ms d a c = at ms c.0 c.1 c.2 a
     at (forward_tsn f ∷ ms) (suc k) lt e a = at ms k (omega (arith, lt)) e a.1
 
 -- each of these chunks got a TSN
-abbrev EachSent : List Entry → List ChunkPayloadData → Type 0
+abbrev pub EachSent : List Entry → List ChunkPayloadData → Type 0
 EachSent sent [] = ⊤
 EachSent sent (c ∷ cs) = WasSent sent (data_of c) × EachSent sent cs
 
-each-sent : (sent : List Entry) (ms : List Made) (cs : List ChunkPayloadData) → AreSent sent ms → All (λ c. Contains ms (data_chunk (data_of c))) cs → EachSent sent cs
+pub each-sent : (sent : List Entry) (ms : List Made) (cs : List ChunkPayloadData) → AreSent sent ms → All (λ c. Contains ms (data_chunk (data_of c))) cs → EachSent sent cs
 each-sent sent ms [] a all = tt
 each-sent sent ms (c ∷ cs) a all = (found-sent sent ms (data_of c) a (all 0 c (omega arith)), each-sent sent ms cs a (λ k d lt. all (suc k) d (omega (arith, lt))))
 
 -- behind the first one a chunk that begins a message is alike the one before it: ordered, of the same stream and number
-abbrev AreInner : ChunkPayloadData → List ChunkPayloadData → Type 0
+abbrev pub AreInner : ChunkPayloadData → List ChunkPayloadData → Type 0
 AreInner c [] = ⊤
 AreInner c (d ∷ ds) =
     (d.beginning_fragment ≡ true → (d.unordered ≡ false) × (c.unordered ≡ false) × (d.stream_identifier ≡ c.stream_identifier) × (d.stream_sequence_number ≡ c.stream_sequence_number))
@@ -163,7 +163,7 @@ all-like x k c (d ∷ ds) i e =
     } in
     (λ _. (j.ordered, i.ordered, j.same_stream ∙ sym i.same_stream, j.same_number ∙ sym i.same_number), all-like x k d ds j b.1)
 
-inner-of : (x : ChunkPayloadData) (ys : List ChunkPayloadData) → is_one_message (x ∷ ys) ≡ true → AreInner x ys
+pub inner-of : (x : ChunkPayloadData) (ys : List ChunkPayloadData) → is_one_message (x ∷ ys) ≡ true → AreInner x ys
 inner-of x ys e = let b = both (list_all (is_like x) ys) (rest x.unordered) e in by x.unordered refl b.0 b.1
   where
     rest : Bool → Bool

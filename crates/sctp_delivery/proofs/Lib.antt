@@ -40,4 +40,11 @@ pub mod OrderedReads
 pub mod OrderedCalls
 pub mod OrderedLaw
 pub mod OrderedNext
+pub mod ShortNumbers
+pub mod KeptSets
+pub mod Kept
+pub mod Chains
+pub mod Ranges
+pub mod AllBegun
+pub mod EachRead
 mod Examples

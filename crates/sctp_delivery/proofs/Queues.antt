@@ -80,6 +80,7 @@ pub record IsSent (ws : List Numbered) (first : ℕ) (number : ℕ → ℕ) (q :
   pub write : Numbered
   pub after : List ℕ
   pub stands : Stands ws first number (sent_of (Some c) q next now) (following_tsn next) (fragment (data_of (as_sent next now c)) write after ∷ sent)
+  pub place : c.beginning_fragment ≡ true → write.place ≡ c.message_id
 
 pub sends : (ws : List Numbered) (first : ℕ) (number : ℕ → ℕ) (now : ℕ) (q : Outbound) (next : ℕ) (sent : List Entry) (c : ChunkPayloadData) → next_pending q.pending ≡ Some c → Stands ws first number q next sent → IsSent ws first number q next now sent c
 sends ws first number now q next sent c e s =
@@ -100,6 +101,7 @@ sends ws first number now q next sent c e s =
             (list_any-inserted (is_of c.message_id) chunk_before t q.inflight.chunks ∙ or-left (c.message_id == c.message_id) (list_any (is_of c.message_id) q.inflight.chunks) (same-yes c.message_id)) s.begun';
         ids = s.ids;
       };
+      place = on.2.1;
     }
 
 -- ## Abandonment

@@ -18,13 +18,13 @@ use Rattle.sctp_delivery.proofs.Sessions.{each-read, none-fails, receiver-runs, 
 
 -- ## How often a TSN stands in a list
 
-abbrev one : ℕ → ChunkPayloadData → ℕ
+abbrev pub one : ℕ → ChunkPayloadData → ℕ
 one t c = if has_tsn t c then 1 else 0
 
-abbrev count : ℕ → List ChunkPayloadData → ℕ
+abbrev pub count : ℕ → List ChunkPayloadData → ℕ
 count t cs = sum_by (one t) cs
 
-none-count : (t : ℕ) (cs : List ChunkPayloadData) → list_any (has_tsn t) cs ≡ false → count t cs ≡ 0
+pub none-count : (t : ℕ) (cs : List ChunkPayloadData) → list_any (has_tsn t) cs ≡ false → count t cs ≡ 0
 none-count t [] e = refl
 none-count t (c ∷ cs) e = by (has_tsn t c) refl e (none-count t cs)
   where
@@ -35,7 +35,7 @@ none-count t (c ∷ cs) e = by (has_tsn t c) refl e (none-count t cs)
     by true i h ih = absurd (not_both (sym h))
     by false i h ih = let z = ih h in let o : one t c ≡ 0 = ap (λ b. if b then 1 else 0) i in omega (arith, more, z, o)
 
-count-none : (t : ℕ) (cs : List ChunkPayloadData) → count t cs ≡ 0 → list_any (has_tsn t) cs ≡ false
+pub count-none : (t : ℕ) (cs : List ChunkPayloadData) → count t cs ≡ 0 → list_any (has_tsn t) cs ≡ false
 count-none t [] e = refl
 count-none t (c ∷ cs) e = by (has_tsn t c) refl (count-none t cs)
   where

@@ -77,13 +77,13 @@ pub part-itself : (xs : List Entry) → IsPart xs xs
 part-itself [] = refl
 part-itself (x ∷ xs) = inl refl
 
-part-length : (xs ys : List Entry) → IsPart ys xs → length ys ≤ length xs
+pub part-length : (xs ys : List Entry) → IsPart ys xs → length ys ≤ length xs
 part-length [] ys p = let e = ap length p in omega (arith, e)
 part-length (x ∷ xs) ys (inl e) = let n = ap length e in omega (arith, n)
 part-length (x ∷ xs) ys (inr p) = let n = part-length xs ys p in omega (arith, n)
 
 -- as many entries are the same ones
-same-parts : (xs ys zs : List Entry) → IsPart ys xs → IsPart zs xs → length ys ≡ length zs → ys ≡ zs
+pub same-parts : (xs ys zs : List Entry) → IsPart ys xs → IsPart zs xs → length ys ≡ length zs → ys ≡ zs
 same-parts [] ys zs p q e = p ∙ sym q
 same-parts (x ∷ xs) ys zs (inl p) (inl q) e = p ∙ sym q
 same-parts (x ∷ xs) ys zs (inl p) (inr q) e = let m = ap length p in let n = part-length xs zs q in absurd (omega (arith, m, n, e))

@@ -4,3 +4,4 @@ pub mod Session
 pub mod Sacks
 pub mod Messages
 pub mod Order
+pub mod Complete

@@ -1,5 +1,6 @@
 //! What holds of every session of two hosts: laws, each the contract of a function that does nothing.
 
+pub mod complete;
 pub mod messages;
 
 ghost use Rattle.sctp_delivery.specs.Session.{AfterEachSession, AreMade, AreMessages, AreRuns, IsAccounted};

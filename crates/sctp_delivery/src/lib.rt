@@ -8,3 +8,4 @@ pub mod laws;
 pub mod receiver_steps;
 pub mod sacks;
 pub mod sender_steps;
+pub mod settled;

@@ -43,7 +43,7 @@ found-number s (l ∷ ls) x e = by (number l == s) refl e (found-number s ls x)
     by false h e ih = ih e
 
 -- after a change of one stream, which keeps its number
-found-changed : (s st : ℕ) (f : InboundStream → InboundStream) → ((l : InboundStream) → (number l == s) ≡ true → number (f l) ≡ number l) → (ls : List InboundStream) → find (has_number st) (change_where (has_number s) f ls) ≡ option_map (λ l. if has_number s l then f l else l) (find (has_number st) ls)
+pub found-changed : (s st : ℕ) (f : InboundStream → InboundStream) → ((l : InboundStream) → (number l == s) ≡ true → number (f l) ≡ number l) → (ls : List InboundStream) → find (has_number st) (change_where (has_number s) f ls) ≡ option_map (λ l. if has_number s l then f l else l) (find (has_number st) ls)
 found-changed s st f keeps [] = refl
 found-changed s st f keeps (l ∷ ls) = by (number l == s) refl (number l == st) refl (found-changed s st f keeps ls)
   where
@@ -214,7 +214,7 @@ quiet old new s a r less = record {
 
 -- ## A chunk is taken
 
-taken-more : (w : ChunkPayloadData → ℕ) (st : ℕ) (c : ChunkPayloadData) (cs : List ChunkPayloadData) (b : Bool) → is_on st c ≡ b → sum_by w (filter (is_on st) (c ∷ cs)) ≡ (if b then w c else 0) + sum_by w (filter (is_on st) cs)
+pub taken-more : (w : ChunkPayloadData → ℕ) (st : ℕ) (c : ChunkPayloadData) (cs : List ChunkPayloadData) (b : Bool) → is_on st c ≡ b → sum_by w (filter (is_on st) (c ∷ cs)) ≡ (if b then w c else 0) + sum_by w (filter (is_on st) cs)
 taken-more w st c cs b e = ap (λ t. sum_by w (if t then c ∷ filter (is_on st) cs else filter (is_on st) cs)) e ∙ by b
   where
     by : (b : Bool) → sum_by w (if b then c ∷ filter (is_on st) cs else filter (is_on st) cs) ≡ (if b then w c else 0) + sum_by w (filter (is_on st) cs)
@@ -286,7 +286,7 @@ taken-valid c told old new s a e r = record {
 
 -- ## A message is read
 
-read-more : (w : ChunkPayloadData → ℕ) (st s : ℕ) (m : Option ChunkSet) (ms : List Message) → sum_by w (fragments_read st (with_message s m ms)) ≡ (if s == st then message_weight w m else 0) + sum_by w (fragments_read st ms)
+pub read-more : (w : ChunkPayloadData → ℕ) (st s : ℕ) (m : Option ChunkSet) (ms : List Message) → sum_by w (fragments_read st (with_message s m ms)) ≡ (if s == st then message_weight w m else 0) + sum_by w (fragments_read st ms)
 read-more w st s None ms = by (s == st)
   where
     by : (b : Bool) → sum_by w (fragments_read st ms) ≡ (if b then 0 else 0) + sum_by w (fragments_read st ms)

@@ -92,7 +92,7 @@ module _ (w : ChunkPayloadData → ℕ) where
       let h = ap (sum_by w) (dropped t.first t.count xs) in
       ap weight t.moved ∙ omega arith
 
-  becomes : (xs : List ChunkPayloadData) (old new : Reassembly) (complete : Bool) → BecomesComplete xs old new complete → weight new ≡ sum_by set_weight old.ordered + sum_by set_weight old.unordered + sum_by w xs
+  pub becomes : (xs : List ChunkPayloadData) (old new : Reassembly) (complete : Bool) → BecomesComplete xs old new complete → weight new ≡ sum_by set_weight old.ordered + sum_by set_weight old.unordered + sum_by w xs
   becomes xs old new true t = run-taken xs old new t
   becomes xs old new false t = ap weight t.1
 

@@ -1,0 +1,226 @@
+-- The sets of ordered messages, where no FORWARD-TSN comes: none stands before the next number, so that no fragment is dropped.
+use Rattle.std.proofs.Common.{◌≡◌, ℕ, ◌+◌, ◌%◌, ◌^◌, ◌<◌, ◌≤◌, Bool, true, false, List, [], ◌∷◌, Some, None, refl, ap, sym, subst, ◌∙◌, arith}
+use Rattle.std.specs.Prelude.{⊤, ◌==◌, ◌||◌, if◌then◌else◌, nat_lt, nat_le}
+use Rattle.std.specs.List.{list_any, sum_by}
+use Rattle.std.proofs.lemmas.Bool.Decides.{nat_tests}
+use Rattle.std.proofs.lemmas.List.Sums.{sum_by-cons}
+use Rattle.sctp_list_lemmas.specs.Lists.{change_first, insert_before}
+use Rattle.sctp_list_lemmas.specs.Serial.{at_or_before16, comes_before16, distance16}
+use Rattle.sctp_list_lemmas.proofs.Cases.{same-yes}
+use Rattle.sctp_list_lemmas.proofs.Edits.{sum_by-inserted}
+use Rattle.sctp_list_lemmas.proofs.More.{both, not_both}
+use Rattle.sctp_list_lemmas.proofs.Wraps.{at_or_before16-index, comes_before16-index, next16}
+use Rattle.sctp_data.specs.declared.chunk.chunk_payload_data.ChunkPayloadData.{ChunkPayloadData}
+use Rattle.sctp_data.specs.ChunkSet.{ChunkSet}
+use Rattle.sctp_reassembly.specs.reassembly_queue.Fragments.{has_ssn, is_complete, new_set, set_before, sets_with, with_chunk}
+use Rattle.sctp_reassembly.specs.reassembly_queue.ReassemblyQueue.{Reassembly, after_read, front_readable, held_after_ordered_push, is_readable, rest_among, rest_read, without_first}
+use Rattle.sctp_receiver.specs.Ssns.{is_ssn_too_far, lowest_among, lowest_ssn}
+use Rattle.sctp_receiver.proofs.Weights.{set_weight}
+use Rattle.sctp_serial.specs.DataChunks.{chunk_before, has_tsn}
+use Rattle.sctp_delivery.proofs.Every.{Every}
+
+-- ## Numbers by their index
+
+-- the number of a set is that of an index from the lowest one on and below the top
+abbrev pub IsAt : ℕ → ℕ → ℕ → ChunkSet → Type 0
+IsAt low top k s = (low ≤ k) × (k < top) × (s.ssn ≡ k % 2 ^ 16)
+
+-- from set to set the index rises
+abbrev pub Rise : ℕ → ℕ → List ChunkSet → Type 0
+Rise low top [] = ⊤
+Rise low top (s ∷ ss) = (k : ℕ) × IsAt low top k s × Rise (k + 1) top ss
+
+-- so many messages were read, and each set is of one that is still to be read, less than half the circle on
+pub record IsInTurn (q : Reassembly) : Type 0 where
+  pub index : ℕ
+  pub next : q.next_ssn ≡ index % 2 ^ 16
+  pub rise : Rise index (index + 2 ^ 15) q.ordered
+
+pub rise-wider : (low top more : ℕ) (ss : List ChunkSet) → top ≤ more → Rise low top ss → Rise low more ss
+rise-wider low top more [] le r = tt
+rise-wider low top more (s ∷ ss) le r = let b = r.1.1 in (r.0, (r.1.0, omega (arith, b, le), r.1.2), rise-wider (r.0 + 1) top more ss le r.2)
+
+rise-from : (low less top : ℕ) (ss : List ChunkSet) → less ≤ low → Rise low top ss → Rise less top ss
+rise-from low less top [] le r = tt
+rise-from low less top (s ∷ ss) le r = let a = r.1.0 in (r.0, (omega (arith, a, le), r.1.1, r.1.2), r.2)
+
+-- ## A fragment comes
+
+-- where it is not too far on, it is of such an index
+pub record IsNear (i ssn : ℕ) : Type 0 where
+  pub place : ℕ
+  pub low : i ≤ place
+  pub top : place < i + 2 ^ 15
+  pub is : ssn ≡ place % 2 ^ 16
+
+lowest-is : (i : ℕ) (ss : List ChunkSet) → Rise i (i + 2 ^ 15) ss → lowest_among (i % 2 ^ 16) ss ≡ i % 2 ^ 16
+lowest-is i [] r = refl
+lowest-is i (s ∷ ss) r = by (at_or_before16 s.ssn (i % 2 ^ 16)) refl
+  where
+    k : ℕ
+    k = r.0
+
+    by : (b : Bool) → at_or_before16 s.ssn (i % 2 ^ 16) ≡ b → (if b then s.ssn else i % 2 ^ 16) ≡ i % 2 ^ 16
+    by false e = refl
+    by true e =
+        let low = r.1.0 in
+        let top = r.1.1 in
+        let order : nat_le k i ≡ true = sym (at_or_before16-index k i (omega (arith, top)) (omega (arith, low))) ∙ ap (λ n. at_or_before16 n (i % 2 ^ 16)) (sym r.1.2) ∙ e in
+        let le : k ≤ i = grind (arith, nat_tests, order) in
+        let same : k ≡ i = omega (arith, le, low) in
+        r.1.2 ∙ ap (λ n. n % 2 ^ 16) same
+
+index-of : (i ssn : ℕ) → ssn < 2 ^ 16 → distance16 (i % 2 ^ 16) ssn < 2 ^ 15 → IsNear i ssn
+unfolding distance16
+index-of i ssn small near = record { place = i + distance16 (i % 2 ^ 16) ssn; low = omega arith; top = omega (arith, near); is = omega (arith, small) }
+
+pub near-of : (ssn : ℕ) (q : Reassembly) → ssn < 2 ^ 16 → (t : IsInTurn q) → is_ssn_too_far ssn q ≡ false → IsNear t.index ssn
+near-of ssn q small t e =
+    let lowest : lowest_ssn q ≡ t.index % 2 ^ 16 = ap (λ n. lowest_among n q.ordered) t.next ∙ lowest-is t.index q.ordered t.rise in
+    let far : nat_le (2 ^ 15) (distance16 (t.index % 2 ^ 16) ssn) ≡ false = ap (λ n. nat_le (2 ^ 15) (distance16 n ssn)) (sym lowest) ∙ e in
+    let near : distance16 (t.index % 2 ^ 16) ssn < 2 ^ 15 = grind (arith, nat_tests, far) in
+    index-of t.index ssn small near
+
+-- it does not come before the next number
+pub not-before : (i ssn next : ℕ) → next ≡ i % 2 ^ 16 → IsNear i ssn → comes_before16 ssn next ≡ false
+not-before i ssn next e n =
+    let low = n.low in
+    let top = n.top in
+    let past : nat_lt n.place i ≡ false = grind (arith, nat_tests, low) in
+    ap (λ k. comes_before16 k next) n.is ∙ ap (comes_before16 (n.place % 2 ^ 16)) e ∙ comes_before16-index n.place i (omega (arith, top)) (omega (arith, low)) ∙ past
+
+rise-changed : (low top : ℕ) (p : ChunkSet → Bool) (x : ChunkPayloadData) (ss : List ChunkSet) → Rise low top ss → Rise low top (change_first p (with_chunk x) ss)
+rise-changed low top p x [] r = tt
+rise-changed low top p x (s ∷ ss) r = by (p s) (rise-changed (r.0 + 1) top p x ss r.2)
+  where
+    by : (b : Bool) → Rise (r.0 + 1) top (change_first p (with_chunk x) ss) → Rise low top (if b then with_chunk x s ∷ ss else s ∷ change_first p (with_chunk x) ss)
+    by true ih = (r.0, (r.1.0, r.1.1, r.1.2), r.2)
+    by false ih = (r.0, (r.1.0, r.1.1, r.1.2), ih)
+
+none-after : (b c : Bool) → (b || c) ≡ false → c ≡ false
+none-after true c e = absurd (not_both (sym e))
+none-after false c e = e
+
+rise-inserted : (low top k : ℕ) (x : ChunkSet) (ss : List ChunkSet) → top ≤ low + 2 ^ 15 → IsAt low top k x → list_any (has_ssn x.ssn) ss ≡ false → Rise low top ss → Rise low top (insert_before set_before x ss)
+rise-inserted low top k x [] near at none r = (k, at, tt)
+rise-inserted low top k x (s ∷ ss) near at none r = by (set_before x s) refl (λ n a. rise-inserted (r.0 + 1) top k x ss n a (none-after (s.ssn == x.ssn) (list_any (has_ssn x.ssn) ss) none) r.2)
+  where
+    j : ℕ
+    j = r.0
+
+    order : set_before x s ≡ nat_lt k j
+    order =
+        let a = at.0 in
+        let b = at.1 in
+        let c = r.1.0 in
+        let d = r.1.1 in
+        ap (λ n. comes_before16 n s.ssn) at.2 ∙ ap (comes_before16 (k % 2 ^ 16)) r.1.2 ∙ comes_before16-index k j (omega (arith, a, b, c, d, near)) (omega (arith, a, b, c, d, near))
+
+    other : s.ssn ≡ x.ssn → ⊥
+    other e = not_both (sym none ∙ ap (λ b. b || list_any (has_ssn x.ssn) ss) (ap (λ n. n == x.ssn) e ∙ same-yes x.ssn))
+
+    by : (b : Bool) → set_before x s ≡ b → (top ≤ r.0 + 1 + 2 ^ 15 → IsAt (r.0 + 1) top k x → Rise (r.0 + 1) top (insert_before set_before x ss)) → Rise low top (if b then x ∷ s ∷ ss else s ∷ insert_before set_before x ss)
+    by true e ih =
+        let lt : nat_lt k j ≡ true = sym order ∙ e in
+        let less : k < j = grind (arith, nat_tests, lt) in
+        (k, at, (j, (omega (arith, less), r.1.1, r.1.2), r.2))
+    by false e ih =
+        let ge : nat_lt k j ≡ false = sym order ∙ e in
+        let le : j ≤ k = grind (arith, nat_tests, ge) in
+        let differ : k ≡ j → ⊥ = λ same. other (r.1.2 ∙ ap (λ n. n % 2 ^ 16) (sym same) ∙ sym at.2) in
+        let lt : j < k = strictly le differ in
+        let c = r.1.0 in
+        (j, r.1, ih (omega (arith, near, c)) (omega (arith, lt), at.1, at.2))
+      where
+        strictly : j ≤ k → (k ≡ j → ⊥) → j < k
+        strictly le differ = by-order (nat_lt j k) refl
+          where
+            by-order : (b : Bool) → nat_lt j k ≡ b → j < k
+            by-order true f = grind (arith, nat_tests, f)
+            by-order false f = let ge : k ≤ j = grind (arith, nat_tests, f) in absurd (differ (omega (arith, le, ge)))
+
+rise-with : (low top k : ℕ) (x : ChunkPayloadData) (ss : List ChunkSet) → top ≤ low + 2 ^ 15 → IsAt low top k (new_set x) → Rise low top ss → Rise low top (sets_with x ss)
+rise-with low top k x ss near at r = by (list_any (has_ssn x.stream_sequence_number) ss) refl
+  where
+    by : (b : Bool) → list_any (has_ssn x.stream_sequence_number) ss ≡ b → Rise low top (if b then change_first (has_ssn x.stream_sequence_number) (with_chunk x) ss else insert_before set_before (new_set x) ss)
+    by true e = rise-changed low top (has_ssn x.stream_sequence_number) x ss r
+    by false e = rise-inserted low top k (new_set x) ss near at e r
+
+-- it is put in
+pub put-in : (x : ChunkPayloadData) (q : Reassembly) (t : IsInTurn q) → IsNear t.index x.stream_sequence_number → held_after_ordered_push x q ≡ record q { ordered = sets_with x q.ordered }
+put-in x q t n = ap (λ b. if b then q else record q { ordered = sets_with x q.ordered }) (not-before t.index x.stream_sequence_number q.next_ssn t.next n)
+
+pub put-in-turn : (x : ChunkPayloadData) (q : Reassembly) (t : IsInTurn q) → IsNear t.index x.stream_sequence_number → IsInTurn (held_after_ordered_push x q)
+put-in-turn x q t n =
+    subst IsInTurn (sym (put-in x q t n)) (record {
+      index = t.index;
+      next = t.next;
+      rise = rise-with t.index (t.index + 2 ^ 15) n.place x q.ordered (omega arith) (n.low, n.top, n.is) t.rise;
+    })
+
+-- ## What it weighs
+
+module _ (w : ChunkPayloadData → ℕ) (x : ChunkPayloadData) where
+  chunk-more : (s : ChunkSet) → list_any (has_tsn x.tsn) s.chunks ≡ false → set_weight w (with_chunk x s) ≡ set_weight w s + w x
+  chunk-more s e =
+      let m = sum_by-inserted w chunk_before x s.chunks in
+      let is = ap (λ b. sum_by w (if b then s.chunks else insert_before chunk_before x s.chunks)) e in
+      omega (arith, m, is)
+
+  first-more : (p : ChunkSet → Bool) (ss : List ChunkSet) → list_any p ss ≡ true → Every (λ (s : ChunkSet). list_any (has_tsn x.tsn) s.chunks ≡ false) ss → sum_by (set_weight w) (change_first p (with_chunk x) ss) ≡ sum_by (set_weight w) ss + w x
+  first-more p [] e h = absurd (not_both e)
+  first-more p (s ∷ ss) e h = by (p s) e (λ f. first-more p ss f h.1)
+    where
+      by : (b : Bool) → (b || list_any p ss) ≡ true → (list_any p ss ≡ true → sum_by (set_weight w) (change_first p (with_chunk x) ss) ≡ sum_by (set_weight w) ss + w x) → sum_by (set_weight w) (if b then with_chunk x s ∷ ss else s ∷ change_first p (with_chunk x) ss) ≡ sum_by (set_weight w) (s ∷ ss) + w x
+      by true f ih =
+          let a = sum_by-cons (set_weight w) (with_chunk x s) ss in
+          let b = sum_by-cons (set_weight w) s ss in
+          let m = chunk-more s h.0 in
+          omega (arith, a, b, m)
+      by false f ih =
+          let a = sum_by-cons (set_weight w) s (change_first p (with_chunk x) ss) in
+          let b = sum_by-cons (set_weight w) s ss in
+          let m = ih f in
+          omega (arith, a, b, m)
+
+  pub sets-more : (ss : List ChunkSet) → Every (λ (s : ChunkSet). list_any (has_tsn x.tsn) s.chunks ≡ false) ss → sum_by (set_weight w) (sets_with x ss) ≡ sum_by (set_weight w) ss + w x
+  sets-more ss h = by (list_any (has_ssn x.stream_sequence_number) ss) refl
+    where
+      by : (b : Bool) → list_any (has_ssn x.stream_sequence_number) ss ≡ b → sum_by (set_weight w) (if b then change_first (has_ssn x.stream_sequence_number) (with_chunk x) ss else insert_before set_before (new_set x) ss) ≡ sum_by (set_weight w) ss + w x
+      by true e = first-more (has_ssn x.stream_sequence_number) ss e h
+      by false e =
+          let m = sum_by-inserted (set_weight w) set_before (new_set x) ss in
+          let one = sum_by-cons w x [] in
+          omega (arith, m, one)
+
+-- ## A message is read
+
+front-turn : (q : Reassembly) (i : ℕ) → q.next_ssn ≡ i % 2 ^ 16 → (ss : List ChunkSet) → q.ordered ≡ ss → Rise i (i + 2 ^ 15) ss → IsInTurn (after_read (front_readable q.next_ssn ss) q)
+front-turn q i next [] e r = record { index = i; next = next; rise = subst (Rise i (i + 2 ^ 15)) (sym e) tt }
+front-turn q i next (s ∷ ss) e r = by (is_readable q.next_ssn s) refl
+  where
+    by : (b : Bool) → is_readable q.next_ssn s ≡ b → IsInTurn (after_read (if b then Some s else None) q)
+    by false f = record { index = i; next = next; rise = subst (Rise i (i + 2 ^ 15)) (sym e) r }
+    by true f =
+        let low = r.1.0 in
+        let top = r.1.1 in
+        let due : at_or_before16 (r.0 % 2 ^ 16) (i % 2 ^ 16) ≡ true = ap (at_or_before16 (r.0 % 2 ^ 16)) (sym next) ∙ ap (λ n. at_or_before16 n q.next_ssn) (sym r.1.2) ∙ (both (is_complete s.chunks) (at_or_before16 s.ssn q.next_ssn) f).1 in
+        let order : nat_le r.0 i ≡ true = sym (at_or_before16-index r.0 i (omega (arith, top)) (omega (arith, low))) ∙ due in
+        let le : r.0 ≤ i = grind (arith, nat_tests, order) in
+        let same : r.0 ≡ i = omega (arith, le, low) in
+        let is : s.ssn ≡ q.next_ssn = r.1.2 ∙ ap (λ n. n % 2 ^ 16) same ∙ sym next in
+        let more : (if s.ssn == q.next_ssn then (q.next_ssn + 1) % 2 ^ 16 else q.next_ssn) ≡ (i + 1) % 2 ^ 16 =
+        ap (λ b. if b then (q.next_ssn + 1) % 2 ^ 16 else q.next_ssn) (ap (λ n. n == q.next_ssn) is ∙ same-yes q.next_ssn) ∙ ap (λ n. (n + 1) % 2 ^ 16) next ∙ next16 i in
+        record {
+          index = i + 1;
+          next = more;
+          rise = subst (λ o. Rise (i + 1) (i + 1 + 2 ^ 15) (without_first o)) (sym e)
+              (rise-wider (i + 1) (i + 2 ^ 15) (i + 1 + 2 ^ 15) ss (omega arith) (subst (λ n. Rise (n + 1) (i + 2 ^ 15) ss) same r.2));
+        }
+
+pub read-in-turn : (q : Reassembly) → IsInTurn q → IsInTurn (rest_read q)
+read-in-turn q t = by q.unordered
+  where
+    by : (us : List ChunkSet) → IsInTurn (rest_among us q)
+    by [] = front-turn q t.index t.next q.ordered refl t.rise
+    by (u ∷ us) = record { index = t.index; next = t.next; rise = t.rise }

@@ -1,0 +1,10 @@
+use Rattle.std.proofs.Common.{◌≡◌, drop}
+use Rattle.std.specs.Prelude.{◌==◌}
+use Rattle.std.specs.List.{list_all}
+use Rattle.sctp_reassembly.specs.reassembly_queue.ReassemblyQueue.{held_chunks}
+use Rattle.sctp_delivery.specs.Complete.{holds_nothing}
+use Rattle.sctp_delivery.proofs.settled.is_nothing_held.Given as goal
+
+-- nothing was found so far
+abbrev pub invariant-loop-inbound : goal.invariant-loop-inbound
+invariant-loop-inbound l = holds_nothing l.fn.receiver ≡ list_all (λ s. held_chunks s.queue.held == 0) (drop l.inbound-index l.inbound-items)

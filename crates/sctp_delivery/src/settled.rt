@@ -1,0 +1,36 @@
+//! What the law of what is read in the end tells a caller.
+
+ghost use Rattle.std.specs.Prelude.{◌≡◌, ◌==◌, ◌&&◌, ◌<◌, ℕ, true};
+ghost use Rattle.std.specs.List.{list_all};
+ghost use Rattle.sctp_outbound.specs.pending_queue.PendingQueue.{chunk_count};
+ghost use Rattle.sctp_delivery.specs.Complete.{AfterEachReliableSession, EachIsReadOnce, holds_nothing, is_settled};
+
+use crate::laws::complete::each_write_is_read_in_the_end;
+use sctp_receiver::receiver::Receiver;
+use sctp_sender::sender::Sender;
+
+/// Whether a receiver holds nothing on any stream.
+pub fn is_nothing_held(receiver: &Receiver) -> bool
+    ensures { result ≡ holds_nothing receiver.now }
+{
+    for inbound in receiver.open_streams() {
+        if inbound.queue.chunk_count() != 0 {
+            return false;
+        }
+    }
+    true
+}
+
+/// Whether nothing waits, nothing is in flight, and the receiver holds nothing. In whatever reliable session the two stand, each write
+/// was read exactly once where that is so.
+pub fn is_each_read(sender: &Sender, receiver: &Receiver) -> bool
+    ensures exact { result ≡ is_settled sender.now receiver.now }
+    ensures read { result ≡ true → AfterEachReliableSession (λ size s. 0 < size
+        → s.sending.sender ≡ sender.now → s.receiving.receiver ≡ receiver.now
+        → EachIsReadOnce s) }
+{
+    each_write_is_read_in_the_end();
+    sender.outbound().pending_len() == 0
+        && sender.outbound().inflight_len() == 0
+        && is_nothing_held(receiver)
+}
