@@ -82,29 +82,34 @@ held-after first (of_receiver call ∷ cs) old new ns sent r h =
     let m = a.few in
     record { numbered = a.numbered; more = a.more; holds = a.holds; few = omega (arith, m) }
 
+-- a new sender
+pub held-first : (tsn size max most : ℕ) (limits : Option Limits) → tsn < 2 ^ 32 → 0 < size
+    → IsHeld [] tsn (at_start tsn size max most limits).sending.sender []
+held-first tsn size max most limits small some = record {
+  stands = record {
+    queued = record {
+      line = tt;
+      ordered = tt;
+      unordered = tt;
+      turns = λ s. (0, (refl, tt, refl));
+      indexed = tt;
+      ranked =
+          record { top = 0; under = tt; waiting = omega arith; rising = tt; few = λ s. omega arith };
+    };
+    sendable = record { ordered = tt; unordered = tt; apart = λ m h. refl; sent = λ m h k. absurd (not_both h); below = λ m le. refl };
+    known = tt;
+    counted = omega (arith, small);
+    begun' = record { once = tt; ordered = λ m h. refl; unordered = λ m h. refl; below = λ m h. absurd (not_both h) };
+    ids = refl;
+  };
+  open' = tt;
+  sized = tt;
+  size = some;
+}
+
 at-first : (tsn size max most : ℕ) (limits : Option Limits) → tsn < 2 ^ 32 → 0 < size → Holds tsn (at_start tsn size max most limits) [] []
 at-first tsn size max most limits small some = record {
-  held = record {
-    stands = record {
-      queued = record {
-        line = tt;
-        ordered = tt;
-        unordered = tt;
-        turns = λ s. (0, (refl, tt, refl));
-        indexed = tt;
-        ranked =
-            record { top = 0; under = tt; waiting = omega arith; rising = tt; few = λ s. omega arith };
-      };
-      sendable = record { ordered = tt; unordered = tt; apart = λ m h. refl; sent = λ m h k. absurd (not_both h); below = λ m le. refl };
-      known = tt;
-      counted = omega (arith, small);
-      begun' = record { once = tt; ordered = λ m h. refl; unordered = λ m h. refl; below = λ m h. absurd (not_both h) };
-      ids = refl;
-    };
-    open' = tt;
-    sized = tt;
-    size = some;
-  };
+  held = held-first tsn size max most limits small some;
   made = tt;
   writes = refl;
   placed = tt;

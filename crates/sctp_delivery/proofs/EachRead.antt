@@ -33,7 +33,7 @@ use Rattle.sctp_delivery.specs.Session.{Call, ReceiverFollows, RunsTo, SenderFol
 use Rattle.sctp_delivery.proofs.AllBegun.{Begins, begins_in, stays-begun}
 use Rattle.sctp_delivery.proofs.Begun.{AreOnce, begins, was_begun}
 use Rattle.sctp_delivery.proofs.Calls.{forgotten, forgotten-after, length-forgotten, numbered_after}
-use Rattle.sctp_delivery.proofs.Delivered.{AreInner, EachSent, IsReadOf, counted, each-sent, inner-of, message-is, next_tsn}
+use Rattle.sctp_delivery.proofs.Delivered.{AreInner, EachSent, IsReadOf, counted, each-sent, held-first, inner-of, message-is, next_tsn}
 use Rattle.sctp_delivery.proofs.Every.{Every}
 use Rattle.sctp_delivery.proofs.Kept as kept
 use Rattle.sctp_delivery.proofs.OnceWritten.{EachRead, apart, each-read, places, stand}
@@ -154,19 +154,7 @@ at-first tsn size max most limits small some = record {
   numbered = [];
   sent = [];
   begins' = record {
-    held = record {
-      stands = record {
-        queued = record { line = tt; ordered = tt; unordered = tt; turns = λ s. (0, (refl, tt)) };
-        sendable = record { ordered = tt; unordered = tt; apart = λ m h. refl; sent = λ m h k. absurd (not_both h); below = λ m le. refl };
-        known = tt;
-        counted = omega (arith, small);
-        begun' = record { once = tt; ordered = λ m h. refl; unordered = λ m h. refl; below = λ m h. absurd (not_both h) };
-        ids = refl;
-      };
-      open' = tt;
-      sized = tt;
-      size = some;
-    };
+    held = held-first tsn size max most limits small some;
     begun' = λ m lt. absurd (omega (arith, lt));
     chained = record { chain = tt; last = tt; number = λ st. omega arith; few = λ st. omega arith };
     short = record { streams = tt; queue = record { ordered = tt; unordered = tt; inflight = tt } };
