@@ -1,4 +1,4 @@
--- In each session in which the numbers of ordered messages stay below 2^15 those that are read on a stream rise.
+-- In each session in which the numbers of a stream stay below 2^15 those of the ordered messages that are read on it rise.
 use Rattle.std.proofs.Common.{◌≡◌, ℕ, ◌+◌, ◌^◌, ◌<◌, ◌≤◌, Bool, true, false, not, List, [], ◌∷◌, ◌++◌, map, Option, Some, None, refl, ap, sym, subst, ◌∙◌, arith}
 use Rattle.std.specs.Prelude.{⊤, ◌==◌, ◌&&◌, ◌||◌, if◌then◌else◌, Contains, find, nat_le}
 use Rattle.std.specs.List.{list_any}
@@ -156,66 +156,74 @@ message-due st k ls set d e o = by (find (has_number st) ls) refl e
 
 -- ## Calls
 
-pub record AreDue (s : Stand) : Type 0 where
-  pub due : (st : ℕ) → Due st (passed st s.read) s.receiver.streams
-  pub turns : (st : ℕ) → AreInTurn st s.read
+-- what is due on a stream, and that what was read on it was due
+pub record AreDue (st : ℕ) (s : Stand) : Type 0 where
+  pub due : Due st (passed st s.read) s.receiver.streams
+  pub turns : AreInTurn st s.read
 
--- nothing is read, and each stream keeps what is due
-kept : (old new : Stand) → AreDue old → new.read ≡ old.read → ((st k : ℕ) → Due st k old.receiver.streams → Due st k new.receiver.streams) → AreDue new
-kept old new d e keep = record {
-  due = λ st. subst (λ ms. Due st (passed st ms) new.receiver.streams) (sym e) (keep st (passed st old.read) (d.due st));
-  turns = λ st. subst (AreInTurn st) (sym e) (d.turns st);
+-- nothing is read, and the stream keeps what is due
+kept : (st : ℕ) (old new : Stand) → AreDue st old → new.read ≡ old.read
+    → ((k : ℕ) → Due st k old.receiver.streams → Due st k new.receiver.streams) → AreDue st new
+kept st old new d e keep = record {
+  due = subst (λ ms. Due st (passed st ms) new.receiver.streams) (sym e) (keep (passed st old.read) d.due);
+  turns = subst (AreInTurn st) (sym e) d.turns;
 }
 
-same-streams : (old new : Stand) → AreDue old → new.read ≡ old.read → new.receiver.streams ≡ old.receiver.streams → AreDue new
-same-streams old new d e f = kept old new d e (λ st k h. subst (Due st k) (sym f) h)
+same-streams : (st : ℕ) (old new : Stand) → AreDue st old → new.read ≡ old.read → new.receiver.streams ≡ old.receiver.streams → AreDue st new
+same-streams st old new d e f = kept st old new d e (λ k h. subst (Due st k) (sym f) h)
 
--- a chunk with a number below 2^15 that is not too far past the lowest
-taken : (c : ChunkPayloadData) (told : Bool) (old new : Stand) → AreDue old → Accepts c told old.receiver new.receiver → new.read ≡ old.read
-    → (c.unordered ≡ false → c.stream_sequence_number < 2 ^ 15) → is_too_far_on c (stream_of c.stream_identifier old.receiver) ≡ false → AreDue new
-taken c told old new d a e small near = record {
-  due = λ st. subst (λ ms. Due st (passed st ms) new.receiver.streams) (sym e)
+-- a chunk that is not too far past the lowest number; on this stream its own is below 2^15
+taken : (st : ℕ) (c : ChunkPayloadData) (told : Bool) (old new : Stand) → AreDue st old → Accepts c told old.receiver new.receiver
+    → new.read ≡ old.read → (c.stream_identifier ≡ st → c.unordered ≡ false → c.stream_sequence_number < 2 ^ 15)
+    → is_too_far_on c (stream_of c.stream_identifier old.receiver) ≡ false → AreDue st new
+taken st c told old new d a e small near = record {
+  due = subst (λ ms. Due st (passed st ms) new.receiver.streams) (sym e)
       (subst (λ (r : Reception). Due st (passed st old.read) r.streams) (sym a.after)
-      (due-changed st (passed st old.read) (has_number c.stream_identifier) (with_queue a.queue) (keeps st) old.receiver.streams (d.due st)));
-  turns = λ st. subst (AreInTurn st) (sym e) (d.turns st);
+      (due-changed st (passed st old.read) (has_number c.stream_identifier) (with_queue a.queue) keeps old.receiver.streams d.due));
+  turns = subst (AreInTurn st) (sym e) d.turns;
 }
   where
     far : is_too_far_on c (Some a.stream) ≡ false
     far = subst (λ o. is_too_far_on c o ≡ false) a.found near
 
-    from : (k : ℕ) → IsDue k a.stream.queue.held → c.unordered ≡ false → (k ≤ c.stream_sequence_number) × (c.stream_sequence_number < 2 ^ 15)
-    from k h u = (
-      kept-from k c.stream_sequence_number a.stream.queue.held (small u)
+    from : (k : ℕ) → IsDue k a.stream.queue.held → c.stream_identifier ≡ st → c.unordered ≡ false
+        → (k ≤ c.stream_sequence_number) × (c.stream_sequence_number < 2 ^ 15)
+    from k h on u = (
+      kept-from k c.stream_sequence_number a.stream.queue.held (small on u)
           (ap (λ b. not b && is_ssn_too_far c.stream_sequence_number a.stream.queue.held) (sym u) ∙ far) h,
-      small u,
+      small on u,
     )
 
-    keeps : (st : ℕ) → Keeps st (passed st old.read) (has_number c.stream_identifier) (with_queue a.queue)
-    keeps st = record {
+    keeps : Keeps st (passed st old.read) (has_number c.stream_identifier) (with_queue a.queue)
+    keeps = record {
       number = λ l g.
           pushed-number c told a.stream.queue a.queue a.pushed ∙ found-number c.stream_identifier old.receiver.streams a.stream a.found
           ∙ sym (same-is l.queue.si c.stream_identifier g);
       due = λ l g same h.
           let k = passed st old.read in
           let here : c.stream_identifier ≡ st = sym (same-is l.queue.si c.stream_identifier g) ∙ same in
-          let held = due-found st k old.receiver.streams a.stream (subst (λ s. find (has_number s) old.receiver.streams ≡ Some a.stream) here a.found)
-          (d.due st) in
-          push-due k c told a.stream.queue a.queue (from k held) a.pushed held;
+          let found : find (has_number st) old.receiver.streams ≡ Some a.stream =
+          subst (λ s. find (has_number s) old.receiver.streams ≡ Some a.stream) here a.found in
+          let held = due-found st k old.receiver.streams a.stream found d.due in
+          push-due k c told a.stream.queue a.queue (from k held here) a.pushed held;
     }
 
--- names of numbers below 2^15
-abbrev pub AreSmall : List ChunkForwardTsnStream → Type 0
-AreSmall [] = ⊤
-AreSmall (n ∷ ns) = (n.sequence < 2 ^ 15) × AreSmall ns
+-- of the stream only numbers below 2^15 are named
+abbrev pub AreSmall : ℕ → List ChunkForwardTsnStream → Type 0
+AreSmall st [] = ⊤
+AreSmall st (n ∷ ns) = (n.identifier ≡ st → n.sequence < 2 ^ 15) × AreSmall st ns
 
-named-due : (st k : ℕ) (ns : List ChunkForwardTsnStream) (ls : List InboundStream) → AreSmall ns → Due st k ls → Due st k (named_forwarded ns ls)
+named-due : (st k : ℕ) (ns : List ChunkForwardTsnStream) (ls : List InboundStream) → AreSmall st ns → Due st k ls → Due st k (named_forwarded ns ls)
 named-due st k [] ls s d = d
 named-due st k (n ∷ ns) ls s d =
     named-due st k ns (change_where (has_number n.identifier) (ssn_forwarded n.sequence) ls) s.1
     (due-changed st k (has_number n.identifier) (ssn_forwarded n.sequence)
-    (record { number = λ l g. refl; due = λ l g same h. name-due k n.sequence l.queue.held s.0 h }) ls d)
+    (record {
+      number = λ l g. refl;
+      due = λ l g same h. name-due k n.sequence l.queue.held (s.0 (sym (same-is l.queue.si n.identifier g) ∙ same)) h;
+    }) ls d)
 
-followed-due : (st k : ℕ) (f : ForwardTsn) (r : Reception) → AreSmall f.streams → Due st k r.streams → Due st k (after_forward_tsn f r).streams
+followed-due : (st k : ℕ) (f : ForwardTsn) (r : Reception) → AreSmall st f.streams → Due st k r.streams → Due st k (after_forward_tsn f r).streams
 followed-due st k f r s d = by (is_stale f r)
   where
     by : (b : Bool) → Due st k (if b then r else without_incomplete f.new_cumulative_tsn (if b then r else follow_forward_tsn f r)).streams
@@ -247,24 +255,24 @@ turn-elsewhere : (st stream : ℕ) → (stream == st) ≡ false → (o : Option 
 turn-elsewhere st stream e None ms t = t
 turn-elsewhere st stream e (Some set) ms t = ((λ h. absurd (not_both (sym e ∙ (both (stream == st) (starts_ordered set.chunks) h).0))), t)
 
-read-on : (stream : ℕ) (old new : Stand) → AreDue old → new.receiver.streams ≡ change_where (has_number stream) stream_read old.receiver.streams
-    → new.read ≡ with_message stream (message_on stream old.receiver) old.read → AreDue new
-read-on stream old new d f e = record {
-  due = λ st. subst (λ ms. Due st (passed st ms) new.receiver.streams) (sym e)
-      (subst (Due st (passed st (with_message stream (message_on stream old.receiver) old.read))) (sym f) (due (stream == st) st refl));
-  turns = λ st. subst (AreInTurn st) (sym e) (turn (stream == st) st refl);
+read-on : (st stream : ℕ) (old new : Stand) → AreDue st old
+    → new.receiver.streams ≡ change_where (has_number stream) stream_read old.receiver.streams
+    → new.read ≡ with_message stream (message_on stream old.receiver) old.read → AreDue st new
+read-on st stream old new d f e = record {
+  due = subst (λ ms. Due st (passed st ms) new.receiver.streams) (sym e)
+      (subst (Due st (passed st (with_message stream (message_on stream old.receiver) old.read))) (sym f) (due (stream == st) refl));
+  turns = subst (AreInTurn st) (sym e) (turn (stream == st) refl);
 }
   where
-    due : (b : Bool) (st : ℕ) → (stream == st) ≡ b
+    due : (b : Bool) → (stream == st) ≡ b
         → Due st (passed st (with_message stream (message_on stream old.receiver) old.read))
         (change_where (has_number stream) stream_read old.receiver.streams)
-    due true st h =
-        subst (λ s. Due s (passed s (with_message stream (message_on stream old.receiver) old.read))
-        (change_where (has_number stream) stream_read old.receiver.streams)) (same-is stream st h)
-        (subst (λ k. Due stream k (change_where (has_number stream) stream_read old.receiver.streams))
-        (sym (passed-here stream (message_on stream old.receiver) old.read))
-        (due-read stream (passed stream old.read) old.receiver.streams (d.due stream)))
-    due false st h =
+    due true h =
+        subst (λ s. Due st (passed st (with_message s (message_on s old.receiver) old.read)) (change_where (has_number s) stream_read old.receiver.streams))
+        (sym (same-is stream st h))
+        (subst (λ k. Due st k (change_where (has_number st) stream_read old.receiver.streams)) (sym (passed-here st (message_on st old.receiver) old.read))
+        (due-read st (passed st old.read) old.receiver.streams d.due))
+    due false h =
         subst (λ k. Due st k (change_where (has_number stream) stream_read old.receiver.streams))
         (sym (passed-elsewhere st stream h (message_on stream old.receiver) old.read))
         (due-changed st (passed st old.read) (has_number stream) stream_read
@@ -274,37 +282,47 @@ read-on stream old new d f e = record {
               (not_both (sym h ∙ subst (λ s. (s == st) ≡ true) (same-is l.queue.si stream g)
               (subst (λ s. (l.queue.si == s) ≡ true) same (same-yes l.queue.si))));
         })
-        old.receiver.streams (d.due st))
+        old.receiver.streams d.due)
 
-    turn : (b : Bool) (st : ℕ) → (stream == st) ≡ b → AreInTurn st (with_message stream (message_on stream old.receiver) old.read)
-    turn true st h =
-        subst (λ s. AreInTurn s (with_message stream (message_on stream old.receiver) old.read)) (same-is stream st h)
-        (turn-here stream (message_on stream old.receiver) old.read
-        (λ set g o. message-due stream (passed stream old.read) old.receiver.streams set (d.due stream) g o) (d.turns stream))
-    turn false st h = turn-elsewhere st stream h (message_on stream old.receiver) old.read (d.turns st)
+    turn : (b : Bool) → (stream == st) ≡ b → AreInTurn st (with_message stream (message_on stream old.receiver) old.read)
+    turn true h =
+        subst (λ s. AreInTurn st (with_message s (message_on s old.receiver) old.read)) (sym (same-is stream st h))
+        (turn-here st (message_on st old.receiver) old.read
+        (λ set g o. message-due st (passed st old.read) old.receiver.streams set d.due g o) d.turns)
+    turn false h = turn-elsewhere st stream h (message_on stream old.receiver) old.read d.turns
 
 -- ## Numbers of what was made
 
--- its number, or one that it names, is 2^15 or more
-abbrev pub is_large : Made → Bool
-is_large (data_chunk d) = not d.unordered && nat_le (2 ^ 15) d.stream_sequence_number
-is_large (forward_tsn f) = list_any (λ n. nat_le (2 ^ 15) n.sequence) f.streams
+-- its number, or one that it names, is 2^15 or more, on this stream
+abbrev pub is_large : ℕ → Made → Bool
+is_large st (data_chunk d) = (d.stream_identifier == st) && (not d.unordered && nat_le (2 ^ 15) d.stream_sequence_number)
+is_large st (forward_tsn f) = list_any (λ n. (n.identifier == st) && nat_le (2 ^ 15) n.sequence) f.streams
 
-none-large : (ms : List Made) (x : Made) → list_any is_large ms ≡ false → Contains ms x → is_large x ≡ false
-none-large ms x e c = fails (is_large x) (λ h. not_both (sym e ∙ list_any_at is_large ms c.0 x c.1 (ap is_large c.2 ∙ h)))
+none-large : (st : ℕ) (ms : List Made) (x : Made) → list_any (is_large st) ms ≡ false → Contains ms x → is_large st x ≡ false
+none-large st ms x e c = fails (is_large st x) (λ h. not_both (sym e ∙ list_any_at (is_large st) ms c.0 x c.1 (ap (is_large st) c.2 ∙ h)))
 
-small-chunk : (c : ChunkPayloadData) → is_large (data_chunk (data_of c)) ≡ false → c.unordered ≡ false → c.stream_sequence_number < 2 ^ 15
-small-chunk c e u = let h : nat_le (2 ^ 15) c.stream_sequence_number ≡ false =
-    ap (λ b. not b && nat_le (2 ^ 15) c.stream_sequence_number) (sym u) ∙ e in grind (arith, nat_tests, h)
+-- on the stream the other test fails
+on-stream : (s st : ℕ) (b : Bool) → ((s == st) && b) ≡ false → s ≡ st → b ≡ false
+on-stream s st b e same = ap (λ a. a && b) (sym (subst (λ n. (s == n) ≡ true) same (same-yes s))) ∙ e
 
-small-names : (ns : List ChunkForwardTsnStream) → list_any (λ n. nat_le (2 ^ 15) n.sequence) ns ≡ false → AreSmall ns
-small-names [] e = tt
-small-names (n ∷ ns) e = by (nat_le (2 ^ 15) n.sequence) refl e (small-names ns)
+small-chunk : (st : ℕ) (c : ChunkPayloadData) → is_large st (data_chunk (data_of c)) ≡ false → c.stream_identifier ≡ st → c.unordered ≡ false
+    → c.stream_sequence_number < 2 ^ 15
+small-chunk st c e same u =
+    let h : nat_le (2 ^ 15) c.stream_sequence_number ≡ false =
+    ap (λ b. not b && nat_le (2 ^ 15) c.stream_sequence_number) (sym u)
+    ∙ on-stream c.stream_identifier st (not c.unordered && nat_le (2 ^ 15) c.stream_sequence_number) e same in
+    grind (arith, nat_tests, h)
+
+small-names : (st : ℕ) (ns : List ChunkForwardTsnStream) → list_any (λ n. (n.identifier == st) && nat_le (2 ^ 15) n.sequence) ns ≡ false → AreSmall st ns
+small-names st [] e = tt
+small-names st (n ∷ ns) e = by ((n.identifier == st) && nat_le (2 ^ 15) n.sequence) refl e (small-names st ns)
   where
-    by : (b : Bool) → nat_le (2 ^ 15) n.sequence ≡ b → (b || list_any (λ m. nat_le (2 ^ 15) m.sequence) ns) ≡ false
-        → (list_any (λ m. nat_le (2 ^ 15) m.sequence) ns ≡ false → AreSmall ns) → (n.sequence < 2 ^ 15) × AreSmall ns
+    by : (b : Bool) → ((n.identifier == st) && nat_le (2 ^ 15) n.sequence) ≡ b
+        → (b || list_any (λ m. (m.identifier == st) && nat_le (2 ^ 15) m.sequence) ns) ≡ false
+        → (list_any (λ m. (m.identifier == st) && nat_le (2 ^ 15) m.sequence) ns ≡ false → AreSmall st ns)
+        → (n.identifier ≡ st → n.sequence < 2 ^ 15) × AreSmall st ns
     by true h f ih = absurd (not_both (sym f))
-    by false h f ih = (grind (arith, nat_tests, h), ih f)
+    by false h f ih = ((λ same. let k = on-stream n.identifier st (nat_le (2 ^ 15) n.sequence) h same in grind (arith, nat_tests, k)), ih f)
 
 -- ## Sessions
 
@@ -318,41 +336,46 @@ not-far c r fresh e = by (has_come c.tsn (filter_of r)) (is_too_far_on c (stream
     by true true f g = absurd (not_both (sym f))
     by false true f g = absurd (none-some SsnTooFar (sym g))
 
-receiver-step : (call : ReceiverCall) (old new : Session) → list_any is_large old.made ≡ false → ReceiverFollows call old new → AreDue old.receiving
-    → AreDue new.receiving
-receiver-step (incoming.opens stream) old new small f d =
-    kept old.receiving new.receiving d f.step.read
-    (λ st k h. subst (λ (r : Reception). Due st k r.streams) (sym f.step.receiver.1)
+receiver-step : (st : ℕ) (call : ReceiverCall) (old new : Session) → list_any (is_large st) old.made ≡ false → ReceiverFollows call old new
+    → AreDue st old.receiving → AreDue st new.receiving
+receiver-step st (incoming.opens stream) old new small f d =
+    kept st old.receiving new.receiving d f.step.read
+    (λ k h. subst (λ (r : Reception). Due st k r.streams) (sym f.step.receiver.1)
     (due-opened st k stream old.receiving.receiver.max_message_size old.receiving.receiver.streams h))
-receiver-step (incoming.takes c (New told)) old new small f d =
-    taken c told old.receiving new.receiving d f.step.receiver f.step.read (small-chunk c (none-large old.made (data_chunk (data_of c)) small f.handed))
+receiver-step st (incoming.takes c (New told)) old new small f d =
+    taken st c told old.receiving new.receiving d f.step.receiver f.step.read
+    (small-chunk st c (none-large st old.made (data_chunk (data_of c)) small f.handed))
     (not-far c old.receiving.receiver (fresh-new c.tsn told old.receiving.receiver f.accepted.1) f.accepted.0)
-receiver-step (incoming.takes c Repeat) old new small f d =
-    same-streams old.receiving new.receiving d f.step.read (ap (λ (r : Reception). r.streams) f.step.receiver)
-receiver-step (incoming.follows g) old new small f d =
-    kept old.receiving new.receiving d f.step.read
-    (λ st k h. subst (λ (r : Reception). Due st k r.streams) (sym f.step.receiver)
-    (followed-due st k g old.receiving.receiver (small-names g.streams (none-large old.made (forward_tsn g) small f.handed)) h))
-receiver-step (incoming.reports credit) old new small f d =
-    same-streams old.receiving new.receiving d f.step.read (ap (λ (r : Reception). r.streams) f.step.receiver)
-receiver-step (incoming.reads stream) old new small f d =
-    read-on stream old.receiving new.receiving d (ap (λ (r : Reception). r.streams) f.step.receiver) f.step.read
+receiver-step st (incoming.takes c Repeat) old new small f d =
+    same-streams st old.receiving new.receiving d f.step.read (ap (λ (r : Reception). r.streams) f.step.receiver)
+receiver-step st (incoming.follows g) old new small f d =
+    kept st old.receiving new.receiving d f.step.read
+    (λ k h. subst (λ (r : Reception). Due st k r.streams) (sym f.step.receiver)
+    (followed-due st k g old.receiving.receiver (small-names st g.streams (none-large st old.made (forward_tsn g) small f.handed)) h))
+receiver-step st (incoming.reports credit) old new small f d =
+    same-streams st old.receiving new.receiving d f.step.read (ap (λ (r : Reception). r.streams) f.step.receiver)
+receiver-step st (incoming.reads stream) old new small f d =
+    read-on st stream old.receiving new.receiving d (ap (λ (r : Reception). r.streams) f.step.receiver) f.step.read
 
 -- what was made earlier is among what was made
-none-earlier : (cs : List Call) (old new : Session) → RunsTo old cs new → list_any is_large new.made ≡ false → list_any is_large old.made ≡ false
-none-earlier [] old new r e = ap (λ (s : Session). list_any is_large s.made) (sym r) ∙ e
-none-earlier (of_sender call ∷ cs) old new r e =
-    let mid = none-earlier cs r.0 new r.1.1 e in
-    fails (list_any is_large old.made) (λ h. not_both
-    (sym mid ∙ ap (λ (s : Session). list_any is_large s.made) r.1.0.after ∙ more-made is_large call old.sending.sender old.made h))
-none-earlier (of_receiver call ∷ cs) old new r e = sym (ap (λ (s : Session). list_any is_large s.made) r.1.0.after) ∙ none-earlier cs r.0 new r.1.1 e
+none-earlier : (st : ℕ) (cs : List Call) (old new : Session) → RunsTo old cs new → list_any (is_large st) new.made ≡ false
+    → list_any (is_large st) old.made ≡ false
+none-earlier st [] old new r e = ap (λ (s : Session). list_any (is_large st) s.made) (sym r) ∙ e
+none-earlier st (of_sender call ∷ cs) old new r e =
+    let mid = none-earlier st cs r.0 new r.1.1 e in
+    fails (list_any (is_large st) old.made) (λ h. not_both
+    (sym mid ∙ ap (λ (s : Session). list_any (is_large st) s.made) r.1.0.after ∙ more-made (is_large st) call old.sending.sender old.made h))
+none-earlier st (of_receiver call ∷ cs) old new r e =
+    sym (ap (λ (s : Session). list_any (is_large st) s.made) r.1.0.after) ∙ none-earlier st cs r.0 new r.1.1 e
 
-due-after : (cs : List Call) (old new : Session) → RunsTo old cs new → list_any is_large new.made ≡ false → AreDue old.receiving → AreDue new.receiving
-due-after [] old new r e d = subst (λ (s : Session). AreDue s.receiving) (sym r) d
-due-after (of_sender call ∷ cs) old new r e d = due-after cs r.0 new r.1.1 e (subst AreDue (sym (ap (λ (s : Session). s.receiving) r.1.0.after)) d)
-due-after (of_receiver call ∷ cs) old new r e d =
-    due-after cs r.0 new r.1.1 e (receiver-step call old r.0 (none-earlier (of_receiver call ∷ cs) old new r e) r.1.0 d)
+due-after : (st : ℕ) (cs : List Call) (old new : Session) → RunsTo old cs new → list_any (is_large st) new.made ≡ false → AreDue st old.receiving
+    → AreDue st new.receiving
+due-after st [] old new r e d = subst (λ (s : Session). AreDue st s.receiving) (sym r) d
+due-after st (of_sender call ∷ cs) old new r e d =
+    due-after st cs r.0 new r.1.1 e (subst (AreDue st) (sym (ap (λ (s : Session). s.receiving) r.1.0.after)) d)
+due-after st (of_receiver call ∷ cs) old new r e d =
+    due-after st cs r.0 new r.1.1 e (receiver-step st call old r.0 (none-earlier st (of_receiver call ∷ cs) old new r e) r.1.0 d)
 
-pub in-turn : (tsn size max most : ℕ) (limits : Option Limits) (cs : List Call) (s : Session) → RunsTo (at_start tsn size max most limits) cs s
-    → list_any is_large s.made ≡ false → (st : ℕ) → AreInTurn st s.receiving.read
-in-turn tsn size max most limits cs s r e st = (due-after cs (at_start tsn size max most limits) s r e (record { due = λ k. refl; turns = λ k. tt })).turns st
+pub in-turn : (st tsn size max most : ℕ) (limits : Option Limits) (cs : List Call) (s : Session) → RunsTo (at_start tsn size max most limits) cs s
+    → list_any (is_large st) s.made ≡ false → AreInTurn st s.receiving.read
+in-turn st tsn size max most limits cs s r e = (due-after st cs (at_start tsn size max most limits) s r e (record { due = refl; turns = tt })).turns

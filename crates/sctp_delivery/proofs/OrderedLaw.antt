@@ -1,7 +1,7 @@
 -- The ordered messages of a stream are read in the order of their writes.
-use Rattle.std.proofs.Common.{◌≡◌, ℕ, zero, suc, ◌+◌, ◌^◌, ◌<◌, ◌≤◌, Bool, true, false, not, List, [], ◌∷◌, length, ◌⊎◌, inl, inr, refl, ap, sym, subst, ◌∙◌, arith}
+use Rattle.std.proofs.Common.{◌≡◌, ℕ, zero, suc, ◌+◌, ◌^◌, ◌<◌, ◌≤◌, Bool, true, false, not, List, [], ◌∷◌, ◌⊎◌, inl, inr, refl, ap, sym, subst, ◌∙◌, arith}
 use Rattle.std.specs.Prelude.{All, AllPairs, ◌==◌, ◌&&◌, ◌||◌, if◌then◌else◌, nat_le}
-use Rattle.std.specs.List.{filter, list_all, list_any}
+use Rattle.std.specs.List.{list_all, list_any}
 use Rattle.std.proofs.lemmas.Bool.Decides.{nat_tests}
 use Rattle.sctp_list_lemmas.proofs.Cases.{negated, same-is}
 use Rattle.sctp_list_lemmas.proofs.Edits.{pairs_cons}
@@ -11,8 +11,8 @@ use Rattle.sctp_data.specs.declared.chunk.chunk_forward_tsn.ChunkForwardTsnStrea
 use Rattle.sctp_data.specs.PayloadData.{Data, data_of}
 use Rattle.sctp_receiver.specs.ReceiverRuns.{Message}
 use Rattle.sctp_serial.specs.DataChunks.{is_on}
-use Rattle.sctp_delivery.specs.Messages.{StandAt}
-use Rattle.sctp_delivery.specs.Order.{AreReadInOrder, WhileSsnsLast, is_ordered_on, ordered_places}
+use Rattle.sctp_delivery.specs.Messages.{StandAt, WhileFewTsns}
+use Rattle.sctp_delivery.specs.Order.{AreReadInOrder, SsnsLast, is_ordered_on, ordered_places}
 use Rattle.sctp_delivery.specs.SenderCalls.{Made, data_chunk, forward_tsn}
 use Rattle.sctp_delivery.proofs.Begun.{AreOnce}
 use Rattle.sctp_delivery.proofs.Delivered.{IsReadOf, read-of}
@@ -63,36 +63,45 @@ parts-meet (x ∷ xs) ys zs (inr p) (inr q) = parts-meet xs ys zs p q
 
 -- ## Numbers below 2^15
 
-module _ (sent : List Entry) (indexed : AreIndexed sent) (few : (s : ℕ) → begun_on s sent ≤ 2 ^ 15) where
-  -- the number of an entry is how many were begun before it
+module _ (sent : List Entry) (indexed : AreIndexed sent) (st : ℕ) (few : begun_on st sent ≤ 2 ^ 15) where
+  -- on the stream the number of an entry is how many messages were begun before its own
   number-is : (d : Data) (w : Numbered) (after : List ℕ) (xs : List Entry) → IsPart (fragment d w after ∷ xs) sent → d.unordered ≡ false
+      → d.stream_identifier ≡ st
       → (d.stream_sequence_number + 1 ≡ begun_on d.stream_identifier (fragment d w after ∷ xs)) × (d.stream_sequence_number < 2 ^ 15)
-  number-is d w after xs p k =
+  number-is d w after xs p k on =
       let i = (part-indexed sent (fragment d w after ∷ xs) p indexed).0 k in
       let n = i.1 in
       let e = i.2 in
       let le = part-fewer d.stream_identifier sent (fragment d w after ∷ xs) p in
-      let most = few d.stream_identifier in
+      let most = subst (λ s. begun_on s sent ≤ 2 ^ 15) (sym on) few in
       (omega (arith, n, e, le, most), omega (arith, n, e, le, most))
 
-  small-names : (ns : List ChunkForwardTsnStream) → AreNamed sent ns → list_any (λ n. nat_le (2 ^ 15) n.sequence) ns ≡ false
+  small-names : (ns : List ChunkForwardTsnStream) → AreNamed sent ns → list_any (λ n. (n.identifier == st) && nat_le (2 ^ 15) n.sequence) ns ≡ false
   small-names [] h = refl
-  small-names (n ∷ ns) h =
-      let k = h.0.1 in
-      let e = h.0.2 in
-      let most = few n.identifier in
-      let lt : n.sequence < 2 ^ 15 = omega (arith, k, e, most) in
-      let here : nat_le (2 ^ 15) n.sequence ≡ false = grind (arith, nat_tests, lt) in
-      ap (λ b. b || list_any (λ m. nat_le (2 ^ 15) m.sequence) ns) here ∙ small-names ns h.1
-
-  small-made : (ms : List Made) → AreSent sent ms → list_any is_large ms ≡ false
-  small-made [] a = refl
-  small-made (data_chunk d ∷ ms) a = ap (λ b. b || list_any is_large ms) (here d.unordered refl) ∙ small-made ms a.1
+  small-names (n ∷ ns) h = ap (λ b. b || list_any (λ m. (m.identifier == st) && nat_le (2 ^ 15) m.sequence) ns) (here (n.identifier == st) refl)
+      ∙ small-names ns h.1
     where
-      here : (b : Bool) → d.unordered ≡ b → (not b && nat_le (2 ^ 15) d.stream_sequence_number) ≡ false
-      here true k = refl
-      here false k = let lt = (number-is d a.0.0 a.0.1 a.0.2 a.0.3 k).1 in grind (arith, nat_tests, lt)
-  small-made (forward_tsn f ∷ ms) a = ap (λ b. b || list_any is_large ms) (small-names f.streams a.0) ∙ small-made ms a.1
+      here : (b : Bool) → (n.identifier == st) ≡ b → (b && nat_le (2 ^ 15) n.sequence) ≡ false
+      here false on = refl
+      here true on =
+          let k = h.0.1 in
+          let e = h.0.2 in
+          let most = subst (λ s. begun_on s sent ≤ 2 ^ 15) (sym (same-is n.identifier st on)) few in
+          let lt : n.sequence < 2 ^ 15 = omega (arith, k, e, most) in
+          grind (arith, nat_tests, lt)
+
+  small-made : (ms : List Made) → AreSent sent ms → list_any (is_large st) ms ≡ false
+  small-made [] a = refl
+  small-made (data_chunk d ∷ ms) a =
+      ap (λ b. b || list_any (is_large st) ms) (here (d.stream_identifier == st) refl d.unordered refl) ∙ small-made ms a.1
+    where
+      here : (a' : Bool) → (d.stream_identifier == st) ≡ a' → (b : Bool) → d.unordered ≡ b
+          → (a' && (not b && nat_le (2 ^ 15) d.stream_sequence_number)) ≡ false
+      here false on b k = refl
+      here true on true k = refl
+      here true on false k =
+          let lt = (number-is d a.0.0 a.0.1 a.0.2 a.0.3 k (same-is d.stream_identifier st on)).1 in grind (arith, nat_tests, lt)
+  small-made (forward_tsn f ∷ ms) a = ap (λ b. b || list_any (is_large st) ms) (small-names f.streams a.0) ∙ small-made ms a.1
 
 -- ## Messages
 
@@ -109,7 +118,7 @@ starts st m c cs is e =
     (same-is m.stream st b.0, negated c.unordered f.0, and (m.stream == st) (starts_ordered m.fragments) b.0 (ap starts_ordered is ∙ f.0))
 
 module _ (ns : List Numbered) (sent : List Entry) (once : AreOnce sent) (indexed : AreIndexed sent) (rising : AreRising sent)
-    (few : (s : ℕ) → begun_on s sent ≤ 2 ^ 15) (numbered : AreNumbered ns) (st : ℕ) where
+    (numbered : AreNumbered ns) (st : ℕ) (few : begun_on st sent ≤ 2 ^ 15) where
   module _ (m o : Message) (x : IsReadOf ns sent m) (y : IsReadOf ns sent o) (kx : x.chunk.unordered ≡ false) (ky : y.chunk.unordered ≡ false)
       (sx : x.chunk.stream_identifier ≡ st) (sy : y.chunk.stream_identifier ≡ st)
       (lt : y.chunk.stream_sequence_number < x.chunk.stream_sequence_number) where
@@ -121,8 +130,8 @@ module _ (ns : List Numbered) (sent : List Entry) (once : AreOnce sent) (indexed
 
     more : begun_on st earlier < begun_on st later
     more =
-        let a = (number-is sent indexed few (data_of x.chunk) x.numbered x.after x.entries x.part kx).0 in
-        let b = (number-is sent indexed few (data_of y.chunk) y.numbered y.after y.entries y.part ky).0 in
+        let a = (number-is sent indexed st few (data_of x.chunk) x.numbered x.after x.entries x.part kx sx).0 in
+        let b = (number-is sent indexed st few (data_of y.chunk) y.numbered y.after y.entries y.part ky sy).0 in
         let p = ap (λ s. begun_on s later) sx in
         let q = ap (λ s. begun_on s earlier) sy in
         omega (arith, a, b, p, q, lt)
@@ -211,20 +220,22 @@ module _ (ns : List Numbered) (sent : List Entry) (once : AreOnce sent) (indexed
 
 -- ## The law
 
-pub in-order : WhileSsnsLast AreReadInOrder
-in-order tsn size max most limits cs s small some r few short =
+pub in-order : WhileFewTsns AreReadInOrder
+in-order tsn size max most limits cs s small some r few =
     let a = read-of tsn size max most limits cs s small some r (omega (arith, few)) in
     let e = each-read a.numbered a.sent a.once s.receiving.read a.each in
-    let last : (st : ℕ) → begun_on st a.sent ≤ 2 ^ 15 = λ st.
+    let last : (st : ℕ) → SsnsLast st s.written → begun_on st a.sent ≤ 2 ^ 15 = λ st short.
     (let n = a.few st in
     let w = written-few st a.numbered in
-    let l = subst (λ ws. length (filter (λ w. w.stream == st) ws) ≤ 2 ^ 15) (sym a.writes) (short st) in
+    let l = subst (SsnsLast st) (sym a.writes) short in
     omega (arith, n, w, l)) in
-    let turns = in-turn tsn size max most limits cs s r (small-made a.sent a.indexed last s.made a.sent-made) in
     let on = sessions.read-on tsn size max most limits cs s r in (
       places a.numbered a.sent a.once s.receiving.read e,
       subst (λ ws. StandAt ws s.receiving.read (places a.numbered a.sent a.once s.receiving.read e)) a.writes
           (stand a.numbered a.sent a.once s.receiving.read e),
       apart a.numbered a.sent a.once s.receiving.read e (read_once.none-twice tsn size max most limits cs s r small few),
-      λ st. ordered a.numbered a.sent a.once a.indexed a.rising last a.placed st s.receiving.read e on (turns st),
+      λ st short.
+          let fewer = last st short in
+          ordered a.numbered a.sent a.once a.indexed a.rising a.placed st fewer s.receiving.read e on
+          (in-turn st tsn size max most limits cs s r (small-made a.sent a.indexed st fewer s.made a.sent-made)),
     )

@@ -1,29 +1,19 @@
--- In which order ordered messages are read (RFC 4960 6.6): on each stream in that of their writes, while stream sequence numbers last.
-use Rattle.std.specs.Prelude.{◌≡◌, ◌≢◌, AllPairs, ℕ, ◌^◌, ◌<◌, ◌≤◌, ◌==◌, Bool, not, ◌&&◌, if◌then◌else◌, List, [], ◌∷◌, length, Option}
+-- In which order ordered messages are read (RFC 4960 6.6): on each stream in that of their writes, while its sequence numbers last.
+use Rattle.std.specs.Prelude.{◌≡◌, ◌≢◌, AllPairs, ℕ, ◌^◌, ◌<◌, ◌≤◌, ◌==◌, Bool, not, ◌&&◌, if◌then◌else◌, List, [], ◌∷◌, length}
 use Rattle.std.specs.List.{filter, list_all}
 use Rattle.sctp_data.specs.declared.chunk.chunk_payload_data.ChunkPayloadData.{ChunkPayloadData}
-use Rattle.sctp_receiver.specs.declared.receiver.limits.Limits.{Limits}
 use Rattle.sctp_receiver.specs.Receiver.{Reception}
 use Rattle.sctp_receiver.specs.ReceiverRuns.{Message}
 use Rattle.sctp_delivery.specs.Messages.{StandAt}
-use Rattle.sctp_delivery.specs.Sacks.{tsns_given}
 use Rattle.sctp_delivery.specs.SenderCalls.{Write}
-use Rattle.sctp_delivery.specs.Session.{Call, RunsTo, Session, at_start}
+use Rattle.sctp_delivery.specs.Session.{Session}
 
--- ## Sessions
+-- ## Streams
 
--- on each stream there are at most 2^15 writes, so that no two ordered messages of a stream have one number, and of two numbers the
--- lower one is that of the earlier message (RFC 1982 3.2)
-abbrev pub AreFewOnEach : List Write → Type 0
-AreFewOnEach ws = (stream : ℕ) → length (filter (λ w. w.stream == stream) ws) ≤ 2 ^ 15
-
--- P after each session in which fewer than 2^31 TSNs were given out, and in which this is so
-abbrev pub WhileSsnsLast : (Session → Type 0) → Type 0
-WhileSsnsLast P =
-    (tsn size max most : ℕ) (limits : Option Limits) (calls : List Call) (s : Session)
-    → tsn < 2 ^ 32 → 0 < size → (r : RunsTo (at_start tsn size max most limits) calls s)
-    → tsns_given (at_start tsn size max most limits) calls s r < 2 ^ 31
-    → AreFewOnEach s.written → P s
+-- at most 2^15 writes are on the stream: so no two of its ordered messages have one number, and of two numbers the lower one is that
+-- of the earlier message (RFC 1982 3.2)
+abbrev pub SsnsLast : ℕ → List Write → Type 0
+SsnsLast stream ws = length (filter (λ w. w.stream == stream) ws) ≤ 2 ^ 15
 
 -- ## Messages
 
@@ -38,14 +28,14 @@ ordered_places stream (m ∷ ms) [] = []
 ordered_places stream (m ∷ ms) (p ∷ ps) =
     if is_ordered_on stream m then p ∷ ordered_places stream ms ps else ordered_places stream ms ps
 
--- each message that was read is a write at a place of its own. Of two ordered messages of a stream the one that was read later was
--- written later: its place is the lower one, since writes and messages have the last one first
+-- each message that was read is a write at a place of its own. Where the numbers of a stream last, of two of its ordered messages the
+-- one that was read later was written later: its place is the lower one, since writes and messages have the last one first
 abbrev pub AreReadInOrder : Session → Type 0
 AreReadInOrder s =
     (places : List ℕ) × StandAt s.written s.receiving.read places
     × AllPairs (λ p q. p ≢ q) places
-    × ((stream : ℕ) → AllPairs (λ p q. p < q)
-    (ordered_places stream s.receiving.read places))
+    × ((stream : ℕ) → SsnsLast stream s.written
+    → AllPairs (λ p q. p < q) (ordered_places stream s.receiving.read places))
 
 -- where the receiver of the session is this one: with these fragments, read next on a stream, messages are read in order still
 abbrev pub IsNextIn : Reception → ℕ → List ChunkPayloadData → Session → Type 0

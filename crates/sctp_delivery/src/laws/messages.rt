@@ -1,7 +1,7 @@
 //! What is sent and what is read is what was written.
 
 ghost use Rattle.sctp_delivery.specs.Messages.{AfterEachFitSession, AreParts, AreSame, AreWrites, AreWritesOfTheirOwn, NoneIsReadTwice, WhileFewTsns, WhileTsnsLast};
-ghost use Rattle.sctp_delivery.specs.Order.{AreReadInOrder, WhileSsnsLast};
+ghost use Rattle.sctp_delivery.specs.Order.{AreReadInOrder};
 ghost use Rattle.sctp_delivery.specs.Sacks.{AfterEachSessionOfFewTsns};
 
 /// Each DATA chunk that a sender makes, for the first time or again, is a part of a write: on its stream, with its payload type, and its
@@ -26,9 +26,8 @@ pub fn no_message_is_read_twice()
     ensures writes { WhileFewTsns AreWritesOfTheirOwn }
 {}
 
-/// The ordered messages of a stream are read in the order of their writes, each a write at a place of its own, whatever FORWARD-TSNs
-/// skip. So it is in sessions that give out fewer than 2^31 TSNs and have at most 2^15 writes on each stream, so that stream sequence
-/// numbers last.
+/// The ordered messages of a stream with at most 2^15 writes are read in the order of their writes, each a write at a place of its own,
+/// whatever FORWARD-TSNs skip. So it is in sessions that give out fewer than 2^31 TSNs.
 pub fn messages_are_read_in_order()
-    ensures { WhileSsnsLast AreReadInOrder }
+    ensures { WhileFewTsns AreReadInOrder }
 {}
