@@ -1,5 +1,5 @@
 #!/usr/bin/env python3
-"""Writes what the wrappers repeat of include/sctp.h: declarations and codes for Rust, codes for C++ and Go, and the version.
+"""Writes what the wrappers repeat of include/sctp.h: declarations and codes for Rust, codes for C++ and Go, and the version, which sctpdump says too.
 
     python3 tools/c_bindings.py            writes
     python3 tools/c_bindings.py --check    says what is out of date; the status is 1 where anything is
@@ -211,6 +211,8 @@ def files():
         old = (TOP / path).read_text()
         new = re.sub(r'^version = "[^"]*"$', f'version = "{version()}"', old, flags=re.M)
         yield path, re.sub(r'(sctp-rattle-sys = \{[^}]*version = ")[^"]*"', rf'\g<1>{version()}"', new)
+    path = 'crates/sctpdump/src/main.rt'
+    yield path, re.sub(r'^const VERSION: &str = "[^"]*";$', f'const VERSION: &str = "{version()}";', (TOP / path).read_text(), flags=re.M)
 
 
 def main():

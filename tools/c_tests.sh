@@ -3,6 +3,7 @@
 #   - the tests in C, with sanitizers and an allocator that refuses, and eight million calls in any order
 #   - the endpoints of examples/c: with one another, and with usrsctp
 #   - the wrappers for C++, Rust and Go: their tests, and the echo, which prints the same in each
+# and on the program sctpdump, where rt ci or rt run has built it, what tools/dump_tests.py tests.
 # The last line is 'N passed, M failed'; the status is 0 where nothing failed. It needs the kit's command rt, gcc and g++, or the CC and CXX
 # given. What else it asks for are Debian's packages libusrsctp-dev, valgrind, golang-go, make and pkgconf: as root it installs those that
 # are missing, unless C_TESTS_INSTALL=no. Where one can't be had, and where there is no cargo, a line that begins with 'left out:' says
@@ -209,6 +210,16 @@ elif quietly make install PREFIX="$PREFIX" OUT="$BUILD/out" CC="$CC"; then
     try_installed
 else
     failed=$((failed + 1))
+fi
+
+# ---- sctpdump ----------------------------------------------------------------------------------------------------------------
+
+# Frames, recorded runs and the version, on the program that rt ci has built.
+if [ -x crates/sctpdump/out/sctpdump ]; then
+    python3 tools/dump_tests.py 2>&1 | sed '$s/^/sctpdump: /' >"$BUILD/sctpdump.log"
+    count sctpdump
+else
+    leave_out "the runs of sctpdump" "rt ci has not built it"
 fi
 
 # ---- usrsctp -----------------------------------------------------------------------------------------------------------------

@@ -38,6 +38,13 @@ const FILTER_WORDS: &str =
 const VIEW_WORDS: &str =
     "--summary, --flow, --messages and --svg do not go together, nor --flow or --svg with --json or -V, nor --messages with -V";
 
+/// What the color, the numbers and the picture may be.
+const COLOR_WORDS: &str = "--color is auto, always or never";
+
+const NUMBER_WORDS: &str = "the port is a number up to 65535, and the count a number";
+
+const PICTURE_WORDS: &str = "--svg has one input, and its FILE is - or ends in .svg";
+
 const FILTER_HELP: &str =
     "Show only packets with one of these: port, tag, type, stream, tsn (also FROM-TO), ppid; or `refused`";
 
@@ -483,6 +490,46 @@ fn run_files(rt: &HostRuntime, task: &Task<'_>, files: &[&str]) -> anyhow::Resul
     Ok(ExitCode::FAILURE)
 }
 
+/// Says why the command line cannot be followed.
+fn refuse<'a>(rt: &HostRuntime, why: &str) -> anyhow::Result<Option<Task<'a>>> {
+    eprintln!(rt; "sctpdump: {why}")?;
+    Ok(None)
+}
+
+/// What the command line asks for, of so many inputs. Where it cannot be followed it says why.
+fn task_in<'a>(
+    rt: &HostRuntime,
+    matches: &ArgMatches<'a>,
+    inputs: usize,
+) -> anyhow::Result<Option<Task<'a>>> {
+    let filter = match filter_in(rt.alloc(), matches)? {
+        Ok(filter) => filter,
+        Err(word) => {
+            eprintln!(rt; "sctpdump: --filter {word}: {FILTER_WORDS}")?;
+            return Ok(None);
+        }
+    };
+    let Some(is_colored) = is_colored_by(rt, matches.get_str("color")) else {
+        return refuse(rt, COLOR_WORDS);
+    };
+    let Some(options) = options_in(matches, filter, is_colored) else {
+        return refuse(rt, NUMBER_WORDS);
+    };
+    let Some(view) = view_in(matches) else {
+        return refuse(rt, VIEW_WORDS);
+    };
+    let picture = matches.get_str("svg");
+    if !is_picture(picture, inputs) {
+        return refuse(rt, PICTURE_WORDS);
+    }
+    Ok(Some(Task {
+        options,
+        view,
+        is_relative: matches.get_flag("relative"),
+        picture,
+    }))
+}
+
 /// Does what the command line says. The exit status is 2 where it is another.
 fn main(rt: HostRuntime) -> anyhow::Result<ExitCode> {
     let alloc = rt.alloc();
@@ -497,36 +544,9 @@ fn main(rt: HostRuntime) -> anyhow::Result<ExitCode> {
             return Ok(ExitCode::from(if e.use_stderr() { 2 } else { 0 }));
         }
     };
-    let filter = match filter_in(alloc, &matches)? {
-        Ok(filter) => filter,
-        Err(word) => {
-            eprintln!(rt; "sctpdump: --filter {word}: {FILTER_WORDS}")?;
-            return Ok(ExitCode::from(2));
-        }
-    };
-    let Some(is_colored) = is_colored_by(&rt, matches.get_str("color")) else {
-        eprintln!(rt; "sctpdump: --color is auto, always or never")?;
-        return Ok(ExitCode::from(2));
-    };
-    let Some(options) = options_in(&matches, filter, is_colored) else {
-        eprintln!(rt; "sctpdump: the port is a number up to 65535, and the count a number")?;
-        return Ok(ExitCode::from(2));
-    };
-    let Some(view) = view_in(&matches) else {
-        eprintln!(rt; "sctpdump: {VIEW_WORDS}")?;
-        return Ok(ExitCode::from(2));
-    };
     let files = matches.get_strs("file").unwrap_or(&[]);
-    let picture = matches.get_str("svg");
-    if !is_picture(picture, files.len()) {
-        eprintln!(rt; "sctpdump: --svg has one input, and its FILE is - or ends in .svg")?;
-        return Ok(ExitCode::from(2));
+    match task_in(&rt, &matches, files.len())? {
+        Some(task) => run_files(&rt, &task, files),
+        None => Ok(ExitCode::from(2)),
     }
-    let task = Task {
-        options,
-        view,
-        is_relative: matches.get_flag("relative"),
-        picture,
-    };
-    run_files(&rt, &task, files)
 }

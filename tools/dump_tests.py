@@ -1,0 +1,236 @@
+#!/usr/bin/env python3
+"""Tests the program sctpdump: frames made by hand, and runs with what they must print.
+
+    python3 tools/dump_tests.py [--tshark] [PROGRAM]
+
+PROGRAM is crates/sctpdump/out/sctpdump unless told otherwise: `rt ci` leaves it there, and `rt run` in crates/sctpdump makes it. The frames hold one
+datagram behind the headers that the RFCs named below give, or none; with --tshark, tshark has to find the datagram in the same ones, between the same
+addresses. The runs are those of tools/dump_runs.txt: a line '$ sctpdump ..', run in crates/sctpdump/data and examples, and the lines that it prints.
+The last line is 'N passed, M failed'; the status is 0 where nothing failed.
+"""
+import json
+import os
+import re
+import shlex
+import shutil
+import struct
+import subprocess
+import sys
+import tempfile
+
+ROOT = os.path.dirname(os.path.dirname(os.path.abspath(__file__)))
+
+# A COOKIE-ACK from port 5000 to 5001 (RFC 4960 3, 3.3.12), with its checksum.
+DATAGRAM = bytes.fromhex("13881389009a5599de8f77f30b000004")
+
+INNER4 = ("10.1.2.3", "10.4.5.6")
+INNER6 = ("2001:db8::1", "2001:db8::2")
+OUTER4 = ("192.0.2.1", "192.0.2.2")
+
+ETHERNET, LOOPBACK, RAW, COOKED, COOKED_2, PPI = 1, 0, 101, 113, 276, 192
+
+
+def ipv4(payload, protocol=132, ends=INNER4, fragment=0, total=None):
+    """RFC 791 3.1."""
+    length = 20 + len(payload) if total is None else total
+    address = [bytes(int(part) for part in end.split(".")) for end in ends]
+    return struct.pack(">BBHHHBBH", 0x45, 0, length, 1, fragment, 64, protocol, 0) + address[0] + address[1] + payload
+
+
+def ipv6(payload, protocol=132):
+    """RFC 8200 3, between 2001:db8::1 and 2001:db8::2."""
+    address = [bytes.fromhex("20010db80000000000000000000000") + bytes([last]) for last in (1, 2)]
+    return struct.pack(">IHBB", 0x60000000, len(payload), protocol, 64) + address[0] + address[1] + payload
+
+
+def ethernet(typ, payload, tags=()):
+    """Two addresses, tags (IEEE 802.1Q), and the number of the protocol."""
+    tagged = b"".join(struct.pack(">HH", tag, 5) for tag in tags)
+    return bytes.fromhex("0200000000020200000000 01".replace(" ", "")) + tagged + struct.pack(">H", typ) + payload
+
+
+def pppoe(protocol, payload, first=0x11, code=0):
+    """RFC 2516 4, and the number of the protocol of PPP (RFC 1661 2)."""
+    return struct.pack(">BBHHH", first, code, 7, 2 + len(payload), protocol) + payload
+
+
+def label(number, bottom, payload):
+    """RFC 3032 2.1: label, traffic class, bottom of stack, time to live."""
+    return struct.pack(">I", number << 12 | 3 << 9 | bottom << 8 | 64) + payload
+
+
+def gre(typ, payload, checksum=False, key=False, sequence=False, bits=0):
+    """RFC 2784 2.1, RFC 2890 2."""
+    flags = checksum << 15 | key << 13 | sequence << 12 | bits
+    return struct.pack(">HH", flags, typ) + bytes(4 * (checksum + key + sequence)) + payload
+
+
+def tunnel(payload, depth=1):
+    """An IPv4 packet in so many of GRE."""
+    for _ in range(depth):
+        payload = ipv4(gre(0x0800, payload), 47, OUTER4)
+    return payload
+
+
+V4, V6 = ipv4(DATAGRAM), ipv6(DATAGRAM)
+
+# What it is, the link type, the frame, and the addresses between which the datagram goes, or why none is shown.
+FRAMES = [
+    ("IPv4 in Ethernet", ETHERNET, ethernet(0x0800, V4), INNER4),
+    ("IPv6 in Ethernet", ETHERNET, ethernet(0x86DD, V6), INNER6),
+    ("behind a tag", ETHERNET, ethernet(0x0800, V4, [0x8100]), INNER4),
+    ("behind two tags", ETHERNET, ethernet(0x0800, V4, [0x88A8, 0x8100]), INNER4),
+    ("behind three tags", ETHERNET, ethernet(0x86DD, V6, [0x9100, 0x88A8, 0x8100]), INNER6),
+    ("behind four tags", ETHERNET, ethernet(0x0800, V4, [0x8100] * 4), "no SCTP"),
+    ("IPv4 in PPPoE", ETHERNET, ethernet(0x8864, pppoe(0x0021, V4)), INNER4),
+    ("IPv6 in PPPoE", ETHERNET, ethernet(0x8864, pppoe(0x0057, V6)), INNER6),
+    ("PPPoE behind a tag", ETHERNET, ethernet(0x8864, pppoe(0x0021, V4), [0x8100]), INNER4),
+    ("PPPoE with LCP (RFC 1661)", ETHERNET, ethernet(0x8864, pppoe(0xC021, V4)), "no SCTP"),
+    ("PPPoE of another code", ETHERNET, ethernet(0x8864, pppoe(0x0021, V4, code=0xA7)), "no SCTP"),
+    ("PPPoE of version 2", ETHERNET, ethernet(0x8864, pppoe(0x0021, V4, first=0x21)), "no SCTP"),
+    ("discovery of PPPoE", ETHERNET, ethernet(0x8863, pppoe(0x0021, V4)), "no SCTP"),
+    ("one MPLS label", ETHERNET, ethernet(0x8847, label(16, 1, V4)), INNER4),
+    ("three MPLS labels", ETHERNET, ethernet(0x8847, label(16, 0, label(17, 0, label(18, 1, V6)))), INNER6),
+    ("MPLS of multicast behind a tag", ETHERNET, ethernet(0x8848, label(16, 1, V6), [0x8100]), INNER6),
+    ("twenty MPLS labels", ETHERNET, ethernet(0x8847, label(16, 0, b"") * 19 + label(16, 1, V4)), INNER4),
+    ("MPLS with no bottom of stack", ETHERNET, ethernet(0x8847, label(16, 0, b"") * 30), "frame cut off"),
+    ("a label with no IP below", ETHERNET, ethernet(0x8847, label(16, 1, bytes(40))), "no SCTP"),
+    ("IPv4 in GRE", ETHERNET, ethernet(0x0800, tunnel(V4)), INNER4),
+    ("IPv6 in GRE", ETHERNET, ethernet(0x0800, ipv4(gre(0x86DD, V6), 47, OUTER4)), INNER6),
+    ("IPv4 in GRE in IPv6", ETHERNET, ethernet(0x86DD, ipv6(gre(0x0800, V4), 47)), INNER4),
+    ("GRE with a checksum", RAW, ipv4(gre(0x0800, V4, checksum=True), 47, OUTER4), INNER4),
+    ("GRE with a key", RAW, ipv4(gre(0x0800, V4, key=True), 47, OUTER4), INNER4),
+    ("GRE with a sequence number", RAW, ipv4(gre(0x0800, V4, sequence=True), 47, OUTER4), INNER4),
+    ("GRE with all three", RAW, ipv4(gre(0x86DD, V6, True, True, True), 47, OUTER4), INNER6),
+    ("GRE with an Ethernet frame", RAW, ipv4(gre(0x6558, ethernet(0x0800, V4)), 47, OUTER4), INNER4),
+    ("GRE with a frame behind a tag", RAW, ipv4(gre(0x6558, ethernet(0x86DD, V6, [0x8100]), key=True), 47, OUTER4), INNER6),
+    ("GRE with MPLS (RFC 4023)", RAW, ipv4(gre(0x8847, label(16, 1, V4)), 47, OUTER4), INNER4),
+    ("GRE of version 1", RAW, ipv4(gre(0x880B, V4, key=True, bits=1), 47, OUTER4), "no SCTP"),
+    ("GRE with routing (RFC 1701)", RAW, ipv4(gre(0x0800, V4, bits=0x4000), 47, OUTER4), "no SCTP"),
+    ("GRE with no IP", RAW, ipv4(gre(0x0806, V4), 47, OUTER4), "no SCTP"),
+    ("GRE that is cut off", RAW, ipv4(gre(0x0800, b"", key=True)[:6], 47, OUTER4), "no SCTP"),
+    ("a fragment in GRE", RAW, ipv4(gre(0x0800, ipv4(DATAGRAM, fragment=0x2000)), 47, OUTER4), "fragment of an IP packet"),
+    ("four tunnels", RAW, tunnel(V4, 4), INNER4),
+    ("five tunnels", RAW, tunnel(V4, 5), "no SCTP"),
+    ("a tunnel on loopback", LOOPBACK, struct.pack("<I", 2) + tunnel(V4), INNER4),
+    ("a tunnel in a cooked frame", COOKED, bytes(14) + b"\x08\x00" + tunnel(V4), INNER4),
+    ("a tunnel in a cooked frame of version 2", COOKED_2, b"\x08\x00" + bytes(18) + tunnel(V4), INNER4),
+    ("a link type that is not known", PPI, bytes(60), "unknown link type 192"),
+]
+
+# These tshark treats otherwise: it goes into as many tags and tunnels as there are, and tells what PPPoE carries whatever its version and code.
+OF_OUR_OWN = {"behind four tags", "five tunnels", "PPPoE of another code", "PPPoE of version 2"}
+
+
+def write_capture(path, link_type, frame):
+    """Writes a capture of one frame."""
+    with open(path, "wb") as out:
+        out.write(struct.pack("<IHHiIII", 0xA1B2C3D4, 2, 4, 0, 0, 262144, link_type))
+        out.write(struct.pack("<IIII", 1, 2, len(frame), len(frame)) + frame)
+
+
+def seen_by_us(program, path):
+    """Returns the addresses of the datagram, if it is the one that was put into the frame, or why none is shown."""
+    ran = subprocess.run([program, "--json", path], capture_output=True, text=True)
+    record = json.loads(ran.stdout.split("\n")[0])
+    if "not_shown" in record:
+        return record["not_shown"]
+    if record.get("right") is not True or record["source_port"] != 5000 or record["destination_port"] != 5001:
+        return f"another datagram: {record}"
+    return record["source"], record["destination"]
+
+
+def seen_by_tshark(path):
+    """Returns the innermost addresses of the frame, if it holds SCTP."""
+    wanted = ["-e", "sctp.srcport", "-e", "ip.src", "-e", "ip.dst", "-e", "ipv6.src", "-e", "ipv6.dst", "-e", "frame.protocols"]
+    ran = subprocess.run(["tshark", "-r", path, "-T", "fields", *wanted], capture_output=True, text=True)
+    port, *ends, protocols = ran.stdout.rstrip("\n").split("\t")
+    if port != "5000":
+        return None
+    versions = [it for it in protocols.split(":") if it in ("ip", "ipv6")]
+    at = 0 if versions[-1] == "ip" else 2
+    return ends[at].split(",")[-1], ends[at + 1].split(",")[-1]
+
+
+def frame_tests(program, has_tshark):
+    """Returns how many frames are seen as they must be, and how many are not."""
+    counts = [0, 0]
+    with tempfile.TemporaryDirectory() as room:
+        path = f"{room}/frame.pcap"
+        for name, link_type, frame, wanted in FRAMES:
+            write_capture(path, link_type, frame)
+            told = seen_by_us(program, path)
+            is_right = told == wanted
+            if not is_right:
+                print(f"{name}: {told}, not {wanted}")
+            if has_tshark and name not in OF_OUR_OWN:
+                theirs = seen_by_tshark(path)
+                if theirs != (wanted if isinstance(wanted, tuple) else None):
+                    print(f"{name}: tshark says {theirs}, not {wanted}")
+                    is_right = False
+            counts[not is_right] += 1
+    return counts
+
+
+def runs_in(path):
+    """Returns the runs of a file: the command's words, and the lines that it is to print."""
+    found = []
+    with open(path, encoding="utf-8") as text:
+        for line in text.read().split("\n"):
+            if line.startswith("$ "):
+                found.append((line[2:], []))
+            elif found and not line.startswith("#"):
+                found[-1][1].append(line)
+    return [(command, "\n".join(lines).rstrip("\n")) for command, lines in found]
+
+
+def printed_by(program, command, room):
+    """Returns what a command prints, with its exit status where that is not 0."""
+    words = shlex.split(command)
+    ran = subprocess.run([program, *words[1:]], capture_output=True, stdin=subprocess.DEVNULL, cwd=room)
+    told = (ran.stdout + ran.stderr).decode().rstrip("\n")
+    return told + (f"\nstatus {ran.returncode}" if ran.returncode else "")
+
+
+def run_tests(program, path):
+    """Returns how many runs print what they must, and how many do not."""
+    counts = [0, 0]
+    with tempfile.TemporaryDirectory() as room:
+        for folder in ("crates/sctpdump/data", "examples"):
+            for name in os.listdir(f"{ROOT}/{folder}"):
+                if os.path.isfile(f"{ROOT}/{folder}/{name}"):
+                    shutil.copy(f"{ROOT}/{folder}/{name}", room)
+        for command, wanted in runs_in(path):
+            told = printed_by(program, command, room)
+            if told != wanted:
+                print(f"$ {command}\n--- it prints\n{told}\n--- and not\n{wanted}\n---")
+            counts[told != wanted] += 1
+    return counts
+
+
+def tells_version(program):
+    """Whether `--version` says the version of include/sctp.h."""
+    with open(f"{ROOT}/include/sctp.h", encoding="utf-8") as header:
+        numbers = re.findall(r"^#define SCTP_VERSION_[A-Z]* ([0-9]+)$", header.read(), re.M)
+    told = subprocess.run([program, "--version"], capture_output=True, text=True).stdout
+    if told != f"sctpdump {'.'.join(numbers)}\n":
+        print(f"--version says {told!r}, and include/sctp.h {numbers}")
+        return False
+    return True
+
+
+def main(words):
+    has_tshark = "--tshark" in words
+    words = [word for word in words if word != "--tshark"]
+    program = os.path.abspath(words[0] if words else f"{ROOT}/crates/sctpdump/out/sctpdump")
+    passed, failed = (a + b for a, b in zip(frame_tests(program, has_tshark), run_tests(program, f"{ROOT}/tools/dump_runs.txt")))
+    if tells_version(program):
+        passed += 1
+    else:
+        failed += 1
+    print(f"{passed} passed, {failed} failed")
+    return 1 if failed else 0
+
+
+if __name__ == "__main__":
+    sys.exit(main(sys.argv[1:]))
