@@ -6,7 +6,7 @@ import os
 import re
 from dataclasses import dataclass, field
 
-FN = re.compile(r"^(\s*)(pub(?:\([a-z]+\))? )?(?:const )?fn (\w+)")
+FN = re.compile(r"^(\s*)(pub(?:\([a-z]+\))? )?(?:const )?(?:unsafe )?(?:extern \"C\" )?fn (\w+)")
 BLOCK = re.compile(r"^(?:impl|pub trait|trait)\b(.*)")
 ENUM = re.compile(r"^(?:pub(?:\([a-z]+\))? )?enum (\w+)")
 VARIANT = re.compile(r"^    (\w+)\((.+?)\),?$")

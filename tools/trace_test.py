@@ -1,5 +1,5 @@
 #!/usr/bin/env python3
-"""Asks trace.py's reading for what was found by hand: callers of twenty calls, contracts of traits, and definitions.
+"""Asks trace.py's reading for what was found by hand: callers of twenty-one calls, contracts of traits, and definitions.
 
     python3 tools/trace_test.py
 
@@ -14,7 +14,7 @@ from trace import Callers, definitions_of, with_traits
 CALLERS = {
     "sctp_sender::InFlight::expire_late": {"sctp_sender/sender/abandonment expire_late"},
     "sctp_sender::Sender::expire_late": {"association/association abandon", "transfer_tests/sending abandon_late", "transfer_tests/sender_tests abandons",
-                                         "sctp_delivery/sender_steps expire_late"},
+                                         "sctp_delivery/sender_steps expire_late", "sctp_c/sender/abandoning sctp_sender_expire_late"},
     "sctp_outbound::PayloadQueue::pop_up_to": {"queue_tests/payload_queue pops_up_to", "sctp_receiver/receiver/tsn_filter skip_to"},
     "sctp_reassembly::Loose::take_range": {"sctp_reassembly/reassembly_queue/pool/undo put_undoable", "sctp_reassembly/reassembly_queue/pool take_run"},
     "sctp_reassembly::ReassemblyQueue::forward_tsn_for_unordered": {"queue_tests/reassembly_queue skips_by_half_a_circle", "sctp_receiver/receiver/inbound_streams forward_each"},
@@ -34,7 +34,9 @@ CALLERS = {
     "sctp_sender::OutboundStreams::close": {"sctp_sender/sender close"},
     "sctp_receiver::InboundStreams::held_bytes": {"sctp_receiver/receiver/limits held_bytes", "sctp_receiver/receiver/limits refusal_within"},
     "sctp_reassembly::ReassemblyQueue::next_len": {"sctp_receiver/receiver next_len"},
-    "sctp_receiver::Receiver::held_bytes": {"sctp_receiver/receiver/limits left_of", "transfer_tests/limits_tests holds"},
+    "sctp_receiver::Receiver::held_bytes": {"sctp_receiver/receiver/limits left_of", "transfer_tests/limits_tests holds",
+                                              "sctp_c/receiver sctp_receiver_held_bytes"},
+    "sctp_c::sctp_sender_open": {"sctp_c/callers first_chunk"},
     "crc32c::Crc::update": {"benchlib/packet sum", "crc32c/lib crc32c", "sctp_packets/checksum checksum", "sctp_show/checksum checksum",
                             "crc32c/tests datagrams", "crc32c/tests pieces"},
 }
