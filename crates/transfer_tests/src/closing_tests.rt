@@ -65,13 +65,7 @@ fn is_used_again(alloc: Global, a: &mut Host, b: &mut Host) -> bool {
 /// anew.
 #[test]
 fn closed_in_flight(rt: HostRuntime) {
-    let alloc = rt.alloc();
-    let mut a = Host::new(alloc, u32::MAX, 7);
-    let mut b = Host::new(alloc, 7, u32::MAX);
-    let well = one_is_lost(alloc, &mut a, &mut b)
-        && is_closed(alloc, &mut a)
-        && the_rest_goes_on(alloc, &mut a, &mut b);
-    assert!(rt; well && is_used_again(alloc, &mut a, &mut b));
+    assert!(rt; goes_well(rt.alloc(), u32::MAX, 7, Case::ClosedInFlight));
 }
 
 // Whether a sender answers this to a write.
@@ -220,9 +214,32 @@ fn sizes_are_told(a: &Host) -> bool {
 /// What a sender tells of itself, while it sends and sends again.
 #[test]
 fn next_tsn_and_sendings(rt: HostRuntime) {
-    let alloc = rt.alloc();
-    let mut a = Host::new(alloc, u32::MAX, 7);
-    let mut b = Host::new(alloc, 7, u32::MAX);
-    let well = tsns_are_told(alloc, &mut a, &mut b) && sendings_are_counted(&mut a);
-    assert!(rt; well && sizes_are_told(&a));
+    assert!(rt; goes_well(rt.alloc(), u32::MAX, 7, Case::NextTsnAndSendings));
+}
+
+// The tests of two hosts, each by its name.
+#[derive(Clone, Copy)]
+enum Case {
+    ClosedInFlight,
+    NextTsnAndSendings,
+}
+
+// Whether a test goes well with two hosts.
+fn holds(alloc: Global, case: Case, a: &mut Host, b: &mut Host) -> bool {
+    match case {
+        Case::ClosedInFlight => one_is_lost(alloc, a, b)
+            && is_closed(alloc, a)
+            && the_rest_goes_on(alloc, a, b)
+            && is_used_again(alloc, a, b),
+        Case::NextTsnAndSendings => tsns_are_told(alloc, a, b)
+            && sendings_are_counted(a)
+            && sizes_are_told(a),
+    }
+}
+
+// Whether it goes well with two that are new, of which the first begins with the first TSN and the other with the second.
+fn goes_well(alloc: Global, first_tsn: u32, second_tsn: u32, case: Case) -> bool {
+    let mut a = Host::new(alloc, first_tsn, second_tsn);
+    let mut b = Host::new(alloc, second_tsn, first_tsn);
+    holds(alloc, case, &mut a, &mut b)
 }

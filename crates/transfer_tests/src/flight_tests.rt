@@ -58,11 +58,7 @@ fn is_walked(a: &Host) -> bool {
 /// What is in flight is walked by places, without a TSN.
 #[test]
 fn walked(rt: HostRuntime) {
-    let alloc = rt.alloc();
-    let mut a = Host::new(alloc, u32::MAX, 7);
-    let mut b = Host::new(alloc, 7, u32::MAX);
-    let well = four_in_flight(alloc, &mut a, &mut b);
-    assert!(rt; well && is_walked(&a));
+    assert!(rt; goes_well(rt.alloc(), u32::MAX, 7, Case::Walked));
 }
 
 // What a SACK reports anew while four chunks are in flight: the second and the third.
@@ -95,11 +91,7 @@ fn is_less(a: &Host) -> bool {
 /// A SACK's answer says of each chunk that it reports anew what an association asks.
 #[test]
 fn told_of_what_is_acknowledged(rt: HostRuntime) {
-    let alloc = rt.alloc();
-    let mut a = Host::new(alloc, u32::MAX, 7);
-    let mut b = Host::new(alloc, 7, u32::MAX);
-    let well = four_in_flight(alloc, &mut a, &mut b) && is_told(alloc, &mut a);
-    assert!(rt; well && is_less(&a));
+    assert!(rt; goes_well(rt.alloc(), u32::MAX, 7, Case::ToldOfWhatIsAcknowledged));
 }
 
 // Whether the first chunk that is marked is sent again then, and has this TSN.
@@ -132,13 +124,7 @@ fn all_are_sent_again(a: &mut Host) -> bool {
 /// The timer runs out: what is outstanding is marked, lent one after another, and sent again.
 #[test]
 fn marked_and_sent_again(rt: HostRuntime) {
-    let alloc = rt.alloc();
-    let mut a = Host::new(alloc, u32::MAX, 7);
-    let mut b = Host::new(alloc, 7, u32::MAX);
-    let well = four_in_flight(alloc, &mut a, &mut b)
-        && nothing_is_marked(&mut a)
-        && is_told(alloc, &mut a);
-    assert!(rt; well && all_are_sent_again(&mut a));
+    assert!(rt; goes_well(rt.alloc(), u32::MAX, 7, Case::MarkedAndSentAgain));
 }
 
 // A SACK of one TSN behind the first in flight comes; so many chunks are marked by it.
@@ -166,11 +152,7 @@ fn is_missed_thrice(alloc: Global, a: &mut Host) -> bool {
 /// Three SACKs report later chunks: the first is sent again at once, and once only (RFC 4960 7.2.4).
 #[test]
 fn missed_three_times(rt: HostRuntime) {
-    let alloc = rt.alloc();
-    let mut a = Host::new(alloc, u32::MAX, 7);
-    let mut b = Host::new(alloc, 7, u32::MAX);
-    let well = four_in_flight(alloc, &mut a, &mut b);
-    assert!(rt; well && is_missed_thrice(alloc, &mut a));
+    assert!(rt; goes_well(rt.alloc(), u32::MAX, 7, Case::MissedThreeTimes));
 }
 
 fn is_abandoned(a: &mut Host, due: &[AbandonedMessage]) -> bool {
@@ -216,11 +198,7 @@ fn one_is_limited(alloc: Global, a: &mut Host, b: &mut Host) -> bool {
 /// A message that may be sent again once is abandoned where it is marked a second time (RFC 7496 3.1), and skipped.
 #[test]
 fn sent_as_often_as_it_may_be(rt: HostRuntime) {
-    let alloc = rt.alloc();
-    let mut a = Host::new(alloc, 0, 7);
-    let mut b = Host::new(alloc, 7, 0);
-    let well = one_is_limited(alloc, &mut a, &mut b) && is_worn(&mut a);
-    assert!(rt; well && is_skipped(&a));
+    assert!(rt; goes_well(rt.alloc(), 0, 7, Case::SentAsOftenAsItMayBe));
 }
 
 fn is_busy(alloc: Global, a: &mut Host) -> bool {
@@ -255,11 +233,7 @@ fn is_reset(alloc: Global, a: &mut Host) -> bool {
 /// An outgoing stream is reset once nothing of it is left (RFC 6525 5.1.2).
 #[test]
 fn reset(rt: HostRuntime) {
-    let alloc = rt.alloc();
-    let mut a = Host::new(alloc, 0, 7);
-    let mut b = Host::new(alloc, 7, 0);
-    let well = is_busy(alloc, &mut a) && sends(alloc, &mut a, &mut b, true);
-    assert!(rt; well && is_reset(alloc, &mut a));
+    assert!(rt; goes_well(rt.alloc(), 0, 7, Case::Reset));
 }
 
 // What is written before has fragments of three bytes, and what is written after of two.
@@ -283,10 +257,7 @@ fn is_low_at(a: &mut Host) -> bool {
 /// The fragment size of later writes and a low threshold are set.
 #[test]
 fn settings(rt: HostRuntime) {
-    let alloc = rt.alloc();
-    let mut a = Host::new(alloc, 0, 7);
-    let well = is_cut_anew(alloc, &mut a);
-    assert!(rt; well && is_low_at(&mut a));
+    assert!(rt; goes_well(rt.alloc(), 0, 7, Case::Settings));
 }
 
 // Whether a SACK's answer has these chunks, each with its TSN, and whether the amount fell to the threshold with it.
@@ -315,11 +286,14 @@ fn is_low_once(alloc: Global, a: &mut Host) -> bool {
 /// With one chunk the buffered amount falls to its low threshold, and the ones behind it say no more.
 #[test]
 fn acknowledged_down_to_the_threshold(rt: HostRuntime) {
-    let alloc = rt.alloc();
-    let mut a = Host::new(alloc, u32::MAX, 7);
-    let mut b = Host::new(alloc, 7, u32::MAX);
-    let well = four_in_flight(alloc, &mut a, &mut b);
-    assert!(rt; well && is_low_once(alloc, &mut a));
+    assert!(rt;
+        goes_well(
+            rt.alloc(),
+            u32::MAX,
+            7,
+            Case::AcknowledgedDownToTheThreshold
+        )
+    );
 }
 
 fn is_low_abandoned(a: &mut Host) -> bool {
@@ -350,11 +324,7 @@ fn is_low_expired(alloc: Global, a: &mut Host) -> bool {
 /// The buffered amount falls to its low threshold with a message that is abandoned, and with one that expires.
 #[test]
 fn abandoned_down_to_the_threshold(rt: HostRuntime) {
-    let alloc = rt.alloc();
-    let mut a = Host::new(alloc, u32::MAX, 7);
-    let mut b = Host::new(alloc, 7, u32::MAX);
-    let well = four_in_flight(alloc, &mut a, &mut b) && is_low_abandoned(&mut a);
-    assert!(rt; well && is_low_expired(alloc, &mut a));
+    assert!(rt; goes_well(rt.alloc(), u32::MAX, 7, Case::AbandonedDownToTheThreshold));
 }
 
 // Whether the FORWARD-TSN up to a TSN goes to this one, if anywhere.
@@ -383,9 +353,51 @@ fn ends_with_a_message(a: &mut Host) -> bool {
 /// A FORWARD-TSN goes to the end of a message, never inside one (RFC 3758 3.5).
 #[test]
 fn skips_complete_messages(rt: HostRuntime) {
-    let alloc = rt.alloc();
-    let mut a = Host::new(alloc, u32::MAX, 7);
-    let mut b = Host::new(alloc, 7, u32::MAX);
-    let well = four_in_flight(alloc, &mut a, &mut b);
-    assert!(rt; well && ends_with_a_message(&mut a));
+    assert!(rt; goes_well(rt.alloc(), u32::MAX, 7, Case::SkipsCompleteMessages));
+}
+
+// The tests of two hosts, each by its name.
+#[derive(Clone, Copy)]
+enum Case {
+    Walked,
+    ToldOfWhatIsAcknowledged,
+    MarkedAndSentAgain,
+    MissedThreeTimes,
+    SentAsOftenAsItMayBe,
+    Reset,
+    Settings,
+    AcknowledgedDownToTheThreshold,
+    AbandonedDownToTheThreshold,
+    SkipsCompleteMessages,
+}
+
+// Whether a test goes well with two hosts.
+fn holds(alloc: Global, case: Case, a: &mut Host, b: &mut Host) -> bool {
+    match case {
+        Case::Walked => four_in_flight(alloc, a, b) && is_walked(a),
+        Case::ToldOfWhatIsAcknowledged => four_in_flight(alloc, a, b)
+            && is_told(alloc, a)
+            && is_less(a),
+        Case::MarkedAndSentAgain => four_in_flight(alloc, a, b)
+            && nothing_is_marked(a)
+            && is_told(alloc, a)
+            && all_are_sent_again(a),
+        Case::MissedThreeTimes => four_in_flight(alloc, a, b) && is_missed_thrice(alloc, a),
+        Case::SentAsOftenAsItMayBe => one_is_limited(alloc, a, b) && is_worn(a) && is_skipped(a),
+        Case::Reset => is_busy(alloc, a) && sends(alloc, a, b, true) && is_reset(alloc, a),
+        Case::Settings => is_cut_anew(alloc, a) && is_low_at(a),
+        Case::AcknowledgedDownToTheThreshold => four_in_flight(alloc, a, b)
+            && is_low_once(alloc, a),
+        Case::AbandonedDownToTheThreshold => four_in_flight(alloc, a, b)
+            && is_low_abandoned(a)
+            && is_low_expired(alloc, a),
+        Case::SkipsCompleteMessages => four_in_flight(alloc, a, b) && ends_with_a_message(a),
+    }
+}
+
+// Whether it goes well with two that are new, of which the first begins with the first TSN and the other with the second.
+fn goes_well(alloc: Global, first_tsn: u32, second_tsn: u32, case: Case) -> bool {
+    let mut a = Host::new(alloc, first_tsn, second_tsn);
+    let mut b = Host::new(alloc, second_tsn, first_tsn);
+    holds(alloc, case, &mut a, &mut b)
 }

@@ -84,11 +84,7 @@ fn are_resent(a: &mut Host) -> bool {
 /// What a SACK no longer reports is outstanding again with its bytes, and can be sent again.
 #[test]
 fn taken_back(rt: HostRuntime) {
-    let alloc = rt.alloc();
-    let mut a = Host::new(alloc, u32::MAX, 7);
-    let mut b = Host::new(alloc, 7, u32::MAX);
-    let well = a.sender.keep_reported().is_ok() && four_in_flight(alloc, &mut a, &mut b);
-    assert!(rt; well && are_taken_back(alloc, &mut a) && are_resent(&mut a));
+    assert!(rt; goes_well(rt.alloc(), u32::MAX, 7, Case::TakenBack));
 }
 
 // Whether the first chunk that is marked has this TSN.
@@ -117,13 +113,7 @@ fn are_marked(a: &mut Host) -> bool {
 /// What was taken back counts as missing like any chunk (RFC 4960 7.2.4), and the timer marks it (RFC 4960 6.3.3).
 #[test]
 fn missed_after_it_was_taken_back(rt: HostRuntime) {
-    let alloc = rt.alloc();
-    let mut a = Host::new(alloc, u32::MAX, 7);
-    let mut b = Host::new(alloc, 7, u32::MAX);
-    let well = a.sender.keep_reported().is_ok()
-        && four_in_flight(alloc, &mut a, &mut b)
-        && are_taken_back(alloc, &mut a);
-    assert!(rt; well && are_missed(&mut a) && are_marked(&mut a));
+    assert!(rt; goes_well(rt.alloc(), u32::MAX, 7, Case::MissedAfterItWasTakenBack));
 }
 
 // An abandoned message stays so; what the cumulative TSN passes is gone.
@@ -148,11 +138,7 @@ fn is_passed(alloc: Global, a: &mut Host) -> bool {
 /// What is abandoned does not come back.
 #[test]
 fn abandoned_for_good(rt: HostRuntime) {
-    let alloc = rt.alloc();
-    let mut a = Host::new(alloc, u32::MAX, 7);
-    let mut b = Host::new(alloc, 7, u32::MAX);
-    let well = a.sender.keep_reported().is_ok() && four_in_flight(alloc, &mut a, &mut b);
-    assert!(rt; well && is_passed(alloc, &mut a));
+    assert!(rt; goes_well(rt.alloc(), u32::MAX, 7, Case::AbandonedForGood));
 }
 
 // Nothing comes back; what was reported can't be sent again.
@@ -166,9 +152,40 @@ fn is_gone(alloc: Global, a: &mut Host) -> bool {
 /// A sender keeps nothing unless it is told to before it sends.
 #[test]
 fn not_kept(rt: HostRuntime) {
-    let alloc = rt.alloc();
-    let mut a = Host::new(alloc, u32::MAX, 7);
-    let mut b = Host::new(alloc, 7, u32::MAX);
-    let well = four_in_flight(alloc, &mut a, &mut b);
-    assert!(rt; well && is_gone(alloc, &mut a));
+    assert!(rt; goes_well(rt.alloc(), u32::MAX, 7, Case::NotKept));
+}
+
+// The tests of two hosts, each by its name.
+#[derive(Clone, Copy)]
+enum Case {
+    TakenBack,
+    MissedAfterItWasTakenBack,
+    AbandonedForGood,
+    NotKept,
+}
+
+// Whether a test goes well with two hosts.
+fn holds(alloc: Global, case: Case, a: &mut Host, b: &mut Host) -> bool {
+    match case {
+        Case::TakenBack => a.sender.keep_reported().is_ok()
+            && four_in_flight(alloc, a, b)
+            && are_taken_back(alloc, a)
+            && are_resent(a),
+        Case::MissedAfterItWasTakenBack => a.sender.keep_reported().is_ok()
+            && four_in_flight(alloc, a, b)
+            && are_taken_back(alloc, a)
+            && are_missed(a)
+            && are_marked(a),
+        Case::AbandonedForGood => a.sender.keep_reported().is_ok()
+            && four_in_flight(alloc, a, b)
+            && is_passed(alloc, a),
+        Case::NotKept => four_in_flight(alloc, a, b) && is_gone(alloc, a),
+    }
+}
+
+// Whether it goes well with two that are new, of which the first begins with the first TSN and the other with the second.
+fn goes_well(alloc: Global, first_tsn: u32, second_tsn: u32, case: Case) -> bool {
+    let mut a = Host::new(alloc, first_tsn, second_tsn);
+    let mut b = Host::new(alloc, second_tsn, first_tsn);
+    holds(alloc, case, &mut a, &mut b)
 }

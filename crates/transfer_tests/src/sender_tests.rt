@@ -50,10 +50,7 @@ fn both_are_read(alloc: Global, a: &mut Host, b: &mut Host) -> bool {
 /// Both hosts write, and send in turn; of each message the second fragment is lost, then sent again.
 #[test]
 fn both_directions_with_loss(rt: HostRuntime) {
-    let alloc = rt.alloc();
-    let mut a = Host::new(alloc, u32::MAX, 7);
-    let mut b = Host::new(alloc, 7, u32::MAX);
-    assert!(rt; both_are_read(alloc, &mut a, &mut b));
+    assert!(rt; goes_well(rt.alloc(), u32::MAX, 7, Case::BothDirectionsWithLoss));
 }
 
 // What a sender makes of a SACK up to a TSN with one block: why it refuses, if it does.
@@ -113,11 +110,7 @@ fn three_in_flight(alloc: Global, a: &mut Host, b: &mut Host) -> bool {
 /// What a peer may claim beside what is in flight is refused by its name, and nothing changes.
 #[test]
 fn forged_sacks(rt: HostRuntime) {
-    let alloc = rt.alloc();
-    let mut a = Host::new(alloc, 0, 0);
-    let mut b = Host::new(alloc, 0, 0);
-    let well = three_in_flight(alloc, &mut a, &mut b);
-    assert!(rt; well && claims_are_judged(alloc, &mut a));
+    assert!(rt; goes_well(rt.alloc(), 0, 0, Case::ForgedSacks));
 }
 
 // A message with a lifetime of a millisecond is partially sent, and its first fragment lost; one with no lifetime waits behind it.
@@ -166,15 +159,37 @@ fn the_peer_goes_on(alloc: Global, a: &mut Host, b: &mut Host) -> bool {
 /// The lifetime of a partially sent message ends: it is abandoned with its tail, the peer is told, and the message behind it is read.
 #[test]
 fn lifetime_ends_in_flight(rt: HostRuntime) {
-    let alloc = rt.alloc();
-    let mut a = Host::new(alloc, u32::MAX, 7);
-    let mut b = Host::new(alloc, 7, u32::MAX);
-    let well = one_is_partially_sent(alloc, &mut a, &mut b) && its_lifetime_ends(&mut a);
-    assert!(rt; well && the_peer_goes_on(alloc, &mut a, &mut b));
+    assert!(rt; goes_well(rt.alloc(), u32::MAX, 7, Case::LifetimeEndsInFlight));
 }
 
 #[test]
 fn the_tsn_before_the_first_counts_as_acknowledged(rt: HostRuntime) {
     let flight = InFlight::new(rt.alloc(), 5);
     assert_eq!(rt; (flight.acked_tsn(), flight.next_tsn()), (4, 5));
+}
+
+// The tests of two hosts, each by its name.
+#[derive(Clone, Copy)]
+enum Case {
+    BothDirectionsWithLoss,
+    ForgedSacks,
+    LifetimeEndsInFlight,
+}
+
+// Whether a test goes well with two hosts.
+fn holds(alloc: Global, case: Case, a: &mut Host, b: &mut Host) -> bool {
+    match case {
+        Case::BothDirectionsWithLoss => both_are_read(alloc, a, b),
+        Case::ForgedSacks => three_in_flight(alloc, a, b) && claims_are_judged(alloc, a),
+        Case::LifetimeEndsInFlight => one_is_partially_sent(alloc, a, b)
+            && its_lifetime_ends(a)
+            && the_peer_goes_on(alloc, a, b),
+    }
+}
+
+// Whether it goes well with two that are new, of which the first begins with the first TSN and the other with the second.
+fn goes_well(alloc: Global, first_tsn: u32, second_tsn: u32, case: Case) -> bool {
+    let mut a = Host::new(alloc, first_tsn, second_tsn);
+    let mut b = Host::new(alloc, second_tsn, first_tsn);
+    holds(alloc, case, &mut a, &mut b)
 }
