@@ -75,7 +75,8 @@ starts-keep now q m h = by (q.next_unstarted == q.next_message_id)
     keeps : KeepsMessage (with_deadline now)
     keeps = record { number = λ _. refl; begins = λ _. refl; ends = λ _. refl; kind = λ _. refl }
 
-    by : (b : Bool) → begins_in m (if b then q else record q { pending = start_pending q.next_unstarted now q.pending; next_unstarted = q.next_message_id }).pending ≡ true
+    by : (b : Bool) → begins_in m (if b then q else record q { pending = start_pending q.next_unstarted now q.pending; next_unstarted =
+        q.next_message_id }).pending ≡ true
     by true = h
     by false =
         ap₂ (λ a b. a || b) (begins-changed (is_to_start q.next_unstarted) (with_deadline now) keeps m q.pending.ordered)
@@ -88,7 +89,8 @@ module _ (l : StreamState) (ppi : PayloadProtocolIdentifier) (b : ℕ) (bs : Lis
   new = map (with_message_id q.next_message_id) (fragments_with_mode l ppi (b ∷ bs))
 
   here : list_any (begins q.next_message_id) new ≡ true
-  here = or-left ((q.next_message_id == q.next_message_id) && (0 == 0)) _ (and (q.next_message_id == q.next_message_id) (0 == 0) (same-yes q.next_message_id) refl)
+  here = or-left ((q.next_message_id == q.next_message_id) && (0 == 0)) _
+      (and (q.next_message_id == q.next_message_id) (0 == 0) (same-yes q.next_message_id) refl)
 
   abbrev after : Pending
   after = (with_message (fragments_with_mode l ppi (b ∷ bs)) q).pending
@@ -96,10 +98,13 @@ module _ (l : StreamState) (ppi : PayloadProtocolIdentifier) (b : ℕ) (bs : Lis
   write-keeps : Keeps q.pending after
   write-keeps m h = by _ (or-split (list_any (begins m) q.pending.ordered) (list_any (begins m) q.pending.unordered) h)
     where
-      by : (k : Bool) → (list_any (begins m) q.pending.ordered ≡ true) ⊎ (list_any (begins m) q.pending.unordered ≡ true) → begins_in m (append_chunks k new q.pending) ≡ true
+      by : (k : Bool) → (list_any (begins m) q.pending.ordered ≡ true) ⊎ (list_any (begins m) q.pending.unordered ≡ true)
+          → begins_in m (append_chunks k new q.pending) ≡ true
       by true (inl e) = or-left (list_any (begins m) q.pending.ordered) _ e
-      by true (inr e) = or-right (list_any (begins m) q.pending.ordered) _ (list_any-append (begins m) q.pending.unordered new ∙ or-left (list_any (begins m) q.pending.unordered) (list_any (begins m) new) e)
-      by false (inl e) = or-left _ (list_any (begins m) q.pending.unordered) (list_any-append (begins m) q.pending.ordered new ∙ or-left (list_any (begins m) q.pending.ordered) (list_any (begins m) new) e)
+      by true (inr e) = or-right (list_any (begins m) q.pending.ordered) _
+          (list_any-append (begins m) q.pending.unordered new ∙ or-left (list_any (begins m) q.pending.unordered) (list_any (begins m) new) e)
+      by false (inl e) = or-left _ (list_any (begins m) q.pending.unordered)
+          (list_any-append (begins m) q.pending.ordered new ∙ or-left (list_any (begins m) q.pending.ordered) (list_any (begins m) new) e)
       by false (inr e) = or-right _ (list_any (begins m) q.pending.unordered) e
 
   write-begins : begins_in q.next_message_id after ≡ true
@@ -109,13 +114,16 @@ module _ (l : StreamState) (ppi : PayloadProtocolIdentifier) (b : ℕ) (bs : Lis
       m = q.next_message_id
 
       by : (k : Bool) → begins_in m (append_chunks k new q.pending) ≡ true
-      by true = or-right (list_any (begins m) q.pending.ordered) _ (list_any-append (begins m) q.pending.unordered new ∙ or-right (list_any (begins m) q.pending.unordered) (list_any (begins m) new) here)
-      by false = or-left _ (list_any (begins m) q.pending.unordered) (list_any-append (begins m) q.pending.ordered new ∙ or-right (list_any (begins m) q.pending.ordered) (list_any (begins m) new) here)
+      by true = or-right (list_any (begins m) q.pending.ordered) _ (list_any-append (begins m) q.pending.unordered new
+          ∙ or-right (list_any (begins m) q.pending.unordered) (list_any (begins m) new) here)
+      by false = or-left _ (list_any (begins m) q.pending.unordered) (list_any-append (begins m) q.pending.ordered new
+          ∙ or-right (list_any (begins m) q.pending.ordered) (list_any (begins m) new) here)
 
   write-begun : (sent more : List Entry) (n : ℕ) → q.next_message_id ≡ n → IsOnceMore sent more → AreBegun n sent q.pending → AreBegun (n + 1) more after
   write-begun sent more n e once a m lt = elim (cases_lt m n) [
     | inl less ↦ kept-begun n sent more q.pending after once write-keeps a m less
-    | inr le ↦ let same : m ≡ n = omega (arith, lt, le) in or-right (was_begun m more) (begins_in m after) (subst (λ k. begins_in k after ≡ true) (e ∙ sym same) write-begins)
+    | inr le ↦ let same : m ≡ n = omega (arith, lt, le) in or-right (was_begun m more) (begins_in m after)
+        (subst (λ k. begins_in k after ≡ true) (e ∙ sym same) write-begins)
   ]
 
 -- ## A fragment is sent
@@ -124,7 +132,9 @@ module _ (l : StreamState) (ppi : PayloadProtocolIdentifier) (b : ℕ) (bs : Lis
 abbrev IsNextOrStays : ℕ → ChunkPayloadData → Pending → Type 0
 IsNextOrStays m c q = (begins m c ≡ true) ⊎ (begins_in m q ≡ true)
 
-popped : (m : ℕ) (c : ChunkPayloadData) (sel : Option Selected) (ro ru : ℕ) (k : Bool) (os us : List ChunkPayloadData) → slice_get (list_of k (made os us sel ro ru)) 0 ≡ Some c → begins_in m (made os us sel ro ru) ≡ true → IsNextOrStays m c (rest_from (Some k) (made os us sel ro ru))
+popped : (m : ℕ) (c : ChunkPayloadData) (sel : Option Selected) (ro ru : ℕ) (k : Bool) (os us : List ChunkPayloadData)
+    → slice_get (list_of k (made os us sel ro ru)) 0 ≡ Some c → begins_in m (made os us sel ro ru) ≡ true
+    → IsNextOrStays m c (rest_from (Some k) (made os us sel ro ru))
 popped m c sel ro ru true os [] e h = absurd (none-some c e)
 popped m c sel ro ru false [] us e h = absurd (none-some c e)
 popped m c sel ro ru true os (u ∷ us) e h = elim (or-split (list_any (begins m) os) (list_any (begins m) (u ∷ us)) h) [
@@ -142,7 +152,9 @@ popped m c sel ro ru false (o ∷ os) us e h = elim (or-split (list_any (begins 
   | inr f ↦ inr (or-right (list_any (begins m) os) (list_any (begins m) us) f)
 ]
 
-next-or-stays : (m : ℕ) (c : ChunkPayloadData) (sel : Option Selected) (ro ru n : ℕ) (xs os us : List ChunkPayloadData) → IsSendable (made os us sel ro ru) xs n → next_pending (made os us sel ro ru) ≡ Some c → begins_in m (made os us sel ro ru) ≡ true → IsNextOrStays m c (rest_after c.beginning_fragment c.unordered (made os us sel ro ru))
+next-or-stays : (m : ℕ) (c : ChunkPayloadData) (sel : Option Selected) (ro ru n : ℕ) (xs os us : List ChunkPayloadData)
+    → IsSendable (made os us sel ro ru) xs n → next_pending (made os us sel ro ru) ≡ Some c → begins_in m (made os us sel ro ru) ≡ true
+    → IsNextOrStays m c (rest_after c.beginning_fragment c.unordered (made os us sel ro ru))
 next-or-stays m c (Some s) ro ru n xs os us k e h = popped m c (Some s) ro ru s.unordered os us e h
 next-or-stays m c None ro ru n xs [] [] k e h = absurd (none-some c e)
 next-or-stays m c None ro ru n xs os (u ∷ us) k e h =
@@ -163,7 +175,8 @@ record Sends (ws : List Numbered) (first : ℕ) (sent : List Entry) (p : Pending
   begun' : (n : ℕ) → AreBegun n sent p → AreBegun n more u.flight.queue.pending
   chained : IsChained ws u more
 
-module _ (ws : List Numbered) (first : ℕ) (t : Transmission) (sent : List Entry) (ms : List Made) (now : ℕ) (h : IsHeld ws first t sent) (chained : IsChained ws t sent) (short : AreShort t) where
+module _ (ws : List Numbered) (first : ℕ) (t : Transmission) (sent : List Entry) (ms : List Made) (now : ℕ) (h : IsHeld ws first t sent)
+    (chained : IsChained ws t sent) (short : AreShort t) where
   abbrev ready : Outbound
   ready = all_started now t.flight.queue
 
@@ -176,7 +189,9 @@ module _ (ws : List Numbered) (first : ℕ) (t : Transmission) (sent : List Entr
   ready-chained : IsChained ws (with_flight (record t.flight { queue = ready }) t) sent
   ready-chained = still-chained ws t (with_flight (record t.flight { queue = ready }) t) sent sent refl (λ st. refl) (starts-alike now t.flight.queue) chained
 
-  one : (o : Option ChunkPayloadData) → next_pending ready.pending ≡ o → Sends ws first sent ready.pending (record t { flight = record t.flight { queue = sent_of o ready next now; next_tsn = if is_some o then following_tsn next else next } }) ms (with_chunk (option_map (as_sent next now) o) ms)
+  one : (o : Option ChunkPayloadData) → next_pending ready.pending ≡ o → Sends ws first sent ready.pending
+      (record t { flight = record t.flight { queue = sent_of o ready next now; next_tsn = if is_some o then following_tsn next else next } }) ms
+      (with_chunk (option_map (as_sent next now) o) ms)
   one None e = record {
     more = sent;
     held = steady ws first t sent h t.streams (steady-same t.streams) (record t.flight { queue = ready }) sent stands;
@@ -192,7 +207,8 @@ module _ (ws : List Numbered) (first : ℕ) (t : Transmission) (sent : List Entr
       let q = rest_after c.beginning_fragment c.unordered p in
       record {
         more = entry ∷ sent;
-        held = steady ws first t sent h t.streams (steady-same t.streams) (record t.flight { queue = sent_of (Some c) ready next now; next_tsn = following_tsn next }) (entry ∷ sent) x.stands;
+        held = steady ws first t sent h t.streams (steady-same t.streams)
+            (record t.flight { queue = sent_of (Some c) ready next now; next_tsn = following_tsn next }) (entry ∷ sent) x.stands;
         once = inr (entry, refl);
         made' = λ a. ((x.write, x.after, sent, inl refl), sent-then entry sent ms a);
         begun' = λ n a m lt. elim (or-split (was_begun m sent) (begins_in m p) (a m lt)) [
@@ -205,14 +221,20 @@ module _ (ws : List Numbered) (first : ℕ) (t : Transmission) (sent : List Entr
           ]
         ];
         chained =
-            sent-chained ws (with_flight (record t.flight { queue = ready }) t) (record t { flight = record t.flight { queue = sent_of (Some c) ready next now; next_tsn = following_tsn next } }) sent c (data_of (as_sent next now c)) x.write x.after
-            (next-chains ws first (λ s. number_of s t.streams) sent next now c chained.chain h.stands.queued.line (next-short now t.flight.queue c e short.queue) p.ordered_room p.unordered_room ready.next_message_id ready.inflight.chunks p.selected p.ordered p.unordered stands.sendable e stands.queued ready-chained.last ready-chained.number)
+            sent-chained ws (with_flight (record t.flight { queue = ready }) t)
+                (record t { flight = record t.flight { queue = sent_of (Some c) ready next now; next_tsn = following_tsn next } }) sent c
+                (data_of (as_sent next now c)) x.write x.after
+            (next-chains ws first (λ s. number_of s t.streams) sent next now c chained.chain h.stands.queued.line
+                (next-short now t.flight.queue c e short.queue) p.ordered_room p.unordered_room ready.next_message_id ready.inflight.chunks p.selected p.ordered p.unordered stands.sendable e stands.queued ready-chained.last ready-chained.number)
             refl refl ready-chained;
       }
 
-  sends-next : Sends ws first sent ready.pending (with_flight (record t.flight { queue = sent_next t.flight.queue next now; next_tsn = next_after_send t.flight }) t) ms (with_chunk (next_chunk now t) ms)
+  sends-next : Sends ws first sent ready.pending (with_flight (record t.flight { queue = sent_next t.flight.queue next now; next_tsn =
+      next_after_send t.flight }) t) ms (with_chunk (next_chunk now t) ms)
   sends-next =
-      subst (λ b. Sends ws first sent ready.pending (with_flight (record t.flight { queue = sent_next t.flight.queue next now; next_tsn = if b then following_tsn next else next }) t) ms (with_chunk (next_chunk now t) ms)) (peeked_all_started now t.flight.queue)
+      subst (λ b. Sends ws first sent ready.pending (with_flight
+          (record t.flight { queue = sent_next t.flight.queue next now; next_tsn = if b then following_tsn next else next }) t) ms
+          (with_chunk (next_chunk now t) ms)) (peeked_all_started now t.flight.queue)
       (one (next_pending ready.pending) refl)
 
 -- ## The calls
@@ -225,7 +247,8 @@ pub record Begins (ws : List Numbered) (first : ℕ) (t : Transmission) (sent : 
   pub short : AreShort t
 
 -- where the next TSN stays, no entry is more
-same-sent : (ws vs : List Numbered) (first : ℕ) (t u : Transmission) (sent more : List Entry) → IsHeld ws first t sent → IsHeld vs first u more → u.flight.next_tsn ≡ t.flight.next_tsn → IsOnceMore sent more → more ≡ sent
+same-sent : (ws vs : List Numbered) (first : ℕ) (t u : Transmission) (sent more : List Entry) → IsHeld ws first t sent → IsHeld vs first u more
+    → u.flight.next_tsn ≡ t.flight.next_tsn → IsOnceMore sent more → more ≡ sent
 same-sent ws vs first t u sent more h k same (inl e) = e
 same-sent ws vs first t u sent more h k same (inr x) =
     let n = ap length x.1 in
@@ -241,15 +264,20 @@ pub record BeginsThen (ws : List Numbered) (first : ℕ) (sent : List Entry) (u 
 
 module _ (ws : List Numbered) (first : ℕ) (t u : Transmission) (sent : List Entry) (ms : List Made) (h : Begins ws first t sent) where
   -- a call after which the same first fragments wait
-  same-begins : (call : SenderCall) → numbered_after call ws ≡ ws → Makes (as_run call) t u → MakesExactly call t u → IsAccepted call t → is_reliable_at_sender call ≡ true → u.flight.next_tsn ≡ t.flight.next_tsn → ((st : ℕ) → number_of st u.streams ≡ number_of st t.streams) → WaitsAlike t.flight.queue.pending u.flight.queue.pending → Keeps t.flight.queue.pending u.flight.queue.pending → BeginsThen (numbered_after call ws) first sent u ms (made_after call t ms)
+  same-begins : (call : SenderCall) → numbered_after call ws ≡ ws → Makes (as_run call) t u → MakesExactly call t u → IsAccepted call t
+      → is_reliable_at_sender call ≡ true → u.flight.next_tsn ≡ t.flight.next_tsn → ((st : ℕ) → number_of st u.streams ≡ number_of st t.streams)
+      → WaitsAlike t.flight.queue.pending u.flight.queue.pending → Keeps t.flight.queue.pending u.flight.queue.pending
+      → BeginsThen (numbered_after call ws) first sent u ms (made_after call t ms)
   same-begins call e m x a reliable next numbers alike keeps =
       let r = stepped ws first t sent ms h.held call u m x a in
       record {
         more = r.more;
         begins' = record {
           held = r.held;
-          begun' = subst (λ vs. AreBegun (length vs) r.more u.flight.queue.pending) (sym e) (kept-begun (length ws) sent r.more t.flight.queue.pending u.flight.queue.pending r.once keeps h.begun');
-          chained = subst (λ vs. IsChained vs u r.more) (sym e) (still-chained ws t u sent r.more (same-sent ws (numbered_after call ws) first t u sent r.more h.held r.held next r.once) numbers alike h.chained);
+          begun' = subst (λ vs. AreBegun (length vs) r.more u.flight.queue.pending) (sym e)
+              (kept-begun (length ws) sent r.more t.flight.queue.pending u.flight.queue.pending r.once keeps h.begun');
+          chained = subst (λ vs. IsChained vs u r.more) (sym e) (still-chained ws t u sent r.more
+              (same-sent ws (numbered_after call ws) first t u sent r.more h.held r.held next r.once) numbers alike h.chained);
           short = stays-short t u h.short call reliable m x a;
         };
         once = r.once;
@@ -277,16 +305,32 @@ module _ (ws : List Numbered) (first : ℕ) (t u : Transmission) (sent : List En
   pending-of : (v : Transmission) → u ≡ v → u.flight.queue.pending ≡ v.flight.queue.pending
   pending-of v e = ap (λ (x : Transmission). x.flight.queue.pending) e
 
-  pub stays-begun : (call : SenderCall) → is_reliable_at_sender call ≡ true → Makes (as_run call) t u → MakesExactly call t u → IsAccepted call t → BeginsThen (numbered_after call ws) first sent u ms (made_after call t ms)
-  stays-begun (outgoing.opens stream) r m x a = same-begins (outgoing.opens stream) refl m x a r (next-of _ m) (numbers-of _ m (opened stream t.fragment_size t.max_message_size Unknown h.held.size t.streams)) (alike-of _ m (waits-itself t.flight.queue.pending)) (unchanged (pending-of _ m))
-  stays-begun (outgoing.sets_mode stream unordered reliability value) r m x a = same-begins (outgoing.sets_mode stream unordered reliability value) refl m x a r (next-of _ m) (numbers-of _ m (steady-changed (has_number stream) (with_mode unordered reliability value) (λ l. refl) (λ l. refl) (λ l. refl) t.streams)) (alike-of _ m (waits-itself t.flight.queue.pending)) (unchanged (pending-of _ m))
-  stays-begun (outgoing.sets_low stream bytes) r m x a = same-begins (outgoing.sets_low stream bytes) refl m x a r (next-of _ m) (numbers-of _ m (steady-changed (has_number stream) (with_low bytes) (λ l. refl) (λ l. refl) (λ l. refl) t.streams)) (alike-of _ m (waits-itself t.flight.queue.pending)) (unchanged (pending-of _ m))
-  stays-begun (outgoing.sets_size size) r m x a = same-begins (outgoing.sets_size size) refl m x a r (next-of _ m) (λ st. ap (λ (y : Transmission). number_of st y.streams) m ∙ numbers-sized size st t.streams) (alike-of _ m (waits-itself t.flight.queue.pending)) (unchanged (pending-of _ m))
-  stays-begun (outgoing.reserves count) r m x a = same-begins (outgoing.reserves count) refl m x a r (next-of _ m) (numbers-of _ m (steady-same t.streams)) (alike-of _ m (record { selected = refl; waiting = λ st. refl })) (waiting _ (pending-of _ m) (λ k b. b))
-  stays-begun (outgoing.resends tsn now c) r m x a = same-begins (outgoing.resends tsn now c) refl m x a r (next-of _ m) (numbers-of _ m (steady-same t.streams)) (alike-of _ m (waits-itself t.flight.queue.pending)) (unchanged (pending-of _ m))
-  stays-begun outgoing.marks r m x a = same-begins outgoing.marks refl m x a r (next-of _ m) (numbers-of _ m (steady-same t.streams)) (alike-of _ m (waits-itself t.flight.queue.pending)) (unchanged (pending-of _ m))
-  stays-begun (outgoing.misses count) r m x a = same-begins (outgoing.misses count) refl m x a r (next-of _ m) (numbers-of _ m (steady-same t.streams)) (alike-of _ m (waits-itself t.flight.queue.pending)) (unchanged (pending-of _ m))
-  stays-begun (outgoing.takes_sack k gone) r m x a = same-begins (outgoing.takes_sack k gone) refl m x a r (next-of _ x ∙ next (is_outdated k t.flight)) (numbers-of _ x (steady-released (released_by k t.flight) t.streams)) (alike-of _ x (same-waits _ (by (is_outdated k t.flight)))) (unchanged (pending-of _ x ∙ by (is_outdated k t.flight)))
+  pub stays-begun : (call : SenderCall) → is_reliable_at_sender call ≡ true → Makes (as_run call) t u → MakesExactly call t u → IsAccepted call t
+      → BeginsThen (numbered_after call ws) first sent u ms (made_after call t ms)
+  stays-begun (outgoing.opens stream) r m x a = same-begins (outgoing.opens stream) refl m x a r (next-of _ m)
+      (numbers-of _ m (opened stream t.fragment_size t.max_message_size Unknown h.held.size t.streams)) (alike-of _ m (waits-itself t.flight.queue.pending))
+      (unchanged (pending-of _ m))
+  stays-begun (outgoing.sets_mode stream unordered reliability value) r m x a =
+      same-begins (outgoing.sets_mode stream unordered reliability value) refl m x a r (next-of _ m)
+      (numbers-of _ m (steady-changed (has_number stream) (with_mode unordered reliability value) (λ l. refl) (λ l. refl) (λ l. refl) t.streams))
+      (alike-of _ m (waits-itself t.flight.queue.pending)) (unchanged (pending-of _ m))
+  stays-begun (outgoing.sets_low stream bytes) r m x a = same-begins (outgoing.sets_low stream bytes) refl m x a r (next-of _ m)
+      (numbers-of _ m (steady-changed (has_number stream) (with_low bytes) (λ l. refl) (λ l. refl) (λ l. refl) t.streams))
+      (alike-of _ m (waits-itself t.flight.queue.pending)) (unchanged (pending-of _ m))
+  stays-begun (outgoing.sets_size size) r m x a = same-begins (outgoing.sets_size size) refl m x a r (next-of _ m)
+      (λ st. ap (λ (y : Transmission). number_of st y.streams) m ∙ numbers-sized size st t.streams) (alike-of _ m (waits-itself t.flight.queue.pending))
+      (unchanged (pending-of _ m))
+  stays-begun (outgoing.reserves count) r m x a = same-begins (outgoing.reserves count) refl m x a r (next-of _ m) (numbers-of _ m (steady-same t.streams))
+      (alike-of _ m (record { selected = refl; waiting = λ st. refl })) (waiting _ (pending-of _ m) (λ k b. b))
+  stays-begun (outgoing.resends tsn now c) r m x a = same-begins (outgoing.resends tsn now c) refl m x a r (next-of _ m)
+      (numbers-of _ m (steady-same t.streams)) (alike-of _ m (waits-itself t.flight.queue.pending)) (unchanged (pending-of _ m))
+  stays-begun outgoing.marks r m x a = same-begins outgoing.marks refl m x a r (next-of _ m) (numbers-of _ m (steady-same t.streams))
+      (alike-of _ m (waits-itself t.flight.queue.pending)) (unchanged (pending-of _ m))
+  stays-begun (outgoing.misses count) r m x a = same-begins (outgoing.misses count) refl m x a r (next-of _ m) (numbers-of _ m (steady-same t.streams))
+      (alike-of _ m (waits-itself t.flight.queue.pending)) (unchanged (pending-of _ m))
+  stays-begun (outgoing.takes_sack k gone) r m x a = same-begins (outgoing.takes_sack k gone) refl m x a r (next-of _ x ∙ next (is_outdated k t.flight))
+      (numbers-of _ x (steady-released (released_by k t.flight) t.streams)) (alike-of _ x (same-waits _ (by (is_outdated k t.flight))))
+      (unchanged (pending-of _ x ∙ by (is_outdated k t.flight)))
     where
       by : (b : Bool) → (if b then t.flight else take_sack k t.flight).queue.pending ≡ t.flight.queue.pending
       by true = refl
@@ -295,8 +339,10 @@ module _ (ws : List Numbered) (first : ℕ) (t u : Transmission) (sent : List En
       next : (b : Bool) → (if b then t.flight else take_sack k t.flight).next_tsn ≡ t.flight.next_tsn
       next true = refl
       next false = refl
-  stays-begun (outgoing.starts now) r m x a = same-begins (outgoing.starts now) refl m x a r (next-of _ m) (numbers-of _ m (steady-same t.streams)) (alike-of _ m (starts-alike now t.flight.queue)) (waiting _ (pending-of _ m) (starts-keep now t.flight.queue))
-  stays-begun (outgoing.writes stream ppi []) r m x a = same-begins (outgoing.writes stream ppi []) refl m x a r (next-of _ (x.0 refl)) (numbers-of _ (x.0 refl) (steady-same t.streams)) (alike-of _ (x.0 refl) (waits-itself t.flight.queue.pending)) (unchanged (pending-of _ (x.0 refl)))
+  stays-begun (outgoing.starts now) r m x a = same-begins (outgoing.starts now) refl m x a r (next-of _ m) (numbers-of _ m (steady-same t.streams))
+      (alike-of _ m (starts-alike now t.flight.queue)) (waiting _ (pending-of _ m) (starts-keep now t.flight.queue))
+  stays-begun (outgoing.writes stream ppi []) r m x a = same-begins (outgoing.writes stream ppi []) refl m x a r (next-of _ (x.0 refl))
+      (numbers-of _ (x.0 refl) (steady-same t.streams)) (alike-of _ (x.0 refl) (waits-itself t.flight.queue.pending)) (unchanged (pending-of _ (x.0 refl)))
   stays-begun (outgoing.writes stream ppi (b ∷ bs)) r m x a =
       let s = stepped ws first t sent ms h.held (outgoing.writes stream ppi (b ∷ bs)) u m x a in
       let l = accepted-stream stream (length (b ∷ bs)) t a in
@@ -307,12 +353,14 @@ module _ (ws : List Numbered) (first : ℕ) (t u : Transmission) (sent : List En
         begins' = record {
           held = s.held;
           begun' = subst (λ n. AreBegun n s.more u.flight.queue.pending) longer
-              (subst (AreBegun (length ws + 1) s.more) (sym is) (write-begun l.0 ppi b bs t.flight.queue sent s.more (length ws) h.held.stands.ids s.once h.begun'));
+              (subst (AreBegun (length ws + 1) s.more) (sym is) (write-begun l.0 ppi b bs t.flight.queue sent s.more
+                  (length ws) h.held.stands.ids s.once h.begun'));
           chained =
               let w : Numbered = record { stream = stream; payload_type = ppi; bytes = b ∷ bs; place = length ws } in
               let v = written_to l.0 stream ppi (b ∷ bs) t in
               let e = x.1 (omega arith) l.0 l.1 in
-              subst (IsChained (w ∷ ws) u) (sym (same-sent ws (w ∷ ws) first t u sent s.more h.held s.held (next-of _ e) s.once)) (subst (λ y. IsChained (w ∷ ws) y sent) (sym e) (write-chained ws t sent w ppi b bs l.0 l.1 h.chained));
+              subst (IsChained (w ∷ ws) u) (sym (same-sent ws (w ∷ ws) first t u sent s.more h.held s.held (next-of _ e) s.once))
+                  (subst (λ y. IsChained (w ∷ ws) y sent) (sym e) (write-chained ws t sent w ppi b bs l.0 l.1 h.chained));
           short = stays-short t u h.short (outgoing.writes stream ppi (b ∷ bs)) r m x a;
         };
         once = s.once;
@@ -324,7 +372,9 @@ module _ (ws : List Numbered) (first : ℕ) (t u : Transmission) (sent : List En
         more = s.more;
         begins' = record {
           held = subst (λ v. IsHeld ws first v s.more) (sym x) s.held;
-          begun' = subst (AreBegun (length ws) s.more) (sym (pending-of _ x)) (s.begun' (length ws) (kept-begun (length ws) sent sent t.flight.queue.pending (all_started now t.flight.queue).pending (inl refl) (starts-keep now t.flight.queue) h.begun'));
+          begun' = subst (AreBegun (length ws) s.more) (sym (pending-of _ x))
+              (s.begun' (length ws) (kept-begun (length ws) sent sent t.flight.queue.pending (all_started now t.flight.queue).pending (inl refl)
+              (starts-keep now t.flight.queue) h.begun'));
           chained = subst (λ v. IsChained ws v s.more) (sym x) s.chained;
           short = stays-short t u h.short (outgoing.sends now) r m x a;
         };

@@ -94,7 +94,8 @@ turns-count s (c ∷ cs) n next t small =
     let m = sum_by-cons (first_on s) c cs in
     by (counts s c) refl ih m
   where
-    by : (b : Bool) → counts s c ≡ b → next ≡ (number_after b n + waiting_on s cs) % 2 ^ 16 → waiting_on s (c ∷ cs) ≡ bit (counts s c) + waiting_on s cs → next ≡ (n + waiting_on s (c ∷ cs)) % 2 ^ 16
+    by : (b : Bool) → counts s c ≡ b → next ≡ (number_after b n + waiting_on s cs) % 2 ^ 16 → waiting_on s (c ∷ cs) ≡ bit (counts s c) + waiting_on s cs
+        → next ≡ (n + waiting_on s (c ∷ cs)) % 2 ^ 16
     by true e ih m = let one : bit (counts s c) ≡ 1 = ap bit e in omega (arith, ih, m, one)
     by false e ih m = let one : bit (counts s c) ≡ 0 = ap bit e in omega (arith, ih, m, one)
 
@@ -107,7 +108,8 @@ pub record IsNext (q : Pending) (sent : List Entry) (c : ChunkPayloadData) (d : 
   pub last : (w : Numbered) (after : List ℕ) → EndsWith (rest_after c.beginning_fragment c.unordered q).selected (fragment d w after ∷ sent)
   pub moves : (st : ℕ) → bit (opens_on st d) + waiting_on st (rest_after c.beginning_fragment c.unordered q).ordered ≡ waiting_on st q.ordered
 
-module _ (ws : List Numbered) (first : ℕ) (number : ℕ → ℕ) (sent : List Entry) (next now : ℕ) (c : ChunkPayloadData) (chain : IsChain sent) (line : IsLine ws first sent) (short : IsShort c) where
+module _ (ws : List Numbered) (first : ℕ) (number : ℕ → ℕ) (sent : List Entry) (next now : ℕ) (c : ChunkPayloadData) (chain : IsChain sent)
+    (line : IsLine ws first sent) (short : IsShort c) where
   abbrev d : Data
   d = data_of (as_sent next now c)
 
@@ -134,11 +136,13 @@ module _ (ws : List Numbered) (first : ℕ) (number : ℕ → ℕ) (sent : List 
   begins-last : (kind : Bool) (w : Numbered) (after : List ℕ) → EndsWith (selected_after None kind c) (fragment d w after ∷ sent)
   begins-last kind w after = by c.ending_fragment refl
     where
-      by : (b : Bool) → c.ending_fragment ≡ b → EndsWith (if b then None else Some (record { message_id = c.message_id; unordered = kind })) (fragment d w after ∷ sent)
+      by : (b : Bool) → c.ending_fragment ≡ b → EndsWith (if b then None else Some (record { message_id = c.message_id; unordered = kind }))
+          (fragment d w after ∷ sent)
       by true e = e
       by false e = e
 
-  inner-last : (kind : Bool) (s : Selected) → c.message_id ≡ s.message_id → (w : Numbered) (after : List ℕ) → EndsWith (selected_after (Some s) kind c) (fragment d w after ∷ sent)
+  inner-last : (kind : Bool) (s : Selected) → c.message_id ≡ s.message_id → (w : Numbered) (after : List ℕ)
+      → EndsWith (selected_after (Some s) kind c) (fragment d w after ∷ sent)
   inner-last kind s same w after = by c.ending_fragment refl
     where
       it : (c.message_id == s.message_id) ≡ true
@@ -181,20 +185,25 @@ module _ (ws : List Numbered) (first : ℕ) (number : ℕ → ℕ) (sent : List 
   module _ (ro ru n : ℕ) (xs : List ChunkPayloadData) where
     unordered-first : (os us : List ChunkPayloadData) → IsWhole true n (free 0) (c ∷ us) → EndsWith None sent → IsNext (made os (c ∷ us) None ro ru) sent c d
     unordered-first os us whole last =
-        let from : list_to_pop None c.beginning_fragment c.unordered ≡ Some true = ap (λ b. if b then Some c.unordered else None) whole.0.0 ∙ ap Some whole.1 in
+        let from : list_to_pop None c.beginning_fragment c.unordered ≡ Some true = ap (λ b. if b then Some c.unordered else None) whole.0.0
+            ∙ ap Some whole.1 in
         record {
           joins = begins-joins last whole.0.0;
           numbered = λ b u. absurd (not_both (sym u ∙ whole.1));
-          last = λ w after. subst (λ p. EndsWith (rest_from p (made os (c ∷ us) None ro ru)).selected (fragment d w after ∷ sent)) (sym from) (begins-last true w after);
+          last = λ w after. subst (λ p. EndsWith (rest_from p (made os (c ∷ us) None ro ru)).selected (fragment d w after ∷ sent)) (sym from)
+              (begins-last true w after);
           moves = λ st.
               let o = ap bit (opens-unordered st whole.1) in
               let rest = ap (λ p. waiting_on st (rest_from p (made os (c ∷ us) None ro ru)).ordered) from in
               omega (arith, o, rest);
         }
 
-    ordered-first : (os : List ChunkPayloadData) → IsWhole false n (free 0) (c ∷ os) → EndsWith None sent → ((st : ℕ) → (k : ℕ) × Turns st (c ∷ os) k (number st)) → ((st : ℕ) → number st ≡ (begun_on st sent + waiting_on st (c ∷ os)) % 2 ^ 16) → IsNext (made (c ∷ os) [] None ro ru) sent c d
+    ordered-first : (os : List ChunkPayloadData) → IsWhole false n (free 0) (c ∷ os) → EndsWith None sent
+        → ((st : ℕ) → (k : ℕ) × Turns st (c ∷ os) k (number st)) → ((st : ℕ) → number st ≡ (begun_on st sent + waiting_on st (c ∷ os)) % 2 ^ 16)
+        → IsNext (made (c ∷ os) [] None ro ru) sent c d
     ordered-first os whole last turns numbers =
-        let from : list_to_pop None c.beginning_fragment c.unordered ≡ Some false = ap (λ b. if b then Some c.unordered else None) whole.0.0 ∙ ap Some whole.1 in
+        let from : list_to_pop None c.beginning_fragment c.unordered ≡ Some false = ap (λ b. if b then Some c.unordered else None) whole.0.0
+            ∙ ap Some whole.1 in
         record {
           joins = begins-joins last whole.0.0;
           numbered = λ b u.
@@ -204,7 +213,8 @@ module _ (ws : List Numbered) (first : ℕ) (number : ℕ → ℕ) (sent : List 
               let a = turns-count st (c ∷ os) t.0 (number st) t.1 (omega (arith, is, short)) in
               let e = numbers st in
               omega (arith, is, a, e, short);
-          last = λ w after. subst (λ p. EndsWith (rest_from p (made (c ∷ os) [] None ro ru)).selected (fragment d w after ∷ sent)) (sym from) (begins-last false w after);
+          last = λ w after. subst (λ p. EndsWith (rest_from p (made (c ∷ os) [] None ro ru)).selected (fragment d w after ∷ sent)) (sym from)
+              (begins-last false w after);
           moves = λ st.
               let o = ap bit (opens-counts st whole.0.0 whole.1) in
               let m = sum_by-cons (first_on st) c os in
@@ -212,22 +222,26 @@ module _ (ws : List Numbered) (first : ℕ) (number : ℕ → ℕ) (sent : List 
               omega (arith, o, m, rest);
         }
 
-    unordered-inner : (s : Selected) (os us : List ChunkPayloadData) → s.unordered ≡ true → IsWhole true n (begun s.message_id) (c ∷ us) → EndsWith (Some s) sent → Waits ws (c ∷ us) (inside s.message_id sent) → IsNext (made os (c ∷ us) (Some s) ro ru) sent c d
+    unordered-inner : (s : Selected) (os us : List ChunkPayloadData) → s.unordered ≡ true → IsWhole true n (begun s.message_id) (c ∷ us)
+        → EndsWith (Some s) sent → Waits ws (c ∷ us) (inside s.message_id sent) → IsNext (made os (c ∷ us) (Some s) ro ru) sent c d
     unordered-inner s os us kind whole last waits = record {
       joins = inner-joins s us last waits;
       numbered = λ b u. absurd (not_both (sym whole.0.0 ∙ b));
-      last = λ w after. subst (λ k. EndsWith (rest_from (Some k) (made os (c ∷ us) (Some s) ro ru)).selected (fragment d w after ∷ sent)) (sym kind) (inner-last true s whole.0.1 w after);
+      last = λ w after. subst (λ k. EndsWith (rest_from (Some k) (made os (c ∷ us) (Some s) ro ru)).selected (fragment d w after ∷ sent)) (sym kind)
+          (inner-last true s whole.0.1 w after);
       moves = λ st.
           let o = ap bit (opens-none st whole.0.0) in
           let rest = ap (λ k. waiting_on st (rest_from (Some k) (made os (c ∷ us) (Some s) ro ru)).ordered) kind in
           omega (arith, o, rest);
     }
 
-    ordered-inner : (s : Selected) (os us : List ChunkPayloadData) → s.unordered ≡ false → IsWhole false n (begun s.message_id) (c ∷ os) → EndsWith (Some s) sent → Waits ws (c ∷ os) (inside s.message_id sent) → IsNext (made (c ∷ os) us (Some s) ro ru) sent c d
+    ordered-inner : (s : Selected) (os us : List ChunkPayloadData) → s.unordered ≡ false → IsWhole false n (begun s.message_id) (c ∷ os)
+        → EndsWith (Some s) sent → Waits ws (c ∷ os) (inside s.message_id sent) → IsNext (made (c ∷ os) us (Some s) ro ru) sent c d
     ordered-inner s os us kind whole last waits = record {
       joins = inner-joins s os last waits;
       numbered = λ b u. absurd (not_both (sym whole.0.0 ∙ b));
-      last = λ w after. subst (λ k. EndsWith (rest_from (Some k) (made (c ∷ os) us (Some s) ro ru)).selected (fragment d w after ∷ sent)) (sym kind) (inner-last false s whole.0.1 w after);
+      last = λ w after. subst (λ k. EndsWith (rest_from (Some k) (made (c ∷ os) us (Some s) ro ru)).selected (fragment d w after ∷ sent)) (sym kind)
+          (inner-last false s whole.0.1 w after);
       moves = λ st.
           let o = ap bit (opens-none st whole.0.0) in
           let i = ap bit (counts-none st whole.0.0) in
@@ -236,10 +250,13 @@ module _ (ws : List Numbered) (first : ℕ) (number : ℕ → ℕ) (sent : List 
           omega (arith, o, i, m, rest);
     }
 
-    pub next-chains : (sel : Option Selected) (os us : List ChunkPayloadData) → IsSendable (made os us sel ro ru) xs n → next_pending (made os us sel ro ru) ≡ Some c → Queued ws first number (made os us sel ro ru) sent → EndsWith sel sent → ((st : ℕ) → number st ≡ (begun_on st sent + waiting_on st os) % 2 ^ 16) → IsNext (made os us sel ro ru) sent c d
+    pub next-chains : (sel : Option Selected) (os us : List ChunkPayloadData) → IsSendable (made os us sel ro ru) xs n
+        → next_pending (made os us sel ro ru) ≡ Some c → Queued ws first number (made os us sel ro ru) sent → EndsWith sel sent
+        → ((st : ℕ) → number st ≡ (begun_on st sent + waiting_on st os) % 2 ^ 16) → IsNext (made os us sel ro ru) sent c d
     next-chains None [] [] k e q last numbers = absurd (none-some c e)
     next-chains None os (u ∷ us) k e q last numbers =
-        subst (λ y. IsNext (made os (y ∷ us) None ro ru) sent c d) (sym (some-same e)) (unordered-first os us (subst (λ y. IsWhole true n (free 0) (y ∷ us)) (some-same e) k.unordered) last)
+        subst (λ y. IsNext (made os (y ∷ us) None ro ru) sent c d) (sym (some-same e))
+            (unordered-first os us (subst (λ y. IsWhole true n (free 0) (y ∷ us)) (some-same e) k.unordered) last)
     next-chains None (o ∷ os) [] k e q last numbers =
         subst (λ y. IsNext (made (y ∷ os) [] None ro ru) sent c d) (sym (some-same e))
         (ordered-first os (subst (λ y. IsWhole false n (free 0) (y ∷ os)) (some-same e) k.ordered) last
@@ -247,24 +264,30 @@ module _ (ws : List Numbered) (first : ℕ) (number : ℕ → ℕ) (sent : List 
         (λ st. subst (λ y. number st ≡ (begun_on st sent + waiting_on st (y ∷ os)) % 2 ^ 16) (some-same e) (numbers st)))
     next-chains (Some s) os us k e q last numbers = by s.unordered refl
       where
-        unordered : s.unordered ≡ true → (us : List ChunkPayloadData) → IsWhole true n (begun s.message_id) us → slice_get us 0 ≡ Some c → Waits ws us (inside s.message_id sent) → IsNext (made os us (Some s) ro ru) sent c d
+        unordered : s.unordered ≡ true → (us : List ChunkPayloadData) → IsWhole true n (begun s.message_id) us → slice_get us 0 ≡ Some c
+            → Waits ws us (inside s.message_id sent) → IsNext (made os us (Some s) ro ru) sent c d
         unordered h [] v f w = absurd v
         unordered h (u ∷ us) v f w =
             subst (λ y. IsNext (made os (y ∷ us) (Some s) ro ru) sent c d) (sym (some-same f))
-            (unordered-inner s os us h (subst (λ y. IsWhole true n (begun s.message_id) (y ∷ us)) (some-same f) v) last (subst (λ y. Waits ws (y ∷ us) (inside s.message_id sent)) (some-same f) w))
+            (unordered-inner s os us h (subst (λ y. IsWhole true n (begun s.message_id) (y ∷ us)) (some-same f) v) last
+                (subst (λ y. Waits ws (y ∷ us) (inside s.message_id sent)) (some-same f) w))
 
-        ordered : s.unordered ≡ false → (os : List ChunkPayloadData) → IsWhole false n (begun s.message_id) os → slice_get os 0 ≡ Some c → Waits ws os (inside s.message_id sent) → IsNext (made os us (Some s) ro ru) sent c d
+        ordered : s.unordered ≡ false → (os : List ChunkPayloadData) → IsWhole false n (begun s.message_id) os → slice_get os 0 ≡ Some c
+            → Waits ws os (inside s.message_id sent) → IsNext (made os us (Some s) ro ru) sent c d
         ordered h [] v f w = absurd v
         ordered h (o ∷ os) v f w =
             subst (λ y. IsNext (made (y ∷ os) us (Some s) ro ru) sent c d) (sym (some-same f))
-            (ordered-inner s os us h (subst (λ y. IsWhole false n (begun s.message_id) (y ∷ os)) (some-same f) v) last (subst (λ y. Waits ws (y ∷ os) (inside s.message_id sent)) (some-same f) w))
+            (ordered-inner s os us h (subst (λ y. IsWhole false n (begun s.message_id) (y ∷ os)) (some-same f) v) last
+                (subst (λ y. Waits ws (y ∷ os) (inside s.message_id sent)) (some-same f) w))
 
         by : (b : Bool) → s.unordered ≡ b → IsNext (made os us (Some s) ro ru) sent c d
         by true h =
-            unordered h us (subst (λ b. IsWhole true n (if b then begun s.message_id else free 0) us) h k.unordered) (subst (λ b. slice_get (list_of b (made os us (Some s) ro ru)) 0 ≡ Some c) h e)
+            unordered h us (subst (λ b. IsWhole true n (if b then begun s.message_id else free 0) us) h k.unordered)
+                (subst (λ b. slice_get (list_of b (made os us (Some s) ro ru)) 0 ≡ Some c) h e)
             (subst (λ b. Waits ws us (if b then inside s.message_id sent else between)) h q.unordered)
         by false h =
-            ordered h os (subst (λ b. IsWhole false n (if b then free 0 else begun s.message_id) os) h k.ordered) (subst (λ b. slice_get (list_of b (made os us (Some s) ro ru)) 0 ≡ Some c) h e)
+            ordered h os (subst (λ b. IsWhole false n (if b then free 0 else begun s.message_id) os) h k.ordered)
+                (subst (λ b. slice_get (list_of b (made os us (Some s) ro ru)) 0 ≡ Some c) h e)
             (subst (λ b. Waits ws os (if b then between else inside s.message_id sent)) h q.ordered)
 
 -- ## A sender
@@ -292,7 +315,9 @@ pub waits-to : (p q : Pending) → q ≡ p → WaitsAlike p q
 waits-to p q e = subst (WaitsAlike p) (sym e) (waits-itself p)
 
 -- a call by which nothing is written or sent
-pub still-chained : (ws : List Numbered) (t u : Transmission) (sent more : List Entry) → more ≡ sent → ((st : ℕ) → number_of st u.streams ≡ number_of st t.streams) → WaitsAlike t.flight.queue.pending u.flight.queue.pending → IsChained ws t sent → IsChained ws u more
+pub still-chained : (ws : List Numbered) (t u : Transmission) (sent more : List Entry) → more ≡ sent
+    → ((st : ℕ) → number_of st u.streams ≡ number_of st t.streams) → WaitsAlike t.flight.queue.pending u.flight.queue.pending → IsChained ws t sent
+    → IsChained ws u more
 still-chained ws t u sent more same numbers w c = subst (IsChained ws u) (sym same) (record {
   chain = c.chain;
   last = subst (λ o. EndsWith o sent) (sym w.selected) c.last;
@@ -301,7 +326,8 @@ still-chained ws t u sent more same numbers w c = subst (IsChained ws u) (sym sa
 })
 
 -- lifetimes start
-waiting-started : (st now : ℕ) (p : ChunkPayloadData → Bool) (cs : List ChunkPayloadData) → waiting_on st (change_where p (with_deadline now) cs) ≡ waiting_on st cs
+waiting-started : (st now : ℕ) (p : ChunkPayloadData → Bool) (cs : List ChunkPayloadData)
+    → waiting_on st (change_where p (with_deadline now) cs) ≡ waiting_on st cs
 waiting-started st now p [] = refl
 waiting-started st now p (c ∷ cs) =
     let a = sum_by-cons (first_on st) c cs in
@@ -317,7 +343,8 @@ waiting-started st now p (c ∷ cs) =
 pub starts-alike : (now : ℕ) (q : Outbound) → WaitsAlike q.pending (all_started now q).pending
 starts-alike now q = by (q.next_unstarted == q.next_message_id)
   where
-    by : (b : Bool) → WaitsAlike q.pending (if b then q else record q { pending = start_pending q.next_unstarted now q.pending; next_unstarted = q.next_message_id }).pending
+    by : (b : Bool) → WaitsAlike q.pending (if b then q else record q { pending = start_pending q.next_unstarted now q.pending; next_unstarted =
+        q.next_message_id }).pending
     by true = waits-itself q.pending
     by false = record { selected = refl; waiting = λ st. waiting-started st now (is_to_start q.next_unstarted) q.pending.ordered }
 
@@ -344,7 +371,8 @@ module _ (l : StreamState) (ppi : PayloadProtocolIdentifier) (bytes : List ℕ) 
       by false e = refl
 
 -- of a write one message waits, on its stream
-waiting-new : (l : StreamState) (ppi : PayloadProtocolIdentifier) (b : ℕ) (bs : List ℕ) (m st : ℕ) → waiting_on st (map (with_message_id m) (fragments_with_mode l ppi (b ∷ bs))) ≡ bit (l.stream_identifier == st)
+waiting-new : (l : StreamState) (ppi : PayloadProtocolIdentifier) (b : ℕ) (bs : List ℕ) (m st : ℕ)
+    → waiting_on st (map (with_message_id m) (fragments_with_mode l ppi (b ∷ bs))) ≡ bit (l.stream_identifier == st)
 waiting-new l ppi b bs m st =
     let k = length (pieces (length bs) l.max_payload_size (drop l.max_payload_size (b ∷ bs))) in
     let a = sum_by-cons (first_on st) (nth l ppi (b ∷ bs) m st 0) (each l ppi (b ∷ bs) m st (numbers_where always (0 + 1) k)) in
@@ -356,7 +384,8 @@ waiting-new l ppi b bs m st =
     by true = refl
     by false = refl
 
-module _ (ws : List Numbered) (t : Transmission) (sent : List Entry) (w : Numbered) (ppi : PayloadProtocolIdentifier) (b : ℕ) (bs : List ℕ) (l : StreamState) (found : stream_of w.stream t ≡ Some l) (c : IsChained ws t sent) where
+module _ (ws : List Numbered) (t : Transmission) (sent : List Entry) (w : Numbered) (ppi : PayloadProtocolIdentifier) (b : ℕ) (bs : List ℕ) (l : StreamState)
+    (found : stream_of w.stream t ≡ Some l) (c : IsChained ws t sent) where
   abbrev u : Transmission
   u = written_to l w.stream ppi (b ∷ bs) t
 
@@ -370,10 +399,12 @@ module _ (ws : List Numbered) (t : Transmission) (sent : List Entry) (w : Number
   is-stream = number-is w.stream t.streams l found
 
   -- where an ordered message is written, the number rises on its stream
-  numbers : (k : Bool) → is_ordered l.unordered ppi ≡ k → (st : ℕ) → number_of st u.streams ≡ (number_of st t.streams + bit (k && (w.stream == st))) % 2 ^ 16 ⊎ (number_of st u.streams ≡ number_of st t.streams) × (bit (k && (w.stream == st)) ≡ 0)
+  numbers : (k : Bool) → is_ordered l.unordered ppi ≡ k → (st : ℕ) → number_of st u.streams ≡
+      (number_of st t.streams + bit (k && (w.stream == st))) % 2 ^ 16 ⊎ (number_of st u.streams ≡ number_of st t.streams) × (bit (k && (w.stream == st)) ≡ 0)
   numbers k e st = by_same st w.stream (here k e) elsewhere
     where
-      is : number_of w.stream u.streams ≡ (if is_ordered l.unordered ppi && nat_lt 0 (length (b ∷ bs)) then (l.sequence_number + 1) % 2 ^ 16 else l.sequence_number)
+      is : number_of w.stream u.streams ≡ (if is_ordered l.unordered ppi && nat_lt 0 (length (b ∷ bs)) then
+          (l.sequence_number + 1) % 2 ^ 16 else l.sequence_number)
       is = number-changed w.stream (wrote ppi (b ∷ bs)) (λ x. refl) t.streams l found
 
       longer : nat_lt 0 (length (b ∷ bs)) ≡ true
@@ -382,29 +413,38 @@ module _ (ws : List Numbered) (t : Transmission) (sent : List Entry) (w : Number
       was : number_of w.stream t.streams ≡ l.sequence_number
       was = number-found w.stream t.streams l found
 
-      here : (k : Bool) → is_ordered l.unordered ppi ≡ k → st ≡ w.stream → number_of st u.streams ≡ (number_of st t.streams + bit (k && (w.stream == st))) % 2 ^ 16 ⊎ (number_of st u.streams ≡ number_of st t.streams) × (bit (k && (w.stream == st)) ≡ 0)
+      here : (k : Bool) → is_ordered l.unordered ppi ≡ k → st ≡ w.stream
+          → number_of st u.streams ≡ (number_of st t.streams + bit (k && (w.stream == st))) % 2 ^ 16 ⊎ (number_of st u.streams ≡ number_of st t.streams)
+          × (bit (k && (w.stream == st)) ≡ 0)
       here true e same =
           let on : (w.stream == st) ≡ true = subst (λ n. (w.stream == n) ≡ true) (sym same) (same-yes w.stream) in
           let rises : bit (true && (w.stream == st)) ≡ 1 = ap bit on in
-          let now = ap (λ n. number_of n u.streams) same ∙ is ∙ ap (λ x. if x && nat_lt 0 (length (b ∷ bs)) then (l.sequence_number + 1) % 2 ^ 16 else l.sequence_number) e ∙ ap (λ x. if x then (l.sequence_number + 1) % 2 ^ 16 else l.sequence_number) longer in
+          let now = ap (λ n. number_of n u.streams) same ∙ is ∙ ap (λ x. if x && nat_lt 0 (length (b ∷ bs)) then
+              (l.sequence_number + 1) % 2 ^ 16 else l.sequence_number) e
+              ∙ ap (λ x. if x then (l.sequence_number + 1) % 2 ^ 16 else l.sequence_number) longer in
           let before = ap (λ n. number_of n t.streams) same ∙ was in
-          inl (now ∙ ap (λ x. x % 2 ^ 16) {x = l.sequence_number + 1} {y = number_of st t.streams + bit (true && (w.stream == st))} (omega (arith, rises, before)))
+          inl (now ∙ ap (λ x. x % 2 ^ 16) {x = l.sequence_number + 1} {y = number_of st t.streams + bit (true && (w.stream == st))}
+              (omega (arith, rises, before)))
       here false e same =
-          let now = ap (λ n. number_of n u.streams) same ∙ is ∙ ap (λ x. if x && nat_lt 0 (length (b ∷ bs)) then (l.sequence_number + 1) % 2 ^ 16 else l.sequence_number) e in
+          let now = ap (λ n. number_of n u.streams) same ∙ is ∙ ap (λ x. if x && nat_lt 0 (length (b ∷ bs)) then
+              (l.sequence_number + 1) % 2 ^ 16 else l.sequence_number) e in
           let before = ap (λ n. number_of n t.streams) same ∙ was in
           inr (now ∙ sym before, refl)
 
-      elsewhere : (st ≡ w.stream → ⊥) → (st == w.stream) ≡ false → number_of st u.streams ≡ (number_of st t.streams + bit (k && (w.stream == st))) % 2 ^ 16 ⊎ (number_of st u.streams ≡ number_of st t.streams) × (bit (k && (w.stream == st)) ≡ 0)
+      elsewhere : (st ≡ w.stream → ⊥) → (st == w.stream) ≡ false → number_of st u.streams ≡ (number_of st t.streams + bit (k && (w.stream == st))) % 2 ^ 16 ⊎
+          (number_of st u.streams ≡ number_of st t.streams) × (bit (k && (w.stream == st)) ≡ 0)
       elsewhere differ _ = inr (number-elsewhere st w.stream differ (wrote ppi (b ∷ bs)) (λ x. refl) t.streams, off (w.stream == st) refl)
         where
           off : (j : Bool) → (w.stream == st) ≡ j → bit (k && j) ≡ 0
           off true f = absurd (differ (sym (same-is w.stream st f)))
           off false f = ap bit (and-none k)
 
-  waiting : (k : Bool) → is_ordered l.unordered ppi ≡ k → (st : ℕ) → waiting_on st u.flight.queue.pending.ordered ≡ waiting_on st q.pending.ordered + bit (k && (w.stream == st))
+  waiting : (k : Bool) → is_ordered l.unordered ppi ≡ k → (st : ℕ) → waiting_on st u.flight.queue.pending.ordered ≡ waiting_on st q.pending.ordered + bit
+      (k && (w.stream == st))
   waiting k e st = by k e
     where
-      by : (k : Bool) → is_ordered l.unordered ppi ≡ k → waiting_on st u.flight.queue.pending.ordered ≡ waiting_on st q.pending.ordered + bit (k && (w.stream == st))
+      by : (k : Bool) → is_ordered l.unordered ppi ≡ k → waiting_on st u.flight.queue.pending.ordered ≡ waiting_on st q.pending.ordered + bit
+          (k && (w.stream == st))
       by true f =
           let is = ap (λ x. waiting_on st (append_chunks (not x) new q.pending).ordered) f in
           let a = sum_by-append (first_on st) q.pending.ordered new in
@@ -447,7 +487,10 @@ module _ (ws : List Numbered) (t : Transmission) (sent : List Entry) (w : Number
 
 -- ## A fragment is sent
 
-pub sent-chained : (ws : List Numbered) (t u : Transmission) (sent : List Entry) (c : ChunkPayloadData) (d : Data) (w : Numbered) (after : List ℕ) → IsNext t.flight.queue.pending sent c d → u.streams ≡ t.streams → u.flight.queue.pending ≡ rest_after c.beginning_fragment c.unordered t.flight.queue.pending → IsChained ws t sent → IsChained ws u (fragment d w after ∷ sent)
+pub sent-chained : (ws : List Numbered) (t u : Transmission) (sent : List Entry) (c : ChunkPayloadData) (d : Data) (w : Numbered) (after : List ℕ)
+    → IsNext t.flight.queue.pending sent c d → u.streams ≡ t.streams
+    → u.flight.queue.pending ≡ rest_after c.beginning_fragment c.unordered t.flight.queue.pending → IsChained ws t sent
+    → IsChained ws u (fragment d w after ∷ sent)
 sent-chained ws t u sent c d w after n streams rest h = record {
   chain = (n.joins, (n.numbered, h.chain));
   last = subst (λ (p : Pending). EndsWith p.selected (fragment d w after ∷ sent)) (sym rest) (n.last w after);

@@ -89,7 +89,8 @@ placed-after (outgoing.expires_rexmit gone) ns r p = absurd (not_both r)
 placed-after (outgoing.forwards tsn f) ns r p = absurd (not_both r)
 placed-after (outgoing.forwards_within bytes f) ns r p = absurd (not_both r)
 
-data-after : (call : SenderCall) (t : Transmission) (ms : List Made) → is_reliable_at_sender call ≡ true → Every IsData ms → Every IsData (made_after call t ms)
+data-after : (call : SenderCall) (t : Transmission) (ms : List Made) → is_reliable_at_sender call ≡ true → Every IsData ms
+    → Every IsData (made_after call t ms)
 data-after (outgoing.sends now) t ms r h = by (next_chunk now t)
   where
     by : (o : Option ChunkPayloadData) → Every IsData (with_chunk o ms)
@@ -114,7 +115,8 @@ data-after (outgoing.expires_rexmit gone) t ms r h = absurd (not_both r)
 data-after (outgoing.forwards tsn f) t ms r h = absurd (not_both r)
 data-after (outgoing.forwards_within bytes f) t ms r h = absurd (not_both r)
 
-sender-step : (first n : ℕ) (call : SenderCall) (old new : Session) → is_reliable_at_sender call ≡ true → SenderFollows call old new → BegunIn first n old → BegunIn first (n + distance (next_tsn old) (next_tsn new)) new
+sender-step : (first n : ℕ) (call : SenderCall) (old new : Session) → is_reliable_at_sender call ≡ true → SenderFollows call old new → BegunIn first n old
+    → BegunIn first (n + distance (next_tsn old) (next_tsn new)) new
 sender-step first n call old new r f h =
     let x = stays-begun h.numbered first old.sending.sender new.sending.sender h.sent old.made h.begins' call r f.step.sender f.exact f.accepted in
     let c = counted first h.sent x.more (next_tsn old) (next_tsn new) h.begins'.held.stands.counted x.begins'.held.stands.counted x.once in
@@ -134,9 +136,11 @@ receiver-step : (first n m : ℕ) (call : _) (old new : Session) → n ≤ m →
 receiver-step first n m call old new le f h =
     let few = h.few in
     subst (BegunIn first m) (sym f.after)
-    (record { numbered = h.numbered; sent = h.sent; begins' = h.begins'; made = h.made; writes = h.writes; placed = h.placed; few = omega (arith, few, le); data' = h.data' })
+    (record { numbered = h.numbered; sent = h.sent; begins' = h.begins'; made = h.made; writes = h.writes; placed = h.placed; few =
+        omega (arith, few, le); data' = h.data' })
 
-all-steps : (first n : ℕ) (cs : List Call) (old new : Session) (r : RunsTo old cs new) → list_all is_reliable cs ≡ true → BegunIn first n old → BegunIn first (n + tsns_given old cs new r) new
+all-steps : (first n : ℕ) (cs : List Call) (old new : Session) (r : RunsTo old cs new) → list_all is_reliable cs ≡ true → BegunIn first n old
+    → BegunIn first (n + tsns_given old cs new r) new
 all-steps first n [] old new r all h = subst (λ k. BegunIn first k new) {x = n} {y = n + 0} (omega arith) (subst (BegunIn first n) (sym r) h)
 all-steps first n (of_sender call ∷ cs) old new r all h =
     let b = both (is_reliable_at_sender call) (list_all is_reliable cs) all in
@@ -173,7 +177,8 @@ none-pass t [] h = refl
 none-pass t (data_chunk d ∷ ms) h = none-pass t ms h.1
 none-pass t (forward_tsn f ∷ ms) h = absurd h.0
 
-taken : (p n : ℕ) (s : Session) → n < 2 ^ 31 → IsInStep p n s → s.sending.sender.flight.queue.inflight.chunks ≡ [] → Every IsData s.made → (k : ℕ) → 0 < k → k ≤ n → was_taken (tsn p k) s ≡ true
+taken : (p n : ℕ) (s : Session) → n < 2 ^ 31 → IsInStep p n s → s.sending.sender.flight.queue.inflight.chunks ≡ [] → Every IsData s.made → (k : ℕ) → 0 < k
+    → k ≤ n → was_taken (tsn p k) s ≡ true
 taken p n s few i none only k some le =
     let a = i.settled in
     let m = i.numbered in
@@ -195,7 +200,8 @@ some-on t (c ∷ cs) e = by (has_tsn t c) refl e (some-on t cs)
   where
     here : has_tsn t c ≡ true → 0 < sum_by (one t) (filter (is_on c.stream_identifier) (c ∷ cs))
     here h =
-        let on = ap (λ b. sum_by (one t) (if b then c ∷ filter (is_on c.stream_identifier) cs else filter (is_on c.stream_identifier) cs)) (same-yes c.stream_identifier) in
+        let on = ap (λ b. sum_by (one t) (if b then c ∷ filter (is_on c.stream_identifier) cs else filter (is_on c.stream_identifier) cs))
+            (same-yes c.stream_identifier) in
         let m = sum_by-cons (one t) c (filter (is_on c.stream_identifier) cs) in
         let o : one t c ≡ 1 = ap (λ b. if b then 1 else 0) h in
         omega (arith, on, m, o)
@@ -207,7 +213,9 @@ some-on t (c ∷ cs) e = by (has_tsn t c) refl e (some-on t cs)
         at true = let m = sum_by-cons (one t) c (filter (is_on st) cs) in omega (arith, m, lt)
         at false = lt
 
-    by : (b : Bool) → has_tsn t c ≡ b → (b || list_any (has_tsn t) cs) ≡ true → (list_any (has_tsn t) cs ≡ true → (st : ℕ) × (0 < sum_by (one t) (filter (is_on st) cs))) → (st : ℕ) × (0 < sum_by (one t) (filter (is_on st) (c ∷ cs)))
+    by : (b : Bool) → has_tsn t c ≡ b → (b || list_any (has_tsn t) cs) ≡ true
+        → (list_any (has_tsn t) cs ≡ true → (st : ℕ) × (0 < sum_by (one t) (filter (is_on st) cs))) → (st : ℕ)
+        × (0 < sum_by (one t) (filter (is_on st) (c ∷ cs)))
     by true h f ih = (c.stream_identifier, here h)
     by false h f ih = let r = ih f in (r.0, more r.0 r.1)
 
@@ -215,7 +223,9 @@ some-on t (c ∷ cs) e = by (has_tsn t c) refl e (some-on t cs)
 
 -- behind the first fragment of a message none begins
 module _ (ws : List Numbered) (first : ℕ) (sent : List Entry) (few : length sent < 2 ^ 32) (line : IsLine ws first sent) where
-  none-begins : (c : ChunkPayloadData) (cs : List ChunkPayloadData) (w : Numbered) (after : List ℕ) (xs : List Entry) → IsPart (fragment (data_of c) w after ∷ xs) sent → completes c cs ≡ true → EachSent sent cs → AreInner c cs → Every (λ (d : ChunkPayloadData). d.beginning_fragment ≡ false) cs
+  none-begins : (c : ChunkPayloadData) (cs : List ChunkPayloadData) (w : Numbered) (after : List ℕ) (xs : List Entry)
+      → IsPart (fragment (data_of c) w after ∷ xs) sent → completes c cs ≡ true → EachSent sent cs → AreInner c cs
+      → Every (λ (d : ChunkPayloadData). d.beginning_fragment ≡ false) cs
   none-begins c [] w after xs p e s i = tt
   none-begins c (d ∷ ds) w after xs p e s i =
       let b = both (d.tsn == (c.tsn + 1) % 2 ^ 32) (completes d ds) e in
@@ -223,13 +233,15 @@ module _ (ws : List Numbered) (first : ℕ) (sent : List Entry) (few : length se
       let rest = s.0.1 in
       let ys = s.0.2 in
       let q = s.0.3 in
-      let behind : ys ≡ fragment (data_of c) w after ∷ xs = stands-behind ws first sent few line (data_of c) (data_of d) w v after rest xs ys p q (same-is d.tsn ((c.tsn + 1) % 2 ^ 32) b.0) in
+      let behind : ys ≡ fragment (data_of c) w after ∷ xs = stands-behind ws first sent few line (data_of c) (data_of d) w v after rest xs ys p q
+          (same-is d.tsn ((c.tsn + 1) % 2 ^ 32) b.0) in
       let l = part-line ws first sent (fragment (data_of d) v rest ∷ ys) q line in
       let on = subst (GoesOn (data_of d) v rest) behind l.1.0 in
       (fails d.beginning_fragment (λ k. let a = i.0 k in on.1 k a.0 a.1 a.2 a.3), none-begins d ds v rest ys q b.1 s.1 i.1)
 
   -- what has the same TSN is of the same write
-  same-write : (d e : Data) (w v : Numbered) (after rest : List ℕ) (xs ys : List Entry) → IsPart (fragment d w after ∷ xs) sent → IsPart (fragment e v rest ∷ ys) sent → d.tsn ≡ e.tsn → w ≡ v
+  same-write : (d e : Data) (w v : Numbered) (after rest : List ℕ) (xs ys : List Entry) → IsPart (fragment d w after ∷ xs) sent
+      → IsPart (fragment e v rest ∷ ys) sent → d.tsn ≡ e.tsn → w ≡ v
   same-write d e w v after rest xs ys p q same =
       let a = part-line ws first sent (fragment d w after ∷ xs) p line in
       let b = part-line ws first sent (fragment e v rest ∷ ys) q line in
@@ -242,8 +254,10 @@ module _ (ws : List Numbered) (first : ℕ) (sent : List Entry) (few : length se
       cc
 
   -- the message of which a first fragment has the TSN is of its write
-  module _ (d : Data) (w : Numbered) (after : List ℕ) (xs : List Entry) (p : IsPart (fragment d w after ∷ xs) sent) (begins : d.beginning_fragment ≡ true) where
-    not-inner : (cs : List ChunkPayloadData) → EachSent sent cs → Every (λ (x : ChunkPayloadData). x.beginning_fragment ≡ false) cs → list_any (has_tsn d.tsn) cs ≡ false
+  module _ (d : Data) (w : Numbered) (after : List ℕ) (xs : List Entry) (p : IsPart (fragment d w after ∷ xs) sent)
+      (begins : d.beginning_fragment ≡ true) where
+    not-inner : (cs : List ChunkPayloadData) → EachSent sent cs → Every (λ (x : ChunkPayloadData). x.beginning_fragment ≡ false) cs
+        → list_any (has_tsn d.tsn) cs ≡ false
     not-inner [] s e = refl
     not-inner (c ∷ cs) s e = by (has_tsn d.tsn c) refl (not-inner cs s.1 e.1)
       where
@@ -253,13 +267,15 @@ module _ (ws : List Numbered) (first : ℕ) (sent : List Entry) (few : length se
             let it : data_of c ≡ d = same-tsn ws first sent few line (data_of c) d s.0 (w, after, xs, p) (same-is c.tsn d.tsn h) in
             absurd (not_both (sym e.0 ∙ ap (λ (x : Data). x.beginning_fragment) it ∙ begins))
 
-    of-write : (m : Message) (x : IsReadOf ws sent m) → is_complete m.fragments ≡ true → is_one_message m.fragments ≡ true → EachSent sent m.fragments → list_any (has_tsn d.tsn) m.fragments ≡ true → x.numbered ≡ w
+    of-write : (m : Message) (x : IsReadOf ws sent m) → is_complete m.fragments ≡ true → is_one_message m.fragments ≡ true → EachSent sent m.fragments
+        → list_any (has_tsn d.tsn) m.fragments ≡ true → x.numbered ≡ w
     of-write m x complete alike s e =
         let c = x.chunk in
         let cs = x.others in
         let all : is_complete (c ∷ cs) ≡ true = subst (λ ys. is_complete ys ≡ true) x.fragments complete in
         let s' : EachSent sent (c ∷ cs) = subst (EachSent sent) x.fragments s in
-        let inner = none-begins c cs x.numbered x.after x.entries x.part (both c.beginning_fragment (completes c cs) all).1 s'.1 (inner-of c cs (subst (λ ys. is_one_message ys ≡ true) x.fragments alike)) in
+        let inner = none-begins c cs x.numbered x.after x.entries x.part (both c.beginning_fragment (completes c cs) all).1 s'.1
+            (inner-of c cs (subst (λ ys. is_one_message ys ≡ true) x.fragments alike)) in
         let there : (has_tsn d.tsn c || list_any (has_tsn d.tsn) cs) ≡ true = subst (λ ys. list_any (has_tsn d.tsn) ys ≡ true) x.fragments e in
         elim (or-split (has_tsn d.tsn c) (list_any (has_tsn d.tsn) cs) there) [
           | inl h ↦ same-write (data_of c) d x.numbered w x.after after x.entries xs x.part p (same-is c.tsn d.tsn h)
@@ -267,27 +283,32 @@ module _ (ws : List Numbered) (first : ℕ) (sent : List Entry) (few : length se
         ]
 
     -- its place is one of those
-    found : (once : AreOnce sent) (place : ℕ) → ((v : Numbered) → (c : Contains ws v) → v ≡ w → c.0 ≡ place) → (st : ℕ) (ms : List Message) (e : EachRead ws sent once ms)
+    found : (once : AreOnce sent) (place : ℕ) → ((v : Numbered) → (c : Contains ws v) → v ≡ w → c.0 ≡ place)
+        → (st : ℕ) (ms : List Message) (e : EachRead ws sent once ms)
         → All (λ m. (is_complete m.fragments ≡ true) × (is_one_message m.fragments ≡ true) × EachSent sent m.fragments) ms
         → 0 < sum_by (one d.tsn) (fragments_read st ms) → Contains (places ws sent once ms e) place
     found once place at st [] e all lt = absurd (omega (arith, lt))
-    found once place at st (m ∷ ms) e all lt = by (list_any (has_tsn d.tsn) m.fragments) refl (found once place at st ms e.1 (λ k o short. all (suc k) o (omega (arith, short))))
+    found once place at st (m ∷ ms) e all lt = by (list_any (has_tsn d.tsn) m.fragments) refl
+        (found once place at st ms e.1 (λ k o short. all (suc k) o (omega (arith, short))))
       where
-        rest : list_any (has_tsn d.tsn) m.fragments ≡ false → (b : Bool) → 0 < sum_by (one d.tsn) (if b then m.fragments ++ fragments_read st ms else fragments_read st ms) → 0 < sum_by (one d.tsn) (fragments_read st ms)
+        rest : list_any (has_tsn d.tsn) m.fragments ≡ false → (b : Bool)
+            → 0 < sum_by (one d.tsn) (if b then m.fragments ++ fragments_read st ms else fragments_read st ms) → 0 < sum_by (one d.tsn) (fragments_read st ms)
         rest none true more =
             let a = sum_by-append (one d.tsn) m.fragments (fragments_read st ms) in
             let z = read_once.none-count d.tsn m.fragments none in
             omega (arith, a, z, more)
         rest none false more = more
 
-        by : (b : Bool) → list_any (has_tsn d.tsn) m.fragments ≡ b → (0 < sum_by (one d.tsn) (fragments_read st ms) → Contains (places ws sent once ms e.1) place) → Contains (places ws sent once (m ∷ ms) e) place
+        by : (b : Bool) → list_any (has_tsn d.tsn) m.fragments ≡ b → (0 < sum_by (one d.tsn) (fragments_read st ms)
+            → Contains (places ws sent once ms e.1) place) → Contains (places ws sent once (m ∷ ms) e) place
         by true h ih =
             let x = all 0 m (omega arith) in
             (0, omega arith, at e.0.numbered e.0.written (of-write m e.0 x.0 x.1 x.2 h))
         by false h ih = contains-more e.0.written.0 (places ws sent once ms e.1) place (ih (rest h (m.stream == st) lt))
 
 -- the first fragment of a write that was begun
-begun-part : (m : ℕ) (sent : List Entry) → was_begun m sent ≡ true → (d : Data) × (w : Numbered) × (after : List ℕ) × (xs : List Entry) × IsPart (fragment d w after ∷ xs) sent × (d.beginning_fragment ≡ true) × (w.place ≡ m)
+begun-part : (m : ℕ) (sent : List Entry) → was_begun m sent ≡ true → (d : Data) × (w : Numbered) × (after : List ℕ) × (xs : List Entry)
+    × IsPart (fragment d w after ∷ xs) sent × (d.beginning_fragment ≡ true) × (w.place ≡ m)
 begun-part m [] e = absurd (not_both e)
 begun-part m (terminal ∷ ys) e = let r = begun-part m ys e in (r.0, r.1, r.2, r.3, inr r.4, r.5, r.6)
 begun-part m (fragment d w after ∷ ys) e = elim (or-split (d.beginning_fragment && (w.place == m)) (was_begun m ys) e) [
@@ -356,7 +377,8 @@ none-held st t r e = kept.held-weighs (one t) (stream_of st r) ∙ at r.streams 
     at [] h = refl
     at (l ∷ ls) h = let b = both (held_chunks l.queue.held == 0) (list_all (λ x. held_chunks x.queue.held == 0) ls) h in by (has_number st l) b.0 (at ls b.1)
       where
-        by : (k : Bool) → (held_chunks l.queue.held == 0) ≡ true → held_weight (one t) (find (has_number st) ls) ≡ 0 → held_weight (one t) (if k then Some l else find (has_number st) ls) ≡ 0
+        by : (k : Bool) → (held_chunks l.queue.held == 0) ≡ true → held_weight (one t) (find (has_number st) ls) ≡ 0
+            → held_weight (one t) (if k then Some l else find (has_number st) ls) ≡ 0
         by true z ih = none l z
         by false z ih = ih
 
@@ -364,7 +386,9 @@ none-held st t r e = kept.held-weighs (one t) (stream_of st r) ∙ at r.streams 
 
 pub each-once : AfterEachReliableSession (λ size s. 0 < size → IsAllReadWhereSettled s)
 each-once first size max most limits cs s run small few all some settled =
-    (places ns sent once s.receiving.read reads, subst (λ ws. StandAt ws s.receiving.read (places ns sent once s.receiving.read reads)) h.writes (stand ns sent once s.receiving.read reads), apart ns sent once s.receiving.read reads apart', λ k lt. here k (let e = ap length h.writes in let f = length-forgotten ns in omega (arith, lt, e, f)))
+    (places ns sent once s.receiving.read reads, subst (λ ws. StandAt ws s.receiving.read (places ns sent once s.receiving.read reads)) h.writes
+        (stand ns sent once s.receiving.read reads), apart ns sent once s.receiving.read reads apart', λ k lt. here k
+        (let e = ap length h.writes in let f = length-forgotten ns in omega (arith, lt, e, f)))
   where
     idle : IsIdle s
     idle = idle-of s (both (is_all_acknowledged s.sending.sender) (holds_nothing s.receiving.receiver) settled).0

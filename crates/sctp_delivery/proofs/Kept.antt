@@ -59,7 +59,7 @@ none-more o t = record { weighs = λ w. omega arith; turn = t }
 -- ## A fragment comes
 
 -- no fragment of a set has the TSN
-sets-fresh : (t : ℕ) (ss : List ChunkSet) → sum_by (set_weight (one t)) ss ≡ 0 → Every (λ (s : ChunkSet). list_any (has_tsn t) s.chunks ≡ false) ss
+pub sets-fresh : (t : ℕ) (ss : List ChunkSet) → sum_by (set_weight (one t)) ss ≡ 0 → Every (λ (s : ChunkSet). list_any (has_tsn t) s.chunks ≡ false) ss
 sets-fresh t [] e = tt
 sets-fresh t (s ∷ ss) e =
     let m = sum_by-cons (set_weight (one t)) s ss in
@@ -73,7 +73,9 @@ record IsPut (c : ChunkPayloadData) (old new : Reassembly) : Type 0 where
   weighs : (w : ChunkPayloadData → ℕ) → weight w new ≡ w c + weight w old
   turn : IsInTurn new
 
-pushed : (c : ChunkPayloadData) (told : Bool) (old new : ReassemblyState) → Pushes c told old new → (t : IsInTurn old.held) → (c.unordered ≡ false → IsNear t.index c.stream_sequence_number) → Every (λ (s : ChunkSet). list_any (has_tsn c.tsn) s.chunks ≡ false) old.held.ordered → IsPut c old.held new.held
+pushed : (c : ChunkPayloadData) (told : Bool) (old new : ReassemblyState) → Pushes c told old new → (t : IsInTurn old.held)
+    → (c.unordered ≡ false → IsNear t.index c.stream_sequence_number) → Every (λ (s : ChunkSet). list_any (has_tsn c.tsn) s.chunks ≡ false) old.held.ordered
+    → IsPut c old.held new.held
 pushed c told old new p t near fresh = by c.unordered refl p
   where
     by : (b : Bool) → c.unordered ≡ b → PushesAs b c told old new → IsPut c old.held new.held
@@ -94,19 +96,23 @@ pushed c told old new p t near fresh = by c.unordered refl p
       turn = unordered-turn (insert_before chunk_before c old.held.unassembled) old.held new.held told e.0 t;
     }
 
-not-too-far : (c : ChunkPayloadData) (r : Reception) → arrival_refusal c r ≡ None → has_come c.tsn (filter_of r) ≡ false → is_too_far_on c (stream_of c.stream_identifier r) ≡ false
-not-too-far c r e fresh = by (is_too_far_on c (stream_of c.stream_identifier r)) (ap (λ b. if not b && is_too_far_on c (stream_of c.stream_identifier r) then Some SsnTooFar else data_refusal c r) (sym fresh) ∙ e)
+pub not-too-far : (c : ChunkPayloadData) (r : Reception) → arrival_refusal c r ≡ None → has_come c.tsn (filter_of r) ≡ false
+    → is_too_far_on c (stream_of c.stream_identifier r) ≡ false
+not-too-far c r e fresh = by (is_too_far_on c (stream_of c.stream_identifier r))
+    (ap (λ b. if not b && is_too_far_on c (stream_of c.stream_identifier r) then Some SsnTooFar else data_refusal c r) (sym fresh) ∙ e)
   where
     by : (b : Bool) → (if b then Some SsnTooFar else data_refusal c r) ≡ None → b ≡ false
     by true f = absurd (none-some SsnTooFar (sym f))
     by false f = refl
 
-module _ (c : ChunkPayloadData) (told : Bool) (old new : Reception) (a : Accepts c told old new) (short : IsShort c) (near : is_too_far_on c (stream_of c.stream_identifier old) ≡ false) where
+module _ (c : ChunkPayloadData) (told : Bool) (old new : Reception) (a : Accepts c told old new) (short : IsShort c)
+    (near : is_too_far_on c (stream_of c.stream_identifier old) ≡ false) where
   abbrev sid : ℕ
   sid = c.stream_identifier
 
   keeps : (l : InboundStream) → has_number sid l ≡ true → a.queue.si ≡ number l
-  keeps l e = pushed-number c told a.stream.queue a.queue a.pushed ∙ same-is (number a.stream) sid (found-passes (has_number sid) old.streams a.stream a.found) ∙ sym (same-is (number l) sid e)
+  keeps l e = pushed-number c told a.stream.queue a.queue a.pushed ∙ same-is (number a.stream) sid
+      (found-passes (has_number sid) old.streams a.stream a.found) ∙ sym (same-is (number l) sid e)
 
   now : (st : ℕ) → stream_of st new ≡ option_map (λ l. if has_number sid l then with_queue a.queue l else l) (stream_of st old)
   now st = ap (λ (r : Reception). stream_of st r) a.after ∙ found-changed sid st (with_queue a.queue) keeps old.streams
@@ -114,9 +120,11 @@ module _ (c : ChunkPayloadData) (told : Bool) (old new : Reception) (a : Accepts
   is-near : (t : IsInTurn a.stream.queue.held) → c.unordered ≡ false → IsNear t.index c.stream_sequence_number
   is-near t u =
       let here : (not c.unordered && is_ssn_too_far c.stream_sequence_number a.stream.queue.held) ≡ false = ap (is_too_far_on c) (sym a.found) ∙ near in
-      near-of c.stream_sequence_number a.stream.queue.held short t (ap (λ b. not b && is_ssn_too_far c.stream_sequence_number a.stream.queue.held) (sym u) ∙ here)
+      near-of c.stream_sequence_number a.stream.queue.held short t (ap (λ b. not b && is_ssn_too_far c.stream_sequence_number a.stream.queue.held) (sym u)
+          ∙ here)
 
-  at : (st : ℕ) (o : Option InboundStream) → stream_of st old ≡ o → InTurn o → ((w : ChunkPayloadData → ℕ) → sum_by w [] ≡ 0) → held_weight (one c.tsn) o ≡ 0 → IsMore (λ w. if is_on st c then w c else 0) o (option_map (λ l. if has_number sid l then with_queue a.queue l else l) o)
+  at : (st : ℕ) (o : Option InboundStream) → stream_of st old ≡ o → InTurn o → ((w : ChunkPayloadData → ℕ) → sum_by w [] ≡ 0) → held_weight (one c.tsn) o ≡ 0
+      → IsMore (λ w. if is_on st c then w c else 0) o (option_map (λ l. if has_number sid l then with_queue a.queue l else l) o)
   at st None e t z none =
       let off : is_on st c ≡ false = fails (is_on st c) (λ k. none-some a.stream (sym e ∙ sym (ap (λ n. stream_of n old) (same-is sid st k)) ∙ a.found)) in
       subst (λ b. IsMore (λ w. if b then w c else 0) None None) (sym off) (none-more None tt)
@@ -141,13 +149,16 @@ module _ (c : ChunkPayloadData) (told : Bool) (old new : Reception) (a : Accepts
             turn = put.turn;
           })
 
-  taken : (st : ℕ) → InTurn (stream_of st old) → held_weight (one c.tsn) (stream_of st old) ≡ 0 → IsMore (λ w. if is_on st c then w c else 0) (stream_of st old) (stream_of st new)
+  taken : (st : ℕ) → InTurn (stream_of st old) → held_weight (one c.tsn) (stream_of st old) ≡ 0
+      → IsMore (λ w. if is_on st c then w c else 0) (stream_of st old) (stream_of st new)
   taken st t none = subst (IsMore (λ w. if is_on st c then w c else 0) (stream_of st old)) (sym (now st)) (at st (stream_of st old) refl t (λ w. refl) none)
 
 -- ## A stream is opened
 
-opened : (st s max : ℕ) (ls : List InboundStream) → InTurn (find (has_number st) ls) → IsMore (λ w. 0) (find (has_number st) ls) (find (has_number st) (ls ++ new_stream s max ∷ []))
-opened st s max ls t = subst (IsMore (λ w. 0) (find (has_number st) ls)) (sym (find-append (has_number st) ls (new_stream s max ∷ []))) (by (find (has_number st) ls) (s == st) t)
+opened : (st s max : ℕ) (ls : List InboundStream) → InTurn (find (has_number st) ls)
+    → IsMore (λ w. 0) (find (has_number st) ls) (find (has_number st) (ls ++ new_stream s max ∷ []))
+opened st s max ls t = subst (IsMore (λ w. 0) (find (has_number st) ls)) (sym (find-append (has_number st) ls (new_stream s max ∷ [])))
+    (by (find (has_number st) ls) (s == st) t)
   where
     by : (o : Option InboundStream) (b : Bool) → InTurn o → IsMore (λ w. 0) o (option_or o (if b then Some (new_stream s max) else None))
     by None true t = record { weighs = λ w. omega arith; turn = record { index = 0; next = omega arith; rise = tt } }
@@ -161,36 +172,45 @@ record IsLess (less : (ChunkPayloadData → ℕ) → ℕ) (old new : Option Inbo
   turn : InTurn new
 
 module _ (s st : ℕ) (r : Reception) where
-  here : (o : Option InboundStream) → stream_of st r ≡ o → s ≡ st → InTurn o → IsLess (λ w. message_weight w (message_of o)) o (option_map (λ l. if has_number s l then stream_read l else l) o)
+  here : (o : Option InboundStream) → stream_of st r ≡ o → s ≡ st → InTurn o
+      → IsLess (λ w. message_weight w (message_of o)) o (option_map (λ l. if has_number s l then stream_read l else l) o)
   here None e same t = record { weighs = λ w. omega arith; turn = tt }
   here (Some l) e same t =
       let on : has_number s l ≡ true = ap (λ n. number l == n) same ∙ found-passes (has_number st) r.streams l e in
       subst (λ b. IsLess (λ w. message_weight w (message_read l.queue.held)) (Some l) (Some (if b then stream_read l else l))) (sym on)
       (record { weighs = λ w. weights.read w l.queue.held; turn = read-in-turn l.queue.held t })
 
-  elsewhere : (o : Option InboundStream) → stream_of st r ≡ o → (s == st) ≡ false → InTurn o → IsLess (λ w. 0) o (option_map (λ l. if has_number s l then stream_read l else l) o)
+  elsewhere : (o : Option InboundStream) → stream_of st r ≡ o → (s == st) ≡ false → InTurn o
+      → IsLess (λ w. 0) o (option_map (λ l. if has_number s l then stream_read l else l) o)
   elsewhere None e differ t = record { weighs = λ w. omega arith; turn = tt }
   elsewhere (Some l) e differ t =
-      let off : has_number s l ≡ false = fails (has_number s l) (λ k. not_both (sym differ ∙ eq-eqb s st (sym (same-is (number l) s k) ∙ same-is (number l) st (found-passes (has_number st) r.streams l e)))) in
+      let off : has_number s l ≡ false = fails (has_number s l) (λ k. not_both
+          (sym differ ∙ eq-eqb s st (sym (same-is (number l) s k) ∙ same-is (number l) st (found-passes (has_number st) r.streams l e)))) in
       subst (λ b. IsLess (λ w. 0) (Some l) (Some (if b then stream_read l else l))) (sym off) (record { weighs = λ w. omega arith; turn = t })
 
-  either : (b : Bool) → (s == st) ≡ b → InTurn (stream_of st r) → IsLess (λ w. if b then message_weight w (message_on s r) else 0) (stream_of st r) (option_map (λ l. if has_number s l then stream_read l else l) (stream_of st r))
+  either : (b : Bool) → (s == st) ≡ b → InTurn (stream_of st r) → IsLess (λ w. if b then message_weight w (message_on s r) else 0) (stream_of st r)
+      (option_map (λ l. if has_number s l then stream_read l else l) (stream_of st r))
   either true e t =
       let same = same-is s st e in
-      subst (λ m. IsLess (λ w. message_weight w m) (stream_of st r) (option_map (λ l. if has_number s l then stream_read l else l) (stream_of st r))) (ap (λ n. message_of (stream_of n r)) (sym same)) (here (stream_of st r) refl same t)
+      subst (λ m. IsLess (λ w. message_weight w m) (stream_of st r) (option_map (λ l. if has_number s l then stream_read l else l) (stream_of st r)))
+          (ap (λ n. message_of (stream_of n r)) (sym same)) (here (stream_of st r) refl same t)
   either false e t = elsewhere (stream_of st r) refl e t
 
-  read-less : InTurn (stream_of st r) → IsLess (λ w. if s == st then message_weight w (message_on s r) else 0) (stream_of st r) (stream_of st (after_read s r))
-  read-less t = subst (IsLess (λ w. if s == st then message_weight w (message_on s r) else 0) (stream_of st r)) (sym (found-changed s st stream_read (λ l e. refl) r.streams)) (either (s == st) refl t)
+  read-less : InTurn (stream_of st r) → IsLess (λ w. if s == st then message_weight w (message_on s r) else 0) (stream_of st r)
+      (stream_of st (after_read s r))
+  read-less t = subst (IsLess (λ w. if s == st then message_weight w (message_on s r) else 0) (stream_of st r))
+      (sym (found-changed s st stream_read (λ l e. refl) r.streams)) (either (s == st) refl t)
 
 -- ## What holds of a stream
 
 pub record IsKept (st : ℕ) (s : Stand) : Type 0 where
-  pub weighs : (w : ChunkPayloadData → ℕ) → sum_by w (filter (is_on st) s.accepted) ≡ sum_by w (fragments_read st s.read) + held_weight w (stream_of st s.receiver)
+  pub weighs : (w : ChunkPayloadData → ℕ) → sum_by w (filter (is_on st) s.accepted) ≡ sum_by w (fragments_read st s.read) + held_weight w
+      (stream_of st s.receiver)
   pub turn : InTurn (stream_of st s.receiver)
 
 -- a call by which nothing is taken or read
-quiet : (st : ℕ) (old new : Stand) → new.accepted ≡ old.accepted → new.read ≡ old.read → IsMore (λ w. 0) (stream_of st old.receiver) (stream_of st new.receiver) → IsKept st old → IsKept st new
+quiet : (st : ℕ) (old new : Stand) → new.accepted ≡ old.accepted → new.read ≡ old.read
+    → IsMore (λ w. 0) (stream_of st old.receiver) (stream_of st new.receiver) → IsKept st old → IsKept st new
 quiet st old new a r m k = record {
   weighs = λ w.
       let h = k.weighs w in
@@ -201,11 +221,13 @@ quiet st old new a r m k = record {
   turn = m.turn;
 }
 
-still : (st : ℕ) (old new : Stand) → new.accepted ≡ old.accepted → new.read ≡ old.read → new.receiver.streams ≡ old.receiver.streams → IsKept st old → IsKept st new
-still st old new a r e k = quiet st old new a r (subst (λ ls. IsMore (λ w. 0) (stream_of st old.receiver) (find (has_number st) ls)) (sym e) (none-more (stream_of st old.receiver) k.turn)) k
+still : (st : ℕ) (old new : Stand) → new.accepted ≡ old.accepted → new.read ≡ old.read → new.receiver.streams ≡ old.receiver.streams → IsKept st old
+    → IsKept st new
+still st old new a r e k = quiet st old new a r (subst (λ ls. IsMore (λ w. 0) (stream_of st old.receiver) (find (has_number st) ls)) (sym e)
+    (none-more (stream_of st old.receiver) k.turn)) k
 
 -- none of what is held has a TSN that was not taken
-none-held : (st t : ℕ) (s : Stand) → IsKept st s → list_any (has_tsn t) s.accepted ≡ false → held_weight (one t) (stream_of st s.receiver) ≡ 0
+pub none-held : (st t : ℕ) (s : Stand) → IsKept st s → list_any (has_tsn t) s.accepted ≡ false → held_weight (one t) (stream_of st s.receiver) ≡ 0
 none-held st t s k e =
     let h = k.weighs (one t) in
     let less = weights.fewer (one t) (one t) (is_on st) s.accepted in
@@ -214,19 +236,22 @@ none-held st t s k e =
 
 -- ## The calls
 
-kept-on : (call : ReceiverCall) (old new : Session) (st : ℕ) → is_reliable_at_receiver call ≡ true → Every IsShortMade old.made → are_apart new.receiving.accepted ≡ true → ReceiverFollows call old new → IsKept st old.receiving → IsKept st new.receiving
+kept-on : (call : ReceiverCall) (old new : Session) (st : ℕ) → is_reliable_at_receiver call ≡ true → Every IsShortMade old.made
+    → are_apart new.receiving.accepted ≡ true → ReceiverFollows call old new → IsKept st old.receiving → IsKept st new.receiving
 kept-on (incoming.opens stream) old new st r made apart f k =
     quiet st old.receiving new.receiving f.step.accepted f.step.read
     (subst (λ (x : Reception). IsMore (λ w. 0) (stream_of st old.receiving.receiver) (stream_of st x)) (sym f.step.receiver.1)
     (opened st stream old.receiving.receiver.max_message_size old.receiving.receiver.streams k.turn)) k
-kept-on (incoming.takes c Repeat) old new st r made apart f k = still st old.receiving new.receiving f.step.accepted f.step.read (ap (λ (x : Reception). x.streams) f.step.receiver) k
+kept-on (incoming.takes c Repeat) old new st r made apart f k = still st old.receiving new.receiving f.step.accepted f.step.read
+    (ap (λ (x : Reception). x.streams) f.step.receiver) k
 kept-on (incoming.takes c (New told)) old new st r made apart f k =
     let x = old.receiving.receiver in
     let short : IsShort c = every-contained IsShortMade old.made (data_chunk (data_of c)) f.handed made in
     let fresh = fresh-new c.tsn told x f.accepted.1 in
     let near = not-too-far c x f.accepted.0 fresh in
     let all = subst (λ cs. are_apart cs ≡ true) f.step.accepted apart in
-    let none = negated (list_any (has_tsn c.tsn) old.receiving.accepted) (both (not (list_any (has_tsn c.tsn) old.receiving.accepted)) (are_apart old.receiving.accepted) all).0 in
+    let none = negated (list_any (has_tsn c.tsn) old.receiving.accepted)
+        (both (not (list_any (has_tsn c.tsn) old.receiving.accepted)) (are_apart old.receiving.accepted) all).0 in
     let m = taken c told x new.receiving.receiver f.step.receiver short near st k.turn (none-held st c.tsn old.receiving k none) in
     record {
       weighs = λ w.
@@ -239,7 +264,8 @@ kept-on (incoming.takes c (New told)) old new st r made apart f k =
       turn = m.turn;
     }
 kept-on (incoming.follows g) old new st r made apart f k = absurd (not_both r)
-kept-on (incoming.reports credit) old new st r made apart f k = still st old.receiving new.receiving f.step.accepted f.step.read (ap (λ (x : Reception). x.streams) f.step.receiver) k
+kept-on (incoming.reports credit) old new st r made apart f k = still st old.receiving new.receiving f.step.accepted f.step.read
+    (ap (λ (x : Reception). x.streams) f.step.receiver) k
 kept-on (incoming.reads stream) old new st r made apart f k =
     let x = old.receiving.receiver in
     let l = read-less stream st x k.turn in
@@ -258,39 +284,43 @@ kept-on (incoming.reads stream) old new st r made apart f k =
 -- ## Every session
 
 -- what was taken before has TSNs of its own too
-apart-then : (call : ReceiverCall) (old new : Session) → ReceiverFollows call old new → are_apart new.receiving.accepted ≡ true → are_apart old.receiving.accepted ≡ true
+apart-then : (call : ReceiverCall) (old new : Session) → ReceiverFollows call old new → are_apart new.receiving.accepted ≡ true
+    → are_apart old.receiving.accepted ≡ true
 apart-then (incoming.opens stream) old new f a = ap are_apart (sym f.step.accepted) ∙ a
 apart-then (incoming.takes c Repeat) old new f a = ap are_apart (sym f.step.accepted) ∙ a
-apart-then (incoming.takes c (New told)) old new f a = (both (not (list_any (has_tsn c.tsn) old.receiving.accepted)) (are_apart old.receiving.accepted) (ap are_apart (sym f.step.accepted) ∙ a)).1
+apart-then (incoming.takes c (New told)) old new f a = (both (not (list_any (has_tsn c.tsn) old.receiving.accepted)) (are_apart old.receiving.accepted)
+    (ap are_apart (sym f.step.accepted) ∙ a)).1
 apart-then (incoming.follows g) old new f a = ap are_apart (sym f.step.accepted) ∙ a
 apart-then (incoming.reports credit) old new f a = ap are_apart (sym f.step.accepted) ∙ a
 apart-then (incoming.reads stream) old new f a = ap are_apart (sym f.step.accepted) ∙ a
 
-apart-before : (cs : List Call) (old new : Session) → RunsTo old cs new → are_apart new.receiving.accepted ≡ true → are_apart old.receiving.accepted ≡ true
+pub apart-before : (cs : List Call) (old new : Session) → RunsTo old cs new → are_apart new.receiving.accepted ≡ true → are_apart old.receiving.accepted ≡ true
 apart-before [] old new r a = ap (λ (s : Session). are_apart s.receiving.accepted) (sym r) ∙ a
 apart-before (of_sender call ∷ cs) old new r a = ap (λ (s : Session). are_apart s.receiving.accepted) (sym r.1.0.after) ∙ apart-before cs r.0 new r.1.1 a
 apart-before (of_receiver call ∷ cs) old new r a = apart-then call old r.0 r.1.0 (apart-before cs r.0 new r.1.1 a)
 
-record IsKeptIn (s : Session) : Type 0 where
-  kept : (st : ℕ) → IsKept st s.receiving
-  short : AreShort s.sending.sender
-  made : Every IsShortMade s.made
+pub record IsKeptIn (s : Session) : Type 0 where
+  pub kept : (st : ℕ) → IsKept st s.receiving
+  pub short : AreShort s.sending.sender
+  pub made : Every IsShortMade s.made
 
-sender-kept : (call : _) (old new : Session) → is_reliable_at_sender call ≡ true → SenderFollows call old new → IsKeptIn old → IsKeptIn new
+pub sender-kept : (call : _) (old new : Session) → is_reliable_at_sender call ≡ true → SenderFollows call old new → IsKeptIn old → IsKeptIn new
 sender-kept call old new r f k = record {
   kept = subst (λ (x : Stand). (st : ℕ) → IsKept st x) (sym (ap (λ (s : Session). s.receiving) f.after)) k.kept;
   short = stays-short old.sending.sender new.sending.sender k.short call r f.step.sender f.exact f.accepted;
   made = subst (Every IsShortMade) (sym (ap (λ (s : Session). s.made) f.after)) (made-short call old.sending.sender old.made r f.accepted k.short k.made);
 }
 
-receiver-kept : (call : ReceiverCall) (old new : Session) → is_reliable_at_receiver call ≡ true → are_apart new.receiving.accepted ≡ true → ReceiverFollows call old new → IsKeptIn old → IsKeptIn new
+pub receiver-kept : (call : ReceiverCall) (old new : Session) → is_reliable_at_receiver call ≡ true → are_apart new.receiving.accepted ≡ true
+    → ReceiverFollows call old new → IsKeptIn old → IsKeptIn new
 receiver-kept call old new r apart f k = record {
   kept = λ st. kept-on call old new st r k.made apart f (k.kept st);
   short = subst (λ l. AreShort l.sender) (sym (ap (λ (s : Session). s.sending) f.after)) k.short;
   made = subst (Every IsShortMade) (sym (ap (λ (s : Session). s.made) f.after)) k.made;
 }
 
-kept-after : (cs : List Call) (old new : Session) → list_all is_reliable cs ≡ true → are_apart new.receiving.accepted ≡ true → RunsTo old cs new → IsKeptIn old → IsKeptIn new
+kept-after : (cs : List Call) (old new : Session) → list_all is_reliable cs ≡ true → are_apart new.receiving.accepted ≡ true → RunsTo old cs new
+    → IsKeptIn old → IsKeptIn new
 kept-after [] old new all apart r k = subst IsKeptIn (sym r) k
 kept-after (of_sender call ∷ cs) old new all apart r k =
     let b = both (is_reliable_at_sender call) (list_all is_reliable cs) all in

@@ -65,7 +65,8 @@ lowest-is i (s ∷ ss) r = by (at_or_before16 s.ssn (i % 2 ^ 16)) refl
     by true e =
         let low = r.1.0 in
         let top = r.1.1 in
-        let order : nat_le k i ≡ true = sym (at_or_before16-index k i (omega (arith, top)) (omega (arith, low))) ∙ ap (λ n. at_or_before16 n (i % 2 ^ 16)) (sym r.1.2) ∙ e in
+        let order : nat_le k i ≡ true = sym (at_or_before16-index k i (omega (arith, top)) (omega (arith, low)))
+            ∙ ap (λ n. at_or_before16 n (i % 2 ^ 16)) (sym r.1.2) ∙ e in
         let le : k ≤ i = grind (arith, nat_tests, order) in
         let same : k ≡ i = omega (arith, le, low) in
         r.1.2 ∙ ap (λ n. n % 2 ^ 16) same
@@ -87,13 +88,16 @@ not-before i ssn next e n =
     let low = n.low in
     let top = n.top in
     let past : nat_lt n.place i ≡ false = grind (arith, nat_tests, low) in
-    ap (λ k. comes_before16 k next) n.is ∙ ap (comes_before16 (n.place % 2 ^ 16)) e ∙ comes_before16-index n.place i (omega (arith, top)) (omega (arith, low)) ∙ past
+    ap (λ k. comes_before16 k next) n.is ∙ ap (comes_before16 (n.place % 2 ^ 16)) e
+        ∙ comes_before16-index n.place i (omega (arith, top)) (omega (arith, low)) ∙ past
 
-rise-changed : (low top : ℕ) (p : ChunkSet → Bool) (x : ChunkPayloadData) (ss : List ChunkSet) → Rise low top ss → Rise low top (change_first p (with_chunk x) ss)
+rise-changed : (low top : ℕ) (p : ChunkSet → Bool) (x : ChunkPayloadData) (ss : List ChunkSet) → Rise low top ss
+    → Rise low top (change_first p (with_chunk x) ss)
 rise-changed low top p x [] r = tt
 rise-changed low top p x (s ∷ ss) r = by (p s) (rise-changed (r.0 + 1) top p x ss r.2)
   where
-    by : (b : Bool) → Rise (r.0 + 1) top (change_first p (with_chunk x) ss) → Rise low top (if b then with_chunk x s ∷ ss else s ∷ change_first p (with_chunk x) ss)
+    by : (b : Bool) → Rise (r.0 + 1) top (change_first p (with_chunk x) ss)
+        → Rise low top (if b then with_chunk x s ∷ ss else s ∷ change_first p (with_chunk x) ss)
     by true ih = (r.0, (r.1.0, r.1.1, r.1.2), r.2)
     by false ih = (r.0, (r.1.0, r.1.1, r.1.2), ih)
 
@@ -101,9 +105,11 @@ none-after : (b c : Bool) → (b || c) ≡ false → c ≡ false
 none-after true c e = absurd (not_both (sym e))
 none-after false c e = e
 
-rise-inserted : (low top k : ℕ) (x : ChunkSet) (ss : List ChunkSet) → top ≤ low + 2 ^ 15 → IsAt low top k x → list_any (has_ssn x.ssn) ss ≡ false → Rise low top ss → Rise low top (insert_before set_before x ss)
+rise-inserted : (low top k : ℕ) (x : ChunkSet) (ss : List ChunkSet) → top ≤ low + 2 ^ 15 → IsAt low top k x → list_any (has_ssn x.ssn) ss ≡ false
+    → Rise low top ss → Rise low top (insert_before set_before x ss)
 rise-inserted low top k x [] near at none r = (k, at, tt)
-rise-inserted low top k x (s ∷ ss) near at none r = by (set_before x s) refl (λ n a. rise-inserted (r.0 + 1) top k x ss n a (none-after (s.ssn == x.ssn) (list_any (has_ssn x.ssn) ss) none) r.2)
+rise-inserted low top k x (s ∷ ss) near at none r = by (set_before x s) refl
+    (λ n a. rise-inserted (r.0 + 1) top k x ss n a (none-after (s.ssn == x.ssn) (list_any (has_ssn x.ssn) ss) none) r.2)
   where
     j : ℕ
     j = r.0
@@ -114,12 +120,14 @@ rise-inserted low top k x (s ∷ ss) near at none r = by (set_before x s) refl (
         let b = at.1 in
         let c = r.1.0 in
         let d = r.1.1 in
-        ap (λ n. comes_before16 n s.ssn) at.2 ∙ ap (comes_before16 (k % 2 ^ 16)) r.1.2 ∙ comes_before16-index k j (omega (arith, a, b, c, d, near)) (omega (arith, a, b, c, d, near))
+        ap (λ n. comes_before16 n s.ssn) at.2 ∙ ap (comes_before16 (k % 2 ^ 16)) r.1.2
+            ∙ comes_before16-index k j (omega (arith, a, b, c, d, near)) (omega (arith, a, b, c, d, near))
 
     other : s.ssn ≡ x.ssn → ⊥
     other e = not_both (sym none ∙ ap (λ b. b || list_any (has_ssn x.ssn) ss) (ap (λ n. n == x.ssn) e ∙ same-yes x.ssn))
 
-    by : (b : Bool) → set_before x s ≡ b → (top ≤ r.0 + 1 + 2 ^ 15 → IsAt (r.0 + 1) top k x → Rise (r.0 + 1) top (insert_before set_before x ss)) → Rise low top (if b then x ∷ s ∷ ss else s ∷ insert_before set_before x ss)
+    by : (b : Bool) → set_before x s ≡ b → (top ≤ r.0 + 1 + 2 ^ 15 → IsAt (r.0 + 1) top k x → Rise (r.0 + 1) top (insert_before set_before x ss))
+        → Rise low top (if b then x ∷ s ∷ ss else s ∷ insert_before set_before x ss)
     by true e ih =
         let lt : nat_lt k j ≡ true = sym order ∙ e in
         let less : k < j = grind (arith, nat_tests, lt) in
@@ -139,15 +147,18 @@ rise-inserted low top k x (s ∷ ss) near at none r = by (set_before x s) refl (
             by-order true f = grind (arith, nat_tests, f)
             by-order false f = let ge : k ≤ j = grind (arith, nat_tests, f) in absurd (differ (omega (arith, le, ge)))
 
-rise-with : (low top k : ℕ) (x : ChunkPayloadData) (ss : List ChunkSet) → top ≤ low + 2 ^ 15 → IsAt low top k (new_set x) → Rise low top ss → Rise low top (sets_with x ss)
+rise-with : (low top k : ℕ) (x : ChunkPayloadData) (ss : List ChunkSet) → top ≤ low + 2 ^ 15 → IsAt low top k (new_set x) → Rise low top ss
+    → Rise low top (sets_with x ss)
 rise-with low top k x ss near at r = by (list_any (has_ssn x.stream_sequence_number) ss) refl
   where
-    by : (b : Bool) → list_any (has_ssn x.stream_sequence_number) ss ≡ b → Rise low top (if b then change_first (has_ssn x.stream_sequence_number) (with_chunk x) ss else insert_before set_before (new_set x) ss)
+    by : (b : Bool) → list_any (has_ssn x.stream_sequence_number) ss ≡ b
+        → Rise low top (if b then change_first (has_ssn x.stream_sequence_number) (with_chunk x) ss else insert_before set_before (new_set x) ss)
     by true e = rise-changed low top (has_ssn x.stream_sequence_number) x ss r
     by false e = rise-inserted low top k (new_set x) ss near at e r
 
 -- it is put in
-pub put-in : (x : ChunkPayloadData) (q : Reassembly) (t : IsInTurn q) → IsNear t.index x.stream_sequence_number → held_after_ordered_push x q ≡ record q { ordered = sets_with x q.ordered }
+pub put-in : (x : ChunkPayloadData) (q : Reassembly) (t : IsInTurn q) → IsNear t.index x.stream_sequence_number
+    → held_after_ordered_push x q ≡ record q { ordered = sets_with x q.ordered }
 put-in x q t n = ap (λ b. if b then q else record q { ordered = sets_with x q.ordered }) (not-before t.index x.stream_sequence_number q.next_ssn t.next n)
 
 pub put-in-turn : (x : ChunkPayloadData) (q : Reassembly) (t : IsInTurn q) → IsNear t.index x.stream_sequence_number → IsInTurn (held_after_ordered_push x q)
@@ -167,11 +178,14 @@ module _ (w : ChunkPayloadData → ℕ) (x : ChunkPayloadData) where
       let is = ap (λ b. sum_by w (if b then s.chunks else insert_before chunk_before x s.chunks)) e in
       omega (arith, m, is)
 
-  first-more : (p : ChunkSet → Bool) (ss : List ChunkSet) → list_any p ss ≡ true → Every (λ (s : ChunkSet). list_any (has_tsn x.tsn) s.chunks ≡ false) ss → sum_by (set_weight w) (change_first p (with_chunk x) ss) ≡ sum_by (set_weight w) ss + w x
+  first-more : (p : ChunkSet → Bool) (ss : List ChunkSet) → list_any p ss ≡ true → Every (λ (s : ChunkSet). list_any (has_tsn x.tsn) s.chunks ≡ false) ss
+      → sum_by (set_weight w) (change_first p (with_chunk x) ss) ≡ sum_by (set_weight w) ss + w x
   first-more p [] e h = absurd (not_both e)
   first-more p (s ∷ ss) e h = by (p s) e (λ f. first-more p ss f h.1)
     where
-      by : (b : Bool) → (b || list_any p ss) ≡ true → (list_any p ss ≡ true → sum_by (set_weight w) (change_first p (with_chunk x) ss) ≡ sum_by (set_weight w) ss + w x) → sum_by (set_weight w) (if b then with_chunk x s ∷ ss else s ∷ change_first p (with_chunk x) ss) ≡ sum_by (set_weight w) (s ∷ ss) + w x
+      by : (b : Bool) → (b || list_any p ss) ≡ true → (list_any p ss ≡ true
+          → sum_by (set_weight w) (change_first p (with_chunk x) ss) ≡ sum_by (set_weight w) ss + w x)
+          → sum_by (set_weight w) (if b then with_chunk x s ∷ ss else s ∷ change_first p (with_chunk x) ss) ≡ sum_by (set_weight w) (s ∷ ss) + w x
       by true f ih =
           let a = sum_by-cons (set_weight w) (with_chunk x s) ss in
           let b = sum_by-cons (set_weight w) s ss in
@@ -183,10 +197,13 @@ module _ (w : ChunkPayloadData → ℕ) (x : ChunkPayloadData) where
           let m = ih f in
           omega (arith, a, b, m)
 
-  pub sets-more : (ss : List ChunkSet) → Every (λ (s : ChunkSet). list_any (has_tsn x.tsn) s.chunks ≡ false) ss → sum_by (set_weight w) (sets_with x ss) ≡ sum_by (set_weight w) ss + w x
+  pub sets-more : (ss : List ChunkSet) → Every (λ (s : ChunkSet). list_any (has_tsn x.tsn) s.chunks ≡ false) ss
+      → sum_by (set_weight w) (sets_with x ss) ≡ sum_by (set_weight w) ss + w x
   sets-more ss h = by (list_any (has_ssn x.stream_sequence_number) ss) refl
     where
-      by : (b : Bool) → list_any (has_ssn x.stream_sequence_number) ss ≡ b → sum_by (set_weight w) (if b then change_first (has_ssn x.stream_sequence_number) (with_chunk x) ss else insert_before set_before (new_set x) ss) ≡ sum_by (set_weight w) ss + w x
+      by : (b : Bool) → list_any (has_ssn x.stream_sequence_number) ss ≡ b
+          → sum_by (set_weight w) (if b then change_first (has_ssn x.stream_sequence_number) (with_chunk x) ss else insert_before set_before
+          (new_set x) ss) ≡ sum_by (set_weight w) ss + w x
       by true e = first-more (has_ssn x.stream_sequence_number) ss e h
       by false e =
           let m = sum_by-inserted (set_weight w) set_before (new_set x) ss in
@@ -195,22 +212,35 @@ module _ (w : ChunkPayloadData → ℕ) (x : ChunkPayloadData) where
 
 -- ## A message is read
 
-front-turn : (q : Reassembly) (i : ℕ) → q.next_ssn ≡ i % 2 ^ 16 → (ss : List ChunkSet) → q.ordered ≡ ss → Rise i (i + 2 ^ 15) ss → IsInTurn (after_read (front_readable q.next_ssn ss) q)
+-- the set that is read first has the next number
+front-place : (q : Reassembly) (i : ℕ) → q.next_ssn ≡ i % 2 ^ 16 → (s : ChunkSet) (ss : List ChunkSet) (r : Rise i (i + 2 ^ 15) (s ∷ ss))
+    → is_readable q.next_ssn s ≡ true → r.0 ≡ i
+front-place q i next s ss r f =
+    let low = r.1.0 in
+    let top = r.1.1 in
+    let due : at_or_before16 (r.0 % 2 ^ 16) (i % 2 ^ 16) ≡ true = ap (at_or_before16 (r.0 % 2 ^ 16)) (sym next)
+        ∙ ap (λ n. at_or_before16 n q.next_ssn) (sym r.1.2) ∙ (both (is_complete s.chunks) (at_or_before16 s.ssn q.next_ssn) f).1 in
+    let order : nat_le r.0 i ≡ true = sym (at_or_before16-index r.0 i (omega (arith, top)) (omega (arith, low))) ∙ due in
+    let le : r.0 ≤ i = grind (arith, nat_tests, order) in
+    omega (arith, le, low)
+
+pub front-number : (q : Reassembly) (i : ℕ) → q.next_ssn ≡ i % 2 ^ 16 → (s : ChunkSet) (ss : List ChunkSet) → Rise i (i + 2 ^ 15) (s ∷ ss)
+    → is_readable q.next_ssn s ≡ true → s.ssn ≡ q.next_ssn
+front-number q i next s ss r f = r.1.2 ∙ ap (λ n. n % 2 ^ 16) (front-place q i next s ss r f) ∙ sym next
+
+front-turn : (q : Reassembly) (i : ℕ) → q.next_ssn ≡ i % 2 ^ 16 → (ss : List ChunkSet) → q.ordered ≡ ss → Rise i (i + 2 ^ 15) ss
+    → IsInTurn (after_read (front_readable q.next_ssn ss) q)
 front-turn q i next [] e r = record { index = i; next = next; rise = subst (Rise i (i + 2 ^ 15)) (sym e) tt }
 front-turn q i next (s ∷ ss) e r = by (is_readable q.next_ssn s) refl
   where
     by : (b : Bool) → is_readable q.next_ssn s ≡ b → IsInTurn (after_read (if b then Some s else None) q)
     by false f = record { index = i; next = next; rise = subst (Rise i (i + 2 ^ 15)) (sym e) r }
     by true f =
-        let low = r.1.0 in
-        let top = r.1.1 in
-        let due : at_or_before16 (r.0 % 2 ^ 16) (i % 2 ^ 16) ≡ true = ap (at_or_before16 (r.0 % 2 ^ 16)) (sym next) ∙ ap (λ n. at_or_before16 n q.next_ssn) (sym r.1.2) ∙ (both (is_complete s.chunks) (at_or_before16 s.ssn q.next_ssn) f).1 in
-        let order : nat_le r.0 i ≡ true = sym (at_or_before16-index r.0 i (omega (arith, top)) (omega (arith, low))) ∙ due in
-        let le : r.0 ≤ i = grind (arith, nat_tests, order) in
-        let same : r.0 ≡ i = omega (arith, le, low) in
-        let is : s.ssn ≡ q.next_ssn = r.1.2 ∙ ap (λ n. n % 2 ^ 16) same ∙ sym next in
+        let same : r.0 ≡ i = front-place q i next s ss r f in
+        let is = front-number q i next s ss r f in
         let more : (if s.ssn == q.next_ssn then (q.next_ssn + 1) % 2 ^ 16 else q.next_ssn) ≡ (i + 1) % 2 ^ 16 =
-        ap (λ b. if b then (q.next_ssn + 1) % 2 ^ 16 else q.next_ssn) (ap (λ n. n == q.next_ssn) is ∙ same-yes q.next_ssn) ∙ ap (λ n. (n + 1) % 2 ^ 16) next ∙ next16 i in
+        ap (λ b. if b then (q.next_ssn + 1) % 2 ^ 16 else q.next_ssn) (ap (λ n. n == q.next_ssn) is ∙ same-yes q.next_ssn) ∙ ap (λ n. (n + 1) % 2 ^ 16) next
+            ∙ next16 i in
         record {
           index = i + 1;
           next = more;

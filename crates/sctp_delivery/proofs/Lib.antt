@@ -45,6 +45,8 @@ pub mod KeptSets
 pub mod Kept
 pub mod Chains
 pub mod Ranges
+pub mod Rising
+pub mod Tidy
 pub mod AllBegun
 pub mod EachRead
 mod Examples

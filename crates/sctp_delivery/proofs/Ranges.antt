@@ -26,7 +26,8 @@ Agrees f (fragment d w after ∷ xs) = (f (suc (length xs)) ≡ d) × Agrees f x
 agrees-with : (f g : ℕ → Data) (xs : List Entry) → ((k : ℕ) → 0 < k → k ≤ length xs → g k ≡ f k) → Agrees f xs → Agrees g xs
 agrees-with f g [] same a = tt
 agrees-with f g (terminal ∷ xs) same a = a
-agrees-with f g (fragment d w after ∷ xs) same a = (same (suc (length xs)) (omega arith) (omega arith) ∙ a.0, agrees-with f g xs (λ k some le. same k some (omega (arith, le))) a.1)
+agrees-with f g (fragment d w after ∷ xs) same a = (same (suc (length xs)) (omega arith) (omega arith)
+    ∙ a.0, agrees-with f g xs (λ k some le. same k some (omega (arith, le))) a.1)
 
 pub agrees : (none : Data) (xs : List Entry) → IsChain xs → Agrees (at_place none xs) xs
 agrees none [] c = tt
@@ -40,7 +41,8 @@ agrees none (fragment d w after ∷ xs) c = (
 )
 
 -- what got a TSN stands at its place
-pub part-place : (f : ℕ → Data) (sent : List Entry) → Agrees f sent → (d : Data) (w : Numbered) (after : List ℕ) (xs : List Entry) → IsPart (fragment d w after ∷ xs) sent → f (suc (length xs)) ≡ d
+pub part-place : (f : ℕ → Data) (sent : List Entry) → Agrees f sent → (d : Data) (w : Numbered) (after : List ℕ) (xs : List Entry)
+    → IsPart (fragment d w after ∷ xs) sent → f (suc (length xs)) ≡ d
 part-place f [] a d w after xs p = cc
 part-place f (terminal ∷ ys) a d w after xs p = absurd a
 part-place f (fragment e v rest ∷ ys) a d w after xs (inl p) =
@@ -76,7 +78,8 @@ pub record IsLinked (f : ℕ → Data) (n : ℕ) : Type 0 where
   pub first : 0 < n → (f 1).beginning_fragment ≡ true
   pub ends : (k : ℕ) → 0 < k → k < n → (f (suc k)).beginning_fragment ≡ true → (f k).ending_fragment ≡ true
   pub goes : (k : ℕ) → 0 < k → k < n → (f (suc k)).beginning_fragment ≡ false → ((f k).ending_fragment ≡ false) × IsAlike (f (suc k)) (f k)
-  pub numbers : (k : ℕ) → k < n → (f (suc k)).beginning_fragment ≡ true → (f (suc k)).unordered ≡ false → (f (suc k)).stream_sequence_number ≡ count_to f (f (suc k)).stream_identifier k % 2 ^ 16
+  pub numbers : (k : ℕ) → k < n → (f (suc k)).beginning_fragment ≡ true → (f (suc k)).unordered ≡ false
+      → (f (suc k)).stream_sequence_number ≡ count_to f (f (suc k)).stream_identifier k % 2 ^ 16
 
 last-or : (k n : ℕ) → k < suc n → (k < n) ⊎ (k ≡ n)
 last-or k n lt = elim (cases_lt k n) [ inl l ↦ inl l | inr ge ↦ inr (omega (arith, lt, ge)) ]
@@ -98,23 +101,29 @@ linked f (fragment d w after ∷ xs) c a = by (linked f xs c.1.1 a.1)
     at = a.0
 
     first : (ys : List Entry) → xs ≡ ys → Joins d ys → IsLinked f (length ys) → (f 1).beginning_fragment ≡ true
-    first [] e j l = let one : 1 ≡ suc (length xs) = ap (λ zs. suc (length zs)) (sym e) in ap (λ k. (f k).beginning_fragment) one ∙ ap (λ (x : Data). x.beginning_fragment) at ∙ j
+    first [] e j l = let one : 1 ≡ suc (length xs) = ap (λ zs. suc (length zs)) (sym e) in
+        ap (λ k. (f k).beginning_fragment) one ∙ ap (λ (x : Data). x.beginning_fragment) at ∙ j
     first (y ∷ ys) e j l = l.first (omega arith)
 
-    last : (k : ℕ) → 0 < k → k ≡ length xs → (ys : List Entry) → xs ≡ ys → Joins d ys → Agrees f ys → ((f (suc k)).beginning_fragment ≡ true → (f k).ending_fragment ≡ true) × ((f (suc k)).beginning_fragment ≡ false → ((f k).ending_fragment ≡ false) × IsAlike (f (suc k)) (f k))
+    last : (k : ℕ) → 0 < k → k ≡ length xs → (ys : List Entry) → xs ≡ ys → Joins d ys → Agrees f ys
+        → ((f (suc k)).beginning_fragment ≡ true → (f k).ending_fragment ≡ true)
+        × ((f (suc k)).beginning_fragment ≡ false → ((f k).ending_fragment ≡ false) × IsAlike (f (suc k)) (f k))
     last k some e [] g j b = let z : length xs ≡ 0 = ap length g in absurd (omega (arith, some, e, z))
     last k some e (terminal ∷ ys) g j b = absurd j
     last k some e (fragment x v rest ∷ ys) g j b =
         let here : f k ≡ x = ap f (e ∙ ap length g) ∙ b.0 in
         let there : f (suc k) ≡ d = ap (λ i. f (suc i)) e ∙ at in (
           λ h. ap (λ (y : Data). y.ending_fragment) here ∙ j.0 (ap (λ (y : Data). y.beginning_fragment) (sym there) ∙ h),
-          λ h. let r = j.1 (ap (λ (y : Data). y.beginning_fragment) (sym there) ∙ h) in (ap (λ (y : Data). y.ending_fragment) here ∙ r.0, subst (λ y. IsAlike y (f k)) (sym there) (subst (IsAlike d) (sym here) r.1)),
+          λ h. let r = j.1 (ap (λ (y : Data). y.beginning_fragment) (sym there) ∙ h) in
+              (ap (λ (y : Data). y.ending_fragment) here ∙ r.0, subst (λ y. IsAlike y (f k)) (sym there) (subst (IsAlike d) (sym here) r.1)),
         )
 
-    both-links : (k : ℕ) → 0 < k → k ≡ length xs → ((f (suc k)).beginning_fragment ≡ true → (f k).ending_fragment ≡ true) × ((f (suc k)).beginning_fragment ≡ false → ((f k).ending_fragment ≡ false) × IsAlike (f (suc k)) (f k))
+    both-links : (k : ℕ) → 0 < k → k ≡ length xs → ((f (suc k)).beginning_fragment ≡ true → (f k).ending_fragment ≡ true)
+        × ((f (suc k)).beginning_fragment ≡ false → ((f k).ending_fragment ≡ false) × IsAlike (f (suc k)) (f k))
     both-links k some e = last k some e xs refl c.0 a.1
 
-    number : (k : ℕ) → k ≡ length xs → (f (suc k)).beginning_fragment ≡ true → (f (suc k)).unordered ≡ false → (f (suc k)).stream_sequence_number ≡ count_to f (f (suc k)).stream_identifier k % 2 ^ 16
+    number : (k : ℕ) → k ≡ length xs → (f (suc k)).beginning_fragment ≡ true → (f (suc k)).unordered ≡ false
+        → (f (suc k)).stream_sequence_number ≡ count_to f (f (suc k)).stream_identifier k % 2 ^ 16
     number k e b u =
         let there : f (suc k) ≡ d = ap (λ i. f (suc i)) e ∙ at in
         let is = c.1.0 (ap (λ (y : Data). y.beginning_fragment) (sym there) ∙ b) (ap (λ (y : Data). y.unordered) (sym there) ∙ u) in
@@ -178,7 +187,8 @@ module _ (f : ℕ → Data) (n : ℕ) (l : IsLinked f n) where
         alike = alike-itself (f (suc k));
       }
       by false e ih = elim (cases_lt 0 k) [
-        | inr none ↦ let z : 1 ≡ suc k = omega (arith, none) in absurd (not_both (sym (ap (λ i. (f i).beginning_fragment) z ∙ e) ∙ l.first (omega (arith, le))))
+        | inr none ↦ let z : 1 ≡ suc k = omega (arith, none) in absurd (not_both
+            (sym (ap (λ i. (f i).beginning_fragment) z ∙ e) ∙ l.first (omega (arith, le))))
         | inl more ↦
             let s = ih more (omega (arith, le)) in
             let g = l.goes k more (omega (arith, le)) e in
@@ -212,7 +222,8 @@ module _ (f : ℕ → Data) (n : ℕ) (l : IsLinked f n) where
         inner = λ j lt short. absurd (omega (arith, lt, short));
         alike = λ j lt short. let it : j ≡ k = omega (arith, lt, short) in subst (λ i. IsAlike (f i) (f k)) (sym it) (alike-itself (f k));
       }
-  finish-from (suc gap) k e some last = by (f k).ending_fragment refl (f (suc k)).beginning_fragment refl (finish-from gap (suc k) (omega (arith, e)) (omega arith) last)
+  finish-from (suc gap) k e some last = by (f k).ending_fragment refl (f (suc k)).beginning_fragment refl
+      (finish-from gap (suc k) (omega (arith, e)) (omega arith) last)
     where
       by : (b : Bool) → (f k).ending_fragment ≡ b → (m : Bool) → (f (suc k)).beginning_fragment ≡ m → IsFinish f n (suc k) → IsFinish f n k
       by true h m g ih = record {
@@ -248,7 +259,8 @@ module _ (f : ℕ → Data) (n : ℕ) (l : IsLinked f n) where
           }
 
   -- one start where a message begins before the place and none between
-  pub same-start : (k a : ℕ) (s : IsStart f k) → a ≤ k → (f a).beginning_fragment ≡ true → ((j : ℕ) → a < j → j ≤ k → (f j).beginning_fragment ≡ false) → a ≡ s.start
+  pub same-start : (k a : ℕ) (s : IsStart f k) → a ≤ k → (f a).beginning_fragment ≡ true → ((j : ℕ) → a < j → j ≤ k → (f j).beginning_fragment ≡ false)
+      → a ≡ s.start
   same-start k a s le begins inner = elim (cases_lt a s.start) [
     | inl lt ↦ absurd (not_both (sym (inner s.start lt s.within) ∙ s.begins))
     | inr ge ↦ elim (cases_lt s.start a) [
@@ -258,7 +270,8 @@ module _ (f : ℕ → Data) (n : ℕ) (l : IsLinked f n) where
   ]
 
   -- two ordered messages of a stream have different counts before them
-  pub same-count : (st a b : ℕ) → 0 < a → 0 < b → opens_on st (f a) ≡ true → opens_on st (f b) ≡ true → (i j : ℕ) → suc i ≡ a → suc j ≡ b → count_to f st i ≡ count_to f st j → a ≡ b
+  pub same-count : (st a b : ℕ) → 0 < a → 0 < b → opens_on st (f a) ≡ true → opens_on st (f b) ≡ true → (i j : ℕ) → suc i ≡ a → suc j ≡ b
+      → count_to f st i ≡ count_to f st j → a ≡ b
   same-count st a b some more x y i j e g same = elim (cases_lt a b) [
     | inl lt ↦ absurd (apart i j e g x (omega (arith, lt, e, g)) same)
     | inr ge ↦ elim (cases_lt b a) [
@@ -278,7 +291,8 @@ module _ (f : ℕ → Data) (n : ℕ) (l : IsLinked f n) where
   nth-begun st i zero lt = absurd (omega (arith, lt))
   nth-begun st i (suc k) lt = by (opens_on st (f (suc k))) refl (nth-begun st i k)
     where
-      by : (b : Bool) → opens_on st (f (suc k)) ≡ b → (i < count_to f st k → (j : ℕ) × (j < k) × (count_to f st j ≡ i) × (opens_on st (f (suc j)) ≡ true)) → (j : ℕ) × (j < suc k) × (count_to f st j ≡ i) × (opens_on st (f (suc j)) ≡ true)
+      by : (b : Bool) → opens_on st (f (suc k)) ≡ b → (i < count_to f st k → (j : ℕ) × (j < k) × (count_to f st j ≡ i) × (opens_on st (f (suc j)) ≡ true))
+          → (j : ℕ) × (j < suc k) × (count_to f st j ≡ i) × (opens_on st (f (suc j)) ≡ true)
       by false e ih = let z = ap bit e in let r = ih (omega (arith, lt, z)) in let less = r.1 in (r.0, omega (arith, less), r.2, r.3)
       by true e ih = elim (cases_lt i (count_to f st k)) [
         | inl less ↦ let r = ih less in let short = r.1 in (r.0, omega (arith, short), r.2, r.3)

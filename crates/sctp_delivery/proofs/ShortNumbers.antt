@@ -54,7 +54,8 @@ front : (xs : List ChunkPayloadData) (c : ChunkPayloadData) → slice_get xs 0 �
 front [] c e h = absurd (none-some c e)
 front (x ∷ xs) c e h = let same : x ≡ c = cc in subst IsShort same h.0
 
-peeked : (sel : Option _) (q : Pending) (c : ChunkPayloadData) → next_pending_of sel q ≡ Some c → Every IsShort q.ordered → Every IsShort q.unordered → IsShort c
+peeked : (sel : Option _) (q : Pending) (c : ChunkPayloadData) → next_pending_of sel q ≡ Some c → Every IsShort q.ordered → Every IsShort q.unordered
+    → IsShort c
 peeked (Some s) q c e o u = by s.unordered e
   where
     by : (b : Bool) → slice_get (list_of b q) 0 ≡ Some c → IsShort c
@@ -66,13 +67,15 @@ peeked None q c e o u = by q.unordered e u
     by [] h s = front q.ordered c h o
     by (x ∷ xs) h s = let same : x ≡ c = cc in subst IsShort same s.0
 
-rest-of : (b : Bool) (q : Pending) (cs : List ChunkPayloadData) → Every IsShort cs → Every IsShort q.ordered → Every IsShort q.unordered → Every IsShort (rest_of b q cs).ordered × Every IsShort (rest_of b q cs).unordered
+rest-of : (b : Bool) (q : Pending) (cs : List ChunkPayloadData) → Every IsShort cs → Every IsShort q.ordered → Every IsShort q.unordered
+    → Every IsShort (rest_of b q cs).ordered × Every IsShort (rest_of b q cs).unordered
 rest-of true q [] s o u = (o, u)
 rest-of false q [] s o u = (o, u)
 rest-of true q (c ∷ cs) s o u = (o, s.1)
 rest-of false q (c ∷ cs) s o u = (s.1, u)
 
-rest : (k : Option Bool) (q : Pending) → Every IsShort q.ordered → Every IsShort q.unordered → Every IsShort (rest_from k q).ordered × Every IsShort (rest_from k q).unordered
+rest : (k : Option Bool) (q : Pending) → Every IsShort q.ordered → Every IsShort q.unordered → Every IsShort (rest_from k q).ordered
+    × Every IsShort (rest_from k q).unordered
 rest None q o u = (o, u)
 rest (Some true) q o u = rest-of true q q.unordered u o u
 rest (Some false) q o u = rest-of false q q.ordered o o u
@@ -99,7 +102,8 @@ sent-of (Some c) q tsn now e s =
     record {
       ordered = left.0;
       unordered = left.1;
-      inflight = every-inserted IsShort chunk_before (as_sent tsn now c) q.inflight.chunks (peeked q.pending.selected q.pending c e s.ordered s.unordered) s.inflight;
+      inflight = every-inserted IsShort chunk_before (as_sent tsn now c) q.inflight.chunks
+          (peeked q.pending.selected q.pending c e s.ordered s.unordered) s.inflight;
     }
 
 -- ## A write
@@ -145,7 +149,8 @@ wrote-short ppi bytes l s = by (is_ordered l.unordered ppi && nat_lt 0 (length b
 
 releases-short : (rs : List Released) (ls : List StreamState) → Every IsShortOn ls → Every IsShortOn (after_releases rs ls)
 releases-short [] ls s = s
-releases-short (r ∷ rs) ls s = releases-short rs (change_where (has_number r.stream) (less_by r.bytes) ls) (every-changed IsShortOn (has_number r.stream) (less_by r.bytes) (λ l h e. e) ls s)
+releases-short (r ∷ rs) ls s = releases-short rs (change_where (has_number r.stream) (less_by r.bytes) ls)
+    (every-changed IsShortOn (has_number r.stream) (less_by r.bytes) (λ l h e. e) ls s)
 
 -- ## The calls
 
@@ -163,7 +168,8 @@ module _ (t u : Transmission) (s : AreShort t) where
   pub stays-short : (call : SenderCall) → is_reliable_at_sender call ≡ true → Makes (as_run call) t u → MakesExactly call t u → IsAccepted call t → AreShort u
   stays-short (outgoing.opens stream) r m x a = to _ m (record { streams = every-joined IsShortOn t.streams _ s.streams (omega arith, tt); queue = s.queue })
   stays-short (outgoing.sets_mode stream unordered reliability value) r m x a =
-      to _ m (record { streams = every-changed IsShortOn (has_number stream) (with_mode unordered reliability value) (λ l h e. e) t.streams s.streams; queue = s.queue })
+      to _ m (record { streams = every-changed IsShortOn (has_number stream) (with_mode unordered reliability value)
+          (λ l h e. e) t.streams s.streams; queue = s.queue })
   stays-short (outgoing.sets_low stream bytes) r m x a =
       to _ m (record { streams = every-changed IsShortOn (has_number stream) (with_low bytes) (λ l h e. e) t.streams s.streams; queue = s.queue })
   stays-short (outgoing.sets_size size) r m x a =
@@ -178,24 +184,28 @@ module _ (t u : Transmission) (s : AreShort t) where
             (fragments-short l.0 ppi (b ∷ bs) (every-found IsShortOn (has_number stream) t.streams l.0 l.1 s.streams)) s.queue;
       })
   stays-short (outgoing.starts now) r m x a = to _ m (record { streams = s.streams; queue = started-short now t.flight.queue s.queue })
-  stays-short (outgoing.reserves more) r m x a = to _ m (record { streams = s.streams; queue = record { ordered = s.queue.ordered; unordered = s.queue.unordered; inflight = s.queue.inflight } })
+  stays-short (outgoing.reserves more) r m x a = to _ m (record { streams = s.streams; queue =
+      record { ordered = s.queue.ordered; unordered = s.queue.unordered; inflight = s.queue.inflight } })
   stays-short (outgoing.sends now) r m x a =
       to _ x
       (record {
         streams = s.streams;
-        queue = sent-of (next_pending (all_started now t.flight.queue).pending) (all_started now t.flight.queue) t.flight.next_tsn now refl (started-short now t.flight.queue s.queue);
+        queue = sent-of (next_pending (all_started now t.flight.queue).pending) (all_started now t.flight.queue) t.flight.next_tsn now refl
+            (started-short now t.flight.queue s.queue);
       })
   stays-short (outgoing.resends tsn now c) r m x a =
       to _ m
       (record {
         streams = s.streams;
-        queue = refilled _ (every-changed IsShort (has_tsn tsn) (sent_again (count_again c) now) (λ d h e. e) t.flight.queue.inflight.chunks s.queue.inflight) _ refl refl;
+        queue = refilled _ (every-changed IsShort (has_tsn tsn) (sent_again (count_again c) now)
+            (λ d h e. e) t.flight.queue.inflight.chunks s.queue.inflight) _ refl refl;
       })
   stays-short outgoing.marks r m x a =
       to _ m
       (record {
         streams = s.streams;
-        queue = refilled _ (every-changed IsShort is_outstanding (with_retransmit true) (λ d h e. e) t.flight.queue.inflight.chunks s.queue.inflight) _ refl refl;
+        queue = refilled _ (every-changed IsShort is_outstanding (with_retransmit true)
+            (λ d h e. e) t.flight.queue.inflight.chunks s.queue.inflight) _ refl refl;
       })
   stays-short (outgoing.misses count) r m x a =
       let cs = t.flight.queue.inflight.chunks in
@@ -208,13 +218,15 @@ module _ (t u : Transmission) (s : AreShort t) where
             (every-changed IsShort can_miss missed (λ d h e. e) (take count cs) (every-taken IsShort count cs s.queue.inflight))
             (every-left IsShort count cs s.queue.inflight)) _ refl refl;
       })
-  stays-short (outgoing.takes_sack k gone) r m x a = to _ x (record { streams = releases-short (released_by k t.flight) t.streams s.streams; queue = by (is_outdated k t.flight) })
+  stays-short (outgoing.takes_sack k gone) r m x a = to _ x (record { streams = releases-short (released_by k t.flight) t.streams s.streams; queue =
+      by (is_outdated k t.flight) })
     where
       by : (b : Bool) → ShortQueue (if b then t.flight else take_sack k t.flight).queue
       by true = s.queue
       by false =
           refilled _
-          (every-passing IsShort (λ c. not (at_or_before c.tsn k.cumulative_tsn_ack)) (change_where (reports_anew k) as_acknowledged t.flight.queue.inflight.chunks)
+          (every-passing IsShort (λ c. not (at_or_before c.tsn k.cumulative_tsn_ack))
+              (change_where (reports_anew k) as_acknowledged t.flight.queue.inflight.chunks)
           (every-changed IsShort (reports_anew k) as_acknowledged (λ d h e. e) t.flight.queue.inflight.chunks s.queue.inflight)) _ refl refl
   stays-short (outgoing.abandons tsn a') r m x a = absurd (not_both r)
   stays-short (outgoing.expires now m') r m x a = absurd (not_both r)
@@ -224,10 +236,12 @@ module _ (t u : Transmission) (s : AreShort t) where
   stays-short (outgoing.forwards tsn f) r m x a = absurd (not_both r)
   stays-short (outgoing.forwards_within bytes f) r m x a = absurd (not_both r)
 
-pub made-short : (call : SenderCall) (t : Transmission) (ms : List Made) → is_reliable_at_sender call ≡ true → IsAccepted call t → AreShort t → Every IsShortMade ms → Every IsShortMade (made_after call t ms)
+pub made-short : (call : SenderCall) (t : Transmission) (ms : List Made) → is_reliable_at_sender call ≡ true → IsAccepted call t → AreShort t
+    → Every IsShortMade ms → Every IsShortMade (made_after call t ms)
 made-short (outgoing.sends now) t ms r a s h = by (next_pending (all_started now t.flight.queue).pending) refl
   where
-    by : (o : Option ChunkPayloadData) → next_pending (all_started now t.flight.queue).pending ≡ o → Every IsShortMade (with_chunk (option_map (as_sent t.flight.next_tsn now) o) ms)
+    by : (o : Option ChunkPayloadData) → next_pending (all_started now t.flight.queue).pending ≡ o
+        → Every IsShortMade (with_chunk (option_map (as_sent t.flight.next_tsn now) o) ms)
     by None e = h
     by (Some c) e = (next-short now t.flight.queue c e s.queue, h)
 made-short (outgoing.resends tsn now c) t ms r a s h = (every-found IsShort (has_tsn tsn) t.flight.queue.inflight.chunks c a.1 s.queue.inflight, h)

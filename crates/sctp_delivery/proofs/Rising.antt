@@ -1,0 +1,266 @@
+-- Chunks in the order of their places: one more put in, some taken out, and a message that stands there whole.
+use Rattle.std.proofs.Common.{◌≡◌, ℕ, zero, suc, ◌+◌, ◌-◌, ◌<◌, ◌≤◌, ◌%◌, ◌^◌, Bool, true, false, List, [], ◌∷◌, ◌++◌, length, take, drop, inl, inr, refl, ap, sym, subst, ◌∙◌, arith}
+use Rattle.std.specs.Prelude.{⊤, IsTrue, All, AllPairs, ◌==◌, ◌||◌, if◌then◌else◌, nat_lt, remove, slice_index_or}
+use Rattle.std.specs.List.{list_any}
+use Rattle.std.proofs.lemmas.Bool.{cases_lt, eq-eqb}
+use Rattle.std.proofs.lemmas.Bool.Decides.{nat_tests}
+use Rattle.sctp_list_lemmas.specs.Lists.{insert_before}
+use Rattle.sctp_list_lemmas.specs.Serial.{comes_before}
+use Rattle.sctp_list_lemmas.proofs.Cases.{or-right, or-split, same-is, same-yes}
+use Rattle.sctp_list_lemmas.proofs.Edits.{pairs_cons}
+use Rattle.sctp_list_lemmas.proofs.More.{and, fails, not_both}
+use Rattle.sctp_list_lemmas.proofs.Round.{tsn}
+use Rattle.sctp_data.specs.declared.chunk.chunk_payload_data.ChunkPayloadData.{ChunkPayloadData}
+use Rattle.sctp_data.specs.PayloadData.{Data, data_of}
+use Rattle.sctp_reassembly.specs.reassembly_queue.Fragments.{completes, is_complete}
+use Rattle.sctp_serial.specs.DataChunks.{chunk_before, has_tsn}
+use Rattle.sctp_serial.specs.Runs.{IsRun}
+use Rattle.sctp_serial.specs.Window.{IsSerial}
+use Rattle.sctp_delivery.proofs.Every.{Every, every-at}
+use Rattle.sctp_delivery.proofs.TsnPlaces.{before, next-place, same-place, tsn-small}
+
+-- the chunk has the TSN of a place, from the lowest one on and among the first n
+abbrev pub IsPlaced : ℕ → ℕ → ℕ → ℕ → ChunkPayloadData → Type 0
+IsPlaced p n low k c = (low ≤ k) × (k ≤ n) × (c.tsn ≡ tsn p k)
+
+-- from chunk to chunk the place rises
+abbrev pub Ascend : ℕ → ℕ → ℕ → List ChunkPayloadData → Type 0
+Ascend p n low [] = ⊤
+Ascend p n low (c ∷ cs) = (k : ℕ) × IsPlaced p n low k c × Ascend p n (k + 1) cs
+
+-- each of these places has a chunk
+abbrev pub Covers : ℕ → ℕ → ℕ → List ChunkPayloadData → Type 0
+Covers p a b cs = (j : ℕ) → a ≤ j → j ≤ b → list_any (has_tsn (tsn p j)) cs ≡ true
+
+either-none : (b c : Bool) → (b || c) ≡ false → (b ≡ false) × (c ≡ false)
+either-none true c e = absurd (not_both (sym e))
+either-none false c e = (refl, e)
+
+module _ (p n : ℕ) (few : n < 2 ^ 31) where
+  pub ascend-from : (low less : ℕ) (cs : List ChunkPayloadData) → less ≤ low → Ascend p n low cs → Ascend p n less cs
+  ascend-from low less [] le a = tt
+  ascend-from low less (c ∷ cs) le a = let m = a.1.0 in (a.0, (omega (arith, m, le), a.1.1, a.1.2), a.2)
+
+  pub ascend-inserted : (low k : ℕ) (x : ChunkPayloadData) (cs : List ChunkPayloadData) → IsPlaced p n low k x → list_any (has_tsn x.tsn) cs ≡ false
+      → Ascend p n low cs → Ascend p n low (insert_before chunk_before x cs)
+  ascend-inserted low k x [] at none a = (k, at, tt)
+  ascend-inserted low k x (c ∷ cs) at none a = by (chunk_before x c) refl
+      (λ i. ascend-inserted (a.0 + 1) k x cs i (either-none (has_tsn x.tsn c) (list_any (has_tsn x.tsn) cs) none).1 a.2)
+    where
+      j : ℕ
+      j = a.0
+
+      order : chunk_before x c ≡ nat_lt k j
+      order =
+          let u = at.1 in
+          let v = a.1.1 in
+          ap (λ t. comes_before t c.tsn) at.2 ∙ ap (comes_before (tsn p k)) a.1.2 ∙ before p k j (omega (arith, u, few)) (omega (arith, v, few))
+
+      other : k ≡ j → ⊥
+      other e =
+          let same : c.tsn ≡ x.tsn = a.1.2 ∙ ap (tsn p) (sym e) ∙ sym at.2 in
+          not_both (sym (either-none (has_tsn x.tsn c) (list_any (has_tsn x.tsn) cs) none).0 ∙ eq-eqb c.tsn x.tsn same)
+
+      by : (b : Bool) → chunk_before x c ≡ b → (IsPlaced p n (a.0 + 1) k x → Ascend p n (a.0 + 1) (insert_before chunk_before x cs))
+          → Ascend p n low (if b then x ∷ c ∷ cs else c ∷ insert_before chunk_before x cs)
+      by true e ih =
+          let lt : nat_lt k j ≡ true = sym order ∙ e in
+          let less : k < j = grind (arith, nat_tests, lt) in
+          (k, at, (j, (omega (arith, less), a.1.1, a.1.2), a.2))
+      by false e ih =
+          let ge : nat_lt k j ≡ false = sym order ∙ e in
+          let le : j ≤ k = grind (arith, nat_tests, ge) in
+          (j, a.1, ih (strictly le, at.1, at.2))
+        where
+          strictly : j ≤ k → j + 1 ≤ k
+          strictly le = elim (cases_lt j k) [ inl lt ↦ omega (arith, lt) | inr more ↦ absurd (other (omega (arith, le, more))) ]
+
+  ascend-drop : (low m : ℕ) (cs : List ChunkPayloadData) → Ascend p n low cs → Ascend p n low (drop m cs)
+  ascend-drop low zero cs a = a
+  ascend-drop low (suc m) [] a = tt
+  ascend-drop low (suc m) (c ∷ cs) a = let le = a.1.0 in ascend-drop low m cs (ascend-from (a.0 + 1) low cs (omega (arith, le)) a.2)
+
+  pub ascend-cut : (low first m : ℕ) (cs : List ChunkPayloadData) → Ascend p n low cs → Ascend p n low (take first cs ++ drop (first + m) cs)
+  ascend-cut low zero m cs a = subst (λ k. Ascend p n low (drop k cs)) {x = m} {y = zero + m} (omega arith) (ascend-drop low m cs a)
+  ascend-cut low (suc first) m [] a = empty (suc first + m)
+    where
+      empty : (k : ℕ) → Ascend p n low (drop k [])
+      empty zero = tt
+      empty (suc k) = tt
+  ascend-cut low (suc first) m (c ∷ cs) a =
+      let next : suc (first + m) ≡ suc first + m = omega arith in
+      subst (λ k. Ascend p n low (c ∷ (take first cs ++ drop k (c ∷ cs)))) next (a.0, a.1, ascend-cut (a.0 + 1) first m cs a.2)
+
+  later : (c : ChunkPayloadData) (k : ℕ) → k ≤ n → c.tsn ≡ tsn p k → (low : ℕ) (cs : List ChunkPayloadData) → k < low → Ascend p n low cs
+      → All (λ y. IsTrue (comes_before c.tsn y.tsn)) cs
+  later c k le e low [] lt a i d short = absurd (omega (arith, short))
+  later c k le e low (y ∷ ys) lt a zero d short =
+      let u = a.1.0 in
+      let v = a.1.1 in
+      let less : nat_lt k a.0 ≡ true = (let m : k < a.0 = omega (arith, lt, u) in grind (arith, nat_tests, m)) in
+      let it : comes_before c.tsn y.tsn ≡ true = ap (λ t. comes_before t y.tsn) e ∙ ap (comes_before (tsn p k)) a.1.2
+          ∙ before p k a.0 (omega (arith, le, few)) (omega (arith, v, few)) ∙ less in
+      it
+  later c k le e low (y ∷ ys) lt a (suc i) d short = let u = a.1.0 in later c k le e (a.0 + 1) ys (omega (arith, lt, u)) a.2 i d (omega (arith, short))
+
+  pub ascend-serial : (low : ℕ) (cs : List ChunkPayloadData) → Ascend p n low cs → IsSerial cs
+  ascend-serial low [] a = record { in_range = λ i d short. absurd (omega (arith, short)); ascending = λ i j d lt short. absurd (omega (arith, short)) }
+  ascend-serial low (c ∷ cs) a =
+      let ih = ascend-serial (a.0 + 1) cs a.2 in
+      record {
+        in_range = range ih.in_range;
+        ascending = pairs_cons (λ x y. IsTrue (comes_before x.tsn y.tsn)) c cs (later c a.0 a.1.1 a.1.2 (a.0 + 1) cs (omega arith) a.2) ih.ascending;
+      }
+    where
+      range : All (λ x. x.tsn < 2 ^ 32) cs → All (λ x. x.tsn < 2 ^ 32) (c ∷ cs)
+      range ih zero d short = subst (λ t. t < 2 ^ 32) (sym a.1.2) (tsn-small p a.0)
+      range ih (suc i) d short = ih i d (omega (arith, short))
+
+  -- ## What stands there
+
+  none-below : (j low : ℕ) (cs : List ChunkPayloadData) → j < low → Ascend p n low cs → list_any (has_tsn (tsn p j)) cs ≡ false
+  none-below j low [] lt a = refl
+  none-below j low (c ∷ cs) lt a =
+      let u = a.1.0 in
+      let v = a.1.1 in
+      let off : has_tsn (tsn p j) c ≡ false = fails (has_tsn (tsn p j) c) (λ h.
+      let same = same-place p a.0 j (omega (arith, v, few)) (omega (arith, lt, u, v, few)) (sym a.1.2 ∙ same-is c.tsn (tsn p j) h) in
+      omega (arith, same, lt, u)) in
+      ap (λ b. b || list_any (has_tsn (tsn p j)) cs) off ∙ none-below j (a.0 + 1) cs (omega (arith, lt, u)) a.2
+
+  -- where the first of these places is the lowest one, it is that of the first chunk
+  head-is : (a b : ℕ) (c : ChunkPayloadData) (cs : List ChunkPayloadData) (x : Ascend p n a (c ∷ cs)) → a ≤ b → Covers p a b (c ∷ cs) → x.0 ≡ a
+  head-is a b c cs x le covers = elim (cases_lt a x.0) [
+    | inr ge ↦ let u = x.1.0 in omega (arith, ge, u)
+    | inl lt ↦ absurd (not_both (sym (none-below a x.0 (c ∷ cs) lt (x.0, (omega arith, x.1.1, x.1.2), x.2)) ∙ covers a (omega arith) le))
+  ]
+
+  covers-rest : (a b k : ℕ) (c : ChunkPayloadData) (cs : List ChunkPayloadData) → c.tsn ≡ tsn p k → k < a → b ≤ n → Covers p a b (c ∷ cs) → Covers p a b cs
+  covers-rest a b k c cs e lt le covers j from to = elim (or-split (has_tsn (tsn p j) c) (list_any (has_tsn (tsn p j)) cs) (covers j from to)) [
+    | inr h ↦ h
+    | inl h ↦ let same = same-place p k j (omega (arith, lt, from, to, le, few)) (omega (arith, to, le, few)) (sym e ∙ same-is c.tsn (tsn p j) h) in
+        absurd (omega (arith, same, lt, from))
+  ]
+
+  -- they stand side by side
+  side : (a b : ℕ) (cs : List ChunkPayloadData) → Ascend p n a cs → a ≤ b → b ≤ n → Covers p a b cs → (j : ℕ) → a + j ≤ b → (j < length cs)
+      × ((d : ChunkPayloadData) → (slice_index_or cs j d).tsn ≡ tsn p (a + j))
+  side a b [] x le top covers j to = absurd (not_both (covers a (omega arith) le))
+  side a b (c ∷ cs) x le top covers zero to = (omega arith, λ d. x.1.2 ∙ ap (tsn p) {x = x.0} {y = a + zero}
+      (let h = head-is a b c cs x le covers in omega (arith, h)))
+  side a b (c ∷ cs) x le top covers (suc j) to =
+      let h = head-is a b c cs x le covers in
+      let rest = covers-rest (a + 1) b x.0 c cs x.1.2 (omega (arith, h)) top (λ i from upto. covers i (omega (arith, from)) upto) in
+      let ih = side (a + 1) b cs (subst (λ k. Ascend p n (k + 1) cs) h x.2) (omega (arith, to)) top rest j (omega (arith, to)) in
+      let lt = ih.0 in
+      (omega (arith, lt), λ d. ih.1 d ∙ ap (tsn p) {x = a + 1 + j} {y = a + suc j} (omega arith))
+
+  -- and begin at some place in the list
+  pub record IsSide (a b : ℕ) (cs : List ChunkPayloadData) : Type 0 where
+    pub first : ℕ
+    pub within : (j : ℕ) → a + j ≤ b → first + j < length cs
+    pub tsns : (j : ℕ) (d : ChunkPayloadData) → a + j ≤ b → (slice_index_or cs (first + j) d).tsn ≡ tsn p (a + j)
+
+  pub side-by-side : (low a b : ℕ) (cs : List ChunkPayloadData) → Ascend p n low cs → a ≤ b → b ≤ n → Covers p a b cs → IsSide a b cs
+  side-by-side low a b [] x le top covers = absurd (not_both (covers a (omega arith) le))
+  side-by-side low a b (c ∷ cs) x le top covers = by (λ lt. side-by-side (x.0 + 1) a b cs x.2 le top (covers-rest a b x.0 c cs x.1.2 lt top covers))
+    where
+      by : (x.0 < a → IsSide a b cs) → IsSide a b (c ∷ cs)
+      by ih = elim (cases_lt x.0 a) [
+        | inl lt ↦
+            let r = ih lt in
+            record {
+              first = suc r.first;
+              within = λ j to. let w = r.within j to in omega (arith, w);
+              tsns = λ j d to. subst (λ k. (slice_index_or (c ∷ cs) k d).tsn ≡ tsn p (a + j)) {x = suc (r.first + j)} {y = suc r.first + j} (omega arith)
+                  (r.tsns j d to);
+            }
+        | inr ge ↦
+            let y : Ascend p n a (c ∷ cs) = (x.0, (ge, x.1.1, x.1.2), x.2) in
+            record {
+              first = 0;
+              within = λ j to. let s = (side a b (c ∷ cs) y le top covers j to).0 in omega (arith, s);
+              tsns = λ j d to. subst (λ k. (slice_index_or (c ∷ cs) k d).tsn ≡ tsn p (a + j)) {x = j} {y = 0 + j} (omega arith)
+                  ((side a b (c ∷ cs) y le top covers j to).1 d);
+            }
+      ]
+
+  -- ## A whole message
+
+  -- each chunk is the one of its place
+  abbrev pub IsOf : (ℕ → Data) → ChunkPayloadData → Type 0
+  IsOf f c = (k : ℕ) → 0 < k → k ≤ n → c.tsn ≡ tsn p k → data_of c ≡ f k
+
+  module _ (f : ℕ → Data) (a b : ℕ) (some : 0 < a) (le : a ≤ b) (top : b ≤ n) (begins : (f a).beginning_fragment ≡ true)
+      (ends : (f b).ending_fragment ≡ true) (inner : (j : ℕ) → a < j → j ≤ b → (f j).beginning_fragment ≡ false) where
+    -- it is a run, where all of it stands there
+    pub run-of : (low : ℕ) (cs : List ChunkPayloadData) → Ascend p n low cs → Covers p a b cs → Every (IsOf f) cs → (first : ℕ) × (count : ℕ)
+        × IsRun cs first count
+    run-of low cs x covers of = (
+      s.first,
+      suc (b - a),
+      record {
+        some = omega arith;
+        in_range = let w = s.within (b - a) (omega (arith, le)) in omega (arith, w);
+        begins = λ d. ap (λ k. (slice_index_or cs k d).beginning_fragment) {x = s.first} {y = s.first + 0} (omega arith)
+            ∙ ap (λ (y : Data). y.beginning_fragment) (is 0 d (omega (arith, le))) ∙ ap (λ k. (f k).beginning_fragment) {x = a + 0} {y = a} (omega arith)
+            ∙ begins;
+        no_other = λ k d lt short.
+            let j = k - s.first in
+            let e : k ≡ s.first + j = omega (arith, lt) in
+            ap (λ i. (slice_index_or cs i d).beginning_fragment) e ∙ ap (λ (y : Data). y.beginning_fragment) (is j d (omega (arith, lt, short, le)))
+                ∙ inner (a + j) (omega (arith, lt)) (omega (arith, lt, short, le));
+        rising = λ k d ge short.
+            let j = k - s.first in
+            let e : k ≡ s.first + j = omega (arith, ge) in
+            let g : k + 1 ≡ s.first + (j + 1) = omega (arith, ge) in
+            let now = ap (λ i. (slice_index_or cs i d).tsn) e ∙ s.tsns j d (omega (arith, ge, short, le)) in
+            let next = ap (λ i. (slice_index_or cs i d).tsn) g ∙ s.tsns (j + 1) d (omega (arith, ge, short, le)) in
+            next ∙ ap (tsn p) {x = a + (j + 1)} {y = a + j + 1} (omega arith) ∙ sym (next-place p (a + j)) ∙ ap (λ t. (t + 1) % 2 ^ 32) (sym now);
+        ends = λ d.
+            let e : s.first + suc (b - a) - 1 ≡ s.first + (b - a) = omega arith in
+            ap (λ k. (slice_index_or cs k d).ending_fragment) e ∙ ap (λ (y : Data). y.ending_fragment) (is (b - a) d (omega (arith, le)))
+                ∙ ap (λ k. (f k).ending_fragment) {x = a + (b - a)} {y = b} (omega (arith, le)) ∙ ends;
+      },
+    )
+      where
+        s : IsSide a b cs
+        s = side-by-side low a b cs x le top covers
+
+        is : (j : ℕ) (d : ChunkPayloadData) → a + j ≤ b → data_of (slice_index_or cs (s.first + j) d) ≡ f (a + j)
+        is j d to = every-at (IsOf f) cs (s.first + j) d (s.within j to) of (a + j) (omega (arith, some)) (omega (arith, to, top)) (s.tsns j d to)
+
+    -- where nothing else does, it is complete
+    rest-completes : (k : ℕ) (c : ChunkPayloadData) (cs : List ChunkPayloadData) → 0 < k → k ≤ b → c.tsn ≡ tsn p k → IsOf f c → Ascend p n (k + 1) cs
+        → Covers p (k + 1) b cs → Every (λ (y : ChunkPayloadData). (j : ℕ) → j ≤ n → y.tsn ≡ tsn p j → j ≤ b) cs → Every (IsOf f) cs → completes c cs ≡ true
+    rest-completes k c [] pos to e is x covers below of = elim (cases_lt k b) [
+      | inl lt ↦ absurd (not_both (covers (k + 1) (omega arith) (omega (arith, lt))))
+      | inr ge ↦ let last : k ≡ b = omega (arith, to, ge) in ap (λ (y : Data). y.ending_fragment) (is k pos (omega (arith, to, top)) e)
+          ∙ ap (λ i. (f i).ending_fragment) last ∙ ends
+    ]
+    rest-completes k c (y ∷ ys) pos to e is x covers below of =
+        let u = x.1.0 in
+        let within = below.0 x.0 x.1.1 x.1.2 in
+        let h = head-is (k + 1) b y ys x (omega (arith, u, within)) covers in
+        let next : y.tsn ≡ (c.tsn + 1) % 2 ^ 32 = x.1.2 ∙ ap (tsn p) h ∙ sym (next-place p k) ∙ ap (λ t. (t + 1) % 2 ^ 32) (sym e) in
+        and (y.tsn == (c.tsn + 1) % 2 ^ 32) (completes y ys) (eq-eqb y.tsn ((c.tsn + 1) % 2 ^ 32) next)
+        (rest-completes (k + 1) y ys (omega arith) (omega (arith, within, h)) (x.1.2 ∙ ap (tsn p) h) of.0 (subst (λ i. Ascend p n (i + 1) ys) h x.2)
+        (covers-rest (k + 1 + 1) b (k + 1) y ys (x.1.2 ∙ ap (tsn p) h) (omega arith) top (λ i from upto. covers i (omega (arith, from)) upto)) below.1 of.1)
+
+    pub complete-of : (low : ℕ) (cs : List ChunkPayloadData) → Ascend p n low cs → Covers p a b cs
+        → Every (λ (y : ChunkPayloadData). (j : ℕ) → j ≤ n → y.tsn ≡ tsn p j → (a ≤ j) × (j ≤ b)) cs → Every (IsOf f) cs → is_complete cs ≡ true
+    complete-of low [] x covers within of = absurd (not_both (covers a (omega arith) le))
+    complete-of low (c ∷ cs) x covers within of =
+        let in' = within.0 x.0 x.1.1 x.1.2 in
+        let y : Ascend p n a (c ∷ cs) = (x.0, (in'.0, x.1.1, x.1.2), x.2) in
+        let h = head-is a b c cs y le covers in
+        let at : c.tsn ≡ tsn p a = x.1.2 ∙ ap (tsn p) h in
+        and c.beginning_fragment (completes c cs) (ap (λ (z : Data). z.beginning_fragment) (of.0 a some (omega (arith, le, top)) at) ∙ begins)
+        (rest-completes a c cs some le at of.0 (subst (λ i. Ascend p n (i + 1) cs) h x.2)
+        (covers-rest (a + 1) b a c cs at (omega arith) top (λ i from upto. covers i (omega (arith, from)) upto))
+        (uppers cs within.1) of.1)
+      where
+        uppers : (ys : List ChunkPayloadData) → Every (λ (z : ChunkPayloadData). (j : ℕ) → j ≤ n → z.tsn ≡ tsn p j → (a ≤ j) × (j ≤ b)) ys
+            → Every (λ (z : ChunkPayloadData). (j : ℕ) → j ≤ n → z.tsn ≡ tsn p j → j ≤ b) ys
+        uppers [] w = tt
+        uppers (z ∷ zs) w = ((λ j to e. (w.0 j to e).1), uppers zs w.1)
