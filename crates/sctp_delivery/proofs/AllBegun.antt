@@ -75,8 +75,11 @@ starts-keep now q m h = by (q.next_unstarted == q.next_message_id)
     keeps : KeepsMessage (with_deadline now)
     keeps = record { number = λ _. refl; begins = λ _. refl; ends = λ _. refl; kind = λ _. refl }
 
-    by : (b : Bool) → begins_in m (if b then q else record q { pending = start_pending q.next_unstarted now q.pending; next_unstarted =
-        q.next_message_id }).pending ≡ true
+    by : (b : Bool) → begins_in m (if b then q else record q {
+      pending = start_pending q.next_unstarted now q.pending;
+      next_unstarted =
+          q.next_message_id;
+    }).pending ≡ true
     by true = h
     by false =
         ap₂ (λ a b. a || b) (begins-changed (is_to_start q.next_unstarted) (with_deadline now) keeps m q.pending.ordered)
@@ -222,19 +225,22 @@ module _ (ws : List Numbered) (first : ℕ) (t : Transmission) (sent : List Entr
         ];
         chained =
             sent-chained ws (with_flight (record t.flight { queue = ready }) t)
-                (record t { flight = record t.flight { queue = sent_of (Some c) ready next now; next_tsn = following_tsn next } }) sent c
-                (data_of (as_sent next now c)) x.write x.after
+            (record t { flight = record t.flight { queue = sent_of (Some c) ready next now; next_tsn = following_tsn next } }) sent c
+            (data_of (as_sent next now c)) x.write x.after
             (next-chains ws first (λ s. number_of s t.streams) sent next now c chained.chain h.stands.queued.line
-                (next-short now t.flight.queue c e short.queue) p.ordered_room p.unordered_room ready.next_message_id ready.inflight.chunks p.selected p.ordered p.unordered stands.sendable e stands.queued ready-chained.last ready-chained.number)
+            (next-short now t.flight.queue c e short.queue) p.ordered_room p.unordered_room ready.next_message_id ready.inflight.chunks p.selected p.ordered p.unordered stands.sendable e stands.queued ready-chained.last ready-chained.number)
             refl refl ready-chained;
       }
 
-  sends-next : Sends ws first sent ready.pending (with_flight (record t.flight { queue = sent_next t.flight.queue next now; next_tsn =
-      next_after_send t.flight }) t) ms (with_chunk (next_chunk now t) ms)
+  sends-next : Sends ws first sent ready.pending (with_flight (record t.flight {
+    queue = sent_next t.flight.queue next now;
+    next_tsn =
+        next_after_send t.flight;
+  }) t) ms (with_chunk (next_chunk now t) ms)
   sends-next =
       subst (λ b. Sends ws first sent ready.pending (with_flight
-          (record t.flight { queue = sent_next t.flight.queue next now; next_tsn = if b then following_tsn next else next }) t) ms
-          (with_chunk (next_chunk now t) ms)) (peeked_all_started now t.flight.queue)
+      (record t.flight { queue = sent_next t.flight.queue next now; next_tsn = if b then following_tsn next else next }) t) ms
+      (with_chunk (next_chunk now t) ms)) (peeked_all_started now t.flight.queue)
       (one (next_pending ready.pending) refl)
 
 -- ## The calls
@@ -354,13 +360,13 @@ module _ (ws : List Numbered) (first : ℕ) (t u : Transmission) (sent : List En
           held = s.held;
           begun' = subst (λ n. AreBegun n s.more u.flight.queue.pending) longer
               (subst (AreBegun (length ws + 1) s.more) (sym is) (write-begun l.0 ppi b bs t.flight.queue sent s.more
-                  (length ws) h.held.stands.ids s.once h.begun'));
+              (length ws) h.held.stands.ids s.once h.begun'));
           chained =
               let w : Numbered = record { stream = stream; payload_type = ppi; bytes = b ∷ bs; place = length ws } in
               let v = written_to l.0 stream ppi (b ∷ bs) t in
               let e = x.1 (omega arith) l.0 l.1 in
               subst (IsChained (w ∷ ws) u) (sym (same-sent ws (w ∷ ws) first t u sent s.more h.held s.held (next-of _ e) s.once))
-                  (subst (λ y. IsChained (w ∷ ws) y sent) (sym e) (write-chained ws t sent w ppi b bs l.0 l.1 h.chained));
+              (subst (λ y. IsChained (w ∷ ws) y sent) (sym e) (write-chained ws t sent w ppi b bs l.0 l.1 h.chained));
           short = stays-short t u h.short (outgoing.writes stream ppi (b ∷ bs)) r m x a;
         };
         once = s.once;

@@ -186,7 +186,7 @@ module _ (ws : List Numbered) (first : ℕ) (number : ℕ → ℕ) (sent : List 
     unordered-first : (os us : List ChunkPayloadData) → IsWhole true n (free 0) (c ∷ us) → EndsWith None sent → IsNext (made os (c ∷ us) None ro ru) sent c d
     unordered-first os us whole last =
         let from : list_to_pop None c.beginning_fragment c.unordered ≡ Some true = ap (λ b. if b then Some c.unordered else None) whole.0.0
-            ∙ ap Some whole.1 in
+        ∙ ap Some whole.1 in
         record {
           joins = begins-joins last whole.0.0;
           numbered = λ b u. absurd (not_both (sym u ∙ whole.1));
@@ -203,7 +203,7 @@ module _ (ws : List Numbered) (first : ℕ) (number : ℕ → ℕ) (sent : List 
         → IsNext (made (c ∷ os) [] None ro ru) sent c d
     ordered-first os whole last turns numbers =
         let from : list_to_pop None c.beginning_fragment c.unordered ≡ Some false = ap (λ b. if b then Some c.unordered else None) whole.0.0
-            ∙ ap Some whole.1 in
+        ∙ ap Some whole.1 in
         record {
           joins = begins-joins last whole.0.0;
           numbered = λ b u.
@@ -256,7 +256,7 @@ module _ (ws : List Numbered) (first : ℕ) (number : ℕ → ℕ) (sent : List 
     next-chains None [] [] k e q last numbers = absurd (none-some c e)
     next-chains None os (u ∷ us) k e q last numbers =
         subst (λ y. IsNext (made os (y ∷ us) None ro ru) sent c d) (sym (some-same e))
-            (unordered-first os us (subst (λ y. IsWhole true n (free 0) (y ∷ us)) (some-same e) k.unordered) last)
+        (unordered-first os us (subst (λ y. IsWhole true n (free 0) (y ∷ us)) (some-same e) k.unordered) last)
     next-chains None (o ∷ os) [] k e q last numbers =
         subst (λ y. IsNext (made (y ∷ os) [] None ro ru) sent c d) (sym (some-same e))
         (ordered-first os (subst (λ y. IsWhole false n (free 0) (y ∷ os)) (some-same e) k.ordered) last
@@ -270,7 +270,7 @@ module _ (ws : List Numbered) (first : ℕ) (number : ℕ → ℕ) (sent : List 
         unordered h (u ∷ us) v f w =
             subst (λ y. IsNext (made os (y ∷ us) (Some s) ro ru) sent c d) (sym (some-same f))
             (unordered-inner s os us h (subst (λ y. IsWhole true n (begun s.message_id) (y ∷ us)) (some-same f) v) last
-                (subst (λ y. Waits ws (y ∷ us) (inside s.message_id sent)) (some-same f) w))
+            (subst (λ y. Waits ws (y ∷ us) (inside s.message_id sent)) (some-same f) w))
 
         ordered : s.unordered ≡ false → (os : List ChunkPayloadData) → IsWhole false n (begun s.message_id) os → slice_get os 0 ≡ Some c
             → Waits ws os (inside s.message_id sent) → IsNext (made os us (Some s) ro ru) sent c d
@@ -278,16 +278,16 @@ module _ (ws : List Numbered) (first : ℕ) (number : ℕ → ℕ) (sent : List 
         ordered h (o ∷ os) v f w =
             subst (λ y. IsNext (made (y ∷ os) us (Some s) ro ru) sent c d) (sym (some-same f))
             (ordered-inner s os us h (subst (λ y. IsWhole false n (begun s.message_id) (y ∷ os)) (some-same f) v) last
-                (subst (λ y. Waits ws (y ∷ os) (inside s.message_id sent)) (some-same f) w))
+            (subst (λ y. Waits ws (y ∷ os) (inside s.message_id sent)) (some-same f) w))
 
         by : (b : Bool) → s.unordered ≡ b → IsNext (made os us (Some s) ro ru) sent c d
         by true h =
             unordered h us (subst (λ b. IsWhole true n (if b then begun s.message_id else free 0) us) h k.unordered)
-                (subst (λ b. slice_get (list_of b (made os us (Some s) ro ru)) 0 ≡ Some c) h e)
+            (subst (λ b. slice_get (list_of b (made os us (Some s) ro ru)) 0 ≡ Some c) h e)
             (subst (λ b. Waits ws us (if b then inside s.message_id sent else between)) h q.unordered)
         by false h =
             ordered h os (subst (λ b. IsWhole false n (if b then free 0 else begun s.message_id) os) h k.ordered)
-                (subst (λ b. slice_get (list_of b (made os us (Some s) ro ru)) 0 ≡ Some c) h e)
+            (subst (λ b. slice_get (list_of b (made os us (Some s) ro ru)) 0 ≡ Some c) h e)
             (subst (λ b. Waits ws os (if b then between else inside s.message_id sent)) h q.ordered)
 
 -- ## A sender
@@ -343,8 +343,11 @@ waiting-started st now p (c ∷ cs) =
 pub starts-alike : (now : ℕ) (q : Outbound) → WaitsAlike q.pending (all_started now q).pending
 starts-alike now q = by (q.next_unstarted == q.next_message_id)
   where
-    by : (b : Bool) → WaitsAlike q.pending (if b then q else record q { pending = start_pending q.next_unstarted now q.pending; next_unstarted =
-        q.next_message_id }).pending
+    by : (b : Bool) → WaitsAlike q.pending (if b then q else record q {
+      pending = start_pending q.next_unstarted now q.pending;
+      next_unstarted =
+          q.next_message_id;
+    }).pending
     by true = waits-itself q.pending
     by false = record { selected = refl; waiting = λ st. waiting-started st now (is_to_start q.next_unstarted) q.pending.ordered }
 
@@ -420,14 +423,14 @@ module _ (ws : List Numbered) (t : Transmission) (sent : List Entry) (w : Number
           let on : (w.stream == st) ≡ true = subst (λ n. (w.stream == n) ≡ true) (sym same) (same-yes w.stream) in
           let rises : bit (true && (w.stream == st)) ≡ 1 = ap bit on in
           let now = ap (λ n. number_of n u.streams) same ∙ is ∙ ap (λ x. if x && nat_lt 0 (length (b ∷ bs)) then
-              (l.sequence_number + 1) % 2 ^ 16 else l.sequence_number) e
-              ∙ ap (λ x. if x then (l.sequence_number + 1) % 2 ^ 16 else l.sequence_number) longer in
+          (l.sequence_number + 1) % 2 ^ 16 else l.sequence_number) e
+          ∙ ap (λ x. if x then (l.sequence_number + 1) % 2 ^ 16 else l.sequence_number) longer in
           let before = ap (λ n. number_of n t.streams) same ∙ was in
           inl (now ∙ ap (λ x. x % 2 ^ 16) {x = l.sequence_number + 1} {y = number_of st t.streams + bit (true && (w.stream == st))}
-              (omega (arith, rises, before)))
+          (omega (arith, rises, before)))
       here false e same =
           let now = ap (λ n. number_of n u.streams) same ∙ is ∙ ap (λ x. if x && nat_lt 0 (length (b ∷ bs)) then
-              (l.sequence_number + 1) % 2 ^ 16 else l.sequence_number) e in
+          (l.sequence_number + 1) % 2 ^ 16 else l.sequence_number) e in
           let before = ap (λ n. number_of n t.streams) same ∙ was in
           inr (now ∙ sym before, refl)
 

@@ -117,7 +117,7 @@ at-first tsn size max most limits small some = record {
 
 -- ## The fragments of a message
 
-found-sent : (sent : List Entry) (ms : List Made) (d : Data) → AreSent sent ms → Contains ms (data_chunk d) → WasSent sent d
+pub found-sent : (sent : List Entry) (ms : List Made) (d : Data) → AreSent sent ms → Contains ms (data_chunk d) → WasSent sent d
 found-sent sent ms d a c = at ms c.0 c.1 c.2 a
   where
     at : (ms : List Made) (k : ℕ) → k < length ms → slice_index_or ms k (data_chunk d) ≡ data_chunk d → AreSent sent ms → WasSent sent d

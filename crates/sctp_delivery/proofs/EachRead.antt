@@ -24,7 +24,7 @@ use Rattle.sctp_receiver.specs.ReceiverRuns.{Message, fragments_read, is_one_mes
 use Rattle.sctp_reassembly.specs.reassembly_queue.Fragments.{completes, is_complete}
 use Rattle.sctp_sender.specs.Sender.{Transmission}
 use Rattle.sctp_serial.specs.DataChunks.{has_tsn, is_on}
-use Rattle.sctp_delivery.specs.Complete.{AfterEachReliableSession, IsAllReadWhereSettled, fragments_held, holds_nothing, is_all_acknowledged, is_reliable, is_reliable_at_receiver, is_reliable_at_sender}
+use Rattle.sctp_delivery.specs.Complete.{AfterEachReliableSession, EachIsReadOnce, IsAllReadWhereSettled, fragments_held, holds_nothing, is_all_acknowledged, is_reliable, is_reliable_at_receiver, is_reliable_at_sender}
 use Rattle.sctp_delivery.specs.Messages.{StandAt, fragments_of_all}
 use Rattle.sctp_delivery.specs.Sacks.{are_apart, passes, tsns_given, was_passed, was_taken}
 use Rattle.sctp_delivery.specs.SenderCalls as outgoing
@@ -48,24 +48,24 @@ use Rattle.sctp_delivery.proofs.TsnPlaces.{base, same-place}
 -- ## The sender's side of a session
 
 -- each write has its place: so many were written before
-abbrev ArePlaced : List Numbered → Type 0
+abbrev pub ArePlaced : List Numbered → Type 0
 ArePlaced [] = ⊤
 ArePlaced (w ∷ ws) = (w.place ≡ length ws) × ArePlaced ws
 
-abbrev IsData : Made → Type 0
+abbrev pub IsData : Made → Type 0
 IsData (data_chunk d) = ⊤
 IsData (forward_tsn f) = ⊥
 
 -- each write was begun or its first fragment waits; and no FORWARD-TSN was made
-record BegunIn (first n : ℕ) (s : Session) : Type 0 where
-  numbered : List Numbered
-  sent : List Entry
-  begins' : Begins numbered first s.sending.sender sent
-  made : AreSent sent s.made
-  writes : forgotten numbered ≡ s.written
-  placed : ArePlaced numbered
-  few : length sent ≤ n
-  data' : Every IsData s.made
+pub record BegunIn (first n : ℕ) (s : Session) : Type 0 where
+  pub numbered : List Numbered
+  pub sent : List Entry
+  pub begins' : Begins numbered first s.sending.sender sent
+  pub made : AreSent sent s.made
+  pub writes : forgotten numbered ≡ s.written
+  pub placed : ArePlaced numbered
+  pub few : length sent ≤ n
+  pub data' : Every IsData s.made
 
 placed-after : (call : SenderCall) (ns : List Numbered) → is_reliable_at_sender call ≡ true → ArePlaced ns → ArePlaced (numbered_after call ns)
 placed-after (outgoing.writes stream ppi []) ns r p = p
@@ -136,8 +136,17 @@ receiver-step : (first n m : ℕ) (call : _) (old new : Session) → n ≤ m →
 receiver-step first n m call old new le f h =
     let few = h.few in
     subst (BegunIn first m) (sym f.after)
-    (record { numbered = h.numbered; sent = h.sent; begins' = h.begins'; made = h.made; writes = h.writes; placed = h.placed; few =
-        omega (arith, few, le); data' = h.data' })
+    (record {
+      numbered = h.numbered;
+      sent = h.sent;
+      begins' = h.begins';
+      made = h.made;
+      writes = h.writes;
+      placed = h.placed;
+      few =
+          omega (arith, few, le);
+      data' = h.data';
+    })
 
 all-steps : (first n : ℕ) (cs : List Call) (old new : Session) (r : RunsTo old cs new) → list_all is_reliable cs ≡ true → BegunIn first n old
     → BegunIn first (n + tsns_given old cs new r) new
@@ -177,7 +186,7 @@ none-pass t [] h = refl
 none-pass t (data_chunk d ∷ ms) h = none-pass t ms h.1
 none-pass t (forward_tsn f ∷ ms) h = absurd h.0
 
-taken : (p n : ℕ) (s : Session) → n < 2 ^ 31 → IsInStep p n s → s.sending.sender.flight.queue.inflight.chunks ≡ [] → Every IsData s.made → (k : ℕ) → 0 < k
+pub taken : (p n : ℕ) (s : Session) → n < 2 ^ 31 → IsInStep p n s → s.sending.sender.flight.queue.inflight.chunks ≡ [] → Every IsData s.made → (k : ℕ) → 0 < k
     → k ≤ n → was_taken (tsn p k) s ≡ true
 taken p n s few i none only k some le =
     let a = i.settled in
@@ -201,7 +210,7 @@ some-on t (c ∷ cs) e = by (has_tsn t c) refl e (some-on t cs)
     here : has_tsn t c ≡ true → 0 < sum_by (one t) (filter (is_on c.stream_identifier) (c ∷ cs))
     here h =
         let on = ap (λ b. sum_by (one t) (if b then c ∷ filter (is_on c.stream_identifier) cs else filter (is_on c.stream_identifier) cs))
-            (same-yes c.stream_identifier) in
+        (same-yes c.stream_identifier) in
         let m = sum_by-cons (one t) c (filter (is_on c.stream_identifier) cs) in
         let o : one t c ≡ 1 = ap (λ b. if b then 1 else 0) h in
         omega (arith, on, m, o)
@@ -223,7 +232,7 @@ some-on t (c ∷ cs) e = by (has_tsn t c) refl e (some-on t cs)
 
 -- behind the first fragment of a message none begins
 module _ (ws : List Numbered) (first : ℕ) (sent : List Entry) (few : length sent < 2 ^ 32) (line : IsLine ws first sent) where
-  none-begins : (c : ChunkPayloadData) (cs : List ChunkPayloadData) (w : Numbered) (after : List ℕ) (xs : List Entry)
+  pub none-begins : (c : ChunkPayloadData) (cs : List ChunkPayloadData) (w : Numbered) (after : List ℕ) (xs : List Entry)
       → IsPart (fragment (data_of c) w after ∷ xs) sent → completes c cs ≡ true → EachSent sent cs → AreInner c cs
       → Every (λ (d : ChunkPayloadData). d.beginning_fragment ≡ false) cs
   none-begins c [] w after xs p e s i = tt
@@ -234,7 +243,7 @@ module _ (ws : List Numbered) (first : ℕ) (sent : List Entry) (few : length se
       let ys = s.0.2 in
       let q = s.0.3 in
       let behind : ys ≡ fragment (data_of c) w after ∷ xs = stands-behind ws first sent few line (data_of c) (data_of d) w v after rest xs ys p q
-          (same-is d.tsn ((c.tsn + 1) % 2 ^ 32) b.0) in
+      (same-is d.tsn ((c.tsn + 1) % 2 ^ 32) b.0) in
       let l = part-line ws first sent (fragment (data_of d) v rest ∷ ys) q line in
       let on = subst (GoesOn (data_of d) v rest) behind l.1.0 in
       (fails d.beginning_fragment (λ k. let a = i.0 k in on.1 k a.0 a.1 a.2 a.3), none-begins d ds v rest ys q b.1 s.1 i.1)
@@ -275,7 +284,7 @@ module _ (ws : List Numbered) (first : ℕ) (sent : List Entry) (few : length se
         let all : is_complete (c ∷ cs) ≡ true = subst (λ ys. is_complete ys ≡ true) x.fragments complete in
         let s' : EachSent sent (c ∷ cs) = subst (EachSent sent) x.fragments s in
         let inner = none-begins c cs x.numbered x.after x.entries x.part (both c.beginning_fragment (completes c cs) all).1 s'.1
-            (inner-of c cs (subst (λ ys. is_one_message ys ≡ true) x.fragments alike)) in
+        (inner-of c cs (subst (λ ys. is_one_message ys ≡ true) x.fragments alike)) in
         let there : (has_tsn d.tsn c || list_any (has_tsn d.tsn) cs) ≡ true = subst (λ ys. list_any (has_tsn d.tsn) ys ≡ true) x.fragments e in
         elim (or-split (has_tsn d.tsn c) (list_any (has_tsn d.tsn) cs) there) [
           | inl h ↦ same-write (data_of c) d x.numbered w x.after after x.entries xs x.part p (same-is c.tsn d.tsn h)
@@ -323,16 +332,16 @@ place-at (w ∷ ws) p (suc k) d lt = let e = place-at ws p.1 k d (omega (arith, 
 
 -- ## Nothing waits, and nothing is held
 
-record IsIdle (s : Session) : Type 0 where
-  ordered : s.sending.sender.flight.queue.pending.ordered ≡ []
-  unordered : s.sending.sender.flight.queue.pending.unordered ≡ []
-  inflight : s.sending.sender.flight.queue.inflight.chunks ≡ []
+pub record IsIdle (s : Session) : Type 0 where
+  pub ordered : s.sending.sender.flight.queue.pending.ordered ≡ []
+  pub unordered : s.sending.sender.flight.queue.pending.unordered ≡ []
+  pub inflight : s.sending.sender.flight.queue.inflight.chunks ≡ []
 
 none-of : (cs : List ChunkPayloadData) → length cs ≡ 0 → cs ≡ []
 none-of [] e = refl
 none-of (c ∷ cs) e = absurd (omega (arith, e))
 
-idle-of : (s : Session) → is_all_acknowledged s.sending.sender ≡ true → IsIdle s
+pub idle-of : (s : Session) → is_all_acknowledged s.sending.sender ≡ true → IsIdle s
 idle-of s e =
     let q = s.sending.sender.flight.queue in
     let b = both (chunk_count q.pending == 0) (length q.inflight.chunks == 0) e in
@@ -384,20 +393,48 @@ none-held st t r e = kept.held-weighs (one t) (stream_of st r) ∙ at r.streams 
 
 -- ## The law
 
-pub each-once : AfterEachReliableSession (λ size s. 0 < size → IsAllReadWhereSettled s)
-each-once first size max most limits cs s run small few all some settled =
-    (places ns sent once s.receiving.read reads, subst (λ ws. StandAt ws s.receiving.read (places ns sent once s.receiving.read reads)) h.writes
-        (stand ns sent once s.receiving.read reads), apart ns sent once s.receiving.read reads apart', λ k lt. here k
-        (let e = ap length h.writes in let f = length-forgotten ns in omega (arith, lt, e, f)))
+-- what the sender did
+pub begun-in : (first size max most : ℕ) (limits : Option Limits) (cs : List Call) (s : Session) (run : RunsTo (at_start first size max most limits) cs s)
+    → first < 2 ^ 32 → 0 < size → list_all is_reliable cs ≡ true
+    → BegunIn first (0 + tsns_given (at_start first size max most limits) cs s run) s
+begun-in first size max most limits cs s run small some all =
+    all-steps first 0 cs (at_start first size max most limits) s run all (at-first first size max most limits small some)
+
+-- what was read: complete messages, each of one message, of fragments that got TSNs
+pub whole-messages : (first size max most : ℕ) (limits : Option Limits) (cs : List Call) (s : Session) → RunsTo (at_start first size max most limits) cs s
+    → (sent : List Entry) → AreSent sent s.made
+    → All (λ m. (is_complete m.fragments ≡ true) × (is_one_message m.fragments ≡ true) × EachSent sent m.fragments) s.receiving.read
+whole-messages first size max most limits cs s run sent made = λ k m lt.
+    let it = slice_index_or s.receiving.read k m in
+    let messages = sessions.messages first size max most limits cs s run in (
+      AllPass-from_list_all (λ x. is_complete x.fragments) s.receiving.read messages.0 k m lt,
+      AllPass-from_list_all (λ x. is_one_message x.fragments) s.receiving.read messages.1 k m lt,
+      each-sent sent s.made it.fragments made (sessions.made first size max most limits cs s run k m lt),
+    )
+
+-- where nothing waits and nothing is held, whatever the TSN
+pub each-once-where : (first size max most : ℕ) (limits : Option Limits) (cs : List Call) (s : Session)
+    (run : RunsTo (at_start first size max most limits) cs s) → first < 2 ^ 32
+    → tsns_given (at_start first size max most limits) cs s run < 2 ^ 31 → list_all is_reliable cs ≡ true → 0 < size
+    → is_all_acknowledged s.sending.sender ≡ true
+    → ((st t : ℕ) → sum_by (one t) (fragments_held st s.receiving.receiver) ≡ 0) → EachIsReadOnce s
+each-once-where first size max most limits cs s run small few all some settled empty = (
+  places ns sent once s.receiving.read reads,
+  subst (λ ws. StandAt ws s.receiving.read (places ns sent once s.receiving.read reads)) h.writes
+      (stand ns sent once s.receiving.read reads),
+  apart ns sent once s.receiving.read reads apart',
+  λ k lt. here k
+      (let e = ap length h.writes in let f = length-forgotten ns in omega (arith, lt, e, f)),
+)
   where
     idle : IsIdle s
-    idle = idle-of s (both (is_all_acknowledged s.sending.sender) (holds_nothing s.receiving.receiver) settled).0
+    idle = idle-of s settled
 
     given : ℕ
     given = tsns_given (at_start first size max most limits) cs s run
 
     h : BegunIn first (0 + given) s
-    h = all-steps first 0 cs (at_start first size max most limits) s run all (at-first first size max most limits small some)
+    h = begun-in first size max most limits cs s run small some all
 
     ns : List Numbered
     ns = h.numbered
@@ -421,13 +458,7 @@ each-once first size max most limits cs s run small few all some settled =
     apart' = read_once.none-twice first size max most limits cs s run small few
 
     whole : All (λ m. (is_complete m.fragments ≡ true) × (is_one_message m.fragments ≡ true) × EachSent sent m.fragments) s.receiving.read
-    whole = λ k m lt.
-        let it = slice_index_or s.receiving.read k m in
-        let messages = sessions.messages first size max most limits cs s run in (
-          AllPass-from_list_all (λ x. is_complete x.fragments) s.receiving.read messages.0 k m lt,
-          AllPass-from_list_all (λ x. is_one_message x.fragments) s.receiving.read messages.1 k m lt,
-          each-sent sent s.made it.fragments h.made (sessions.made first size max most limits cs s run k m lt),
-        )
+    whole = whole-messages first size max most limits cs s run sent h.made
 
     reads : EachRead ns sent once s.receiving.read
     reads = each-read ns sent once s.receiving.read (λ k m lt.
@@ -463,10 +494,15 @@ each-once first size max most limits cs s run small few all some settled =
         let t = taken (base first) given s few i idle.inflight h.data' (length b.3 + 1) (omega arith) (omega (arith, long, most')) in
         let on = some-on b.0.tsn s.receiving.accepted (subst (λ u. was_taken u s ≡ true) (sym is) t) in
         let law = kept.held-or-read first size max most limits cs s run small few all on.0 (one b.0.tsn) in
-        let none = none-held on.0 b.0.tsn s.receiving.receiver (both (is_all_acknowledged s.sending.sender) (holds_nothing s.receiving.receiver) settled).1 in
+        let none = empty on.0 b.0.tsn in
         let more = on.1 in
         found ns first sent (omega (arith, short)) line b.0 b.1 b.2 b.3 b.4 b.5 once k
         (λ v c same.
         let a = place-at ns h.placed c.0 v c.1 in
         let p : (slice_index_or ns c.0 v).place ≡ w.place = ap (λ (x : Numbered). x.place) (c.2 ∙ same) ∙ b.6 in
         omega (arith, a, p, at)) on.0 s.receiving.read reads whole (omega (arith, law, none, more))
+
+pub each-once : AfterEachReliableSession (λ size s. 0 < size → IsAllReadWhereSettled s)
+each-once first size max most limits cs s run small few all some settled =
+    let b = both (is_all_acknowledged s.sending.sender) (holds_nothing s.receiving.receiver) settled in
+    each-once-where first size max most limits cs s run small few all some b.0 (λ st t. none-held st t s.receiving.receiver b.1)

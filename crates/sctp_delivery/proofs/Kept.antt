@@ -121,7 +121,7 @@ module _ (c : ChunkPayloadData) (told : Bool) (old new : Reception) (a : Accepts
   is-near t u =
       let here : (not c.unordered && is_ssn_too_far c.stream_sequence_number a.stream.queue.held) ≡ false = ap (is_too_far_on c) (sym a.found) ∙ near in
       near-of c.stream_sequence_number a.stream.queue.held short t (ap (λ b. not b && is_ssn_too_far c.stream_sequence_number a.stream.queue.held) (sym u)
-          ∙ here)
+      ∙ here)
 
   at : (st : ℕ) (o : Option InboundStream) → stream_of st old ≡ o → InTurn o → ((w : ChunkPayloadData → ℕ) → sum_by w [] ≡ 0) → held_weight (one c.tsn) o ≡ 0
       → IsMore (λ w. if is_on st c then w c else 0) o (option_map (λ l. if has_number sid l then with_queue a.queue l else l) o)
@@ -185,7 +185,7 @@ module _ (s st : ℕ) (r : Reception) where
   elsewhere None e differ t = record { weighs = λ w. omega arith; turn = tt }
   elsewhere (Some l) e differ t =
       let off : has_number s l ≡ false = fails (has_number s l) (λ k. not_both
-          (sym differ ∙ eq-eqb s st (sym (same-is (number l) s k) ∙ same-is (number l) st (found-passes (has_number st) r.streams l e)))) in
+      (sym differ ∙ eq-eqb s st (sym (same-is (number l) s k) ∙ same-is (number l) st (found-passes (has_number st) r.streams l e)))) in
       subst (λ b. IsLess (λ w. 0) (Some l) (Some (if b then stream_read l else l))) (sym off) (record { weighs = λ w. omega arith; turn = t })
 
   either : (b : Bool) → (s == st) ≡ b → InTurn (stream_of st r) → IsLess (λ w. if b then message_weight w (message_on s r) else 0) (stream_of st r)
@@ -193,7 +193,7 @@ module _ (s st : ℕ) (r : Reception) where
   either true e t =
       let same = same-is s st e in
       subst (λ m. IsLess (λ w. message_weight w m) (stream_of st r) (option_map (λ l. if has_number s l then stream_read l else l) (stream_of st r)))
-          (ap (λ n. message_of (stream_of n r)) (sym same)) (here (stream_of st r) refl same t)
+      (ap (λ n. message_of (stream_of n r)) (sym same)) (here (stream_of st r) refl same t)
   either false e t = elsewhere (stream_of st r) refl e t
 
   read-less : InTurn (stream_of st r) → IsLess (λ w. if s == st then message_weight w (message_on s r) else 0) (stream_of st r)
@@ -251,7 +251,7 @@ kept-on (incoming.takes c (New told)) old new st r made apart f k =
     let near = not-too-far c x f.accepted.0 fresh in
     let all = subst (λ cs. are_apart cs ≡ true) f.step.accepted apart in
     let none = negated (list_any (has_tsn c.tsn) old.receiving.accepted)
-        (both (not (list_any (has_tsn c.tsn) old.receiving.accepted)) (are_apart old.receiving.accepted) all).0 in
+    (both (not (list_any (has_tsn c.tsn) old.receiving.accepted)) (are_apart old.receiving.accepted) all).0 in
     let m = taken c told x new.receiving.receiver f.step.receiver short near st k.turn (none-held st c.tsn old.receiving k none) in
     record {
       weighs = λ w.

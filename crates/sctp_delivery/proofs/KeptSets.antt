@@ -66,7 +66,7 @@ lowest-is i (s ∷ ss) r = by (at_or_before16 s.ssn (i % 2 ^ 16)) refl
         let low = r.1.0 in
         let top = r.1.1 in
         let order : nat_le k i ≡ true = sym (at_or_before16-index k i (omega (arith, top)) (omega (arith, low)))
-            ∙ ap (λ n. at_or_before16 n (i % 2 ^ 16)) (sym r.1.2) ∙ e in
+        ∙ ap (λ n. at_or_before16 n (i % 2 ^ 16)) (sym r.1.2) ∙ e in
         let le : k ≤ i = grind (arith, nat_tests, order) in
         let same : k ≡ i = omega (arith, le, low) in
         r.1.2 ∙ ap (λ n. n % 2 ^ 16) same
@@ -89,7 +89,7 @@ not-before i ssn next e n =
     let top = n.top in
     let past : nat_lt n.place i ≡ false = grind (arith, nat_tests, low) in
     ap (λ k. comes_before16 k next) n.is ∙ ap (comes_before16 (n.place % 2 ^ 16)) e
-        ∙ comes_before16-index n.place i (omega (arith, top)) (omega (arith, low)) ∙ past
+    ∙ comes_before16-index n.place i (omega (arith, top)) (omega (arith, low)) ∙ past
 
 rise-changed : (low top : ℕ) (p : ChunkSet → Bool) (x : ChunkPayloadData) (ss : List ChunkSet) → Rise low top ss
     → Rise low top (change_first p (with_chunk x) ss)
@@ -121,7 +121,7 @@ rise-inserted low top k x (s ∷ ss) near at none r = by (set_before x s) refl
         let c = r.1.0 in
         let d = r.1.1 in
         ap (λ n. comes_before16 n s.ssn) at.2 ∙ ap (comes_before16 (k % 2 ^ 16)) r.1.2
-            ∙ comes_before16-index k j (omega (arith, a, b, c, d, near)) (omega (arith, a, b, c, d, near))
+        ∙ comes_before16-index k j (omega (arith, a, b, c, d, near)) (omega (arith, a, b, c, d, near))
 
     other : s.ssn ≡ x.ssn → ⊥
     other e = not_both (sym none ∙ ap (λ b. b || list_any (has_ssn x.ssn) ss) (ap (λ n. n == x.ssn) e ∙ same-yes x.ssn))
@@ -219,7 +219,7 @@ front-place q i next s ss r f =
     let low = r.1.0 in
     let top = r.1.1 in
     let due : at_or_before16 (r.0 % 2 ^ 16) (i % 2 ^ 16) ≡ true = ap (at_or_before16 (r.0 % 2 ^ 16)) (sym next)
-        ∙ ap (λ n. at_or_before16 n q.next_ssn) (sym r.1.2) ∙ (both (is_complete s.chunks) (at_or_before16 s.ssn q.next_ssn) f).1 in
+    ∙ ap (λ n. at_or_before16 n q.next_ssn) (sym r.1.2) ∙ (both (is_complete s.chunks) (at_or_before16 s.ssn q.next_ssn) f).1 in
     let order : nat_le r.0 i ≡ true = sym (at_or_before16-index r.0 i (omega (arith, top)) (omega (arith, low))) ∙ due in
     let le : r.0 ≤ i = grind (arith, nat_tests, order) in
     omega (arith, le, low)
@@ -240,7 +240,7 @@ front-turn q i next (s ∷ ss) e r = by (is_readable q.next_ssn s) refl
         let is = front-number q i next s ss r f in
         let more : (if s.ssn == q.next_ssn then (q.next_ssn + 1) % 2 ^ 16 else q.next_ssn) ≡ (i + 1) % 2 ^ 16 =
         ap (λ b. if b then (q.next_ssn + 1) % 2 ^ 16 else q.next_ssn) (ap (λ n. n == q.next_ssn) is ∙ same-yes q.next_ssn) ∙ ap (λ n. (n + 1) % 2 ^ 16) next
-            ∙ next16 i in
+        ∙ next16 i in
         record {
           index = i + 1;
           next = more;

@@ -48,5 +48,8 @@ pub mod Ranges
 pub mod Rising
 pub mod Tidy
 pub mod AllBegun
+pub mod TidyCalls
 pub mod EachRead
+pub mod Whole
+pub mod AllRead
 mod Examples

@@ -1,5 +1,5 @@
 -- The fragments that a sender of a reliable session gave TSNs to, by their places; and the range of places that a message has.
-use Rattle.std.proofs.Common.{◌≡◌, ℕ, zero, suc, ◌+◌, ◌<◌, ◌≤◌, ◌%◌, ◌^◌, Bool, true, false, List, [], ◌∷◌, length, None, ◌⊎◌, inl, inr, refl, ap, sym, subst, ◌∙◌, arith}
+use Rattle.std.proofs.Common.{◌≡◌, ℕ, zero, suc, ◌+◌, ◌-◌, ◌<◌, ◌≤◌, ◌%◌, ◌^◌, Bool, true, false, List, [], ◌∷◌, length, None, ◌⊎◌, inl, inr, refl, ap, sym, subst, ◌∙◌, arith}
 use Rattle.std.specs.Prelude.{⊤, ◌==◌, if◌then◌else◌}
 use Rattle.std.proofs.lemmas.Bool.{cases_lt}
 use Rattle.std.proofs.lemmas.Bool.Decides.{nat_tests}
@@ -26,8 +26,11 @@ Agrees f (fragment d w after ∷ xs) = (f (suc (length xs)) ≡ d) × Agrees f x
 agrees-with : (f g : ℕ → Data) (xs : List Entry) → ((k : ℕ) → 0 < k → k ≤ length xs → g k ≡ f k) → Agrees f xs → Agrees g xs
 agrees-with f g [] same a = tt
 agrees-with f g (terminal ∷ xs) same a = a
-agrees-with f g (fragment d w after ∷ xs) same a = (same (suc (length xs)) (omega arith) (omega arith)
-    ∙ a.0, agrees-with f g xs (λ k some le. same k some (omega (arith, le))) a.1)
+agrees-with f g (fragment d w after ∷ xs) same a = (
+  same (suc (length xs)) (omega arith) (omega arith)
+      ∙ a.0,
+  agrees-with f g xs (λ k some le. same k some (omega (arith, le))) a.1,
+)
 
 pub agrees : (none : Data) (xs : List Entry) → IsChain xs → Agrees (at_place none xs) xs
 agrees none [] c = tt
@@ -57,7 +60,7 @@ abbrev pub count_to : (ℕ → Data) → ℕ → ℕ → ℕ
 count_to f st zero = 0
 count_to f st (suc k) = bit (opens_on st (f (suc k))) + count_to f st k
 
-count-is : (f : ℕ → Data) (st : ℕ) (xs : List Entry) → Agrees f xs → begun_on st xs ≡ count_to f st (length xs)
+pub count-is : (f : ℕ → Data) (st : ℕ) (xs : List Entry) → Agrees f xs → begun_on st xs ≡ count_to f st (length xs)
 count-is f st [] a = refl
 count-is f st (terminal ∷ xs) a = absurd a
 count-is f st (fragment d w after ∷ xs) a =
@@ -298,3 +301,64 @@ module _ (f : ℕ → Data) (n : ℕ) (l : IsLinked f n) where
         | inl less ↦ let r = ih less in let short = r.1 in (r.0, omega (arith, short), r.2, r.3)
         | inr ge ↦ let z = ap bit e in (k, omega arith, omega (arith, lt, z, ge), e)
       ]
+
+  -- ## All of a message
+
+  -- from its first fragment to its last one
+  pub record IsRange (a b : ℕ) : Type 0 where
+    pub some : 0 < a
+    pub le : a ≤ b
+    pub below : b ≤ n
+    pub begins : (f a).beginning_fragment ≡ true
+    pub ends : (f b).ending_fragment ≡ true
+    pub inner : (j : ℕ) → a < j → j ≤ b → (f j).beginning_fragment ≡ false
+    pub open' : (j : ℕ) → a ≤ j → j < b → (f j).ending_fragment ≡ false
+    pub alike : (j : ℕ) → a ≤ j → j ≤ b → IsAlike (f j) (f a)
+
+  pub range-of : (last : (f n).ending_fragment ≡ true) (k : ℕ) → 0 < k → k ≤ n → (a : ℕ) × (b : ℕ) × IsRange a b × (a ≤ k) × (k ≤ b)
+  range-of last k some le = (
+    s.start,
+    e.finish,
+    record {
+      some = s.some;
+      le = let u = s.within in let v = e.within in omega (arith, u, v);
+      below = e.below;
+      begins = s.begins;
+      ends = e.ends;
+      inner = inner;
+      open' = λ j from short. elim (cases_lt j k) [
+        | inl lt ↦ s.open' j from lt
+        | inr ge ↦ e.open' j ge short
+      ];
+      alike = λ j from short.
+          let u = s.some in
+          let v = e.below in
+          let r = start-of j (omega (arith, u, from)) (omega (arith, short, v)) in
+          let same = same-start j s.start r from s.begins (λ l lt to. inner l lt (omega (arith, to, short))) in
+          subst (λ i. IsAlike (f j) (f i)) (sym same) r.alike;
+    },
+    s.within,
+    e.within,
+  )
+    where
+      s : IsStart f k
+      s = start-of k some le
+
+      e : IsFinish f n k
+      e = finish-from (n - k) k (omega (arith, le)) some last
+
+      inner : (j : ℕ) → s.start < j → j ≤ e.finish → (f j).beginning_fragment ≡ false
+      inner j lt short = elim (cases_lt k j) [
+        | inl more ↦ e.inner j more short
+        | inr upto ↦ s.inner j lt upto
+      ]
+
+  pub range-from : (last : (f n).ending_fragment ≡ true) (a : ℕ) → 0 < a → a ≤ n → (f a).beginning_fragment ≡ true → (b : ℕ) × IsRange a b
+  range-from last a some le begins =
+      let r = range-of last a some le in
+      let g = r.2 in
+      let same : r.0 ≡ a = elim (cases_lt r.0 a) [
+        | inl lt ↦ absurd (not_both (sym (g.inner a lt r.4) ∙ begins))
+        | inr ge ↦ let upto = r.3 in omega (arith, upto, ge)
+      ] in
+      (r.1, subst (λ i. IsRange i r.1) same g)

@@ -46,7 +46,7 @@ count-none t (c ∷ cs) e = by (has_tsn t c) refl (count-none t cs)
     by true i ih = let o : one t c ≡ 1 = ap (λ b. if b then 1 else 0) i in absurd (omega (arith, more, e, o))
     by false i ih = ih (omega (arith, more, e))
 
-once : (t : ℕ) (cs : List ChunkPayloadData) → are_apart cs ≡ true → count t cs ≤ 1
+pub once : (t : ℕ) (cs : List ChunkPayloadData) → are_apart cs ≡ true → count t cs ≤ 1
 once t [] e = omega arith
 once t (c ∷ cs) e = by (has_tsn t c) refl (once t cs b.1)
   where
@@ -109,7 +109,7 @@ all-there t (c ∷ cs) e = by (has_tsn t c) refl (all-there t cs b.1)
         (none-there t c.stream_identifier cs (subst (λ n. list_any (has_tsn n) cs ≡ false) (same-is c.tsn t i) (negated (list_any (has_tsn c.tsn) cs) b.0)))
     by false i ih = and (is_there t (stream_of t cs) c) (list_all (is_there t (stream_of t cs)) cs) (ap (λ k. not k || is_on (stream_of t cs) c) i) ih
 
-fewer : (t : ℕ) (p : ChunkPayloadData → Bool) (cs : List ChunkPayloadData) → count t (filter p cs) ≤ count t cs
+pub fewer : (t : ℕ) (p : ChunkPayloadData → Bool) (cs : List ChunkPayloadData) → count t (filter p cs) ≤ count t cs
 fewer t p [] = omega arith
 fewer t p (c ∷ cs) = by (p c) (fewer t p cs)
   where

@@ -99,7 +99,7 @@ module _ (p n : ℕ) (few : n < 2 ^ 31) where
       let v = a.1.1 in
       let less : nat_lt k a.0 ≡ true = (let m : k < a.0 = omega (arith, lt, u) in grind (arith, nat_tests, m)) in
       let it : comes_before c.tsn y.tsn ≡ true = ap (λ t. comes_before t y.tsn) e ∙ ap (comes_before (tsn p k)) a.1.2
-          ∙ before p k a.0 (omega (arith, le, few)) (omega (arith, v, few)) ∙ less in
+      ∙ before p k a.0 (omega (arith, le, few)) (omega (arith, v, few)) ∙ less in
       it
   later c k le e low (y ∷ ys) lt a (suc i) d short = let u = a.1.0 in later c k le e (a.0 + 1) ys (omega (arith, lt, u)) a.2 i d (omega (arith, short))
 
@@ -146,8 +146,11 @@ module _ (p n : ℕ) (few : n < 2 ^ 31) where
   side : (a b : ℕ) (cs : List ChunkPayloadData) → Ascend p n a cs → a ≤ b → b ≤ n → Covers p a b cs → (j : ℕ) → a + j ≤ b → (j < length cs)
       × ((d : ChunkPayloadData) → (slice_index_or cs j d).tsn ≡ tsn p (a + j))
   side a b [] x le top covers j to = absurd (not_both (covers a (omega arith) le))
-  side a b (c ∷ cs) x le top covers zero to = (omega arith, λ d. x.1.2 ∙ ap (tsn p) {x = x.0} {y = a + zero}
-      (let h = head-is a b c cs x le covers in omega (arith, h)))
+  side a b (c ∷ cs) x le top covers zero to = (
+    omega arith,
+    λ d. x.1.2 ∙ ap (tsn p) {x = x.0} {y = a + zero}
+        (let h = head-is a b c cs x le covers in omega (arith, h)),
+  )
   side a b (c ∷ cs) x le top covers (suc j) to =
       let h = head-is a b c cs x le covers in
       let rest = covers-rest (a + 1) b x.0 c cs x.1.2 (omega (arith, h)) top (λ i from upto. covers i (omega (arith, from)) upto) in
@@ -209,7 +212,7 @@ module _ (p n : ℕ) (few : n < 2 ^ 31) where
             let j = k - s.first in
             let e : k ≡ s.first + j = omega (arith, lt) in
             ap (λ i. (slice_index_or cs i d).beginning_fragment) e ∙ ap (λ (y : Data). y.beginning_fragment) (is j d (omega (arith, lt, short, le)))
-                ∙ inner (a + j) (omega (arith, lt)) (omega (arith, lt, short, le));
+            ∙ inner (a + j) (omega (arith, lt)) (omega (arith, lt, short, le));
         rising = λ k d ge short.
             let j = k - s.first in
             let e : k ≡ s.first + j = omega (arith, ge) in
@@ -220,7 +223,7 @@ module _ (p n : ℕ) (few : n < 2 ^ 31) where
         ends = λ d.
             let e : s.first + suc (b - a) - 1 ≡ s.first + (b - a) = omega arith in
             ap (λ k. (slice_index_or cs k d).ending_fragment) e ∙ ap (λ (y : Data). y.ending_fragment) (is (b - a) d (omega (arith, le)))
-                ∙ ap (λ k. (f k).ending_fragment) {x = a + (b - a)} {y = b} (omega (arith, le)) ∙ ends;
+            ∙ ap (λ k. (f k).ending_fragment) {x = a + (b - a)} {y = b} (omega (arith, le)) ∙ ends;
       },
     )
       where

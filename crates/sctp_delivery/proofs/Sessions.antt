@@ -158,7 +158,7 @@ none-fails p q (c ∷ cs) e = let b = both (p c) (list_all p cs) e in by (q c) b
         omega (arith, more, one, rest)
     by false h rest = rest
 
-all-pass : (p : ChunkPayloadData → Bool) (cs : List ChunkPayloadData) → sum_by (fails p) cs ≡ 0 → list_all p cs ≡ true
+pub all-pass : (p : ChunkPayloadData → Bool) (cs : List ChunkPayloadData) → sum_by (fails p) cs ≡ 0 → list_all p cs ≡ true
 all-pass p [] e = refl
 all-pass p (c ∷ cs) e = by (p c) refl (all-pass p cs)
   where
@@ -198,7 +198,7 @@ found : (p : Made → Bool) (ms : List Made) (x : Made) → p x ≡ true → Con
 found p ms x e h = list_any_at p ms h.0 x h.1 (ap p h.2 ∙ e)
 
 -- whether a chunk was made
-abbrev made_among : List Made → ChunkPayloadData → Bool
+abbrev pub made_among : List Made → ChunkPayloadData → Bool
 made_among ms c = list_any (is_made_so (data_of c)) ms
 
 pub more-made : (p : Made → Bool) (call : SenderCall) (t : Transmission) (ms : List Made) → list_any p ms ≡ true → list_any p (made_after call t ms) ≡ true
@@ -227,7 +227,7 @@ more-made p (expires_rexmit gone) t ms e = e
 more-made p (takes_sack sack gone) t ms e = e
 
 -- each chunk that was taken was made
-abbrev IsTakenMade : Session → Type 0
+abbrev pub IsTakenMade : Session → Type 0
 IsTakenMade s = list_all (made_among s.made) s.receiving.accepted ≡ true
 
 kept-made : (call : ReceiverCall) (old new : Session) → ReceiverFollows call old new → new.receiving.accepted ≡ old.receiving.accepted → IsTakenMade old → IsTakenMade new
@@ -251,7 +251,7 @@ sent-made call old new f h =
     ap (λ (s : Session). list_all (made_among s.made) s.receiving.accepted) f.after
     ∙ every (made_among old.made) (made_among (made_after call old.sending.sender old.made)) (λ c. more-made (is_made_so (data_of c)) call old.sending.sender old.made) old.receiving.accepted h
 
-all-made : (cs : List Call) (old new : Session) → RunsTo old cs new → IsTakenMade old → IsTakenMade new
+pub all-made : (cs : List Call) (old new : Session) → RunsTo old cs new → IsTakenMade old → IsTakenMade new
 all-made [] old new r h = subst IsTakenMade (sym r) h
 all-made (of_sender call ∷ cs) old new r h = all-made cs r.0 new r.1.1 (sent-made call old r.0 r.1.0 h)
 all-made (of_receiver call ∷ cs) old new r h = all-made cs r.0 new r.1.1 (taken-made call old r.0 r.1.0 h)
@@ -260,7 +260,7 @@ so-made : (d : Data) (x : Made) → is_made_so d x ≡ true → x ≡ data_chunk
 so-made d (data_chunk x) e = ap data_chunk (sym (same-data d x e))
 so-made d (forward_tsn f) e = cc
 
-found-made : (ms : List Made) (d : Data) → list_any (is_made_so d) ms ≡ true → Contains ms (data_chunk d)
+pub found-made : (ms : List Made) (d : Data) → list_any (is_made_so d) ms ≡ true → Contains ms (data_chunk d)
 found-made ms d e =
     let a = Any-from_list_any (is_made_so d) ms e in
     subst (Contains ms) (so-made d a.1 a.4) (a.0, a.2, a.3)

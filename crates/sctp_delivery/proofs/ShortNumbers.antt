@@ -168,8 +168,11 @@ module _ (t u : Transmission) (s : AreShort t) where
   pub stays-short : (call : SenderCall) → is_reliable_at_sender call ≡ true → Makes (as_run call) t u → MakesExactly call t u → IsAccepted call t → AreShort u
   stays-short (outgoing.opens stream) r m x a = to _ m (record { streams = every-joined IsShortOn t.streams _ s.streams (omega arith, tt); queue = s.queue })
   stays-short (outgoing.sets_mode stream unordered reliability value) r m x a =
-      to _ m (record { streams = every-changed IsShortOn (has_number stream) (with_mode unordered reliability value)
-          (λ l h e. e) t.streams s.streams; queue = s.queue })
+      to _ m (record {
+        streams = every-changed IsShortOn (has_number stream) (with_mode unordered reliability value)
+            (λ l h e. e) t.streams s.streams;
+        queue = s.queue;
+      })
   stays-short (outgoing.sets_low stream bytes) r m x a =
       to _ m (record { streams = every-changed IsShortOn (has_number stream) (with_low bytes) (λ l h e. e) t.streams s.streams; queue = s.queue })
   stays-short (outgoing.sets_size size) r m x a =
@@ -184,8 +187,11 @@ module _ (t u : Transmission) (s : AreShort t) where
             (fragments-short l.0 ppi (b ∷ bs) (every-found IsShortOn (has_number stream) t.streams l.0 l.1 s.streams)) s.queue;
       })
   stays-short (outgoing.starts now) r m x a = to _ m (record { streams = s.streams; queue = started-short now t.flight.queue s.queue })
-  stays-short (outgoing.reserves more) r m x a = to _ m (record { streams = s.streams; queue =
-      record { ordered = s.queue.ordered; unordered = s.queue.unordered; inflight = s.queue.inflight } })
+  stays-short (outgoing.reserves more) r m x a = to _ m (record {
+    streams = s.streams;
+    queue =
+        record { ordered = s.queue.ordered; unordered = s.queue.unordered; inflight = s.queue.inflight };
+  })
   stays-short (outgoing.sends now) r m x a =
       to _ x
       (record {
@@ -218,15 +224,18 @@ module _ (t u : Transmission) (s : AreShort t) where
             (every-changed IsShort can_miss missed (λ d h e. e) (take count cs) (every-taken IsShort count cs s.queue.inflight))
             (every-left IsShort count cs s.queue.inflight)) _ refl refl;
       })
-  stays-short (outgoing.takes_sack k gone) r m x a = to _ x (record { streams = releases-short (released_by k t.flight) t.streams s.streams; queue =
-      by (is_outdated k t.flight) })
+  stays-short (outgoing.takes_sack k gone) r m x a = to _ x (record {
+    streams = releases-short (released_by k t.flight) t.streams s.streams;
+    queue =
+        by (is_outdated k t.flight);
+  })
     where
       by : (b : Bool) → ShortQueue (if b then t.flight else take_sack k t.flight).queue
       by true = s.queue
       by false =
           refilled _
           (every-passing IsShort (λ c. not (at_or_before c.tsn k.cumulative_tsn_ack))
-              (change_where (reports_anew k) as_acknowledged t.flight.queue.inflight.chunks)
+          (change_where (reports_anew k) as_acknowledged t.flight.queue.inflight.chunks)
           (every-changed IsShort (reports_anew k) as_acknowledged (λ d h e. e) t.flight.queue.inflight.chunks s.queue.inflight)) _ refl refl
   stays-short (outgoing.abandons tsn a') r m x a = absurd (not_both r)
   stays-short (outgoing.expires now m') r m x a = absurd (not_both r)

@@ -62,8 +62,7 @@ module _ (p n : ℕ) (few : n < 2 ^ 31) where
     put : (s : ChunkSet) → IsPartOf x.stream_sequence_number x → list_any (has_tsn x.tsn) s.chunks ≡ false → IsTidySet p n s
         → has_ssn x.stream_sequence_number s ≡ true → IsTidySet p n (with_chunk x s)
     put s part fresh t h =
-        subst (λ b. let s' : ChunkSet = record s { chunks = if b then s.chunks else insert_before chunk_before x s.chunks } in IsTidySet p n s') (sym fresh)
-        (
+        subst (λ b. let s' : ChunkSet = record s { chunks = if b then s.chunks else insert_before chunk_before x s.chunks } in IsTidySet p n s') (sym fresh) (
           ascend-inserted p n few 0 k x s.chunks at fresh t.0,
           every-inserted (IsPartOf s.ssn) chunk_before x s.chunks
               (record { ordered = part.ordered; number = sym (same-is s.ssn x.stream_sequence_number h); low = part.low }) t.1,
@@ -91,7 +90,7 @@ module _ (p n : ℕ) (few : n < 2 ^ 31) where
       where
         by : (b : Bool) → (i : ℕ) × (i < length (insert_before chunk_before x ys)) × (remove (insert_before chunk_before x ys) i ≡ ys)
             → (i : ℕ) × (i < length (if b then x ∷ y ∷ ys else y ∷ insert_before chunk_before x ys))
-                × (remove (if b then x ∷ y ∷ ys else y ∷ insert_before chunk_before x ys) i ≡ y ∷ ys)
+            × (remove (if b then x ∷ y ∷ ys else y ∷ insert_before chunk_before x ys) i ≡ y ∷ ys)
         by true ih = (0, omega arith, refl)
         by false ih = let lt = ih.1 in (suc ih.0, omega (arith, lt), ap (λ zs. y ∷ zs) ih.2)
 
@@ -212,7 +211,7 @@ read-next p n q t y low = by q.unordered refl
             let small = set-low s.ssn s.chunks (both (is_complete s.chunks) (at_or_before16 s.ssn q.next_ssn) f).0 set in
             let next : (if s.ssn == q.next_ssn then (q.next_ssn + 1) % 2 ^ 16 else q.next_ssn) ≡ s.ssn + 1 =
             ap (λ b. if b then (q.next_ssn + 1) % 2 ^ 16 else q.next_ssn) (eq-eqb s.ssn q.next_ssn is)
-                ∙ (let it : (q.next_ssn + 1) % 2 ^ 16 ≡ s.ssn + 1 = omega (arith, is, small) in it) in
+            ∙ (let it : (q.next_ssn + 1) % 2 ^ 16 ≡ s.ssn + 1 = omega (arith, is, small) in it) in
             record { low = omega (arith, next, small); more = omega (arith, next, is); below = one-number s.ssn _ s.chunks (omega (arith, next)) set }
 
     by : (us : List ChunkSet) → q.unordered ≡ us → IsNextRead q (rest_among us q) (chunks_of (message_among us q))

@@ -1,10 +1,10 @@
 -- Reliable sessions: what is taken is held or was read, and in the end each write was read (RFC 4960 6.5, 6.6, 6.9).
-use Rattle.std.specs.Prelude.{◌≡◌, ◌≢◌, AllPairs, ℕ, ◌+◌, ◌^◌, ◌<◌, ◌==◌, ◌&&◌, Bool, true, false, List, [], ◌∷◌, ◌++◌, length, Contains, Option, Some, None}
+use Rattle.std.specs.Prelude.{◌≡◌, ◌≢◌, AllPairs, ℕ, ◌+◌, ◌^◌, ◌<◌, ◌≤◌, ◌==◌, ◌&&◌, Bool, true, false, not, List, [], ◌∷◌, ◌++◌, length, Contains, Option, Some, None, is_some}
 use Rattle.std.specs.List.{filter, list_all, sum_by}
 use Rattle.sctp_data.specs.declared.chunk.chunk_payload_data.ChunkPayloadData.{ChunkPayloadData}
 use Rattle.sctp_data.specs.ChunkSet.{ChunkSet}
 use Rattle.sctp_outbound.specs.pending_queue.PendingQueue.{chunk_count}
-use Rattle.sctp_reassembly.specs.reassembly_queue.ReassemblyQueue.{held_chunks}
+use Rattle.sctp_reassembly.specs.reassembly_queue.ReassemblyQueue.{held_chunks, message_read}
 use Rattle.sctp_receiver.specs.declared.receiver.inbound_streams.InboundStream.{InboundStream}
 use Rattle.sctp_receiver.specs.declared.receiver.limits.Limits.{Limits}
 use Rattle.sctp_receiver.specs.Receiver.{Reception, stream_of}
@@ -102,3 +102,22 @@ EachIsReadOnce s =
 abbrev pub IsAllReadWhereSettled : Session → Type 0
 IsAllReadWhereSettled s =
     is_settled s.sending.sender s.receiving.receiver ≡ true → EachIsReadOnce s
+
+-- on no stream is a message to read
+abbrev pub reads_nothing : Reception → Bool
+reads_nothing r = list_all (λ l. not (is_some (message_read l.queue.held))) r.streams
+
+-- nothing waits to be sent, nothing is in flight, and nothing is to be read
+abbrev pub is_exhausted : Transmission → Reception → Bool
+is_exhausted t r = is_all_acknowledged t && reads_nothing r
+
+-- at most 2^15 writes on each stream, so that no stream sequence number comes round (RFC 1982)
+abbrev pub AreFewWrites : Session → Type 0
+AreFewWrites s =
+    (stream : ℕ) → length (filter (λ w. w.stream == stream) s.written) ≤ 2 ^ 15
+
+-- then each write was read exactly once
+abbrev pub IsAllReadInTheEnd : Session → Type 0
+IsAllReadInTheEnd s =
+    AreFewWrites s → is_exhausted s.sending.sender s.receiving.receiver ≡ true
+    → EachIsReadOnce s

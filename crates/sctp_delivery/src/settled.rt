@@ -1,11 +1,9 @@
-//! What the law of what is read in the end tells a caller.
+//! What the laws of what is read in the end tell a caller.
 
-ghost use Rattle.std.specs.Prelude.{◌≡◌, ◌==◌, ◌&&◌, ◌<◌, ℕ, true};
-ghost use Rattle.std.specs.List.{list_all};
-ghost use Rattle.sctp_outbound.specs.pending_queue.PendingQueue.{chunk_count};
-ghost use Rattle.sctp_delivery.specs.Complete.{AfterEachReliableSession, EachIsReadOnce, holds_nothing, is_settled};
+ghost use Rattle.std.specs.Prelude.{◌≡◌, ◌<◌, true};
+ghost use Rattle.sctp_delivery.specs.Complete.{AfterEachReliableSession, AreFewWrites, EachIsReadOnce, holds_nothing, is_exhausted, is_settled, reads_nothing};
 
-use crate::laws::complete::each_write_is_read_in_the_end;
+use crate::laws::complete::{all_is_read_in_the_end, each_write_is_read_where_nothing_is_held};
 use sctp_receiver::receiver::Receiver;
 use sctp_sender::sender::Sender;
 
@@ -29,8 +27,34 @@ pub fn is_each_read(sender: &Sender, receiver: &Receiver) -> bool
         → s.sending.sender ≡ sender.now → s.receiving.receiver ≡ receiver.now
         → EachIsReadOnce s) }
 {
-    each_write_is_read_in_the_end();
+    each_write_is_read_where_nothing_is_held();
     sender.outbound().pending_len() == 0
         && sender.outbound().inflight_len() == 0
         && is_nothing_held(receiver)
+}
+
+/// Whether a receiver has no message to read on any stream.
+pub fn is_nothing_readable(receiver: &Receiver) -> bool
+    ensures { result ≡ reads_nothing receiver.now }
+{
+    for inbound in receiver.open_streams() {
+        if inbound.queue.is_readable() {
+            return false;
+        }
+    }
+    true
+}
+
+/// Whether nothing waits, nothing is in flight, and nothing is to be read. In whatever reliable session the two stand, with at most
+/// 2^15 writes on each stream, each write was read exactly once where that is so.
+pub fn is_all_read(sender: &Sender, receiver: &Receiver) -> bool
+    ensures exact { result ≡ is_exhausted sender.now receiver.now }
+    ensures read { result ≡ true → AfterEachReliableSession (λ size s. 0 < size
+        → s.sending.sender ≡ sender.now → s.receiving.receiver ≡ receiver.now
+        → AreFewWrites s → EachIsReadOnce s) }
+{
+    all_is_read_in_the_end();
+    sender.outbound().pending_len() == 0
+        && sender.outbound().inflight_len() == 0
+        && is_nothing_readable(receiver)
 }

@@ -1,0 +1,163 @@
+-- A message that was read has the whole range of places of each of its fragments.
+use Rattle.std.proofs.Common.{◌≡◌, ℕ, suc, ◌+◌, ◌<◌, ◌≤◌, ◌%◌, ◌^◌, Bool, true, false, List, [], ◌∷◌, ◌++◌, length, inl, inr, refl, ap, sym, subst, ◌∙◌, arith}
+use Rattle.std.specs.Prelude.{⊤, All, ◌==◌, ◌||◌, if◌then◌else◌}
+use Rattle.std.specs.List.{list_any, sum_by}
+use Rattle.std.proofs.lemmas.Bool.{cases_lt, eq-eqb}
+use Rattle.std.proofs.lemmas.List.Sums.{sum_by-append}
+use Rattle.sctp_list_lemmas.proofs.Cases.{or-left, or-right, or-split, same-is}
+use Rattle.sctp_list_lemmas.proofs.More.{both, fails, not_both}
+use Rattle.sctp_list_lemmas.proofs.Round.{tsn}
+use Rattle.sctp_data.specs.declared.chunk.chunk_payload_data.ChunkPayloadData.{ChunkPayloadData}
+use Rattle.sctp_data.specs.PayloadData.{Data, data_of}
+use Rattle.sctp_reassembly.specs.reassembly_queue.Fragments.{completes, is_complete}
+use Rattle.sctp_receiver.specs.ReceiverRuns.{Message, fragments_read, is_one_message}
+use Rattle.sctp_serial.specs.DataChunks.{has_tsn}
+use Rattle.sctp_delivery.proofs.Delivered.{EachSent, inner-of}
+use Rattle.sctp_delivery.proofs.EachRead.{none-begins}
+use Rattle.sctp_delivery.proofs.Every.{Every}
+use Rattle.sctp_delivery.proofs.Ranges.{Agrees, part-place}
+use Rattle.sctp_delivery.proofs.ReadOnce.{count-none, none-count, one}
+use Rattle.sctp_delivery.proofs.Sent.{Entry, IsLine, Numbered, WasSent, fragment, part-length, part-line}
+use Rattle.sctp_delivery.proofs.TsnPlaces.{base, next-place, same-place}
+
+-- a chunk of the place
+pub record IsOn (p n : ℕ) (f : ℕ → Data) (c : ChunkPayloadData) (j : ℕ) : Type 0 where
+  pub some : 0 < j
+  pub within : j ≤ n
+  pub is : c.tsn ≡ tsn p j
+  pub data' : data_of c ≡ f j
+
+module _ (ws : List Numbered) (first : ℕ) (sent : List Entry) (few : length sent < 2 ^ 31) (line : IsLine ws first sent) (f : ℕ → Data)
+    (agr : Agrees f sent) where
+  abbrev p : ℕ
+  p = base first
+
+  abbrev n : ℕ
+  n = length sent
+
+  pub place-of : (c : ChunkPayloadData) → WasSent sent (data_of c) → (j : ℕ) × IsOn p n f c j
+  place-of c s =
+      let l = part-line ws first sent (fragment (data_of c) s.0 s.1 ∷ s.2) s.3 line in
+      let number = l.0.number in
+      let long = part-length sent (fragment (data_of c) s.0 s.1 ∷ s.2) s.3 in (
+        suc (length s.2),
+        record {
+          some = omega arith;
+          within = omega (arith, long);
+          is = omega (arith, number);
+          data' =
+              sym (part-place f sent agr (data_of c) s.0 s.1 s.2 s.3);
+        },
+      )
+
+  -- the next TSN is that of the next place
+  next-on : (c y : ChunkPayloadData) (j : ℕ) → IsOn p n f c j → WasSent sent (data_of y) → y.tsn ≡ (c.tsn + 1) % 2 ^ 32 → IsOn p n f y (j + 1)
+  next-on c y j h s e =
+      let k = place-of y s in
+      let u = h.within in
+      let v = k.1.within in
+      let same : k.0 ≡ j + 1 = same-place p k.0 (j + 1) (omega (arith, v, few)) (omega (arith, u, few))
+      (sym k.1.is ∙ e ∙ ap (λ t. (t + 1) % 2 ^ 32) h.is ∙ next-place p j) in
+      subst (IsOn p n f y) same k.1
+
+  same-on : (c : ChunkPayloadData) (j i : ℕ) → IsOn p n f c j → i ≤ n → has_tsn (tsn p i) c ≡ true → j ≡ i
+  same-on c j i h le e = let u = h.within in same-place p j i (omega (arith, u, few)) (omega (arith, le, few)) (sym h.is ∙ same-is c.tsn (tsn p i) e)
+
+  -- what stands behind the first fragment
+  back : (c : ChunkPayloadData) (cs : List ChunkPayloadData) (j : ℕ) → IsOn p n f c j → completes c cs ≡ true → EachSent sent cs
+      → Every (λ (d : ChunkPayloadData). d.beginning_fragment ≡ false) cs
+      → (i : ℕ) → i ≤ n → list_any (has_tsn (tsn p i)) (c ∷ cs) ≡ true → (j ≤ i) × ((l : ℕ) → j < l → l ≤ i → (f l).beginning_fragment ≡ false)
+  back c [] j h e s g i le there = elim (or-split (has_tsn (tsn p i) c) false there) [
+    | inl k ↦ let same = same-on c j i h le k in (omega (arith, same), λ l lt short. absurd (omega (arith, same, lt, short)))
+    | inr k ↦ absurd (not_both k)
+  ]
+  back c (y ∷ ys) j h e s g i le there =
+      let b = both (y.tsn == (c.tsn + 1) % 2 ^ 32) (completes y ys) e in
+      let on = next-on c y j h s.0 (same-is y.tsn ((c.tsn + 1) % 2 ^ 32) b.0) in
+      elim (or-split (has_tsn (tsn p i) c) (list_any (has_tsn (tsn p i)) (y ∷ ys)) there) [
+        | inl k ↦ let same = same-on c j i h le k in (omega (arith, same), λ l lt short. absurd (omega (arith, same, lt, short)))
+        | inr k ↦
+            let ih = back y ys (j + 1) on b.1 s.1 g.1 i le k in
+            let m = ih.0 in (
+              omega (arith, m),
+              λ l lt short. elim (cases_lt (j + 1) l) [
+                | inl more ↦ ih.1 l more short
+                | inr upto ↦ let it : l ≡ j + 1 = omega (arith, lt, upto) in
+                    ap (λ x. (f x).beginning_fragment) it ∙ ap (λ (d : Data). d.beginning_fragment) (sym on.data') ∙ g.0
+              ],
+            )
+      ]
+
+  forth : (c : ChunkPayloadData) (cs : List ChunkPayloadData) (j : ℕ) → IsOn p n f c j → completes c cs ≡ true → EachSent sent cs → (i : ℕ) → j ≤ i
+      → ((l : ℕ) → j ≤ l → l < i → (f l).ending_fragment ≡ false) → list_any (has_tsn (tsn p i)) (c ∷ cs) ≡ true
+  forth c [] j h e s i le open' = elim (cases_lt j i) [
+    | inl lt ↦ absurd (not_both (sym (open' j (omega arith) lt) ∙ ap (λ (d : Data). d.ending_fragment) (sym h.data') ∙ e))
+    | inr ge ↦ let same : j ≡ i = omega (arith, le, ge) in or-left (has_tsn (tsn p i) c) false (eq-eqb c.tsn (tsn p i) (h.is ∙ ap (tsn p) same))
+  ]
+  forth c (y ∷ ys) j h e s i le open' = elim (cases_lt j i) [
+    | inl lt ↦
+        let b = both (y.tsn == (c.tsn + 1) % 2 ^ 32) (completes y ys) e in
+        let on = next-on c y j h s.0 (same-is y.tsn ((c.tsn + 1) % 2 ^ 32) b.0) in
+        or-right (has_tsn (tsn p i) c) (list_any (has_tsn (tsn p i)) (y ∷ ys))
+        (forth y ys (j + 1) on b.1 s.1 i (omega (arith, lt)) (λ l from short. open' l (omega (arith, from)) short))
+    | inr ge ↦ let same : j ≡ i = omega (arith, le, ge) in or-left (has_tsn (tsn p i) c) (list_any (has_tsn (tsn p i)) (y ∷ ys))
+        (eq-eqb c.tsn (tsn p i) (h.is ∙ ap (tsn p) same))
+  ]
+
+  -- from its start `a` on the message of the place j goes up to k, at least
+  module _ (a j k : ℕ) (begins : (f a).beginning_fragment ≡ true) (upto : a ≤ j) (inner : (l : ℕ) → a < l → l ≤ j → (f l).beginning_fragment ≡ false)
+      (within : j ≤ n)
+      (to : a ≤ k) (open' : (l : ℕ) → a ≤ l → l < k → (f l).ending_fragment ≡ false) where
+    whole-of : (fs : List ChunkPayloadData) → is_complete fs ≡ true → is_one_message fs ≡ true → EachSent sent fs → list_any (has_tsn (tsn p j)) fs ≡ true
+        → list_any (has_tsn (tsn p k)) fs ≡ true
+    whole-of [] e o s there = absurd (not_both there)
+    whole-of (c ∷ cs) e o s there =
+        let b = both c.beginning_fragment (completes c cs) e in
+        let h = place-of c s.0 in
+        let none = none-begins ws first sent (omega (arith, few)) line c cs s.0.0 s.0.1 s.0.2 s.0.3 b.1 s.1 (inner-of c cs o) in
+        let r = back c cs h.0 h.1 b.1 s.1 none j within there in
+        let first' : (f h.0).beginning_fragment ≡ true = ap (λ (d : Data). d.beginning_fragment) (sym h.1.data') ∙ b.0 in
+        let same : h.0 ≡ a = elim (cases_lt h.0 a) [
+          | inl lt ↦ absurd (not_both (sym (r.1 a lt upto) ∙ begins))
+          | inr ge ↦ elim (cases_lt a h.0) [
+            | inl lt ↦ absurd (not_both (sym (inner h.0 lt r.0) ∙ first'))
+            | inr le ↦ omega (arith, ge, le)
+          ]
+        ] in
+        forth c cs a (subst (IsOn p n f c) same h.1) b.1 s.1 k to open'
+
+    -- so where one place was read, the other was
+    pub read-whole : (st : ℕ) (ms : List Message) → All (λ m. (is_complete m.fragments ≡ true) × (is_one_message m.fragments ≡ true)
+        × EachSent sent m.fragments) ms
+        → 0 < sum_by (one (tsn p j)) (fragments_read st ms) → 0 < sum_by (one (tsn p k)) (fragments_read st ms)
+    read-whole st [] all lt = absurd (omega (arith, lt))
+    read-whole st (m ∷ ms) all lt = by (m.stream == st) lt (read-whole st ms (λ i d short. all (suc i) d (omega (arith, short))))
+      where
+        facts : (is_complete m.fragments ≡ true) × (is_one_message m.fragments ≡ true) × EachSent sent m.fragments
+        facts = all 0 m (omega arith)
+
+        some-of : (t : ℕ) (cs : List ChunkPayloadData) → list_any (has_tsn t) cs ≡ true → 0 < sum_by (one t) cs
+        some-of t cs e = elim (cases_lt 0 (sum_by (one t) cs)) [
+          | inl more ↦ more
+          | inr none ↦ absurd (not_both (sym (count-none t cs (omega (arith, none))) ∙ e))
+        ]
+
+        by : (b : Bool) → 0 < sum_by (one (tsn p j)) (if b then m.fragments ++ fragments_read st ms else fragments_read st ms)
+            → (0 < sum_by (one (tsn p j)) (fragments_read st ms) → 0 < sum_by (one (tsn p k)) (fragments_read st ms))
+            → 0 < sum_by (one (tsn p k)) (if b then m.fragments ++ fragments_read st ms else fragments_read st ms)
+        by false more ih = ih more
+        by true more ih =
+            let x = sum_by-append (one (tsn p j)) m.fragments (fragments_read st ms) in
+            let y = sum_by-append (one (tsn p k)) m.fragments (fragments_read st ms) in
+            at (list_any (has_tsn (tsn p j)) m.fragments) refl x y
+          where
+            at : (b : Bool) → list_any (has_tsn (tsn p j)) m.fragments ≡ b
+                → sum_by (one (tsn p j)) (m.fragments ++ fragments_read st ms) ≡ sum_by (one (tsn p j)) m.fragments + sum_by (one (tsn p j))
+                (fragments_read st ms)
+                → sum_by (one (tsn p k)) (m.fragments ++ fragments_read st ms) ≡ sum_by (one (tsn p k)) m.fragments + sum_by (one (tsn p k))
+                (fragments_read st ms) → 0 < sum_by (one (tsn p k)) (m.fragments ++ fragments_read st ms)
+            at true h x y = let w = some-of (tsn p k) m.fragments (whole-of m.fragments facts.0 facts.1 facts.2 h) in omega (arith, y, w)
+            at false h x y =
+                let z = none-count (tsn p j) m.fragments h in
+                let w = ih (omega (arith, x, z, more)) in
+                omega (arith, y, w)
