@@ -216,7 +216,8 @@ module _ (ws : List Numbered) (first : ℕ) (t : Transmission) (sent : List Entr
         made' = λ a. ((x.write, x.after, sent, inl refl), sent-then entry sent ms a);
         begun' = λ n a m lt. elim (or-split (was_begun m sent) (begins_in m p) (a m lt)) [
           | inl f ↦ or-left (was_begun m (entry ∷ sent)) (begins_in m q) (still-begun m entry sent f)
-          | inr f ↦ elim (next-or-stays m c p.selected p.ordered_room p.unordered_room ready.next_message_id ready.inflight.chunks p.ordered p.unordered stands.sendable e f) [
+          | inr f ↦ elim (next-or-stays m c p.selected p.ordered_room p.unordered_room ready.next_message_id ready.inflight.chunks p.ordered p.unordered
+              stands.sendable e f) [
             | inl g ↦ let b = both (c.message_id == m) c.beginning_fragment g in
                 or-left (was_begun m (entry ∷ sent)) (begins_in m q) (or-left (c.beginning_fragment && (x.write.place == m)) (was_begun m sent)
                 (and c.beginning_fragment (x.write.place == m) b.1 (ap (λ k. k == m) (x.place b.1) ∙ b.0)))
@@ -228,7 +229,8 @@ module _ (ws : List Numbered) (first : ℕ) (t : Transmission) (sent : List Entr
             (record t { flight = record t.flight { queue = sent_of (Some c) ready next now; next_tsn = following_tsn next } }) sent c
             (data_of (as_sent next now c)) x.write x.after
             (next-chains ws first (λ s. number_of s t.streams) sent next now c chained.chain h.stands.queued.line
-            (next-short now t.flight.queue c e short.queue) p.ordered_room p.unordered_room ready.next_message_id ready.inflight.chunks p.selected p.ordered p.unordered stands.sendable e stands.queued ready-chained.last ready-chained.number)
+            (next-short now t.flight.queue c e short.queue) p.ordered_room p.unordered_room ready.next_message_id
+            ready.inflight.chunks p.selected p.ordered p.unordered stands.sendable e stands.queued ready-chained.last ready-chained.number)
             refl refl ready-chained;
       }
 

@@ -35,7 +35,7 @@ use Rattle.sctp_delivery.specs.Session.{Call, RunsTo, Session, at_start}
 use Rattle.sctp_delivery.proofs.Calls.{forgotten}
 use Rattle.sctp_delivery.proofs.Chains.{EndsWith, IsChained, begun_on, bit, opens_on, writes_on}
 use Rattle.sctp_delivery.proofs.Delivered.{EachSent, found-sent}
-use Rattle.sctp_delivery.proofs.EachRead.{BegunIn, IsIdle, begun-in, each-once-where, idle-of, taken, whole-messages}
+use Rattle.sctp_delivery.proofs.EachRead.{BegunIn, IsIdle, begun-in, each-once-where, idle-of, taken, complete-messages}
 use Rattle.sctp_delivery.proofs.Every.{Every, every-at, every-of, every-of-all, one-of}
 use Rattle.sctp_delivery.proofs.Kept as kept
 use Rattle.sctp_delivery.proofs.KeptSets.{IsInTurn, Rise}
@@ -463,8 +463,8 @@ module _ (first size max most : ℕ) (limits : Option Limits) (cs : List Call) (
         (list_all (is_at first n f) (fragments_of_sets q.unordered ++ q.unassembled))
         (sym (list_all-append (is_at first n f) (fragments_of_sets q.ordered) (fragments_of_sets q.unordered ++ q.unassembled)) ∙ held-list)).0
 
-    on-loose : Every (λ c. (j : ℕ) × IsOn p n f c j) q.unassembled
-    on-loose =
+    on-unassembled : Every (λ c. (j : ℕ) × IsOn p n f c j) q.unassembled
+    on-unassembled =
         let b = both (list_all (is_at first n f) (fragments_of_sets q.ordered)) (list_all (is_at first n f) (fragments_of_sets q.unordered ++ q.unassembled))
         (sym (list_all-append (is_at first n f) (fragments_of_sets q.ordered) (fragments_of_sets q.unordered ++ q.unassembled)) ∙ held-list) in
         let c = both (list_all (is_at first n f) (fragments_of_sets q.unordered)) (list_all (is_at first n f) q.unassembled)
@@ -476,10 +476,10 @@ module _ (first size max most : ℕ) (limits : Option Limits) (cs : List Call) (
         (read-tests st)
 
     -- of a place among the unassembled ones the fragment is unordered
-    loose-kind : (j : ℕ) → j ≤ n → 0 < L (tsn p j) → (f j).unordered ≡ true
-    loose-kind j le lt =
+    unassembled-kind : (j : ℕ) → j ≤ n → 0 < L (tsn p j) → (f j).unordered ≡ true
+    unassembled-kind j le lt =
         let o = one-of (λ c. ((i : ℕ) × IsOn p n f c i) × IsUnordered c) (has_tsn (tsn p j)) q.unassembled (any-of (tsn p j) q.unassembled lt)
-        (every-two (λ c. (i : ℕ) × IsOn p n f c i) IsUnordered q.unassembled on-loose tidy.kinds) in
+        (every-two (λ c. (i : ℕ) × IsOn p n f c i) IsUnordered q.unassembled on-unassembled tidy.kinds) in
         let d = its-data o.0 o.2.0.0 j o.2.0.1 le o.1 in
         ap (λ (x : Data). x.unordered) (sym d) ∙ o.2.1
 
@@ -504,8 +504,8 @@ module _ (first size max most : ℕ) (limits : Option Limits) (cs : List Call) (
 
     -- ## Unordered fragments
 
-    none-loose : (t : ℕ) → L t ≡ 0
-    none-loose t = elim (cases_lt 0 (L t)) [
+    none-unassembled : (t : ℕ) → L t ≡ 0
+    none-unassembled t = elim (cases_lt 0 (L t)) [
       | inr none ↦ omega (arith, none)
       | inl more ↦ absurd (held-unordered more)
     ]
@@ -519,12 +519,12 @@ module _ (first size max most : ℕ) (limits : Option Limits) (cs : List Call) (
             at-place : (k : ℕ) → 0 < k → k ≤ n → t ≡ tsn p k → (f k).stream_identifier ≡ st → 0 < L t → ⊥
             at-place k pos le is on more' =
                 let lt : 0 < L (tsn p k) = subst (λ x. 0 < L x) is more' in
-                let kind = loose-kind k le lt in
+                let kind = unassembled-kind k le lt in
                 let g = range-of f n lk (last (omega (arith, pos, le))) k pos le in
-                let run' = run-of p n short f g.0 g.1 g.2.some g.2.le g.2.below g.2.begins g.2.ends g.2.inner 0 q.unassembled tidy.loose
+                let run' = run-of p n short f g.0 g.1 g.2.some g.2.le g.2.below g.2.begins g.2.ends g.2.inner 0 q.unassembled tidy.unassembled
                 (covers g.0 g.1 g.2 g.3 g.4 kind lt)
                 (every-of (λ c. (j : ℕ) × IsOn p n f c j) (IsOf p n short f)
-                (λ c o i pos' le' e. its-data c o.0 i o.1 le' (eq-eqb c.tsn (tsn p i) e)) q.unassembled on-loose) in
+                (λ c o i pos' le' e. its-data c o.0 i o.1 le' (eq-eqb c.tsn (tsn p i) e)) q.unassembled on-unassembled) in
                 tidy.none run'.0 run'.1 run'.2
               where
                 covers : (a b : ℕ) → (g : IsRange f n lk a b) → a ≤ k → k ≤ b → (f k).unordered ≡ true → 0 < L (tsn p k) → Covers p a b q.unassembled
@@ -542,7 +542,7 @@ module _ (first size max most : ℕ) (limits : Option Limits) (cs : List Call) (
                       | inl read ↦
                           let x = read-whole ns first sent short line f agr a j k g.begins low' (λ i x y. g.inner i x (omega (arith, y, high)))
                           (omega (arith, high, below)) from (λ i x y. g.open' i x (omega (arith, y, to))) st s.receiving.read
-                          (whole-messages first size max most limits cs s run sent h.made) read in
+                          (complete-messages first size max most limits cs s run sent h.made) read in
                           let y = equation (tsn p k) in
                           let z = one-each (tsn p k) st in
                           absurd (omega (arith, x, y, z, lt))
@@ -597,7 +597,7 @@ module _ (first size max most : ℕ) (limits : Option Limits) (cs : List Call) (
           let took = subst (λ x. 0 < sum_by (one (tsn p i)) (filter (is_on x) accepted)) (al.stream ∙ on)
           (taken-on i (omega (arith, pos', low')) (omega (arith, high, below))) in
           let e = equation (tsn p i) in
-          let z = none-loose (tsn p i) in
+          let z = none-unassembled (tsn p i) in
           elim (cases_lt 0 (R (tsn p i))) [
             | inr none ↦ omega (arith, e, took, none, z)
             | inl read ↦
@@ -780,7 +780,7 @@ module _ (first size max most : ℕ) (limits : Option Limits) (cs : List Call) (
       by (Some l) e =
           let m = unread-of st r.streams l unread e in
           let a = none-sets st l e m t in
-          let b = none-loose st l e m t in
+          let b = none-unassembled st l e m t in
           let c = ap (λ us. sum_by (set_weight (one t)) us) (none-unordered st l e m) in
           omega (arith, a, b, c)
 

@@ -401,10 +401,10 @@ begun-in first size max most limits cs s run small some all =
     all-steps first 0 cs (at_start first size max most limits) s run all (at-first first size max most limits small some)
 
 -- what was read: complete messages, each of one message, of fragments that got TSNs
-pub whole-messages : (first size max most : ℕ) (limits : Option Limits) (cs : List Call) (s : Session) → RunsTo (at_start first size max most limits) cs s
+pub complete-messages : (first size max most : ℕ) (limits : Option Limits) (cs : List Call) (s : Session) → RunsTo (at_start first size max most limits) cs s
     → (sent : List Entry) → AreSent sent s.made
     → All (λ m. (is_complete m.fragments ≡ true) × (is_one_message m.fragments ≡ true) × EachSent sent m.fragments) s.receiving.read
-whole-messages first size max most limits cs s run sent made = λ k m lt.
+complete-messages first size max most limits cs s run sent made = λ k m lt.
     let it = slice_index_or s.receiving.read k m in
     let messages = sessions.messages first size max most limits cs s run in (
       AllPass-from_list_all (λ x. is_complete x.fragments) s.receiving.read messages.0 k m lt,
@@ -458,7 +458,7 @@ each-once-where first size max most limits cs s run small few all some settled e
     apart' = read_once.none-twice first size max most limits cs s run small few
 
     whole : All (λ m. (is_complete m.fragments ≡ true) × (is_one_message m.fragments ≡ true) × EachSent sent m.fragments) s.receiving.read
-    whole = whole-messages first size max most limits cs s run sent h.made
+    whole = complete-messages first size max most limits cs s run sent h.made
 
     reads : EachRead ns sent once s.receiving.read
     reads = each-read ns sent once s.receiving.read (λ k m lt.

@@ -1,4 +1,4 @@
--- Chunks in the order of their places: one more put in, some taken out, and a message that stands there whole.
+-- Chunks in the order of their places: one more put in, some taken out, and a complete message among them.
 use Rattle.std.proofs.Common.{◌≡◌, ℕ, zero, suc, ◌+◌, ◌-◌, ◌<◌, ◌≤◌, ◌%◌, ◌^◌, Bool, true, false, List, [], ◌∷◌, ◌++◌, length, take, drop, inl, inr, refl, ap, sym, subst, ◌∙◌, arith}
 use Rattle.std.specs.Prelude.{⊤, IsTrue, All, AllPairs, ◌==◌, ◌||◌, if◌then◌else◌, nat_lt, remove, slice_index_or}
 use Rattle.std.specs.List.{list_any}
@@ -188,7 +188,7 @@ module _ (p n : ℕ) (few : n < 2 ^ 31) where
             }
       ]
 
-  -- ## A whole message
+  -- ## A complete message
 
   -- each chunk is the one of its place
   abbrev pub IsOf : (ℕ → Data) → ChunkPayloadData → Type 0

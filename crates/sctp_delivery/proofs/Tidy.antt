@@ -38,7 +38,7 @@ IsWhole s = Every IsUnordered s.chunks
 pub record IsTidy (p n : ℕ) (q : Reassembly) : Type 0 where
   pub sets : Every (IsTidySet p n) q.ordered
   pub whole : Every IsWhole q.unordered
-  pub loose : Ascend p n 0 q.unassembled
+  pub unassembled : Ascend p n 0 q.unassembled
   pub kinds : Every IsUnordered q.unassembled
   pub none : HasNoRun q.unassembled
 
@@ -98,25 +98,25 @@ module _ (p n : ℕ) (few : n < 2 ^ 31) where
     run-set [] e = tt
     run-set (y ∷ ys) e = e
 
-    loose-tidy : (old new : Reassembly) (told : Bool) → x.unordered ≡ true → list_any (has_tsn x.tsn) old.unassembled ≡ false
+    unassembled-tidy : (old new : Reassembly) (told : Bool) → x.unordered ≡ true → list_any (has_tsn x.tsn) old.unassembled ≡ false
         → BecomesComplete (insert_before chunk_before x old.unassembled) old new told → IsTidy p n old → IsTidy p n new
-    loose-tidy old new false u fresh b t = subst (IsTidy p n) (sym b.1) (record {
+    unassembled-tidy old new false u fresh b t = subst (IsTidy p n) (sym b.1) (record {
       sets = t.sets;
       whole = t.whole;
-      loose = ascend-inserted p n few 0 k x old.unassembled at fresh t.loose;
+      unassembled = ascend-inserted p n few 0 k x old.unassembled at fresh t.unassembled;
       kinds = every-inserted IsUnordered chunk_before x old.unassembled u t.kinds;
       none = b.0;
     })
-    loose-tidy old new true u fresh b t =
+    unassembled-tidy old new true u fresh b t =
         let xs = insert_before chunk_before x old.unassembled in
         let i = inserted-place old.unassembled in
-        let up = ascend-inserted p n few 0 k x old.unassembled at fresh t.loose in
+        let up = ascend-inserted p n few 0 k x old.unassembled at fresh t.unassembled in
         let kinds = every-inserted IsUnordered chunk_before x old.unassembled u t.kinds in
         subst (IsTidy p n) (sym b.moved) (record {
           sets = t.sets;
           whole = every-joined IsWhole old.unordered (set_of_run (take b.count (drop b.first xs)) ∷ []) t.whole
               (run-set (take b.count (drop b.first xs)) (every-taken IsUnordered b.count (drop b.first xs) (every-left IsUnordered b.first xs kinds)), tt);
-          loose = ascend-cut p n few 0 b.first b.count xs up;
+          unassembled = ascend-cut p n few 0 b.first b.count xs up;
           kinds = every-joined IsUnordered (take b.first xs) (drop (b.first + b.count) xs) (every-taken IsUnordered b.first xs kinds)
               (every-left IsUnordered (b.first + b.count) xs kinds);
           none = mark_after_take true true xs i.0 b.first b.count i.1 (subst HasNoRun (sym i.2) t.none) (ascend-serial p n few 0 xs up) b.run.run;
@@ -134,11 +134,11 @@ module _ (p n : ℕ) (few : n < 2 ^ 31) where
             subst (IsTidy p n) (sym (held ∙ put-in x old.held t (near u))) (record {
               sets = sets-tidy (record { ordered = u; number = refl; low = low u }) old.held.ordered fresh y.sets;
               whole = y.whole;
-              loose = y.loose;
+              unassembled = y.unassembled;
               kinds = y.kinds;
               none = y.none;
             })
-        by true u e = loose-tidy old.held new.held told u none e.0 y
+        by true u e = unassembled-tidy old.held new.held told u none e.0 y
 
   -- ## A message is read
 
@@ -154,14 +154,14 @@ module _ (p n : ℕ) (few : n < 2 ^ 31) where
           at true = record {
             sets = subst (λ o. Every (IsTidySet p n) (without_first o)) (sym e) (subst (Every (IsTidySet p n)) e t.sets).1;
             whole = t.whole;
-            loose = t.loose;
+            unassembled = t.unassembled;
             kinds = t.kinds;
             none = t.none;
           }
 
       by : (us : List ChunkSet) → q.unordered ≡ us → IsTidy p n (rest_among us q)
       by [] e = front q.ordered refl
-      by (u ∷ us) e = record { sets = t.sets; whole = (subst (Every IsWhole) e t.whole).1; loose = t.loose; kinds = t.kinds; none = t.none }
+      by (u ∷ us) e = record { sets = t.sets; whole = (subst (Every IsWhole) e t.whole).1; unassembled = t.unassembled; kinds = t.kinds; none = t.none }
 
 abbrev pub chunks_of : Option ChunkSet → List ChunkPayloadData
 chunks_of None = []

@@ -109,9 +109,9 @@ module _ (p n : ℕ) (few : n < 2 ^ 31) (c : ChunkPayloadData) (told : Bool) (ol
           let turn : IsInTurn a.stream.queue.held = subst (λ (x : InboundStream). IsInTurn x.queue.held) is t in
           let bare : weight (one c.tsn) a.stream.queue.held ≡ 0 = ap (λ (x : InboundStream). weight (one c.tsn) x.queue.held) (sym is) ∙ none in
           let fresh = sets-fresh c.tsn a.stream.queue.held.ordered (omega (arith, bare)) in
-          let loose = count-none c.tsn a.stream.queue.held.unassembled (omega (arith, bare)) in
+          let unassembled = count-none c.tsn a.stream.queue.held.unassembled (omega (arith, bare)) in
           record {
-            tidy = pushed-tidy p n few c fit.0.0 fit.0.1 told a.stream.queue a.queue a.pushed turn (is-near turn) fit.1 fresh loose
+            tidy = pushed-tidy p n few c fit.0.0 fit.0.1 told a.stream.queue a.queue a.pushed turn (is-near turn) fit.1 fresh unassembled
                 (subst (λ (x : InboundStream). IsTidy p n x.queue.held) is y);
             next = pushed-next c told a.stream.queue a.queue a.pushed ∙ ap (λ (x : InboundStream). x.queue.held.next_ssn) (sym is);
           }
@@ -127,7 +127,7 @@ opened p n st s max ls y = subst (Stays p n (find (has_number st) ls)) (sym (fin
   where
     by : (o : Option InboundStream) (b : Bool) → Tidy p n o → Stays p n o (option_or o (if b then Some (new_stream s max) else None))
     by None true y = record {
-      tidy = record { sets = tt; whole = tt; loose = tt; kinds = tt; none = λ f k r. let a = r.some in let b = r.in_range in omega (arith, a, b) };
+      tidy = record { sets = tt; whole = tt; unassembled = tt; kinds = tt; none = λ f k r. let a = r.some in let b = r.in_range in omega (arith, a, b) };
       next = refl;
     }
     by None false y = record { tidy = y; next = refl }
