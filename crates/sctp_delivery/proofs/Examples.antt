@@ -1,6 +1,7 @@
 -- A worked session, by computation: a message of one byte is written, sent, taken, read and acknowledged.
 use Rattle.std.proofs.Common.{◌≡◌, ℕ, ◌<◌, Bool, true, false, List, [], ◌∷◌, Some, None, refl, ap, arith}
-use Rattle.std.specs.Prelude.{AllPairs, if◌then◌else◌, ◌==◌}
+use Rattle.std.specs.Prelude.{AllPairs, if◌then◌else◌, ◌==◌, ◌≤◌, ◌^◌, length}
+use Rattle.std.specs.List.{filter, list_all}
 use Rattle.sctp_list_lemmas.specs.Lists.{change_where}
 use Rattle.sctp_list_lemmas.specs.Serial.{at_or_before, at_or_before16, comes_before, comes_before16, distance, distance16}
 use Rattle.sctp_list_lemmas.proofs.Cases.{some-same}
@@ -27,6 +28,7 @@ use Rattle.sctp_sender.specs.SenderRuns.{held_by_sender}
 use Rattle.sctp_sender.specs.Thresholds.{with_lows}
 use Rattle.sctp_stream.specs.Stream.{new_stream}
 use Rattle.sctp_receiver.specs.ReceiverRuns.{Message}
+use Rattle.sctp_delivery.specs.Complete.{fragments_held, holds_nothing, is_exhausted, is_reliable, is_settled, reads_nothing}
 use Rattle.sctp_delivery.specs.Order.{ordered_places}
 use Rattle.sctp_delivery.specs.ReceiverCalls as incoming
 use Rattle.sctp_delivery.specs.ReceiverCalls.{reads, reports, takes}
@@ -184,6 +186,37 @@ session = (opened, (opens, (written, (writes-one, (in_flight, (sends-one, (both_
 drained : held_by_sender acknowledged.sending.sender ≡ 0
 unfolding at_or_before at_or_before16 comes_before comes_before16 distance distance16
 drained = refl
+
+-- ## What is read in the end
+
+-- no call abandons, and one write is few
+reliable : list_all is_reliable calls ≡ true
+reliable = refl
+
+few : length (filter (λ w. w.stream == 1) acknowledged.written) ≤ 2 ^ 15
+few = omega arith
+
+-- in the end nothing waits, is in flight, is held or is to be read
+all-read : is_exhausted acknowledged.sending.sender acknowledged.receiving.receiver ≡ true
+unfolding at_or_before at_or_before16 comes_before comes_before16 distance distance16
+all-read = refl
+
+none-held : is_settled acknowledged.sending.sender acknowledged.receiving.receiver ≡ true
+unfolding at_or_before at_or_before16 comes_before comes_before16 distance distance16
+none-held = refl
+
+-- before the message was read it was held, and to be read
+still-held : holds_nothing taken.receiving.receiver ≡ false
+unfolding at_or_before at_or_before16 comes_before comes_before16 distance distance16
+still-held = refl
+
+readable : reads_nothing taken.receiving.receiver ≡ false
+unfolding at_or_before at_or_before16 comes_before comes_before16 distance distance16
+readable = refl
+
+held : fragments_held 1 taken.receiving.receiver ≡ chunk ∷ []
+unfolding at_or_before at_or_before16 comes_before comes_before16 distance distance16
+held = refl
 
 -- ## What the SACK says
 

@@ -12,6 +12,7 @@ use Rattle.sctp_receiver.specs.ReceiverRuns.{fragments_read}
 use Rattle.sctp_sender.specs.Sender.{Transmission}
 use Rattle.sctp_serial.specs.DataChunks.{is_on}
 use Rattle.sctp_delivery.specs.Messages.{StandAt}
+use Rattle.sctp_delivery.specs.Order.{SsnsLast}
 use Rattle.sctp_delivery.specs.ReceiverCalls as incoming
 use Rattle.sctp_delivery.specs.ReceiverCalls.{ReceiverCall}
 use Rattle.sctp_delivery.specs.Sacks.{tsns_given}
@@ -111,10 +112,9 @@ reads_nothing r = list_all (λ l. not (is_some (message_read l.queue.held))) r.s
 abbrev pub is_exhausted : Transmission → Reception → Bool
 is_exhausted t r = is_all_acknowledged t && reads_nothing r
 
--- at most 2^15 writes on each stream, so that no stream sequence number comes round (RFC 1982)
+-- the numbers of each stream last
 abbrev pub AreFewWrites : Session → Type 0
-AreFewWrites s =
-    (stream : ℕ) → length (filter (λ w. w.stream == stream) s.written) ≤ 2 ^ 15
+AreFewWrites s = (stream : ℕ) → SsnsLast stream s.written
 
 -- then each write was read exactly once
 abbrev pub IsAllReadInTheEnd : Session → Type 0
