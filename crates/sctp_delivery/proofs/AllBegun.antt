@@ -218,11 +218,11 @@ module _ (ws : List Numbered) (first : ℕ) (t : Transmission) (sent : List Entr
           | inl f ↦ or-left (was_begun m (entry ∷ sent)) (begins_in m q) (still-begun m entry sent f)
           | inr f ↦ elim (next-or-stays m c p.selected p.ordered_room p.unordered_room ready.next_message_id ready.inflight.chunks p.ordered p.unordered
               stands.sendable e f) [
-            | inl g ↦ let b = both (c.message_id == m) c.beginning_fragment g in
-                or-left (was_begun m (entry ∷ sent)) (begins_in m q) (or-left (c.beginning_fragment && (x.write.place == m)) (was_begun m sent)
-                (and c.beginning_fragment (x.write.place == m) b.1 (ap (λ k. k == m) (x.place b.1) ∙ b.0)))
-            | inr g ↦ or-right (was_begun m (entry ∷ sent)) (begins_in m q) g
-          ]
+                | inl g ↦ let b = both (c.message_id == m) c.beginning_fragment g in
+                    or-left (was_begun m (entry ∷ sent)) (begins_in m q) (or-left (c.beginning_fragment && (x.write.place == m)) (was_begun m sent)
+                    (and c.beginning_fragment (x.write.place == m) b.1 (ap (λ k. k == m) (x.place b.1) ∙ b.0)))
+                | inr g ↦ or-right (was_begun m (entry ∷ sent)) (begins_in m q) g
+              ]
         ];
         chained =
             sent-chained ws (with_flight (record t.flight { queue = ready }) t)
