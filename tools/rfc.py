@@ -180,10 +180,17 @@ def within(section, own):
     return not section or own == section or own.startswith(section + ".")
 
 
+def is_named(path, name):
+    """Tells whether the page names what cites a section: a call or type of a library, no constant, error, binding for C, program or test."""
+    crate = path.split("/")[1]
+    is_library = not crate.endswith("_tests") and not os.path.exists(f"crates/{crate}/src/main.rt") and crate not in ("sctp_c", "uses", "benchlib")
+    return bool(name) and "/src/" in path and is_library and not name.isupper() and name != "Error"
+
+
 def cell(places):
-    """Returns a row's names: what cites the section, each once, files by their path."""
-    named = sorted({f"`{name}`" for path, _, name in places if name and "/src/" in path})
-    return ", ".join(named) or ", ".join(sorted({f"`{os.path.basename(path)}`" for path, _, _ in places}))
+    """Returns a row's names: what cites the section, each once; where only specs do, their files; "" where all else does."""
+    named = sorted({f"`{name}`" for path, _, name in places if is_named(path, name)})
+    return ", ".join(named) or ", ".join(sorted({f"`{os.path.basename(path)}`" for path, _, _ in places if "/specs/" in path}))
 
 
 def rules():
@@ -201,25 +208,31 @@ def rules():
         print(f"| {rule} | {section} | {words} | {named} | {tested} |")
 
 
+def rows_of(citations):
+    """Returns the rows of the page: an RFC, a section with its title, and the names; an RFC without titles is one row with all its sections."""
+    rows = [(rfc, f"{section} {titles.get(section, '')}".strip(), cell(citations[(rfc, section)]))
+            for rfc, titles in TITLES.items() for section in sorted({it[1] for it in citations if it[0] == rfc and it[1]}, key=order)]
+    for rfc in sorted({it[0] for it in citations} - set(TITLES), key=int):
+        named = {it: places for it, places in citations.items() if it[0] == rfc and it[1] and cell(places)}
+        rows.append((rfc, ", ".join(sorted((it[1] for it in named), key=order)), cell(set().union(*named.values()))))
+    return [it for it in rows if it[2]]
+
+
 def page(citations):
     print("# Which rule of an RFC stands where\n")
-    print("Made by `python3 tools/rfc.py --page` out of the comments. A name is a call, a type or a definition whose comment cites the section;")
-    print("`python3 tools/rfc.py RFC SECTION` prints where each stands, its clauses and its tests. RFC 9260 replaced RFC 4960; section numbers here are")
-    print("those of RFC 4960. First come rules by their words: `python3 tools/trace.py NAME` prints the contract, the definitions and the tests of a")
-    print("call, or where a definition stands. Last come the sections of data transfer that nothing cites, and why.")
+    print("Made by `python3 tools/rfc.py --page` out of the comments. A name is a call or a type whose comment cites the section, or a file of definitions;")
+    print("`python3 tools/rfc.py RFC SECTION` prints where each stands, its clauses and its tests, and constants, errors, calls for C, programs and")
+    print("tests too, which are left out here, as are sections that only these cite. `python3 tools/trace.py NAME` prints the contract, the definitions")
+    print("and the tests of a call. RFC 9260 replaced RFC 4960; section numbers are those of RFC 4960.")
     rules()
-    for rfc in sorted({key[0] for key in citations}, key=lambda it: (it not in TITLES, list(TITLES).index(it) if it in TITLES else int(it))):
-        rows = sorted((key[1] for key in citations if key[0] == rfc and key[1]), key=order)
-        if not rows:
-            continue
-        print(f"\n## RFC {rfc}\n\n| section | about | where |\n|---|---|---|")
-        for section in rows:
-            print(f"| {section} | {TITLES.get(rfc, {}).get(section, '')} | {cell(citations[(rfc, section)])} |")
-    print("\n## Not cited\n\n| RFC | section | about | why |\n|---|---|---|---|")
+    print("\n## By section\n\n| RFC | section | where |\n|---|---|---|")
+    for rfc, sections, names in rows_of(citations):
+        print(f"| {rfc} | {sections} | {names} |")
+    print("\n## Not cited\n\n| RFC | section | why |\n|---|---|---|")
     for rfc, titles in TITLES.items():
         for section in sorted(titles, key=order):
             if (rfc, section) not in citations:
-                print(f"| {rfc} | {section} | {titles[section]} | {REASONS.get((rfc, section), '')} |")
+                print(f"| {rfc} | {section} {titles[section]} | {REASONS.get((rfc, section), '')} |")
 
 
 def main():
