@@ -88,10 +88,7 @@ fn second_took_its_place(link: &mut Link<Zero>) -> bool {
 /// A message that expired leaves the ledger and the buffered amount.
 #[test]
 fn expired_bytes_are_released(rt: HostRuntime) {
-    let alloc = rt.alloc();
-    let mut link = Link::new(alloc, 10, 3, 100, Zero);
-    let well = timed_and_reliable(alloc, &mut link) && first_expires(&mut link);
-    assert!(rt; well && second_took_its_place(&mut link));
+    assert!(rt; goes_well(rt.alloc(), 10, Case::ExpiredBytesAreReleased));
 }
 
 /// Whether this is the earliest TSN that is neither acknowledged nor abandoned.
@@ -110,10 +107,7 @@ fn both_are_abandoned(link: &mut Link<Zero>) -> bool {
 /// An abandoned message leaves the ledger, its acknowledged bytes once, and nothing of it is outstanding.
 #[test]
 fn abandoned_bytes_are_released(rt: HostRuntime) {
-    let alloc = rt.alloc();
-    let mut link = Link::new(alloc, 10, 3, 100, Zero);
-    let well = sent(alloc, &mut link, &[b"abcdef"], 2) && second_is_acknowledged(&mut link);
-    assert!(rt; well && both_are_abandoned(&mut link));
+    assert!(rt; goes_well(rt.alloc(), 10, Case::AbandonedBytesAreReleased));
 }
 
 fn timed_is_partially_sent(alloc: Global, link: &mut Link<Zero>) -> bool {
@@ -134,9 +128,7 @@ fn tail_goes(link: &mut Link<Zero>) -> bool {
 /// Of a partially sent message whose lifetime is over only what is neither acknowledged nor released yet is released.
 #[test]
 fn the_tail_is_released(rt: HostRuntime) {
-    let alloc = rt.alloc();
-    let mut link = Link::new(alloc, 10, 3, 100, Zero);
-    assert!(rt; timed_is_partially_sent(alloc, &mut link) && tail_goes(&mut link));
+    assert!(rt; goes_well(rt.alloc(), 10, Case::TheTailIsReleased));
 }
 
 /// Sends three messages of a fragment each.
@@ -154,9 +146,7 @@ fn writes_skips(alloc: Global, link: &mut Link<Zero>) -> bool {
 /// A FORWARD-TSN (RFC 3758 3.2) has its cumulative TSN, and a stream and its sequence number for each name.
 #[test]
 fn skips_are_written(rt: HostRuntime) {
-    let alloc = rt.alloc();
-    let mut link = Link::new(alloc, 10, 3, 100, Zero);
-    assert!(rt; three_messages(alloc, &mut link) && writes_skips(alloc, &mut link));
+    assert!(rt; goes_well(rt.alloc(), 10, Case::SkipsAreWritten));
 }
 
 fn first_is_abandoned(alloc: Global, link: &mut Link<Zero>) -> bool {
@@ -174,10 +164,7 @@ fn skip_moves(link: &mut Link<Zero>) -> bool {
 /// A skip that counts moves the cumulative TSN past it, and on over what had come.
 #[test]
 fn skips_move_the_cumulative_tsn(rt: HostRuntime) {
-    let alloc = rt.alloc();
-    let mut link = Link::new(alloc, 10, 3, 100, Zero);
-    let well = three_messages(alloc, &mut link) && first_is_abandoned(alloc, &mut link);
-    assert!(rt; well && skip_moves(&mut link));
+    assert!(rt; goes_well(rt.alloc(), 10, Case::SkipsMoveTheCumulativeTsn));
 }
 
 fn partially_sent_is_abandoned(alloc: Global, link: &mut Link<Zero>) -> bool {
@@ -208,11 +195,7 @@ fn rest_is_released(link: &mut Link<Zero>) -> bool {
 /// A receiver goes on behind the terminal chunk of an abandoned message, and its SACK releases the rest.
 #[test]
 fn a_skip_is_acknowledged(rt: HostRuntime) {
-    let alloc = rt.alloc();
-    let mut link = Link::new(alloc, 10, 3, 100, Zero);
-    let well = partially_sent_is_abandoned(alloc, &mut link)
-        && terminal_chunk_is_skipped(alloc, &mut link);
-    assert!(rt; well && rest_is_released(&mut link));
+    assert!(rt; goes_well(rt.alloc(), 10, Case::ASkipIsAcknowledged));
 }
 
 /// Each arrival of a FORWARD-TSN reads its bytes, so it asks the checksum.
@@ -223,4 +206,41 @@ fn skips_read_the_bytes(rt: HostRuntime) {
     let mut link = Link::new(alloc, 10, 3, 100, Counted { calls: &calls });
     let well = sent(alloc, &mut link, &[b"abc"], 1) && skips(alloc, &mut link, 10, &[0], 1);
     assert!(rt; well && arrivals_ask(&mut link, &calls, 1, 2));
+}
+
+// Tests of a link, each by its name.
+#[derive(Clone, Copy)]
+enum Case {
+    ExpiredBytesAreReleased,
+    AbandonedBytesAreReleased,
+    TheTailIsReleased,
+    SkipsAreWritten,
+    SkipsMoveTheCumulativeTsn,
+    ASkipIsAcknowledged,
+}
+
+// Whether a test goes well with a link.
+fn holds(alloc: Global, case: Case, link: &mut Link<Zero>) -> bool {
+    match case {
+        Case::ExpiredBytesAreReleased => timed_and_reliable(alloc, link)
+            && first_expires(link)
+            && second_took_its_place(link),
+        Case::AbandonedBytesAreReleased => sent(alloc, link, &[b"abcdef"], 2)
+            && second_is_acknowledged(link)
+            && both_are_abandoned(link),
+        Case::TheTailIsReleased => timed_is_partially_sent(alloc, link) && tail_goes(link),
+        Case::SkipsAreWritten => three_messages(alloc, link) && writes_skips(alloc, link),
+        Case::SkipsMoveTheCumulativeTsn => three_messages(alloc, link)
+            && first_is_abandoned(alloc, link)
+            && skip_moves(link),
+        Case::ASkipIsAcknowledged => partially_sent_is_abandoned(alloc, link)
+            && terminal_chunk_is_skipped(alloc, link)
+            && rest_is_released(link),
+    }
+}
+
+// Whether it goes well with one that is new, with this first TSN; fragments have three bytes at most and messages a hundred.
+fn goes_well(alloc: Global, first_tsn: u32, case: Case) -> bool {
+    let mut link = Link::new(alloc, first_tsn, 3, 100, Zero);
+    holds(alloc, case, &mut link)
 }

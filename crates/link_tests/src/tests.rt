@@ -196,9 +196,7 @@ fn three_fragments(link: &mut Link<Zero>) -> bool {
 
 #[test]
 fn fragments_of_a_datagram_each(rt: HostRuntime) {
-    let alloc = rt.alloc();
-    let mut link = Link::new(alloc, 4294967294, 3, 100, Zero);
-    assert!(rt; sent(alloc, &mut link, &[b"abcdefg"], 3) && three_fragments(&mut link));
+    assert!(rt; goes_well(rt.alloc(), 4294967294, Case::FragmentsOfADatagramEach));
 }
 
 fn last_and_first(link: &mut Link<Zero>) -> bool {
@@ -223,10 +221,7 @@ fn then_the_middle(link: &mut Link<Zero>) -> bool {
 
 #[test]
 fn fragments_in_any_order(rt: HostRuntime) {
-    let alloc = rt.alloc();
-    let mut link = Link::new(alloc, 4294967294, 3, 100, Zero);
-    let well = sent(alloc, &mut link, &[b"abcdefg"], 3) && last_and_first(&mut link);
-    assert!(rt; well && then_the_middle(&mut link));
+    assert!(rt; goes_well(rt.alloc(), 4294967294, Case::FragmentsInAnyOrder));
 }
 
 fn first_comes_twice(link: &mut Link<Zero>) -> bool {
@@ -241,9 +236,7 @@ fn first_comes_twice(link: &mut Link<Zero>) -> bool {
 
 #[test]
 fn duplicates_are_reported(rt: HostRuntime) {
-    let alloc = rt.alloc();
-    let mut link = Link::new(alloc, 4294967294, 3, 100, Zero);
-    assert!(rt; sent(alloc, &mut link, &[b"abcdefg"], 3) && first_comes_twice(&mut link));
+    assert!(rt; goes_well(rt.alloc(), 4294967294, Case::DuplicatesAreReported));
 }
 
 /// Whether a write of these bytes to stream 1 is refused, for this reason.
@@ -316,9 +309,7 @@ fn unordered_goes_first(link: &mut Link<Zero>) -> bool {
 
 #[test]
 fn unordered_messages_go_first(rt: HostRuntime) {
-    let alloc = rt.alloc();
-    let mut link = Link::new(alloc, 10, 3, 100, Zero);
-    assert!(rt; ordered_and_unordered(alloc, &mut link) && unordered_goes_first(&mut link));
+    assert!(rt; goes_well(rt.alloc(), 10, Case::UnorderedMessagesGoFirst));
 }
 
 /// How many bytes this stream holds of what came, or None if it isn't open.
@@ -356,10 +347,7 @@ fn all_but_the_middle(alloc: Global, link: &mut Link<Zero>) -> bool {
 
 #[test]
 fn lent_queues_and_ledger(rt: HostRuntime) {
-    let alloc = rt.alloc();
-    let mut link = Link::new(alloc, 10, 3, 100, Zero);
-    let well = all_but_the_middle(alloc, &mut link) && lends(&link);
-    assert!(rt; well && holds_none_once_read(&mut link));
+    assert!(rt; goes_well(rt.alloc(), 10, Case::LentQueuesAndLedger));
 }
 
 /// Whether stream 1 takes this message of this kind.
@@ -407,9 +395,7 @@ fn counts_what_is_read(link: &mut Link<Zero>) -> bool {
 /// Text and binary count with their bytes, the two empty kinds with none, the others not at all.
 #[test]
 fn counters(rt: HostRuntime) {
-    let alloc = rt.alloc();
-    let mut link = Link::new(alloc, 10, 3, 100, Zero);
-    assert!(rt; takes_four_kinds(alloc, &mut link) && counts_what_is_read(&mut link));
+    assert!(rt; goes_well(rt.alloc(), 10, Case::Counters));
 }
 
 fn released_once(link: &mut Link<Zero>) -> bool {
@@ -423,9 +409,7 @@ fn released_once(link: &mut Link<Zero>) -> bool {
 /// What a SACK reports leaves the ledger once.
 #[test]
 fn acknowledged_bytes_are_released(rt: HostRuntime) {
-    let alloc = rt.alloc();
-    let mut link = Link::new(alloc, 10, 3, 100, Zero);
-    assert!(rt; all_but_the_middle(alloc, &mut link) && released_once(&mut link));
+    assert!(rt; goes_well(rt.alloc(), 10, Case::AcknowledgedBytesAreReleased));
 }
 
 /// Whether the link does what it is asked and asks the checksum for it.
@@ -503,9 +487,7 @@ fn counted_once(link: &mut Link<Zero>) -> bool {
 /// A fragment that was sent again counts once: in the ledger, in the buffered amount and in the counters.
 #[test]
 fn resent_bytes_count_once(rt: HostRuntime) {
-    let alloc = rt.alloc();
-    let mut link = Link::new(alloc, 10, 3, 100, Zero);
-    assert!(rt; second_is_sent_again(alloc, &mut link) && counted_once(&mut link));
+    assert!(rt; goes_well(rt.alloc(), 10, Case::ResentBytesCountOnce));
 }
 
 /// Whether the chunk in flight with this TSN was sent so often, the first time at this moment in nanoseconds.
@@ -531,9 +513,7 @@ fn first_is_counted_again(link: &mut Link<Zero>) -> bool {
 /// A Send notes its moment and counts one; a Resend counts one more, of its chunk alone, and leaves the moment.
 #[test]
 fn sends_are_counted(rt: HostRuntime) {
-    let alloc = rt.alloc();
-    let mut link = Link::new(alloc, 10, 3, 100, Zero);
-    assert!(rt; sends_at_moments(alloc, &mut link) && first_is_counted_again(&mut link));
+    assert!(rt; goes_well(rt.alloc(), 10, Case::SendsAreCounted));
 }
 
 fn write_on(alloc: Global, stream: u16, bytes: &[u8]) -> Result<Event, AllocError> {
@@ -576,9 +556,7 @@ fn each_reads_its_number(link: &mut Link<Zero>) -> bool {
 /// Each stream is found by its number, in whichever order they were opened.
 #[test]
 fn streams_by_their_numbers(rt: HostRuntime) {
-    let alloc = rt.alloc();
-    let mut link = Link::new(alloc, 10, 3, 100, Zero);
-    assert!(rt; four_streams(alloc, &mut link) && each_reads_its_number(&mut link));
+    assert!(rt; goes_well(rt.alloc(), 10, Case::StreamsByTheirNumbers));
 }
 
 fn two_streams_buffer_none(link: &mut Link<Zero>) -> bool {
@@ -595,7 +573,53 @@ fn two_streams_buffer_none(link: &mut Link<Zero>) -> bool {
 /// What is acknowledged leaves the amount of its own stream.
 #[test]
 fn streams_are_acknowledged_apart(rt: HostRuntime) {
-    let alloc = rt.alloc();
-    let mut link = Link::new(alloc, 10, 3, 100, Zero);
-    assert!(rt; four_streams(alloc, &mut link) && two_streams_buffer_none(&mut link));
+    assert!(rt; goes_well(rt.alloc(), 10, Case::StreamsAreAcknowledgedApart));
+}
+
+// Tests of a link, each by its name.
+#[derive(Clone, Copy)]
+enum Case {
+    FragmentsOfADatagramEach,
+    FragmentsInAnyOrder,
+    DuplicatesAreReported,
+    UnorderedMessagesGoFirst,
+    LentQueuesAndLedger,
+    Counters,
+    AcknowledgedBytesAreReleased,
+    ResentBytesCountOnce,
+    SendsAreCounted,
+    StreamsByTheirNumbers,
+    StreamsAreAcknowledgedApart,
+}
+
+// Whether a test goes well with a link.
+fn holds(alloc: Global, case: Case, link: &mut Link<Zero>) -> bool {
+    match case {
+        Case::FragmentsOfADatagramEach => sent(alloc, link, &[b"abcdefg"], 3)
+            && three_fragments(link),
+        Case::FragmentsInAnyOrder => sent(alloc, link, &[b"abcdefg"], 3)
+            && last_and_first(link)
+            && then_the_middle(link),
+        Case::DuplicatesAreReported => sent(alloc, link, &[b"abcdefg"], 3)
+            && first_comes_twice(link),
+        Case::UnorderedMessagesGoFirst => ordered_and_unordered(alloc, link)
+            && unordered_goes_first(link),
+        Case::LentQueuesAndLedger => all_but_the_middle(alloc, link)
+            && lends(link)
+            && holds_none_once_read(link),
+        Case::Counters => takes_four_kinds(alloc, link) && counts_what_is_read(link),
+        Case::AcknowledgedBytesAreReleased => all_but_the_middle(alloc, link)
+            && released_once(link),
+        Case::ResentBytesCountOnce => second_is_sent_again(alloc, link) && counted_once(link),
+        Case::SendsAreCounted => sends_at_moments(alloc, link) && first_is_counted_again(link),
+        Case::StreamsByTheirNumbers => four_streams(alloc, link) && each_reads_its_number(link),
+        Case::StreamsAreAcknowledgedApart => four_streams(alloc, link)
+            && two_streams_buffer_none(link),
+    }
+}
+
+// Whether it goes well with one that is new, with this first TSN; fragments have three bytes at most and messages a hundred.
+fn goes_well(alloc: Global, first_tsn: u32, case: Case) -> bool {
+    let mut link = Link::new(alloc, first_tsn, 3, 100, Zero);
+    holds(alloc, case, &mut link)
 }
