@@ -20,7 +20,7 @@ use Rattle.sctp_sender.specs.Resending.{can_miss, count_again, missed, sent_agai
 use Rattle.sctp_sender.specs.Sender.{Transmission, after_expire, written_to}
 use Rattle.sctp_sender.specs.SenderRuns.{Makes}
 use Rattle.sctp_sender.proofs.InLine.{found-half, tail-half}
-use Rattle.sctp_delivery.specs.SenderCalls.{Expires, ExpiresTail, IsAccepted, Made, MakesExactly, SenderCall, abandons, as_run, expires, expires_late, expires_rexmit, expires_tail, forward_tsn, forwards, forwards_within, made_after, marks, misses, opens, resends, reserves, sends, sets_low, sets_mode, sets_size, starts, takes_sack, writes, written_after, Write}
+use Rattle.sctp_delivery.specs.SenderCalls.{Expires, ExpiresTail, IsAccepted, Made, MakesExactly, SenderCall, abandons, as_run, expires, expires_late, expires_rexmit, expires_tail, forward_tsn, forwards, forwards_within, made_after, marks, misses, next_chunk, opens, resends, reserves, sends, sets_low, sets_mode, sets_size, starts, takes_sack, writes, written_after, Write}
 use Rattle.sctp_delivery.proofs.InFlight.{known-found}
 use Rattle.sctp_delivery.proofs.OrderedNames.{names-known}
 use Rattle.sctp_delivery.proofs.Numbers.{all-open, number_of, numbers-sized, opened, sized-all, steady-changed, steady-same, there-sized}
@@ -52,90 +52,97 @@ numbered_after (sets_low stream bytes) ns = ns
 numbered_after (reserves more) ns = ns
 numbered_after (takes_sack sack gone) ns = ns
 
+-- the chunk that a call gives the next TSN, if it sends one
+abbrev pub sent_by : SenderCall → Transmission → Option ChunkPayloadData
+sent_by (sends now) t = next_chunk now t
+sent_by call t = None
+
 module _ (ws : List Numbered) (first : ℕ) (t : Transmission) (sent : List Entry) (ms : List Made) (h : IsHeld ws first t sent) where
   -- a call that changes nothing
-  same : (u : Transmission) → u ≡ t → Result ws ws first sent u ms ms
-  same u e = subst (λ x. Result ws ws first sent x ms ms) (sym e) (calm ws ws first sent t ms h)
+  same : (u : Transmission) → u ≡ t → Result None ws ws first sent u ms ms
+  same u e = subst (λ x. Result None ws ws first sent x ms ms) (sym e) (calm ws ws first sent t ms h)
 
-  expires-call : (now : ℕ) (m : Option ExpiredMessage) (u : Transmission) → Expires now m t u → Result ws ws first sent u ms ms
+  expires-call : (now : ℕ) (m : Option ExpiredMessage) (u : Transmission) → Expires now m t u → Result None ws ws first sent u ms ms
   expires-call now None u x = same u (x.1.1 refl)
   expires-call now (Some e) u x = by (expiring now t.flight.queue) refl x.0 x.1.0
     where
-      by : (o : Option ChunkPayloadData) → expiring now t.flight.queue ≡ o → true ≡ is_some o → IfSome o (λ c. u ≡ after_expire c e.bytes now t) → Result ws ws first sent u ms ms
+      by : (o : Option ChunkPayloadData) → expiring now t.flight.queue ≡ o → true ≡ is_some o → IfSome o (λ c. u ≡ after_expire c e.bytes now t) → Result None ws ws first sent u ms ms
       by None i f g = absurd (not_both (sym f))
-      by (Some c) i f g = subst (λ y. Result ws ws first sent y ms ms) (sym g) (expires-one ws first t sent ms h now c e.bytes i)
+      by (Some c) i f g = subst (λ y. Result None ws ws first sent y ms ms) (sym g) (expires-one ws first t sent ms h now c e.bytes i)
 
-  expires-tail-call : (now : ℕ) (m : Option AbandonedMessage) (u : Transmission) → ExpiresTail now m t u → Result ws ws first sent u ms ms
+  expires-tail-call : (now : ℕ) (m : Option AbandonedMessage) (u : Transmission) → ExpiresTail now m t u → Result None ws ws first sent u ms ms
   expires-tail-call now None u x = same u (x.1 refl)
   expires-tail-call now (Some a) u x =
-      subst (λ y. Result ws ws first sent y ms ms) (sym x.0)
+      subst (λ y. Result None ws ws first sent y ms ms) (sym x.0)
       (abandons-message ws first t sent ms h (message_of (expiring_tail now t.flight.queue)) (λ m e _. tail-half t.flight.queue h.stands.sendable now (next_pending t.flight.queue.pending) refl m e) a.stream a.bytes)
 
   again-keeps : (n now : ℕ) → KeepsMessage (sent_again n now)
   again-keeps n now = record { number = λ _. refl; begins = λ _. refl; ends = λ _. refl; kind = λ _. refl }
 
-  resends-call : (tsn now : ℕ) (c : ChunkPayloadData) (u : Transmission) → Makes (as_run (resends tsn now c)) t u → IsAccepted (resends tsn now c) t → Result ws ws first sent u ms (made_after (resends tsn now c) t ms)
+  resends-call : (tsn now : ℕ) (c : ChunkPayloadData) (u : Transmission) → Makes (as_run (resends tsn now c)) t u → IsAccepted (resends tsn now c) t → Result None ws ws first sent u ms (made_after (resends tsn now c) t ms)
   resends-call tsn now c u m a =
-      subst (λ y. Result ws ws first sent y ms (made_after (resends tsn now c) t ms)) (sym m)
+      subst (λ y. Result None ws ws first sent y ms (made_after (resends tsn now c) t ms)) (sym m)
       (record {
         more = sent;
         held = changed ws first t sent (has_tsn tsn) (sent_again (count_again c) now) (again-keeps (count_again c) now)
-            (λ d. (λ o. (o, refl), record { kind = refl; stream = refl; number = refl })) h;
+            (λ d. (λ o. (o, refl), record { kind = refl; stream = refl; number = refl; tsn = refl })) h;
         once = inl refl;
+        grown = inl refl;
         made = λ s. (
-          (known-found sent (has_tsn tsn) t.flight.queue.inflight.chunks c a.1 h.stands.known).0
+          (known-found first sent (has_tsn tsn) t.flight.queue.inflight.chunks c a.1 h.stands.known).0
               (subst (λ o. is_outstanding_in o ≡ true) a.1 a.0),
           s,
         );
       })
 
   forwards-call : (f : ForwardTsn) (u : Transmission) → u ≡ t → Name f.streams (named_up_to f.new_cumulative_tsn t.flight)
-      → Result ws ws first sent u ms (forward_tsn f ∷ ms)
-  forwards-call f u x n = subst (λ y. Result ws ws first sent y ms (forward_tsn f ∷ ms)) (sym x) (record {
+      → Result None ws ws first sent u ms (forward_tsn f ∷ ms)
+  forwards-call f u x n = subst (λ y. Result None ws ws first sent y ms (forward_tsn f ∷ ms)) (sym x) (record {
     more = sent;
     held = h;
     once = inl refl;
-    made = λ s. (names-known sent f.streams f.new_cumulative_tsn t.flight h.stands.known n, s);
+    grown = inl refl;
+    made = λ s. (names-known first sent f.streams f.new_cumulative_tsn t.flight h.stands.known n, s);
   })
 
-  pub stepped : (call : SenderCall) (u : Transmission) → Makes (as_run call) t u → MakesExactly call t u → IsAccepted call t → Result ws (numbered_after call ws) first sent u ms (made_after call t ms)
+  pub stepped : (call : SenderCall) (u : Transmission) → Makes (as_run call) t u → MakesExactly call t u → IsAccepted call t → Result (sent_by call t) ws (numbered_after call ws) first sent u ms (made_after call t ms)
   stepped (opens stream) u m x a =
-      subst (λ y. Result ws ws first sent y ms ms) (sym m)
+      subst (λ y. Result None ws ws first sent y ms ms) (sym m)
       (calm ws ws first sent _ ms (steady ws first t sent h _ (opened stream t.fragment_size t.max_message_size Unknown h.size t.streams) t.flight sent h.stands))
   stepped (sets_mode stream unordered reliability value) u m x a =
-      subst (λ y. Result ws ws first sent y ms ms) (sym m)
+      subst (λ y. Result None ws ws first sent y ms ms) (sym m)
       (calm ws ws first sent _ ms (steady ws first t sent h _ (steady-changed (has_number stream) (with_mode unordered reliability value) (λ l. refl) (λ l. refl) (λ l. refl) t.streams) t.flight sent h.stands))
   stepped (writes stream ppi []) u m x a = same u (x.0 refl)
   stepped (writes stream ppi (b ∷ bs)) u m x a =
       let l = accepted-stream stream (length (b ∷ bs)) t a in
-      subst (λ y. Result ws (numbered_after (writes stream ppi (b ∷ bs)) ws) first sent y ms ms) (sym (x.1 (omega arith) l.0 l.1))
-      (subst (λ k. let w : Numbered = record { stream = stream; payload_type = ppi; bytes = b ∷ bs; place = k } in Result ws (w ∷ ws) first sent (written_to l.0 stream ppi (b ∷ bs) t) ms ms) h.stands.ids (writes-some ws first t sent ms h stream ppi b bs l.0 l.1))
+      subst (λ y. Result None ws (numbered_after (writes stream ppi (b ∷ bs)) ws) first sent y ms ms) (sym (x.1 (omega arith) l.0 l.1))
+      (subst (λ k. let w : Numbered = record { stream = stream; payload_type = ppi; bytes = b ∷ bs; place = k } in Result None ws (w ∷ ws) first sent (written_to l.0 stream ppi (b ∷ bs) t) ms ms) h.stands.ids (writes-some ws first t sent ms h stream ppi b bs l.0 l.1))
   stepped (starts now) u m x a =
-      subst (λ y. Result ws ws first sent y ms ms) (sym m)
+      subst (λ y. Result None ws ws first sent y ms ms) (sym m)
       (calm ws ws first sent _ ms (steady ws first t sent h t.streams (steady-same t.streams) (with_queue t.flight (all_started now t.flight.queue)) sent (started ws first (λ s. number_of s t.streams) now t.flight.queue t.flight.next_tsn sent h.stands)))
-  stepped (sends now) u m x a = subst (λ y. Result ws ws first sent y ms (made_after (sends now) t ms)) (sym x) (sends-next ws first t sent ms now h)
+  stepped (sends now) u m x a = subst (λ y. Result (next_chunk now t) ws ws first sent y ms (made_after (sends now) t ms)) (sym x) (sends-next ws first t sent ms now h)
   stepped (resends tsn now c) u m x a = resends-call tsn now c u m a
   stepped (abandons tsn a') u m x a =
-      subst (λ y. Result ws ws first sent y ms ms) (sym x)
+      subst (λ y. Result None ws ws first sent y ms ms) (sym x)
       (abandons-message ws first t sent ms h (message_to_abandon tsn t.flight) (found-half t.flight.queue h.stands.sendable tsn (find (has_tsn tsn) t.flight.queue.inflight.chunks) refl) a'.stream a'.bytes)
   stepped (expires now m') u m x a = expires-call now m' u x
   stepped (expires_tail now m') u m x a = expires-tail-call now m' u x
-  stepped (expires_late now gone) u m x a = subst (λ y. Result ws ws first sent y ms ms) (sym x) (abandons-all ws first t sent ms h (late_order now t.flight))
-  stepped (expires_rexmit gone) u m x a = subst (λ y. Result ws ws first sent y ms ms) (sym x) (abandons-all ws first t sent ms h (worn_order t.flight))
+  stepped (expires_late now gone) u m x a = subst (λ y. Result None ws ws first sent y ms ms) (sym x) (abandons-all ws first t sent ms h (late_order now t.flight))
+  stepped (expires_rexmit gone) u m x a = subst (λ y. Result None ws ws first sent y ms ms) (sym x) (abandons-all ws first t sent ms h (worn_order t.flight))
   stepped (forwards tsn f) u m x a = forwards-call f u x a.1
   stepped (forwards_within bytes f) u m x a = forwards-call f u x a.2
   stepped marks u m x a =
-      subst (λ y. Result ws ws first sent y ms ms) (sym m)
+      subst (λ y. Result None ws ws first sent y ms ms) (sym m)
       (calm ws ws first sent _ ms (changed ws first t sent is_outstanding (with_retransmit true)
       (record { number = λ _. refl; begins = λ _. refl; ends = λ _. refl; kind = λ _. refl })
-      (λ d. (λ o. (o, refl), record { kind = refl; stream = refl; number = refl })) h))
+      (λ d. (λ o. (o, refl), record { kind = refl; stream = refl; number = refl; tsn = refl })) h))
   stepped (misses count) u m x a =
-      subst (λ y. Result ws ws first sent y ms ms) (sym m)
+      subst (λ y. Result None ws ws first sent y ms ms) (sym m)
       (calm ws ws first sent _ ms (first-changed ws first t sent can_miss missed count
       (record { number = λ _. refl; begins = λ _. refl; ends = λ _. refl; kind = λ _. refl })
-      (λ d. (λ o. (o, refl), record { kind = refl; stream = refl; number = refl })) h))
+      (λ d. (λ o. (o, refl), record { kind = refl; stream = refl; number = refl; tsn = refl })) h))
   stepped (sets_size size) u m x a =
-      subst (λ y. Result ws ws first sent y ms ms) (sym m)
+      subst (λ y. Result None ws ws first sent y ms ms) (sym m)
       (calm ws ws first sent _ ms (record {
         stands = renumbered ws first (λ s. number_of s t.streams) _ t.flight.queue t.flight.next_tsn sent (λ s. numbers-sized size s t.streams) h.stands;
         open' = all-open t.streams _ (λ s o. there-sized size s t.streams ∙ o) ws h.open';
@@ -143,12 +150,12 @@ module _ (ws : List Numbered) (first : ℕ) (t : Transmission) (sent : List Entr
         size = a.0;
       }))
   stepped (sets_low stream bytes) u m x a =
-      subst (λ y. Result ws ws first sent y ms ms) (sym m)
+      subst (λ y. Result None ws ws first sent y ms ms) (sym m)
       (calm ws ws first sent _ ms (steady ws first t sent h _ (steady-changed (has_number stream) (with_low bytes) (λ l. refl) (λ l. refl) (λ l. refl) t.streams) t.flight sent h.stands))
   stepped (reserves count) u m x a =
-      subst (λ y. Result ws ws first sent y ms ms) (sym m)
+      subst (λ y. Result None ws ws first sent y ms ms) (sym m)
       (calm ws ws first sent _ ms (steady ws first t sent h t.streams (steady-same t.streams) (with_queue t.flight (with_room count t.flight.queue)) sent (record { queued = h.stands.queued; sendable = h.stands.sendable; known = h.stands.known; counted = h.stands.counted; begun' = h.stands.begun'; ids = h.stands.ids })))
-  stepped (takes_sack sack gone) u m x a = subst (λ y. Result ws ws first sent y ms ms) (sym x) (calm ws ws first sent _ ms (acked ws first t sent sack h))
+  stepped (takes_sack sack gone) u m x a = subst (λ y. Result None ws ws first sent y ms ms) (sym x) (calm ws ws first sent _ ms (acked ws first t sent sack h))
 
 -- ## Writes without their places
 

@@ -17,11 +17,11 @@ use Rattle.sctp_delivery.specs.Sacks.{tsns_given}
 use Rattle.sctp_delivery.specs.SenderCalls.{written_after, Made, SenderCall, Write, data_chunk, forward_tsn}
 use Rattle.sctp_delivery.specs.Session.{Call, ReceiverFollows, RunsTo, SenderFollows, Session, at_start, of_receiver, of_sender}
 use Rattle.sctp_delivery.proofs.Begun.{AreOnce}
-use Rattle.sctp_delivery.proofs.Calls.{contains-forgotten, forget, forgotten, forgotten-after, numbered_after, stepped}
+use Rattle.sctp_delivery.proofs.Calls.{contains-forgotten, forget, forgotten, forgotten-after, numbered_after, sent_by, stepped}
 use Rattle.sctp_delivery.proofs.OrderedEntries.{AreIndexed, AreRising, begun_on, written_on}
 use Rattle.sctp_delivery.proofs.OrderedPlaces.{AreNumbered, numbered-after}
 use Rattle.sctp_delivery.proofs.Queues.{IsOnceMore}
-use Rattle.sctp_delivery.proofs.Senders.{AreSent, IsHeld}
+use Rattle.sctp_delivery.proofs.Senders.{AreSent, IsHeld, IsMoreBy}
 use Rattle.sctp_delivery.proofs.Sent.{Numbered, AreApart, Entry, GoesOn, IsLine, IsPart, WasSent, fragment, part-line, same-tsn, stands-behind}
 use Rattle.sctp_delivery.proofs.Sessions as sessions
 use Rattle.sctp_delivery.proofs.Sessions.{each-read, fails, receiver-runs, receiver_calls}
@@ -31,11 +31,11 @@ use Rattle.sctp_delivery.proofs.Sessions.{each-read, fails, receiver-runs, recei
 abbrev pub next_tsn : Session → ℕ
 next_tsn s = s.sending.sender.flight.next_tsn
 
-record Holds (first : ℕ) (s : Session) (ns : List Numbered) (sent : List Entry) : Type 0 where
-  held : IsHeld ns first s.sending.sender sent
-  made : AreSent sent s.made
-  writes : forgotten ns ≡ s.written
-  placed : AreNumbered ns
+pub record Holds (first : ℕ) (s : Session) (ns : List Numbered) (sent : List Entry) : Type 0 where
+  pub held : IsHeld ns first s.sending.sender sent
+  pub made : AreSent sent s.made
+  pub writes : forgotten ns ≡ s.written
+  pub placed : AreNumbered ns
 
 -- a TSN for each entry
 pub counted : (first : ℕ) (sent more : List Entry) (a b : ℕ) → a ≡ (first + length sent) % 2 ^ 32 → b ≡ (first + length more) % 2 ^ 32 → IsOnceMore sent more → length more ≤ length sent + distance a b
@@ -50,22 +50,32 @@ record After (first : ℕ) (old : Session) (cs : List Call) (new : Session) (r :
   holds : Holds first new numbered more
   few : length more ≤ length sent + tsns_given old cs new r
 
-sender-step : (first : ℕ) (call : SenderCall) (old new : Session) (ns : List Numbered) (sent : List Entry) → SenderFollows call old new → Holds first old ns sent → (more : List Entry) × (Holds first new (numbered_after call ns) more × (length more ≤ length sent + distance (next_tsn old) (next_tsn new)))
-sender-step first call old new ns sent f h =
-    let r = stepped ns first old.sending.sender sent old.made h.held call new.sending.sender f.step.sender f.exact f.accepted in (
-      r.more,
-      (
-        record {
-          held = r.held;
-          made = subst (AreSent r.more) (sym (ap (λ (s : Session). s.made) f.after)) (r.made h.made);
-          writes = forgotten-after call ns ∙ ap (written_after call) h.writes ∙ sym (ap (λ (s : Session). s.written) f.after);
-          placed = numbered-after call ns h.placed;
-        },
-        counted first sent r.more (next_tsn old) (next_tsn new) h.held.stands.counted r.held.stands.counted r.once,
-      ),
-    )
+-- the entries after a call of the sender, no more than the TSNs that were given out
+pub record Sends (first : ℕ) (call : SenderCall) (old new : Session) (ns : List Numbered) (sent : List Entry) : Type 0 where
+  pub more : List Entry
+  pub holds : Holds first new (numbered_after call ns) more
+  pub few : length more ≤ length sent + distance (next_tsn old) (next_tsn new)
+  pub once : IsOnceMore sent more
+  pub grown : IsMoreBy (sent_by call old.sending.sender) sent more
 
-receiver-step : (first : ℕ) (call : _) (old new : Session) (ns : List Numbered) (sent : List Entry) → ReceiverFollows call old new → Holds first old ns sent → Holds first new ns sent
+pub sender-step : (first : ℕ) (call : SenderCall) (old new : Session) (ns : List Numbered) (sent : List Entry) → SenderFollows call old new
+    → Holds first old ns sent → Sends first call old new ns sent
+sender-step first call old new ns sent f h =
+    let r = stepped ns first old.sending.sender sent old.made h.held call new.sending.sender f.step.sender f.exact f.accepted in
+    record {
+      more = r.more;
+      holds = record {
+        held = r.held;
+        made = subst (AreSent r.more) (sym (ap (λ (s : Session). s.made) f.after)) (r.made h.made);
+        writes = forgotten-after call ns ∙ ap (written_after call) h.writes ∙ sym (ap (λ (s : Session). s.written) f.after);
+        placed = numbered-after call ns h.placed;
+      };
+      few = counted first sent r.more (next_tsn old) (next_tsn new) h.held.stands.counted r.held.stands.counted r.once;
+      once = r.once;
+      grown = r.grown;
+    }
+
+pub receiver-step : (first : ℕ) (call : _) (old new : Session) (ns : List Numbered) (sent : List Entry) → ReceiverFollows call old new → Holds first old ns sent → Holds first new ns sent
 receiver-step first call old new ns sent f h =
     subst (λ s. Holds first s ns sent) (sym f.after) (record { held = h.held; made = h.made; writes = h.writes; placed = h.placed })
 
@@ -73,8 +83,8 @@ held-after : (first : ℕ) (cs : List Call) (old new : Session) (ns : List Numbe
 held-after first [] old new ns sent r h = record { numbered = ns; more = sent; holds = subst (λ s. Holds first s ns sent) (sym r) h; few = omega arith }
 held-after first (of_sender call ∷ cs) old new ns sent r h =
     let x = sender-step first call old r.0 ns sent r.1.0 h in
-    let a = held-after first cs r.0 new (numbered_after call ns) x.0 r.1.1 x.1.0 in
-    let n = x.1.1 in
+    let a = held-after first cs r.0 new (numbered_after call ns) x.more r.1.1 x.holds in
+    let n = x.few in
     let m = a.few in
     record { numbered = a.numbered; more = a.more; holds = a.holds; few = omega (arith, n, m) }
 held-after first (of_receiver call ∷ cs) old new ns sent r h =
@@ -107,7 +117,7 @@ held-first tsn size max most limits small some = record {
   size = some;
 }
 
-at-first : (tsn size max most : ℕ) (limits : Option Limits) → tsn < 2 ^ 32 → 0 < size → Holds tsn (at_start tsn size max most limits) [] []
+pub at-first : (tsn size max most : ℕ) (limits : Option Limits) → tsn < 2 ^ 32 → 0 < size → Holds tsn (at_start tsn size max most limits) [] []
 at-first tsn size max most limits small some = record {
   held = held-first tsn size max most limits small some;
   made = tt;

@@ -3,6 +3,7 @@ pub mod Sent
 pub mod Waiting
 pub mod Turns
 pub mod OrderedEntries
+pub mod SpreadEntries
 pub mod Sending
 pub mod Begun
 pub mod InFlight
@@ -23,6 +24,7 @@ pub mod Every
 pub mod TsnPlaces
 pub mod GivenTsns
 pub mod PassedTsns
+pub mod SpreadFlight
 pub mod HeardTsns
 pub mod ReportedTsns
 pub mod HeardCalls
@@ -34,6 +36,7 @@ pub mod ValidMarks
 pub mod SackSteps
 pub mod SackMarks
 pub mod SackLaws
+pub mod SpreadCalls
 pub mod ReadOnce
 pub mod OnceWritten
 pub mod OrderedReads

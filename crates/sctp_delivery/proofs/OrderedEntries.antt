@@ -1,5 +1,5 @@
 -- The ordered messages of a stream that got TSNs: each has the number after that of the one before it, and they were written in this order.
-use Rattle.std.proofs.Common.{◌≡◌, ℕ, ◌+◌, ◌%◌, ◌^◌, ◌<◌, ◌≤◌, Bool, true, false, not, List, [], ◌∷◌, ◌++◌, length, map, refl, ap, sym, subst, ◌∙◌, arith}
+use Rattle.std.proofs.Common.{◌≡◌, ℕ, ◌+◌, ◌%◌, ◌^◌, ◌<◌, ◌≤◌, Bool, true, false, not, List, [], ◌∷◌, ◌++◌, length, map, inl, inr, refl, ap, sym, subst, ◌∙◌, arith}
 use Rattle.std.specs.Prelude.{⊤, ◌==◌, ◌&&◌, if◌then◌else◌}
 use Rattle.std.specs.List.{filter}
 use Rattle.sctp_list_lemmas.specs.Lists.{change_where}
@@ -9,7 +9,7 @@ use Rattle.sctp_data.specs.declared.chunk.chunk_payload_data.ChunkPayloadData.{C
 use Rattle.sctp_data.specs.PayloadData.{Data}
 use Rattle.sctp_outbound.specs.outbound_queue.OutboundQueue.{with_message_id}
 use Rattle.sctp_outbound.specs.pending_queue.Whole.{IsMessage}
-use Rattle.sctp_delivery.proofs.Sent.{Entry, Numbered, fragment, terminal}
+use Rattle.sctp_delivery.proofs.Sent.{Entry, IsPart, Numbered, fragment, terminal}
 use Rattle.sctp_delivery.proofs.Turns.{counts, inner-not}
 
 -- ## Numbers
@@ -26,6 +26,17 @@ abbrev pub begun_on : ℕ → List Entry → ℕ
 begun_on s [] = 0
 begun_on s (terminal ∷ xs) = begun_on s xs
 begun_on s (fragment d w after ∷ xs) = one (begins_on s d) + begun_on s xs
+
+-- the first entries begin no more of them than all
+pub part-fewer : (s : ℕ) (xs ys : List Entry) → IsPart ys xs → begun_on s ys ≤ begun_on s xs
+part-fewer s [] ys p = let e = ap (begun_on s) p in omega (arith, e)
+part-fewer s (x ∷ xs) ys (inl p) = let e = ap (begun_on s) p in omega (arith, e)
+part-fewer s (terminal ∷ xs) ys (inr p) = part-fewer s xs ys p
+part-fewer s (fragment d w after ∷ xs) ys (inr p) = let ih = part-fewer s xs ys p in omega (arith, ih)
+
+-- the number is that of the last of so many messages
+abbrev pub IsLatest : ℕ → ℕ → Type 0
+IsLatest count ssn = (k : ℕ) × (k + 1 ≡ count) × (ssn ≡ k % 2 ^ 16)
 
 -- the number is that of an ordered message of the stream that was begun
 abbrev pub IsNumberOf : List Entry → ℕ → ℕ → Type 0
@@ -59,9 +70,9 @@ number-more terminal sent stream ssn n = n
 number-more (fragment d w after) sent stream ssn n = let lt = n.1 in (n.0, omega (arith, lt), n.2)
 
 -- the number of an entry
-pub number-here : (d : Data) (w : Numbered) (after : List ℕ) (xs : List Entry) → d.unordered ≡ false → IsIndexed d xs
-    → IsNumberOf (fragment d w after ∷ xs) d.stream_identifier d.stream_sequence_number
-number-here d w after xs k i = let x = i k in let e = x.1 in (x.0, omega (arith, e), x.2)
+pub latest-here : (d : Data) (w : Numbered) (after : List ℕ) (xs : List Entry) → d.unordered ≡ false → IsIndexed d xs
+    → IsLatest (begun_on d.stream_identifier (fragment d w after ∷ xs)) d.stream_sequence_number
+latest-here d w after xs k i = i k
 
 -- ## Places
 

@@ -18,7 +18,7 @@ use Rattle.sctp_delivery.proofs.Begun.{AreOnce}
 use Rattle.sctp_delivery.proofs.Delivered.{IsReadOf, read-of}
 use Rattle.sctp_delivery.proofs.OnceWritten.{EachRead, apart, each-read, one-first, places, stand}
 use Rattle.sctp_delivery.proofs.OrderedCalls.{AreInTurn, in-turn, is_in_order, is_large, passed}
-use Rattle.sctp_delivery.proofs.OrderedEntries.{AreIndexed, AreRising, IsUnder, begun_on}
+use Rattle.sctp_delivery.proofs.OrderedEntries.{AreIndexed, AreRising, IsUnder, begun_on, part-fewer}
 use Rattle.sctp_delivery.proofs.OrderedNames.{AreNamed}
 use Rattle.sctp_delivery.proofs.OrderedPlaces.{AreNumbered, place-at, written-few}
 use Rattle.sctp_delivery.proofs.OrderedReads.{first_number, starts_ordered}
@@ -46,12 +46,6 @@ part-under n [] ys p u = subst (IsUnder n) (sym p) u
 part-under n (x ∷ xs) ys (inl e) u = subst (IsUnder n) (sym e) u
 part-under n (terminal ∷ xs) ys (inr p) u = part-under n xs ys p u
 part-under n (fragment d w after ∷ xs) ys (inr p) u = part-under n xs ys p u.1
-
-part-fewer : (s : ℕ) (xs ys : List Entry) → IsPart ys xs → begun_on s ys ≤ begun_on s xs
-part-fewer s [] ys p = let e = ap (begun_on s) p in omega (arith, e)
-part-fewer s (x ∷ xs) ys (inl p) = let e = ap (begun_on s) p in omega (arith, e)
-part-fewer s (terminal ∷ xs) ys (inr p) = part-fewer s xs ys p
-part-fewer s (fragment d w after ∷ xs) ys (inr p) = let ih = part-fewer s xs ys p in omega (arith, ih)
 
 -- one of two parts is a part of the other
 parts-meet : (sent ys zs : List Entry) → IsPart ys sent → IsPart zs sent → IsPart ys zs ⊎ IsPart zs ys

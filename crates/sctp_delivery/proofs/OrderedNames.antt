@@ -14,6 +14,7 @@ use Rattle.sctp_delivery.proofs.Every.{Every, every-of, every-passing, every-tak
 use Rattle.sctp_delivery.proofs.InFlight.{AreKnown, IsKnown}
 use Rattle.sctp_delivery.proofs.OrderedEntries.{IsNumberOf, number-more}
 use Rattle.sctp_delivery.proofs.Sent.{Entry}
+use Rattle.sctp_delivery.proofs.SpreadEntries.{number-of}
 
 abbrev pub IsNamed : List Entry → ChunkForwardTsnStream → Type 0
 IsNamed sent n = IsNumberOf sent n.identifier n.sequence
@@ -25,9 +26,9 @@ pub named-more : (x : Entry) (sent : List Entry) (ns : List ChunkForwardTsnStrea
 named-more x sent ns h = every-of (IsNamed sent) (IsNamed (x ∷ sent)) (λ n k. number-more x sent n.identifier n.sequence k) ns h
 
 -- what is in flight is known
-known-each : (sent : List Entry) (cs : List ChunkPayloadData) → AreKnown sent cs → Every (IsKnown sent) cs
-known-each sent [] k = tt
-known-each sent (c ∷ cs) k = (k.0, known-each sent cs k.1)
+known-each : (first : ℕ) (sent : List Entry) (cs : List ChunkPayloadData) → AreKnown first sent cs → Every (IsKnown first sent) cs
+known-each first sent [] k = tt
+known-each first sent (c ∷ cs) k = (k.0, known-each first sent cs k.1)
 
 -- what passes a test
 passing-each : {A : Type 0} (P : A → Type 0) (p : A → Bool) (xs : List A) → ((x : A) → p x ≡ true → P x) → Every P (filter p xs)
@@ -65,17 +66,17 @@ own-pairs sent (n ∷ ns) h = (here, own-pairs sent ns later)
         by true k = k.1
         by false k = k
 
-pub names-known : (sent : List Entry) (ns : List ChunkForwardTsnStream) (tsn : ℕ) (f : Flight) → AreKnown sent f.queue.inflight.chunks
+pub names-known : (first : ℕ) (sent : List Entry) (ns : List ChunkForwardTsnStream) (tsn : ℕ) (f : Flight) → AreKnown first sent f.queue.inflight.chunks
     → Name ns (named_up_to tsn f) → AreNamed sent ns
-names-known sent ns tsn f known name =
+names-known first sent ns tsn f known name =
     own-pairs sent ns (λ s. subst (AreNamed sent) (sym (name s))
     (last-named sent (filter (is_on s) (named_up_to tsn f))
     (every-passing (λ c. IsNumberOf sent c.stream_identifier c.stream_sequence_number) (is_on s) (named_up_to tsn f) numbered)))
   where
     numbered : Every (λ c. IsNumberOf sent c.stream_identifier c.stream_sequence_number) (named_up_to tsn f)
     numbered =
-        both-each (IsKnown sent) (λ c. is_named c ≡ true) (λ c. IsNumberOf sent c.stream_identifier c.stream_sequence_number)
-        (λ c k e. k.1 (negated c.unordered (both c.abandoned _ e).1)) (named_up_to tsn f)
-        (every-passing (IsKnown sent) is_named (take (ahead f tsn) f.queue.inflight.chunks)
-        (every-taken (IsKnown sent) (ahead f tsn) f.queue.inflight.chunks (known-each sent f.queue.inflight.chunks known)))
+        both-each (IsKnown first sent) (λ c. is_named c ≡ true) (λ c. IsNumberOf sent c.stream_identifier c.stream_sequence_number)
+        (λ c k e. number-of first sent c k.1 (negated c.unordered (both c.abandoned _ e).1)) (named_up_to tsn f)
+        (every-passing (IsKnown first sent) is_named (take (ahead f tsn) f.queue.inflight.chunks)
+        (every-taken (IsKnown first sent) (ahead f tsn) f.queue.inflight.chunks (known-each first sent f.queue.inflight.chunks known)))
         (passing-each (λ c. is_named c ≡ true) is_named (take (ahead f tsn) f.queue.inflight.chunks) (λ c e. e))

@@ -12,14 +12,14 @@ use Rattle.sctp_outbound.specs.pending_queue.PendingQueue.{Pending, last_of, las
 use Rattle.sctp_outbound.specs.pending_queue.Whole.{IsSendable, IsWhole, Stage, begun, free, half_of, partially_sent, stage_of}
 use Rattle.sctp_outbound.proofs.lemmas.pending_queue.CompleteMessages.{none_before}
 use Rattle.sctp_delivery.proofs.Every.{Every, every-joined, every-of, every-passing}
-use Rattle.sctp_delivery.proofs.OrderedEntries.{AreIndexed, IsNumberOf, number-here}
+use Rattle.sctp_delivery.proofs.OrderedEntries.{AreIndexed, IsLatest, begun_on, latest-here}
 use Rattle.sctp_delivery.proofs.Sending.{Queued}
 use Rattle.sctp_delivery.proofs.Sent.{Entry, IsLine, Numbered, fragment, terminal}
 use Rattle.sctp_delivery.proofs.Waiting.{Waits, between, inside, place_of, within}
 
--- if it is ordered, its number is that of a message that was begun
+-- if it is ordered, its number is that of the last message of its stream that was begun
 abbrev pub HasNumber : List Entry → ChunkPayloadData → Type 0
-HasNumber sent c = c.unordered ≡ false → IsNumberOf sent c.stream_identifier c.stream_sequence_number
+HasNumber sent c = c.unordered ≡ false → IsLatest (begun_on c.stream_identifier sent) c.stream_sequence_number
 
 last-is : (P : ChunkPayloadData → Type 0) (xs : List ChunkPayloadData) (c : ChunkPayloadData) → last_of xs ≡ Some c → Every P xs → P c
 last-is P [] c e h = absurd (none-some c e)
@@ -41,22 +41,22 @@ all-kind kind n (free m) (c ∷ cs) w = (w.1, all-kind kind n (if c.ending_fragm
 all-kind kind n (begun m) (c ∷ cs) w = (w.1, all-kind kind n (if c.ending_fragment then free (c.message_id + 1) else begun c.message_id) cs w.3)
 
 module _ (ws : List Numbered) (n m : ℕ) (sent : List Entry) where
-  rest-alike : (ssn : ℕ) (kind : Bool) (v : Numbered) (left : List ℕ) (cs : List ChunkPayloadData) → (kind ≡ false → IsNumberOf sent v.stream ssn)
+  rest-alike : (ssn : ℕ) (kind : Bool) (v : Numbered) (left : List ℕ) (cs : List ChunkPayloadData) → (kind ≡ false → IsLatest (begun_on v.stream sent) ssn)
       → IsWhole false n (begun m) cs → Waits ws cs (within m ssn kind v left) → Every (HasNumber sent) (filter (is_of m) cs)
   rest-alike ssn kind v left [] num w h = absurd w
   rest-alike ssn kind v left (c ∷ cs) num w h =
       let is : (c.message_id == m) ≡ true = subst (λ j. (j == m) ≡ true) (sym w.0.1) (same-yes m) in
       subst (λ b. Every (HasNumber sent) (if b then c ∷ filter (is_of m) cs else filter (is_of m) cs)) (sym is) (
-        (λ u. subst (λ s. IsNumberOf sent s c.stream_sequence_number) (sym h.2.0.stream) own),
+        (λ u. subst (λ s. IsLatest (begun_on s sent) c.stream_sequence_number) (sym h.2.0.stream) own),
         later c.ending_fragment w.3 h.2.1.1
             (rest-alike c.stream_sequence_number c.unordered h.0 h.1 cs (λ e. own)),
       )
     where
-      own : IsNumberOf sent h.0.stream c.stream_sequence_number
+      own : IsLatest (begun_on h.0.stream sent) c.stream_sequence_number
       own =
           let g = h.2.1.0 in
-          subst (λ (x : Numbered). IsNumberOf sent x.stream c.stream_sequence_number) (sym g.write)
-          (subst (IsNumberOf sent v.stream) (sym g.same_number) (num (sym g.same_kind ∙ w.1)))
+          subst (λ (x : Numbered). IsLatest (begun_on x.stream sent) c.stream_sequence_number) (sym g.write)
+          (subst (IsLatest (begun_on v.stream sent)) (sym g.same_number) (num (sym g.same_kind ∙ w.1)))
 
       later : (b : Bool) → IsWhole false n (if b then free (c.message_id + 1) else begun c.message_id) cs
           → Waits ws cs (if b then between else within c.message_id c.stream_sequence_number c.unordered h.0 h.1)
@@ -73,7 +73,7 @@ rest-from ws first n m [] (c ∷ cs) i l w h = absurd h.2.1.0
 rest-from ws first n m (terminal ∷ xs) (c ∷ cs) i l w h = absurd h.2.1.0
 rest-from ws first n m (fragment e v rest ∷ xs) (c ∷ cs) i l w h =
     rest-alike ws n m (fragment e v rest ∷ xs) e.stream_sequence_number e.unordered v rest (c ∷ cs)
-    (λ k. subst (λ s. IsNumberOf (fragment e v rest ∷ xs) s e.stream_sequence_number) l.0.stream (number-here e v rest xs k i.0)) w h
+    (λ k. subst (λ s. IsLatest (begun_on s (fragment e v rest ∷ xs)) e.stream_sequence_number) l.0.stream (latest-here e v rest xs k i.0)) w h
 
 pub last-number : (ws : List Numbered) (first : ℕ) (number : ℕ → ℕ) (sent : List Entry) (m : ℕ) (c : ChunkPayloadData) (p : Pending)
     (xs : List ChunkPayloadData) (n : ℕ) → IsSendable p xs n → partially_sent p ≡ Some m → last_removed m p ≡ Some c → Queued ws first number p sent

@@ -17,41 +17,56 @@ use Rattle.sctp_sender.specs.Abandonment.{advanced_ack_point, ahead, can_skip_to
 use Rattle.sctp_sender.specs.Flight.{Flight}
 use Rattle.sctp_sender.proofs.Lates.{found-passes}
 use Rattle.sctp_sender.proofs.Runs.{IsRunFrom}
-use Rattle.sctp_delivery.proofs.Every.{Every, every-found, every-passing}
+use Rattle.sctp_delivery.proofs.Every.{Every, every-found, every-of, every-passing}
 use Rattle.sctp_delivery.proofs.GivenTsns.{IsNumbered}
 use Rattle.sctp_delivery.proofs.TsnPlaces.{IsGiven, at-or-before, next-place}
 
 -- ## A run
 
 -- the run behind the first chunk
-rest-run : (p a : ℕ) (c : ChunkPayloadData) (cs : List ChunkPayloadData) → IsRunFrom (tsn p (a + 1)) (c ∷ cs) → (c.tsn ≡ tsn p (a + 1)) × IsRunFrom
+pub rest-run : (p a : ℕ) (c : ChunkPayloadData) (cs : List ChunkPayloadData) → IsRunFrom (tsn p (a + 1)) (c ∷ cs) → (c.tsn ≡ tsn p (a + 1)) × IsRunFrom
     (tsn p (a + 1 + 1)) cs
 rest-run p a c cs run =
     let head : c.tsn ≡ tsn p (a + 1) = cc in
     let tail : IsRunFrom (following_tsn (tsn p (a + 1))) cs = cc in
     (head, subst (λ t. IsRunFrom t cs) (next-place p (a + 1)) tail)
 
+-- one of the places behind a, up to n
+pub record IsPast (p a n t : ℕ) : Type 0 where
+  pub place : ℕ
+  pub past : a < place
+  pub within : place ≤ n
+  pub is : t ≡ tsn p place
+
+abbrev pub past-given : (p a n t : ℕ) → IsPast p a n t → IsGiven p n t
+past-given p a n t g = let lt = g.past in record { place = g.place; some = omega (arith, lt); within = g.within; is = g.is }
+
 -- the first so many chunks have the first so many TSNs behind the acknowledged one
-pub run-given : (p a j : ℕ) (cs : List ChunkPayloadData) → IsRunFrom (tsn p (a + 1)) cs → Every (λ (c : ChunkPayloadData). IsGiven p (a + j) c.tsn) (take j cs)
-run-given p a zero cs run = tt
-run-given p a (suc j) [] run = tt
-run-given p a (suc j) (c ∷ cs) run =
-    let r = rest-run p a c cs run in
-    let next : a + 1 + j ≡ a + suc j = omega arith in (
-      record { place = a + 1; some = omega arith; within = omega arith; is = r.0 },
-      subst
-          (λ n. Every (λ (d : ChunkPayloadData). IsGiven p n d.tsn) (take j cs)) next (run-given p (a + 1) j cs r.1),
+run-past : (p a j : ℕ) (cs : List ChunkPayloadData) → IsRunFrom (tsn p (a + 1)) cs → Every (λ (c : ChunkPayloadData). IsPast p a (a + j) c.tsn) (take j cs)
+run-past p a zero cs run = tt
+run-past p a (suc j) [] run = tt
+run-past p a (suc j) (c ∷ cs) run =
+    let r = rest-run p a c cs run in (
+      record { place = a + 1; past = omega arith; within = omega arith; is = r.0 },
+      every-of (λ (d : ChunkPayloadData). IsPast p (a + 1) (a + 1 + j) d.tsn) (λ (d : ChunkPayloadData). IsPast p a (a + suc j) d.tsn)
+          (λ d g. let lt = g.past in let le = g.within in
+          record { place = g.place; past = omega (arith, lt); within = omega (arith, le); is = g.is }) (take j cs) (run-past p (a + 1) j cs r.1),
     )
 
 take-all : {A : Type 0} (xs : List A) → take (length xs) xs ≡ xs
 take-all [] = refl
 take-all (x ∷ xs) = ap (λ ys. x ∷ ys) (take-all xs)
 
+flight-past : (p n : ℕ) (f : Flight) (h : IsNumbered p n f) → Every (λ (c : ChunkPayloadData). IsPast p h.acked n c.tsn) f.queue.inflight.chunks
+flight-past p n f h =
+    let cs = f.queue.inflight.chunks in
+    subst (λ m. Every (λ (c : ChunkPayloadData). IsPast p h.acked m c.tsn) cs) h.total
+    (subst (Every (λ (c : ChunkPayloadData). IsPast p h.acked (h.acked + length cs) c.tsn)) (take-all cs) (run-past p h.acked (length cs) cs h.run))
+
 pub flight-given : (p n : ℕ) (f : Flight) → IsNumbered p n f → Every (λ (c : ChunkPayloadData). IsGiven p n c.tsn) f.queue.inflight.chunks
 flight-given p n f h =
-    let cs = f.queue.inflight.chunks in
-    subst (λ m. Every (λ (c : ChunkPayloadData). IsGiven p m c.tsn) cs) h.total
-    (subst (Every (λ (c : ChunkPayloadData). IsGiven p (h.acked + length cs) c.tsn)) (take-all cs) (run-given p h.acked (length cs) cs h.run))
+    every-of (λ (c : ChunkPayloadData). IsPast p h.acked n c.tsn) (λ (c : ChunkPayloadData). IsGiven p n c.tsn)
+    (λ c g. past-given p h.acked n c.tsn g) f.queue.inflight.chunks (flight-past p n f h)
 
 -- ## The advanced point
 
@@ -108,6 +123,7 @@ module _ (p n : ℕ) (f : Flight) (h : IsNumbered p n f) (few : n < 2 ^ 31) wher
   -- a TSN in flight, with none but abandoned messages up to it
   pub record IsPassable (t : ℕ) : Type 0 where
     pub given : IsGiven p n t
+    pub past : h.acked < given.place
     pub upto : given.place ≤ h.acked + lead f.queue.inflight.chunks
 
   ahead-given : (t : ℕ) (g : IsGiven p n t) → ahead f t ≤ lead f.queue.inflight.chunks → g.place ≤ h.acked + lead f.queue.inflight.chunks
@@ -124,16 +140,14 @@ module _ (p n : ℕ) (f : Flight) (h : IsNumbered p n f) (few : n < 2 ^ 31) wher
   passable-end t can end = by (find (has_tsn t) f.queue.inflight.chunks) refl
       (both (can_skip_to t f) (ends_in (find (has_tsn t) f.queue.inflight.chunks)) end).1
     where
-      given-flight : Every (λ (c : ChunkPayloadData). IsGiven p n c.tsn) f.queue.inflight.chunks
-      given-flight = flight-given p n f h
-
       by : (o : Option ChunkPayloadData) → find (has_tsn t) f.queue.inflight.chunks ≡ o → ends_in o ≡ true → IsPassable t
       by None e i = absurd (not_both i)
       by (Some c) e i =
           let same : c.tsn ≡ t = same-is c.tsn t (found-passes (has_tsn t) f.queue.inflight.chunks c e) in
-          let g : IsGiven p n t = subst (IsGiven p n) same (every-found (λ (d : ChunkPayloadData). IsGiven p n d.tsn)
-          (has_tsn t) f.queue.inflight.chunks c e given-flight) in
-          record { given = g; upto = ahead-given t g (can-within t can) }
+          let g : IsPast p h.acked n t = subst (IsPast p h.acked n) same (every-found (λ (d : ChunkPayloadData). IsPast p h.acked n d.tsn)
+          (has_tsn t) f.queue.inflight.chunks c e (flight-past p n f h)) in
+          let k = past-given p h.acked n t g in
+          record { given = k; past = g.past; upto = ahead-given t k (can-within t can) }
 
 last-every : (P : ChunkPayloadData → Type 0) (xs : List ChunkPayloadData) (x : ChunkPayloadData) → last_of xs ≡ Some x → Every P xs → P x
 last-every P [] x e h = absurd (none-some x e)
@@ -144,26 +158,27 @@ module _ (p n : ℕ) (f : Flight) (h : IsNumbered p n f) (few : n < 2 ^ 31) wher
   pub passable-skip : (t u : ℕ) → Some u ≡ skip_end t f → IsPassable p n f h few u
   passable-skip t u is = by (can_skip_to t f) refl is
     where
-      in-front : Every (λ (c : ChunkPayloadData). IsGiven p (h.acked + ahead f t) c.tsn) (filter ends (take (ahead f t) f.queue.inflight.chunks))
-      in-front = every-passing (λ (c : ChunkPayloadData). IsGiven p (h.acked + ahead f t) c.tsn) ends (take (ahead f t) f.queue.inflight.chunks)
-          (run-given p h.acked (ahead f t) f.queue.inflight.chunks h.run)
+      in-front : Every (λ (c : ChunkPayloadData). IsPast p h.acked (h.acked + ahead f t) c.tsn) (filter ends (take (ahead f t) f.queue.inflight.chunks))
+      in-front = every-passing (λ (c : ChunkPayloadData). IsPast p h.acked (h.acked + ahead f t) c.tsn) ends (take (ahead f t) f.queue.inflight.chunks)
+          (run-past p h.acked (ahead f t) f.queue.inflight.chunks h.run)
 
       found : can_skip_to t f ≡ true → (o : Option ChunkPayloadData) → last_end t f ≡ o → Some u ≡ option_map (λ (c : ChunkPayloadData). c.tsn) o
           → IsPassable p n f h few u
       found can None e i = absurd (none-some u (sym i))
       found can (Some c) e i =
           let same : c.tsn ≡ u = sym (some-same i) in
-          let g : IsGiven p (h.acked + ahead f t) u = subst (IsGiven p (h.acked + ahead f t)) same
-          (last-every (λ (d : ChunkPayloadData). IsGiven p (h.acked + ahead f t) d.tsn)
+          let g : IsPast p h.acked (h.acked + ahead f t) u = subst (IsPast p h.acked (h.acked + ahead f t)) same
+          (last-every (λ (d : ChunkPayloadData). IsPast p h.acked (h.acked + ahead f t) d.tsn)
           (filter ends (take (ahead f t) f.queue.inflight.chunks)) c e in-front) in
           let le = can-within p n f h few t can in
           let within = lead-within f.queue.inflight.chunks in
           let total = h.total in
           let last = g.within in
+          let past = g.past in
           record {
-            given = record { place = g.place; some = g.some; within = omega (arith, last, le, within, total); is = g.is };
-            upto = omega
-                (arith, last, le);
+            given = record { place = g.place; some = omega (arith, past); within = omega (arith, last, le, within, total); is = g.is };
+            past = past;
+            upto = omega (arith, last, le);
           }
 
       by : (b : Bool) → can_skip_to t f ≡ b → Some u ≡ (if b then option_map (λ (c : ChunkPayloadData). c.tsn) (last_end t f) else None)

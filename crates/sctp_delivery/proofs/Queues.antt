@@ -21,10 +21,11 @@ use Rattle.sctp_serial.specs.DataChunks.{chunk_before, following_tsn}
 use Rattle.sctp_list_lemmas.proofs.Edits.{list_any-inserted, list_any-those}
 use Rattle.sctp_delivery.proofs.Begun.{IsBegun, begins, begins-changed, begun-ended, begun-less, begun-sent}
 use Rattle.sctp_delivery.proofs.InFlight.{AreKnown, KeepsData, abandoned-keeps, abandoned-not, known-changed, known-inserted, known-more}
-use Rattle.sctp_delivery.proofs.OrderedEntries.{number-here, ranked-changed, ranked-ended, ranked-those}
+use Rattle.sctp_delivery.proofs.OrderedEntries.{ranked-changed, ranked-ended, ranked-those}
 use Rattle.sctp_delivery.proofs.OrderedRest.{last-number}
 use Rattle.sctp_delivery.proofs.Sending.{Queued, queued-sent}
 use Rattle.sctp_delivery.proofs.Sent.{Entry, Numbered, fragment, terminal}
+use Rattle.sctp_delivery.proofs.SpreadEntries.{step-fragment, step-terminal}
 use Rattle.sctp_delivery.proofs.Turns.{Turns, turns-rest, turns-started, without-none}
 use Rattle.sctp_delivery.proofs.Waiting.{Waits, between, inside, nowhere, place_of, waits-started, waits-without}
 
@@ -32,7 +33,7 @@ use Rattle.sctp_delivery.proofs.Waiting.{Waits, between, inside, nowhere, place_
 pub record Stands (ws : List Numbered) (first : ℕ) (number : ℕ → ℕ) (q : Outbound) (next : ℕ) (sent : List Entry) : Type 0 where
   pub queued : Queued ws first number q.pending sent
   pub sendable : IsSendable q.pending q.inflight.chunks q.next_message_id
-  pub known : AreKnown sent q.inflight.chunks
+  pub known : AreKnown first sent q.inflight.chunks
   pub counted : next ≡ (first + length sent) % 2 ^ 32
   pub begun' : IsBegun q.pending.ordered q.pending.unordered q.next_message_id sent
   pub ids : q.next_message_id ≡ length ws
@@ -75,6 +76,14 @@ started ws first number now q next sent s = by (q.next_unstarted == q.next_messa
 abbrev pub IsOnceMore : List Entry → List Entry → Type 0
 IsOnceMore sent more = (more ≡ sent) ⊎ ((x : Entry) × (more ≡ x ∷ sent))
 
+-- as many as before, or a terminal one more
+abbrev pub IsEnded : List Entry → List Entry → Type 0
+IsEnded sent more = (more ≡ sent) ⊎ (more ≡ terminal ∷ sent)
+
+pub once-ended : (sent more : List Entry) → IsEnded sent more → IsOnceMore sent more
+once-ended sent more (inl e) = inl e
+once-ended sent more (inr e) = inr (terminal, e)
+
 -- the chunk, and what stands after it was sent
 pub record IsSent (ws : List Numbered) (first : ℕ) (number : ℕ → ℕ) (q : Outbound) (next : ℕ) (now : ℕ) (sent : List Entry) (c : ChunkPayloadData) : Type 0 where
   pub write : Numbered
@@ -93,9 +102,17 @@ sends ws first number now q next sent c e s =
       stands = record {
         queued = on.2.0;
         sendable = (sendable-sent p q.inflight.chunks q.next_message_id c t refl s.sendable e).sendable;
-        known = known-inserted (fragment (data_of t) on.0 on.1 ∷ sent) chunk_before t q.inflight.chunks
-            ((λ o. (on.0, on.1, sent, inl refl)), λ u. number-here (data_of t) on.0 on.1 sent u on.2.0.indexed.0)
-            (known-more (fragment (data_of t) on.0 on.1) sent q.inflight.chunks s.known);
+        known = known-inserted first (fragment (data_of t) on.0 on.1 ∷ sent) chunk_before t q.inflight.chunks (
+          (λ o. (on.0, on.1, sent, inl refl)),
+          record {
+            entry = fragment (data_of t) on.0 on.1;
+            entries = sent;
+            part = inl refl;
+            number = s.counted;
+            step = λ st. step-fragment st t on.0 on.1 sent on.2.0.indexed.0;
+          },
+        )
+            (known-more first (fragment (data_of t) on.0 on.1) sent q.inflight.chunks s.known);
         counted = let n = s.counted in omega (arith, n);
         begun' = begun-sent p q.inflight.chunks (insert_before chunk_before t q.inflight.chunks) q.next_message_id sent c (data_of t) on.0 on.1 refl on.2.1 e s.sendable (sendable-sent p q.inflight.chunks q.next_message_id c t refl s.sendable e).sendable
             (list_any-inserted (is_of c.message_id) chunk_before t q.inflight.chunks ∙ or-left (c.message_id == c.message_id) (list_any (is_of c.message_id) q.inflight.chunks) (same-yes c.message_id)) s.begun';
@@ -110,25 +127,25 @@ sends ws first number now q next sent c e s =
 pub record Abandons (ws : List Numbered) (first : ℕ) (number : ℕ → ℕ) (sent : List Entry) (q r : Outbound) (next : ℕ) : Type 0 where
   pub more : List Entry
   pub stands : Stands ws first number r next more
-  pub once : IsOnceMore sent more
+  pub ended : IsEnded sent more
   pub last : (more ≡ sent) ⊎ (partially_sent r.pending ≡ None)
   pub none : partially_sent q.pending ≡ None → (more ≡ sent) × (partially_sent r.pending ≡ None)
 
 pub no-abandons : (ws : List Numbered) (first : ℕ) (number : ℕ → ℕ) (sent : List Entry) (q : Outbound) (next : ℕ) → Stands ws first number q next sent → Abandons ws first number sent q q next
-no-abandons ws first number sent q next s = record { more = sent; stands = s; once = inl refl; last = inl refl; none = λ h. (refl, h) }
+no-abandons ws first number sent q next s = record { more = sent; stands = s; ended = inl refl; last = inl refl; none = λ h. (refl, h) }
 
 pub abandons-then : (ws : List Numbered) (first : ℕ) (number : ℕ → ℕ) (sent : List Entry) (q r o : Outbound) (next last : ℕ) (a : Abandons ws first number sent q r next) → Abandons ws first number a.more r o last → Abandons ws first number sent q o last
 abandons-then ws first number sent q r o next last a b = record {
   more = b.more;
   stands = b.stands;
-  once = once a.last;
+  ended = ended a.last;
   last = end a.last b.last;
   none = λ h. let x = a.none h in let y = b.none x.1 in (y.0 ∙ x.0, y.1);
 }
   where
-    once : (a.more ≡ sent) ⊎ (partially_sent r.pending ≡ None) → IsOnceMore sent b.more
-    once (inl e) = subst (λ xs. IsOnceMore xs b.more) e b.once
-    once (inr h) = subst (IsOnceMore sent) (sym (b.none h).0) a.once
+    ended : (a.more ≡ sent) ⊎ (partially_sent r.pending ≡ None) → IsEnded sent b.more
+    ended (inl e) = subst (λ xs. IsEnded xs b.more) e b.ended
+    ended (inr h) = subst (IsEnded sent) (sym (b.none h).0) a.ended
 
     end : (a.more ≡ sent) ⊎ (partially_sent r.pending ≡ None) → (b.more ≡ a.more) ⊎ (partially_sent o.pending ≡ None) → (b.more ≡ sent) ⊎ (partially_sent o.pending ≡ None)
     end (inl e) (inl f) = inl (f ∙ e)
@@ -151,14 +168,14 @@ pub marked : (ws : List Numbered) (first : ℕ) (number : ℕ → ℕ) (q : Outb
 marked ws first number q next sent p f keeps keeps' s = record {
   queued = s.queued;
   sendable = sendable-marked q.pending q.inflight.chunks q.next_message_id p f keeps s.sendable;
-  known = known-changed sent p f keeps' q.inflight.chunks s.known;
+  known = known-changed first sent p f keeps' q.inflight.chunks s.known;
   counted = s.counted;
   begun' = s.begun';
   ids = s.ids;
 }
 
 -- with other chunks in flight, of no other messages
-pub refilled : (ws : List Numbered) (first : ℕ) (number : ℕ → ℕ) (q : Outbound) (next : ℕ) (sent : List Entry) (cs : List ChunkPayloadData) → ((m : ℕ) → list_any (is_of m) cs ≡ true → list_any (is_of m) q.inflight.chunks ≡ true) → AreKnown sent cs → Stands ws first number q next sent → Stands ws first number (with_inflight q cs) next sent
+pub refilled : (ws : List Numbered) (first : ℕ) (number : ℕ → ℕ) (q : Outbound) (next : ℕ) (sent : List Entry) (cs : List ChunkPayloadData) → ((m : ℕ) → list_any (is_of m) cs ≡ true → list_any (is_of m) q.inflight.chunks ≡ true) → AreKnown first sent cs → Stands ws first number q next sent → Stands ws first number (with_inflight q cs) next sent
 refilled ws first number q next sent cs fewer known s = record {
   queued = s.queued;
   sendable = sendable-fewer q.pending q.inflight.chunks cs q.next_message_id fewer s.sendable;
@@ -182,7 +199,7 @@ module _ (ws : List Numbered) (first : ℕ) (number : ℕ → ℕ) (q : Outbound
       subst (λ r. Abandons ws first number sent q r next) (sym is) (record {
         more = sent;
         stands = marked ws first number q next sent (is_of m) as_abandoned keeps abandoned-keeps s;
-        once = inl refl;
+        ended = inl refl;
         last = inl refl;
         none = λ h. (refl, h);
       })
@@ -237,19 +254,25 @@ module _ (ws : List Numbered) (first : ℕ) (number : ℕ → ℕ) (q : Outbound
         stands = record {
           queued = selected q.pending.selected half s.sendable s.queued;
           sendable = sendable-abandoned q.pending q.inflight.chunks q.next_message_id m t (last_is_of m q.pending c f) e s.sendable;
-          known = known-inserted (terminal ∷ sent) chunk_before t xs (
+          known = known-inserted first (terminal ∷ sent) chunk_before t xs (
             (λ o. absurd (abandoned-not t refl o)),
-            λ u. last-number ws first number sent m c q.pending q.inflight.chunks q.next_message_id
-                s.sendable half f s.queued u,
-          ) (known-more terminal sent xs
-              (known-changed sent (is_of m) as_abandoned abandoned-keeps q.inflight.chunks s.known));
+            record {
+              entry = terminal;
+              entries = sent;
+              part = inl refl;
+              number = s.counted;
+              step = λ st. step-terminal st t sent
+                  (last-number ws first number sent m c q.pending q.inflight.chunks q.next_message_id s.sendable half f s.queued);
+            },
+          ) (known-more first terminal sent xs
+              (known-changed first sent (is_of m) as_abandoned abandoned-keeps q.inflight.chunks s.known));
           counted = let n = s.counted in omega (arith, n);
           begun' = begun-ended (without_message m q.pending.ordered) (without_message m q.pending.unordered) q.next_message_id sent
               (begun-less q.pending.ordered q.pending.unordered (without_message m q.pending.ordered) (without_message m q.pending.unordered) q.next_message_id sent
               (λ k h. list_any-those (begins k) (λ c. not (is_of m c)) q.pending.ordered h) (λ k h. list_any-those (begins k) (λ c. not (is_of m c)) q.pending.unordered h) s.begun');
           ids = s.ids;
         };
-        once = inr (terminal, refl);
+        ended = inr refl;
         last = inr gone;
         none = λ h. absurd (none-some m (sym h ∙ half));
       }

@@ -45,7 +45,7 @@ pub record IsInStep (p n : ℕ) (s : Session) : Type 0 where
   pub taken : AreTaken p n s.receiving.receiver s.receiving.accepted
   pub order : IsInOrder s.receiving.receiver
 
-begin : (first size max most : ℕ) (limits : Option Limits) → first < 2 ^ 32 → IsInStep (base first) 0 (at_start first size max most limits)
+pub begin : (first size max most : ℕ) (limits : Option Limits) → first < 2 ^ 32 → IsInStep (base first) 0 (at_start first size max most limits)
 begin first size max most limits small = record {
   numbered = record { acked = 0; acked_is = omega arith; next_is = first-is first small; run = refl; total = refl };
   made = tt;
@@ -65,7 +65,7 @@ more-known call old new f t e =
       | inr a ↦ or-right (was_taken t new) (was_passed t new) (ap (was_passed t) f.after ∙ more-made (passes t) call old.sending.sender old.made a)
     ]
 
-sender-step : (p n : ℕ) (call : SenderCall) (old new : Session) → n + distance old.sending.sender.flight.next_tsn new.sending.sender.flight.next_tsn < 2 ^ 31
+pub sender-step : (p n : ℕ) (call : SenderCall) (old new : Session) → n + distance old.sending.sender.flight.next_tsn new.sending.sender.flight.next_tsn < 2 ^ 31
     → SenderFollows call old new → IsInStep p n old → IsInStep p (n + distance old.sending.sender.flight.next_tsn new.sending.sender.flight.next_tsn) new
 sender-step p n call old new few f i =
     let small : n < 2 ^ 31 = omega (arith, few) in
@@ -103,7 +103,7 @@ more-accepted (incoming.follows g) old new f t e = ap (list_any (has_tsn t)) f.s
 more-accepted (incoming.reports credit) old new f t e = ap (list_any (has_tsn t)) f.step.accepted ∙ e
 more-accepted (incoming.reads stream) old new f t e = ap (list_any (has_tsn t)) f.step.accepted ∙ e
 
-receiver-step : (p n : ℕ) (call : ReceiverCall) (old new : Session) → n < 2 ^ 31 → ReceiverFollows call old new → IsInStep p n old → IsInStep p n new
+pub receiver-step : (p n : ℕ) (call : ReceiverCall) (old new : Session) → n < 2 ^ 31 → ReceiverFollows call old new → IsInStep p n old → IsInStep p n new
 receiver-step p n call old new few f i =
     let taken = more-accepted call old new f in
     let made : new.made ≡ old.made = ap (λ (s : Session). s.made) f.after in
@@ -133,7 +133,7 @@ unfolding distance
 same-distance q k = omega arith
 
 -- the next TSN stays where a receiver is called
-no-move : (p n : ℕ) (old new : Session) → new.sending ≡ old.sending → IsNumbered p n old.sending.sender.flight
+pub no-move : (p n : ℕ) (old new : Session) → new.sending ≡ old.sending → IsNumbered p n old.sending.sender.flight
     → distance old.sending.sender.flight.next_tsn new.sending.sender.flight.next_tsn ≡ 0
 no-move p n old new e h =
     let at = h.next_is in

@@ -5,7 +5,7 @@ use Rattle.std.specs.List.{filter, list_any}
 use Rattle.std.proofs.lemmas.Bool.Decides.{nat_tests}
 use Rattle.std.proofs.lemmas.List.{length-map}
 use Rattle.std.proofs.lemmas.Option.{none-some}
-use Rattle.sctp_list_lemmas.specs.Serial.{distance, at_or_before}
+use Rattle.sctp_list_lemmas.specs.Serial.{distance, at_or_before, comes_before}
 use Rattle.sctp_list_lemmas.proofs.More.{not_both}
 use Rattle.sctp_list_lemmas.proofs.Round.{tsn, distance-tsn}
 use Rattle.sctp_data.specs.declared.chunk.chunk_payload_data.ChunkPayloadData.{ChunkPayloadData}
@@ -36,7 +36,7 @@ use Rattle.sctp_delivery.proofs.GivenTsns.{IsNumbered, Raises, given, raises-aba
 use Rattle.sctp_delivery.proofs.HeardTsns.{IsHeard}
 use Rattle.sctp_delivery.proofs.PassedTsns.{flight-given, passable-end, passable-skip}
 use Rattle.sctp_delivery.proofs.ReportedTsns.{IsTruthful}
-use Rattle.sctp_delivery.proofs.TsnPlaces.{IsGiven, at-or-before, more-given, next-place}
+use Rattle.sctp_delivery.proofs.TsnPlaces.{IsGiven, at-or-before, before, more-given, next-place}
 
 -- ## What is known
 
@@ -66,10 +66,15 @@ next-unpassed p n (forward_tsn f ∷ ms) few h =
 
 -- ## Calls of the sender
 
--- so many TSNs more, as a session counts them; and what is acknowledged cumulatively is known still
+-- the TSN has a place from k on, up to n
+abbrev pub IsFrom : ℕ → ℕ → ℕ → ℕ → Type 0
+IsFrom p n k t = (j : ℕ) × (k ≤ j) × (j ≤ n) × (t ≡ tsn p j)
+
+-- so many TSNs more, as a session counts them; what is acknowledged cumulatively is known still, and never less
 pub record IsMoved (p n : ℕ) (kn : ℕ → Bool) (f g : Flight) : Type 0 where
   pub numbered : n + distance f.next_tsn g.next_tsn < 2 ^ 31 → IsNumbered p (n + distance f.next_tsn g.next_tsn) g
   pub settled : IsHeard p n kn f.acked_tsn [] → IsHeard p n kn g.acked_tsn []
+  pub rises : (k : ℕ) → f.acked_tsn ≡ tsn p k → k ≤ n → IsFrom p n k g.acked_tsn
 
 moved : (p n most : ℕ) (kn : ℕ → Bool) (f g : Flight) → most < 2 ^ 32 → IsNumbered p n f → Raises p most f g → IsMoved p n kn f g
 moved p n most kn f g short h r =
@@ -78,17 +83,18 @@ moved p n most kn f g short h r =
       numbered = λ few. subst (λ k. IsNumbered p (n + k) g) (sym e) (r.numbered n (omega (arith, few, e)) h);
       settled = λ k. subst
           (λ t. IsHeard p n kn t []) (sym r.acked) k;
+      rises = λ k is le. (k, omega arith, le, r.acked ∙ is);
     }
 
 -- where none is given out
 moved-none : (p n : ℕ) (kn : ℕ → Bool) (f g : Flight) → g.next_tsn ≡ f.next_tsn → (IsHeard p n kn f.acked_tsn [] → IsHeard p n kn g.acked_tsn [])
-    → IsNumbered p n f → IsNumbered p n g → IsMoved p n kn f g
-moved-none p n kn f g same settled h k =
+    → ((k : ℕ) → f.acked_tsn ≡ tsn p k → k ≤ n → IsFrom p n k g.acked_tsn) → IsNumbered p n f → IsNumbered p n g → IsMoved p n kn f g
+moved-none p n kn f g same settled rises h k =
     let at = h.next_is in
     let e : distance f.next_tsn g.next_tsn ≡ 0 = ap (λ t. distance f.next_tsn t) (same ∙ at) ∙ ap (λ t. distance t (tsn p (n + 1))) at ∙ distance-tsn p
     (n + 1) (n + 1) (omega arith) (omega arith) ∙ (let z : n + 1 - (n + 1) ≡ 0 = omega arith in z) in
     let z : n + distance f.next_tsn g.next_tsn ≡ n = omega (arith, e) in
-    record { numbered = λ few. subst (λ k. IsNumbered p k g) (sym z) k; settled = settled }
+    record { numbered = λ few. subst (λ k. IsNumbered p k g) (sym z) k; settled = settled; rises = rises }
 
 fewer : {A : Type 0} (q : A → Bool) (xs : List A) → length (filter q xs) ≤ length xs
 fewer q [] = omega arith
@@ -147,6 +153,19 @@ sack-settled p n kn k f t h = by (is_outdated k f)
     by : (b : Bool) → IsHeard p n kn (if b then f else take_sack k f).acked_tsn []
     by true = h
     by false = record { place = t.place; within = t.within; is = t.is; so_far = t.so_far; each = tt }
+
+sack-rises : (p n : ℕ) (kn : ℕ → Bool) (s : Sack) (f : Flight) → n < 2 ^ 31 → IsTruthful p n kn s → (k : ℕ) → f.acked_tsn ≡ tsn p k → k ≤ n
+    → IsFrom p n k (after_sack s f).acked_tsn
+sack-rises p n kn s f few t k is le = by (is_outdated s f) refl
+  where
+    by : (b : Bool) → is_outdated s f ≡ b → IsFrom p n k (if b then f else take_sack s f).acked_tsn
+    by true e = (k, omega arith, le, is)
+    by false e =
+        let within = t.within in
+        let order : nat_lt t.place k ≡ false =
+        sym (before p t.place k (omega (arith, within, few)) (omega (arith, le, few))) ∙ ap (λ u. comes_before u (tsn p k)) (sym t.is)
+        ∙ ap (comes_before s.cumulative_tsn_ack) (sym is) ∙ e in
+        (t.place, grind (arith, nat_tests, order), within, t.is)
 
 abbrev pub flight_of : Session → Flight
 flight_of s = s.sending.sender.flight
@@ -221,7 +240,8 @@ module _ (p n : ℕ) (kn : ℕ → Bool) (old new : Session) (few : n < 2 ^ 31) 
       let truth = every-contained (IsTruthful p n kn) old.sacks k f.handed t in
       let g = after_sack k (flight_of old) in
       moved-to p n kn (flight_of old) (flight_of new) g (ap (λ (u : Transmission). u.flight) f.exact)
-      (moved-none p n kn (flight_of old) g (sack-next k (flight_of old)) (sack-settled p n kn k (flight_of old) truth) h
+      (moved-none p n kn (flight_of old) g (sack-next k (flight_of old)) (sack-settled p n kn k (flight_of old) truth)
+      (sack-rises p n kn k (flight_of old) few truth) h
       (taken-numbered p n truth.place k (flight_of old) few truth.within truth.is h))
 
 -- ## What they make

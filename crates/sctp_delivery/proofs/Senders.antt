@@ -26,7 +26,7 @@ use Rattle.sctp_delivery.specs.SenderCalls.{Made, data_chunk, forward_tsn, next_
 use Rattle.sctp_delivery.proofs.InFlight.{KeepsData, acknowledged-keeps, known-changed, known-part-changed, known-those}
 use Rattle.sctp_delivery.proofs.Numbers.{AreOpen, AreSized, IsSteady, all-open, number_of, steady-left, steady-less, steady-released, steady-same}
 use Rattle.sctp_delivery.proofs.OrderedNames.{AreNamed, named-more}
-use Rattle.sctp_delivery.proofs.Queues.{sends as sends-one, Abandons, IsOnceMore, Stands, abandoned, abandons-then, marked, no-abandons, refilled, started}
+use Rattle.sctp_delivery.proofs.Queues.{sends as sends-one, Abandons, IsEnded, IsOnceMore, Stands, abandoned, abandons-then, marked, no-abandons, once-ended, refilled, started}
 use Rattle.sctp_delivery.proofs.Sent.{Entry, Numbered, WasSent, fragment, sent-more}
 use Rattle.sctp_delivery.proofs.Turns.{Turns}
 
@@ -48,16 +48,22 @@ sent-then x sent [] a = tt
 sent-then x sent (data_chunk d ∷ ms) a = (sent-more x sent d a.0, sent-then x sent ms a.1)
 sent-then x sent (forward_tsn f ∷ ms) a = (named-more x sent f.streams a.0, sent-then x sent ms a.1)
 
--- what a call makes of it
-pub record Result (ws vs : List Numbered) (first : ℕ) (sent : List Entry) (u : Transmission) (ms ns : List Made) : Type 0 where
+-- with the entry of this chunk; without one there is at most that of a terminal chunk more
+abbrev pub IsMoreBy : Option ChunkPayloadData → List Entry → List Entry → Type 0
+IsMoreBy None sent more = IsEnded sent more
+IsMoreBy (Some c) sent more = (w : Numbered) × (after : List ℕ) × (more ≡ fragment (data_of c) w after ∷ sent)
+
+-- what a call makes of it, by which this chunk is sent, if there is one
+pub record Result (o : Option ChunkPayloadData) (ws vs : List Numbered) (first : ℕ) (sent : List Entry) (u : Transmission) (ms ns : List Made) : Type 0 where
   pub more : List Entry
   pub held : IsHeld vs first u more
   pub once : IsOnceMore sent more
+  pub grown : IsMoreBy o sent more
   pub made : AreSent sent ms → AreSent more ns
 
 -- nothing gets a TSN
-pub calm : (ws vs : List Numbered) (first : ℕ) (sent : List Entry) (u : Transmission) (ms : List Made) → IsHeld vs first u sent → Result ws vs first sent u ms ms
-calm ws vs first sent u ms h = record { more = sent; held = h; once = inl refl; made = λ a. a }
+pub calm : (ws vs : List Numbered) (first : ℕ) (sent : List Entry) (u : Transmission) (ms : List Made) → IsHeld vs first u sent → Result None ws vs first sent u ms ms
+calm ws vs first sent u ms h = record { more = sent; held = h; once = inl refl; grown = inl refl; made = λ a. a }
 
 pub renumbered : (ws : List Numbered) (first : ℕ) (number number' : ℕ → ℕ) (q : Outbound) (next : ℕ) (sent : List Entry) → ((s : ℕ) → number' s ≡ number s) → Stands ws first number q next sent → Stands ws first number' q next sent
 renumbered ws first number number' q next sent same s = record {
@@ -99,7 +105,7 @@ first-changed ws first t sent p f i keeps keeps' h =
     let cs = t.flight.queue.inflight.chunks in
     let ds = change_where p f (take i cs) ++ drop i cs in
     steady ws first t sent h t.streams (steady-same t.streams) (record t.flight { queue = with_inflight t.flight.queue ds }) sent
-    (refilled ws first (λ s. number_of s t.streams) t.flight.queue t.flight.next_tsn sent ds (λ m e. sym (same m) ∙ e) (known-part-changed sent p f keeps' i cs h.stands.known) h.stands)
+    (refilled ws first (λ s. number_of s t.streams) t.flight.queue t.flight.next_tsn sent ds (λ m e. sym (same m) ∙ e) (known-part-changed first sent p f keeps' i cs h.stands.known) h.stands)
   where
     same : (m : ℕ) → list_any (is_of m) (change_where p f (take i t.flight.queue.inflight.chunks) ++ drop i t.flight.queue.inflight.chunks) ≡ list_any (is_of m) t.flight.queue.inflight.chunks
     same m =
@@ -129,7 +135,7 @@ acked ws first t sent s h =
     stands true = h.stands
     stands false =
         refilled ws first (λ r. number_of r t.streams) t.flight.queue t.flight.next_tsn sent (past s.cumulative_tsn_ack (change_where (reports_anew s) as_acknowledged t.flight.queue.inflight.chunks)) fewer
-        (known-those sent _ (change_where (reports_anew s) as_acknowledged t.flight.queue.inflight.chunks) (known-changed sent (reports_anew s) as_acknowledged acknowledged-keeps t.flight.queue.inflight.chunks h.stands.known))
+        (known-those first sent _ (change_where (reports_anew s) as_acknowledged t.flight.queue.inflight.chunks) (known-changed first sent (reports_anew s) as_acknowledged acknowledged-keeps t.flight.queue.inflight.chunks h.stands.known))
         h.stands
 
 -- ## Messages are abandoned
@@ -151,27 +157,28 @@ grown sent more ms (inl e) a = subst (λ xs. AreSent xs ms) (sym e) a
 grown sent more ms (inr x) a = subst (λ xs. AreSent xs ms) (sym x.1) (sent-then x.0 sent ms a)
 
 -- the streams have less, and the flight is what is left
-left : (ws : List Numbered) (first : ℕ) (t : Transmission) (sent : List Entry) (ms : List Made) (ls : List StreamState) (f : Flight) → IsHeld ws first t sent → IsSteady t.streams ls → Abandons ws first (λ s. number_of s t.streams) sent t.flight.queue f.queue f.next_tsn → Result ws ws first sent (record t { streams = ls; flight = f }) ms ms
+left : (ws : List Numbered) (first : ℕ) (t : Transmission) (sent : List Entry) (ms : List Made) (ls : List StreamState) (f : Flight) → IsHeld ws first t sent → IsSteady t.streams ls → Abandons ws first (λ s. number_of s t.streams) sent t.flight.queue f.queue f.next_tsn → Result None ws ws first sent (record t { streams = ls; flight = f }) ms ms
 left ws first t sent ms ls f h st a = record {
   more = a.more;
   held = steady ws first t sent h ls st f a.more a.stands;
-  once = a.once;
-  made = grown sent a.more ms a.once;
+  once = once-ended sent a.more a.ended;
+  grown = a.ended;
+  made = grown sent a.more ms (once-ended sent a.more a.ended);
 }
 
-pub abandons-message : (ws : List Numbered) (first : ℕ) (t : Transmission) (sent : List Entry) (ms : List Made) → IsHeld ws first t sent → (o : Option ℕ) → ((m : ℕ) → o ≡ Some m → waits m t.flight.queue.pending ≡ true → partially_sent t.flight.queue.pending ≡ Some m) → (stream bytes : ℕ) → Result ws ws first sent (after_abandon o stream bytes t) ms ms
+pub abandons-message : (ws : List Numbered) (first : ℕ) (t : Transmission) (sent : List Entry) (ms : List Made) → IsHeld ws first t sent → (o : Option ℕ) → ((m : ℕ) → o ≡ Some m → waits m t.flight.queue.pending ≡ true → partially_sent t.flight.queue.pending ≡ Some m) → (stream bytes : ℕ) → Result None ws ws first sent (after_abandon o stream bytes t) ms ms
 abandons-message ws first t sent ms h o half stream bytes =
     left ws first t sent ms (change_where (has_number stream) (less_by bytes) t.streams) (after_abandonment o t.flight) h (steady-less stream bytes t.streams)
     (abandoned ws first (λ s. number_of s t.streams) t.flight.queue t.flight.next_tsn sent h.stands o half)
 
-pub abandons-all : (ws : List Numbered) (first : ℕ) (t : Transmission) (sent : List Entry) (ms : List Made) → IsHeld ws first t sent → (tsns : List ℕ) → Result ws ws first sent (after_abandoning tsns t) ms ms
+pub abandons-all : (ws : List Numbered) (first : ℕ) (t : Transmission) (sent : List Entry) (ms : List Made) → IsHeld ws first t sent → (tsns : List ℕ) → Result None ws ws first sent (after_abandoning tsns t) ms ms
 abandons-all ws first t sent ms h tsns =
     left ws first t sent ms (after_leaving (leaving_each tsns t.flight) t.streams) (abandoned_each tsns t.flight) h (steady-left (leaving_each tsns t.flight) t.streams)
     (gone-each ws first (λ s. number_of s t.streams) tsns t.flight sent h.stands)
 
 -- ## Sending
 
-sent-of : (ws : List Numbered) (first : ℕ) (t : Transmission) (sent : List Entry) (ms : List Made) (now : ℕ) → IsHeld ws first t sent → (q : Outbound) → Stands ws first (λ s. number_of s t.streams) q t.flight.next_tsn sent → (o : Option ChunkPayloadData) → next_pending q.pending ≡ o → Result ws ws first sent (record t { flight = record t.flight { queue = sent_of o q t.flight.next_tsn now; next_tsn = if is_some o then following_tsn t.flight.next_tsn else t.flight.next_tsn } }) ms (with_chunk (option_map (as_sent t.flight.next_tsn now) o) ms)
+sent-of : (ws : List Numbered) (first : ℕ) (t : Transmission) (sent : List Entry) (ms : List Made) (now : ℕ) → IsHeld ws first t sent → (q : Outbound) → Stands ws first (λ s. number_of s t.streams) q t.flight.next_tsn sent → (o : Option ChunkPayloadData) → next_pending q.pending ≡ o → Result (option_map (as_sent t.flight.next_tsn now) o) ws ws first sent (record t { flight = record t.flight { queue = sent_of o q t.flight.next_tsn now; next_tsn = if is_some o then following_tsn t.flight.next_tsn else t.flight.next_tsn } }) ms (with_chunk (option_map (as_sent t.flight.next_tsn now) o) ms)
 sent-of ws first t sent ms now h q s None e = calm ws ws first sent (record t { flight = record t.flight { queue = q } }) ms (steady ws first t sent h t.streams (steady-same t.streams) (record t.flight { queue = q }) sent s)
 sent-of ws first t sent ms now h q s (Some c) e =
     let next = t.flight.next_tsn in
@@ -181,11 +188,12 @@ sent-of ws first t sent ms now h q s (Some c) e =
       more = entry ∷ sent;
       held = steady ws first t sent h t.streams (steady-same t.streams) (record t.flight { queue = sent_of (Some c) q next now; next_tsn = following_tsn next }) (entry ∷ sent) x.stands;
       once = inr (entry, refl);
+      grown = (x.write, x.after, refl);
       made = λ a. ((x.write, x.after, sent, inl refl), sent-then entry sent ms a);
     }
 
-pub sends-next : (ws : List Numbered) (first : ℕ) (t : Transmission) (sent : List Entry) (ms : List Made) (now : ℕ) → IsHeld ws first t sent → Result ws ws first sent (with_flight (record t.flight { queue = sent_next t.flight.queue t.flight.next_tsn now; next_tsn = next_after_send t.flight }) t) ms (with_chunk (next_chunk now t) ms)
+pub sends-next : (ws : List Numbered) (first : ℕ) (t : Transmission) (sent : List Entry) (ms : List Made) (now : ℕ) → IsHeld ws first t sent → Result (next_chunk now t) ws ws first sent (with_flight (record t.flight { queue = sent_next t.flight.queue t.flight.next_tsn now; next_tsn = next_after_send t.flight }) t) ms (with_chunk (next_chunk now t) ms)
 sends-next ws first t sent ms now h =
     let r = all_started now t.flight.queue in
-    subst (λ b. Result ws ws first sent (with_flight (record t.flight { queue = sent_next t.flight.queue t.flight.next_tsn now; next_tsn = if b then following_tsn t.flight.next_tsn else t.flight.next_tsn }) t) ms (with_chunk (next_chunk now t) ms)) (peeked_all_started now t.flight.queue)
+    subst (λ b. Result (next_chunk now t) ws ws first sent (with_flight (record t.flight { queue = sent_next t.flight.queue t.flight.next_tsn now; next_tsn = if b then following_tsn t.flight.next_tsn else t.flight.next_tsn }) t) ms (with_chunk (next_chunk now t) ms)) (peeked_all_started now t.flight.queue)
     (sent-of ws first t sent ms now h r (started ws first (λ s. number_of s t.streams) now t.flight.queue t.flight.next_tsn sent h.stands) (next_pending r.pending) refl)

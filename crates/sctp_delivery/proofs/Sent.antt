@@ -90,7 +90,7 @@ same-parts (x ∷ xs) ys zs (inl p) (inr q) e = let m = ap length p in let n = p
 same-parts (x ∷ xs) ys zs (inr p) (inl q) e = let m = ap length q in let n = part-length xs ys p in absurd (omega (arith, m, n, e))
 same-parts (x ∷ xs) ys zs (inr p) (inr q) e = same-parts xs ys zs p q e
 
-tail-part : (xs ys : List Entry) (y : Entry) → IsPart (y ∷ ys) xs → IsPart ys xs
+pub tail-part : (xs ys : List Entry) (y : Entry) → IsPart (y ∷ ys) xs → IsPart ys xs
 tail-part [] ys y p = cc
 tail-part (x ∷ xs) ys y (inl e) = let same : ys ≡ xs = cc in inr (subst (λ zs. IsPart zs xs) (sym same) (part-itself xs))
 tail-part (x ∷ xs) ys y (inr p) = inr (tail-part xs ys y p)

@@ -100,7 +100,7 @@ module _ (ws : List Numbered) (first : ℕ) (t : Transmission) (sent : List Entr
           let off : (l.stream_identifier == r) ≡ false = fails (l.stream_identifier == r) (λ c. differ (sym (sym is-stream ∙ same-is l.stream_identifier r c))) in
           number-elsewhere r stream differ (wrote ppi (b ∷ bs)) (λ x. refl) t.streams ∙ ap (λ k. number_after k (number_of r t.streams)) (sym (counts-are r false off)))
 
-  pub writes-some : Result ws (write ∷ ws) first sent (written_to l stream ppi (b ∷ bs) t) ms ms
+  pub writes-some : Result None ws (write ∷ ws) first sent (written_to l stream ppi (b ∷ bs) t) ms ms
   writes-some = calm ws (write ∷ ws) first sent (written_to l stream ppi (b ∷ bs) t) ms (record {
     stands = pushed ws first (λ s. number_of s t.streams) (λ s. number_of s after) t.flight.queue t.flight.next_tsn sent h.stands write
         (made l ppi (b ∷ bs) 0) (map (with_reliability l.reliability_type l.reliability_value) (map (fragment_at l ppi (b ∷ bs)) (numbers_where always (0 + 1) later)))
@@ -131,7 +131,7 @@ in-front now (Some x) c e = by (is_expired now x) refl e
     by true h f = (f, subst (λ (y : ChunkPayloadData). y.beginning_fragment ≡ true) (some-same f) (both x.beginning_fragment _ h).0)
     by false h f = absurd (none-some c f)
 
-pub expires-one : (ws : List Numbered) (first : ℕ) (t : Transmission) (sent : List Entry) (ms : List Made) → IsHeld ws first t sent → (now : ℕ) (c : ChunkPayloadData) (bytes : ℕ) → expiring now t.flight.queue ≡ Some c → Result ws ws first sent (after_expire c bytes now t) ms ms
+pub expires-one : (ws : List Numbered) (first : ℕ) (t : Transmission) (sent : List Entry) (ms : List Made) → IsHeld ws first t sent → (now : ℕ) (c : ChunkPayloadData) (bytes : ℕ) → expiring now t.flight.queue ≡ Some c → Result None ws ws first sent (after_expire c bytes now t) ms ms
 expires-one ws first t sent ms h now c bytes e = calm ws ws first sent (after_expire c bytes now t) ms (record {
   stands = expired ws first (λ s. number_of s t.streams) (λ s. number_of s after) t.flight.queue t.flight.next_tsn sent h.stands c front.0 front.1 same lowers;
   open' = all-open t.streams after (λ s o. there-changed (has_number c.stream_identifier) (after_expiry c.unordered bytes) keeps s t.streams ∙ o) ws h.open';

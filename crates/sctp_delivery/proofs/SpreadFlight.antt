@@ -1,0 +1,282 @@
+-- What is in flight, place by place: how far the numbers of ordered messages are apart, and which of them a FORWARD-TSN names.
+use Rattle.std.proofs.Common.{◌≡◌, ℕ, zero, suc, ◌+◌, ◌-◌, ◌%◌, ◌^◌, ◌<◌, ◌≤◌, Bool, true, false, not, List, [], ◌∷◌, length, take, ◌⊎◌, inl, inr, Option, Some, None, refl, ap, sym, subst, ◌∙◌, arith}
+use Rattle.std.specs.Prelude.{⊤, ◌&&◌, if◌then◌else◌, nat_le}
+use Rattle.std.specs.List.{filter, find}
+use Rattle.std.proofs.lemmas.Bool.Decides.{nat_tests}
+use Rattle.std.proofs.lemmas.Option.{none-some}
+use Rattle.sctp_list_lemmas.specs.Serial.{distance}
+use Rattle.sctp_list_lemmas.proofs.Cases.{same-is, some-same}
+use Rattle.sctp_list_lemmas.proofs.More.{both, not_both}
+use Rattle.sctp_list_lemmas.proofs.Round.{tsn, distance-tsn}
+use Rattle.sctp_data.specs.declared.chunk.chunk_payload_data.ChunkPayloadData.{ChunkPayloadData}
+use Rattle.sctp_data.specs.declared.chunk.chunk_forward_tsn.ChunkForwardTsnStream.{ChunkForwardTsnStream}
+use Rattle.sctp_data.specs.ForwardTsn.{ForwardTsn}
+use Rattle.sctp_outbound.specs.pending_queue.PendingQueue.{last_of}
+use Rattle.sctp_serial.specs.DataChunks.{is_on}
+use Rattle.sctp_sender.specs.Abandonment.{Name, ahead, is_kept, is_named, is_pair_of, named_up_to, pairs_of}
+use Rattle.sctp_sender.specs.Flight.{Flight}
+use Rattle.sctp_sender.specs.Numbers.{begins_ordered, first_ordered, is_ordered_on, is_too_far, past_number}
+use Rattle.sctp_sender.proofs.Runs.{IsRunFrom}
+use Rattle.sctp_delivery.specs.SenderCalls.{Made, data_chunk, forward_tsn}
+use Rattle.sctp_delivery.proofs.GivenTsns.{IsNumbered}
+use Rattle.sctp_delivery.proofs.InFlight.{AreKnown}
+use Rattle.sctp_delivery.proofs.OrderedEntries.{IsLatest, begun_on}
+use Rattle.sctp_delivery.proofs.PassedTsns.{IsPassable, lead, rest-run}
+use Rattle.sctp_delivery.proofs.Queues.{IsOnceMore}
+use Rattle.sctp_delivery.proofs.Sent.{Entry, part-length, tail-part}
+use Rattle.sctp_delivery.proofs.SpreadEntries.{IsPlaced, IsStep, begun_to, to-more, to-part, to-up}
+use Rattle.sctp_delivery.proofs.TsnPlaces.{base}
+
+-- each chunk stands for the entry at the next place behind a
+abbrev pub AreSteps : ℕ → List Entry → ℕ → List ChunkPayloadData → Type 0
+AreSteps st sent a [] = ⊤
+AreSteps st sent a (c ∷ cs) = IsStep st (begun_to st a sent) (begun_to st (a + 1) sent) c × AreSteps st sent (a + 1) cs
+
+pub are-steps : (first n : ℕ) (sent : List Entry) → length sent ≡ n → n < 2 ^ 31 → (st a : ℕ) (cs : List ChunkPayloadData) → a + length cs ≡ n
+    → IsRunFrom (tsn (base first) (a + 1)) cs → AreKnown first sent cs → AreSteps st sent a cs
+are-steps first n sent long few st a [] total run known = tt
+are-steps first n sent long few st a (c ∷ cs) total run known =
+    (here known.0.1, are-steps first n sent long few st (a + 1) cs (omega (arith, total)) r.1 known.1)
+  where
+    r : (c.tsn ≡ tsn (base first) (a + 1)) × IsRunFrom (tsn (base first) (a + 1 + 1)) cs
+    r = rest-run (base first) a c cs run
+
+    here : IsPlaced first sent c → IsStep st (begun_to st a sent) (begun_to st (a + 1) sent) c
+    here i =
+        let within = part-length sent (i.entry ∷ i.entries) i.part in
+        let number = i.number in
+        let given = r.0 in
+        let same : length i.entries ≡ a = omega (arith, number, given, within, long, few, total) in
+        let next : length (i.entry ∷ i.entries) ≡ a + 1 = omega (arith, same) in
+        let before : begun_on st i.entries ≡ begun_to st a sent =
+        sym (to-part st sent i.entries (tail-part sent i.entries i.entry i.part)) ∙ ap (λ k. begun_to st k sent) same in
+        let upto : begun_on st (i.entry ∷ i.entries) ≡ begun_to st (a + 1) sent =
+        sym (to-part st sent (i.entry ∷ i.entries) i.part) ∙ ap (λ k. begun_to st k sent) next in
+        subst (λ m. IsStep st (begun_to st a sent) m c) upto (subst (λ m. IsStep st m (begun_on st (i.entry ∷ i.entries)) c) before (i.step st))
+
+-- ## How far apart
+
+-- the first ordered chunk of the stream
+record IsFirst (st : ℕ) (sent : List Entry) (a e : ℕ) (d : ChunkPayloadData) : Type 0 where
+  index : ℕ
+  number : d.stream_sequence_number ≡ index % 2 ^ 16
+  from : begun_to st a sent ≤ index + 1
+  near : index ≤ begun_to st a sent
+  within : index + 1 ≤ begun_to st e sent
+
+module _ (st : ℕ) (sent : List Entry) where
+  steps-few : (a e : ℕ) (cs : List ChunkPayloadData) → a + length cs ≡ e → AreSteps st sent a cs
+      → begun_to st e sent ≤ begun_to st a sent + length cs
+  steps-few a e [] total s =
+      let same : a ≡ e = omega (arith, total) in
+      let q = ap (λ k. begun_to st k sent) same in
+      omega (arith, q)
+  steps-few a e (c ∷ cs) total s =
+      let ih = steps-few (a + 1) e cs (omega (arith, total)) s.1 in
+      let m = s.0.most in
+      omega (arith, ih, m)
+
+  steps-none : (a e : ℕ) (cs : List ChunkPayloadData) → a + length cs ≡ e → AreSteps st sent a cs → find (is_ordered_on st) cs ≡ None
+      → begun_to st e sent ≡ begun_to st a sent
+  steps-none a e [] total s f = let same : e ≡ a = omega (arith, total) in ap (λ k. begun_to st k sent) same
+  steps-none a e (c ∷ cs) total s f = by (is_ordered_on st c) refl f (steps-none (a + 1) e cs (omega (arith, total)) s.1)
+    where
+      by : (b : Bool) → is_ordered_on st c ≡ b → (if b then Some c else find (is_ordered_on st) cs) ≡ None
+          → (find (is_ordered_on st) cs ≡ None → begun_to st e sent ≡ begun_to st (a + 1) sent) → begun_to st e sent ≡ begun_to st a sent
+      by true h g ih = absurd (none-some c (sym g))
+      by false h g ih = ih g ∙ s.0.other h
+
+  steps-first : (a e : ℕ) (cs : List ChunkPayloadData) (d : ChunkPayloadData) → a + length cs ≡ e → AreSteps st sent a cs
+      → find (is_ordered_on st) cs ≡ Some d → IsFirst st sent a e d
+  steps-first a e [] d total s f = absurd (none-some d f)
+  steps-first a e (c ∷ cs) d total s f = by (is_ordered_on st c) refl f (steps-first (a + 1) e cs d (omega (arith, total)) s.1)
+    where
+      by : (b : Bool) → is_ordered_on st c ≡ b → (if b then Some c else find (is_ordered_on st) cs) ≡ Some d
+          → (find (is_ordered_on st) cs ≡ Some d → IsFirst st sent (a + 1) e d) → IsFirst st sent a e d
+      by true h g ih =
+          let n = s.0.number h in
+          let k = n.1 in
+          let up = s.0.up in
+          let most = s.0.most in
+          let later = to-up st (a + 1) e sent (omega (arith, total)) in
+          subst (IsFirst st sent a e) (some-same g) (record {
+            index = n.0;
+            number = n.2;
+            from = omega (arith, k, up);
+            near = omega (arith, k, most);
+            within = omega (arith, k, later);
+          })
+      by false h g ih =
+          let i = ih g in
+          let same = s.0.other h in
+          let from = i.from in
+          let near = i.near in
+          record { index = i.index; number = i.number; from = omega (arith, from, same); near = omega (arith, near, same); within = i.within }
+
+  -- an ordered message that is next, and not too far
+  pub near-next : (f : Flight) (c : ChunkPayloadData) (a n : ℕ) → AreSteps st sent a f.queue.inflight.chunks
+      → a + length f.queue.inflight.chunks ≡ n → c.stream_identifier ≡ st → begins_ordered c ≡ true
+      → c.stream_sequence_number ≡ begun_to st n sent % 2 ^ 16 → is_too_far f c ≡ false
+      → begun_to st n sent ≤ begun_to st a sent + 2 ^ 14 → begun_to st n sent + 1 ≤ begun_to st a sent + 2 ^ 14
+  near-next f c a n s total on begins number near small =
+      by (nat_le (2 ^ 14) (length f.queue.inflight.chunks)) refl
+      (sym (ap (λ b. b && (nat_le (2 ^ 14) (length f.queue.inflight.chunks) && nat_le (2 ^ 14) (past_number (first_ordered c.stream_identifier f) c))) begins)
+      ∙ near)
+    where
+      from : (o : Option ChunkPayloadData) → find (is_ordered_on st) f.queue.inflight.chunks ≡ o → nat_le (2 ^ 14) (past_number o c) ≡ false
+          → begun_to st n sent + 1 ≤ begun_to st a sent + 2 ^ 14
+      from None e lt = let none = steps-none a n f.queue.inflight.chunks total s e in omega (arith, none)
+      from (Some d) e lt =
+          let i = steps-first a n f.queue.inflight.chunks d total s e in
+          let past : (c.stream_sequence_number + (2 ^ 16 - d.stream_sequence_number)) % 2 ^ 16 < 2 ^ 14 = grind (arith, nat_tests, lt) in
+          let x = i.number in
+          let y = i.from in
+          let z = i.near in
+          let w = i.within in
+          omega (arith, past, x, y, z, w, number, small)
+
+      by : (b : Bool) → nat_le (2 ^ 14) (length f.queue.inflight.chunks) ≡ b
+          → (b && nat_le (2 ^ 14) (past_number (first_ordered c.stream_identifier f) c)) ≡ false
+          → begun_to st n sent + 1 ≤ begun_to st a sent + 2 ^ 14
+      by true h e =
+          from (find (is_ordered_on st) f.queue.inflight.chunks) refl
+          (ap (λ k. nat_le (2 ^ 14) (past_number (find (is_ordered_on k) f.queue.inflight.chunks) c)) (sym on) ∙ e)
+      by false h e =
+          let lt : length f.queue.inflight.chunks < 2 ^ 14 = grind (arith, nat_tests, h) in
+          let few = steps-few a n f.queue.inflight.chunks total s in
+          omega (arith, lt, few)
+
+-- ## What is named
+
+-- up to some place, where so many were begun at one before: this is the last ordered chunk of the stream between, if there is one
+abbrev Says : ℕ → ℕ → ℕ → Option ChunkPayloadData → Type 0
+Says st b m None = m ≡ b
+Says st b m (Some d) = (d.stream_identifier ≡ st) × IsLatest m d.stream_sequence_number
+
+says-some : (st b k m : ℕ) (y : ChunkPayloadData) (ys : List ChunkPayloadData) → Says st b m (last_of (y ∷ ys)) → Says st k m (last_of (y ∷ ys))
+says-some st b k m y [] s = s
+says-some st b k m y (z ∷ zs) s = says-some st b k m z zs s
+
+module _ (st : ℕ) (sent : List Entry) where
+  says-first : (a e : ℕ) (c : ChunkPayloadData) (xs : List ChunkPayloadData) → is_ordered_on st c ≡ true
+      → IsStep st (begun_to st a sent) (begun_to st (a + 1) sent) c → Says st (begun_to st (a + 1) sent) (begun_to st e sent) (last_of xs)
+      → Says st (begun_to st a sent) (begun_to st e sent) (last_of (c ∷ xs))
+  says-first a e c [] h s i = (
+    same-is c.stream_identifier st (both (is_on st c) (not c.unordered) h).0,
+    subst (λ m. IsLatest m c.stream_sequence_number) (sym i) (s.number h),
+  )
+  says-first a e c (y ∷ ys) h s i = says-some st (begun_to st (a + 1) sent) (begun_to st a sent) (begun_to st e sent) y ys i
+
+  -- of an abandoned chunk and those behind it
+  both-tests : (c : ChunkPayloadData) (xs : List ChunkPayloadData) → c.abandoned ≡ true
+      → filter (is_on st) (filter is_named (c ∷ xs)) ≡ (if is_ordered_on st c then c ∷ filter (is_on st) (filter is_named xs)
+      else filter (is_on st) (filter is_named xs))
+  both-tests c xs gone =
+      ap (λ b. filter (is_on st) (if b && not c.unordered then c ∷ filter is_named xs else filter is_named xs)) gone ∙ by (not c.unordered) (is_on st c) refl
+    where
+      by : (u b : Bool) → is_on st c ≡ b → filter (is_on st) (if u then c ∷ filter is_named xs else filter is_named xs)
+          ≡ (if b && u then c ∷ filter (is_on st) (filter is_named xs) else filter (is_on st) (filter is_named xs))
+      by true true e = ap (λ k. if k then c ∷ filter (is_on st) (filter is_named xs) else filter (is_on st) (filter is_named xs)) e
+      by true false e = ap (λ k. if k then c ∷ filter (is_on st) (filter is_named xs) else filter (is_on st) (filter is_named xs)) e
+      by false true e = refl
+      by false false e = refl
+
+  dropped : (b : Bool) → not b ≡ false → b ≡ true
+  dropped true i = refl
+  dropped false i = absurd (not_both (sym i))
+
+  says-named : (a e j : ℕ) (cs : List ChunkPayloadData) → a + j ≡ e → j ≤ lead cs → AreSteps st sent a cs
+      → Says st (begun_to st a sent) (begun_to st e sent) (last_of (filter (is_on st) (filter is_named (take j cs))))
+  says-named a e zero cs total le s = let same : e ≡ a = omega (arith, total) in ap (λ k. begun_to st k sent) same
+  says-named a e (suc j) [] total le s = absurd (omega (arith, le))
+  says-named a e (suc j) (c ∷ cs) total le s = kept (is_kept c) refl le (λ l. says-named (a + 1) e j cs (omega (arith, total)) l s.1)
+    where
+      by : (b : Bool) → is_ordered_on st c ≡ b
+          → Says st (begun_to st (a + 1) sent) (begun_to st e sent) (last_of (filter (is_on st) (filter is_named (take j cs))))
+          → Says st (begun_to st a sent) (begun_to st e sent)
+          (last_of (if b then c ∷ filter (is_on st) (filter is_named (take j cs)) else filter (is_on st) (filter is_named (take j cs))))
+      by true h ih = says-first a e c (filter (is_on st) (filter is_named (take j cs))) h s.0 ih
+      by false h ih = subst (λ b. Says st b (begun_to st e sent) (last_of (filter (is_on st) (filter is_named (take j cs))))) (s.0.other h) ih
+
+      kept : (b : Bool) → is_kept c ≡ b → suc j ≤ (if b then 0 else lead cs + 1)
+          → (j ≤ lead cs → Says st (begun_to st (a + 1) sent) (begun_to st e sent) (last_of (filter (is_on st) (filter is_named (take j cs)))))
+          → Says st (begun_to st a sent) (begun_to st e sent) (last_of (filter (is_on st) (filter is_named (c ∷ take j cs))))
+      kept true h l ih = absurd (omega (arith, l))
+      kept false h l ih =
+          subst (λ ys. Says st (begun_to st a sent) (begun_to st e sent) (last_of ys)) (sym (both-tests c (take j cs) (dropped c.abandoned h)))
+          (by (is_ordered_on st c) refl (ih (omega (arith, l))))
+
+-- these names, up to a place: none of the stream, and no ordered message of it begun behind the place acknowledged; or one, the number
+-- of the last that was begun up to there
+abbrev pub Tells : ℕ → ℕ → ℕ → List Entry → List ChunkForwardTsnStream → Type 0
+Tells st a place sent ns =
+    ((filter (is_pair_of st) ns ≡ []) × (begun_to st place sent ≤ begun_to st a sent))
+    ⊎ ((k : ℕ) × (k + 1 ≡ begun_to st place sent)
+    × (filter (is_pair_of st) ns ≡ (let n : ChunkForwardTsnStream = record { identifier = st; sequence = k % 2 ^ 16 } in n) ∷ []))
+
+-- a FORWARD-TSN, where a is the place acknowledged
+pub record IsNaming (st p a : ℕ) (sent : List Entry) (g : ForwardTsn) : Type 0 where
+  pub place : ℕ
+  pub within : place ≤ length sent
+  pub is : g.new_cumulative_tsn ≡ tsn p place
+  pub tells : Tells st a place sent g.streams
+
+abbrev pub IsMadeNaming : ℕ → ℕ → ℕ → List Entry → Made → Type 0
+IsMadeNaming st p a sent (data_chunk d) = ⊤
+IsMadeNaming st p a sent (forward_tsn g) = IsNaming st p a sent g
+
+pub named : (st p n : ℕ) (sent : List Entry) (f : Flight) (h : IsNumbered p n f) (few : n < 2 ^ 31) → length sent ≡ n
+    → AreSteps st sent h.acked f.queue.inflight.chunks → (g : ForwardTsn) → IsPassable p n f h few g.new_cumulative_tsn
+    → Name g.streams (named_up_to g.new_cumulative_tsn f) → IsNaming st p h.acked sent g
+named st p n sent f h few long s g i name = record {
+  place = i.given.place;
+  within = let w = i.given.within in omega (arith, w, long);
+  is = i.given.is;
+  tells = by (last_of (filter (is_on st) (named_up_to g.new_cumulative_tsn f))) (name st) says;
+}
+  where
+    far : ahead f g.new_cumulative_tsn ≡ i.given.place - h.acked
+    far =
+        let past = i.past in
+        let within = i.given.within in
+        ap (λ t. distance t g.new_cumulative_tsn) h.acked_is ∙ ap (distance (tsn p h.acked)) i.given.is
+        ∙ distance-tsn p h.acked i.given.place (omega (arith, past)) (omega (arith, within, few))
+
+    says : Says st (begun_to st h.acked sent) (begun_to st i.given.place sent) (last_of (filter (is_on st) (named_up_to g.new_cumulative_tsn f)))
+    says =
+        let past = i.past in
+        let upto = i.upto in
+        says-named st sent h.acked i.given.place (ahead f g.new_cumulative_tsn) f.queue.inflight.chunks (omega (arith, far, past))
+        (omega (arith, far, past, upto)) s
+
+    by : (o : Option ChunkPayloadData) → filter (is_pair_of st) g.streams ≡ pairs_of o → Says st (begun_to st h.acked sent) (begun_to st i.given.place sent) o
+        → Tells st h.acked i.given.place sent g.streams
+    by None e y = inl (e, omega (arith, y))
+    by (Some d) e y = inr (
+      y.1.0,
+      y.1.1,
+      e ∙ ap (λ k. (let n : ChunkForwardTsnStream = record { identifier = k; sequence = d.stream_sequence_number } in n) ∷ []) y.0
+          ∙ ap (λ k. (let n : ChunkForwardTsnStream = record { identifier = st; sequence = k } in n) ∷ []) y.1.2,
+    )
+
+-- it tells so still when more is acknowledged, and more got TSNs
+pub naming-later : (st p a b : ℕ) (sent more : List Entry) → a ≤ b → a ≤ length sent → IsOnceMore sent more → (m : Made)
+    → IsMadeNaming st p a sent m → IsMadeNaming st p b more m
+naming-later st p a b sent more le within once (data_chunk d) i = tt
+naming-later st p a b sent more le within once (forward_tsn g) i = by once
+  where
+    tells : (ys : List Entry) → begun_to st i.place ys ≡ begun_to st i.place sent → begun_to st a ys ≡ begun_to st a sent → Tells st b i.place ys g.streams
+    tells ys x y = on i.tells
+      where
+        on : Tells st a i.place sent g.streams → Tells st b i.place ys g.streams
+        on (inl t) = let up = to-up st a b ys le in let w = t.1 in inl (t.0, omega (arith, up, w, x, y))
+        on (inr t) = let w = t.1 in inr (t.0, omega (arith, w, x), t.2)
+
+    by : IsOnceMore sent more → IsNaming st p b more g
+    by (inl e) = subst (λ ys. IsNaming st p b ys g) (sym e) (record { place = i.place; within = i.within; is = i.is; tells = tells sent refl refl })
+    by (inr x) = subst (λ ys. IsNaming st p b ys g) (sym x.1) (record {
+      place = i.place;
+      within = let w = i.within in omega (arith, w);
+      is = i.is;
+      tells = tells (x.0 ∷ sent) (to-more st i.place x.0 sent i.within) (to-more st a x.0 sent within);
+    })
