@@ -105,6 +105,8 @@ held-first tsn size max most limits small some = record {
       indexed = tt;
       ranked =
           record { top = 0; under = tt; waiting = omega arith; rising = tt; few = λ s. omega arith };
+      joined = tt;
+      open' = tt;
     };
     sendable = record { ordered = tt; unordered = tt; apart = λ m h. refl; sent = λ m h k. absurd (not_both h); below = λ m le. refl };
     known = tt;

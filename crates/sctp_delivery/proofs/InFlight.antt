@@ -11,7 +11,7 @@ use Rattle.sctp_data.specs.PayloadData.{data_of}
 use Rattle.sctp_outbound.specs.Marks.{as_abandoned, as_acknowledged, is_outstanding}
 use Rattle.sctp_delivery.proofs.OrderedEntries.{begun_on}
 use Rattle.sctp_delivery.proofs.Sent.{Entry, WasSent, sent-more}
-use Rattle.sctp_delivery.proofs.SpreadEntries.{IsPlaced, placed-more, step-alike}
+use Rattle.sctp_delivery.proofs.SpreadEntries.{IsPlaced, ordered-alike, placed-more, step-alike}
 
 abbrev pub IsKnown : ℕ → List Entry → ChunkPayloadData → Type 0
 IsKnown first sent c =
@@ -45,6 +45,7 @@ placed-alike first sent c d a i = record {
   part = i.part;
   number = a.tsn ∙ i.number;
   step = λ st. step-alike st (begun_on st i.entries) (begun_on st (i.entry ∷ i.entries)) c d a.stream a.kind a.number (i.step st);
+  on = λ st. ordered-alike st c d a.stream a.kind ∙ i.on st;
 }
 
 -- a change after which a chunk is outstanding only where it was, with the same wire fields, and is always of the same kind, stream,

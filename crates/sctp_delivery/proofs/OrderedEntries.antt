@@ -1,5 +1,5 @@
 -- The ordered messages of a stream that got TSNs: each has the number after that of the one before it, and they were written in this order.
-use Rattle.std.proofs.Common.{◌≡◌, ℕ, ◌+◌, ◌%◌, ◌^◌, ◌<◌, ◌≤◌, Bool, true, false, not, List, [], ◌∷◌, ◌++◌, length, map, inl, inr, refl, ap, sym, subst, ◌∙◌, arith}
+use Rattle.std.proofs.Common.{◌≡◌, ℕ, ◌+◌, ◌%◌, ◌^◌, ◌<◌, ◌≤◌, Bool, true, false, not, List, [], ◌∷◌, ◌++◌, length, map, Option, Some, None, inl, inr, refl, ap, sym, subst, ◌∙◌, arith}
 use Rattle.std.specs.Prelude.{⊤, ◌==◌, ◌&&◌, if◌then◌else◌}
 use Rattle.std.specs.List.{filter}
 use Rattle.sctp_list_lemmas.specs.Lists.{change_where}
@@ -7,6 +7,7 @@ use Rattle.sctp_list_lemmas.proofs.Cases.{and-none, and-true}
 use Rattle.sctp_list_lemmas.proofs.More.{not_both}
 use Rattle.sctp_data.specs.declared.chunk.chunk_payload_data.ChunkPayloadData.{ChunkPayloadData}
 use Rattle.sctp_data.specs.PayloadData.{Data}
+use Rattle.sctp_outbound.specs.declared.pending_queue.Selected.{Selected}
 use Rattle.sctp_outbound.specs.outbound_queue.OutboundQueue.{with_message_id}
 use Rattle.sctp_outbound.specs.pending_queue.Whole.{IsMessage}
 use Rattle.sctp_delivery.proofs.Sent.{Entry, IsPart, Numbered, fragment, terminal}
@@ -53,6 +54,12 @@ AreIndexed [] = ⊤
 AreIndexed (terminal ∷ xs) = AreIndexed xs
 AreIndexed (fragment d w after ∷ xs) = IsIndexed d xs × AreIndexed xs
 
+pub part-indexed : (xs ys : List Entry) → IsPart ys xs → AreIndexed xs → AreIndexed ys
+part-indexed [] ys p i = subst AreIndexed (sym p) i
+part-indexed (x ∷ xs) ys (inl e) i = subst AreIndexed (sym e) i
+part-indexed (terminal ∷ xs) ys (inr p) i = part-indexed xs ys p i
+part-indexed (fragment d w after ∷ xs) ys (inr p) i = part-indexed xs ys p i.1
+
 pub begins-ordered : (s : ℕ) (d : Data) → d.unordered ≡ false → begins_on s d ≡ ((d.stream_identifier == s) && d.beginning_fragment)
 begins-ordered s d k =
     ap (λ b. (d.stream_identifier == s) && (d.beginning_fragment && not b)) k ∙ ap (λ b. (d.stream_identifier == s) && b) (and-true d.beginning_fragment)
@@ -73,6 +80,34 @@ number-more (fragment d w after) sent stream ssn n = let lt = n.1 in (n.0, omega
 pub latest-here : (d : Data) (w : Numbered) (after : List ℕ) (xs : List Entry) → d.unordered ≡ false → IsIndexed d xs
     → IsLatest (begun_on d.stream_identifier (fragment d w after ∷ xs)) d.stream_sequence_number
 latest-here d w after xs k i = i k
+
+-- ## Messages
+
+-- the last entry is an ordered fragment of the stream, or the terminal chunk behind such
+abbrev pub ends_on : ℕ → List Entry → Bool
+ends_on s [] = false
+ends_on s (terminal ∷ xs) = ends_on s xs
+ends_on s (fragment d w after ∷ xs) = (d.stream_identifier == s) && not d.unordered
+
+-- behind these entries a fragment begins a message where the last one ended, and else goes on with one of its kind and stream
+abbrev pub Joins : Data → List Entry → Type 0
+Joins d [] = d.beginning_fragment ≡ true
+Joins d (terminal ∷ xs) = d.beginning_fragment ≡ true
+Joins d (fragment e v rest ∷ xs) =
+    (d.beginning_fragment ≡ true → e.ending_fragment ≡ true)
+    × (d.beginning_fragment ≡ false → (e.ending_fragment ≡ false) × (e.unordered ≡ d.unordered) × (e.stream_identifier ≡ d.stream_identifier))
+
+abbrev pub AreJoined : List Entry → Type 0
+AreJoined [] = ⊤
+AreJoined (terminal ∷ xs) = AreJoined xs
+AreJoined (fragment d w after ∷ xs) = Joins d xs × AreJoined xs
+
+-- the last fragment ends its message where none is partially sent
+abbrev pub IsOpen : List Entry → Option Selected → Type 0
+IsOpen [] sel = ⊤
+IsOpen (terminal ∷ xs) sel = ⊤
+IsOpen (fragment d w after ∷ xs) None = d.ending_fragment ≡ true
+IsOpen (fragment d w after ∷ xs) (Some s) = d.ending_fragment ≡ false
 
 -- ## Places
 

@@ -18,7 +18,7 @@ use Rattle.sctp_delivery.proofs.Begun.{AreOnce}
 use Rattle.sctp_delivery.proofs.Delivered.{IsReadOf, read-of}
 use Rattle.sctp_delivery.proofs.OnceWritten.{EachRead, apart, each-read, one-first, places, stand}
 use Rattle.sctp_delivery.proofs.OrderedCalls.{AreInTurn, in-turn, is_in_order, is_large, passed}
-use Rattle.sctp_delivery.proofs.OrderedEntries.{AreIndexed, AreRising, IsUnder, begun_on, part-fewer}
+use Rattle.sctp_delivery.proofs.OrderedEntries.{AreIndexed, AreRising, IsUnder, begun_on, part-fewer, part-indexed}
 use Rattle.sctp_delivery.proofs.OrderedNames.{AreNamed}
 use Rattle.sctp_delivery.proofs.OrderedPlaces.{AreNumbered, place-at, written-few}
 use Rattle.sctp_delivery.proofs.OrderedReads.{first_number, starts_ordered}
@@ -28,12 +28,6 @@ use Rattle.sctp_delivery.proofs.Sent.{Entry, IsPart, Numbered, fragment, part-it
 use Rattle.sctp_delivery.proofs.Sessions as sessions
 
 -- ## Parts of the line
-
-part-indexed : (xs ys : List Entry) → IsPart ys xs → AreIndexed xs → AreIndexed ys
-part-indexed [] ys p i = subst AreIndexed (sym p) i
-part-indexed (x ∷ xs) ys (inl e) i = subst AreIndexed (sym e) i
-part-indexed (terminal ∷ xs) ys (inr p) i = part-indexed xs ys p i
-part-indexed (fragment d w after ∷ xs) ys (inr p) i = part-indexed xs ys p i.1
 
 part-rising : (xs ys : List Entry) → IsPart ys xs → AreRising xs → AreRising ys
 part-rising [] ys p r = subst AreRising (sym p) r

@@ -46,6 +46,8 @@ pushed ws first number number' q next sent s w c cs message stream waits' same t
         turns = λ r. let t = s.queued.turns r in (t.0, (subst (Turns r q.pending.ordered t.0) (sym (same e r)) t.1.0, t.1.1, t.1.2));
         indexed = s.queued.indexed;
         ranked = ranked-more w ws q.pending.ordered sent s.queued.ranked;
+        joined = s.queued.joined;
+        open' = s.queued.open';
       };
       sendable = sendable-pushed true q.pending.ordered q.pending.unordered q.pending.selected q.pending.ordered_room q.pending.unordered_room q.inflight.chunks (c ∷ cs) q.next_message_id m s.sendable;
       known = s.known;
@@ -69,6 +71,8 @@ pushed ws first number number' q next sent s w c cs message stream waits' same t
         );
         indexed = s.queued.indexed;
         ranked = ranked-written w ws q.pending.ordered sent q.next_message_id c cs false s.ids stream m s.queued.ranked;
+        joined = s.queued.joined;
+        open' = s.queued.open';
       };
       sendable = sendable-pushed false q.pending.ordered q.pending.unordered q.pending.selected q.pending.ordered_room q.pending.unordered_room q.inflight.chunks (c ∷ cs) q.next_message_id m s.sendable;
       known = s.known;
@@ -115,6 +119,8 @@ module _ (ws : List Numbered) (first : ℕ) (number number' : ℕ → ℕ) (ro r
           );
       indexed = s.queued.indexed;
       ranked = ranked-those (λ c. not (is_of u.message_id c)) ws os sent s.queued.ranked;
+      joined = s.queued.joined;
+      open' = s.queued.open';
     };
     sendable = sendable-without os (u ∷ us) None ro ru fl.chunks id u.message_id s.sendable;
     known = s.known;
@@ -138,6 +144,8 @@ module _ (ws : List Numbered) (first : ℕ) (number number' : ℕ → ℕ) (ro r
       indexed = s.queued.indexed;
       ranked = ranked-changed (is_on o.stream_identifier) one_lower (record { message = λ c. refl; begins = λ r c. refl }) ws
           (without_message o.message_id (o ∷ os)) sent (ranked-those (λ c. not (is_of o.message_id c)) ws (o ∷ os) sent s.queued.ranked);
+      joined = s.queued.joined;
+      open' = s.queued.open';
     };
     sendable = sendable-ordered_changed (without_message o.message_id (o ∷ os)) [] None ro ru fl.chunks id (is_on o.stream_identifier) one_lower keeps (sendable-without (o ∷ os) [] None ro ru fl.chunks id o.message_id s.sendable);
     known = s.known;

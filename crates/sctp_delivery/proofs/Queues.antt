@@ -22,7 +22,7 @@ use Rattle.sctp_list_lemmas.proofs.Edits.{list_any-inserted, list_any-those}
 use Rattle.sctp_delivery.proofs.Begun.{IsBegun, begins, begins-changed, begun-ended, begun-less, begun-sent}
 use Rattle.sctp_delivery.proofs.InFlight.{AreKnown, KeepsData, abandoned-keeps, abandoned-not, known-changed, known-inserted, known-more}
 use Rattle.sctp_delivery.proofs.OrderedEntries.{ranked-changed, ranked-ended, ranked-those}
-use Rattle.sctp_delivery.proofs.OrderedRest.{last-number}
+use Rattle.sctp_delivery.proofs.OrderedRest.{last-rest}
 use Rattle.sctp_delivery.proofs.Sending.{Queued, queued-sent}
 use Rattle.sctp_delivery.proofs.Sent.{Entry, Numbered, fragment, terminal}
 use Rattle.sctp_delivery.proofs.SpreadEntries.{step-fragment, step-terminal}
@@ -61,6 +61,8 @@ started ws first number now q next sent s = by (q.next_unstarted == q.next_messa
         indexed = s.queued.indexed;
         ranked = ranked-changed (is_to_start q.next_unstarted) (with_deadline now)
             (record { message = λ c. refl; begins = λ r c. refl }) ws q.pending.ordered sent s.queued.ranked;
+        joined = s.queued.joined;
+        open' = s.queued.open';
       };
       sendable = sendable-changed q.pending.ordered q.pending.unordered q.pending.selected q.pending.ordered_room q.pending.unordered_room q.pending.ordered_room q.pending.unordered_room q.inflight.chunks q.next_message_id (is_to_start q.next_unstarted) (is_to_start q.next_unstarted) (with_deadline now) (with_deadline now) keeps keeps s.sendable;
       known = s.known;
@@ -110,6 +112,7 @@ sends ws first number now q next sent c e s =
             part = inl refl;
             number = s.counted;
             step = λ st. step-fragment st t on.0 on.1 sent on.2.0.indexed.0;
+            on = λ st. refl;
           },
         )
             (known-more first (fragment (data_of t) on.0 on.1) sent q.inflight.chunks s.known);
@@ -213,6 +216,8 @@ module _ (ws : List Numbered) (first : ℕ) (number : ℕ → ℕ) (q : Outbound
     turns = λ st. let u = h.turns st in (u.0, (turned t.unordered k.ordered k.unordered st u.0 u.1.0, tt, u.1.2));
     indexed = h.indexed;
     ranked = ranked-ended ws (without_message m os) sent (ranked-those (λ c. not (is_of m c)) ws os sent h.ranked);
+    joined = h.joined;
+    open' = tt;
   }
     where
       gone : selected_without m (Some t) ≡ None
@@ -248,6 +253,7 @@ module _ (ws : List Numbered) (first : ℕ) (number : ℕ → ℕ) (q : Outbound
   rest-abandoned e half None f = absurd (no_last m q.pending e f)
   rest-abandoned e half (Some c) f =
       let t = terminal_chunk next c in
+      let rest = last-rest ws first number sent m c q.pending q.inflight.chunks q.next_message_id s.sendable half f s.queued in
       let gone : partially_sent (without m q.pending) ≡ None = half_gone m q.pending.selected half in
       record {
         more = terminal ∷ sent;
@@ -261,8 +267,8 @@ module _ (ws : List Numbered) (first : ℕ) (number : ℕ → ℕ) (q : Outbound
               entries = sent;
               part = inl refl;
               number = s.counted;
-              step = λ st. step-terminal st t sent
-                  (last-number ws first number sent m c q.pending q.inflight.chunks q.next_message_id s.sendable half f s.queued);
+              step = λ st. step-terminal st t sent rest.0;
+              on = rest.1;
             },
           ) (known-more first terminal sent xs
               (known-changed first sent (is_of m) as_abandoned abandoned-keeps q.inflight.chunks s.known));

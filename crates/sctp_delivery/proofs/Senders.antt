@@ -74,6 +74,8 @@ renumbered ws first number number' q next sent same s = record {
     turns = λ r. let t = s.queued.turns r in (t.0, (subst (λ k. Turns r q.pending.ordered t.0 k) (sym (same r)) t.1.0, t.1.1, t.1.2));
     indexed = s.queued.indexed;
     ranked = s.queued.ranked;
+    joined = s.queued.joined;
+    open' = s.queued.open';
   };
   sendable = s.sendable;
   known = s.known;

@@ -11,7 +11,7 @@ use Rattle.sctp_outbound.specs.outbound_queue.OutboundQueue.{as_sent}
 use Rattle.sctp_outbound.specs.pending_queue.PendingQueue.{Pending, list_of, list_to_pop, next_pending, rest_after, rest_from, selected_after}
 use Rattle.sctp_outbound.specs.pending_queue.Whole.{IsSendable, IsWhole, begun, free}
 use Rattle.sctp_outbound.proofs.lemmas.outbound_queue.Sendable.{made}
-use Rattle.sctp_delivery.proofs.OrderedEntries.{AreIndexed, AreRanked, AreRising, IsIndexed, IsUnder, begins-inner, begins-ordered, begins-unordered, begins_on, begun_on, one, ranked-ordered, ranked-unordered, under-more}
+use Rattle.sctp_delivery.proofs.OrderedEntries.{AreIndexed, AreJoined, AreRanked, AreRising, IsIndexed, IsOpen, IsUnder, Joins, begins-inner, begins-ordered, begins-unordered, begins_on, begun_on, one, ranked-ordered, ranked-unordered, under-more}
 use Rattle.sctp_delivery.proofs.Sent.{AreApart, Entry, Fits, GoesOn, IsLine, Numbered, fragment, terminal}
 use Rattle.sctp_delivery.proofs.Waiting.{Goes, Place, Waits, between, inside, nowhere, place_after, place_of, within}
 use Rattle.sctp_delivery.proofs.Turns.{IsAfter, Turns, counts, inner-not, number_after}
@@ -24,6 +24,8 @@ pub record Queued (ws : List Numbered) (first : ℕ) (number : ℕ → ℕ) (q :
   pub turns : (s : ℕ) → (n : ℕ) × (Turns s q.ordered n (number s) × IsAfter s n sent × (n ≡ begun_on s sent % 2 ^ 16))
   pub indexed : AreIndexed sent
   pub ranked : AreRanked ws q.ordered sent
+  pub joined : AreJoined sent
+  pub open' : IsOpen sent q.selected
 
 -- ## The places
 
@@ -118,6 +120,38 @@ module _ (c : ChunkPayloadData) (tsn now : ℕ) (w : Numbered) (after : List ℕ
   new-unordered k (terminal ∷ xs) = tt
   new-unordered k (fragment e v rest ∷ xs) = λ dk ek same number. absurd (not_both (sym dk ∙ k))
 
+  -- ## Messages
+
+  -- nothing is partially sent where it ends its message
+  stays-open : (kind : Bool) (sel : Option Selected) → OnTurn sel kind c → IsOpen (sent_entry ∷ sent) (selected_after sel kind c)
+  stays-open kind sel t = subst (IsOpen (sent_entry ∷ sent)) (sym (selects kind sel t)) (by c.ending_fragment refl)
+    where
+      by : (b : Bool) → c.ending_fragment ≡ b → IsOpen (sent_entry ∷ sent) (if b then None else Some (record { message_id = c.message_id; unordered = kind }))
+      by true e = e
+      by false e = e
+
+  joins-between : (xs : List Entry) → IsOpen xs None → c.beginning_fragment ≡ true → Joins (data_of (as_sent tsn now c)) xs
+  joins-between [] o b = b
+  joins-between (terminal ∷ xs) o b = b
+  joins-between (fragment e v rest ∷ xs) o b = (λ _. o, λ f. absurd (not_both (sym f ∙ b)))
+
+  joins-inside : (ws : List Numbered) (first m : ℕ) (s : Selected) (xs : List Entry) → Fits ws c.tsn (data_of c) w after → IsLine ws first xs
+      → IsOpen xs (Some s) → Goes (inside m xs) c w after → Joins (data_of (as_sent tsn now c)) xs
+  joins-inside ws first m s [] f l o g = absurd g
+  joins-inside ws first m s (terminal ∷ xs) f l o g = absurd g
+  joins-inside ws first m s (fragment e v rest ∷ xs) f l o g = (
+    λ b. absurd (not_both (sym g.inner ∙ b)),
+    λ _. (o, sym g.same_kind, l.0.stream ∙ ap (λ (x : Numbered). x.stream) (sym g.write) ∙ sym f.stream),
+  )
+
+  joins-sent : (ws : List Numbered) (first : ℕ) (kind : Bool) (sel : Option Selected) → OnTurn sel kind c → Fits ws c.tsn (data_of c) w after
+      → IsLine ws first sent → IsOpen sent sel → Goes (place_of kind sel sent) c w after → Joins (data_of (as_sent tsn now c)) sent
+  joins-sent ws first kind None t f l o g = joins-between sent o g.0
+  joins-sent ws first true (Some s) t f l o g =
+      joins-inside ws first s.message_id s sent f l o (subst (λ b. Goes (if b then inside s.message_id sent else between) c w after) t.0 g)
+  joins-sent ws first false (Some s) t f l o g =
+      joins-inside ws first s.message_id s sent f l o (subst (λ b. Goes (if b then between else inside s.message_id sent) c w after) t.0 g)
+
   -- ## Numbers
 
   -- the number after the chunk, where it begins a message
@@ -194,6 +228,8 @@ module _ (ws : List Numbered) (first : ℕ) (number : ℕ → ℕ) (sent : List 
             indexed = (index start, q.indexed);
             ranked = ranked-ordered (data_of (as_sent tsn now c)) w after ws c os sent q.ranked (under start) (at-most start)
                 (λ s. begins-ordered s (data_of (as_sent tsn now c)) kind);
+            joined = (joins-sent c tsn now w after sent ws first false sel turn fits q.line q.open' q.ordered.2.1.0, q.joined);
+            open' = stays-open c tsn now w after sent false sel turn;
           }),
           placed c tsn now w after sent (place_of false sel sent) q.ordered.2.1.0,
         ),
@@ -259,6 +295,8 @@ module _ (ws : List Numbered) (first : ℕ) (number : ℕ → ℕ) (sent : List 
             turns = λ s. ((q.turns s).0, ((q.turns s).1.0, after-unordered c tsn now w after sent s (q.turns s).0 sent kind, begun-so s));
             indexed = ((λ k. absurd (not_both (sym k ∙ kind))), q.indexed);
             ranked = ranked-unordered (data_of (as_sent tsn now c)) w after ws os sent kind q.ranked;
+            joined = (joins-sent c tsn now w after sent ws first true sel turn fits q.line q.open' q.unordered.2.1.0, q.joined);
+            open' = stays-open c tsn now w after sent true sel turn;
           }),
           placed c tsn now w after sent (place_of true sel sent) q.unordered.2.1.0,
         ),

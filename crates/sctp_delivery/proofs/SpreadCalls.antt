@@ -34,7 +34,7 @@ use Rattle.sctp_delivery.proofs.SackSteps.{known, moves}
 use Rattle.sctp_delivery.proofs.Senders.{IsMoreBy}
 use Rattle.sctp_delivery.proofs.Sent.{Entry, Numbered, fragment, terminal}
 use Rattle.sctp_delivery.proofs.SpreadEntries.{begun_to, to-all, to-more, to-up}
-use Rattle.sctp_delivery.proofs.SpreadFlight.{AreSteps, IsMadeNaming, are-steps, named, naming-later, near-next}
+use Rattle.sctp_delivery.proofs.SpreadFlight.{AreOn, AreSteps, IsMadeNaming, are-on, are-steps, named, naming-later, near-next}
 use Rattle.sctp_delivery.proofs.TsnPlaces.{base, same-place}
 
 -- at most 2^14 ordered messages of the stream more were begun than up to the place a
@@ -111,6 +111,11 @@ module _ (first n : ℕ) (old : Session) (ns : List Numbered) (sent : List Entry
       are-steps first n sent i.long small st i.step.numbered.acked old.sending.sender.flight.queue.inflight.chunks i.step.numbered.total
       i.step.numbered.run i.holds.held.stands.known
 
+  on : (st : ℕ) → AreOn st sent i.step.numbered.acked old.sending.sender.flight.queue.inflight.chunks
+  on st =
+      are-on first n sent i.long small st i.step.numbered.acked old.sending.sender.flight.queue.inflight.chunks i.step.numbered.total
+      i.step.numbered.run i.holds.held.stands.known
+
   within : i.step.numbered.acked ≤ length sent
   within = let total = i.step.numbered.total in let long = i.long in omega (arith, total, long)
 
@@ -135,12 +140,12 @@ module _ (first n : ℕ) (old : Session) (ns : List Numbered) (sent : List Entry
       by (Some c) = (tt, i.names st)
   names-after (outgoing.resends u now c) accepted st = (tt, i.names st)
   names-after (outgoing.forwards u g) accepted st = (
-    named st (base first) n sent old.sending.sender.flight i.step.numbered small i.long (steps st) g
+    named st (base first) n sent old.sending.sender.flight i.step.numbered small i.long (steps st) (on st) g
         (passable-skip (base first) n old.sending.sender.flight i.step.numbered small u g.new_cumulative_tsn accepted.0) accepted.1,
     i.names st,
   )
   names-after (outgoing.forwards_within bytes g) accepted st = (
-    named st (base first) n sent old.sending.sender.flight i.step.numbered small i.long (steps st) g
+    named st (base first) n sent old.sending.sender.flight i.step.numbered small i.long (steps st) (on st) g
         (passable-end (base first) n old.sending.sender.flight i.step.numbered small g.new_cumulative_tsn accepted.0 accepted.1) accepted.2,
     i.names st,
   )

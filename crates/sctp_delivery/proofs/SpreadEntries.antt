@@ -1,15 +1,17 @@
 -- How many ordered messages of a stream were begun by the entries up to a place; and the entry that each chunk in flight stands for.
-use Rattle.std.proofs.Common.{◌≡◌, ℕ, ◌+◌, ◌%◌, ◌^◌, ◌≤◌, Bool, true, false, not, List, [], ◌∷◌, length, inl, inr, refl, ap, sym, subst, ◌∙◌, arith}
+use Rattle.std.proofs.Common.{◌≡◌, ℕ, ◌+◌, ◌%◌, ◌^◌, ◌<◌, ◌≤◌, Bool, true, false, not, List, [], ◌∷◌, length, inl, inr, refl, ap, sym, subst, ◌∙◌, arith}
 use Rattle.std.specs.Prelude.{◌==◌, ◌&&◌, if◌then◌else◌, nat_le}
 use Rattle.std.proofs.lemmas.Bool.{cases_lt}
 use Rattle.std.proofs.lemmas.Bool.Decides.{nat_tests}
 use Rattle.sctp_list_lemmas.proofs.Cases.{negated, same-is, same-yes}
-use Rattle.sctp_list_lemmas.proofs.More.{and, both}
+use Rattle.sctp_list_lemmas.proofs.More.{and, both, fails, not_both}
+use Rattle.sctp_list_lemmas.proofs.Round.{tsn}
 use Rattle.sctp_data.specs.declared.chunk.chunk_payload_data.ChunkPayloadData.{ChunkPayloadData}
-use Rattle.sctp_data.specs.PayloadData.{data_of}
+use Rattle.sctp_data.specs.PayloadData.{Data, data_of}
 use Rattle.sctp_sender.specs.Numbers.{is_ordered_on}
-use Rattle.sctp_delivery.proofs.OrderedEntries.{IsIndexed, IsLatest, IsNumberOf, begins_on, begun_on, latest-here, one, part-fewer}
-use Rattle.sctp_delivery.proofs.Sent.{Entry, IsPart, Numbered, fragment, part-length, terminal}
+use Rattle.sctp_delivery.proofs.OrderedEntries.{AreIndexed, AreJoined, IsIndexed, IsLatest, IsNumberOf, Joins, begins-inner, begins_on, begun_on, ends_on, latest-here, one, part-fewer, part-indexed}
+use Rattle.sctp_delivery.proofs.Sent.{Entry, IsLine, IsPart, Numbered, WasSent, fragment, part-itself, part-length, part-line, same-parts, tail-part, terminal}
+use Rattle.sctp_delivery.proofs.TsnPlaces.{base}
 
 -- ## The entry of a chunk
 
@@ -28,6 +30,7 @@ pub record IsPlaced (first : ℕ) (sent : List Entry) (c : ChunkPayloadData) : T
   pub part : IsPart (entry ∷ entries) sent
   pub number : c.tsn ≡ (first + length entries) % 2 ^ 32
   pub step : (st : ℕ) → IsStep st (begun_on st entries) (begun_on st (entry ∷ entries)) c
+  pub on : (st : ℕ) → is_ordered_on st c ≡ ends_on st (entry ∷ entries)
 
 one-most : (b : Bool) → one b ≤ 1
 one-most true = omega arith
@@ -62,11 +65,14 @@ step-terminal st t sent h = record {
       subst (λ s. IsLatest (begun_on s sent) t.stream_sequence_number) (same-is t.stream_identifier st b.0) (h (negated t.unordered b.1));
 }
 
+pub ordered-alike : (st : ℕ) (c d : ChunkPayloadData) → d.stream_identifier ≡ c.stream_identifier → d.unordered ≡ c.unordered
+    → is_ordered_on st d ≡ is_ordered_on st c
+ordered-alike st c d on kind = ap (λ k. (k == st) && not d.unordered) on ∙ ap (λ b. (c.stream_identifier == st) && not b) kind
+
 pub step-alike : (st before upto : ℕ) (c d : ChunkPayloadData) → d.stream_identifier ≡ c.stream_identifier → d.unordered ≡ c.unordered
     → d.stream_sequence_number ≡ c.stream_sequence_number → IsStep st before upto c → IsStep st before upto d
 step-alike st before upto c d on kind same s =
-    let is : is_ordered_on st c ≡ is_ordered_on st d =
-    sym (ap (λ k. (k == st) && not d.unordered) on ∙ ap (λ b. (c.stream_identifier == st) && not b) kind) in
+    let is = sym (ordered-alike st c d on kind) in
     record {
       up = s.up;
       most = s.most;
@@ -75,7 +81,7 @@ step-alike st before upto c d on kind same s =
     }
 
 pub placed-more : (first : ℕ) (x : Entry) (sent : List Entry) (c : ChunkPayloadData) → IsPlaced first sent c → IsPlaced first (x ∷ sent) c
-placed-more first x sent c i = record { entry = i.entry; entries = i.entries; part = inr i.part; number = i.number; step = i.step }
+placed-more first x sent c i = record { entry = i.entry; entries = i.entries; part = inr i.part; number = i.number; step = i.step; on = i.on }
 
 -- an ordered one has the number of a message that was begun
 pub number-of : (first : ℕ) (sent : List Entry) (c : ChunkPayloadData) → IsPlaced first sent c → c.unordered ≡ false
@@ -145,3 +151,117 @@ to-part st (x ∷ xs) ys (inl e) =
     let n = ap length e in
     to-here st (length ys) x xs (omega (arith, n)) ∙ sym (ap (begun_on st) e)
 to-part st (x ∷ xs) ys (inr p) = to-more st (length ys) x xs (part-length xs ys p) ∙ to-part st xs ys p
+
+-- ## At a place
+
+-- the entry there is an ordered fragment of the stream, or the terminal chunk behind such
+abbrev pub is_at : ℕ → ℕ → List Entry → Bool
+is_at st k [] = false
+is_at st k (x ∷ xs) = if length (x ∷ xs) == k then ends_on st (x ∷ xs) else is_at st k xs
+
+pub at-more : (st k : ℕ) (x : Entry) (xs : List Entry) → k ≤ length xs → is_at st k (x ∷ xs) ≡ is_at st k xs
+at-more st k x xs le =
+    let e : (length (x ∷ xs) == k) ≡ false = fails (length (x ∷ xs) == k) (λ h. let same = same-is (length (x ∷ xs)) k h in omega (arith, same, le)) in
+    ap (λ b. if b then ends_on st (x ∷ xs) else is_at st k xs) e
+
+at-here : (st : ℕ) (x : Entry) (xs : List Entry) (k : ℕ) → k ≡ length (x ∷ xs) → is_at st k (x ∷ xs) ≡ ends_on st (x ∷ xs)
+at-here st x xs k e =
+    ap (λ m. if length (x ∷ xs) == m then ends_on st (x ∷ xs) else is_at st k xs) e
+    ∙ ap (λ b. if b then ends_on st (x ∷ xs) else is_at st k xs) (same-yes (length (x ∷ xs)))
+
+pub at-part : (st : ℕ) (sent ys : List Entry) → IsPart ys sent → is_at st (length ys) sent ≡ ends_on st ys
+at-part st [] ys p = sym (ap (ends_on st) p)
+at-part st (x ∷ xs) ys (inl e) = at-here st x xs (length ys) (ap length e) ∙ sym (ap (ends_on st) e)
+at-part st (x ∷ xs) ys (inr p) = at-more st (length ys) x xs (part-length xs ys p) ∙ at-part st xs ys p
+
+joined-rest : (y : Entry) (ys : List Entry) → AreJoined (y ∷ ys) → AreJoined ys
+joined-rest terminal ys j = j
+joined-rest (fragment d w after) ys j = j.1
+
+part-joined : (xs ys : List Entry) → IsPart ys xs → AreJoined xs → AreJoined ys
+part-joined [] ys p j = subst AreJoined (sym p) j
+part-joined (x ∷ xs) ys (inl e) j = subst AreJoined (sym e) j
+part-joined (x ∷ xs) ys (inr p) j = part-joined xs ys p (joined-rest x xs j)
+
+-- behind a fragment that does not end its message goes another one of it, or the terminal one
+ends-next : (st : ℕ) (d : Data) (w : Numbered) (after : List ℕ) (xs : List Entry) (y : Entry) → d.ending_fragment ≡ false
+    → AreJoined (y ∷ fragment d w after ∷ xs) → ends_on st (y ∷ fragment d w after ∷ xs) ≡ ends_on st (fragment d w after ∷ xs)
+ends-next st d w after xs terminal e j = refl
+ends-next st d w after xs (fragment c v rest) e j = by c.beginning_fragment refl
+  where
+    by : (b : Bool) → c.beginning_fragment ≡ b
+        → ((c.stream_identifier == st) && not c.unordered) ≡ ((d.stream_identifier == st) && not d.unordered)
+    by true h = absurd (not_both (sym e ∙ j.0.0 h))
+    by false h =
+        let g = j.0.1 h in
+        ap (λ k. (k == st) && not c.unordered) (sym g.2) ∙ ap (λ b. (d.stream_identifier == st) && not b) (sym g.1)
+
+pub at-next : (st : ℕ) (sent : List Entry) (d : Data) (w : Numbered) (after : List ℕ) (xs : List Entry) → AreJoined sent
+    → IsPart (fragment d w after ∷ xs) sent → d.ending_fragment ≡ false → length (fragment d w after ∷ xs) < length sent
+    → is_at st (length (fragment d w after ∷ xs) + 1) sent ≡ ends_on st (fragment d w after ∷ xs)
+at-next st [] d w after xs j p e lt = absurd (omega (arith, lt))
+at-next st (y ∷ ys) d w after xs j (inl q) e lt = let n = ap length q in absurd (omega (arith, n, lt))
+at-next st (y ∷ ys) d w after xs j (inr p) e lt = elim (cases_lt (length (fragment d w after ∷ xs)) (length ys)) [
+  | inl less ↦
+      at-more st (length (fragment d w after ∷ xs) + 1) y ys (omega (arith, less))
+      ∙ at-next st ys d w after xs (joined-rest y ys j) p e less
+  | inr ge ↦
+      let most = part-length ys (fragment d w after ∷ xs) p in
+      let long : length ys ≡ length (fragment d w after ∷ xs) = omega (arith, ge, most) in
+      let same : ys ≡ fragment d w after ∷ xs = same-parts ys ys (fragment d w after ∷ xs) (part-itself ys) p long in
+      at-here st y ys (length (fragment d w after ∷ xs) + 1) (omega (arith, long)) ∙ ap (λ zs. ends_on st (y ∷ zs)) same
+      ∙ ends-next st d w after xs y e (subst (λ zs. AreJoined (y ∷ zs)) same j)
+]
+
+-- and one that does not begin stands behind one of it
+pub at-before : (st : ℕ) (sent : List Entry) (d : Data) (w : Numbered) (after : List ℕ) (xs : List Entry) → AreJoined sent
+    → IsPart (fragment d w after ∷ xs) sent → d.beginning_fragment ≡ false
+    → (0 < length xs) × (is_at st (length xs) sent ≡ ends_on st (fragment d w after ∷ xs))
+at-before st sent d w after xs j p e = by xs (part-joined sent (fragment d w after ∷ xs) p j).0 (at-part st sent xs (tail-part sent xs (fragment d w after) p))
+  where
+    by : (ys : List Entry) → Joins d ys → is_at st (length ys) sent ≡ ends_on st ys
+        → (0 < length ys) × (is_at st (length ys) sent ≡ ((d.stream_identifier == st) && not d.unordered))
+    by [] h a = absurd (not_both (sym e ∙ h))
+    by (terminal ∷ ys) h a = absurd (not_both (sym e ∙ h))
+    by (fragment c v rest ∷ ys) h a =
+        let g = h.1 e in (
+          omega arith,
+          a ∙ ap (λ k. (k == st) && not c.unordered) g.2 ∙ ap (λ b. (d.stream_identifier == st) && not b) g.1,
+        )
+
+-- ## What was made
+
+-- the entry of a DATA chunk that was made stands behind so many, and what stands before and behind it is of its message
+pub record IsEntry (st first : ℕ) (sent : List Entry) (c : ChunkPayloadData) : Type 0 where
+  pub before : ℕ
+  pub within : before + 1 ≤ length sent
+  pub is : c.tsn ≡ tsn (base first) (before + 1)
+  pub step : IsStep st (begun_to st before sent) (begun_to st (before + 1) sent) c
+  pub inner : c.beginning_fragment ≡ false → begun_to st (before + 1) sent ≡ begun_to st before sent
+  pub on : is_at st (before + 1) sent ≡ is_ordered_on st c
+  pub prior : c.beginning_fragment ≡ false → (0 < before) × (is_at st before sent ≡ is_ordered_on st c)
+  pub next : c.ending_fragment ≡ false → before + 1 < length sent → is_at st (before + 1 + 1) sent ≡ is_ordered_on st c
+
+pub made-entry : (ws : List Numbered) (first : ℕ) (sent : List Entry) → IsLine ws first sent → AreIndexed sent → AreJoined sent → (st : ℕ)
+    (c : ChunkPayloadData) → WasSent sent (data_of c) → IsEntry st first sent c
+made-entry ws first sent line indexed joined st c (w, after, xs, part) =
+    let l = part-line ws first sent (fragment (data_of c) w after ∷ xs) part line in
+    let i = part-indexed sent (fragment (data_of c) w after ∷ xs) part indexed in
+    let number = l.0.number in
+    let long : length (fragment (data_of c) w after ∷ xs) ≡ length xs + 1 = omega arith in
+    let before = to-part st sent xs (tail-part sent xs (fragment (data_of c) w after) part) in
+    let upto : begun_to st (length xs + 1) sent ≡ begun_on st (fragment (data_of c) w after ∷ xs) =
+    ap (λ k. begun_to st k sent) (sym long) ∙ to-part st sent (fragment (data_of c) w after ∷ xs) part in
+    record {
+      before = length xs;
+      within = let n = part-length sent (fragment (data_of c) w after ∷ xs) part in omega (arith, n);
+      is = omega (arith, number);
+      step =
+          subst (λ m. IsStep st m (begun_to st (length xs + 1) sent) c) (sym before)
+          (subst (λ m. IsStep st (begun_on st xs) m c) (sym upto) (step-fragment st c w after xs i.0));
+      inner = λ e. let none = ap one (begins-inner st (data_of c) e) in omega (arith, none, upto, before);
+      on = ap (λ k. is_at st k sent) (sym long) ∙ at-part st sent (fragment (data_of c) w after ∷ xs) part;
+      prior = λ e. at-before st sent (data_of c) w after xs joined part e;
+      next = λ e lt.
+          ap (λ k. is_at st (k + 1) sent) (sym long) ∙ at-next st sent (data_of c) w after xs joined part e (omega (arith, lt));
+    }

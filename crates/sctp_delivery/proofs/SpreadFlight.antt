@@ -2,6 +2,7 @@
 use Rattle.std.proofs.Common.{◌≡◌, ℕ, zero, suc, ◌+◌, ◌-◌, ◌%◌, ◌^◌, ◌<◌, ◌≤◌, Bool, true, false, not, List, [], ◌∷◌, length, take, ◌⊎◌, inl, inr, Option, Some, None, refl, ap, sym, subst, ◌∙◌, arith}
 use Rattle.std.specs.Prelude.{⊤, ◌&&◌, if◌then◌else◌, nat_le}
 use Rattle.std.specs.List.{filter, find}
+use Rattle.std.proofs.lemmas.Bool.{cases_lt}
 use Rattle.std.proofs.lemmas.Bool.Decides.{nat_tests}
 use Rattle.std.proofs.lemmas.Option.{none-some}
 use Rattle.sctp_list_lemmas.specs.Serial.{distance}
@@ -24,7 +25,7 @@ use Rattle.sctp_delivery.proofs.OrderedEntries.{IsLatest, begun_on}
 use Rattle.sctp_delivery.proofs.PassedTsns.{IsPassable, lead, rest-run}
 use Rattle.sctp_delivery.proofs.Queues.{IsOnceMore}
 use Rattle.sctp_delivery.proofs.Sent.{Entry, part-length, tail-part}
-use Rattle.sctp_delivery.proofs.SpreadEntries.{IsPlaced, IsStep, begun_to, to-more, to-part, to-up}
+use Rattle.sctp_delivery.proofs.SpreadEntries.{IsPlaced, IsStep, at-more, at-part, begun_to, is_at, to-more, to-part, to-up}
 use Rattle.sctp_delivery.proofs.TsnPlaces.{base}
 
 -- each chunk stands for the entry at the next place behind a
@@ -53,6 +54,25 @@ are-steps first n sent long few st a (c ∷ cs) total run known =
         let upto : begun_on st (i.entry ∷ i.entries) ≡ begun_to st (a + 1) sent =
         sym (to-part st sent (i.entry ∷ i.entries) i.part) ∙ ap (λ k. begun_to st k sent) next in
         subst (λ m. IsStep st (begun_to st a sent) m c) upto (subst (λ m. IsStep st m (begun_on st (i.entry ∷ i.entries)) c) before (i.step st))
+
+-- whether it is an ordered one of the stream
+abbrev pub AreOn : ℕ → List Entry → ℕ → List ChunkPayloadData → Type 0
+AreOn st sent a [] = ⊤
+AreOn st sent a (c ∷ cs) = (is_ordered_on st c ≡ is_at st (a + 1) sent) × AreOn st sent (a + 1) cs
+
+pub are-on : (first n : ℕ) (sent : List Entry) → length sent ≡ n → n < 2 ^ 31 → (st a : ℕ) (cs : List ChunkPayloadData) → a + length cs ≡ n
+    → IsRunFrom (tsn (base first) (a + 1)) cs → AreKnown first sent cs → AreOn st sent a cs
+are-on first n sent long few st a [] total run known = tt
+are-on first n sent long few st a (c ∷ cs) total run known =
+    let r = rest-run (base first) a c cs run in
+    (here known.0.1 r.0, are-on first n sent long few st (a + 1) cs (omega (arith, total)) r.1 known.1)
+  where
+    here : IsPlaced first sent c → c.tsn ≡ tsn (base first) (a + 1) → is_ordered_on st c ≡ is_at st (a + 1) sent
+    here i given =
+        let within = part-length sent (i.entry ∷ i.entries) i.part in
+        let number = i.number in
+        let next : length (i.entry ∷ i.entries) ≡ a + 1 = omega (arith, number, given, within, long, few, total) in
+        i.on st ∙ sym (at-part st sent (i.entry ∷ i.entries) i.part) ∙ ap (λ k. is_at st k sent) next
 
 -- ## How far apart
 
@@ -206,11 +226,44 @@ module _ (st : ℕ) (sent : List Entry) where
           subst (λ ys. Says st (begun_to st a sent) (begun_to st e sent) (last_of ys)) (sym (both-tests c (take j cs) (dropped c.abandoned h)))
           (by (is_ordered_on st c) refl (ih (omega (arith, l))))
 
--- these names, up to a place: none of the stream, and no ordered message of it begun behind the place acknowledged; or one, the number
--- of the last that was begun up to there
+last-none : (y : ChunkPayloadData) (ys : List ChunkPayloadData) → last_of (y ∷ ys) ≡ None → ⊥
+last-none y [] e = none-some y (sym e)
+last-none y (z ∷ zs) e = last-none z zs e
+
+none-named : (st : ℕ) (sent : List Entry) (a e j : ℕ) (cs : List ChunkPayloadData) → a + j ≡ e → j ≤ lead cs → AreOn st sent a cs
+    → last_of (filter (is_on st) (filter is_named (take j cs))) ≡ None → (k : ℕ) → a < k → k ≤ e → is_at st k sent ≡ false
+none-named st sent a e zero cs total le o none k lt most = absurd (omega (arith, total, lt, most))
+none-named st sent a e (suc j) [] total le o none k lt most = absurd (omega (arith, le))
+none-named st sent a e (suc j) (c ∷ cs) total le o none k lt most =
+    kept (is_kept c) refl le (λ l f. none-named st sent (a + 1) e j cs (omega (arith, total)) l o.1 f k)
+  where
+    split : is_ordered_on st c ≡ false → ((a + 1 < k) → (k ≤ e) → is_at st k sent ≡ false) → is_at st k sent ≡ false
+    split h ih = elim (cases_lt (a + 1) k) [
+      | inl up ↦ ih up most
+      | inr ge ↦
+          let same : k ≡ a + 1 = omega (arith, lt, ge) in
+          ap (λ m. is_at st m sent) same ∙ sym o.0 ∙ h
+    ]
+
+    by : (b : Bool) → is_ordered_on st c ≡ b
+        → last_of (if b then c ∷ filter (is_on st) (filter is_named (take j cs)) else filter (is_on st) (filter is_named (take j cs))) ≡ None
+        → (last_of (filter (is_on st) (filter is_named (take j cs))) ≡ None → (a + 1 < k) → (k ≤ e) → is_at st k sent ≡ false) → is_at st k sent ≡ false
+    by true h f ih = absurd (last-none c (filter (is_on st) (filter is_named (take j cs))) f)
+    by false h f ih = split h (ih f)
+
+    kept : (b : Bool) → is_kept c ≡ b → suc j ≤ (if b then 0 else lead cs + 1)
+        → (j ≤ lead cs → last_of (filter (is_on st) (filter is_named (take j cs))) ≡ None → (a + 1 < k) → (k ≤ e) → is_at st k sent ≡ false)
+        → is_at st k sent ≡ false
+    kept true h l ih = absurd (omega (arith, l))
+    kept false h l ih =
+        by (is_ordered_on st c) refl (ap last_of (sym (both-tests st sent c (take j cs) (dropped st sent c.abandoned h))) ∙ none) (ih (omega (arith, l)))
+
+-- these names, up to a place: none of the stream, and no ordered chunk of it behind the place acknowledged; or one, the number of the
+-- last message that was begun up to there
 abbrev pub Tells : ℕ → ℕ → ℕ → List Entry → List ChunkForwardTsnStream → Type 0
 Tells st a place sent ns =
-    ((filter (is_pair_of st) ns ≡ []) × (begun_to st place sent ≤ begun_to st a sent))
+    ((filter (is_pair_of st) ns ≡ []) × (begun_to st place sent ≤ begun_to st a sent)
+    × ((k : ℕ) → a < k → k ≤ place → is_at st k sent ≡ false))
     ⊎ ((k : ℕ) × (k + 1 ≡ begun_to st place sent)
     × (filter (is_pair_of st) ns ≡ (let n : ChunkForwardTsnStream = record { identifier = st; sequence = k % 2 ^ 16 } in n) ∷ []))
 
@@ -226,13 +279,13 @@ IsMadeNaming st p a sent (data_chunk d) = ⊤
 IsMadeNaming st p a sent (forward_tsn g) = IsNaming st p a sent g
 
 pub named : (st p n : ℕ) (sent : List Entry) (f : Flight) (h : IsNumbered p n f) (few : n < 2 ^ 31) → length sent ≡ n
-    → AreSteps st sent h.acked f.queue.inflight.chunks → (g : ForwardTsn) → IsPassable p n f h few g.new_cumulative_tsn
+    → AreSteps st sent h.acked f.queue.inflight.chunks → AreOn st sent h.acked f.queue.inflight.chunks → (g : ForwardTsn) → IsPassable p n f h few g.new_cumulative_tsn
     → Name g.streams (named_up_to g.new_cumulative_tsn f) → IsNaming st p h.acked sent g
-named st p n sent f h few long s g i name = record {
+named st p n sent f h few long s o g i name = record {
   place = i.given.place;
   within = let w = i.given.within in omega (arith, w, long);
   is = i.given.is;
-  tells = by (last_of (filter (is_on st) (named_up_to g.new_cumulative_tsn f))) (name st) says;
+  tells = by (last_of (filter (is_on st) (named_up_to g.new_cumulative_tsn f))) refl (name st) says;
 }
   where
     far : ahead f g.new_cumulative_tsn ≡ i.given.place - h.acked
@@ -249,10 +302,18 @@ named st p n sent f h few long s g i name = record {
         says-named st sent h.acked i.given.place (ahead f g.new_cumulative_tsn) f.queue.inflight.chunks (omega (arith, far, past))
         (omega (arith, far, past, upto)) s
 
-    by : (o : Option ChunkPayloadData) → filter (is_pair_of st) g.streams ≡ pairs_of o → Says st (begun_to st h.acked sent) (begun_to st i.given.place sent) o
+    by : (q : Option ChunkPayloadData) → last_of (filter (is_on st) (named_up_to g.new_cumulative_tsn f)) ≡ q
+        → filter (is_pair_of st) g.streams ≡ pairs_of q → Says st (begun_to st h.acked sent) (begun_to st i.given.place sent) q
         → Tells st h.acked i.given.place sent g.streams
-    by None e y = inl (e, omega (arith, y))
-    by (Some d) e y = inr (
+    by None n e y = inl (
+      e,
+      omega (arith, y),
+      let past = i.past in
+          let upto = i.upto in
+          none-named st sent h.acked i.given.place (ahead f g.new_cumulative_tsn) f.queue.inflight.chunks (omega (arith, far, past))
+          (omega (arith, far, past, upto)) o n,
+    )
+    by (Some d) n e y = inr (
       y.1.0,
       y.1.1,
       e ∙ ap (λ k. (let n : ChunkForwardTsnStream = record { identifier = k; sequence = d.stream_sequence_number } in n) ∷ []) y.0
@@ -265,18 +326,18 @@ pub naming-later : (st p a b : ℕ) (sent more : List Entry) → a ≤ b → a �
 naming-later st p a b sent more le within once (data_chunk d) i = tt
 naming-later st p a b sent more le within once (forward_tsn g) i = by once
   where
-    tells : (ys : List Entry) → begun_to st i.place ys ≡ begun_to st i.place sent → begun_to st a ys ≡ begun_to st a sent → Tells st b i.place ys g.streams
-    tells ys x y = on i.tells
+    tells : (ys : List Entry) → ((k : ℕ) → k ≤ i.place → is_at st k ys ≡ is_at st k sent) → begun_to st i.place ys ≡ begun_to st i.place sent → begun_to st a ys ≡ begun_to st a sent → Tells st b i.place ys g.streams
+    tells ys z x y = on i.tells
       where
         on : Tells st a i.place sent g.streams → Tells st b i.place ys g.streams
-        on (inl t) = let up = to-up st a b ys le in let w = t.1 in inl (t.0, omega (arith, up, w, x, y))
+        on (inl t) = let up = to-up st a b ys le in let w = t.1 in inl (t.0, omega (arith, up, w, x, y), λ k lt most. z k most ∙ t.2 k (omega (arith, lt, le)) most)
         on (inr t) = let w = t.1 in inr (t.0, omega (arith, w, x), t.2)
 
     by : IsOnceMore sent more → IsNaming st p b more g
-    by (inl e) = subst (λ ys. IsNaming st p b ys g) (sym e) (record { place = i.place; within = i.within; is = i.is; tells = tells sent refl refl })
+    by (inl e) = subst (λ ys. IsNaming st p b ys g) (sym e) (record { place = i.place; within = i.within; is = i.is; tells = tells sent (λ k most. refl) refl refl })
     by (inr x) = subst (λ ys. IsNaming st p b ys g) (sym x.1) (record {
       place = i.place;
       within = let w = i.within in omega (arith, w);
       is = i.is;
-      tells = tells (x.0 ∷ sent) (to-more st i.place x.0 sent i.within) (to-more st a x.0 sent within);
+      tells = tells (x.0 ∷ sent) (λ k most. at-more st k x.0 sent (let w = i.within in omega (arith, most, w))) (to-more st i.place x.0 sent i.within) (to-more st a x.0 sent within);
     })
