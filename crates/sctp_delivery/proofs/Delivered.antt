@@ -303,32 +303,35 @@ same tsn size max most limits cs s small some r few d e c k is =
     let n = a.few in
     same-tsn a.numbered tsn a.more (omega (arith, n, few)) a.holds.held.stands.queued.line d e (found-sent a.more s.made d a.holds.made c) (found-sent a.more s.made e a.holds.made k) is
 
--- each message that was read is one
-pub read-of : (tsn size max most : ℕ) (limits : Option Limits) (cs : List Call) (s : Session) → tsn < 2 ^ 32 → 0 < size → (r : RunsTo (at_start tsn size max most limits) cs s) → tsns_given (at_start tsn size max most limits) cs s r < 2 ^ 32 → IsReadSession s
-read-of tsn size max most limits cs s small some r few =
-    let start = at_start tsn size max most limits in
-    let a = held-after tsn cs start s [] [] r (at-first tsn size max most limits small some) in
-    let n = a.few in
+-- each message that was read is one of these writes, where they got these entries
+abbrev pub read-in : (tsn size max most : ℕ) (limits : Option Limits) (cs : List Call) (s : Session) → RunsTo (at_start tsn size max most limits) cs s
+    → (ns : List Numbered) (sent : List Entry) → length sent < 2 ^ 32 → Holds tsn s ns sent → IsReadSession s
+read-in tsn size max most limits cs s r ns sent few h =
     let on = sessions.read-on tsn size max most limits cs s r in
     let whole = sessions.messages tsn size max most limits cs s r in
     record {
-      numbered = a.numbered;
-      sent = a.more;
-      writes = a.holds.writes;
-      once = a.holds.held.stands.begun'.once;
-      indexed = a.holds.held.stands.queued.indexed;
-      rising = a.holds.held.stands.queued.ranked.rising;
-      few = λ st. let k = a.holds.held.stands.queued.ranked.few st in omega (arith, k);
-      sent-made = a.holds.made;
-      placed = a.holds.placed;
+      numbered = ns;
+      sent = sent;
+      writes = h.writes;
+      once = h.held.stands.begun'.once;
+      indexed = h.held.stands.queued.indexed;
+      rising = h.held.stands.queued.ranked.rising;
+      few = λ st. let k = h.held.stands.queued.ranked.few st in omega (arith, k);
+      sent-made = h.made;
+      placed = h.placed;
       each = λ k m lt.
           let it = slice_index_or s.receiving.read k m in
-          message-is a.numbered tsn a.more (omega (arith, n, few)) a.holds.held.stands.queued.line it
-          (AllPass-from_list_all (λ x. is_complete x.fragments) s.receiving.read whole.0 k m lt)
+          message-is ns tsn sent few h.held.stands.queued.line it (AllPass-from_list_all (λ x. is_complete x.fragments) s.receiving.read whole.0 k m lt)
           (AllPass-from_list_all (λ x. is_one_message x.fragments) s.receiving.read whole.1 k m lt)
-          (each-sent a.more s.made it.fragments a.holds.made (sessions.made tsn size max most limits cs s r k m lt))
+          (each-sent sent s.made it.fragments h.made (sessions.made tsn size max most limits cs s r k m lt))
           (AllPass-from_list_all (λ x. list_all (is_on x.stream) x.fragments) s.receiving.read on k m lt);
     }
+
+pub read-of : (tsn size max most : ℕ) (limits : Option Limits) (cs : List Call) (s : Session) → tsn < 2 ^ 32 → 0 < size → (r : RunsTo (at_start tsn size max most limits) cs s) → tsns_given (at_start tsn size max most limits) cs s r < 2 ^ 32 → IsReadSession s
+read-of tsn size max most limits cs s small some r few =
+    let a = held-after tsn cs (at_start tsn size max most limits) s [] [] r (at-first tsn size max most limits small some) in
+    let n = a.few in
+    read-in tsn size max most limits cs s r a.numbered a.more (omega (arith, n, few)) a.holds
 
 pub law : WhileTsnsLast AreWrites
 law tsn size max most limits cs s small some r few k m lt =

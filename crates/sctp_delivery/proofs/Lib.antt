@@ -56,3 +56,7 @@ pub mod EachRead
 pub mod Whole
 pub mod AllRead
 mod Examples
+pub mod UnwrappedReads
+pub mod UnwrappedCalls
+pub mod UnwrappedSessions
+pub mod UnwrappedLaw

@@ -327,7 +327,7 @@ small-names st (n ∷ ns) e = by ((n.identifier == st) && nat_le (2 ^ 15) n.sequ
 -- ## Sessions
 
 -- a new TSN whose number is not refused
-not-far : (c : ChunkPayloadData) (r : Reception) → has_come c.tsn (filter_of r) ≡ false → arrival_refusal c r ≡ None
+pub not-far : (c : ChunkPayloadData) (r : Reception) → has_come c.tsn (filter_of r) ≡ false → arrival_refusal c r ≡ None
     → is_too_far_on c (stream_of c.stream_identifier r) ≡ false
 not-far c r fresh e = by (has_come c.tsn (filter_of r)) (is_too_far_on c (stream_of c.stream_identifier r)) fresh e
   where

@@ -11,21 +11,18 @@ use Rattle.sctp_data.specs.declared.chunk.chunk_forward_tsn.ChunkForwardTsnStrea
 use Rattle.sctp_data.specs.PayloadData.{Data, data_of}
 use Rattle.sctp_receiver.specs.ReceiverRuns.{Message}
 use Rattle.sctp_serial.specs.DataChunks.{is_on}
-use Rattle.sctp_delivery.specs.Messages.{StandAt, WhileFewTsns}
-use Rattle.sctp_delivery.specs.Order.{AreReadInOrder, SsnsLast, is_ordered_on, ordered_places}
+use Rattle.sctp_delivery.specs.Order.{is_ordered_on, ordered_places}
 use Rattle.sctp_delivery.specs.SenderCalls.{Made, data_chunk, forward_tsn}
 use Rattle.sctp_delivery.proofs.Begun.{AreOnce}
-use Rattle.sctp_delivery.proofs.Delivered.{IsReadOf, read-of}
-use Rattle.sctp_delivery.proofs.OnceWritten.{EachRead, apart, each-read, one-first, places, stand}
-use Rattle.sctp_delivery.proofs.OrderedCalls.{AreInTurn, in-turn, is_in_order, is_large, passed}
+use Rattle.sctp_delivery.proofs.Delivered.{IsReadOf}
+use Rattle.sctp_delivery.proofs.OnceWritten.{EachRead, one-first, places}
+use Rattle.sctp_delivery.proofs.OrderedCalls.{AreInTurn, is_in_order, is_large, passed}
 use Rattle.sctp_delivery.proofs.OrderedEntries.{AreIndexed, AreRising, IsUnder, begun_on, part-fewer, part-indexed}
 use Rattle.sctp_delivery.proofs.OrderedNames.{AreNamed}
-use Rattle.sctp_delivery.proofs.OrderedPlaces.{AreNumbered, place-at, written-few}
+use Rattle.sctp_delivery.proofs.OrderedPlaces.{AreNumbered, place-at}
 use Rattle.sctp_delivery.proofs.OrderedReads.{first_number, starts_ordered}
-use Rattle.sctp_delivery.proofs.ReadOnce as read_once
 use Rattle.sctp_delivery.proofs.Senders.{AreSent}
 use Rattle.sctp_delivery.proofs.Sent.{Entry, IsPart, Numbered, fragment, part-itself, terminal}
-use Rattle.sctp_delivery.proofs.Sessions as sessions
 
 -- ## Parts of the line
 
@@ -78,7 +75,7 @@ module _ (sent : List Entry) (indexed : AreIndexed sent) (st : ℕ) (few : begun
           let lt : n.sequence < 2 ^ 15 = omega (arith, k, e, most) in
           grind (arith, nat_tests, lt)
 
-  small-made : (ms : List Made) → AreSent sent ms → list_any (is_large st) ms ≡ false
+  pub small-made : (ms : List Made) → AreSent sent ms → list_any (is_large st) ms ≡ false
   small-made [] a = refl
   small-made (data_chunk d ∷ ms) a =
       ap (λ b. b || list_any (is_large st) ms) (here (d.stream_identifier == st) refl d.unordered refl) ∙ small-made ms a.1
@@ -93,60 +90,61 @@ module _ (sent : List Entry) (indexed : AreIndexed sent) (st : ℕ) (few : begun
 
 -- ## Messages
 
-all-cons : (P : ℕ → Type 0) (x : ℕ) (xs : List ℕ) → P x → All P xs → All P (x ∷ xs)
+pub all-cons : (P : ℕ → Type 0) (x : ℕ) (xs : List ℕ) → P x → All P xs → All P (x ∷ xs)
 all-cons P x xs h a zero d lt = h
 all-cons P x xs h a (suc k) d lt = a k d (omega (arith, lt))
 
 -- an ordered message begins with an ordered chunk
-starts : (st : ℕ) (m : Message) (c : ChunkPayloadData) (cs : List ChunkPayloadData) → m.fragments ≡ c ∷ cs → is_ordered_on st m ≡ true
+pub starts : (st : ℕ) (m : Message) (c : ChunkPayloadData) (cs : List ChunkPayloadData) → m.fragments ≡ c ∷ cs → is_ordered_on st m ≡ true
     → (m.stream ≡ st) × (c.unordered ≡ false) × (is_in_order st m ≡ true)
 starts st m c cs is e =
     let b = both (m.stream == st) (list_all (λ x. not x.unordered) m.fragments) e in
     let f = both (not c.unordered) (list_all (λ x. not x.unordered) cs) (subst (λ xs. list_all (λ x. not x.unordered) xs ≡ true) is b.1) in
     (same-is m.stream st b.0, negated c.unordered f.0, and (m.stream == st) (starts_ordered m.fragments) b.0 (ap starts_ordered is ∙ f.0))
 
+-- the line up to the first chunk of a message
+abbrev pub up_to : (ns : List Numbered) (sent : List Entry) (m : Message) → IsReadOf ns sent m → List Entry
+up_to ns sent m x = fragment (data_of x.chunk) x.numbered x.after ∷ x.entries
+
+-- of two ordered messages the one with the greater index was written later
+module _ (ns : List Numbered) (sent : List Entry) (once : AreOnce sent) (rising : AreRising sent) (numbered : AreNumbered ns) (st : ℕ) (m o : Message)
+    (x : IsReadOf ns sent m) (y : IsReadOf ns sent o) (kx : x.chunk.unordered ≡ false) (ky : y.chunk.unordered ≡ false)
+    (more : begun_on st (up_to ns sent o y) < begun_on st (up_to ns sent m x)) (other : data_of x.chunk ≡ data_of y.chunk → ⊥) where
+  behind : IsPart (up_to ns sent o y) (up_to ns sent m x) → y.numbered.place ≤ x.numbered.place
+  behind (inl e) = absurd (let f = ap (begun_on st) e in let g = more in omega (arith, f, g))
+  behind (inr q) =
+      (part-under x.numbered.place x.entries (up_to ns sent o y) q ((part-rising sent (up_to ns sent m x) x.part rising).0 kx)).0 ky
+
+  either : IsPart (up_to ns sent m x) (up_to ns sent o y) ⊎ IsPart (up_to ns sent o y) (up_to ns sent m x) → y.numbered.place ≤ x.numbered.place
+  either (inl p) = absurd (let f = part-fewer st (up_to ns sent o y) (up_to ns sent m x) p in let g = more in omega (arith, f, g))
+  either (inr p) = behind p
+
+  differ : x.numbered.place ≡ y.numbered.place → ⊥
+  differ same =
+      other (one-first sent once (data_of x.chunk)
+      (data_of y.chunk) x.numbered y.numbered x.after y.after x.entries y.entries x.begins y.begins same x.part y.part)
+
+  pub before : x.written.0 < y.written.0
+  before =
+      let i = place-at ns x.written.0 x.numbered numbered x.written.1 x.written.2 in
+      let j = place-at ns y.written.0 y.numbered numbered y.written.1 y.written.2 in
+      let le = either (parts-meet sent (up_to ns sent m x) (up_to ns sent o y) x.part y.part) in
+      let ne = differ in
+      omega (arith, i, j, le, ne)
+
 module _ (ns : List Numbered) (sent : List Entry) (once : AreOnce sent) (indexed : AreIndexed sent) (rising : AreRising sent)
     (numbered : AreNumbered ns) (st : ℕ) (few : begun_on st sent ≤ 2 ^ 15) where
-  module _ (m o : Message) (x : IsReadOf ns sent m) (y : IsReadOf ns sent o) (kx : x.chunk.unordered ≡ false) (ky : y.chunk.unordered ≡ false)
-      (sx : x.chunk.stream_identifier ≡ st) (sy : y.chunk.stream_identifier ≡ st)
-      (lt : y.chunk.stream_sequence_number < x.chunk.stream_sequence_number) where
-    abbrev later : List Entry
-    later = fragment (data_of x.chunk) x.numbered x.after ∷ x.entries
-
-    abbrev earlier : List Entry
-    earlier = fragment (data_of y.chunk) y.numbered y.after ∷ y.entries
-
-    more : begun_on st earlier < begun_on st later
-    more =
-        let a = (number-is sent indexed st few (data_of x.chunk) x.numbered x.after x.entries x.part kx sx).0 in
-        let b = (number-is sent indexed st few (data_of y.chunk) y.numbered y.after y.entries y.part ky sy).0 in
-        let p = ap (λ s. begun_on s later) sx in
-        let q = ap (λ s. begun_on s earlier) sy in
-        omega (arith, a, b, p, q, lt)
-
-    behind : IsPart earlier later → y.numbered.place ≤ x.numbered.place
-    behind (inl e) = absurd (let f = ap (begun_on st) e in let g = more in omega (arith, f, g))
-    behind (inr q) = (part-under x.numbered.place x.entries earlier q ((part-rising sent later x.part rising).0 kx)).0 ky
-
-    either : IsPart later earlier ⊎ IsPart earlier later → y.numbered.place ≤ x.numbered.place
-    either (inl p) = absurd (let f = part-fewer st earlier later p in let g = more in omega (arith, f, g))
-    either (inr p) = behind p
-
-    differ : x.numbered.place ≡ y.numbered.place → ⊥
-    differ same =
-        let it = one-first sent once (data_of x.chunk)
-        (data_of y.chunk) x.numbered y.numbered x.after y.after x.entries y.entries x.begins y.begins same x.part y.part in
-        let n = ap (λ (d : Data). d.stream_sequence_number) it in
-        omega (arith, n, lt)
-
-    -- of two ordered messages the one with the greater number was written later
-    before : x.written.0 < y.written.0
-    before =
-        let i = place-at ns x.written.0 x.numbered numbered x.written.1 x.written.2 in
-        let j = place-at ns y.written.0 y.numbered numbered y.written.1 y.written.2 in
-        let le = either (parts-meet sent later earlier x.part y.part) in
-        let ne = differ in
-        omega (arith, i, j, le, ne)
+  -- a greater number is that of a greater index
+  by-number : (m o : Message) (x : IsReadOf ns sent m) (y : IsReadOf ns sent o) → x.chunk.unordered ≡ false → y.chunk.unordered ≡ false
+      → x.chunk.stream_identifier ≡ st → y.chunk.stream_identifier ≡ st → y.chunk.stream_sequence_number < x.chunk.stream_sequence_number
+      → x.written.0 < y.written.0
+  by-number m o x y kx ky sx sy lt =
+      let a = (number-is sent indexed st few (data_of x.chunk) x.numbered x.after x.entries x.part kx sx).0 in
+      let b = (number-is sent indexed st few (data_of y.chunk) y.numbered y.after y.entries y.part ky sy).0 in
+      let p = ap (λ s. begun_on s (up_to ns sent m x)) sx in
+      let q = ap (λ s. begun_on s (up_to ns sent o y)) sy in
+      before ns sent once rising numbered st m o x y kx ky (omega (arith, a, b, p, q, lt))
+      (λ it. let n = ap (λ (d : Data). d.stream_sequence_number) it in omega (arith, n, lt))
 
   -- its first chunk is on the stream
   chunk-on : (m : Message) (x : IsReadOf ns sent m) → m.stream ≡ st → list_all (is_on m.stream) m.fragments ≡ true → x.chunk.stream_identifier ≡ st
@@ -154,7 +152,7 @@ module _ (ns : List Numbered) (sent : List Entry) (once : AreOnce sent) (indexed
       same-is x.chunk.stream_identifier m.stream
       (both (is_on m.stream x.chunk) (list_all (is_on m.stream) x.others) (subst (λ cs. list_all (is_on m.stream) cs ≡ true) x.fragments on)).0 ∙ same
 
-  abbrev AreOn : List Message → Type 0
+  abbrev pub AreOn : List Message → Type 0
   AreOn ms = list_all (λ o. list_all (is_on o.stream) o.fragments) ms ≡ true
 
   -- an ordered message, and those that were read before it
@@ -172,7 +170,7 @@ module _ (ns : List Numbered) (sent : List Entry) (once : AreOnce sent) (indexed
             let y = e.0 in
             let s = starts st o y.chunk y.others y.fragments h in
             let n = ap first_number y.fragments in
-            before m o x y kx s.1 sx (chunk-on o y s.0 ons.0) (omega (arith, less, n))
+            by-number m o x y kx s.1 sx (chunk-on o y s.0 ons.0) (omega (arith, less, n))
 
         by : (b : Bool) → is_ordered_on st o ≡ b → (c : Bool) → is_in_order st o ≡ c
             → (if c then first_number o.fragments + 1 else passed st os) ≤ x.chunk.stream_sequence_number
@@ -186,7 +184,7 @@ module _ (ns : List Numbered) (sent : List Entry) (once : AreOnce sent) (indexed
         by false h true g less turn ih = ih (let u = turn refl in omega (arith, u, less))
         by false h false g less turn ih = ih less
 
-  ordered : (ms : List Message) (e : EachRead ns sent once ms) → AreOn ms → AreInTurn st ms
+  pub ordered : (ms : List Message) (e : EachRead ns sent once ms) → AreOn ms → AreInTurn st ms
       → AllPairs (λ p q. p < q) (ordered_places st ms (places ns sent once ms e))
   ordered [] e on t = λ i j d lt short. absurd (omega (arith, short))
   ordered (m ∷ ms) e on t = by (is_ordered_on st m) refl (ordered ms e.1 ons.1 t.1)
@@ -205,25 +203,3 @@ module _ (ns : List Numbered) (sent : List Entry) (once : AreOnce sent) (indexed
           let u = t.0 s.2 in
           pairs_cons (λ p q. p < q) x.written.0 (ordered_places st ms (places ns sent once ms e.1))
           (away m x s.1 (chunk-on m x s.0 ons.0) ms e.1 ons.1 t.1 (omega (arith, n, u))) ih
-
--- ## The law
-
-pub in-order : WhileFewTsns AreReadInOrder
-in-order tsn size max most limits cs s small some r few =
-    let a = read-of tsn size max most limits cs s small some r (omega (arith, few)) in
-    let e = each-read a.numbered a.sent a.once s.receiving.read a.each in
-    let last : (st : ℕ) → SsnsLast st s.written → begun_on st a.sent ≤ 2 ^ 15 = λ st short.
-    (let n = a.few st in
-    let w = written-few st a.numbered in
-    let l = subst (SsnsLast st) (sym a.writes) short in
-    omega (arith, n, w, l)) in
-    let on = sessions.read-on tsn size max most limits cs s r in (
-      places a.numbered a.sent a.once s.receiving.read e,
-      subst (λ ws. StandAt ws s.receiving.read (places a.numbered a.sent a.once s.receiving.read e)) a.writes
-          (stand a.numbered a.sent a.once s.receiving.read e),
-      apart a.numbered a.sent a.once s.receiving.read e (read_once.none-twice tsn size max most limits cs s r small few),
-      λ st short.
-          let fewer = last st short in
-          ordered a.numbered a.sent a.once a.indexed a.rising a.placed st fewer s.receiving.read e on
-          (in-turn st tsn size max most limits cs s r (small-made a.sent a.indexed st fewer s.made a.sent-made)),
-    )

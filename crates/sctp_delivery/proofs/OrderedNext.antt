@@ -14,7 +14,7 @@ use Rattle.sctp_delivery.specs.Session.{at_start, of_receiver}
 use Rattle.sctp_delivery.proofs.Delivered as delivered
 use Rattle.sctp_delivery.proofs.Delivered.{next_tsn}
 use Rattle.sctp_delivery.proofs.OneRead.{answers, given-then, no-way, read_of, reads-on, run-then}
-use Rattle.sctp_delivery.proofs.OrderedLaw.{in-order}
+use Rattle.sctp_delivery.proofs.UnwrappedLaw.{in-order}
 
 read-next : (r : Reception) (stream : ℕ) (set : ChunkSet) → is_open stream r ≡ true → message_on stream r ≡ Some set
     → WhileFewTsns (IsNextIn r stream set.chunks)

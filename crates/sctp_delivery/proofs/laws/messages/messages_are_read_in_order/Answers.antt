@@ -1,5 +1,5 @@
-use Rattle.sctp_delivery.proofs.OrderedLaw as ordered
+use Rattle.sctp_delivery.proofs.UnwrappedLaw as unwrapped
 use Rattle.sctp_delivery.proofs.laws.messages.messages_are_read_in_order.Goals as goal
 
 pub returns : goal.returns
-returns c = ordered.in-order
+returns c = unwrapped.in-order

@@ -1,0 +1,448 @@
+-- In each session in which every FORWARD-TSN names a stream, the indexes of the ordered messages that are read on it rise.
+use Rattle.std.proofs.Common.{◌≡◌, ℕ, ◌+◌, ◌^◌, ◌<◌, ◌≤◌, Bool, true, false, not, List, [], ◌∷◌, length, Option, Some, None, inl, inr, refl, ap, sym, subst, ◌∙◌, arith}
+use Rattle.std.specs.Prelude.{◌⊎◌, ◌||◌, Contains, IfSome, find, if◌then◌else◌, is_some}
+use Rattle.std.specs.List.{filter, list_any}
+use Rattle.std.proofs.lemmas.List.Folds.{list_any_at}
+use Rattle.std.proofs.lemmas.Option.{none-some}
+use Rattle.sctp_list_lemmas.specs.Serial.{distance}
+use Rattle.sctp_list_lemmas.proofs.More.{fails, not_both}
+use Rattle.sctp_list_lemmas.proofs.Round.{tsn}
+use Rattle.sctp_data.specs.declared.chunk.chunk_payload_data.ChunkPayloadData.{ChunkPayloadData}
+use Rattle.sctp_data.specs.ChunkSet.{ChunkSet}
+use Rattle.sctp_data.specs.PayloadData.{data_of}
+use Rattle.sctp_data.specs.SelectiveAck.{Sack}
+use Rattle.sctp_outbound.specs.outbound_queue.OutboundQueue.{expiring, expiring_tail, message_of}
+use Rattle.sctp_reassembly.specs.reassembly_queue.ReassemblyQueue.{Reassembly}
+use Rattle.sctp_receiver.specs.declared.receiver.arrival.Arrival.TheVariants.{New, Repeat}
+use Rattle.sctp_receiver.specs.declared.receiver.inbound_streams.InboundStream.{InboundStream}
+use Rattle.sctp_receiver.specs.declared.receiver.limits.Limits.{Limits}
+use Rattle.sctp_receiver.specs.declared.receiver.refusal.ReceiverRefusal.TheVariants.{NamedSsnTooFar, NamedStreamUnknown}
+use Rattle.sctp_receiver.specs.Inbound.{has_number}
+use Rattle.sctp_receiver.specs.Receiver.{Reception, forward_refusal, stream_of}
+use Rattle.sctp_receiver.specs.ReceiverRuns.{Message, Stand}
+use Rattle.sctp_receiver.specs.Skips.{names_closed, names_too_far, skip_refusal}
+use Rattle.sctp_sender.specs.Abandonment.{is_pair_of}
+use Rattle.sctp_sender.specs.Flight.{after_sack, is_outdated, message_to_abandon, take_sack}
+use Rattle.sctp_sender.specs.Late.{late_order, worn_order}
+use Rattle.sctp_sender.specs.Sender.{Transmission, after_expire, stream_of as sender_stream}
+use Rattle.sctp_stream.specs.declared.stream.StreamState.{StreamState}
+use Rattle.sctp_delivery.specs.ReceiverCalls as incoming
+use Rattle.sctp_delivery.specs.ReceiverCalls.{ReceiverCall, reports_after}
+use Rattle.sctp_delivery.specs.Sacks.{tsns_given}
+use Rattle.sctp_delivery.specs.SenderCalls as outgoing
+use Rattle.sctp_delivery.specs.SenderCalls.{Made, SenderCall, data_chunk, forward_tsn}
+use Rattle.sctp_delivery.specs.Session.{Call, ReceiverFollows, RunsTo, SenderFollows, Session, at_start, of_receiver, of_sender}
+use Rattle.sctp_delivery.proofs.Calls.{numbered_after}
+use Rattle.sctp_delivery.proofs.Delivered.{found-sent, next_tsn}
+use Rattle.sctp_delivery.proofs.Every.{Every, every-contained, every-of}
+use Rattle.sctp_delivery.proofs.GivenTsns.{raises-abandoned, raises-each}
+use Rattle.sctp_delivery.proofs.OrderedCalls.{not-far}
+use Rattle.sctp_delivery.proofs.OrderedEntries.{begins-inner, begun_on, one, part-indexed}
+use Rattle.sctp_delivery.proofs.Queues.{IsOnceMore}
+use Rattle.sctp_delivery.proofs.SackLaws as sacks
+use Rattle.sctp_delivery.proofs.SackSteps.{flight_of, written-open}
+use Rattle.sctp_delivery.proofs.Sent.{Entry, Numbered, fragment, part-length, part-line, tail-part}
+use Rattle.sctp_delivery.proofs.Sessions.{more-made}
+use Rattle.sctp_delivery.proofs.SpreadCalls.{IsSpread, Spreads, receiver-spreads, sender-spreads, spread-first}
+use Rattle.sctp_delivery.proofs.SpreadEntries.{begun_to, step-fragment, to-all, to-more, to-part, to-up}
+use Rattle.sctp_delivery.proofs.SpreadFlight.{IsMadeNaming}
+use Rattle.sctp_delivery.proofs.TakenCalls.{fresh-new}
+use Rattle.sctp_delivery.proofs.TsnPlaces.{base, same-place}
+use Rattle.sctp_delivery.proofs.UnwrappedCalls.{AreDue, AreInTurn, DueOn, IsBeyond, IsOf, IsStepOf, Where, followed-due, is_in_order, opened-due, quiet, read-on-due, taken-due}
+use Rattle.sctp_delivery.proofs.UnwrappedReads.{AreSets, IsDue}
+
+-- ## More TSNs are given out
+
+module _ (Of More : ℕ → ChunkPayloadData → Type 0) (more : (i : ℕ) (c : ChunkPayloadData) → Of i c → More i c) where
+  sets-more : (low top : ℕ) (ss : List ChunkSet) → AreSets Of low top ss → AreSets More low top ss
+  sets-more low top [] r = tt
+  sets-more low top (s ∷ ss) r = (r.0, (r.1.0, every-of (Of r.0) (More r.0) (more r.0) s.chunks r.1.1), sets-more (r.0 + 1) top ss r.2)
+
+  due-more : (k reach : ℕ) (q : Reassembly) → IsDue Of k reach q → IsDue More k reach q
+  due-more k reach q d = record {
+    index = d.index;
+    low = d.low;
+    next = d.next;
+    lowest = d.lowest;
+    due = d.due;
+    from = d.from;
+    near = d.near;
+    within = d.within;
+    far = d.far;
+    sets = sets-more d.low reach q.ordered d.sets;
+    unordered = d.unordered;
+    unassembled = d.unassembled;
+  }
+
+module _ (p st n m : ℕ) (B C : ℕ → ℕ) (le : n ≤ m) (same : (k : ℕ) → k ≤ n → C k ≡ B k) (up : C n ≤ C m) where
+  of-more : (i : ℕ) (c : ChunkPayloadData) → IsOf p st n B i c → IsOf p st m C i c
+  of-more i c o =
+      let w = o.within in
+      record {
+        before = o.before;
+        within = omega (arith, w, le);
+        is = o.is;
+        begun = same (o.before + 1) o.within ∙ o.begun;
+        inner = λ f. same o.before (omega (arith, w)) ∙ o.inner f;
+      }
+
+  turns-more : (k : ℕ) (ms : List Message) → AreInTurn p st n B k ms → AreInTurn p st m C k ms
+  turns-more k [] t = tt
+  turns-more k (x ∷ xs) t = by (is_in_order p st n B x) t (λ j h. turns-more j xs h)
+    where
+      by : (b : Bool) → Where p st n B b ((i : ℕ) × (i < k) × Every (IsOf p st n B i) x.fragments × AreInTurn p st n B i xs) (AreInTurn p st n B k xs)
+          → ((j : ℕ) → AreInTurn p st n B j xs → AreInTurn p st m C j xs)
+          → Where p st m C b ((i : ℕ) × (i < k) × Every (IsOf p st m C i) x.fragments × AreInTurn p st m C i xs) (AreInTurn p st m C k xs)
+      by true h ih = (h.0, h.1, every-of (IsOf p st n B h.0) (IsOf p st m C h.0) (of-more h.0) x.fragments h.2, ih h.0 h.3)
+      by false h ih = ih k h
+
+  beyond-more : (reach t : ℕ) → IsBeyond p st n B reach t → IsBeyond p st m C reach t
+  beyond-more reach t b =
+      let w = b.within in
+      let x = same b.before (omega (arith, w)) in
+      let y = same (b.before + 1) w in
+      record {
+        before = b.before;
+        within = omega (arith, w, le);
+        is = b.is;
+        so = elim b.so [ inl z ↦ inl (omega (arith, x, y, z)) | inr z ↦ inr (omega (arith, y, z)) ];
+      }
+
+  on-more : (k reach : ℕ) (o : Option InboundStream) → DueOn p st n B k reach o → DueOn p st m C k reach o
+  on-more k reach None d = d
+  on-more k reach (Some l) d = due-more (IsOf p st n B) (IsOf p st m C) of-more k reach l.queue.held d
+
+  abbrev are-more : (a b : ℕ) (s : Stand) (d : AreDue p st n B a s) → b ≤ d.heard.place → AreDue p st m C b s
+  are-more a b s d least =
+      let h = d.heard in
+      let w = h.within in
+      let x = same h.place w in
+      let y = h.covered in
+      let z = same n (omega arith) in
+      let most = d.most in
+      record {
+        k = d.k;
+        reach = d.reach;
+        due = on-more d.k d.reach (stream_of st s.receiver) d.due;
+        turns = turns-more d.k s.read d.turns;
+        most = omega (arith, most, z, up);
+        heard = record {
+          place = h.place;
+          least_is = least;
+          within = omega (arith, w, le);
+          is = h.is;
+          covered = omega (arith, x, y);
+          each = every-of (IsBeyond p st n B d.reach) (IsBeyond p st m C d.reach) (beyond-more d.reach) s.receiver.beyond h.each;
+        };
+      }
+
+-- ## What is acknowledged
+
+-- as before, or up to the cumulative TSN of a SACK that was made
+abbrev IsAckedBy : Session → Session → Type 0
+IsAckedBy old new =
+    ((flight_of new).acked_tsn ≡ (flight_of old).acked_tsn)
+    ⊎ ((s : Sack) × Contains old.sacks s × ((flight_of new).acked_tsn ≡ s.cumulative_tsn_ack))
+
+acked-by : (call : SenderCall) (old new : Session) → SenderFollows call old new → IsAckedBy old new
+acked-by (outgoing.opens stream) old new f = inl (ap (λ (u : Transmission). u.flight.acked_tsn) f.step.sender)
+acked-by (outgoing.sets_mode stream unordered reliability value) old new f = inl (ap (λ (u : Transmission). u.flight.acked_tsn) f.step.sender)
+acked-by (outgoing.sets_size size) old new f = inl (ap (λ (u : Transmission). u.flight.acked_tsn) f.step.sender)
+acked-by (outgoing.sets_low stream bytes) old new f = inl (ap (λ (u : Transmission). u.flight.acked_tsn) f.step.sender)
+acked-by (outgoing.starts now) old new f = inl (ap (λ (u : Transmission). u.flight.acked_tsn) f.step.sender)
+acked-by (outgoing.reserves more) old new f = inl (ap (λ (u : Transmission). u.flight.acked_tsn) f.step.sender)
+acked-by (outgoing.resends u now c) old new f = inl (ap (λ (u : Transmission). u.flight.acked_tsn) f.step.sender)
+acked-by outgoing.marks old new f = inl (ap (λ (u : Transmission). u.flight.acked_tsn) f.step.sender)
+acked-by (outgoing.misses count) old new f = inl (ap (λ (u : Transmission). u.flight.acked_tsn) f.step.sender)
+acked-by (outgoing.sends now) old new f = inl (ap (λ (u : Transmission). u.flight.acked_tsn) f.exact)
+acked-by (outgoing.forwards u c) old new f = inl (ap (λ (u : Transmission). u.flight.acked_tsn) f.exact)
+acked-by (outgoing.forwards_within bytes c) old new f = inl (ap (λ (u : Transmission). u.flight.acked_tsn) f.exact)
+acked-by (outgoing.writes stream ppi []) old new f = inl (ap (λ (u : Transmission). u.flight.acked_tsn) (f.exact.0 refl))
+acked-by (outgoing.writes stream ppi (b ∷ bs)) old new f = by (sender_stream stream old.sending.sender) refl
+  where
+    by : (o : Option StreamState) → sender_stream stream old.sending.sender ≡ o → IsAckedBy old new
+    by None e = absurd (written-open stream (length (b ∷ bs)) old.sending.sender f.accepted e)
+    by (Some l) e = inl (ap (λ (u : Transmission). u.flight.acked_tsn) (f.exact.1 (omega arith) l e))
+acked-by (outgoing.abandons u a) old new f =
+    inl (ap (λ (u : Transmission). u.flight.acked_tsn) f.exact
+    ∙ (raises-abandoned 0 1 (message_to_abandon u (flight_of old)) (flight_of old) (omega arith)).acked)
+acked-by (outgoing.expires now None) old new f = inl (ap (λ (u : Transmission). u.flight.acked_tsn) (f.exact.1.1 refl))
+acked-by (outgoing.expires now (Some e)) old new f = by (expiring now (flight_of old).queue) f.exact.0 f.exact.1.0
+  where
+    by : (o : Option ChunkPayloadData) → true ≡ is_some o → IfSome o (λ c. new.sending.sender ≡ after_expire c e.bytes now old.sending.sender) → IsAckedBy old new
+    by None s i = absurd (not_both (sym s))
+    by (Some c) s i = inl (ap (λ (u : Transmission). u.flight.acked_tsn) i)
+acked-by (outgoing.expires_tail now None) old new f = inl (ap (λ (u : Transmission). u.flight.acked_tsn) (f.exact.1 refl))
+acked-by (outgoing.expires_tail now (Some a)) old new f =
+    inl (ap (λ (u : Transmission). u.flight.acked_tsn) f.exact.0
+    ∙ (raises-abandoned 0 1 (message_of (expiring_tail now (flight_of old).queue)) (flight_of old) (omega arith)).acked)
+acked-by (outgoing.expires_late now gone) old new f =
+    inl (ap (λ (u : Transmission). u.flight.acked_tsn) f.exact ∙ (raises-each 0 (late_order now (flight_of old)) (flight_of old)).acked)
+acked-by (outgoing.expires_rexmit gone) old new f =
+    inl (ap (λ (u : Transmission). u.flight.acked_tsn) f.exact ∙ (raises-each 0 (worn_order (flight_of old)) (flight_of old)).acked)
+acked-by (outgoing.takes_sack k gone) old new f = by (is_outdated k (flight_of old)) refl
+  where
+    now : (flight_of new).acked_tsn ≡ (after_sack k (flight_of old)).acked_tsn
+    now = ap (λ (u : Transmission). u.flight.acked_tsn) f.exact
+
+    by : (b : Bool) → is_outdated k (flight_of old) ≡ b → IsAckedBy old new
+    by true e = inl (now ∙ ap (λ b. (if b then flight_of old else take_sack k (flight_of old)).acked_tsn) e)
+    by false e = inr (k, f.handed, now ∙ ap (λ b. (if b then flight_of old else take_sack k (flight_of old)).acked_tsn) e)
+
+-- ## A session
+
+-- it is a FORWARD-TSN without a name for the stream
+abbrev pub passes_by : ℕ → Made → Bool
+passes_by st (data_chunk d) = false
+passes_by st (forward_tsn f) = not (list_any (is_pair_of st) f.streams)
+
+none-passing : {A : Type 0} (q : A → Bool) (xs : List A) → filter q xs ≡ [] → list_any q xs ≡ false
+none-passing q [] e = refl
+none-passing q (x ∷ xs) e = by (q x) e (none-passing q xs)
+  where
+    by : (b : Bool) → (if b then x ∷ filter q xs else filter q xs) ≡ [] → (filter q xs ≡ [] → list_any q xs ≡ false) → (b || list_any q xs) ≡ false
+    by true f ih = cc
+    by false f ih = ih f
+
+module _ (st first : ℕ) where
+  abbrev pub to : List Entry → ℕ → ℕ
+  to sent k = begun_to st k sent
+
+  -- the SACK says nothing past the place
+  abbrev pub IsUpTo : ℕ → Sack → Type 0
+  IsUpTo place k = (x : ℕ) × (k.cumulative_tsn_ack ≡ tsn (base first) x) × (x ≤ place)
+
+  abbrev pub IsTold : ℕ → List Entry → ℕ → Session → Type 0
+  IsTold n sent a s = (d : AreDue (base first) st n (to sent) a s.receiving) × Every (IsUpTo d.heard.place) s.sacks
+
+  upto-more : (a b : ℕ) (ks : List Sack) → a ≤ b → Every (IsUpTo a) ks → Every (IsUpTo b) ks
+  upto-more a b ks le h = every-of (IsUpTo a) (IsUpTo b) (λ k x. let y = x.2 in (x.0, x.1, omega (arith, y, le))) ks h
+
+  -- ## A call of the sender
+
+  same-to : (n : ℕ) (sent more : List Entry) → length sent ≡ n → IsOnceMore sent more → (k : ℕ) → k ≤ n → to more k ≡ to sent k
+  same-to n sent more long (inl e) k le = ap (begun_to st k) e
+  same-to n sent more long (inr x) k le = ap (begun_to st k) x.1 ∙ to-more st k x.0 sent (omega (arith, le, long))
+
+  sender-told : (n : ℕ) (call : SenderCall) (old new : Session) (ns : List Numbered) (sent : List Entry) (i : IsSpread first n old ns sent)
+      → (few : n + distance (next_tsn old) (next_tsn new) < 2 ^ 31) → (f : SenderFollows call old new) → (x : Spreads first n call old new ns sent i)
+      → IsTold n sent i.step.numbered.acked old → IsTold (n + distance (next_tsn old) (next_tsn new)) x.more x.spread.step.numbered.acked new
+  sender-told n call old new ns sent i few f x t =
+      let d = t.0 in
+      let m = n + distance (next_tsn old) (next_tsn new) in
+      let b = x.spread.step.numbered.acked in
+      let total = x.spread.step.numbered.total in
+      let at = x.spread.step.numbered.acked_is in
+      let w = d.heard.within in
+      let low = d.heard.least_is in
+      let least : b ≤ d.heard.place = elim (acked-by call old new f) [
+        | inl e ↦
+            let same = same-place (base first) b i.step.numbered.acked (omega (arith, total, few)) (omega (arith, low, w, few))
+            (sym at ∙ e ∙ i.step.numbered.acked_is) in
+            omega (arith, same, low)
+        | inr k ↦
+            let u = every-contained (IsUpTo d.heard.place) old.sacks k.0 k.1 t.1 in
+            let le = u.2 in
+            let same = same-place (base first) b u.0 (omega (arith, total, few)) (omega (arith, le, w, few)) (sym at ∙ k.2 ∙ u.1) in
+            omega (arith, same, le)
+      ] in
+      subst (IsTold m x.more b) (sym f.after) (
+        are-more (base first) st n m (to sent) (to x.more) (omega arith) (same-to n sent x.more i.long x.once)
+            (to-up st n m x.more (omega arith)) i.step.numbered.acked b old.receiving d least,
+        t.1,
+      )
+
+  -- ## A call of the receiver
+
+  module _ (n : ℕ) (old : Session) (ns : List Numbered) (sent : List Entry) (i : IsSpread first n old ns sent) (few : n < 2 ^ 31) where
+    abbrev acked : ℕ
+    acked = i.step.numbered.acked
+
+    grows : (j k : ℕ) → j ≤ k → to sent j ≤ to sent k
+    grows j k le = to-up st j k sent le
+
+    near : to sent n ≤ to sent acked + 2 ^ 14
+    near = let long = i.long in let all = to-all st n sent (omega (arith, long)) in let h = i.near st in omega (arith, all, h)
+
+    -- a chunk that was made
+    step-of : (c : ChunkPayloadData) → Contains old.made (data_chunk (data_of c)) → IsStepOf (base first) st n (to sent) c
+    step-of c in' =
+        let s = found-sent sent old.made (data_of c) i.holds.made in' in
+        let xs = s.2 in
+        let e = fragment (data_of c) s.0 s.1 in
+        let long = i.long in
+        let most = part-length sent (e ∷ xs) s.3 in
+        let number = (part-line ns first sent (e ∷ xs) s.3 i.holds.held.stands.queued.line).0.number in
+        let step = step-fragment st c s.0 s.1 xs (part-indexed sent (e ∷ xs) s.3 i.holds.held.stands.queued.indexed).0 in
+        let one-more : length xs + 1 ≡ length (e ∷ xs) = omega arith in
+        let here : to sent (length xs + 1) ≡ begun_on st (e ∷ xs) = ap (λ k. begun_to st k sent) one-more ∙ to-part st sent (e ∷ xs) s.3 in
+        let prev : to sent (length xs) ≡ begun_on st xs = to-part st sent xs (tail-part sent xs e s.3) in
+        record {
+          before = length xs;
+          within = omega (arith, most, long);
+          is = omega (arith, number);
+          other = λ h. here ∙ step.other h ∙ sym prev;
+          own = λ h. let k = step.number h in (k.0, here ∙ sym k.1, k.2);
+          inner = λ h b.
+              let none = ap one (begins-inner st (data_of c) b) in
+              omega (arith, here, prev, none);
+        }
+
+    refused : (f : _) (r : Reception) → skip_refusal f r ≡ None → (names_too_far f r ≡ false) × (names_closed f r ≡ false)
+    refused f r e = by (names_closed f r) refl (names_too_far f r) refl e
+      where
+        by : (a : Bool) → names_closed f r ≡ a → (b : Bool) → names_too_far f r ≡ b
+            → (if a then Some NamedStreamUnknown else (if b then Some NamedSsnTooFar else forward_refusal f r)) ≡ None
+            → (names_too_far f r ≡ false) × (names_closed f r ≡ false)
+        by true g b h k = absurd (none-some NamedStreamUnknown (sym k))
+        by false g true h k = absurd (none-some NamedSsnTooFar (sym k))
+        by false g false h k = (h, g)
+
+    module _ (new : Session) (named : list_any (passes_by st) old.made ≡ false) (d : AreDue (base first) st n (to sent) acked old.receiving) where
+      abbrev Now : Type 0
+      Now = AreDue (base first) st n (to sent) d.heard.place new.receiving
+
+      same-streams : new.receiving.read ≡ old.receiving.read → new.receiving.receiver.streams ≡ old.receiving.receiver.streams
+          → new.receiving.receiver.cumulative_tsn ≡ old.receiving.receiver.cumulative_tsn
+          → new.receiving.receiver.beyond ≡ old.receiving.receiver.beyond → Now
+      same-streams read streams cumulative beyond =
+          quiet (base first) st n (to sent) few grows acked old.receiving new.receiving d read
+          (subst (λ ls. DueOn (base first) st n (to sent) d.k d.reach (find (has_number st) ls)) (sym streams) d.due) cumulative beyond
+
+      due-after : (call : ReceiverCall) → ReceiverFollows call old new → Now
+      due-after (incoming.opens stream) f =
+          quiet (base first) st n (to sent) few grows acked old.receiving new.receiving d f.step.read
+          (subst (λ (r : Reception). DueOn (base first) st n (to sent) d.k d.reach (stream_of st r)) (sym f.step.receiver.1)
+          (opened-due (base first) st n (to sent) few grows d.k d.reach stream old.receiving.receiver.max_message_size
+          old.receiving.receiver.streams d.due))
+          (ap (λ (r : Reception). r.cumulative_tsn) f.step.receiver.1) (ap (λ (r : Reception). r.beyond) f.step.receiver.1)
+      due-after (incoming.takes c Repeat) f =
+          same-streams f.step.read (ap (λ (r : Reception). r.streams) f.step.receiver) (ap (λ (r : Reception). r.cumulative_tsn) f.step.receiver)
+          (ap (λ (r : Reception). r.beyond) f.step.receiver)
+      due-after (incoming.takes c (New told)) f =
+          let fresh = fresh-new c.tsn told old.receiving.receiver f.accepted.1 in
+          taken-due (base first) st n (to sent) few grows acked near c told old.receiving new.receiving d (step-of c f.handed) f.step.receiver f.step.read
+          fresh (not-far c old.receiving.receiver fresh f.accepted.0)
+      due-after (incoming.follows g) f =
+          let x = every-contained (IsMadeNaming st (base first) acked sent) old.made (forward_tsn g) f.handed (i.names st) in
+          let r = refused g old.receiving.receiver f.accepted in
+          let w = x.within in
+          let long = i.long in
+          let says : not (list_any (is_pair_of st) g.streams) ≡ false = fails (not (list_any (is_pair_of st) g.streams))
+          (λ h. not_both (sym named ∙ list_any_at (passes_by st) old.made f.handed.0 (forward_tsn g) f.handed.1 (ap (passes_by st) f.handed.2 ∙ h))) in
+          followed-due (base first) st n (to sent) few grows acked near g x.place old.receiving new.receiving d (omega (arith, w, long)) x.is f.step.receiver
+          f.step.read (elim x.tells [ inl t ↦ inl (t.0, t.1) | inr t ↦ inr t ]) r.0 r.1 (λ none. absurd (not_both (sym says ∙ ap not (none-passing (is_pair_of st) g.streams none))))
+      due-after (incoming.reports credit) f =
+          same-streams f.step.read (ap (λ (r : Reception). r.streams) f.step.receiver) (ap (λ (r : Reception). r.cumulative_tsn) f.step.receiver)
+          (ap (λ (r : Reception). r.beyond) f.step.receiver)
+      due-after (incoming.reads stream) f =
+          read-on-due (base first) st n (to sent) few grows acked stream old.receiving new.receiving d (ap (λ (r : Reception). r.streams) f.step.receiver)
+          (ap (λ (r : Reception). r.cumulative_tsn) f.step.receiver) (ap (λ (r : Reception). r.beyond) f.step.receiver) f.step.read
+
+  -- the SACKs that were made
+  told-after : (place more : ℕ) (old : Session) (call : ReceiverCall) → old.receiving.receiver.cumulative_tsn ≡ tsn (base first) place → place ≤ more
+      → Every (IsUpTo place) old.sacks → Every (IsUpTo more) (reports_after call old.receiving.receiver old.sacks)
+  told-after place more old (incoming.reports credit) is le h = ((place, is, le), upto-more place more old.sacks le h)
+  told-after place more old (incoming.opens stream) is le h = upto-more place more old.sacks le h
+  told-after place more old (incoming.takes c arrival) is le h = upto-more place more old.sacks le h
+  told-after place more old (incoming.follows f) is le h = upto-more place more old.sacks le h
+  told-after place more old (incoming.reads stream) is le h = upto-more place more old.sacks le h
+
+  receiver-told : (n : ℕ) (call : ReceiverCall) (old new : Session) (ns : List Numbered) (sent : List Entry) (i : IsSpread first n old ns sent)
+      → (few : n < 2 ^ 31) → list_any (passes_by st) old.made ≡ false → (f : ReceiverFollows call old new) → (spread : IsSpread first n new ns sent)
+      → IsTold n sent i.step.numbered.acked old → IsTold n sent spread.step.numbered.acked new
+  receiver-told n call old new ns sent i few named f spread t =
+      let d = t.0 in
+      let e = due-after n old ns sent i few new named d call f in
+      let a = i.step.numbered.acked in
+      let b = spread.step.numbered.acked in
+      let total = i.step.numbered.total in
+      let most = spread.step.numbered.total in
+      let same : b ≡ a = same-place (base first) b a (omega (arith, most, few)) (omega (arith, total, few))
+      (sym spread.step.numbered.acked_is ∙ ap (λ (s : Session). s.sending.sender.flight.acked_tsn) f.after ∙ i.step.numbered.acked_is) in
+      let low = d.heard.least_is in
+      let up = e.heard.least_is in (
+        are-more (base first) st n n (to sent) (to sent) (omega arith) (λ k le. refl) (omega arith) d.heard.place b new.receiving e
+            (omega (arith, same, low, up)),
+        subst (Every (IsUpTo e.heard.place)) (sym (ap (λ (s : Session). s.sacks) f.after))
+            (told-after d.heard.place e.heard.place old call d.heard.is up t.1),
+      )
+
+-- ## Every session
+
+-- on each stream that each FORWARD-TSN names, what is read is in turn
+pub record IsUnwrapped (first n : ℕ) (s : Session) (ns : List Numbered) (sent : List Entry) : Type 0 where
+  pub spread : IsSpread first n s ns sent
+  pub told : (st : ℕ) → list_any (passes_by st) s.made ≡ false → IsTold st first n sent spread.step.numbered.acked s
+
+-- the writes and entries of a session
+pub record HasUnwrapped (first n : ℕ) (s : Session) : Type 0 where
+  pub numbered : List Numbered
+  pub sent : List Entry
+  pub unwrapped : IsUnwrapped first n s numbered sent
+
+sender-unwrapped : (first n : ℕ) (call : SenderCall) (old new : Session) (ns : List Numbered) (sent : List Entry) → IsUnwrapped first n old ns sent
+    → n + distance (next_tsn old) (next_tsn new) < 2 ^ 31 → SenderFollows call old new
+    → (more : List Entry) × IsUnwrapped first (n + distance (next_tsn old) (next_tsn new)) new (numbered_after call ns) more
+sender-unwrapped first n call old new ns sent i few f =
+    let x = sender-spreads first n call old new ns sent i.spread few f in (
+      x.more,
+      record {
+        spread = x.spread;
+        told = λ st named. sender-told st first n call old new ns sent i.spread few f x (i.told st (fails (list_any (passes_by st) old.made)
+            (λ h. not_both (sym named ∙ ap (λ (s : Session). list_any (passes_by st) s.made) f.after
+            ∙ more-made (passes_by st) call old.sending.sender old.made h))));
+      },
+    )
+
+receiver-unwrapped : (first n : ℕ) (call : ReceiverCall) (old new : Session) (ns : List Numbered) (sent : List Entry) → n < 2 ^ 31
+    → ReceiverFollows call old new → IsUnwrapped first n old ns sent → IsUnwrapped first n new ns sent
+receiver-unwrapped first n call old new ns sent few f i =
+    let spread = receiver-spreads first n call old new ns sent few f i.spread in
+    record {
+      spread = spread;
+      told = λ st named.
+          let before = sym (ap (λ (s : Session). list_any (passes_by st) s.made) f.after) ∙ named in
+          receiver-told st first n call old new ns sent i.spread few before f spread (i.told st before);
+    }
+
+unwrapped-after : (first n : ℕ) (cs : List Call) (old new : Session) (ns : List Numbered) (sent : List Entry) (r : RunsTo old cs new)
+    → n + tsns_given old cs new r < 2 ^ 31 → IsUnwrapped first n old ns sent → HasUnwrapped first (n + tsns_given old cs new r) new
+unwrapped-after first n [] old new ns sent r few i =
+    subst (λ k. HasUnwrapped first k new) {x = n} {y = n + 0} (omega arith)
+    (subst (HasUnwrapped first n) (sym r) (record { numbered = ns; sent = sent; unwrapped = i }))
+unwrapped-after first n (of_sender call ∷ cs) old new ns sent r few i =
+    let d = distance (next_tsn old) (next_tsn r.0) in
+    let x = sender-unwrapped first n call old r.0 ns sent i (omega (arith, few)) r.1.0 in
+    let sum : (n + d) + tsns_given r.0 cs new r.1.1 ≡ n + (d + tsns_given r.0 cs new r.1.1) = omega arith in
+    subst (λ k. HasUnwrapped first k new) sum
+    (unwrapped-after first (n + d) cs r.0 new (numbered_after call ns) x.0 r.1.1 (omega (arith, few)) x.1)
+unwrapped-after first n (of_receiver call ∷ cs) old new ns sent r few i =
+    let d = distance (next_tsn old) (next_tsn r.0) in
+    let none : d ≡ 0 = sacks.no-move (base first) n old r.0 (ap (λ (s : Session). s.sending) r.1.0.after) i.spread.step.numbered in
+    let sum : n + tsns_given r.0 cs new r.1.1 ≡ n + (d + tsns_given r.0 cs new r.1.1) = omega (arith, none) in
+    subst (λ k. HasUnwrapped first k new) sum
+    (unwrapped-after first n cs r.0 new ns sent r.1.1 (omega (arith, few)) (receiver-unwrapped first n call old r.0 ns sent (omega (arith, few)) r.1.0 i))
+
+pub unwrapped : (tsn size max most : ℕ) (limits : Option Limits) (cs : List Call) (s : Session) → tsn < 2 ^ 32 → 0 < size
+    → (r : RunsTo (at_start tsn size max most limits) cs s) → tsns_given (at_start tsn size max most limits) cs s r < 2 ^ 31
+    → HasUnwrapped tsn (tsns_given (at_start tsn size max most limits) cs s r) s
+unwrapped first size max most limits cs s small some r few =
+    let n = tsns_given (at_start first size max most limits) cs s r in
+    let start = spread-first first size max most limits small some in
+    let total = start.step.numbered.total in
+    subst (λ k. HasUnwrapped first k s) {x = 0 + n} {y = n} (omega arith)
+    (unwrapped-after first 0 cs (at_start first size max most limits) s [] [] r (omega (arith, few)) (record {
+      spread = start;
+      told = λ st named. (
+        record {
+          k = 0;
+          reach = 0;
+          due = (refl, refl);
+          turns = tt;
+          most = omega arith;
+          heard = record { place = 0; least_is = omega (arith, total); within = omega arith; is = omega arith; covered = omega arith; each = tt };
+        },
+        tt,
+      );
+    }))
