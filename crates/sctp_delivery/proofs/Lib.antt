@@ -57,6 +57,8 @@ pub mod Whole
 pub mod AllRead
 mod Examples
 pub mod UnwrappedReads
+pub mod UnwrappedHolds
 pub mod UnwrappedCalls
 pub mod UnwrappedSessions
 pub mod UnwrappedLaw
+pub mod UnwrappedHeard

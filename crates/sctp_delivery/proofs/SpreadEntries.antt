@@ -101,7 +101,7 @@ abbrev pub begun_to : ℕ → ℕ → List Entry → ℕ
 begun_to st k [] = 0
 begun_to st k (x ∷ xs) = if nat_le (length (x ∷ xs)) k then begun_on st (x ∷ xs) else begun_to st k xs
 
-step-up : (st : ℕ) (x : Entry) (xs : List Entry) → begun_on st xs ≤ begun_on st (x ∷ xs)
+pub step-up : (st : ℕ) (x : Entry) (xs : List Entry) → begun_on st xs ≤ begun_on st (x ∷ xs)
 step-up st terminal xs = omega arith
 step-up st (fragment d w after) xs = omega arith
 
@@ -164,7 +164,7 @@ at-more st k x xs le =
     let e : (length (x ∷ xs) == k) ≡ false = fails (length (x ∷ xs) == k) (λ h. let same = same-is (length (x ∷ xs)) k h in omega (arith, same, le)) in
     ap (λ b. if b then ends_on st (x ∷ xs) else is_at st k xs) e
 
-at-here : (st : ℕ) (x : Entry) (xs : List Entry) (k : ℕ) → k ≡ length (x ∷ xs) → is_at st k (x ∷ xs) ≡ ends_on st (x ∷ xs)
+pub at-here : (st : ℕ) (x : Entry) (xs : List Entry) (k : ℕ) → k ≡ length (x ∷ xs) → is_at st k (x ∷ xs) ≡ ends_on st (x ∷ xs)
 at-here st x xs k e =
     ap (λ m. if length (x ∷ xs) == m then ends_on st (x ∷ xs) else is_at st k xs) e
     ∙ ap (λ b. if b then ends_on st (x ∷ xs) else is_at st k xs) (same-yes (length (x ∷ xs)))
@@ -174,7 +174,7 @@ at-part st [] ys p = sym (ap (ends_on st) p)
 at-part st (x ∷ xs) ys (inl e) = at-here st x xs (length ys) (ap length e) ∙ sym (ap (ends_on st) e)
 at-part st (x ∷ xs) ys (inr p) = at-more st (length ys) x xs (part-length xs ys p) ∙ at-part st xs ys p
 
-joined-rest : (y : Entry) (ys : List Entry) → AreJoined (y ∷ ys) → AreJoined ys
+pub joined-rest : (y : Entry) (ys : List Entry) → AreJoined (y ∷ ys) → AreJoined ys
 joined-rest terminal ys j = j
 joined-rest (fragment d w after) ys j = j.1
 
@@ -196,21 +196,37 @@ ends-next st d w after xs (fragment c v rest) e j = by c.beginning_fragment refl
         let g = j.0.1 h in
         ap (λ k. (k == st) && not c.unordered) (sym g.2) ∙ ap (λ b. (d.stream_identifier == st) && not b) (sym g.1)
 
+begun-next : (st : ℕ) (d : Data) (w : Numbered) (after : List ℕ) (xs : List Entry) (y : Entry) → d.ending_fragment ≡ false
+    → AreJoined (y ∷ fragment d w after ∷ xs) → begun_on st (y ∷ fragment d w after ∷ xs) ≡ begun_on st (fragment d w after ∷ xs)
+begun-next st d w after xs terminal e j = refl
+begun-next st d w after xs (fragment c v rest) e j = by c.beginning_fragment refl
+  where
+    by : (b : Bool) → c.beginning_fragment ≡ b → one (begins_on st c) + begun_on st (fragment d w after ∷ xs) ≡ begun_on st (fragment d w after ∷ xs)
+    by true h = absurd (not_both (sym e ∙ j.0.0 h))
+    by false h = let none = ap one (begins-inner st c h) in omega (arith, none)
+
 pub at-next : (st : ℕ) (sent : List Entry) (d : Data) (w : Numbered) (after : List ℕ) (xs : List Entry) → AreJoined sent
     → IsPart (fragment d w after ∷ xs) sent → d.ending_fragment ≡ false → length (fragment d w after ∷ xs) < length sent
-    → is_at st (length (fragment d w after ∷ xs) + 1) sent ≡ ends_on st (fragment d w after ∷ xs)
+    → (is_at st (length (fragment d w after ∷ xs) + 1) sent ≡ ends_on st (fragment d w after ∷ xs))
+    × (begun_to st (length (fragment d w after ∷ xs) + 1) sent ≡ begun_on st (fragment d w after ∷ xs))
 at-next st [] d w after xs j p e lt = absurd (omega (arith, lt))
 at-next st (y ∷ ys) d w after xs j (inl q) e lt = let n = ap length q in absurd (omega (arith, n, lt))
 at-next st (y ∷ ys) d w after xs j (inr p) e lt = elim (cases_lt (length (fragment d w after ∷ xs)) (length ys)) [
   | inl less ↦
-      at-more st (length (fragment d w after ∷ xs) + 1) y ys (omega (arith, less))
-      ∙ at-next st ys d w after xs (joined-rest y ys j) p e less
+      let ih = at-next st ys d w after xs (joined-rest y ys j) p e less in (
+        at-more st (length (fragment d w after ∷ xs) + 1) y ys (omega (arith, less)) ∙ ih.0,
+        to-more st (length (fragment d w after ∷ xs) + 1) y ys (omega (arith, less)) ∙ ih.1,
+      )
   | inr ge ↦
       let most = part-length ys (fragment d w after ∷ xs) p in
       let long : length ys ≡ length (fragment d w after ∷ xs) = omega (arith, ge, most) in
       let same : ys ≡ fragment d w after ∷ xs = same-parts ys ys (fragment d w after ∷ xs) (part-itself ys) p long in
-      at-here st y ys (length (fragment d w after ∷ xs) + 1) (omega (arith, long)) ∙ ap (λ zs. ends_on st (y ∷ zs)) same
-      ∙ ends-next st d w after xs y e (subst (λ zs. AreJoined (y ∷ zs)) same j)
+      let next = subst (λ zs. AreJoined (y ∷ zs)) same j in (
+        at-here st y ys (length (fragment d w after ∷ xs) + 1) (omega (arith, long)) ∙ ap (λ zs. ends_on st (y ∷ zs)) same
+            ∙ ends-next st d w after xs y e next,
+        to-here st (length (fragment d w after ∷ xs) + 1) y ys (omega (arith, long)) ∙ ap (λ zs. begun_on st (y ∷ zs)) same
+            ∙ begun-next st d w after xs y e next,
+      )
 ]
 
 -- and one that does not begin stands behind one of it
@@ -240,7 +256,8 @@ pub record IsEntry (st first : ℕ) (sent : List Entry) (c : ChunkPayloadData) :
   pub inner : c.beginning_fragment ≡ false → begun_to st (before + 1) sent ≡ begun_to st before sent
   pub on : is_at st (before + 1) sent ≡ is_ordered_on st c
   pub prior : c.beginning_fragment ≡ false → (0 < before) × (is_at st before sent ≡ is_ordered_on st c)
-  pub next : c.ending_fragment ≡ false → before + 1 < length sent → is_at st (before + 1 + 1) sent ≡ is_ordered_on st c
+  pub next : c.ending_fragment ≡ false → before + 1 < length sent
+      → (is_at st (before + 1 + 1) sent ≡ is_ordered_on st c) × (begun_to st (before + 1 + 1) sent ≡ begun_to st (before + 1) sent)
 
 pub made-entry : (ws : List Numbered) (first : ℕ) (sent : List Entry) → IsLine ws first sent → AreIndexed sent → AreJoined sent → (st : ℕ)
     (c : ChunkPayloadData) → WasSent sent (data_of c) → IsEntry st first sent c
@@ -263,5 +280,6 @@ made-entry ws first sent line indexed joined st c (w, after, xs, part) =
       on = ap (λ k. is_at st k sent) (sym long) ∙ at-part st sent (fragment (data_of c) w after ∷ xs) part;
       prior = λ e. at-before st sent (data_of c) w after xs joined part e;
       next = λ e lt.
-          ap (λ k. is_at st (k + 1) sent) (sym long) ∙ at-next st sent (data_of c) w after xs joined part e (omega (arith, lt));
+          let b = at-next st sent (data_of c) w after xs joined part e (omega (arith, lt)) in
+          (ap (λ k. is_at st (k + 1) sent) (sym long) ∙ b.0, ap (λ k. begun_to st (k + 1) sent) (sym long) ∙ b.1 ∙ sym upto);
     }

@@ -8,15 +8,16 @@ use Rattle.std.proofs.lemmas.Bool.Decides.{nat_tests}
 use Rattle.std.proofs.lemmas.List.Folds.{find-append}
 use Rattle.sctp_list_lemmas.specs.Lists.{Seen, advance_over, change_where, insert_before}
 use Rattle.sctp_list_lemmas.specs.Serial.{at_or_before, comes_before}
-use Rattle.sctp_list_lemmas.proofs.Cases.{negated, or-split, same-is}
-use Rattle.sctp_list_lemmas.proofs.Edits.{list_any-those}
+use Rattle.sctp_list_lemmas.proofs.Cases.{negated, or-left, or-right, or-split, same-is}
+use Rattle.sctp_list_lemmas.proofs.Edits.{list_any-inserted, list_any-those}
 use Rattle.sctp_list_lemmas.proofs.More.{both, fails, not_both, same_test}
 use Rattle.sctp_list_lemmas.proofs.Round.{tsn}
 use Rattle.sctp_data.specs.declared.chunk.chunk_payload_data.ChunkPayloadData.{ChunkPayloadData}
 use Rattle.sctp_data.specs.declared.chunk.chunk_forward_tsn.ChunkForwardTsnStream.{ChunkForwardTsnStream}
 use Rattle.sctp_data.specs.ChunkSet.{ChunkSet}
 use Rattle.sctp_data.specs.ForwardTsn.{ForwardTsn}
-use Rattle.sctp_serial.specs.DataChunks.{following_tsn, is_on, preceding_tsn}
+use Rattle.sctp_serial.specs.DataChunks.{chunk_before, following_tsn, has_tsn, is_on, preceding_tsn}
+use Rattle.sctp_reassembly.specs.reassembly_queue.Fragments.{is_complete}
 use Rattle.sctp_reassembly.specs.reassembly_queue.ReassemblyQueue.{held_after_ordered_skip, held_after_unordered_skip, message_read}
 use Rattle.sctp_reassembly.specs.reassembly_queue.Skips.{cannot_complete, misses, misses_behind}
 use Rattle.sctp_receiver.specs.declared.receiver.inbound_streams.InboundStream.{InboundStream}
@@ -34,8 +35,12 @@ use Rattle.sctp_sender.specs.Numbers.{is_ordered_on}
 use Rattle.sctp_sender.proofs.Lates.{found-passes}
 use Rattle.sctp_delivery.proofs.Every.{Every, every-inserted, every-of, every-passing}
 use Rattle.sctp_delivery.proofs.OrderedReads.{starts_ordered}
+use Rattle.sctp_delivery.proofs.TakenTsns.{come}
 use Rattle.sctp_delivery.proofs.TsnPlaces.{at-or-before, before, next-place, same-place}
-use Rattle.sctp_delivery.proofs.UnwrappedReads.{ArePast, IsDue, in-window, incomplete-due, name-due, push-ordered, push-unordered, read-due, unassembled-due}
+use Rattle.sctp_delivery.proofs.UnwrappedReads.{AreSets, Gone, IsDue, IsKeptAt, has_place, in-window, incomplete-due, name-due, push-ordered, push-unordered, read-due, recame, unassembled-due}
+
+use Rattle.sctp_delivery.proofs.UnwrappedHolds as holds
+use Rattle.sctp_delivery.proofs.UnwrappedHolds.{advance-back, advanced, at-in, beyond-more, misses-upto, neither, on-of, rises-put, turn-more}
 
 -- ## Streams by their numbers
 
@@ -58,176 +63,57 @@ module _ (s : ℕ) (f : InboundStream → InboundStream) (keeps : (l : InboundSt
           (sym differ ∙ eq-eqb s st (sym (same-is (number l) s k) ∙ same-is (number l) st (found-passes (has_number st) ls l e)))) in
           ap (λ b. Some (if b then f l else l)) off
 
-neither : (a b : Bool) → (a || b) ≡ false → (a ≡ false) × (b ≡ false)
-neither true b e = absurd (not_both (sym e))
-neither false b e = (refl, e)
-
 -- st: a stream. Of n TSNs from the base p on, B k says how many ordered messages of the stream the first k begin
-module _ (p st n : ℕ) (B : ℕ → ℕ) where
-  -- an ordered chunk of the stream, of the message with this index
-  pub record IsOf (i : ℕ) (c : ChunkPayloadData) : Type 0 where
-    pub before : ℕ
-    pub within : before + 1 ≤ n
-    pub is : c.tsn ≡ tsn p (before + 1)
-    pub begun : B (before + 1) ≡ i + 1
-    pub inner : c.beginning_fragment ≡ false → B before ≡ i + 1
+-- E k: the chunk at place k is an ordered one of the stream; M c: the chunk was made
+module _ (p st n : ℕ) (B : ℕ → ℕ) (E : ℕ → Bool) (M : ChunkPayloadData → Type 0) where
+  abbrev IsOf : ℕ → ChunkPayloadData → Type 0
+  IsOf = holds.IsOf p st n B E M
 
-  -- a chunk that was made
-  pub record IsStepOf (c : ChunkPayloadData) : Type 0 where
-    pub before : ℕ
-    pub within : before + 1 ≤ n
-    pub is : c.tsn ≡ tsn p (before + 1)
-    pub other : is_ordered_on st c ≡ false → B (before + 1) ≡ B before
-    pub own : is_ordered_on st c ≡ true → (i : ℕ) × (B (before + 1) ≡ i + 1) × (c.stream_sequence_number ≡ i % 2 ^ 16)
-    pub inner : is_ordered_on st c ≡ true → c.beginning_fragment ≡ false → B before ≡ B (before + 1)
+  abbrev IsStepOf : ChunkPayloadData → Type 0
+  IsStepOf = holds.IsStepOf p st n B E M
 
-  pub record IsBeyond (reach t : ℕ) : Type 0 where
-    pub before : ℕ
-    pub within : before + 1 ≤ n
-    pub is : t ≡ tsn p (before + 1)
-    pub so : (B (before + 1) ≤ B before) ⊎ (B (before + 1) ≤ reach)
+  abbrev IsBeyond : ℕ → ℕ → Type 0
+  IsBeyond = holds.IsBeyond p st n B E M
 
-  -- up to the cumulative TSN no message past the reach was begun, and none begins with a TSN beyond; the place is this one or a later one
-  pub record Covers (reach least cumulative : ℕ) (beyond : List ℕ) : Type 0 where
-    pub place : ℕ
-    pub least_is : least ≤ place
-    pub within : place ≤ n
-    pub is : cumulative ≡ tsn p place
-    pub covered : B place ≤ reach
-    pub each : Every (IsBeyond reach) beyond
+  abbrev Covers : ℕ → ℕ → ℕ → List ℕ → Type 0
+  Covers = holds.Covers p st n B E M
 
-  abbrev pub DueOn : ℕ → ℕ → Option InboundStream → Type 0
-  DueOn k reach None = (k ≡ 0) × (reach ≡ 0)
-  DueOn k reach (Some l) = IsDue IsOf k reach l.queue.held
+  abbrev Fits : ℕ → List ChunkPayloadData → Type 0
+  Fits = holds.Fits p st n B E M
 
-  abbrev pub is_in_order : Message → Bool
-  is_in_order m = (m.stream == st) && starts_ordered m.fragments
+  abbrev Came : ℕ → List ℕ → ℕ → Type 0
+  Came = holds.Came p st n B E M
 
-  abbrev pub Where : Bool → Type 0 → Type 0 → Type 0
-  Where true P Q = P
-  Where false P Q = Q
+  abbrev DueOn : (ℕ → Type 0) → ℕ → ℕ → Option InboundStream → Type 0
+  DueOn = holds.DueOn p st n B E M
 
-  -- the ordered messages of the stream that were read have indexes below this one, each later one a greater one
-  abbrev pub AreInTurn : ℕ → List Message → Type 0
-  AreInTurn k [] = ⊤
-  AreInTurn k (m ∷ ms) = Where (is_in_order m) ((i : ℕ) × (i < k) × Every (IsOf i) m.fragments × AreInTurn i ms) (AreInTurn k ms)
+  abbrev DueIn : ℕ → ℕ → Reception → Type 0
+  DueIn = holds.DueIn p st n B E M
 
-  pub record AreDue (a : ℕ) (s : Stand) : Type 0 where
-    pub k : ℕ
-    pub reach : ℕ
-    pub due : DueOn k reach (stream_of st s.receiver)
-    pub turns : AreInTurn k s.read
-    pub most : reach ≤ B n
-    pub heard : Covers reach a s.receiver.cumulative_tsn s.receiver.beyond
+  abbrev Where : Bool → Type 0 → Type 0 → Type 0
+  Where = holds.Where p st n B E M
+
+  abbrev AreInTurn : ℕ → List Message → Type 0
+  AreInTurn = holds.AreInTurn p st n B E M
+
+  abbrev AreDue : ℕ → Stand → Type 0
+  AreDue = holds.AreDue p st n B E M
 
   -- its place is m: of the stream it has no name, and no message is begun from the place a up to m; or one, of the last message begun up to m
   abbrev pub IsNamingTo : ℕ → ℕ → List ChunkForwardTsnStream → Type 0
   IsNamingTo a m ns =
-      ((filter (is_pair_of st) ns ≡ []) × (B m ≤ B a))
+      ((filter (is_pair_of st) ns ≡ []) × (B m ≤ B a) × ((k : ℕ) → a < k → k ≤ m → E k ≡ false))
       ⊎ ((j : ℕ) × (j + 1 ≡ B m) × (filter (is_pair_of st) ns ≡ record { identifier = st; sequence = j % 2 ^ 16 } ∷ []))
 
   module _ (few : n < 2 ^ 31) (up : (j k : ℕ) → j ≤ k → B j ≤ B k) where
-    -- ## Chunks
-
-    -- what is missing at or before a place
-    goes-after : (i m : ℕ) (x : ChunkPayloadData) → m ≤ n → IsOf i x → at_or_before (following_tsn x.tsn) (tsn p m) ≡ true → i + 1 ≤ B m
-    goes-after i m x le o f =
-        let w = o.within in
-        let next : following_tsn x.tsn ≡ tsn p (o.before + 1 + 1) = ap following_tsn o.is ∙ next-place p (o.before + 1) in
-        let t : nat_le (o.before + 1 + 1) m ≡ true = sym (at-or-before p (o.before + 1 + 1) m (omega (arith, w, few)) (omega (arith, le, few)))
-        ∙ ap (λ u. at_or_before u (tsn p m)) (sym next) ∙ f in
-        let l : o.before + 1 + 1 ≤ m = grind (arith, nat_tests, t) in
-        let b = o.begun in
-        let u = up (o.before + 1) m (omega (arith, l)) in
-        omega (arith, b, u)
-
-    misses-after : (i m : ℕ) (x : ChunkPayloadData) (xs : List ChunkPayloadData) → m ≤ n → IsOf i x → Every (IsOf i) xs
-        → misses_behind (tsn p m) x xs ≡ true → i + 1 ≤ B m
-    misses-after i m x [] le o h e = goes-after i m x le o (both (not x.ending_fragment) (at_or_before (following_tsn x.tsn) (tsn p m)) e).1
-    misses-after i m x (y ∷ ys) le o h e =
-        elim (or-split (not (y.tsn == following_tsn x.tsn) && at_or_before (following_tsn x.tsn) (tsn p m)) (misses_behind (tsn p m) y ys) e) [
-          | inl a ↦ goes-after i m x le o (both (not (y.tsn == following_tsn x.tsn)) (at_or_before (following_tsn x.tsn) (tsn p m)) a).1
-          | inr a ↦ misses-after i m y ys le h.0 h.1 a
-        ]
-
-    misses-upto : (i m : ℕ) (s : ChunkSet) → m ≤ n → Every (IsOf i) s.chunks → cannot_complete (tsn p m) s ≡ true → i + 1 ≤ B m
-    misses-upto i m s le h e = by s.chunks h (both _ (misses (tsn p m) s.chunks) e).1
-      where
-        by : (cs : List ChunkPayloadData) → Every (IsOf i) cs → misses (tsn p m) cs ≡ true → i + 1 ≤ B m
-        by [] h e = absurd (not_both e)
-        by (x ∷ xs) h e =
-            elim (or-split (not x.beginning_fragment && at_or_before (preceding_tsn x.tsn) (tsn p m)) (misses_behind (tsn p m) x xs) e) [
-              | inl a ↦
-                  let o = h.0 in
-                  let w = o.within in
-                  let b = both (not x.beginning_fragment) (at_or_before (preceding_tsn x.tsn) (tsn p m)) a in
-                  let prior : preceding_tsn (tsn p (o.before + 1)) ≡ tsn p o.before = omega arith in
-                  let t : nat_le o.before m ≡ true = sym (at-or-before p o.before m (omega (arith, w, few)) (omega (arith, le, few)))
-                  ∙ ap (λ u. at_or_before u (tsn p m)) (sym (ap preceding_tsn o.is ∙ prior)) ∙ b.1 in
-                  let l : o.before ≤ m = grind (arith, nat_tests, t) in
-                  let i' = o.inner (negated x.beginning_fragment b.0) in
-                  let u = up o.before m l in
-                  omega (arith, i', u)
-              | inr a ↦ misses-after i m x xs le h.0 h.1 a
-            ]
-
-    -- ## What came
-
-    beyond-more : (reach more t : ℕ) → reach ≤ more → IsBeyond reach t → IsBeyond more t
-    beyond-more reach more t le b = record {
-      before = b.before;
-      within = b.within;
-      is = b.is;
-      so = elim b.so [ inl x ↦ inl x | inr x ↦ inr (omega (arith, x, le)) ];
-    }
-
-    advanced : (reach least c : ℕ) (ts : List ℕ) → Covers reach least c ts → Covers reach least (advance_over c ts).cum (advance_over c ts).held
-    advanced reach least c [] h = h
-    advanced reach least c (t ∷ ts) h = by (t == (c + 1) % 2 ^ 32) refl (λ g. advanced reach least t ts g)
-      where
-        by : (b : Bool) → (t == (c + 1) % 2 ^ 32) ≡ b
-            → (Covers reach least t ts → Covers reach least (advance_over t ts).cum (advance_over t ts).held)
-            → (let s : Seen = if b then advance_over t ts else (let r : Seen = record { cum = c; held = t ∷ ts } in r) in Covers reach least s.cum s.held)
-        by false e ih = h
-        by true e ih =
-            let x = h.each.0 in
-            let next : t ≡ tsn p (h.place + 1) = same-is t ((c + 1) % 2 ^ 32) e ∙ ap (λ u. (u + 1) % 2 ^ 32) h.is ∙ next-place p h.place in
-            let w = x.within in
-            let v = h.within in
-            let one : x.before + 1 ≡ h.place + 1 = same-place p (x.before + 1) (h.place + 1) (omega (arith, w, few)) (omega (arith, v, few)) (sym x.is ∙ next) in
-            let same : x.before ≡ h.place = omega (arith, one) in
-            let a = ap B same in
-            let b = ap B one in
-            let l = h.least_is in
-            let c' = h.covered in
-            ih (record {
-              place = h.place + 1;
-              least_is = omega (arith, l);
-              within = omega (arith, w, one);
-              is = next;
-              covered = elim x.so [ inl y ↦ omega (arith, y, a, b, c') | inr y ↦ omega (arith, y, b) ];
-              each = h.each.1;
-            })
-
-    -- ## What is due
-
-    turn-more : (j k : ℕ) (ms : List Message) → j ≤ k → AreInTurn j ms → AreInTurn k ms
-    turn-more j k [] le t = tt
-    turn-more j k (m ∷ ms) le t = by (is_in_order m) t (λ h. turn-more j k ms le h)
-      where
-        by : (b : Bool) → Where b ((i : ℕ) × (i < j) × Every (IsOf i) m.fragments × AreInTurn i ms) (AreInTurn j ms) → (AreInTurn j ms → AreInTurn k ms)
-            → Where b ((i : ℕ) × (i < k) × Every (IsOf i) m.fragments × AreInTurn i ms) (AreInTurn k ms)
-        by true h ih = let x = h.1 in (h.0, omega (arith, x, le), h.2, h.3)
-        by false h ih = ih h
-
     -- ## Calls of the receiver
 
-    pub opened-due : (k reach s max : ℕ) (ls : List InboundStream) → DueOn k reach (find (has_number st) ls)
-        → DueOn k reach (find (has_number st) (ls ++ new_stream s max ∷ []))
-    opened-due k reach s max ls d =
-        subst (DueOn k reach) (sym (find-append (has_number st) ls (new_stream s max ∷ []))) (by (find (has_number st) ls) (s == st) d)
+    pub opened-due : (C : ℕ → Type 0) (k reach s max : ℕ) (ls : List InboundStream) → DueOn C k reach (find (has_number st) ls)
+        → DueOn C k reach (find (has_number st) (ls ++ new_stream s max ∷ []))
+    opened-due C k reach s max ls d =
+        subst (DueOn C k reach) (sym (find-append (has_number st) ls (new_stream s max ∷ []))) (by (find (has_number st) ls) (s == st) d)
       where
-        by : (o : Option InboundStream) (b : Bool) → DueOn k reach o → DueOn k reach (option_or o (if b then Some (new_stream s max) else None))
+        by : (o : Option InboundStream) (b : Bool) → DueOn C k reach o → DueOn C k reach (option_or o (if b then Some (new_stream s max) else None))
         by None true d =
             let x = d.0 in
             let y = d.1 in
@@ -242,6 +128,7 @@ module _ (p st n : ℕ) (B : ℕ → ℕ) where
               within = omega arith;
               far = omega (arith, y);
               sets = tt;
+              kept = λ y le h. absurd (d.2 y le h);
               unordered = tt;
               unassembled = tt;
             }
@@ -249,14 +136,16 @@ module _ (p st n : ℕ) (B : ℕ → ℕ) where
         by (Some l) b d = d
 
     -- nothing is read, and no TSN comes
-    pub quiet : (a : ℕ) (old new : Stand) (d : AreDue a old) → new.read ≡ old.read → DueOn d.k d.reach (stream_of st new.receiver)
+    pub quiet : (a : ℕ) (old new : Stand) (d : AreDue a old) → new.read ≡ old.read
+        → DueOn (Came old.receiver.cumulative_tsn old.receiver.beyond) d.k d.reach (stream_of st new.receiver)
         → new.receiver.cumulative_tsn ≡ old.receiver.cumulative_tsn → new.receiver.beyond ≡ old.receiver.beyond → AreDue d.heard.place new
     quiet a old new d e due c b =
         let h = d.heard in
         record {
           k = d.k;
           reach = d.reach;
-          due = due;
+          due = subst (λ t. DueOn (Came t new.receiver.beyond) d.k d.reach (stream_of st new.receiver)) (sym c)
+              (subst (λ ts. DueOn (Came old.receiver.cumulative_tsn ts) d.k d.reach (stream_of st new.receiver)) (sym b) due);
           turns = subst (AreInTurn d.k) (sym e) d.turns;
           most = d.most;
           heard = record {
@@ -303,33 +192,59 @@ module _ (p st n : ℕ) (B : ℕ → ℕ) where
         streams-elsewhere differ =
             ap (stream_of st) acc.after ∙ changed-elsewhere sid (with_queue acc.queue) keeps old.receiver.streams st differ
 
-        held : sid ≡ st → IsDue IsOf d.k d.reach acc.stream.queue.held
-        held same = subst (DueOn d.k d.reach) (subst (λ s. stream_of s old.receiver ≡ Some acc.stream) same acc.found) d.due
+        abbrev Old : ℕ → Type 0
+        Old = Came old.receiver.cumulative_tsn old.receiver.beyond
 
-        build : (more : ℕ) → d.reach ≤ more → more ≤ B n → DueOn d.k more (stream_of st new.receiver)
-            → (B (g.before + 1) ≤ B g.before) ⊎ (B (g.before + 1) ≤ more) → AreDue d.heard.place new
-        build more le most due so =
+        held : sid ≡ st → IsDue p n B Fits Old d.k d.reach acc.stream.queue.held
+        held same = subst (DueOn Old d.k d.reach) (subst (λ s. stream_of s old.receiver ≡ Some acc.stream) same acc.found) d.due
+
+        inserted : (more : ℕ) → d.reach ≤ more → (B (g.before + 1) ≤ B g.before) ⊎ (B (g.before + 1) ≤ more)
+            → Covers more d.heard.place old.receiver.cumulative_tsn (insert_before comes_before c.tsn old.receiver.beyond)
+        inserted more le so =
             let h = d.heard in
             let v = h.covered in
             record {
-              k = d.k;
-              reach = more;
-              due = due;
-              turns = subst (AreInTurn d.k) (sym read) d.turns;
-              most = most;
-              heard =
-                  subst (λ (r : Reception). Covers more h.place r.cumulative_tsn r.beyond) (sym acc.after)
-                  (advanced more h.place old.receiver.cumulative_tsn (insert_before comes_before c.tsn old.receiver.beyond) (record {
-                    place = h.place;
-                    least_is = omega arith;
-                    within = h.within;
-                    is = h.is;
-                    covered = omega (arith, v, le);
-                    each = every-inserted (IsBeyond more) comes_before c.tsn old.receiver.beyond
-                        (record { before = g.before; within = g.within; is = g.is; so = so })
-                        (every-of (IsBeyond d.reach) (IsBeyond more) (λ t. beyond-more d.reach more t le) old.receiver.beyond h.each);
-                  }));
+              place = h.place;
+              least_is = omega arith;
+              within = h.within;
+              is = h.is;
+              covered = omega (arith, v, le);
+              each = every-inserted (IsBeyond more) comes_before c.tsn old.receiver.beyond
+                  (record { before = g.before; within = g.within; is = g.is; so = so })
+                  (every-of (IsBeyond d.reach) (IsBeyond more) (λ t. beyond-more p st n B E M few up d.reach more t le) old.receiver.beyond h.each);
             }
+
+        -- what came, but for the chunk, came before
+        back : (y : ℕ) → y ≤ n → Came new.receiver.cumulative_tsn new.receiver.beyond y → Old y ⊎ ((y ≡ g.before + 1) × (E y ≡ true))
+        back y le h =
+            let k = advance-back p st n B E M few up (d.reach + B (g.before + 1)) d.heard.place old.receiver.cumulative_tsn
+            (insert_before comes_before c.tsn old.receiver.beyond) (inserted (d.reach + B (g.before + 1)) (omega arith) (inr (omega arith))) y le
+            (subst (λ (r : Reception). come (tsn p y) r.cumulative_tsn r.beyond ≡ true) acc.after h.1) in
+            elim (or-split (at_or_before (tsn p y) old.receiver.cumulative_tsn)
+            (list_any (λ t. t == tsn p y) (insert_before comes_before c.tsn old.receiver.beyond)) k) [
+              | inl z ↦ inl (h.0, or-left (at_or_before (tsn p y) old.receiver.cumulative_tsn) (list_any (λ t. t == tsn p y) old.receiver.beyond) z)
+              | inr z ↦ elim (or-split (c.tsn == tsn p y) (list_any (λ t. t == tsn p y) old.receiver.beyond)
+                  (sym (list_any-inserted (λ t. t == tsn p y) comes_before c.tsn old.receiver.beyond) ∙ z)) [
+                    | inl x ↦
+                        let w = g.within in
+                        let same = same-place p y (g.before + 1) (omega (arith, le, few)) (omega (arith, w, few)) (sym (same-is c.tsn (tsn p y) x) ∙ g.is) in
+                        inr (same, h.0)
+                    | inr x ↦ inl (h.0, or-right (at_or_before (tsn p y) old.receiver.cumulative_tsn) (list_any (λ t. t == tsn p y) old.receiver.beyond) x)
+                  ]
+            ]
+
+        build : (more : ℕ) → d.reach ≤ more → more ≤ B n → DueIn d.k more new.receiver
+            → (B (g.before + 1) ≤ B g.before) ⊎ (B (g.before + 1) ≤ more) → AreDue d.heard.place new
+        build more le most due so = record {
+          k = d.k;
+          reach = more;
+          due = due;
+          turns = subst (AreInTurn d.k) (sym read) d.turns;
+          most = most;
+          heard =
+              subst (λ (r : Reception). Covers more d.heard.place r.cumulative_tsn r.beyond) (sym acc.after)
+              (advanced p st n B E M few up more d.heard.place old.receiver.cumulative_tsn (insert_before comes_before c.tsn old.receiver.beyond) (inserted more le so));
+        }
 
         ordered : is_ordered_on st c ≡ true → AreDue d.heard.place new
         ordered e = elim (cases_lt d.reach (i + 1)) [
@@ -352,7 +267,7 @@ module _ (p st n : ℕ) (B : ℕ → ℕ) where
             kind : c.unordered ≡ false
             kind = negated c.unordered on.1
 
-            dd : IsDue IsOf d.k d.reach acc.stream.queue.held
+            dd : IsDue p n B Fits Old d.k d.reach acc.stream.queue.held
             dd = held same
 
             top : B (g.before + 1) ≤ B n
@@ -367,33 +282,44 @@ module _ (p st n : ℕ) (B : ℕ → ℕ) where
                 let z = h.covered in
                 let m = d.most in
                 let b = o.1 in
-                in-window IsOf d.k d.reach i c.stream_sequence_number acc.stream.queue.held dd o.2 (omega (arith, m, near, y, x, b))
+                in-window p n B Fits Old (at-in p st n B E M few up) d.k d.reach i c.stream_sequence_number acc.stream.queue.held dd o.2 (omega (arith, m, near, y, x, b))
                 (omega (arith, top, near, y, z, b))
                 (ap (λ b. not b && is_ssn_too_far c.stream_sequence_number acc.stream.queue.held) (sym kind) ∙ (ap (is_too_far_on c) (sym acc.found) ∙ close))
 
             of : IsOf i c
-            of = record { before = g.before; within = g.within; is = g.is; begun = o.1; inner = λ f. g.inner e f ∙ o.1 }
+            of = record { before = g.before; within = g.within; is = g.is; begun = o.1; made = g.made; on = e; inner = λ f. g.inner e f ∙ o.1 }
 
             put : (more : ℕ) → d.reach ≤ more → i < more → more ≤ dd.low + 2 ^ 15 → more ≤ B n → AreDue d.heard.place new
             put more le lt far most =
                 let b = o.1 in
+                let at : has_tsn (tsn p (g.before + 1)) c ≡ true = eq-eqb c.tsn (tsn p (g.before + 1)) g.is in
+                let x = push-ordered p n B Fits Old (at-in p st n B E M few up) d.k d.reach more i (g.before + 1) c told acc.stream.queue acc.queue dd kind (of, omega arith, tt)
+                (λ cs none r. rises-put p st n B E M few up i 0 c cs of (omega arith) none r) o.2 at o.1 window.0 window.1 le lt far acc.pushed in
                 build more le most
-                (subst (DueOn d.k more) (sym (streams-here same)) (push-ordered IsOf d.k d.reach more i c told acc.stream.queue acc.queue dd kind of o.2
-                window.0 window.1 le lt far acc.pushed)) (inr (omega (arith, b, lt)))
+                (subst (DueOn (Came new.receiver.cumulative_tsn new.receiver.beyond) d.k more) (sym (streams-here same))
+                (recame p n B Fits Old (Came new.receiver.cumulative_tsn new.receiver.beyond) d.k more acc.queue.held x.0 (λ y m h. elim (back y m h) [
+                  | inl z ↦ inl z
+                  | inr z ↦ inr (subst (IsKeptAt p n B Fits Old x.0.index acc.queue.held.ordered) (sym z.0) x.1)
+                ]))) (inr (omega (arith, b, lt)))
 
         other : is_ordered_on st c ≡ false → AreDue d.heard.place new
-        other e = build d.reach (omega arith) d.most (by (sid == st) refl e) (inl (let x = g.other e in omega (arith, x)))
+        other e = build d.reach (omega arith) d.most
+            (on-of p st n B E M few up Old (Came new.receiver.cumulative_tsn new.receiver.beyond) less d.k d.reach (stream_of st new.receiver) (by (sid == st) refl e))
+            (inl (let x = g.other e in omega (arith, x)))
           where
+            less : (y : ℕ) → y ≤ n → Came new.receiver.cumulative_tsn new.receiver.beyond y → Old y
+            less y le h = elim (back y le h) [ inl z ↦ z | inr z ↦ absurd (not_both (sym (ap E z.0 ∙ g.on ∙ e) ∙ z.1)) ]
+
             kind : (b : Bool) → not b ≡ false → b ≡ true
             kind true h = refl
             kind false h = absurd (not_both (sym h))
 
-            by : (b : Bool) → (sid == st) ≡ b → (b && not c.unordered) ≡ false → DueOn d.k d.reach (stream_of st new.receiver)
+            by : (b : Bool) → (sid == st) ≡ b → (b && not c.unordered) ≡ false → DueOn Old d.k d.reach (stream_of st new.receiver)
             by true on h =
                 let same = same-is sid st on in
-                subst (DueOn d.k d.reach) (sym (streams-here same))
-                (push-unordered IsOf d.k d.reach c told acc.stream.queue acc.queue (kind c.unordered h) acc.pushed (held same))
-            by false on h = subst (DueOn d.k d.reach) (sym (streams-elsewhere on)) d.due
+                subst (DueOn Old d.k d.reach) (sym (streams-here same))
+                (push-unordered p n B Fits Old (at-in p st n B E M few up) d.k d.reach c told acc.stream.queue acc.queue (kind c.unordered h) acc.pushed (held same))
+            by false on h = subst (DueOn Old d.k d.reach) (sym (streams-elsewhere on)) d.due
 
         pub taken-due : AreDue d.heard.place new
         taken-due = by (is_ordered_on st c) refl
@@ -407,14 +333,18 @@ module _ (p st n : ℕ) (B : ℕ → ℕ) where
         (streams : new.receiver.streams ≡ change_where (has_number stream) stream_read old.receiver.streams)
         (cumulative : new.receiver.cumulative_tsn ≡ old.receiver.cumulative_tsn) (beyond : new.receiver.beyond ≡ old.receiver.beyond)
         (read : new.read ≡ with_message stream (message_on stream old.receiver) old.read) where
-      read-to : (k : ℕ) → DueOn k d.reach (stream_of st new.receiver) → AreInTurn k (with_message stream (message_on stream old.receiver) old.read)
+      abbrev Then : ℕ → Type 0
+      Then = Came old.receiver.cumulative_tsn old.receiver.beyond
+
+      read-to : (k : ℕ) → DueOn Then k d.reach (stream_of st new.receiver) → AreInTurn k (with_message stream (message_on stream old.receiver) old.read)
           → AreDue d.heard.place new
       read-to k due turns =
           let h = d.heard in
           record {
             k = k;
             reach = d.reach;
-            due = due;
+            due = subst (λ t. DueOn (Came t new.receiver.beyond) k d.reach (stream_of st new.receiver)) (sym cumulative)
+                (subst (λ ts. DueOn (Came old.receiver.cumulative_tsn ts) k d.reach (stream_of st new.receiver)) (sym beyond) due);
             turns = subst (AreInTurn k) (sym read) turns;
             most = d.most;
             heard = record {
@@ -432,40 +362,40 @@ module _ (p st n : ℕ) (B : ℕ → ℕ) where
 
       here : stream ≡ st → (o : Option InboundStream) → stream_of stream old.receiver ≡ o → AreDue d.heard.place new
       here same None e =
-          let due = subst (λ s. DueOn d.k d.reach (stream_of s old.receiver)) (sym same) d.due in
+          let due = subst (λ s. DueOn Then d.k d.reach (stream_of s old.receiver)) (sym same) d.due in
           let none = subst (λ s. find (has_number s) (change_where (has_number stream) stream_read old.receiver.streams) ≡ None) same
           (changed-none stream stream_read (λ l h. refl) old.receiver.streams e) in
-          read-to d.k (subst (DueOn d.k d.reach) (sym (found ∙ none)) (subst (DueOn d.k d.reach) e due))
+          read-to d.k (subst (DueOn Then d.k d.reach) (sym (found ∙ none)) (subst (DueOn Then d.k d.reach) e due))
           (subst (λ f. AreInTurn d.k (with_message stream (message_of f) old.read)) (sym e) d.turns)
       here same (Some l) e =
-          let due = subst (λ s. DueOn d.k d.reach (stream_of s old.receiver)) (sym same) d.due in
+          let due = subst (λ s. DueOn Then d.k d.reach (stream_of s old.receiver)) (sym same) d.due in
           let is = subst (λ s. find (has_number s) (change_where (has_number stream) stream_read old.receiver.streams) ≡ Some (stream_read l)) same
           (changed-here stream stream_read (λ l h. refl) old.receiver.streams l e) in
-          let r = read-due IsOf d.k d.reach l.queue.held (subst (DueOn d.k d.reach) e due) in
-          read-to r.after (subst (DueOn r.after d.reach) (sym (found ∙ is)) r.due)
+          let r = read-due p n B Fits Then (at-in p st n B E M few up) d.k d.reach l.queue.held (subst (DueOn Then d.k d.reach) e due) in
+          read-to r.after (subst (DueOn Then r.after d.reach) (sym (found ∙ is)) r.due)
           (subst (λ f. AreInTurn r.after (with_message stream (message_of f) old.read)) (sym e) (turn r.after r.up r.turn (message_read l.queue.held) refl))
         where
           turn : (after : ℕ) → d.k ≤ after → ((set : ChunkSet) → message_read l.queue.held ≡ Some set → starts_ordered set.chunks ≡ true
-              → (i : ℕ) × ((d.k ≤ i) × (i < after)) × Every (IsOf i) set.chunks)
+              → (i : ℕ) × ((d.k ≤ i) × (i < after)) × Fits i set.chunks)
               → (o : Option ChunkSet) → message_read l.queue.held ≡ o → AreInTurn after (with_message stream o old.read)
-          turn after le t None f = turn-more d.k after old.read le d.turns
+          turn after le t None f = turn-more p st n B E M few up d.k after old.read le d.turns
           turn after le t (Some set) f = by (stream == st) (starts_ordered set.chunks) refl
             where
               by : (b c : Bool) → starts_ordered set.chunks ≡ c
-                  → Where (b && c) ((i : ℕ) × (i < after) × Every (IsOf i) set.chunks × AreInTurn i old.read) (AreInTurn after old.read)
-              by true true h = let x = t set f h in (x.0, x.1.1, x.2, turn-more d.k x.0 old.read x.1.0 d.turns)
-              by true false h = turn-more d.k after old.read le d.turns
-              by false c h = turn-more d.k after old.read le d.turns
+                  → Where (b && c) ((i : ℕ) × (i < after) × Fits i set.chunks × AreInTurn i old.read) (AreInTurn after old.read)
+              by true true h = let x = t set f h in (x.0, x.1.1, x.2, turn-more p st n B E M few up d.k x.0 old.read x.1.0 d.turns)
+              by true false h = turn-more p st n B E M few up d.k after old.read le d.turns
+              by false c h = turn-more p st n B E M few up d.k after old.read le d.turns
 
       elsewhere : (stream == st) ≡ false → AreDue d.heard.place new
       elsewhere differ =
-          read-to d.k (subst (DueOn d.k d.reach) (sym (found ∙ changed-elsewhere stream stream_read (λ l h. refl) old.receiver.streams st differ)) d.due)
+          read-to d.k (subst (DueOn Then d.k d.reach) (sym (found ∙ changed-elsewhere stream stream_read (λ l h. refl) old.receiver.streams st differ)) d.due)
           (by (message_on stream old.receiver))
         where
           by : (o : Option ChunkSet) → AreInTurn d.k (with_message stream o old.read)
           by None = d.turns
           by (Some set) =
-              subst (λ b. Where (b && starts_ordered set.chunks) ((i : ℕ) × (i < d.k) × Every (IsOf i) set.chunks × AreInTurn i old.read)
+              subst (λ b. Where (b && starts_ordered set.chunks) ((i : ℕ) × (i < d.k) × Fits i set.chunks × AreInTurn i old.read)
               (AreInTurn d.k old.read)) (sym differ) d.turns
 
       pub read-on-due : AreDue d.heard.place new
@@ -495,8 +425,8 @@ module _ (p st n : ℕ) (B : ℕ → ℕ) where
     module _ (a : ℕ) (near : B n ≤ B a + 2 ^ 14) (f : ForwardTsn) (m : ℕ) (old new : Stand) (d : AreDue a old) (le : m ≤ n)
         (is : f.new_cumulative_tsn ≡ tsn p m) (after : new.receiver ≡ after_forward_tsn f old.receiver) (read : new.read ≡ old.read)
         (naming : IsNamingTo a m f.streams) (told : names_too_far f old.receiver ≡ false) (shut : names_closed f old.receiver ≡ false)
-        (edge : filter (is_pair_of st) f.streams ≡ [] → (l : InboundStream) → stream_of st old.receiver ≡ Some l
-        → (e : IsDue IsOf d.k d.reach l.queue.held) → ArePast IsOf f.new_cumulative_tsn e.index e.low) where
+        (missing : (i : ℕ) (cs : List ChunkPayloadData) → Fits i cs → misses (tsn p m) cs ≡ true
+        → (z : ℕ) × (z ≤ m) × (E z ≡ true) × (B z ≡ i + 1) × (list_any (has_tsn (tsn p z)) cs ≡ false)) where
       ahead-is : is_stale f old.receiver ≡ false → d.heard.place < m
       ahead-is e =
           let h = d.heard in
@@ -538,54 +468,165 @@ module _ (p st n : ℕ) (B : ℕ → ℕ) where
           twice None = refl
           twice (Some l) = refl
 
+      abbrev Prior : ℕ → Type 0
+      Prior = Came old.receiver.cumulative_tsn old.receiver.beyond
+
+      abbrev New : ℕ → Type 0
+      New = Came new.receiver.cumulative_tsn new.receiver.beyond
+
+      abbrev rest : List ℕ
+      rest = filter (λ u. not (at_or_before u f.new_cumulative_tsn)) old.receiver.beyond
+
+      heard-upto : is_stale f old.receiver ≡ false → (more : ℕ) → d.reach ≤ more → B m ≤ more → Covers more d.heard.place f.new_cumulative_tsn rest
+      heard-upto e more up' covered =
+          let lt = ahead-is e in
+          record {
+            place = m;
+            least_is = omega (arith, lt);
+            within = le;
+            is = is;
+            covered = covered;
+            each = every-of (IsBeyond d.reach) (IsBeyond more) (λ u. beyond-more p st n B E M few up d.reach more u up') rest
+                (every-passing (IsBeyond d.reach) (λ u. not (at_or_before u f.new_cumulative_tsn)) old.receiver.beyond d.heard.each);
+          }
+
+      now-is : is_stale f old.receiver ≡ false → new.receiver ≡ without_incomplete f.new_cumulative_tsn (follow_forward_tsn f old.receiver)
+      now-is e =
+          after ∙ ap (λ b. if b then old.receiver else without_incomplete f.new_cumulative_tsn
+          (if b then old.receiver else follow_forward_tsn f old.receiver)) e
+
+      -- what came lies up to the place of the FORWARD-TSN, or came before
+      came-by : is_stale f old.receiver ≡ false → (y : ℕ) → y ≤ n → New y → (y ≤ m) ⊎ Prior y
+      came-by e y most h =
+          let t = f.new_cumulative_tsn in
+          let k = advance-back p st n B E M few up (d.reach + B m) d.heard.place t rest (heard-upto e (d.reach + B m) (omega arith) (omega arith)) y most
+          (subst (λ (r : Reception). come (tsn p y) r.cumulative_tsn r.beyond ≡ true) (now-is e) h.1) in
+          elim (or-split (at_or_before (tsn p y) t) (list_any (λ u. u == tsn p y) rest) k) [
+            | inl z ↦
+                let u : nat_le y m ≡ true = sym (at-or-before p y m (omega (arith, most, few)) (omega (arith, le, few)))
+                ∙ ap (at_or_before (tsn p y)) (sym is) ∙ z in
+                inl (grind (arith, nat_tests, u))
+            | inr z ↦ inr (
+              h.0,
+              or-right (at_or_before (tsn p y) old.receiver.cumulative_tsn) (list_any (λ u. u == tsn p y) old.receiver.beyond)
+                  (list_any-those (λ u. u == tsn p y) (λ u. not (at_or_before u t)) old.receiver.beyond z),
+            )
+          ]
+
       -- with this reach
       leads-to : is_stale f old.receiver ≡ false → (more : ℕ) → d.reach ≤ more → more ≤ B n → B m ≤ more
-          → DueOn d.k more (option_map changed (stream_of st old.receiver)) → AreDue d.heard.place new
-      leads-to e more up' most covered due =
-          let h = d.heard in
-          let lt = ahead-is e in
-          let t = f.new_cumulative_tsn in
-          let rest = filter (λ u. not (at_or_before u t)) old.receiver.beyond in
-          record {
-            k = d.k;
-            reach = more;
-            due = subst (DueOn d.k more) (sym (found-after e)) due;
-            turns = subst (AreInTurn d.k) (sym read) d.turns;
-            most = most;
-            heard =
-                subst (λ (r : Reception). Covers more h.place r.cumulative_tsn r.beyond) (sym (after
-                ∙ ap (λ b. if b then old.receiver else without_incomplete t (if b then old.receiver else follow_forward_tsn f old.receiver)) e))
-                (advanced more h.place t rest (record {
-                  place = m;
-                  least_is = omega (arith, lt);
-                  within = le;
-                  is = is;
-                  covered = covered;
-                  each = every-of (IsBeyond d.reach) (IsBeyond more) (λ u. beyond-more d.reach more u up') rest
-                      (every-passing (IsBeyond d.reach) (λ u. not (at_or_before u t)) old.receiver.beyond h.each);
-                }));
-          }
+          → DueOn New d.k more (option_map changed (stream_of st old.receiver)) → AreDue d.heard.place new
+      leads-to e more up' most covered due = record {
+        k = d.k;
+        reach = more;
+        due = subst (DueOn New d.k more) (sym (found-after e)) due;
+        turns = subst (AreInTurn d.k) (sym read) d.turns;
+        most = most;
+        heard =
+            subst (λ (r : Reception). Covers more d.heard.place r.cumulative_tsn r.beyond) (sym (now-is e))
+            (advanced p st n B E M few up more d.heard.place f.new_cumulative_tsn rest (heard-upto e more up' covered));
+      }
 
       -- the queue of the stream, by its names
       skipped : (l : InboundStream) → stream_of st old.receiver ≡ Some l → ssns_of l.queue.si f.streams ≡ map (λ x. x.sequence) (filter (is_pair_of st) f.streams)
       skipped l e =
           ap (λ s. ssns_of s f.streams) (same-is (number l) st (found-passes (has_number st) old.receiver.streams l e)) ∙ own-names f.streams
 
-      unnamed : is_stale f old.receiver ≡ false → filter (is_pair_of st) f.streams ≡ [] → B m ≤ B a → AreDue d.heard.place new
-      unnamed e none most = leads-to e d.reach (omega arith) d.most covered (by (stream_of st old.receiver) refl)
+      -- sets of later messages have no chunk of the place
+      later-none : (low top z : ℕ) (ss : List ChunkSet) → AreSets p n B Fits Prior low top ss → z ≤ n → B z ≤ low → list_any (has_place p n B Fits Prior z) ss ≡ true → ⊥
+      later-none low top z [] r most lo h = not_both h
+      later-none low top z (s ∷ ss) r most lo h =
+          elim (or-split (has_place p n B Fits Prior z s) (list_any (has_place p n B Fits Prior z) ss) h) [
+            | inl g ↦ let b = (at-in p st n B E M few up) r.0 z s.chunks most r.1.1 g in let x = r.1.0.0 in absurd (omega (arith, b, x, lo))
+            | inr g ↦ let x = r.1.0.0 in later-none (r.0 + 1) top z ss r.2 most (omega (arith, lo, x)) g
+          ]
+
+      unnot : (b : Bool) → not b ≡ false → b ≡ true
+      unnot true e = refl
+      unnot false e = absurd (not_both (sym e))
+
+      misses-it : (s : ChunkSet) → not (cannot_complete f.new_cumulative_tsn s) ≡ false → misses (tsn p m) s.chunks ≡ true
+      misses-it s e =
+          subst (λ t. misses t s.chunks ≡ true) is
+          (both (not (is_complete s.chunks)) (misses f.new_cumulative_tsn s.chunks) (unnot (cannot_complete f.new_cumulative_tsn s) e)).1
+
+      -- where each place up to m of a message from the index on is held, no such message misses one
+      gone-held : (index low top : ℕ) (ss : List ChunkSet) (r : AreSets p n B Fits Prior low top ss)
+          → ((z : ℕ) → z ≤ m → E z ≡ true → low + 1 ≤ B z → index + 1 ≤ B z → list_any (has_place p n B Fits Prior z) ss ≡ true)
+          → Gone p n B Fits Prior (λ set. not (cannot_complete f.new_cumulative_tsn set)) index low top ss r
+      gone-held index low top [] r hold = tt
+      gone-held index low top (s ∷ ss) r hold = (
+        λ e. elim (cases_lt r.0 index) [
+          | inl lt ↦ lt
+          | inr ge ↦
+              let x = r.1.0.0 in
+              let z = missing r.0 s.chunks r.1.1 (misses-it s e) in
+              let upto = z.1 in
+              let b = z.3 in
+              elim (or-split (has_place p n B Fits Prior z.0 s) (list_any (has_place p n B Fits Prior z.0) ss)
+              (hold z.0 z.1 z.2 (omega (arith, b, x)) (omega (arith, b, ge)))) [
+                | inl h ↦ absurd (not_both (sym z.4 ∙ h))
+                | inr h ↦ absurd (later-none (r.0 + 1) top z.0 ss r.2 (omega (arith, upto, le)) (omega (arith, b)) h)
+              ]
+        ],
+        gone-held index (r.0 + 1) top ss r.2 (λ z upto a lo from.
+            let x = r.1.0.0 in
+            elim (or-split (has_place p n B Fits Prior z s) (list_any (has_place p n B Fits Prior z) ss) (hold z upto a (omega (arith, lo, x)) from)) [
+              | inl h ↦ let b = (at-in p st n B E M few up) r.0 z s.chunks (omega (arith, upto, le)) r.1.1 h in absurd (omega (arith, b, lo))
+              | inr h ↦ h
+            ]),
+      )
+
+      -- where the index is past all messages begun up to m
+      gone-begun : (index low top : ℕ) (ss : List ChunkSet) (r : AreSets p n B Fits Prior low top ss) → B m ≤ index
+          → Gone p n B Fits Prior (λ set. not (cannot_complete f.new_cumulative_tsn set)) index low top ss r
+      gone-begun index low top [] r past = tt
+      gone-begun index low top (s ∷ ss) r past = (
+        λ e.
+            let c = subst (λ t. cannot_complete t s ≡ true) is (unnot (cannot_complete f.new_cumulative_tsn s) e) in
+            let b = misses-upto p st n B E M few up r.0 m s le r.1.1 c in
+            omega (arith, b, past),
+        gone-begun index (r.0 + 1) top ss r.2 past,
+      )
+
+      unnamed : is_stale f old.receiver ≡ false → filter (is_pair_of st) f.streams ≡ [] → B m ≤ B a → ((k : ℕ) → a < k → k ≤ m → E k ≡ false)
+          → AreDue d.heard.place new
+      unnamed e none most clear = leads-to e d.reach (omega arith) d.most covered (by (stream_of st old.receiver) refl)
         where
           covered : B m ≤ d.reach
           covered = let h = d.heard in let y = up a h.place h.least_is in let z = h.covered in omega (arith, most, y, z)
 
-          by : (o : Option InboundStream) → stream_of st old.receiver ≡ o → DueOn d.k d.reach (option_map changed o)
-          by None g = subst (DueOn d.k d.reach) g d.due
+          came : (y : ℕ) → y ≤ n → y ≤ m → E y ≡ true → Prior y
+          came y within upto on = elim (cases_lt d.heard.place y) [
+            | inl lt ↦ let x = d.heard.least_is in absurd (not_both (sym (clear y (omega (arith, x, lt)) upto) ∙ on))
+            | inr ge ↦
+                let v = d.heard.within in
+                let t : nat_le y d.heard.place ≡ true = grind (arith, nat_tests, ge) in (
+                  on,
+                  or-left (at_or_before (tsn p y) old.receiver.cumulative_tsn) (list_any (λ u. u == tsn p y) old.receiver.beyond)
+                      (ap (at_or_before (tsn p y)) d.heard.is ∙ at-or-before p y d.heard.place (omega (arith, within, few)) (omega (arith, v, few)) ∙ t),
+                )
+          ]
+
+          less : (y : ℕ) → y ≤ n → New y → Prior y
+          less y within h = elim (came-by e y within h) [ inl x ↦ came y within x h.0 | inr x ↦ x ]
+
+          by : (o : Option InboundStream) → stream_of st old.receiver ≡ o → DueOn New d.k d.reach (option_map changed o)
+          by None g = on-of p st n B E M few up Prior New less d.k d.reach None (subst (DueOn Prior d.k d.reach) g d.due)
           by (Some l) g =
-              let held = subst (DueOn d.k d.reach) g d.due in
-              let u = unassembled-due IsOf d.k d.reach f.new_cumulative_tsn l.queue.held held in
+              let held = subst (DueOn Prior d.k d.reach) g d.due in
+              let now = recame p n B Fits Prior New d.k d.reach l.queue.held held (λ y within h. inl (less y within h)) in
+              let u = unassembled-due p n B Fits New (at-in p st n B E M few up) d.k d.reach f.new_cumulative_tsn l.queue.held now in
+              let gone = gone-held held.index held.low d.reach l.queue.held.ordered held.sets
+              (λ z upto on lo from. elim (held.kept z (omega (arith, upto, le)) (came z (omega (arith, upto, le)) upto on)) [
+                | inl h ↦ absurd (omega (arith, h, from))
+                | inr h ↦ h
+              ]) in
               let names : ssns_of l.queue.si f.streams ≡ [] = skipped l g ∙ ap (map (λ (x : ChunkForwardTsnStream). x.sequence)) none in
-              subst (λ ssns. IsDue IsOf d.k d.reach
+              subst (λ ssns. IsDue p n B Fits New d.k d.reach
               (incomplete_forwarded f.new_cumulative_tsn (unassembled_forwarded f.new_cumulative_tsn (with_queue (skipped_each ssns l.queue) l))).queue.held)
-              (sym names) (incomplete-due IsOf d.k d.reach f.new_cumulative_tsn (held_after_unordered_skip f.new_cumulative_tsn l.queue.held) u (edge none l g held))
+              (sym names) (incomplete-due p n B Fits New (at-in p st n B E M few up) d.k d.reach f.new_cumulative_tsn (held_after_unordered_skip f.new_cumulative_tsn l.queue.held) u
+              gone)
 
       named : is_stale f old.receiver ≡ false → (j : ℕ) → j + 1 ≡ B m → filter (is_pair_of st) f.streams ≡ record { identifier = st; sequence = j % 2 ^ 16 } ∷ []
           → AreDue d.heard.place new
@@ -600,7 +641,7 @@ module _ (p st n : ℕ) (B : ℕ → ℕ) where
               absurd (not_both (sym open' ∙ ap (λ o. not (is_some o)) g))
           by (Some l) g =
               let h = d.heard in
-              let held = subst (DueOn d.k d.reach) g d.due in
+              let held = subst (DueOn Prior d.k d.reach) g d.due in
               let close : is_name_too_far (j % 2 ^ 16) l.queue.held ≡ false =
               ap (is_named_too_far (record { identifier = st; sequence = j % 2 ^ 16 })) (sym g)
               ∙ none-among (λ x. is_named_too_far x (stream_of x.identifier old.receiver)) told lt (record { identifier = st; sequence = j % 2 ^ 16 }) only in
@@ -609,18 +650,22 @@ module _ (p st n : ℕ) (B : ℕ → ℕ) where
               let z = h.covered in
               let w = d.most in
               let top = up m n le in
-              let s = name-due IsOf d.k d.reach j (j % 2 ^ 16) (B n) l.queue.held held refl (omega (arith, w, near, y, x, last))
+              let s = name-due p n B Fits Prior (at-in p st n B E M few up) d.k d.reach j (j % 2 ^ 16) (B n) l.queue.held held refl (omega (arith, w, near, y, x, last))
               (omega (arith, top, near, y, z, last)) w (omega (arith, top, last)) close in
               let q = held_after_ordered_skip (j % 2 ^ 16) l.queue.held in
-              let u = unassembled-due IsOf d.k s.more f.new_cumulative_tsn q s.due in
-              let past : ArePast IsOf f.new_cumulative_tsn s.due.index s.due.low = λ i set of c. inl
-              (let b = misses-upto i m set le of (subst (λ t. cannot_complete t set ≡ true) is c) in let v = s.passed in omega (arith, b, v, last)) in
+              let v = s.passed in
+              let now = recame p n B Fits Prior New d.k s.more q s.due (λ y within h. elim (came-by e y within h) [
+                | inl z ↦ inr (inl (let b = up y m z in omega (arith, b, v, last)))
+                | inr z ↦ inl z
+              ]) in
+              let u = unassembled-due p n B Fits New (at-in p st n B E M few up) d.k s.more f.new_cumulative_tsn q now in
+              let past = gone-begun s.due.index s.due.low s.more q.ordered s.due.sets (omega (arith, v, last)) in
               let names : ssns_of l.queue.si f.streams ≡ j % 2 ^ 16 ∷ [] = skipped l g ∙ ap (map (λ (x : ChunkForwardTsnStream). x.sequence)) only in
               let upto = s.upto in
-              leads-to e s.more s.up s.within (omega (arith, upto, last)) (subst (λ o. DueOn d.k s.more (option_map changed o)) (sym g)
-              (subst (λ ssns. IsDue IsOf d.k s.more
+              leads-to e s.more s.up s.within (omega (arith, upto, last)) (subst (λ o. DueOn New d.k s.more (option_map changed o)) (sym g)
+              (subst (λ ssns. IsDue p n B Fits New d.k s.more
               (incomplete_forwarded f.new_cumulative_tsn (unassembled_forwarded f.new_cumulative_tsn (with_queue (skipped_each ssns l.queue) l))).queue.held)
-              (sym names) (incomplete-due IsOf d.k s.more f.new_cumulative_tsn (held_after_unordered_skip f.new_cumulative_tsn q) u past)))
+              (sym names) (incomplete-due p n B Fits New (at-in p st n B E M few up) d.k s.more f.new_cumulative_tsn (held_after_unordered_skip f.new_cumulative_tsn q) u past)))
 
       pub followed-due : AreDue d.heard.place new
       followed-due = by (is_stale f old.receiver) refl
@@ -629,6 +674,6 @@ module _ (p st n : ℕ) (B : ℕ → ℕ) where
           by true e =
               let same : new.receiver ≡ old.receiver = after
               ∙ ap (λ b. if b then old.receiver else without_incomplete f.new_cumulative_tsn (if b then old.receiver else follow_forward_tsn f old.receiver)) e in
-              quiet a old new d read (subst (λ (r : Reception). DueOn d.k d.reach (stream_of st r)) (sym same) d.due)
+              quiet a old new d read (subst (λ (r : Reception). DueOn Prior d.k d.reach (stream_of st r)) (sym same) d.due)
               (ap (λ (r : Reception). r.cumulative_tsn) same) (ap (λ (r : Reception). r.beyond) same)
-          by false e = elim naming [ inl x ↦ unnamed e x.0 x.1 | inr x ↦ named e x.0 x.1 x.2 ]
+          by false e = elim naming [ inl x ↦ unnamed e x.0 x.1 x.2 | inr x ↦ named e x.0 x.1 x.2 ]

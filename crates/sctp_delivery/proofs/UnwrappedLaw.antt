@@ -1,44 +1,42 @@
--- The ordered messages of a stream are read in the order of their writes: also after more than 2^15 of them, where each FORWARD-TSN names
--- the stream.
-use Rattle.std.proofs.Common.{◌≡◌, ℕ, ◌+◌, ◌^◌, ◌<◌, ◌≤◌, Bool, true, false, not, List, [], ◌∷◌, length, inl, inr, refl, ap, sym, subst, ◌∙◌, arith}
-use Rattle.std.specs.Prelude.{All, AllPairs, ◌||◌, if◌then◌else◌}
-use Rattle.std.specs.List.{list_all, list_any}
+-- The ordered messages of a stream are read in the order of their writes.
+use Rattle.std.proofs.Common.{◌≡◌, ℕ, ◌+◌, ◌^◌, ◌<◌, ◌≤◌, Bool, true, false, List, [], ◌∷◌, length, refl, ap, sym, subst, ◌∙◌, arith}
+use Rattle.std.specs.Prelude.{All, AllPairs, if◌then◌else◌}
 use Rattle.sctp_list_lemmas.proofs.Edits.{pairs_cons}
-use Rattle.sctp_list_lemmas.proofs.More.{both, not_both}
+use Rattle.sctp_list_lemmas.proofs.More.{not_both}
 use Rattle.sctp_data.specs.declared.chunk.chunk_payload_data.ChunkPayloadData.{ChunkPayloadData}
-use Rattle.sctp_data.specs.PayloadData.{Data}
+use Rattle.sctp_data.specs.PayloadData.{Data, data_of}
 use Rattle.sctp_receiver.specs.ReceiverRuns.{Message}
 use Rattle.sctp_delivery.specs.Messages.{StandAt, WhileFewTsns}
-use Rattle.sctp_delivery.specs.Order.{AreReadInOrder, SsnsLast, is_ordered_on, names_stream, ordered_places}
-use Rattle.sctp_delivery.specs.SenderCalls.{Made, data_chunk, forward_tsn}
+use Rattle.sctp_delivery.specs.Order.{AreReadInOrder, is_ordered_on, ordered_places}
 use Rattle.sctp_delivery.proofs.Begun.{AreOnce}
 use Rattle.sctp_delivery.proofs.Delivered.{IsReadOf, read-in}
-use Rattle.sctp_delivery.proofs.Every.{Every}
 use Rattle.sctp_delivery.proofs.OnceWritten.{EachRead, apart, each-read, places, stand}
-use Rattle.sctp_delivery.proofs.OrderedCalls.{in-turn, is_in_order}
+use Rattle.sctp_delivery.proofs.OrderedCalls.{is_in_order}
 use Rattle.sctp_delivery.proofs.OrderedEntries.{AreRising, begun_on}
-use Rattle.sctp_delivery.proofs.OrderedLaw.{all-cons, before, ordered as ordered-few, small-made, starts, up_to}
-use Rattle.sctp_delivery.proofs.OrderedPlaces.{AreNumbered, written-few}
+use Rattle.sctp_delivery.proofs.OrderedLaw.{all-cons, before, starts, up_to}
+use Rattle.sctp_delivery.proofs.OrderedPlaces.{AreNumbered}
 use Rattle.sctp_delivery.proofs.ReadOnce as read_once
-use Rattle.sctp_delivery.proofs.Sent.{Entry, IsLine, Numbered, part-length, part-line}
-use Rattle.sctp_delivery.proofs.Sessions as sessions
-use Rattle.sctp_delivery.proofs.SpreadEntries.{begun_to, to-part}
+use Rattle.sctp_delivery.proofs.Sent.{Entry, IsLine, Numbered, WasSent, part-length, part-line}
+use Rattle.sctp_delivery.proofs.SpreadEntries.{begun_to, is_at, to-part}
 use Rattle.sctp_delivery.proofs.TsnPlaces.{base}
-use Rattle.sctp_delivery.proofs.UnwrappedCalls.{AreInTurn, IsOf, Where}
-use Rattle.sctp_delivery.proofs.UnwrappedSessions.{passes_by, unwrapped}
+use Rattle.sctp_delivery.proofs.UnwrappedHolds.{AreInTurn, Fits, IsOf, Where}
+use Rattle.sctp_delivery.proofs.UnwrappedSessions.{unwrapped}
 
 module _ (st first n : ℕ) (ns : List Numbered) (sent : List Entry) (few : n < 2 ^ 31) (long : length sent ≡ n) (line : IsLine ns first sent)
     (once : AreOnce sent) (rising : AreRising sent) (numbered : AreNumbered ns) where
   abbrev Of : ℕ → ChunkPayloadData → Type 0
-  Of = IsOf (base first) st n (λ k. begun_to st k sent)
+  Of = IsOf (base first) st n (λ k. begun_to st k sent) (λ k. is_at st k sent) (λ c. WasSent sent (data_of c))
+
+  abbrev Piece : ℕ → List ChunkPayloadData → Type 0
+  Piece = Fits (base first) st n (λ k. begun_to st k sent) (λ k. is_at st k sent) (λ c. WasSent sent (data_of c))
 
   abbrev InTurn : ℕ → List Message → Type 0
-  InTurn = AreInTurn (base first) st n (λ k. begun_to st k sent)
+  InTurn = AreInTurn (base first) st n (λ k. begun_to st k sent) (λ k. is_at st k sent) (λ c. WasSent sent (data_of c))
 
   -- what its chunks say is its index
-  index-is : (m : Message) (x : IsReadOf ns sent m) (i : ℕ) → Every (Of i) m.fragments → begun_on st (up_to ns sent m x) ≡ i + 1
+  index-is : (m : Message) (x : IsReadOf ns sent m) (i : ℕ) → Piece i m.fragments → begun_on st (up_to ns sent m x) ≡ i + 1
   index-is m x i h =
-      let o = (subst (Every (Of i)) x.fragments h).0 in
+      let o = (subst (Piece i) x.fragments h).0 in
       let number = (part-line ns first sent (up_to ns sent m x) x.part line).0.number in
       let most = part-length sent (up_to ns sent m x) x.part in
       let is = o.is in
@@ -47,15 +45,15 @@ module _ (st first n : ℕ) (ns : List Numbered) (sent : List Entry) (few : n < 
       sym (to-part st sent (up_to ns sent m x) x.part) ∙ ap (λ k. begun_to st k sent) same ∙ o.begun
 
   -- the later index
-  by-index : (m o : Message) (x : IsReadOf ns sent m) (y : IsReadOf ns sent o) (i j : ℕ) → Every (Of i) m.fragments → Every (Of j) o.fragments → j < i
+  by-index : (m o : Message) (x : IsReadOf ns sent m) (y : IsReadOf ns sent o) (i j : ℕ) → Piece i m.fragments → Piece j o.fragments → j < i
       → x.chunk.unordered ≡ false → y.chunk.unordered ≡ false → x.written.0 < y.written.0
   by-index m o x y i j h g lt kx ky =
       let a = index-is m x i h in
       let b = index-is o y j g in
       before ns sent once rising numbered st m o x y kx ky (omega (arith, a, b, lt)) (λ it.
       (let t = ap (λ (d : Data). d.tsn) it in
-      let p = (subst (Every (Of i)) x.fragments h).0 in
-      let q = (subst (Every (Of j)) y.fragments g).0 in
+      let p = (subst (Piece i) x.fragments h).0 in
+      let q = (subst (Piece j) y.fragments g).0 in
       let u = p.is in
       let v = q.is in
       let c = p.within in
@@ -67,14 +65,14 @@ module _ (st first n : ℕ) (ns : List Numbered) (sent : List Entry) (few : n < 
       omega (arith, e, k, l, lt)))
 
   -- an ordered message, and those that were read before it
-  module _ (m : Message) (x : IsReadOf ns sent m) (i : ℕ) (h : Every (Of i) m.fragments) (kx : x.chunk.unordered ≡ false) where
+  module _ (m : Message) (x : IsReadOf ns sent m) (i : ℕ) (h : Piece i m.fragments) (kx : x.chunk.unordered ≡ false) where
     away : (k : ℕ) (ms : List Message) (e : EachRead ns sent once ms) → k ≤ i → InTurn k ms
         → All (λ q. x.written.0 < q) (ordered_places st ms (places ns sent once ms e))
     away k [] e le t = λ j d lt. absurd (omega (arith, lt))
     away k (o ∷ os) e le t = by (is_ordered_on st o) refl (is_in_order st o) refl t (λ j l u. away j os e.1 l u)
       where
         by : (b : Bool) → is_ordered_on st o ≡ b → (c : Bool) → is_in_order st o ≡ c
-            → Where (base first) st n (λ k. begun_to st k sent) c ((j : ℕ) × (j < k) × Every (Of j) o.fragments × InTurn j os) (InTurn k os)
+            → Where (base first) st n (λ k. begun_to st k sent) (λ k. is_at st k sent) (λ c. WasSent sent (data_of c)) c ((j : ℕ) × (j < k) × Piece j o.fragments × InTurn j os) (InTurn k os)
             → ((j : ℕ) → j ≤ i → InTurn j os → All (λ q. x.written.0 < q) (ordered_places st os (places ns sent once os e.1)))
             → All (λ q. x.written.0 < q) (if b then e.0.written.0 ∷ ordered_places st os (places ns sent once os e.1) else ordered_places st os
             (places ns sent once os e.1))
@@ -93,7 +91,7 @@ module _ (st first n : ℕ) (ns : List Numbered) (sent : List Entry) (few : n < 
   in-order-of k (m ∷ ms) e t = by (is_ordered_on st m) refl (is_in_order st m) refl t (λ j u. in-order-of j ms e.1 u)
     where
       by : (b : Bool) → is_ordered_on st m ≡ b → (c : Bool) → is_in_order st m ≡ c
-          → Where (base first) st n (λ k. begun_to st k sent) c ((j : ℕ) × (j < k) × Every (Of j) m.fragments × InTurn j ms) (InTurn k ms)
+          → Where (base first) st n (λ k. begun_to st k sent) (λ k. is_at st k sent) (λ c. WasSent sent (data_of c)) c ((j : ℕ) × (j < k) × Piece j m.fragments × InTurn j ms) (InTurn k ms)
           → ((j : ℕ) → InTurn j ms → AllPairs (λ p q. p < q) (ordered_places st ms (places ns sent once ms e.1)))
           → AllPairs (λ p q. p < q) (if b then e.0.written.0 ∷ ordered_places st ms (places ns sent once ms e.1) else ordered_places st ms
           (places ns sent once ms e.1))
@@ -107,37 +105,18 @@ module _ (st first n : ℕ) (ns : List Numbered) (sent : List Entry) (few : n < 
 
 -- ## The law
 
-none-passes : (st : ℕ) (ms : List Made) → list_all (names_stream st) ms ≡ true → list_any (passes_by st) ms ≡ false
-none-passes st [] e = refl
-none-passes st (data_chunk d ∷ ms) e = none-passes st ms e
-none-passes st (forward_tsn f ∷ ms) e =
-    let b = both (names_stream st (forward_tsn f)) (list_all (names_stream st) ms) e in
-    ap (λ c. not c || list_any (passes_by st) ms) b.0 ∙ none-passes st ms b.1
-
 pub in-order : WhileFewTsns AreReadInOrder
 in-order tsn size max most limits cs s small some r few =
     let u = unwrapped tsn size max most limits cs s small some r few in
     let h = u.unwrapped.spread.holds in
     let long = u.unwrapped.spread.long in
     let a = read-in tsn size max most limits cs s r u.numbered u.sent (omega (arith, long, few)) h in
-    let e = each-read a.numbered a.sent a.once s.receiving.read a.each in
-    let last : (st : ℕ) → SsnsLast st s.written → begun_on st a.sent ≤ 2 ^ 15 = λ st short.
-    (let n = a.few st in
-    let w = written-few st a.numbered in
-    let l = subst (SsnsLast st) (sym a.writes) short in
-    omega (arith, n, w, l)) in
-    let on = sessions.read-on tsn size max most limits cs s r in (
+    let e = each-read a.numbered a.sent a.once s.receiving.read a.each in (
       places a.numbered a.sent a.once s.receiving.read e,
       subst (λ ws. StandAt ws s.receiving.read (places a.numbered a.sent a.once s.receiving.read e)) a.writes
           (stand a.numbered a.sent a.once s.receiving.read e),
       apart a.numbered a.sent a.once s.receiving.read e (read_once.none-twice tsn size max most limits cs s r small few),
-      λ st told. elim told [
-        | inl short ↦
-            let fewer = last st short in
-            ordered-few a.numbered a.sent a.once a.indexed a.rising a.placed st fewer s.receiving.read e on
-            (in-turn st tsn size max most limits cs s r (small-made a.sent a.indexed st fewer s.made a.sent-made))
-        | inr named ↦
-            let t = (u.unwrapped.told st (none-passes st s.made named)).0 in
-            in-order-of st tsn _ u.numbered u.sent few long h.held.stands.queued.line a.once a.rising a.placed t.k s.receiving.read e t.turns
-      ],
+      λ st.
+          let t = (u.unwrapped.told st).0 in
+          in-order-of st tsn _ u.numbered u.sent few long h.held.stands.queued.line a.once a.rising a.placed t.k s.receiving.read e t.turns,
     )

@@ -8,8 +8,9 @@ use Rattle.std.proofs.lemmas.Bool.Decides.{nat_tests}
 use Rattle.std.proofs.lemmas.Option.{none-some}
 use Rattle.sctp_list_lemmas.specs.Lists.{after_leading, change_first, insert_before}
 use Rattle.sctp_list_lemmas.specs.Serial.{at_or_before, at_or_before16, comes_before16, distance16}
-use Rattle.sctp_list_lemmas.proofs.Cases.{same-is, same-yes, some-same}
+use Rattle.sctp_list_lemmas.proofs.Cases.{or-left, or-right, or-split, same-is, same-yes, some-same}
 use Rattle.sctp_list_lemmas.proofs.More.{and, both, not_both}
+use Rattle.sctp_list_lemmas.proofs.Round.{tsn}
 use Rattle.sctp_list_lemmas.proofs.Wraps.{at_or_before16-index, comes_before16-index, next16}
 use Rattle.sctp_data.specs.declared.chunk.chunk_payload_data.ChunkPayloadData.{ChunkPayloadData}
 use Rattle.sctp_data.specs.ChunkSet.{ChunkSet}
@@ -21,6 +22,7 @@ use Rattle.sctp_receiver.specs.Inbound.{Pushes, PushesAs}
 use Rattle.sctp_receiver.specs.Ssns.{is_name_too_far, is_ssn_too_far, lowest_among, lowest_ssn}
 use Rattle.sctp_delivery.proofs.Every.{Every, every-inserted, every-joined, every-left, every-taken}
 use Rattle.sctp_delivery.proofs.KeptSets.{IsAt}
+use Rattle.sctp_delivery.proofs.TakenTsns.{any-inserted}
 use Rattle.sctp_delivery.proofs.OrderedReads.{IsUnorderedSet, starts_ordered}
 
 -- a number less than half the circle past another one, by their indexes
@@ -34,14 +36,26 @@ sides : (low j : ℕ) → low ≤ j + 2 ^ 15 → j < low + 2 ^ 16
 unfolding distance16
 sides low j x y = elim (cases_lt j low) [ inl lt ↦ inr (lt, omega (arith, x, lt)) | inr ge ↦ inl (ge, omega (arith, ge, y)) ]
 
--- Of i c: the chunk is an ordered one of the message with this index
-module _ (Of : ℕ → ChunkPayloadData → Type 0) where
+-- Fits i cs: the chunks are ordered ones of the message with the index i; B k: so many messages of the stream were begun up to place k of the
+-- n places behind the base p; Came k: an ordered chunk of the stream has the place k, and came
+module _ (p n : ℕ) (B : ℕ → ℕ) (Fits : ℕ → List ChunkPayloadData → Type 0) (Came : ℕ → Type 0) where
   -- ## What is held
 
   -- from set to set the index rises, and the chunks of each are of its message
   abbrev pub AreSets : ℕ → ℕ → List ChunkSet → Type 0
   AreSets low top [] = ⊤
-  AreSets low top (s ∷ ss) = (k : ℕ) × (IsAt low top k s × Every (Of k) s.chunks) × AreSets (k + 1) top ss
+  AreSets low top (s ∷ ss) = (k : ℕ) × (IsAt low top k s × Fits k s.chunks) × AreSets (k + 1) top ss
+
+  -- a chunk of the sets has the place
+  abbrev pub has_place : ℕ → ChunkSet → Bool
+  has_place y s = list_any (has_tsn (tsn p y)) s.chunks
+
+  -- its message lies before this index, or the chunk is held
+  abbrev pub IsKeptAt : ℕ → List ChunkSet → ℕ → Type 0
+  IsKeptAt index ss y = (B y ≤ index) ⊎ (list_any (has_place y) ss ≡ true)
+
+  abbrev pub IsKept : ℕ → List ChunkSet → Type 0
+  IsKept index ss = (y : ℕ) → y ≤ n → Came y → IsKeptAt index ss y
 
   -- the ordered messages still to be read have indexes from k on, and those that are held lie below the reach
   pub record IsDue (k reach : ℕ) (q : Reassembly) : Type 0 where
@@ -55,378 +69,17 @@ module _ (Of : ℕ → ChunkPayloadData → Type 0) where
     pub within : index ≤ reach
     pub far : reach ≤ low + 2 ^ 15
     pub sets : AreSets low reach q.ordered
+    pub kept : IsKept index q.ordered
     pub unordered : Every IsUnorderedSet q.unordered
     pub unassembled : Every (λ c. c.unordered ≡ true) q.unassembled
 
-  sets-from : (a b top : ℕ) (ss : List ChunkSet) → b ≤ a → AreSets a top ss → AreSets b top ss
-  sets-from a b top [] le r = tt
-  sets-from a b top (s ∷ ss) le r = let x = r.1.0.0 in (r.0, ((omega (arith, x, le), r.1.0.1, r.1.0.2), r.1.1), r.2)
-
-  sets-to : (low a b : ℕ) (ss : List ChunkSet) → a ≤ b → AreSets low a ss → AreSets low b ss
-  sets-to low a b [] le r = tt
-  sets-to low a b (s ∷ ss) le r = let x = r.1.0.1 in (r.0, ((r.1.0.0, omega (arith, x, le), r.1.0.2), r.1.1), sets-to (r.0 + 1) a b ss le r.2)
-
-  -- what is so of a window makes the lowest index its bottom
-  settled : (k low index reach : ℕ) (q : Reassembly) → q.next_ssn ≡ index % 2 ^ 16 → k ≤ low → low ≤ index → index < low + 2 ^ 15 → index ≤ reach
-      → reach ≤ low + 2 ^ 15 → AreSets low reach q.ordered → Every IsUnorderedSet q.unordered → Every (λ c. c.unordered ≡ true) q.unassembled
-      → (d : IsDue k reach q) × (d.index ≡ index)
-  settled k low index reach q next due from near within far sets us xs = by q.ordered refl sets
-    where
-      build : (l : ℕ) → lowest_ssn q ≡ l % 2 ^ 16 → low ≤ l → l ≤ index → AreSets l reach q.ordered → (d : IsDue k reach q) × (d.index ≡ index)
-      build l is up le r = (
-        record {
-          index = index;
-          low = l;
-          next = next;
-          lowest = is;
-          due = omega (arith, due, up);
-          from = le;
-          near = omega (arith, near, up);
-          within = within;
-          far = omega (arith, far, up);
-          sets = r;
-          unordered = us;
-          unassembled = xs;
-        },
-        refl,
-      )
-
-      by : (ss : List ChunkSet) → q.ordered ≡ ss → AreSets low reach ss → (d : IsDue k reach q) × (d.index ≡ index)
-      by [] e a = build index (ap (lowest_among q.next_ssn) e ∙ next) from (omega arith) (subst (AreSets index reach) (sym e) tt)
-      by (s ∷ ss) e a = at (at_or_before16 s.ssn q.next_ssn) refl
-        where
-          i : ℕ
-          i = a.0
-
-          order : at_or_before16 s.ssn q.next_ssn ≡ nat_le i index
-          order =
-              let x = a.1.0.0 in
-              let y = a.1.0.1 in
-              ap (λ n. at_or_before16 n q.next_ssn) a.1.0.2 ∙ ap (at_or_before16 (i % 2 ^ 16)) next
-              ∙ at_or_before16-index i index (omega (arith, y, far, from)) (omega (arith, x, near))
-
-          at : (b : Bool) → at_or_before16 s.ssn q.next_ssn ≡ b → (d : IsDue k reach q) × (d.index ≡ index)
-          at true f =
-              let t : nat_le i index ≡ true = sym order ∙ f in
-              build i (ap (lowest_among q.next_ssn) e ∙ ap (λ b. if b then s.ssn else q.next_ssn) f ∙ a.1.0.2) a.1.0.0 (grind (arith, nat_tests, t))
-              (subst (AreSets i reach) (sym e) (i, ((omega arith, a.1.0.1, a.1.0.2), a.1.1), a.2))
-          at false f =
-              let t : nat_le i index ≡ false = sym order ∙ f in
-              let lt : index < i = grind (arith, nat_tests, t) in
-              build index (ap (lowest_among q.next_ssn) e ∙ ap (λ b. if b then s.ssn else q.next_ssn) f ∙ next) from (omega arith)
-              (subst (AreSets index reach) (sym e) (i, ((omega (arith, lt), a.1.0.1, a.1.0.2), a.1.1), a.2))
-
-  due-from : (j k reach : ℕ) (q : Reassembly) → j ≤ k → IsDue k reach q → IsDue j reach q
-  due-from j k reach q le d = record {
-    index = d.index;
-    low = d.low;
-    next = d.next;
-    lowest = d.lowest;
-    due = let h = d.due in omega (arith, h, le);
-    from = d.from;
-    near = d.near;
-    within = d.within;
-    far = d.far;
-    sets = d.sets;
-    unordered = d.unordered;
-    unassembled = d.unassembled;
-  }
-
-  sets-those : (p : ChunkSet → Bool) (low top : ℕ) (ss : List ChunkSet) → AreSets low top ss → AreSets low top (filter p ss)
-  sets-those p low top [] r = tt
-  sets-those p low top (s ∷ ss) r = by (p s) (sets-those p (r.0 + 1) top ss r.2)
-    where
-      by : (b : Bool) → AreSets (r.0 + 1) top (filter p ss) → AreSets low top (if b then s ∷ filter p ss else filter p ss)
-      by true ih = (r.0, r.1, ih)
-      by false ih = sets-from (r.0 + 1) low top (filter p ss) (let x = r.1.0.0 in omega (arith, x)) ih
-
-  -- ## A fragment comes
-
-  none-after : (b c : Bool) → (b || c) ≡ false → c ≡ false
-  none-after true c e = absurd (not_both (sym e))
-  none-after false c e = e
-
-  strictly : (j k : ℕ) → j ≤ k → (k ≡ j → ⊥) → j < k
-  strictly j k le differ = elim (cases_lt j k) [ inl lt ↦ lt | inr ge ↦ absurd (differ (omega (arith, le, ge))) ]
-
-  module _ (x : ChunkPayloadData) (i : ℕ) (of : Of i x) (is : x.stream_sequence_number ≡ i % 2 ^ 16) where
-    with-of : (s : ChunkSet) → Every (Of i) s.chunks → Every (Of i) (with_chunk x s).chunks
-    with-of s h = by (list_any (has_tsn x.tsn) s.chunks)
-      where
-        by : (b : Bool) → Every (Of i) (if b then s.chunks else insert_before chunk_before x s.chunks)
-        by true = h
-        by false = every-inserted (Of i) chunk_before x s.chunks of h
-
-    sets-changed : (base low top : ℕ) (ss : List ChunkSet) → base ≤ low → base ≤ i → i < top → top ≤ base + 2 ^ 15 → AreSets low top ss
-        → AreSets low top (change_first (has_ssn x.stream_sequence_number) (with_chunk x) ss)
-    sets-changed base low top [] at le lt far r = tt
-    sets-changed base low top (s ∷ ss) at le lt far r = by (s.ssn == x.stream_sequence_number) refl
-        (sets-changed base (r.0 + 1) top ss (let a = r.1.0.0 in omega (arith, a, at)) le lt far r.2)
-      where
-        by : (b : Bool) → (s.ssn == x.stream_sequence_number) ≡ b
-            → AreSets (r.0 + 1) top (change_first (has_ssn x.stream_sequence_number) (with_chunk x) ss)
-            → AreSets low top (if b then with_chunk x s ∷ ss else s ∷ change_first (has_ssn x.stream_sequence_number) (with_chunk x) ss)
-        by true e ih =
-            let n : r.0 % 2 ^ 16 ≡ i % 2 ^ 16 = sym r.1.0.2 ∙ same-is s.ssn x.stream_sequence_number e ∙ is in
-            let a = r.1.0.0 in
-            let b = r.1.0.1 in
-            let same : r.0 ≡ i = omega (arith, n, a, b, at, le, lt, far) in (
-              r.0,
-              (
-                (r.1.0.0, r.1.0.1, r.1.0.2),
-                subst (λ k. Every (Of k) (with_chunk x s).chunks) (sym same)
-                    (with-of s (subst (λ k. Every (Of k) s.chunks) same r.1.1)),
-              ),
-              r.2,
-            )
-        by false e ih = (r.0, r.1, ih)
-
-    sets-inserted : (low top : ℕ) (ss : List ChunkSet) → top ≤ low + 2 ^ 15 → low ≤ i → i < top
-        → list_any (has_ssn x.stream_sequence_number) ss ≡ false → AreSets low top ss → AreSets low top (insert_before set_before (new_set x) ss)
-    sets-inserted low top [] near le lt none r = (i, ((le, lt, is), (of, tt)), tt)
-    sets-inserted low top (s ∷ ss) near le lt none r = by (set_before (new_set x) s) refl
-        (λ n a. sets-inserted (r.0 + 1) top ss n a lt
-        (none-after (s.ssn == x.stream_sequence_number) (list_any (has_ssn x.stream_sequence_number) ss) none) r.2)
-      where
-        j : ℕ
-        j = r.0
-
-        order : set_before (new_set x) s ≡ nat_lt i j
-        order =
-            let c = r.1.0.0 in
-            let d = r.1.0.1 in
-            ap (λ n. comes_before16 n s.ssn) is ∙ ap (comes_before16 (i % 2 ^ 16)) r.1.0.2
-            ∙ comes_before16-index i j (omega (arith, le, lt, c, d, near)) (omega (arith, le, lt, c, d, near))
-
-        other : i ≡ j → ⊥
-        other e =
-            let same : s.ssn ≡ x.stream_sequence_number = r.1.0.2 ∙ ap (λ n. n % 2 ^ 16) (sym e) ∙ sym is in
-            not_both (sym none ∙ ap (λ b. b || list_any (has_ssn x.stream_sequence_number) ss)
-            (ap (λ n. n == x.stream_sequence_number) same ∙ same-yes x.stream_sequence_number))
-
-        by : (b : Bool) → set_before (new_set x) s ≡ b
-            → (top ≤ r.0 + 1 + 2 ^ 15 → r.0 + 1 ≤ i → AreSets (r.0 + 1) top (insert_before set_before (new_set x) ss))
-            → AreSets low top (if b then new_set x ∷ s ∷ ss else s ∷ insert_before set_before (new_set x) ss)
-        by true e ih =
-            let t : nat_lt i j ≡ true = sym order ∙ e in
-            let less : i < j = grind (arith, nat_tests, t) in
-            (i, ((le, lt, is), (of, tt)), (j, ((omega (arith, less), r.1.0.1, r.1.0.2), r.1.1), r.2))
-        by false e ih =
-            let t : nat_lt i j ≡ false = sym order ∙ e in
-            let ge : j ≤ i = grind (arith, nat_tests, t) in
-            let up = strictly j i ge other in
-            let c = r.1.0.0 in
-            (j, r.1, ih (omega (arith, near, c)) (omega (arith, up)))
-
-    put-sets : (low top : ℕ) (ss : List ChunkSet) → low ≤ i → i < top → top ≤ low + 2 ^ 15 → AreSets low top ss → AreSets low top (sets_with x ss)
-    put-sets low top ss le lt far r = by (list_any (has_ssn x.stream_sequence_number) ss) refl
-      where
-        by : (b : Bool) → list_any (has_ssn x.stream_sequence_number) ss ≡ b
-            → AreSets low top (if b then change_first (has_ssn x.stream_sequence_number) (with_chunk x) ss else insert_before set_before (new_set x) ss)
-        by true e = sets-changed low low top ss (omega arith) le lt far r
-        by false e = sets-inserted low top ss far le lt e r
-
-  -- not too far past the lowest number, and near the reach, it is less than half the circle past the lowest index
-  pub in-window : (k reach i ssn : ℕ) (q : Reassembly) (d : IsDue k reach q) → ssn ≡ i % 2 ^ 16 → reach ≤ i + 1 + 2 ^ 14 → i + 1 ≤ reach + 2 ^ 14
-      → is_ssn_too_far ssn q ≡ false → (d.low ≤ i) × (i < d.low + 2 ^ 15)
-  in-window k reach i ssn q d is a b e =
-      let near : distance16 (lowest_ssn q) ssn < 2 ^ 15 = grind (arith, nat_tests, e) in
-      let c = d.from in
-      let f = d.within in
-      let g = d.far in
-      window d.low i (omega (arith, a, c, f)) (omega (arith, b, g))
-      (subst (λ n. distance16 n (i % 2 ^ 16) < 2 ^ 15) d.lowest (subst (λ n. distance16 (lowest_ssn q) n < 2 ^ 15) is near))
-
-  run-each : (P : ChunkPayloadData → Type 0) (xs : List ChunkPayloadData) → Every P xs → Every P (set_of_run xs).chunks
-  run-each P [] h = tt
-  run-each P (x ∷ xs) h = h
-
-  -- with other unordered messages
-  abbrev unordered-due : (k reach : ℕ) (q r : Reassembly) → r.next_ssn ≡ q.next_ssn → r.ordered ≡ q.ordered → Every IsUnorderedSet r.unordered
-      → Every (λ c. c.unordered ≡ true) r.unassembled → IsDue k reach q → IsDue k reach r
-  unordered-due k reach q r e f us xs d = record {
-    index = d.index;
-    low = d.low;
-    next = e ∙ d.next;
-    lowest = ap (λ n. lowest_among n r.ordered) e ∙ ap (lowest_among q.next_ssn) f ∙ d.lowest;
-    due = d.due;
-    from = d.from;
-    near = d.near;
-    within = d.within;
-    far = d.far;
-    sets = subst (AreSets d.low reach) (sym f) d.sets;
-    unordered = us;
-    unassembled = xs;
-  }
-
-  taken-due : (k reach : ℕ) (xs : List ChunkPayloadData) (old new : Reassembly) → TakesRun xs old new → Every (λ c. c.unordered ≡ true) xs
-      → IsDue k reach old → IsDue k reach new
-  taken-due k reach xs old new t all d =
-      let P : ChunkPayloadData → Type 0 = λ c. c.unordered ≡ true in
-      let run = take t.count (drop t.first xs) in
-      subst (IsDue k reach) (sym t.moved) (unordered-due k reach old
-      (record old { unassembled = take t.first xs ++ drop (t.first + t.count) xs; unordered = old.unordered ++ set_of_run run ∷ [] }) refl refl
-      (every-joined IsUnorderedSet old.unordered (set_of_run run ∷ []) d.unordered
-      (run-each P run (every-taken P t.count (drop t.first xs) (every-left P t.first xs all)), tt))
-      (every-joined P (take t.first xs) (drop (t.first + t.count) xs) (every-taken P t.first xs all) (every-left P (t.first + t.count) xs all)) d)
-
-  -- an unordered one
-  pub push-unordered : (k reach : ℕ) (c : ChunkPayloadData) (told : Bool) (old new : ReassemblyState) → c.unordered ≡ true → Pushes c told old new
-      → IsDue k reach old.held → IsDue k reach new.held
-  push-unordered k reach c told old new u p d = by told (subst (λ b. PushesAs b c told old new) u p).0
-    where
-      all : Every (λ x. x.unordered ≡ true) (insert_before chunk_before c old.held.unassembled)
-      all = every-inserted (λ x. x.unordered ≡ true) chunk_before c old.held.unassembled u d.unassembled
-
-      by : (b : Bool) → BecomesComplete (insert_before chunk_before c old.held.unassembled) old.held new.held b → IsDue k reach new.held
-      by true t = taken-due k reach (insert_before chunk_before c old.held.unassembled) old.held new.held t all d
-      by false t = subst (IsDue k reach) (sym t.1)
-          (unordered-due k reach old.held (record old.held { unassembled = insert_before chunk_before c old.held.unassembled }) refl refl d.unordered all d)
-
-  abbrev wider : (k reach more : ℕ) (q : Reassembly) (d : IsDue k reach q) → reach ≤ more → more ≤ d.low + 2 ^ 15 → IsDue k more q
-  wider k reach more q d le far = record {
-    index = d.index;
-    low = d.low;
-    next = d.next;
-    lowest = d.lowest;
-    due = d.due;
-    from = d.from;
-    near = d.near;
-    within = let h = d.within in omega (arith, h, le);
-    far = far;
-    sets = sets-to d.low reach more q.ordered le d.sets;
-    unordered = d.unordered;
-    unassembled = d.unassembled;
-  }
-
-  -- an ordered one, of an index in the window
-  pub push-ordered : (k reach more i : ℕ) (c : ChunkPayloadData) (told : Bool) (old new : ReassemblyState) (d : IsDue k reach old.held) → c.unordered ≡ false
-      → Of i c → c.stream_sequence_number ≡ i % 2 ^ 16 → d.low ≤ i → i < d.low + 2 ^ 15 → reach ≤ more → i < more → more ≤ d.low + 2 ^ 15
-      → Pushes c told old new → IsDue k more new.held
-  push-ordered k reach more i c told old new d u of is low top le top' far p =
-      subst (λ (s : ReassemblyState). IsDue k more s.held) (sym (subst (λ b. PushesAs b c told old new) u p).0)
-      (by (comes_before16 c.stream_sequence_number old.held.next_ssn))
-    where
-      e : IsDue k more old.held
-      e = wider k reach more old.held d le far
-
-      by : (b : Bool) → IsDue k more (if b then old.held else record old.held { ordered = sets_with c old.held.ordered })
-      by true = e
-      by false =
-          (settled k d.low d.index more (record old.held { ordered = sets_with c old.held.ordered }) d.next d.due d.from d.near e.within far
-          (put-sets c i of is d.low more old.held.ordered low top' far e.sets) d.unordered d.unassembled).0
-
-  -- ## A message is read
-
-  -- from which index on messages are due then, and that of the message
+  -- from which index on messages are due after one is read, and that of the message
   pub record Reads (k reach : ℕ) (q : Reassembly) : Type 0 where
     pub after : ℕ
     pub up : k ≤ after
     pub due : IsDue after reach (rest_read q)
     pub turn : (set : ChunkSet) → message_read q ≡ Some set → starts_ordered set.chunks ≡ true
-        → (i : ℕ) × ((k ≤ i) × (i < after)) × Every (Of i) set.chunks
-
-  module _ (k reach : ℕ) (q : Reassembly) (d : IsDue k reach q) where
-    -- the front set is read
-    front-due : (s : ChunkSet) (ss : List ChunkSet) → q.ordered ≡ s ∷ ss → (a : AreSets d.low reach (s ∷ ss)) → is_readable q.next_ssn s ≡ true
-        → IsDue (a.0 + 1) reach (after_read (Some s) q)
-    front-due s ss is a e = by (s.ssn == q.next_ssn) refl
-      where
-        i : ℕ
-        i = a.0
-
-        low : d.low ≤ i
-        low = a.1.0.0
-
-        up : i < reach
-        up = a.1.0.1
-
-        order : nat_le i d.index ≡ true
-        order =
-            let f = d.far in
-            let g = d.from in
-            let n = d.near in
-            sym (ap (λ n. at_or_before16 n q.next_ssn) a.1.0.2 ∙ ap (at_or_before16 (i % 2 ^ 16)) d.next
-            ∙ at_or_before16-index i d.index (omega (arith, up, f, g)) (omega (arith, low, n)))
-            ∙ (both (is_complete s.chunks) (at_or_before16 s.ssn q.next_ssn) e).1
-
-        build : (n next : ℕ) → next ≡ n % 2 ^ 16 → i + 1 ≤ n → n ≤ d.index + 1 → n ≤ reach
-            → IsDue (i + 1) reach (record q { ordered = without_first q.ordered; next_ssn = next })
-        build n next e from most within =
-            let f = d.far in
-            let g = d.near in
-            (settled (i + 1) (i + 1) n reach (record q { ordered = without_first q.ordered; next_ssn = next }) e (omega arith) from (omega (arith, most, g, low))
-            within (omega (arith, f, low)) (subst (λ os. AreSets (i + 1) reach (without_first os)) (sym is) a.2) d.unordered d.unassembled).0
-
-        by : (b : Bool) → (s.ssn == q.next_ssn) ≡ b → IsDue (i + 1) reach (record q {
-          ordered = without_first q.ordered;
-          next_ssn = (if b then (q.next_ssn + 1) % 2 ^ 16 else q.next_ssn);
-        })
-        by true f =
-            let n : i % 2 ^ 16 ≡ d.index % 2 ^ 16 = sym a.1.0.2 ∙ same-is s.ssn q.next_ssn f ∙ d.next in
-            let le : i ≤ d.index = grind (arith, nat_tests, order) in
-            let near = d.near in
-            let same : i ≡ d.index = omega (arith, n, le, near, low) in
-            build (d.index + 1) ((q.next_ssn + 1) % 2 ^ 16) (ap (λ m. (m + 1) % 2 ^ 16) d.next ∙ next16 d.index) (omega (arith, same)) (omega arith)
-            (omega (arith, same, up))
-        by false f =
-            let le : i ≤ d.index = grind (arith, nat_tests, order) in
-            let differ : i ≡ d.index → ⊥ = λ same. not_both (sym f ∙ ap (λ m. m == q.next_ssn) (a.1.0.2 ∙ ap (λ m. m % 2 ^ 16) same ∙ sym d.next)
-            ∙ same-yes q.next_ssn) in
-            let lt = strictly i d.index le (λ same. differ (sym same)) in
-            let w = d.within in
-            build d.index q.next_ssn d.next (omega (arith, lt)) (omega arith) w
-
-    at-front : (os : List ChunkSet) → q.ordered ≡ os → (after : ℕ) × ((k ≤ after) × IsDue after reach (after_read (front_readable q.next_ssn os) q))
-        × ((set : ChunkSet) → front_readable q.next_ssn os ≡ Some set → (i : ℕ) × ((k ≤ i) × (i < after)) × Every (Of i) set.chunks)
-    at-front [] is = (k, (omega arith, d), λ set e. absurd (none-some set e))
-    at-front (s ∷ ss) is = by (is_readable q.next_ssn s) refl
-      where
-        a : AreSets d.low reach (s ∷ ss)
-        a = subst (AreSets d.low reach) is d.sets
-
-        up : k ≤ a.0
-        up = let x = a.1.0.0 in let y = d.due in omega (arith, x, y)
-
-        by : (b : Bool) → is_readable q.next_ssn s ≡ b
-            → (after : ℕ) × ((k ≤ after) × IsDue after reach (after_read (if b then Some s else None) q))
-            × ((set : ChunkSet) → (if b then Some s else None) ≡ Some set → (i : ℕ) × ((k ≤ i) × (i < after)) × Every (Of i) set.chunks)
-        by false e = (k, (omega arith, d), λ set f. absurd (none-some set f))
-        by true e = (
-          a.0 + 1,
-          (omega (arith, up), front-due s ss is a e),
-          λ set f. (a.0, (up, omega arith), subst (λ (x : ChunkSet). Every (Of a.0) x.chunks) (some-same f) a.1.1),
-        )
-
-    starts-not : (cs : List ChunkPayloadData) → Every (λ c. c.unordered ≡ true) cs → starts_ordered cs ≡ false
-    starts-not [] h = refl
-    starts-not (c ∷ cs) h = ap not h.0
-
-    pub read-due : Reads k reach q
-    read-due = by q.unordered refl
-      where
-        by : (us : List ChunkSet) → q.unordered ≡ us → Reads k reach q
-        by [] is =
-            let f = at-front q.ordered refl in
-            record {
-              after = f.0;
-              up = f.1.0;
-              due = subst (λ us. IsDue f.0 reach (rest_among us q)) (sym is) f.1.1;
-              turn = λ set e o. f.2 set (subst (λ us. message_among us q ≡ Some set) is e);
-            }
-        by (u ∷ us) is =
-            let h = subst (Every IsUnorderedSet) is d.unordered in
-            record {
-              after = k;
-              up = omega arith;
-              due = subst (λ vs. IsDue k reach (rest_among vs q)) (sym is)
-                  (unordered-due k reach q (record q { unordered = us }) refl refl h.1 d.unassembled d);
-              turn = λ set e o.
-                  let same : u ≡ set = some-same (subst (λ vs. message_among vs q ≡ Some set) is e) in
-                  absurd (not_both (sym (starts-not u.chunks h.0) ∙ subst (λ (x : ChunkSet). starts_ordered x.chunks ≡ true) (sym same) o));
-            }
-
-  -- ## A FORWARD-TSN comes
+        → (i : ℕ) × ((k ≤ i) × (i < after)) × Fits i set.chunks
 
   -- with a name that is not too far, and has the index j: what is due, up to this
   pub record IsSkipped (k reach j most : ℕ) (q : Reassembly) : Type 0 where
@@ -437,211 +90,697 @@ module _ (Of : ℕ → ChunkPayloadData → Type 0) where
     pub due : IsDue k more q
     pub passed : j < due.index
 
-  -- where the lowest message is not complete, its set goes
-  without-lowest : (low top j index next last : ℕ) (ss : List ChunkSet) → next ≡ index % 2 ^ 16 → last ≡ j % 2 ^ 16 → low ≤ index → index < low + 2 ^ 15
-      → low ≤ j → j < low + 2 ^ 15 → front_readable next ss ≡ None → AreSets low top ss → AreSets (low + 1) top (filter (λ set. not (is_passed last set)) ss)
-  without-lowest low top j index next last [] e f a b c g none r = tt
-  without-lowest low top j index next last (s ∷ ss) e f a b c g none r = elim (cases_lt low r.0) [
-    | inl lt ↦ sets-those (λ set. not (is_passed last set)) (low + 1) top (s ∷ ss) (r.0, ((omega (arith, lt), r.1.0.1, r.1.0.2), r.1.1), r.2)
-    | inr ge ↦ here (let x = r.1.0.0 in omega (arith, ge, x)) (is_complete s.chunks) refl
-  ]
-    where
-      here : r.0 ≡ low → (b : Bool) → is_complete s.chunks ≡ b → AreSets (low + 1) top (filter (λ set. not (is_passed last set)) (s ∷ ss))
-      here same true h =
-          let order : nat_le r.0 index ≡ true = grind (arith, nat_tests, same, a) in
-          let at : at_or_before16 s.ssn next ≡ true = ap (λ n. at_or_before16 n next) r.1.0.2 ∙ ap (at_or_before16 (r.0 % 2 ^ 16)) e
-          ∙ at_or_before16-index r.0 index (omega (arith, same, a)) (omega (arith, same, b)) ∙ order in
-          let is : is_readable next s ≡ true = ap (λ b. b && at_or_before16 s.ssn next) h ∙ at in
-          absurd (none-some s (sym none ∙ ap (λ b. if b then Some s else None) is))
-      here same false h =
-          let order : nat_le r.0 j ≡ true = grind (arith, nat_tests, same, c) in
-          let at : at_or_before16 s.ssn last ≡ true = ap (λ n. at_or_before16 n last) r.1.0.2 ∙ ap (at_or_before16 (r.0 % 2 ^ 16)) f
-          ∙ at_or_before16-index r.0 j (omega (arith, same, c)) (omega (arith, same, g)) ∙ order in
-          let is : is_passed last s ≡ true = ap (λ b. b && not (is_complete s.chunks)) at ∙ ap not h in
-          subst (λ b. AreSets (low + 1) top (if not b then s ∷ filter (λ set. not (is_passed last set)) ss else filter (λ set. not (is_passed last set)) ss))
-          (sym is) (subst (λ n. AreSets (n + 1) top (filter (λ set. not (is_passed last set)) ss)) same
-          (sets-those (λ set. not (is_passed last set)) (r.0 + 1) top ss r.2))
+  -- the sets that fail the test lie below this index
+  abbrev pub Gone : (ChunkSet → Bool) → ℕ → (low top : ℕ) (ss : List ChunkSet) → AreSets low top ss → Type 0
+  Gone q bound low top [] r = ⊤
+  Gone q bound low top (s ∷ ss) r = (q s ≡ false → r.0 < bound) × Gone q bound (r.0 + 1) top ss r.2
 
-  neither : (a b : Bool) → (a || b) ≡ false → (a ≡ false) × (b ≡ false)
-  neither true b e = absurd (not_both (sym e))
-  neither false b e = (refl, e)
+  module _ (at-in : (i y : ℕ) (cs : List ChunkPayloadData) → y ≤ n → Fits i cs → list_any (has_tsn (tsn p y)) cs ≡ true → B y ≡ i + 1) where
+    sets-from : (a b top : ℕ) (ss : List ChunkSet) → b ≤ a → AreSets a top ss → AreSets b top ss
+    sets-from a b top [] le r = tt
+    sets-from a b top (s ∷ ss) le r = let x = r.1.0.0 in (r.0, ((omega (arith, x, le), r.1.0.1, r.1.0.2), r.1.1), r.2)
 
-  none-of : {A : Type 0} (o : Option A) → is_some o ≡ false → o ≡ None
-  none-of None e = refl
-  none-of (Some x) e = absurd (not_both (sym e))
+    sets-to : (low a b : ℕ) (ss : List ChunkSet) → a ≤ b → AreSets low a ss → AreSets low b ss
+    sets-to low a b [] le r = tt
+    sets-to low a b (s ∷ ss) le r = let x = r.1.0.1 in (r.0, ((r.1.0.0, omega (arith, x, le), r.1.0.2), r.1.1), sets-to (r.0 + 1) a b ss le r.2)
 
-  module _ (k reach j last most : ℕ) (q : Reassembly) (d : IsDue k reach q) (is : last ≡ j % 2 ^ 16) (back : reach ≤ j + 1 + 2 ^ 14)
-      (ahead : j + 1 ≤ reach + 2 ^ 14) (le : reach ≤ most) (lt : j + 1 ≤ most) where
-    abbrev left : List ChunkSet
-    left = filter (λ set. not (is_passed last set)) q.ordered
+    -- what is so of a window makes the lowest index its bottom
+    settled : (k low index reach : ℕ) (q : Reassembly) → q.next_ssn ≡ index % 2 ^ 16 → k ≤ low → low ≤ index → index < low + 2 ^ 15 → index ≤ reach
+        → reach ≤ low + 2 ^ 15 → AreSets low reach q.ordered → IsKept index q.ordered → Every IsUnorderedSet q.unordered
+        → Every (λ c. c.unordered ≡ true) q.unassembled → (d : IsDue k reach q) × (d.index ≡ index)
+    settled k low index reach q next due from near within far sets kept us xs = by q.ordered refl sets
+      where
+        build : (l : ℕ) → lowest_ssn q ≡ l % 2 ^ 16 → low ≤ l → l ≤ index → AreSets l reach q.ordered → (d : IsDue k reach q) × (d.index ≡ index)
+        build l is up le r = (
+          record {
+            index = index;
+            low = l;
+            next = next;
+            lowest = is;
+            due = omega (arith, due, up);
+            from = le;
+            near = omega (arith, near, up);
+            within = within;
+            far = omega (arith, far, up);
+            sets = r;
+            kept = kept;
+            unordered = us;
+            unassembled = xs;
+          },
+          refl,
+        )
 
-    next-order : d.index < j + 2 ^ 15 → j < d.index + 2 ^ 15 → at_or_before16 q.next_ssn last ≡ nat_le d.index j
-    next-order a b = ap (λ m. at_or_before16 m last) d.next ∙ ap (at_or_before16 (d.index % 2 ^ 16)) is ∙ at_or_before16-index d.index j a b
+        by : (ss : List ChunkSet) → q.ordered ≡ ss → AreSets low reach ss → (d : IsDue k reach q) × (d.index ≡ index)
+        by [] e a = build index (ap (lowest_among q.next_ssn) e ∙ next) from (omega arith) (subst (AreSets index reach) (sym e) tt)
+        by (s ∷ ss) e a = at (at_or_before16 s.ssn q.next_ssn) refl
+          where
+            i : ℕ
+            i = a.0
 
-    -- from another lowest index on
-    module _ (low more : ℕ) (a : d.index < j + 2 ^ 15) (b : j < d.index + 2 ^ 15) (due : k ≤ low) (from : low ≤ d.index ⊎ (d.index ≤ j) × (low ≤ j + 1))
-        (near : d.index < low + 2 ^ 15) (top : d.index ≤ j → j + 1 < low + 2 ^ 15) (up : reach ≤ more) (upto : j + 1 ≤ more) (within : more ≤ most)
-        (far : more ≤ low + 2 ^ 15) (sets : AreSets low more left) where
-      skips : IsSkipped k reach j most (held_after_ordered_skip last q)
-      skips = by (at_or_before16 q.next_ssn last) refl
+            order : at_or_before16 s.ssn q.next_ssn ≡ nat_le i index
+            order =
+                let x = a.1.0.0 in
+                let y = a.1.0.1 in
+                ap (λ n. at_or_before16 n q.next_ssn) a.1.0.2 ∙ ap (at_or_before16 (i % 2 ^ 16)) next
+                ∙ at_or_before16-index i index (omega (arith, y, far, from)) (omega (arith, x, near))
+
+            at : (b : Bool) → at_or_before16 s.ssn q.next_ssn ≡ b → (d : IsDue k reach q) × (d.index ≡ index)
+            at true f =
+                let t : nat_le i index ≡ true = sym order ∙ f in
+                build i (ap (lowest_among q.next_ssn) e ∙ ap (λ b. if b then s.ssn else q.next_ssn) f ∙ a.1.0.2) a.1.0.0 (grind (arith, nat_tests, t))
+                (subst (AreSets i reach) (sym e) (i, ((omega arith, a.1.0.1, a.1.0.2), a.1.1), a.2))
+            at false f =
+                let t : nat_le i index ≡ false = sym order ∙ f in
+                let lt : index < i = grind (arith, nat_tests, t) in
+                build index (ap (lowest_among q.next_ssn) e ∙ ap (λ b. if b then s.ssn else q.next_ssn) f ∙ next) from (omega arith)
+                (subst (AreSets index reach) (sym e) (i, ((omega (arith, lt), a.1.0.1, a.1.0.2), a.1.1), a.2))
+
+    sets-those : (p : ChunkSet → Bool) (low top : ℕ) (ss : List ChunkSet) → AreSets low top ss → AreSets low top (filter p ss)
+    sets-those p low top [] r = tt
+    sets-those p low top (s ∷ ss) r = by (p s) (sets-those p (r.0 + 1) top ss r.2)
+      where
+        by : (b : Bool) → AreSets (r.0 + 1) top (filter p ss) → AreSets low top (if b then s ∷ filter p ss else filter p ss)
+        by true ih = (r.0, r.1, ih)
+        by false ih = sets-from (r.0 + 1) low top (filter p ss) (let x = r.1.0.0 in omega (arith, x)) ih
+
+    -- ## A fragment comes
+
+    none-after : (b c : Bool) → (b || c) ≡ false → c ≡ false
+    none-after true c e = absurd (not_both (sym e))
+    none-after false c e = e
+
+    strictly : (j k : ℕ) → j ≤ k → (k ≡ j → ⊥) → j < k
+    strictly j k le differ = elim (cases_lt j k) [ inl lt ↦ lt | inr ge ↦ absurd (differ (omega (arith, le, ge))) ]
+
+    module _ (x : ChunkPayloadData) (i : ℕ) (single : Fits i (x ∷ []))
+        (put : (cs : List ChunkPayloadData) → list_any (has_tsn x.tsn) cs ≡ false → Fits i cs → Fits i (insert_before chunk_before x cs))
+        (is : x.stream_sequence_number ≡ i % 2 ^ 16) where
+      with-of : (s : ChunkSet) → Fits i s.chunks → Fits i (with_chunk x s).chunks
+      with-of s h = by (list_any (has_tsn x.tsn) s.chunks) refl
         where
-          build : (n next : ℕ) → next ≡ n % 2 ^ 16 → low ≤ n → n < low + 2 ^ 15 → n ≤ more → j < n
-              → IsSkipped k reach j most (record q { ordered = left; next_ssn = next })
-          build n next e f g h i =
-              let s = settled k low n more (record q { ordered = left; next_ssn = next }) e due f g h far sets d.unordered d.unassembled in
-              record { more = more; up = up; upto = upto; within = within; due = s.0; passed = let x = s.1 in omega (arith, x, i) }
+          by : (b : Bool) → list_any (has_tsn x.tsn) s.chunks ≡ b → Fits i (if b then s.chunks else insert_before chunk_before x s.chunks)
+          by true e = h
+          by false e = put s.chunks e h
 
-          low-is : low ≤ d.index ⊎ (d.index ≤ j) × (low ≤ j + 1) → j < d.index → low ≤ d.index
-          low-is (inl x) lt = x
-          low-is (inr x) lt = let y = x.0 in absurd (omega (arith, y, lt))
+      sets-changed : (base low top : ℕ) (ss : List ChunkSet) → base ≤ low → base ≤ i → i < top → top ≤ base + 2 ^ 15 → AreSets low top ss
+          → AreSets low top (change_first (has_ssn x.stream_sequence_number) (with_chunk x) ss)
+      sets-changed base low top [] at le lt far r = tt
+      sets-changed base low top (s ∷ ss) at le lt far r = by (s.ssn == x.stream_sequence_number) refl
+          (sets-changed base (r.0 + 1) top ss (let a = r.1.0.0 in omega (arith, a, at)) le lt far r.2)
+        where
+          by : (b : Bool) → (s.ssn == x.stream_sequence_number) ≡ b
+              → AreSets (r.0 + 1) top (change_first (has_ssn x.stream_sequence_number) (with_chunk x) ss)
+              → AreSets low top (if b then with_chunk x s ∷ ss else s ∷ change_first (has_ssn x.stream_sequence_number) (with_chunk x) ss)
+          by true e ih =
+              let n : r.0 % 2 ^ 16 ≡ i % 2 ^ 16 = sym r.1.0.2 ∙ same-is s.ssn x.stream_sequence_number e ∙ is in
+              let a = r.1.0.0 in
+              let b = r.1.0.1 in
+              let same : r.0 ≡ i = omega (arith, n, a, b, at, le, lt, far) in (
+                r.0,
+                (
+                  (r.1.0.0, r.1.0.1, r.1.0.2),
+                  subst (λ k. Fits k (with_chunk x s).chunks) (sym same)
+                      (with-of s (subst (λ k. Fits k s.chunks) same r.1.1)),
+                ),
+                r.2,
+              )
+          by false e ih = (r.0, r.1, ih)
 
-          low-on : low ≤ d.index ⊎ (d.index ≤ j) × (low ≤ j + 1) → d.index ≤ j → low ≤ j + 1
-          low-on (inl x) le = omega (arith, x, le)
-          low-on (inr x) le = x.1
+      sets-inserted : (low top : ℕ) (ss : List ChunkSet) → top ≤ low + 2 ^ 15 → low ≤ i → i < top
+          → list_any (has_ssn x.stream_sequence_number) ss ≡ false → AreSets low top ss → AreSets low top (insert_before set_before (new_set x) ss)
+      sets-inserted low top [] near le lt none r = (i, ((le, lt, is), single), tt)
+      sets-inserted low top (s ∷ ss) near le lt none r = by (set_before (new_set x) s) refl
+          (λ n a. sets-inserted (r.0 + 1) top ss n a lt
+          (none-after (s.ssn == x.stream_sequence_number) (list_any (has_ssn x.stream_sequence_number) ss) none) r.2)
+        where
+          j : ℕ
+          j = r.0
 
-          by : (b : Bool) → at_or_before16 q.next_ssn last ≡ b
-              → IsSkipped k reach j most (record q { ordered = left; next_ssn = (if b then (last + 1) % 2 ^ 16 else q.next_ssn) })
-          by true e =
-              let t : nat_le d.index j ≡ true = sym (next-order a b) ∙ e in
-              let upto' : d.index ≤ j = grind (arith, nat_tests, t) in
-              build (j + 1) ((last + 1) % 2 ^ 16) (ap (λ m. (m + 1) % 2 ^ 16) is ∙ next16 j) (low-on from upto') (top upto') upto (omega arith)
-          by false e =
-              let t : nat_le d.index j ≡ false = sym (next-order a b) ∙ e in
-              let past : j < d.index = grind (arith, nat_tests, t) in
-              let w = d.within in
-              build d.index q.next_ssn d.next (low-is from past) near (omega (arith, w, up)) past
+          order : set_before (new_set x) s ≡ nat_lt i j
+          order =
+              let c = r.1.0.0 in
+              let d = r.1.0.1 in
+              ap (λ n. comes_before16 n s.ssn) is ∙ ap (comes_before16 (i % 2 ^ 16)) r.1.0.2
+              ∙ comes_before16-index i j (omega (arith, le, lt, c, d, near)) (omega (arith, le, lt, c, d, near))
 
-    -- the name is an old one
-    old-name : j < d.low → IsSkipped k reach j most (held_after_ordered_skip last q)
-    old-name x =
-        let f = d.from in
-        let w = d.within in
-        skips d.low reach (omega (arith, w, back)) (omega (arith, x, f)) d.due (inl f) d.near (λ y. absurd (omega (arith, x, f, y))) (omega arith)
-        (omega (arith, x, f, w)) le d.far (sets-those (λ set. not (is_passed last set)) d.low reach q.ordered d.sets)
+          other : i ≡ j → ⊥
+          other e =
+              let same : s.ssn ≡ x.stream_sequence_number = r.1.0.2 ∙ ap (λ n. n % 2 ^ 16) (sym e) ∙ sym is in
+              not_both (sym none ∙ ap (λ b. b || list_any (has_ssn x.stream_sequence_number) ss)
+              (ap (λ n. n == x.stream_sequence_number) same ∙ same-yes x.stream_sequence_number))
 
-    -- or lies in the window
-    new-name : d.low ≤ j → j < d.low + 2 ^ 15 → (j + 1 ≡ d.low + 2 ^ 15 → front_readable q.next_ssn q.ordered ≡ None) → (more : ℕ) → reach ≤ more
-        → j + 1 ≤ more → more ≤ most → more ≤ d.low + 2 ^ 15 → IsSkipped k reach j most (held_after_ordered_skip last q)
-    new-name x y last-one more up upto within far =
-        let f = d.from in
-        let n = d.near in
-        let u = d.due in
-        let sets = sets-to d.low reach more q.ordered up d.sets in
-        elim (cases_lt (j + 1) (d.low + 2 ^ 15)) [
-          | inl lt ↦ skips d.low more (omega (arith, x, n)) (omega (arith, y, f)) d.due (inl f) d.near (λ z. lt) up upto within far
-              (sets-those (λ set. not (is_passed last set)) d.low more q.ordered sets)
-          | inr ge ↦
-              let top : j + 1 ≡ d.low + 2 ^ 15 = omega (arith, ge, y) in
-              skips (d.low + 1) more (omega (arith, x, n)) (omega (arith, y, f)) (omega (arith, u)) (inr (omega (arith, top, n), omega (arith, x)))
-              (omega (arith, n)) (λ z. omega (arith, top)) up upto within (omega (arith, far))
-              (without-lowest d.low more j d.index q.next_ssn last q.ordered d.next is f n x y (last-one top) sets)
-        ]
+          by : (b : Bool) → set_before (new_set x) s ≡ b
+              → (top ≤ r.0 + 1 + 2 ^ 15 → r.0 + 1 ≤ i → AreSets (r.0 + 1) top (insert_before set_before (new_set x) ss))
+              → AreSets low top (if b then new_set x ∷ s ∷ ss else s ∷ insert_before set_before (new_set x) ss)
+          by true e ih =
+              let t : nat_lt i j ≡ true = sym order ∙ e in
+              let less : i < j = grind (arith, nat_tests, t) in
+              (i, ((le, lt, is), single), (j, ((omega (arith, less), r.1.0.1, r.1.0.2), r.1.1), r.2))
+          by false e ih =
+              let t : nat_lt i j ≡ false = sym order ∙ e in
+              let ge : j ≤ i = grind (arith, nat_tests, t) in
+              let up = strictly j i ge other in
+              let c = r.1.0.0 in
+              (j, r.1, ih (omega (arith, near, c)) (omega (arith, up)))
 
-    pub name-due : is_name_too_far last q ≡ false → IsSkipped k reach j most (held_after_ordered_skip last q)
-    name-due e = by (sides d.low j (let a = d.from in let b = d.within in omega (arith, a, b, back)) (let c = d.far in omega (arith, c, ahead)))
+      put-sets : (low top : ℕ) (ss : List ChunkSet) → low ≤ i → i < top → top ≤ low + 2 ^ 15 → AreSets low top ss → AreSets low top (sets_with x ss)
+      put-sets low top ss le lt far r = by (list_any (has_ssn x.stream_sequence_number) ss) refl
+        where
+          by : (b : Bool) → list_any (has_ssn x.stream_sequence_number) ss ≡ b
+              → AreSets low top (if b then change_first (has_ssn x.stream_sequence_number) (with_chunk x) ss else insert_before set_before (new_set x) ss)
+          by true e = sets-changed low low top ss (omega arith) le lt far r
+          by false e = sets-inserted low top ss far le lt e r
+
+    -- not too far past the lowest number, and near the reach, it is less than half the circle past the lowest index
+    pub in-window : (k reach i ssn : ℕ) (q : Reassembly) (d : IsDue k reach q) → ssn ≡ i % 2 ^ 16 → reach ≤ i + 1 + 2 ^ 14 → i + 1 ≤ reach + 2 ^ 14
+        → is_ssn_too_far ssn q ≡ false → (d.low ≤ i) × (i < d.low + 2 ^ 15)
+    in-window k reach i ssn q d is a b e =
+        let near : distance16 (lowest_ssn q) ssn < 2 ^ 15 = grind (arith, nat_tests, e) in
+        let c = d.from in
+        let f = d.within in
+        let g = d.far in
+        window d.low i (omega (arith, a, c, f)) (omega (arith, b, g))
+        (subst (λ n. distance16 n (i % 2 ^ 16) < 2 ^ 15) d.lowest (subst (λ n. distance16 (lowest_ssn q) n < 2 ^ 15) is near))
+
+    run-each : (P : ChunkPayloadData → Type 0) (xs : List ChunkPayloadData) → Every P xs → Every P (set_of_run xs).chunks
+    run-each P [] h = tt
+    run-each P (x ∷ xs) h = h
+
+    -- with other unordered messages
+    abbrev unordered-due : (k reach : ℕ) (q r : Reassembly) → r.next_ssn ≡ q.next_ssn → r.ordered ≡ q.ordered → Every IsUnorderedSet r.unordered
+        → Every (λ c. c.unordered ≡ true) r.unassembled → IsDue k reach q → IsDue k reach r
+    unordered-due k reach q r e f us xs d = record {
+      index = d.index;
+      low = d.low;
+      next = e ∙ d.next;
+      lowest = ap (λ n. lowest_among n r.ordered) e ∙ ap (lowest_among q.next_ssn) f ∙ d.lowest;
+      due = d.due;
+      from = d.from;
+      near = d.near;
+      within = d.within;
+      far = d.far;
+      sets = subst (AreSets d.low reach) (sym f) d.sets;
+      kept = subst (IsKept d.index) (sym f) d.kept;
+      unordered = us;
+      unassembled = xs;
+    }
+
+    taken-due : (k reach : ℕ) (xs : List ChunkPayloadData) (old new : Reassembly) → TakesRun xs old new → Every (λ c. c.unordered ≡ true) xs
+        → IsDue k reach old → IsDue k reach new
+    taken-due k reach xs old new t all d =
+        let P : ChunkPayloadData → Type 0 = λ c. c.unordered ≡ true in
+        let run = take t.count (drop t.first xs) in
+        subst (IsDue k reach) (sym t.moved) (unordered-due k reach old
+        (record old { unassembled = take t.first xs ++ drop (t.first + t.count) xs; unordered = old.unordered ++ set_of_run run ∷ [] }) refl refl
+        (every-joined IsUnorderedSet old.unordered (set_of_run run ∷ []) d.unordered
+        (run-each P run (every-taken P t.count (drop t.first xs) (every-left P t.first xs all)), tt))
+        (every-joined P (take t.first xs) (drop (t.first + t.count) xs) (every-taken P t.first xs all) (every-left P (t.first + t.count) xs all)) d)
+
+    -- an unordered one
+    pub push-unordered : (k reach : ℕ) (c : ChunkPayloadData) (told : Bool) (old new : ReassemblyState) → c.unordered ≡ true → Pushes c told old new
+        → IsDue k reach old.held → IsDue k reach new.held
+    push-unordered k reach c told old new u p d = by told (subst (λ b. PushesAs b c told old new) u p).0
       where
-        away : ℕ
-        away = distance16 (d.low % 2 ^ 16) (j % 2 ^ 16)
+        all : Every (λ x. x.unordered ≡ true) (insert_before chunk_before c old.held.unassembled)
+        all = every-inserted (λ x. x.unordered ≡ true) chunk_before c old.held.unassembled u d.unassembled
 
-        same : distance16 (lowest_ssn q) last ≡ away
-        same = ap (λ n. distance16 n last) d.lowest ∙ ap (distance16 (d.low % 2 ^ 16)) is
+        by : (b : Bool) → BecomesComplete (insert_before chunk_before c old.held.unassembled) old.held new.held b → IsDue k reach new.held
+        by true t = taken-due k reach (insert_before chunk_before c old.held.unassembled) old.held new.held t all d
+        by false t = subst (IsDue k reach) (sym t.1)
+            (unordered-due k reach old.held (record old.held { unassembled = insert_before chunk_before c old.held.unassembled }) refl refl d.unordered all d)
 
-        tests : ((nat_le (2 ^ 15) (distance16 (lowest_ssn q) last) && nat_lt (distance16 (lowest_ssn q) last) (2 ^ 15 + 2 ^ 14)) ≡ false) ×
-            (((distance16 (lowest_ssn q) last == 2 ^ 15 - 1) && is_some (front_readable q.next_ssn q.ordered)) ≡ false)
-        tests = neither _ _ e
+    abbrev wider : (k reach more : ℕ) (q : Reassembly) (d : IsDue k reach q) → reach ≤ more → more ≤ d.low + 2 ^ 15 → IsDue k more q
+    wider k reach more q d le far = record {
+      index = d.index;
+      low = d.low;
+      next = d.next;
+      lowest = d.lowest;
+      due = d.due;
+      from = d.from;
+      near = d.near;
+      within = let h = d.within in omega (arith, h, le);
+      far = far;
+      sets = sets-to d.low reach more q.ordered le d.sets;
+      kept = d.kept;
+      unordered = d.unordered;
+      unassembled = d.unassembled;
+    }
 
-        close : (a : ℕ) → (nat_le (2 ^ 15) a && nat_lt a (2 ^ 15 + 2 ^ 14)) ≡ false → a < 2 ^ 15 + 2 ^ 14 → a < 2 ^ 15
-        close a f g = elim (cases_lt a (2 ^ 15)) [
-          | inl lt ↦ lt
-          | inr ge ↦
-              let s : nat_le (2 ^ 15) a ≡ true = grind (arith, nat_tests, ge) in
-              let t : nat_lt a (2 ^ 15 + 2 ^ 14) ≡ true = grind (arith, nat_tests, g) in
-              absurd (not_both (sym f ∙ and (nat_le (2 ^ 15) a) (nat_lt a (2 ^ 15 + 2 ^ 14)) s t))
-        ]
+    -- what is held stays so, and the chunk is held then
+    module _ (x : ChunkPayloadData) (y : ℕ) where
+      with-place : (s : ChunkSet) → (has_tsn (tsn p y) x || has_place y s) ≡ true → has_place y (with_chunk x s) ≡ true
+      with-place s h = by (list_any (has_tsn x.tsn) s.chunks) refl (or-split (has_tsn (tsn p y) x) (has_place y s) h)
+        where
+          by : (b : Bool) → list_any (has_tsn x.tsn) s.chunks ≡ b → (has_tsn (tsn p y) x ≡ true) ⊎ (has_place y s ≡ true)
+              → list_any (has_tsn (tsn p y)) (if b then s.chunks else insert_before chunk_before x s.chunks) ≡ true
+          by true e (inl g) = ap (λ t. list_any (has_tsn t) s.chunks) (sym (same-is x.tsn (tsn p y) g)) ∙ e
+          by true e (inr g) = g
+          by false e g = any-inserted (has_tsn (tsn p y)) chunk_before x s.chunks h
 
-        unread : (a : ℕ) (b : Bool) → ((a == 2 ^ 15 - 1) && b) ≡ false → a ≡ 2 ^ 15 - 1 → b ≡ false
-        unread a b f g = ap (λ c. c && b) (sym (ap (λ n. n == 2 ^ 15 - 1) g)) ∙ f
+      changed-place : (r : ChunkSet → Bool) (ss : List ChunkSet) → list_any (has_place y) ss ≡ true
+          → list_any (has_place y) (change_first r (with_chunk x) ss) ≡ true
+      changed-place r [] e = e
+      changed-place r (s ∷ ss) e = by (r s) (or-split (has_place y s) (list_any (has_place y) ss) e) (λ h. changed-place r ss h)
+        where
+          by : (b : Bool) → (has_place y s ≡ true) ⊎ (list_any (has_place y) ss ≡ true)
+              → (list_any (has_place y) ss ≡ true → list_any (has_place y) (change_first r (with_chunk x) ss) ≡ true)
+              → list_any (has_place y) (if b then with_chunk x s ∷ ss else s ∷ change_first r (with_chunk x) ss) ≡ true
+          by true (inl g) ih = or-left (has_place y (with_chunk x s)) (list_any (has_place y) ss) (with-place s (or-right (has_tsn (tsn p y) x) (has_place y s) g))
+          by true (inr g) ih = or-right (has_place y (with_chunk x s)) (list_any (has_place y) ss) g
+          by false (inl g) ih = or-left (has_place y s) (list_any (has_place y) (change_first r (with_chunk x) ss)) g
+          by false (inr g) ih = or-right (has_place y s) (list_any (has_place y) (change_first r (with_chunk x) ss)) (ih g)
 
-        by : ((d.low ≤ j) × (d.low + away ≡ j)) ⊎ ((j < d.low) × (d.low + away ≡ j + 2 ^ 16)) → IsSkipped k reach j most (held_after_ordered_skip last q)
-        by (inr x) = old-name x.0
-        by (inl x) =
-            let at = x.1 in
-            let c = d.far in
-            let near = close (distance16 (lowest_ssn q) last) tests.0 (omega (arith, same, at, c, ahead)) in
-            let top : j < d.low + 2 ^ 15 = omega (arith, same, at, near) in
-            let none : j + 1 ≡ d.low + 2 ^ 15 → front_readable q.next_ssn q.ordered ≡ None = λ f. none-of (front_readable q.next_ssn q.ordered)
-            (unread (distance16 (lowest_ssn q) last) (is_some (front_readable q.next_ssn q.ordered)) tests.1 (omega (arith, same, at, f))) in
-            elim (cases_lt reach (j + 1)) [
-              | inl less ↦ new-name x.0 top none (j + 1) (omega (arith, less)) (omega arith) lt (omega (arith, top))
-              | inr ge ↦ new-name x.0 top none reach (omega arith) ge le c
-            ]
+      new-place : has_tsn (tsn p y) x ≡ true → (r : ChunkSet → Bool) (ss : List ChunkSet) → list_any r ss ≡ true
+          → list_any (has_place y) (change_first r (with_chunk x) ss) ≡ true
+      new-place g r [] e = absurd (not_both e)
+      new-place g r (s ∷ ss) e = by (r s) e (λ h. new-place g r ss h)
+        where
+          by : (b : Bool) → (b || list_any r ss) ≡ true → (list_any r ss ≡ true → list_any (has_place y) (change_first r (with_chunk x) ss) ≡ true)
+              → list_any (has_place y) (if b then with_chunk x s ∷ ss else s ∷ change_first r (with_chunk x) ss) ≡ true
+          by true h ih = or-left (has_place y (with_chunk x s)) (list_any (has_place y) ss) (with-place s (or-left (has_tsn (tsn p y) x) (has_place y s) g))
+          by false h ih = or-right (has_place y s) (list_any (has_place y) (change_first r (with_chunk x) ss)) (ih h)
 
-  pub leading-each : (P : ChunkPayloadData → Type 0) (p : ChunkPayloadData → Bool) (xs : List ChunkPayloadData) → Every P xs → Every P (after_leading p xs)
-  leading-each P p [] h = tt
-  leading-each P p (x ∷ xs) h = by (p x) (leading-each P p xs h.1)
-    where
-      by : (b : Bool) → Every P (after_leading p xs) → Every P (if b then after_leading p xs else x ∷ xs)
-      by true ih = ih
-      by false ih = h
+      put-place : (ss : List ChunkSet) → (has_tsn (tsn p y) x ≡ true) ⊎ (list_any (has_place y) ss ≡ true) → list_any (has_place y) (sets_with x ss) ≡ true
+      put-place ss h = by (list_any (has_ssn x.stream_sequence_number) ss) refl h
+        where
+          new : (has_tsn (tsn p y) x ≡ true) ⊎ (list_any (has_place y) ss ≡ true) → (has_place y (new_set x) || list_any (has_place y) ss) ≡ true
+          new (inl g) = or-left (has_place y (new_set x)) (list_any (has_place y) ss) (or-left (has_tsn (tsn p y) x) false g)
+          new (inr g) = or-right (has_place y (new_set x)) (list_any (has_place y) ss) g
 
-  abbrev pub unassembled-due : (k reach tsn : ℕ) (q : Reassembly) → IsDue k reach q → IsDue k reach (held_after_unordered_skip tsn q)
-  unassembled-due k reach tsn q d =
-      unordered-due k reach q (held_after_unordered_skip tsn q) refl refl d.unordered
-      (leading-each (λ c. c.unordered ≡ true) (λ c. at_or_before c.tsn tsn) q.unassembled d.unassembled) d
+          by : (b : Bool) → list_any (has_ssn x.stream_sequence_number) ss ≡ b → (has_tsn (tsn p y) x ≡ true) ⊎ (list_any (has_place y) ss ≡ true)
+              → list_any (has_place y) (if b then change_first (has_ssn x.stream_sequence_number) (with_chunk x) ss
+              else insert_before set_before (new_set x) ss) ≡ true
+          by true e (inl g) = new-place g (has_ssn x.stream_sequence_number) ss e
+          by true e (inr g) = changed-place (has_ssn x.stream_sequence_number) ss g
+          by false e g = any-inserted (has_place y) set_before (new_set x) ss (new g)
 
-  -- what can't become complete lies below the next index, or not at the end of the window
-  abbrev pub ArePast : ℕ → ℕ → ℕ → Type 0
-  ArePast tsn index base = (i : ℕ) (s : ChunkSet) → Every (Of i) s.chunks → cannot_complete tsn s ≡ true → (i < index) ⊎ (i + 1 < base + 2 ^ 15)
-
-  -- the number of an index from this one on
-  record IsPast (index top bound next : ℕ) : Type 0 where
-    n : ℕ
-    is : next ≡ n % 2 ^ 16
-    up : index ≤ n
-    near : n < bound
-    within : n ≤ top
-
-  module _ (base top tsn : ℕ) (far : top ≤ base + 2 ^ 15) where
-    past-sets : (low index next : ℕ) (ss : List ChunkSet) → next ≡ index % 2 ^ 16 → base ≤ index → index < base + 2 ^ 15 → index ≤ top → base ≤ low
-        → ArePast tsn index base → AreSets low top ss → IsPast index top (base + 2 ^ 15) (ssn_past_sets next (filter (cannot_complete tsn) ss))
-    past-sets low index next [] e from near within at h r = record { n = index; is = e; up = omega arith; near = near; within = within }
-    past-sets low index next (s ∷ ss) e from near within at h r =
-        by (cannot_complete tsn s) refl
-        (λ i m f a b c g. past-sets (r.0 + 1) i m ss f a b c (let x = r.1.0.0 in omega (arith, at, x)) g r.2)
+    -- an ordered one of the place y, of an index in the window
+    pub push-ordered : (k reach more i y : ℕ) (c : ChunkPayloadData) (told : Bool) (old new : ReassemblyState) (d : IsDue k reach old.held)
+        → c.unordered ≡ false → Fits i (c ∷ [])
+        → ((cs : List ChunkPayloadData) → list_any (has_tsn c.tsn) cs ≡ false → Fits i cs → Fits i (insert_before chunk_before c cs))
+        → c.stream_sequence_number ≡ i % 2 ^ 16 → has_tsn (tsn p y) c ≡ true → B y ≡ i + 1 → d.low ≤ i → i < d.low + 2 ^ 15 → reach ≤ more → i < more
+        → more ≤ d.low + 2 ^ 15 → Pushes c told old new → (e : IsDue k more new.held) × IsKeptAt e.index new.held.ordered y
+    push-ordered k reach more i y c told old new d u single put is at begun low top le top' far p' =
+        subst (λ (s : ReassemblyState). (e : IsDue k more s.held) × IsKeptAt e.index s.held.ordered y)
+        (sym (subst (λ b. PushesAs b c told old new) u p').0) (by (comes_before16 c.stream_sequence_number old.held.next_ssn) refl)
       where
-        low' : base ≤ r.0
-        low' = let x = r.1.0.0 in omega (arith, at, x)
+        e : IsDue k more old.held
+        e = wider k reach more old.held d le far
 
-        order : at_or_before16 next s.ssn ≡ nat_le index r.0
+        order : comes_before16 c.stream_sequence_number old.held.next_ssn ≡ nat_lt i d.index
         order =
-            let x = r.1.0.1 in
-            ap (λ n. at_or_before16 n s.ssn) e ∙ ap (at_or_before16 (index % 2 ^ 16)) r.1.0.2
-            ∙ at_or_before16-index index r.0 (omega (arith, near, low')) (omega (arith, x, far, from))
+            let f = d.from in
+            let n' = d.near in
+            ap (λ m. comes_before16 m old.held.next_ssn) is ∙ ap (comes_before16 (i % 2 ^ 16)) d.next
+            ∙ comes_before16-index i d.index (omega (arith, top, f)) (omega (arith, n', low))
 
-        step : cannot_complete tsn s ≡ true → (b : Bool) → at_or_before16 next s.ssn ≡ b → ((i m : ℕ) → m ≡ i % 2 ^ 16 → base ≤ i → i < base + 2 ^ 15
-            → i ≤ top → ArePast tsn i base → IsPast i top (base + 2 ^ 15) (ssn_past_sets m (filter (cannot_complete tsn) ss)))
-            → IsPast index top (base + 2 ^ 15) (ssn_past_sets (if b then (s.ssn + 1) % 2 ^ 16 else next) (filter (cannot_complete tsn) ss))
-        step c false f ih = ih index next e from near within h
-        step c true f ih =
-            let t : nat_le index r.0 ≡ true = sym order ∙ f in
-            let le : index ≤ r.0 = grind (arith, nat_tests, t) in
-            let lt = r.1.0.1 in
-            let edge : r.0 + 1 < base + 2 ^ 15 = elim (h r.0 s r.1.1 c) [ inl x ↦ absurd (omega (arith, x, le)) | inr x ↦ x ] in
-            let p = ih (r.0 + 1) ((s.ssn + 1) % 2 ^ 16) (ap (λ m. (m + 1) % 2 ^ 16) r.1.0.2 ∙ next16 r.0) (omega (arith, low')) edge (omega (arith, lt))
-            (λ i u o d. elim (h i u o d) [ inl x ↦ inl (omega (arith, x, le)) | inr x ↦ inr x ]) in
-            let up = p.up in
-            record { n = p.n; is = p.is; up = omega (arith, up, le); near = p.near; within = p.within }
+        by : (b : Bool) → comes_before16 c.stream_sequence_number old.held.next_ssn ≡ b
+            → (e : IsDue k more (if b then old.held else record old.held { ordered = sets_with c old.held.ordered }))
+            × IsKeptAt e.index (if b then old.held else record old.held { ordered = sets_with c old.held.ordered }).ordered y
+        by true h =
+            let t : nat_lt i d.index ≡ true = sym order ∙ h in
+            let lt : i < d.index = grind (arith, nat_tests, t) in
+            (wider k reach more old.held d le far, inl (omega (arith, begun, lt)))
+        by false h =
+            let kept : IsKept d.index (sets_with c old.held.ordered) = λ z most came. elim (d.kept z most came) [
+              | inl g ↦ inl g
+              | inr g ↦ inr (put-place c z old.held.ordered (inr g))
+            ] in
+            let s = settled k d.low d.index more (record old.held { ordered = sets_with c old.held.ordered }) d.next d.due d.from d.near e.within far
+            (put-sets c i single put is d.low more old.held.ordered low top' far e.sets) kept d.unordered d.unassembled in
+            (s.0, inr (put-place c y old.held.ordered (inl at)))
 
-        by : (b : Bool) → cannot_complete tsn s ≡ b → ((i m : ℕ) → m ≡ i % 2 ^ 16 → base ≤ i → i < base + 2 ^ 15 → i ≤ top → ArePast tsn i base
-            → IsPast i top (base + 2 ^ 15) (ssn_past_sets m (filter (cannot_complete tsn) ss)))
-            → IsPast index top (base + 2 ^ 15) (ssn_past_sets next (if b then s ∷ filter (cannot_complete tsn) ss else filter (cannot_complete tsn) ss))
-        by false c ih = ih index next e from near within h
-        by true c ih = step c (at_or_before16 next s.ssn) refl ih
+    -- ## A message is read
 
-  pub incomplete-due : (k reach tsn : ℕ) (q : Reassembly) (d : IsDue k reach q) → ArePast tsn d.index d.low → IsDue k reach (held_after_incomplete_skip tsn q)
-  incomplete-due k reach tsn q d h =
-      let p = past-sets d.low reach tsn d.far d.low d.index q.next_ssn q.ordered d.next d.from d.near d.within (omega arith) h d.sets in
-      let up = p.up in
-      let from = d.from in
-      (settled k d.low p.n reach (held_after_incomplete_skip tsn q) p.is d.due (omega (arith, from, up)) p.near p.within d.far
-      (sets-those (λ set. not (cannot_complete tsn set)) d.low reach q.ordered d.sets) d.unordered d.unassembled).0
+    module _ (k reach : ℕ) (q : Reassembly) (d : IsDue k reach q) where
+      -- the front set is read
+      front-due : (s : ChunkSet) (ss : List ChunkSet) → q.ordered ≡ s ∷ ss → (a : AreSets d.low reach (s ∷ ss)) → is_readable q.next_ssn s ≡ true
+          → IsDue (a.0 + 1) reach (after_read (Some s) q)
+      front-due s ss is a e = by (s.ssn == q.next_ssn) refl
+        where
+          i : ℕ
+          i = a.0
+
+          low : d.low ≤ i
+          low = a.1.0.0
+
+          up : i < reach
+          up = a.1.0.1
+
+          order : nat_le i d.index ≡ true
+          order =
+              let f = d.far in
+              let g = d.from in
+              let n = d.near in
+              sym (ap (λ n. at_or_before16 n q.next_ssn) a.1.0.2 ∙ ap (at_or_before16 (i % 2 ^ 16)) d.next
+              ∙ at_or_before16-index i d.index (omega (arith, up, f, g)) (omega (arith, low, n)))
+              ∙ (both (is_complete s.chunks) (at_or_before16 s.ssn q.next_ssn) e).1
+
+          kept : (m : ℕ) → i + 1 ≤ m → d.index ≤ m → IsKept m (without_first q.ordered)
+          kept m from at y le came = by (d.kept y le came)
+            where
+              by : (B y ≤ d.index) ⊎ (list_any (has_place y) q.ordered ≡ true) → IsKeptAt m (without_first q.ordered) y
+              by (inl h) = inl (omega (arith, h, at))
+              by (inr h) = elim (or-split (has_place y s) (list_any (has_place y) ss) (subst (λ os. list_any (has_place y) os ≡ true) is h)) [
+                | inl g ↦ inl (let b = at-in i y s.chunks le a.1.1 g in omega (arith, b, from))
+                | inr g ↦ inr (subst (λ os. list_any (has_place y) (without_first os) ≡ true) (sym is) g)
+              ]
+
+          build : (n next : ℕ) → next ≡ n % 2 ^ 16 → i + 1 ≤ n → d.index ≤ n → n ≤ d.index + 1 → n ≤ reach
+              → IsDue (i + 1) reach (record q { ordered = without_first q.ordered; next_ssn = next })
+          build n next e from at most within =
+              let f = d.far in
+              let g = d.near in
+              (settled (i + 1) (i + 1) n reach (record q { ordered = without_first q.ordered; next_ssn = next }) e (omega arith) from (omega (arith, most, g, low))
+              within (omega (arith, f, low)) (subst (λ os. AreSets (i + 1) reach (without_first os)) (sym is) a.2) (kept n from at) d.unordered
+              d.unassembled).0
+
+          by : (b : Bool) → (s.ssn == q.next_ssn) ≡ b → IsDue (i + 1) reach (record q {
+            ordered = without_first q.ordered;
+            next_ssn = (if b then (q.next_ssn + 1) % 2 ^ 16 else q.next_ssn);
+          })
+          by true f =
+              let n : i % 2 ^ 16 ≡ d.index % 2 ^ 16 = sym a.1.0.2 ∙ same-is s.ssn q.next_ssn f ∙ d.next in
+              let le : i ≤ d.index = grind (arith, nat_tests, order) in
+              let near = d.near in
+              let same : i ≡ d.index = omega (arith, n, le, near, low) in
+              build (d.index + 1) ((q.next_ssn + 1) % 2 ^ 16) (ap (λ m. (m + 1) % 2 ^ 16) d.next ∙ next16 d.index) (omega (arith, same)) (omega arith)
+              (omega arith) (omega (arith, same, up))
+          by false f =
+              let le : i ≤ d.index = grind (arith, nat_tests, order) in
+              let differ : i ≡ d.index → ⊥ = λ same. not_both (sym f ∙ ap (λ m. m == q.next_ssn) (a.1.0.2 ∙ ap (λ m. m % 2 ^ 16) same ∙ sym d.next)
+              ∙ same-yes q.next_ssn) in
+              let lt = strictly i d.index le (λ same. differ (sym same)) in
+              let w = d.within in
+              build d.index q.next_ssn d.next (omega (arith, lt)) (omega arith) (omega arith) w
+
+      at-front : (os : List ChunkSet) → q.ordered ≡ os → (after : ℕ) × ((k ≤ after) × IsDue after reach (after_read (front_readable q.next_ssn os) q))
+          × ((set : ChunkSet) → front_readable q.next_ssn os ≡ Some set → (i : ℕ) × ((k ≤ i) × (i < after)) × Fits i set.chunks)
+      at-front [] is = (k, (omega arith, d), λ set e. absurd (none-some set e))
+      at-front (s ∷ ss) is = by (is_readable q.next_ssn s) refl
+        where
+          a : AreSets d.low reach (s ∷ ss)
+          a = subst (AreSets d.low reach) is d.sets
+
+          up : k ≤ a.0
+          up = let x = a.1.0.0 in let y = d.due in omega (arith, x, y)
+
+          by : (b : Bool) → is_readable q.next_ssn s ≡ b
+              → (after : ℕ) × ((k ≤ after) × IsDue after reach (after_read (if b then Some s else None) q))
+              × ((set : ChunkSet) → (if b then Some s else None) ≡ Some set → (i : ℕ) × ((k ≤ i) × (i < after)) × Fits i set.chunks)
+          by false e = (k, (omega arith, d), λ set f. absurd (none-some set f))
+          by true e = (
+            a.0 + 1,
+            (omega (arith, up), front-due s ss is a e),
+            λ set f. (a.0, (up, omega arith), subst (λ (x : ChunkSet). Fits a.0 x.chunks) (some-same f) a.1.1),
+          )
+
+      starts-not : (cs : List ChunkPayloadData) → Every (λ c. c.unordered ≡ true) cs → starts_ordered cs ≡ false
+      starts-not [] h = refl
+      starts-not (c ∷ cs) h = ap not h.0
+
+      pub read-due : Reads k reach q
+      read-due = by q.unordered refl
+        where
+          by : (us : List ChunkSet) → q.unordered ≡ us → Reads k reach q
+          by [] is =
+              let f = at-front q.ordered refl in
+              record {
+                after = f.0;
+                up = f.1.0;
+                due = subst (λ us. IsDue f.0 reach (rest_among us q)) (sym is) f.1.1;
+                turn = λ set e o. f.2 set (subst (λ us. message_among us q ≡ Some set) is e);
+              }
+          by (u ∷ us) is =
+              let h = subst (Every IsUnorderedSet) is d.unordered in
+              record {
+                after = k;
+                up = omega arith;
+                due = subst (λ vs. IsDue k reach (rest_among vs q)) (sym is)
+                    (unordered-due k reach q (record q { unordered = us }) refl refl h.1 d.unassembled d);
+                turn = λ set e o.
+                    let same : u ≡ set = some-same (subst (λ vs. message_among vs q ≡ Some set) is e) in
+                    absurd (not_both (sym (starts-not u.chunks h.0) ∙ subst (λ (x : ChunkSet). starts_ordered x.chunks ≡ true) (sym same) o));
+              }
+
+    -- ## A FORWARD-TSN comes
+
+    -- where the sets of messages before an index go, what is held stays so, or lies before the index
+    those-kept : (q : ChunkSet → Bool) (bound low top : ℕ) (ss : List ChunkSet) (r : AreSets low top ss)
+        → Gone q bound low top ss r → (y : ℕ) → y ≤ n → list_any (has_place y) ss ≡ true → IsKeptAt bound (filter q ss) y
+    those-kept q bound low top [] r g y le h = absurd (not_both h)
+    those-kept q bound low top (s ∷ ss) r g y le h =
+        by (q s) refl (or-split (has_place y s) (list_any (has_place y) ss) h) (λ k. those-kept q bound (r.0 + 1) top ss r.2 g.1 y le k)
+      where
+        by : (b : Bool) → q s ≡ b → (has_place y s ≡ true) ⊎ (list_any (has_place y) ss ≡ true)
+            → (list_any (has_place y) ss ≡ true → IsKeptAt bound (filter q ss) y) → IsKeptAt bound (if b then s ∷ filter q ss else filter q ss) y
+        by true e (inl k) ih = inr (or-left (has_place y s) (list_any (has_place y) (filter q ss)) k)
+        by true e (inr k) ih = elim (ih k) [ inl x ↦ inl x | inr x ↦ inr (or-right (has_place y s) (list_any (has_place y) (filter q ss)) x) ]
+        by false e (inl k) ih = inl (let b = at-in r.0 y s.chunks le r.1.1 k in let lt = g.0 e in omega (arith, b, lt))
+        by false e (inr k) ih = ih k
+
+    -- where the lowest message is not complete, its set goes
+    without-lowest : (low top j index next last : ℕ) (ss : List ChunkSet) → next ≡ index % 2 ^ 16 → last ≡ j % 2 ^ 16 → low ≤ index → index < low + 2 ^ 15
+        → low ≤ j → j < low + 2 ^ 15 → front_readable next ss ≡ None → AreSets low top ss → AreSets (low + 1) top (filter (λ set. not (is_passed last set)) ss)
+    without-lowest low top j index next last [] e f a b c g none r = tt
+    without-lowest low top j index next last (s ∷ ss) e f a b c g none r = elim (cases_lt low r.0) [
+      | inl lt ↦ sets-those (λ set. not (is_passed last set)) (low + 1) top (s ∷ ss) (r.0, ((omega (arith, lt), r.1.0.1, r.1.0.2), r.1.1), r.2)
+      | inr ge ↦ here (let x = r.1.0.0 in omega (arith, ge, x)) (is_complete s.chunks) refl
+    ]
+      where
+        here : r.0 ≡ low → (b : Bool) → is_complete s.chunks ≡ b → AreSets (low + 1) top (filter (λ set. not (is_passed last set)) (s ∷ ss))
+        here same true h =
+            let order : nat_le r.0 index ≡ true = grind (arith, nat_tests, same, a) in
+            let at : at_or_before16 s.ssn next ≡ true = ap (λ n. at_or_before16 n next) r.1.0.2 ∙ ap (at_or_before16 (r.0 % 2 ^ 16)) e
+            ∙ at_or_before16-index r.0 index (omega (arith, same, a)) (omega (arith, same, b)) ∙ order in
+            let is : is_readable next s ≡ true = ap (λ b. b && at_or_before16 s.ssn next) h ∙ at in
+            absurd (none-some s (sym none ∙ ap (λ b. if b then Some s else None) is))
+        here same false h =
+            let order : nat_le r.0 j ≡ true = grind (arith, nat_tests, same, c) in
+            let at : at_or_before16 s.ssn last ≡ true = ap (λ n. at_or_before16 n last) r.1.0.2 ∙ ap (at_or_before16 (r.0 % 2 ^ 16)) f
+            ∙ at_or_before16-index r.0 j (omega (arith, same, c)) (omega (arith, same, g)) ∙ order in
+            let is : is_passed last s ≡ true = ap (λ b. b && not (is_complete s.chunks)) at ∙ ap not h in
+            subst (λ b. AreSets (low + 1) top (if not b then s ∷ filter (λ set. not (is_passed last set)) ss else filter (λ set. not (is_passed last set)) ss))
+            (sym is) (subst (λ n. AreSets (n + 1) top (filter (λ set. not (is_passed last set)) ss)) same
+            (sets-those (λ set. not (is_passed last set)) (r.0 + 1) top ss r.2))
+
+    neither : (a b : Bool) → (a || b) ≡ false → (a ≡ false) × (b ≡ false)
+    neither true b e = absurd (not_both (sym e))
+    neither false b e = (refl, e)
+
+    unnot : (b : Bool) → not b ≡ false → b ≡ true
+    unnot true e = refl
+    unnot false e = absurd (not_both (sym e))
+
+    none-of : {A : Type 0} (o : Option A) → is_some o ≡ false → o ≡ None
+    none-of None e = refl
+    none-of (Some x) e = absurd (not_both (sym e))
+
+    module _ (k reach j last most : ℕ) (q : Reassembly) (d : IsDue k reach q) (is : last ≡ j % 2 ^ 16) (back : reach ≤ j + 1 + 2 ^ 14)
+        (ahead : j + 1 ≤ reach + 2 ^ 14) (le : reach ≤ most) (lt : j + 1 ≤ most) where
+      abbrev left : List ChunkSet
+      left = filter (λ set. not (is_passed last set)) q.ordered
+
+      next-order : d.index < j + 2 ^ 15 → j < d.index + 2 ^ 15 → at_or_before16 q.next_ssn last ≡ nat_le d.index j
+      next-order a b = ap (λ m. at_or_before16 m last) d.next ∙ ap (at_or_before16 (d.index % 2 ^ 16)) is ∙ at_or_before16-index d.index j a b
+
+      -- from another lowest index on
+      -- the sets that go are of no later message
+      passed-gone : (low top : ℕ) (ss : List ChunkSet) (r : AreSets low top ss) → top ≤ j + 2 ^ 15 → j < low + 2 ^ 15
+          → Gone (λ set. not (is_passed last set)) (j + 1) low top ss r
+      passed-gone low top [] r far near = tt
+      passed-gone low top (s ∷ ss) r far near = (
+        λ e.
+            let x = r.1.0.0 in
+            let y = r.1.0.1 in
+            let at = (both (at_or_before16 s.ssn last) (not (is_complete s.chunks)) (unnot (is_passed last s) e)).0 in
+            let t : nat_le r.0 j ≡ true =
+            sym (ap (λ m. at_or_before16 m last) r.1.0.2 ∙ ap (at_or_before16 (r.0 % 2 ^ 16)) is
+            ∙ at_or_before16-index r.0 j (omega (arith, y, far)) (omega (arith, near, x))) ∙ at in
+            let le : r.0 ≤ j = grind (arith, nat_tests, t) in
+            omega (arith, le),
+        passed-gone (r.0 + 1) top ss r.2 far (let x = r.1.0.0 in omega (arith, near, x)),
+      )
+
+      skip-kept : j < d.low + 2 ^ 15 → (m : ℕ) → d.index ≤ m → j < m → IsKept m left
+      skip-kept near m at past y le came = elim (d.kept y le came) [
+        | inl h ↦ inl (omega (arith, h, at))
+        | inr h ↦
+            elim (those-kept (λ set. not (is_passed last set)) (j + 1) d.low reach q.ordered d.sets
+            (passed-gone d.low reach q.ordered d.sets (omega (arith, back)) near) y le h) [
+              | inl g ↦ inl (omega (arith, g, past))
+              | inr g ↦ inr g
+            ]
+      ]
+
+      module _ (wide : j < d.low + 2 ^ 15) (low more : ℕ) (a : d.index < j + 2 ^ 15) (b : j < d.index + 2 ^ 15) (due : k ≤ low) (from : low ≤ d.index ⊎ (d.index ≤ j) × (low ≤ j + 1))
+          (near : d.index < low + 2 ^ 15) (top : d.index ≤ j → j + 1 < low + 2 ^ 15) (up : reach ≤ more) (upto : j + 1 ≤ more) (within : more ≤ most)
+          (far : more ≤ low + 2 ^ 15) (sets : AreSets low more left) where
+        skips : IsSkipped k reach j most (held_after_ordered_skip last q)
+        skips = by (at_or_before16 q.next_ssn last) refl
+          where
+            build : (n next : ℕ) → next ≡ n % 2 ^ 16 → d.index ≤ n → low ≤ n → n < low + 2 ^ 15 → n ≤ more → j < n
+                → IsSkipped k reach j most (record q { ordered = left; next_ssn = next })
+            build n next e at f g h i =
+                let s = settled k low n more (record q { ordered = left; next_ssn = next }) e due f g h far sets (skip-kept wide n at i) d.unordered
+                d.unassembled in
+                record { more = more; up = up; upto = upto; within = within; due = s.0; passed = let x = s.1 in omega (arith, x, i) }
+
+            low-is : low ≤ d.index ⊎ (d.index ≤ j) × (low ≤ j + 1) → j < d.index → low ≤ d.index
+            low-is (inl x) lt = x
+            low-is (inr x) lt = let y = x.0 in absurd (omega (arith, y, lt))
+
+            low-on : low ≤ d.index ⊎ (d.index ≤ j) × (low ≤ j + 1) → d.index ≤ j → low ≤ j + 1
+            low-on (inl x) le = omega (arith, x, le)
+            low-on (inr x) le = x.1
+
+            by : (b : Bool) → at_or_before16 q.next_ssn last ≡ b
+                → IsSkipped k reach j most (record q { ordered = left; next_ssn = (if b then (last + 1) % 2 ^ 16 else q.next_ssn) })
+            by true e =
+                let t : nat_le d.index j ≡ true = sym (next-order a b) ∙ e in
+                let upto' : d.index ≤ j = grind (arith, nat_tests, t) in
+                build (j + 1) ((last + 1) % 2 ^ 16) (ap (λ m. (m + 1) % 2 ^ 16) is ∙ next16 j) (omega (arith, upto')) (low-on from upto') (top upto') upto (omega arith)
+            by false e =
+                let t : nat_le d.index j ≡ false = sym (next-order a b) ∙ e in
+                let past : j < d.index = grind (arith, nat_tests, t) in
+                let w = d.within in
+                build d.index q.next_ssn d.next (omega arith) (low-is from past) near (omega (arith, w, up)) past
+
+      -- the name is an old one
+      old-name : j < d.low → IsSkipped k reach j most (held_after_ordered_skip last q)
+      old-name x =
+          let f = d.from in
+          let w = d.within in
+          skips (omega (arith, x)) d.low reach (omega (arith, w, back)) (omega (arith, x, f)) d.due (inl f) d.near (λ y. absurd (omega (arith, x, f, y))) (omega arith)
+          (omega (arith, x, f, w)) le d.far (sets-those (λ set. not (is_passed last set)) d.low reach q.ordered d.sets)
+
+      -- or lies in the window
+      new-name : d.low ≤ j → j < d.low + 2 ^ 15 → (j + 1 ≡ d.low + 2 ^ 15 → front_readable q.next_ssn q.ordered ≡ None) → (more : ℕ) → reach ≤ more
+          → j + 1 ≤ more → more ≤ most → more ≤ d.low + 2 ^ 15 → IsSkipped k reach j most (held_after_ordered_skip last q)
+      new-name x y last-one more up upto within far =
+          let f = d.from in
+          let n = d.near in
+          let u = d.due in
+          let sets = sets-to d.low reach more q.ordered up d.sets in
+          elim (cases_lt (j + 1) (d.low + 2 ^ 15)) [
+            | inl lt ↦ skips y d.low more (omega (arith, x, n)) (omega (arith, y, f)) d.due (inl f) d.near (λ z. lt) up upto within far
+                (sets-those (λ set. not (is_passed last set)) d.low more q.ordered sets)
+            | inr ge ↦
+                let top : j + 1 ≡ d.low + 2 ^ 15 = omega (arith, ge, y) in
+                skips y (d.low + 1) more (omega (arith, x, n)) (omega (arith, y, f)) (omega (arith, u)) (inr (omega (arith, top, n), omega (arith, x)))
+                (omega (arith, n)) (λ z. omega (arith, top)) up upto within (omega (arith, far))
+                (without-lowest d.low more j d.index q.next_ssn last q.ordered d.next is f n x y (last-one top) sets)
+          ]
+
+      pub name-due : is_name_too_far last q ≡ false → IsSkipped k reach j most (held_after_ordered_skip last q)
+      name-due e = by (sides d.low j (let a = d.from in let b = d.within in omega (arith, a, b, back)) (let c = d.far in omega (arith, c, ahead)))
+        where
+          away : ℕ
+          away = distance16 (d.low % 2 ^ 16) (j % 2 ^ 16)
+
+          same : distance16 (lowest_ssn q) last ≡ away
+          same = ap (λ n. distance16 n last) d.lowest ∙ ap (distance16 (d.low % 2 ^ 16)) is
+
+          tests : ((nat_le (2 ^ 15) (distance16 (lowest_ssn q) last) && nat_lt (distance16 (lowest_ssn q) last) (2 ^ 15 + 2 ^ 14)) ≡ false) ×
+              (((distance16 (lowest_ssn q) last == 2 ^ 15 - 1) && is_some (front_readable q.next_ssn q.ordered)) ≡ false)
+          tests = neither _ _ e
+
+          close : (a : ℕ) → (nat_le (2 ^ 15) a && nat_lt a (2 ^ 15 + 2 ^ 14)) ≡ false → a < 2 ^ 15 + 2 ^ 14 → a < 2 ^ 15
+          close a f g = elim (cases_lt a (2 ^ 15)) [
+            | inl lt ↦ lt
+            | inr ge ↦
+                let s : nat_le (2 ^ 15) a ≡ true = grind (arith, nat_tests, ge) in
+                let t : nat_lt a (2 ^ 15 + 2 ^ 14) ≡ true = grind (arith, nat_tests, g) in
+                absurd (not_both (sym f ∙ and (nat_le (2 ^ 15) a) (nat_lt a (2 ^ 15 + 2 ^ 14)) s t))
+          ]
+
+          unread : (a : ℕ) (b : Bool) → ((a == 2 ^ 15 - 1) && b) ≡ false → a ≡ 2 ^ 15 - 1 → b ≡ false
+          unread a b f g = ap (λ c. c && b) (sym (ap (λ n. n == 2 ^ 15 - 1) g)) ∙ f
+
+          by : ((d.low ≤ j) × (d.low + away ≡ j)) ⊎ ((j < d.low) × (d.low + away ≡ j + 2 ^ 16)) → IsSkipped k reach j most (held_after_ordered_skip last q)
+          by (inr x) = old-name x.0
+          by (inl x) =
+              let at = x.1 in
+              let c = d.far in
+              let near = close (distance16 (lowest_ssn q) last) tests.0 (omega (arith, same, at, c, ahead)) in
+              let top : j < d.low + 2 ^ 15 = omega (arith, same, at, near) in
+              let none : j + 1 ≡ d.low + 2 ^ 15 → front_readable q.next_ssn q.ordered ≡ None = λ f. none-of (front_readable q.next_ssn q.ordered)
+              (unread (distance16 (lowest_ssn q) last) (is_some (front_readable q.next_ssn q.ordered)) tests.1 (omega (arith, same, at, f))) in
+              elim (cases_lt reach (j + 1)) [
+                | inl less ↦ new-name x.0 top none (j + 1) (omega (arith, less)) (omega arith) lt (omega (arith, top))
+                | inr ge ↦ new-name x.0 top none reach (omega arith) ge le c
+              ]
+
+    pub leading-each : (P : ChunkPayloadData → Type 0) (p : ChunkPayloadData → Bool) (xs : List ChunkPayloadData) → Every P xs → Every P (after_leading p xs)
+    leading-each P p [] h = tt
+    leading-each P p (x ∷ xs) h = by (p x) (leading-each P p xs h.1)
+      where
+        by : (b : Bool) → Every P (after_leading p xs) → Every P (if b then after_leading p xs else x ∷ xs)
+        by true ih = ih
+        by false ih = h
+
+    abbrev pub unassembled-due : (k reach t : ℕ) (q : Reassembly) → IsDue k reach q → IsDue k reach (held_after_unordered_skip t q)
+    unassembled-due k reach t q d = record {
+      index = d.index;
+      low = d.low;
+      next = d.next;
+      lowest = d.lowest;
+      due = d.due;
+      from = d.from;
+      near = d.near;
+      within = d.within;
+      far = d.far;
+      sets = d.sets;
+      kept = d.kept;
+      unordered = d.unordered;
+      unassembled = leading-each (λ c. c.unordered ≡ true) (λ c. at_or_before c.tsn t) q.unassembled d.unassembled;
+    }
+
+    -- what can't become complete lies below the next index
+    past-sets : (base low top t index next : ℕ) (ss : List ChunkSet) (r : AreSets low top ss) → next ≡ index % 2 ^ 16 → index < base + 2 ^ 15
+        → base ≤ low → Gone (λ set. not (cannot_complete t set)) index low top ss r → ssn_past_sets next (filter (cannot_complete t) ss) ≡ next
+    past-sets base low top t index next [] r e f g h = refl
+    past-sets base low top t index next (s ∷ ss) r e f g h =
+        by (cannot_complete t s) refl (past-sets base (r.0 + 1) top t index next ss r.2 e f (let x = r.1.0.0 in omega (arith, g, x)) h.1)
+      where
+        by : (b : Bool) → cannot_complete t s ≡ b → ssn_past_sets next (filter (cannot_complete t) ss) ≡ next
+            → ssn_past_sets next (if b then s ∷ filter (cannot_complete t) ss else filter (cannot_complete t) ss) ≡ next
+        by false c ih = ih
+        by true c ih =
+            let lt = h.0 (ap not c) in
+            let x = r.1.0.0 in
+            let order : nat_le index r.0 ≡ false = grind (arith, nat_tests, lt) in
+            let past : at_or_before16 next s.ssn ≡ false = ap (λ m. at_or_before16 m s.ssn) e ∙ ap (at_or_before16 (index % 2 ^ 16)) r.1.0.2
+            ∙ at_or_before16-index index r.0 (omega (arith, f, g, x)) (omega (arith, lt)) ∙ order in
+            ap (λ b. ssn_past_sets (if b then (s.ssn + 1) % 2 ^ 16 else next) (filter (cannot_complete t) ss)) past ∙ ih
+
+    pub incomplete-due : (k reach t : ℕ) (q : Reassembly) (d : IsDue k reach q)
+        → Gone (λ set. not (cannot_complete t set)) d.index d.low reach q.ordered d.sets → IsDue k reach (held_after_incomplete_skip t q)
+    incomplete-due k reach t q d h =
+        let kept : IsKept d.index (filter (λ set. not (cannot_complete t set)) q.ordered) = λ y le came. elim (d.kept y le came) [
+          | inl x ↦ inl x
+          | inr x ↦ those-kept (λ set. not (cannot_complete t set)) d.index d.low reach q.ordered d.sets h y le x
+        ] in
+        (settled k d.low d.index reach (held_after_incomplete_skip t q)
+        (past-sets d.low d.low reach t d.index q.next_ssn q.ordered d.sets d.next d.near (omega arith) h ∙ d.next) d.due d.from d.near d.within d.far
+        (sets-those (λ set. not (cannot_complete t set)) d.low reach q.ordered d.sets) kept d.unordered d.unassembled).0
+
+-- other places came, each of which is held or lies before the next index
+abbrev pub recame : (p n : ℕ) (B : ℕ → ℕ) (Fits : ℕ → List ChunkPayloadData → Type 0) (Came More : ℕ → Type 0) (k reach : ℕ) (q : Reassembly)
+    (d : IsDue p n B Fits Came k reach q) → ((y : ℕ) → y ≤ n → More y → Came y ⊎ IsKeptAt p n B Fits Came d.index q.ordered y)
+    → IsDue p n B Fits More k reach q
+recame p n B Fits Came More k reach q d more = record {
+  index = d.index;
+  low = d.low;
+  next = d.next;
+  lowest = d.lowest;
+  due = d.due;
+  from = d.from;
+  near = d.near;
+  within = d.within;
+  far = d.far;
+  sets = d.sets;
+  kept = λ y le m. elim (more y le m) [ inl c ↦ d.kept y le c | inr h ↦ h ];
+  unordered = d.unordered;
+  unassembled = d.unassembled;
+}

@@ -1,11 +1,10 @@
 -- In each session in which every FORWARD-TSN names a stream, the indexes of the ordered messages that are read on it rise.
-use Rattle.std.proofs.Common.{◌≡◌, ℕ, ◌+◌, ◌^◌, ◌<◌, ◌≤◌, Bool, true, false, not, List, [], ◌∷◌, length, Option, Some, None, inl, inr, refl, ap, sym, subst, ◌∙◌, arith}
-use Rattle.std.specs.Prelude.{◌⊎◌, ◌||◌, Contains, IfSome, find, if◌then◌else◌, is_some}
-use Rattle.std.specs.List.{filter, list_any}
-use Rattle.std.proofs.lemmas.List.Folds.{list_any_at}
+use Rattle.std.proofs.Common.{◌≡◌, ℕ, ◌+◌, ◌^◌, ◌<◌, ◌≤◌, Bool, true, false, List, [], ◌∷◌, length, Option, Some, None, inl, inr, refl, ap, sym, subst, ◌∙◌, arith}
+use Rattle.std.specs.Prelude.{Contains, IfSome, find, if◌then◌else◌, is_some, nat_le, ◌==◌, ◌⊎◌}
+use Rattle.std.specs.List.{list_any}
 use Rattle.std.proofs.lemmas.Option.{none-some}
-use Rattle.sctp_list_lemmas.specs.Serial.{distance}
-use Rattle.sctp_list_lemmas.proofs.More.{fails, not_both}
+use Rattle.sctp_list_lemmas.specs.Serial.{at_or_before, distance}
+use Rattle.sctp_list_lemmas.proofs.More.{not_both}
 use Rattle.sctp_list_lemmas.proofs.Round.{tsn}
 use Rattle.sctp_data.specs.declared.chunk.chunk_payload_data.ChunkPayloadData.{ChunkPayloadData}
 use Rattle.sctp_data.specs.ChunkSet.{ChunkSet}
@@ -21,7 +20,6 @@ use Rattle.sctp_receiver.specs.Inbound.{has_number}
 use Rattle.sctp_receiver.specs.Receiver.{Reception, forward_refusal, stream_of}
 use Rattle.sctp_receiver.specs.ReceiverRuns.{Message, Stand}
 use Rattle.sctp_receiver.specs.Skips.{names_closed, names_too_far, skip_refusal}
-use Rattle.sctp_sender.specs.Abandonment.{is_pair_of}
 use Rattle.sctp_sender.specs.Flight.{after_sack, is_outdated, message_to_abandon, take_sack}
 use Rattle.sctp_sender.specs.Late.{late_order, worn_order}
 use Rattle.sctp_sender.specs.Sender.{Transmission, after_expire, stream_of as sender_stream}
@@ -34,32 +32,57 @@ use Rattle.sctp_delivery.specs.SenderCalls.{Made, SenderCall, data_chunk, forwar
 use Rattle.sctp_delivery.specs.Session.{Call, ReceiverFollows, RunsTo, SenderFollows, Session, at_start, of_receiver, of_sender}
 use Rattle.sctp_delivery.proofs.Calls.{numbered_after}
 use Rattle.sctp_delivery.proofs.Delivered.{found-sent, next_tsn}
+use Rattle.sctp_delivery.proofs.UnwrappedHeard.{IsPiece, Rising, missing, missing-of}
+use Rattle.sctp_reassembly.specs.reassembly_queue.Skips.{misses}
+use Rattle.sctp_serial.specs.DataChunks.{has_tsn}
+use Rattle.std.proofs.lemmas.Bool.{cases_lt}
+use Rattle.std.proofs.lemmas.Bool.Decides.{nat_tests}
+use Rattle.sctp_list_lemmas.proofs.Cases.{or-split, same-is}
 use Rattle.sctp_delivery.proofs.Every.{Every, every-contained, every-of}
 use Rattle.sctp_delivery.proofs.GivenTsns.{raises-abandoned, raises-each}
 use Rattle.sctp_delivery.proofs.OrderedCalls.{not-far}
-use Rattle.sctp_delivery.proofs.OrderedEntries.{begins-inner, begun_on, one, part-indexed}
 use Rattle.sctp_delivery.proofs.Queues.{IsOnceMore}
 use Rattle.sctp_delivery.proofs.SackLaws as sacks
 use Rattle.sctp_delivery.proofs.SackSteps.{flight_of, written-open}
-use Rattle.sctp_delivery.proofs.Sent.{Entry, Numbered, fragment, part-length, part-line, tail-part}
-use Rattle.sctp_delivery.proofs.Sessions.{more-made}
+use Rattle.sctp_delivery.proofs.Sent.{Entry, Numbered, WasSent, sent-more}
 use Rattle.sctp_delivery.proofs.SpreadCalls.{IsSpread, Spreads, receiver-spreads, sender-spreads, spread-first}
-use Rattle.sctp_delivery.proofs.SpreadEntries.{begun_to, step-fragment, to-all, to-more, to-part, to-up}
+use Rattle.sctp_delivery.proofs.SpreadEntries.{IsEntry, at-more, begun_to, is_at, made-entry, to-all, to-more, to-up}
 use Rattle.sctp_delivery.proofs.SpreadFlight.{IsMadeNaming}
 use Rattle.sctp_delivery.proofs.TakenCalls.{fresh-new}
-use Rattle.sctp_delivery.proofs.TsnPlaces.{base, same-place}
-use Rattle.sctp_delivery.proofs.UnwrappedCalls.{AreDue, AreInTurn, DueOn, IsBeyond, IsOf, IsStepOf, Where, followed-due, is_in_order, opened-due, quiet, read-on-due, taken-due}
+use Rattle.sctp_delivery.proofs.TsnPlaces.{at-or-before, base, same-place}
+use Rattle.sctp_delivery.proofs.UnwrappedCalls.{followed-due, opened-due, quiet, read-on-due, taken-due}
+use Rattle.sctp_delivery.proofs.UnwrappedHolds.{AreDue, AreInTurn, Came, DueOn, Fits, IsBeyond, IsOf, IsStepOf, Rises, Where, is_in_order}
 use Rattle.sctp_delivery.proofs.UnwrappedReads.{AreSets, IsDue}
 
 -- ## More TSNs are given out
 
-module _ (Of More : ℕ → ChunkPayloadData → Type 0) (more : (i : ℕ) (c : ChunkPayloadData) → Of i c → More i c) where
-  sets-more : (low top : ℕ) (ss : List ChunkSet) → AreSets Of low top ss → AreSets More low top ss
-  sets-more low top [] r = tt
-  sets-more low top (s ∷ ss) r = (r.0, (r.1.0, every-of (Of r.0) (More r.0) (more r.0) s.chunks r.1.1), sets-more (r.0 + 1) top ss r.2)
+module _ (p st n m : ℕ) (B C : ℕ → ℕ) (E F : ℕ → Bool) (M N : ChunkPayloadData → Type 0) (few : m < 2 ^ 31) (le : n ≤ m)
+    (same : (k : ℕ) → k ≤ n → C k ≡ B k) (up : C n ≤ C m) (alike : (k : ℕ) → k ≤ n → F k ≡ E k) (made : (c : ChunkPayloadData) → M c → N c) where
+  abbrev of-more : (i : ℕ) (c : ChunkPayloadData) → IsOf p st n B E M i c → IsOf p st m C F N i c
+  of-more i c o =
+      let w = o.within in
+      record {
+        before = o.before;
+        within = omega (arith, w, le);
+        is = o.is;
+        begun = same (o.before + 1) o.within ∙ o.begun;
+        made = made c o.made;
+        on = o.on;
+        inner = λ f. same o.before (omega (arith, w)) ∙ o.inner f;
+      }
 
-  due-more : (k reach : ℕ) (q : Reassembly) → IsDue Of k reach q → IsDue More k reach q
-  due-more k reach q d = record {
+  rises-more : (i low : ℕ) (cs : List ChunkPayloadData) → Rises p st n B E M i low cs → Rises p st m C F N i low cs
+  rises-more i low [] r = tt
+  rises-more i low (c ∷ cs) r = (of-more i c r.0, r.1, rises-more i (r.0.before + 1) cs r.2)
+
+  sets-more : (D G : ℕ → Type 0) (low top : ℕ) (ss : List ChunkSet) → AreSets p n B (Fits p st n B E M) D low top ss
+      → AreSets p m C (Fits p st m C F N) G low top ss
+  sets-more D G low top [] r = tt
+  sets-more D G low top (s ∷ ss) r = (r.0, (r.1.0, rises-more r.0 0 s.chunks r.1.1), sets-more D G (r.0 + 1) top ss r.2)
+
+  due-more : (D G : ℕ → Type 0) → ((y : ℕ) → y ≤ m → G y → (y ≤ n) × D y) → (k reach : ℕ) (q : Reassembly)
+      → IsDue p n B (Fits p st n B E M) D k reach q → IsDue p m C (Fits p st m C F N) G k reach q
+  due-more D G back k reach q d = record {
     index = d.index;
     low = d.low;
     next = d.next;
@@ -69,34 +92,31 @@ module _ (Of More : ℕ → ChunkPayloadData → Type 0) (more : (i : ℕ) (c : 
     near = d.near;
     within = d.within;
     far = d.far;
-    sets = sets-more d.low reach q.ordered d.sets;
+    sets = sets-more D G d.low reach q.ordered d.sets;
+    kept = λ y most g.
+        let b = back y most g in
+        elim (d.kept y b.0 b.1) [ inl h ↦ inl (let e = same y b.0 in omega (arith, e, h)) | inr h ↦ inr h ];
     unordered = d.unordered;
     unassembled = d.unassembled;
   }
 
-module _ (p st n m : ℕ) (B C : ℕ → ℕ) (le : n ≤ m) (same : (k : ℕ) → k ≤ n → C k ≡ B k) (up : C n ≤ C m) where
-  of-more : (i : ℕ) (c : ChunkPayloadData) → IsOf p st n B i c → IsOf p st m C i c
-  of-more i c o =
-      let w = o.within in
-      record {
-        before = o.before;
-        within = omega (arith, w, le);
-        is = o.is;
-        begun = same (o.before + 1) o.within ∙ o.begun;
-        inner = λ f. same o.before (omega (arith, w)) ∙ o.inner f;
-      }
+  on-more : (D G : ℕ → Type 0) → ((y : ℕ) → y ≤ m → G y → (y ≤ n) × D y) → (k reach : ℕ) (o : Option InboundStream)
+      → DueOn p st n B E M D k reach o → DueOn p st m C F N G k reach o
+  on-more D G back k reach None d = (d.0, d.1, λ y most g. let b = back y most g in d.2 y b.0 b.1)
+  on-more D G back k reach (Some l) d = due-more D G back k reach l.queue.held d
 
-  turns-more : (k : ℕ) (ms : List Message) → AreInTurn p st n B k ms → AreInTurn p st m C k ms
+  turns-more : (k : ℕ) (ms : List Message) → AreInTurn p st n B E M k ms → AreInTurn p st m C F N k ms
   turns-more k [] t = tt
-  turns-more k (x ∷ xs) t = by (is_in_order p st n B x) t (λ j h. turns-more j xs h)
+  turns-more k (x ∷ xs) t = by (is_in_order p st n B E M x) t (λ j h. turns-more j xs h)
     where
-      by : (b : Bool) → Where p st n B b ((i : ℕ) × (i < k) × Every (IsOf p st n B i) x.fragments × AreInTurn p st n B i xs) (AreInTurn p st n B k xs)
-          → ((j : ℕ) → AreInTurn p st n B j xs → AreInTurn p st m C j xs)
-          → Where p st m C b ((i : ℕ) × (i < k) × Every (IsOf p st m C i) x.fragments × AreInTurn p st m C i xs) (AreInTurn p st m C k xs)
-      by true h ih = (h.0, h.1, every-of (IsOf p st n B h.0) (IsOf p st m C h.0) (of-more h.0) x.fragments h.2, ih h.0 h.3)
+      by : (b : Bool)
+          → Where p st n B E M b ((i : ℕ) × (i < k) × Fits p st n B E M i x.fragments × AreInTurn p st n B E M i xs) (AreInTurn p st n B E M k xs)
+          → ((j : ℕ) → AreInTurn p st n B E M j xs → AreInTurn p st m C F N j xs)
+          → Where p st m C F N b ((i : ℕ) × (i < k) × Fits p st m C F N i x.fragments × AreInTurn p st m C F N i xs) (AreInTurn p st m C F N k xs)
+      by true h ih = (h.0, h.1, rises-more h.0 0 x.fragments h.2, ih h.0 h.3)
       by false h ih = ih k h
 
-  beyond-more : (reach t : ℕ) → IsBeyond p st n B reach t → IsBeyond p st m C reach t
+  beyond-more : (reach t : ℕ) → IsBeyond p st n B E M reach t → IsBeyond p st m C F N reach t
   beyond-more reach t b =
       let w = b.within in
       let x = same b.before (omega (arith, w)) in
@@ -108,11 +128,33 @@ module _ (p st n m : ℕ) (B C : ℕ → ℕ) (le : n ≤ m) (same : (k : ℕ) �
         so = elim b.so [ inl z ↦ inl (omega (arith, x, y, z)) | inr z ↦ inr (omega (arith, y, z)) ];
       }
 
-  on-more : (k reach : ℕ) (o : Option InboundStream) → DueOn p st n B k reach o → DueOn p st m C k reach o
-  on-more k reach None d = d
-  on-more k reach (Some l) d = due-more (IsOf p st n B) (IsOf p st m C) of-more k reach l.queue.held d
+  -- no place that was not given out came
+  none-new : (reach y : ℕ) (ts : List ℕ) → y ≤ m → n < y → Every (IsBeyond p st n B E M reach) ts → list_any (λ t. t == tsn p y) ts ≡ true → ⊥
+  none-new reach y [] most lt h e = not_both e
+  none-new reach y (t ∷ ts) most lt h e = elim (or-split (t == tsn p y) (list_any (λ u. u == tsn p y) ts) e) [
+    | inl g ↦
+        let w = h.0.within in
+        let k = same-place p (h.0.before + 1) y (omega (arith, w, le, few)) (omega (arith, most, few)) (sym h.0.is ∙ same-is t (tsn p y) g) in
+        absurd (omega (arith, k, w, lt))
+    | inr g ↦ none-new reach y ts most lt h.1 g
+  ]
 
-  abbrev are-more : (a b : ℕ) (s : Stand) (d : AreDue p st n B a s) → b ≤ d.heard.place → AreDue p st m C b s
+  came-more : (a : ℕ) (s : Stand) (d : AreDue p st n B E M a s) (y : ℕ) → y ≤ m → Came p st m C F N s.receiver.cumulative_tsn s.receiver.beyond y
+      → (y ≤ n) × Came p st n B E M s.receiver.cumulative_tsn s.receiver.beyond y
+  came-more a s d y most h = elim (cases_lt n y) [
+    | inl lt ↦ absurd (elim (or-split (at_or_before (tsn p y) s.receiver.cumulative_tsn) (list_any (λ t. t == tsn p y) s.receiver.beyond) h.1) [
+      | inl g ↦
+          let w = d.heard.within in
+          let t : nat_le y d.heard.place ≡ true =
+          sym (at-or-before p y d.heard.place (omega (arith, most, few)) (omega (arith, w, le, few))) ∙ ap (at_or_before (tsn p y)) (sym d.heard.is) ∙ g in
+          let u : y ≤ d.heard.place = grind (arith, nat_tests, t) in
+          omega (arith, u, w, lt)
+      | inr g ↦ none-new d.reach y s.receiver.beyond most lt d.heard.each g
+    ])
+    | inr ge ↦ (ge, (sym (alike y ge) ∙ h.0, h.1))
+  ]
+
+  abbrev are-more : (a b : ℕ) (s : Stand) (d : AreDue p st n B E M a s) → b ≤ d.heard.place → AreDue p st m C F N b s
   are-more a b s d least =
       let h = d.heard in
       let w = h.within in
@@ -123,7 +165,8 @@ module _ (p st n m : ℕ) (B C : ℕ → ℕ) (le : n ≤ m) (same : (k : ℕ) �
       record {
         k = d.k;
         reach = d.reach;
-        due = on-more d.k d.reach (stream_of st s.receiver) d.due;
+        due = on-more (Came p st n B E M s.receiver.cumulative_tsn s.receiver.beyond) (Came p st m C F N s.receiver.cumulative_tsn s.receiver.beyond)
+            (came-more a s d) d.k d.reach (stream_of st s.receiver) d.due;
         turns = turns-more d.k s.read d.turns;
         most = omega (arith, most, z, up);
         heard = record {
@@ -132,7 +175,7 @@ module _ (p st n m : ℕ) (B C : ℕ → ℕ) (le : n ≤ m) (same : (k : ℕ) �
           within = omega (arith, w, le);
           is = h.is;
           covered = omega (arith, x, y);
-          each = every-of (IsBeyond p st n B d.reach) (IsBeyond p st m C d.reach) (beyond-more d.reach) s.receiver.beyond h.each;
+          each = every-of (IsBeyond p st n B E M d.reach) (IsBeyond p st m C F N d.reach) (beyond-more d.reach) s.receiver.beyond h.each;
         };
       }
 
@@ -191,34 +234,35 @@ acked-by (outgoing.takes_sack k gone) old new f = by (is_outdated k (flight_of o
 
 -- ## A session
 
--- it is a FORWARD-TSN without a name for the stream
-abbrev pub passes_by : ℕ → Made → Bool
-passes_by st (data_chunk d) = false
-passes_by st (forward_tsn f) = not (list_any (is_pair_of st) f.streams)
-
-none-passing : {A : Type 0} (q : A → Bool) (xs : List A) → filter q xs ≡ [] → list_any q xs ≡ false
-none-passing q [] e = refl
-none-passing q (x ∷ xs) e = by (q x) e (none-passing q xs)
-  where
-    by : (b : Bool) → (if b then x ∷ filter q xs else filter q xs) ≡ [] → (filter q xs ≡ [] → list_any q xs ≡ false) → (b || list_any q xs) ≡ false
-    by true f ih = cc
-    by false f ih = ih f
-
 module _ (st first : ℕ) where
   abbrev pub to : List Entry → ℕ → ℕ
   to sent k = begun_to st k sent
+
+  abbrev pub at : List Entry → ℕ → Bool
+  at sent k = is_at st k sent
+
+  abbrev pub Was : List Entry → ChunkPayloadData → Type 0
+  Was sent c = WasSent sent (data_of c)
 
   -- the SACK says nothing past the place
   abbrev pub IsUpTo : ℕ → Sack → Type 0
   IsUpTo place k = (x : ℕ) × (k.cumulative_tsn_ack ≡ tsn (base first) x) × (x ≤ place)
 
   abbrev pub IsTold : ℕ → List Entry → ℕ → Session → Type 0
-  IsTold n sent a s = (d : AreDue (base first) st n (to sent) a s.receiving) × Every (IsUpTo d.heard.place) s.sacks
+  IsTold n sent a s = (d : AreDue (base first) st n (to sent) (at sent) (Was sent) a s.receiving) × Every (IsUpTo d.heard.place) s.sacks
 
   upto-more : (a b : ℕ) (ks : List Sack) → a ≤ b → Every (IsUpTo a) ks → Every (IsUpTo b) ks
   upto-more a b ks le h = every-of (IsUpTo a) (IsUpTo b) (λ k x. let y = x.2 in (x.0, x.1, omega (arith, y, le))) ks h
 
   -- ## A call of the sender
+
+  same-at : (n : ℕ) (sent more : List Entry) → length sent ≡ n → IsOnceMore sent more → (k : ℕ) → k ≤ n → at more k ≡ at sent k
+  same-at n sent more long (inl e) k le = ap (is_at st k) e
+  same-at n sent more long (inr x) k le = ap (is_at st k) x.1 ∙ at-more st k x.0 sent (omega (arith, le, long))
+
+  was-more : (sent more : List Entry) → IsOnceMore sent more → (c : ChunkPayloadData) → Was sent c → Was more c
+  was-more sent more (inl e) c w = subst (λ xs. Was xs c) (sym e) w
+  was-more sent more (inr x) c w = subst (λ xs. Was xs c) (sym x.1) (sent-more x.0 sent (data_of c) w)
 
   same-to : (n : ℕ) (sent more : List Entry) → length sent ≡ n → IsOnceMore sent more → (k : ℕ) → k ≤ n → to more k ≡ to sent k
   same-to n sent more long (inl e) k le = ap (begun_to st k) e
@@ -232,23 +276,24 @@ module _ (st first : ℕ) where
       let m = n + distance (next_tsn old) (next_tsn new) in
       let b = x.spread.step.numbered.acked in
       let total = x.spread.step.numbered.total in
-      let at = x.spread.step.numbered.acked_is in
+      let is = x.spread.step.numbered.acked_is in
       let w = d.heard.within in
       let low = d.heard.least_is in
       let least : b ≤ d.heard.place = elim (acked-by call old new f) [
         | inl e ↦
             let same = same-place (base first) b i.step.numbered.acked (omega (arith, total, few)) (omega (arith, low, w, few))
-            (sym at ∙ e ∙ i.step.numbered.acked_is) in
+            (sym is ∙ e ∙ i.step.numbered.acked_is) in
             omega (arith, same, low)
         | inr k ↦
             let u = every-contained (IsUpTo d.heard.place) old.sacks k.0 k.1 t.1 in
             let le = u.2 in
-            let same = same-place (base first) b u.0 (omega (arith, total, few)) (omega (arith, le, w, few)) (sym at ∙ k.2 ∙ u.1) in
+            let same = same-place (base first) b u.0 (omega (arith, total, few)) (omega (arith, le, w, few)) (sym is ∙ k.2 ∙ u.1) in
             omega (arith, same, le)
       ] in
       subst (IsTold m x.more b) (sym f.after) (
-        are-more (base first) st n m (to sent) (to x.more) (omega arith) (same-to n sent x.more i.long x.once)
-            (to-up st n m x.more (omega arith)) i.step.numbered.acked b old.receiving d least,
+        are-more (base first) st n m (to sent) (to x.more) (at sent) (at x.more) (Was sent) (Was x.more) few (omega arith)
+            (same-to n sent x.more i.long x.once) (to-up st n m x.more (omega arith)) (same-at n sent x.more i.long x.once)
+            (was-more sent x.more x.once) i.step.numbered.acked b old.receiving d least,
         t.1,
       )
 
@@ -265,28 +310,60 @@ module _ (st first : ℕ) where
     near = let long = i.long in let all = to-all st n sent (omega (arith, long)) in let h = i.near st in omega (arith, all, h)
 
     -- a chunk that was made
-    step-of : (c : ChunkPayloadData) → Contains old.made (data_chunk (data_of c)) → IsStepOf (base first) st n (to sent) c
+    entry-of : (c : ChunkPayloadData) → Was sent c → IsEntry st first sent c
+    entry-of c w =
+        let q = i.holds.held.stands.queued in
+        made-entry ns first sent q.line q.indexed q.joined st c w
+
+    step-of : (c : ChunkPayloadData) → Contains old.made (data_chunk (data_of c)) → IsStepOf (base first) st n (to sent) (at sent) (Was sent) c
     step-of c in' =
-        let s = found-sent sent old.made (data_of c) i.holds.made in' in
-        let xs = s.2 in
-        let e = fragment (data_of c) s.0 s.1 in
+        let w = found-sent sent old.made (data_of c) i.holds.made in' in
+        let e = entry-of c w in
         let long = i.long in
-        let most = part-length sent (e ∷ xs) s.3 in
-        let number = (part-line ns first sent (e ∷ xs) s.3 i.holds.held.stands.queued.line).0.number in
-        let step = step-fragment st c s.0 s.1 xs (part-indexed sent (e ∷ xs) s.3 i.holds.held.stands.queued.indexed).0 in
-        let one-more : length xs + 1 ≡ length (e ∷ xs) = omega arith in
-        let here : to sent (length xs + 1) ≡ begun_on st (e ∷ xs) = ap (λ k. begun_to st k sent) one-more ∙ to-part st sent (e ∷ xs) s.3 in
-        let prev : to sent (length xs) ≡ begun_on st xs = to-part st sent xs (tail-part sent xs e s.3) in
+        let most = e.within in
         record {
-          before = length xs;
+          before = e.before;
           within = omega (arith, most, long);
-          is = omega (arith, number);
-          other = λ h. here ∙ step.other h ∙ sym prev;
-          own = λ h. let k = step.number h in (k.0, here ∙ sym k.1, k.2);
-          inner = λ h b.
-              let none = ap one (begins-inner st (data_of c) b) in
-              omega (arith, here, prev, none);
+          is = e.is;
+          made = w;
+          on = e.on;
+          other = e.step.other;
+          own = λ h. let k = e.step.number h in (k.0, sym k.1, k.2);
+          inner = λ h b. sym (e.inner b);
         }
+
+    -- what a set misses is of its message
+    abbrev Piece : ℕ → ChunkPayloadData → Type 0
+    Piece = IsPiece st first n few sent i.long i.holds.held.stands.queued.joined
+
+    piece-of : (j : ℕ) (c : ChunkPayloadData) → IsOf (base first) st n (to sent) (at sent) (Was sent) j c → Piece j c
+    piece-of j c o =
+        let e = entry-of c o.made in
+        let w = e.within in
+        let v = o.within in
+        let long = i.long in
+        let same = same-place (base first) (e.before + 1) (o.before + 1) (omega (arith, w, long, few)) (omega (arith, v, few)) (sym e.is ∙ o.is) in
+        record { entry = e; ordered = o.on; begun = ap (λ k. begun_to st k sent) same ∙ o.begun }
+
+    rising-of : (j low : ℕ) (cs : List ChunkPayloadData) → Rises (base first) st n (to sent) (at sent) (Was sent) j low cs
+        → Every (Piece j) cs × Rising (base first) n few low cs
+    rising-of j low [] r = (tt, tt)
+    rising-of j low (c ∷ cs) r =
+        let le = r.1 in
+        let ih = rising-of j (r.0.before + 1) cs r.2 in (
+          (piece-of j c r.0, ih.0),
+          (record { place = r.0.before + 1; past = omega (arith, le); within = r.0.within; is = r.0.is }, ih.1),
+        )
+
+    missed : (m j : ℕ) (cs : List ChunkPayloadData) → m ≤ n → Fits (base first) st n (to sent) (at sent) (Was sent) j cs
+        → misses (tsn (base first) m) cs ≡ true
+        → (z : ℕ) × (z ≤ m) × (at sent z ≡ true) × (to sent z ≡ j + 1) × (list_any (has_tsn (tsn (base first) z)) cs ≡ false)
+    missed m j cs le r e =
+        let x = rising-of j 0 cs r in
+        let g = missing (base first) n few (Piece j) m le cs x.0 x.1 e in
+        let upto = g.upto in
+        let of = missing-of st first n few sent i.long i.holds.held.stands.queued.joined j g.place (omega (arith, upto, le)) g.beside in
+        (g.place, g.upto, of.0, of.1, g.absent)
 
     refused : (f : _) (r : Reception) → skip_refusal f r ≡ None → (names_too_far f r ≡ false) × (names_closed f r ≡ false)
     refused f r e = by (names_closed f r) refl (names_too_far f r) refl e
@@ -298,22 +375,25 @@ module _ (st first : ℕ) where
         by false g true h k = absurd (none-some NamedSsnTooFar (sym k))
         by false g false h k = (h, g)
 
-    module _ (new : Session) (named : list_any (passes_by st) old.made ≡ false) (d : AreDue (base first) st n (to sent) acked old.receiving) where
+    module _ (new : Session) (d : AreDue (base first) st n (to sent) (at sent) (Was sent) acked old.receiving) where
+      abbrev Old : ℕ → Type 0
+      Old = Came (base first) st n (to sent) (at sent) (Was sent) old.receiving.receiver.cumulative_tsn old.receiving.receiver.beyond
+
       abbrev Now : Type 0
-      Now = AreDue (base first) st n (to sent) d.heard.place new.receiving
+      Now = AreDue (base first) st n (to sent) (at sent) (Was sent) d.heard.place new.receiving
 
       same-streams : new.receiving.read ≡ old.receiving.read → new.receiving.receiver.streams ≡ old.receiving.receiver.streams
           → new.receiving.receiver.cumulative_tsn ≡ old.receiving.receiver.cumulative_tsn
           → new.receiving.receiver.beyond ≡ old.receiving.receiver.beyond → Now
       same-streams read streams cumulative beyond =
-          quiet (base first) st n (to sent) few grows acked old.receiving new.receiving d read
-          (subst (λ ls. DueOn (base first) st n (to sent) d.k d.reach (find (has_number st) ls)) (sym streams) d.due) cumulative beyond
+          quiet (base first) st n (to sent) (at sent) (Was sent) few grows acked old.receiving new.receiving d read
+          (subst (λ ls. DueOn (base first) st n (to sent) (at sent) (Was sent) Old d.k d.reach (find (has_number st) ls)) (sym streams) d.due) cumulative beyond
 
       due-after : (call : ReceiverCall) → ReceiverFollows call old new → Now
       due-after (incoming.opens stream) f =
-          quiet (base first) st n (to sent) few grows acked old.receiving new.receiving d f.step.read
-          (subst (λ (r : Reception). DueOn (base first) st n (to sent) d.k d.reach (stream_of st r)) (sym f.step.receiver.1)
-          (opened-due (base first) st n (to sent) few grows d.k d.reach stream old.receiving.receiver.max_message_size
+          quiet (base first) st n (to sent) (at sent) (Was sent) few grows acked old.receiving new.receiving d f.step.read
+          (subst (λ (r : Reception). DueOn (base first) st n (to sent) (at sent) (Was sent) Old d.k d.reach (stream_of st r)) (sym f.step.receiver.1)
+          (opened-due (base first) st n (to sent) (at sent) (Was sent) few grows Old d.k d.reach stream old.receiving.receiver.max_message_size
           old.receiving.receiver.streams d.due))
           (ap (λ (r : Reception). r.cumulative_tsn) f.step.receiver.1) (ap (λ (r : Reception). r.beyond) f.step.receiver.1)
       due-after (incoming.takes c Repeat) f =
@@ -321,22 +401,21 @@ module _ (st first : ℕ) where
           (ap (λ (r : Reception). r.beyond) f.step.receiver)
       due-after (incoming.takes c (New told)) f =
           let fresh = fresh-new c.tsn told old.receiving.receiver f.accepted.1 in
-          taken-due (base first) st n (to sent) few grows acked near c told old.receiving new.receiving d (step-of c f.handed) f.step.receiver f.step.read
+          taken-due (base first) st n (to sent) (at sent) (Was sent) few grows acked near c told old.receiving new.receiving d (step-of c f.handed) f.step.receiver f.step.read
           fresh (not-far c old.receiving.receiver fresh f.accepted.0)
       due-after (incoming.follows g) f =
           let x = every-contained (IsMadeNaming st (base first) acked sent) old.made (forward_tsn g) f.handed (i.names st) in
           let r = refused g old.receiving.receiver f.accepted in
           let w = x.within in
           let long = i.long in
-          let says : not (list_any (is_pair_of st) g.streams) ≡ false = fails (not (list_any (is_pair_of st) g.streams))
-          (λ h. not_both (sym named ∙ list_any_at (passes_by st) old.made f.handed.0 (forward_tsn g) f.handed.1 (ap (passes_by st) f.handed.2 ∙ h))) in
-          followed-due (base first) st n (to sent) few grows acked near g x.place old.receiving new.receiving d (omega (arith, w, long)) x.is f.step.receiver
-          f.step.read (elim x.tells [ inl t ↦ inl (t.0, t.1) | inr t ↦ inr t ]) r.0 r.1 (λ none. absurd (not_both (sym says ∙ ap not (none-passing (is_pair_of st) g.streams none))))
+          followed-due (base first) st n (to sent) (at sent) (Was sent) few grows acked near g x.place old.receiving new.receiving d (omega (arith, w, long)) x.is f.step.receiver
+          f.step.read x.tells r.0 r.1
+          (λ j cs fits e. missed x.place j cs (omega (arith, w, long)) fits e)
       due-after (incoming.reports credit) f =
           same-streams f.step.read (ap (λ (r : Reception). r.streams) f.step.receiver) (ap (λ (r : Reception). r.cumulative_tsn) f.step.receiver)
           (ap (λ (r : Reception). r.beyond) f.step.receiver)
       due-after (incoming.reads stream) f =
-          read-on-due (base first) st n (to sent) few grows acked stream old.receiving new.receiving d (ap (λ (r : Reception). r.streams) f.step.receiver)
+          read-on-due (base first) st n (to sent) (at sent) (Was sent) few grows acked stream old.receiving new.receiving d (ap (λ (r : Reception). r.streams) f.step.receiver)
           (ap (λ (r : Reception). r.cumulative_tsn) f.step.receiver) (ap (λ (r : Reception). r.beyond) f.step.receiver) f.step.read
 
   -- the SACKs that were made
@@ -349,11 +428,11 @@ module _ (st first : ℕ) where
   told-after place more old (incoming.reads stream) is le h = upto-more place more old.sacks le h
 
   receiver-told : (n : ℕ) (call : ReceiverCall) (old new : Session) (ns : List Numbered) (sent : List Entry) (i : IsSpread first n old ns sent)
-      → (few : n < 2 ^ 31) → list_any (passes_by st) old.made ≡ false → (f : ReceiverFollows call old new) → (spread : IsSpread first n new ns sent)
+      → (few : n < 2 ^ 31) → (f : ReceiverFollows call old new) → (spread : IsSpread first n new ns sent)
       → IsTold n sent i.step.numbered.acked old → IsTold n sent spread.step.numbered.acked new
-  receiver-told n call old new ns sent i few named f spread t =
+  receiver-told n call old new ns sent i few f spread t =
       let d = t.0 in
-      let e = due-after n old ns sent i few new named d call f in
+      let e = due-after n old ns sent i few new d call f in
       let a = i.step.numbered.acked in
       let b = spread.step.numbered.acked in
       let total = i.step.numbered.total in
@@ -362,7 +441,8 @@ module _ (st first : ℕ) where
       (sym spread.step.numbered.acked_is ∙ ap (λ (s : Session). s.sending.sender.flight.acked_tsn) f.after ∙ i.step.numbered.acked_is) in
       let low = d.heard.least_is in
       let up = e.heard.least_is in (
-        are-more (base first) st n n (to sent) (to sent) (omega arith) (λ k le. refl) (omega arith) d.heard.place b new.receiving e
+        are-more (base first) st n n (to sent) (to sent) (at sent) (at sent) (Was sent) (Was sent) few (omega arith) (λ k le. refl) (omega arith)
+            (λ k le. refl) (λ c w. w) d.heard.place b new.receiving e
             (omega (arith, same, low, up)),
         subst (Every (IsUpTo e.heard.place)) (sym (ap (λ (s : Session). s.sacks) f.after))
             (told-after d.heard.place e.heard.place old call d.heard.is up t.1),
@@ -373,7 +453,7 @@ module _ (st first : ℕ) where
 -- on each stream that each FORWARD-TSN names, what is read is in turn
 pub record IsUnwrapped (first n : ℕ) (s : Session) (ns : List Numbered) (sent : List Entry) : Type 0 where
   pub spread : IsSpread first n s ns sent
-  pub told : (st : ℕ) → list_any (passes_by st) s.made ≡ false → IsTold st first n sent spread.step.numbered.acked s
+  pub told : (st : ℕ) → IsTold st first n sent spread.step.numbered.acked s
 
 -- the writes and entries of a session
 pub record HasUnwrapped (first n : ℕ) (s : Session) : Type 0 where
@@ -389,9 +469,7 @@ sender-unwrapped first n call old new ns sent i few f =
       x.more,
       record {
         spread = x.spread;
-        told = λ st named. sender-told st first n call old new ns sent i.spread few f x (i.told st (fails (list_any (passes_by st) old.made)
-            (λ h. not_both (sym named ∙ ap (λ (s : Session). list_any (passes_by st) s.made) f.after
-            ∙ more-made (passes_by st) call old.sending.sender old.made h))));
+        told = λ st. sender-told st first n call old new ns sent i.spread few f x (i.told st);
       },
     )
 
@@ -401,9 +479,7 @@ receiver-unwrapped first n call old new ns sent few f i =
     let spread = receiver-spreads first n call old new ns sent few f i.spread in
     record {
       spread = spread;
-      told = λ st named.
-          let before = sym (ap (λ (s : Session). list_any (passes_by st) s.made) f.after) ∙ named in
-          receiver-told st first n call old new ns sent i.spread few before f spread (i.told st before);
+      told = λ st. receiver-told st first n call old new ns sent i.spread few f spread (i.told st);
     }
 
 unwrapped-after : (first n : ℕ) (cs : List Call) (old new : Session) (ns : List Numbered) (sent : List Entry) (r : RunsTo old cs new)
@@ -434,11 +510,11 @@ unwrapped first size max most limits cs s small some r few =
     subst (λ k. HasUnwrapped first k s) {x = 0 + n} {y = n} (omega arith)
     (unwrapped-after first 0 cs (at_start first size max most limits) s [] [] r (omega (arith, few)) (record {
       spread = start;
-      told = λ st named. (
+      told = λ st. (
         record {
           k = 0;
           reach = 0;
-          due = (refl, refl);
+          due = (refl, refl, λ y le h. absurd (let z : y ≡ 0 = omega (arith, le) in not_both h.0));
           turns = tt;
           most = omega arith;
           heard = record { place = 0; least_is = omega (arith, total); within = omega arith; is = omega arith; covered = omega arith; each = tt };

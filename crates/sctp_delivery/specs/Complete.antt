@@ -12,7 +12,6 @@ use Rattle.sctp_receiver.specs.ReceiverRuns.{fragments_read}
 use Rattle.sctp_sender.specs.Sender.{Transmission}
 use Rattle.sctp_serial.specs.DataChunks.{is_on}
 use Rattle.sctp_delivery.specs.Messages.{StandAt}
-use Rattle.sctp_delivery.specs.Order.{SsnsLast}
 use Rattle.sctp_delivery.specs.ReceiverCalls as incoming
 use Rattle.sctp_delivery.specs.ReceiverCalls.{ReceiverCall}
 use Rattle.sctp_delivery.specs.Sacks.{tsns_given}
@@ -112,9 +111,10 @@ reads_nothing r = list_all (λ l. not (is_some (message_read l.queue.held))) r.s
 abbrev pub is_exhausted : Transmission → Reception → Bool
 is_exhausted t r = is_all_acknowledged t && reads_nothing r
 
--- the numbers of each stream last
+-- at most 2^15 writes on each stream, so that no stream sequence number comes round (RFC 1982)
 abbrev pub AreFewWrites : Session → Type 0
-AreFewWrites s = (stream : ℕ) → SsnsLast stream s.written
+AreFewWrites s =
+    (stream : ℕ) → length (filter (λ w. w.stream == stream) s.written) ≤ 2 ^ 15
 
 -- then each write was read exactly once
 abbrev pub IsAllReadInTheEnd : Session → Type 0

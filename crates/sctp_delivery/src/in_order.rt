@@ -11,8 +11,7 @@ use sctp_receiver::receiver::Receiver;
 use sctp_receiver::receiver::refusal::ReceiverRefusal;
 
 /// Reads the next message of a stream. In whatever session of fewer than 2^31 TSNs the receiver stands: what it answers is a write of
-/// its own; and where it is ordered, and the stream has at most 2^15 writes or is named by each FORWARD-TSN that was made, it was written
-/// later than each ordered message of the stream that was read before.
+/// its own; and where it is ordered, it was written later than each ordered message of the stream that was read before.
 pub fn read_in_order(
     receiver: &mut Receiver,
     stream: u16,

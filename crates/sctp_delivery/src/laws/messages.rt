@@ -26,9 +26,8 @@ pub fn no_message_is_read_twice()
     ensures writes { WhileFewTsns AreWritesOfTheirOwn }
 {}
 
-/// The ordered messages of a stream are read in the order of their writes, each a write at a place of its own, whatever is skipped: where
-/// the stream has at most 2^15 writes, or each FORWARD-TSN that was made names it, however many writes there are. So it is in sessions
-/// that give out fewer than 2^31 TSNs.
+/// The ordered messages of a stream are read in the order of their writes, each a write at a place of its own, whatever is skipped and
+/// however many there are. So it is in sessions that give out fewer than 2^31 TSNs.
 pub fn messages_are_read_in_order()
     ensures { WhileFewTsns AreReadInOrder }
 {}
