@@ -1,6 +1,6 @@
 -- In a reliable session with few writes on each stream, where nothing waits or is in flight and nothing is to be read, nothing is held.
-use Rattle.std.proofs.Common.{◌≡◌, ℕ, zero, suc, ◌+◌, ◌-◌, ◌<◌, ◌≤◌, ◌%◌, ◌^◌, Bool, true, false, not, List, [], ◌∷◌, ◌++◌, length, Option, Some, None, is_some, ◌⊎◌, inl, inr, refl, ap, sym, subst, ◌∙◌, arith}
-use Rattle.std.specs.Prelude.{⊤, All, Contains, find, ◌==◌, ◌&&◌, ◌||◌, if◌then◌else◌, nat_le, nat_lt, slice_index_or}
+use Rattle.std.proofs.Common.{◌≡◌, ℕ, zero, suc, ◌+◌, ◌-◌, ◌<◌, ◌≤◌, ◌%◌, ◌^◌, Bool, true, false, not, List, [], ◌∷◌, ◌++◌, length, Option, Some, None, is_some, inl, inr, refl, ap, sym, subst, ◌∙◌, arith}
+use Rattle.std.specs.Prelude.{find, ◌==◌, ◌&&◌, if◌then◌else◌, nat_le, nat_lt, slice_index_or}
 use Rattle.std.specs.List.{filter, list_all, list_any, sum_by}
 use Rattle.std.proofs.lemmas.Bool.{cases_lt, eq-eqb}
 use Rattle.std.proofs.lemmas.Bool.Decides.{nat_tests}
@@ -9,7 +9,7 @@ use Rattle.std.proofs.lemmas.List.Sums.{sum_by-cons}
 use Rattle.std.proofs.lemmas.Option.{none-some}
 use Rattle.sctp_list_lemmas.specs.Serial.{at_or_before16, distance}
 use Rattle.sctp_list_lemmas.proofs.Cases.{negated, or-split, same-is, same-yes, some-same}
-use Rattle.sctp_list_lemmas.proofs.More.{and, both, fails, not_both}
+use Rattle.sctp_list_lemmas.proofs.More.{and, both, not_both}
 use Rattle.sctp_list_lemmas.proofs.Round.{tsn}
 use Rattle.sctp_list_lemmas.proofs.Wraps.{at_or_before16-index}
 use Rattle.sctp_data.specs.declared.chunk.chunk_payload_data.ChunkPayloadData.{ChunkPayloadData}
@@ -24,17 +24,17 @@ use Rattle.sctp_receiver.specs.declared.receiver.inbound_streams.InboundStream.{
 use Rattle.sctp_receiver.specs.declared.receiver.limits.Limits.{Limits}
 use Rattle.sctp_receiver.specs.Inbound.{has_number}
 use Rattle.sctp_receiver.specs.Receiver.{Reception, stream_of}
-use Rattle.sctp_receiver.specs.ReceiverRuns.{Message, fragments_read, is_one_message}
+use Rattle.sctp_receiver.specs.ReceiverRuns.{Message, fragments_read}
 use Rattle.sctp_receiver.proofs.Handed.{held_weight}
 use Rattle.sctp_receiver.proofs.Weights.{set_weight}
 use Rattle.sctp_serial.specs.DataChunks.{has_tsn, is_on}
-use Rattle.sctp_delivery.specs.Complete.{AfterEachReliableSession, EachIsReadOnce, IsAllReadInTheEnd, fragments_held, fragments_of_sets, fragments_on, is_all_acknowledged, is_reliable, reads_nothing}
+use Rattle.sctp_delivery.specs.Complete.{AfterEachReliableSession, IsAllReadInTheEnd, fragments_held, fragments_of_sets, fragments_on, is_all_acknowledged, is_reliable, reads_nothing}
 use Rattle.sctp_delivery.specs.Sacks.{are_apart, tsns_given}
 use Rattle.sctp_delivery.specs.SenderCalls.{Write}
 use Rattle.sctp_delivery.specs.Session.{Call, RunsTo, Session, at_start}
 use Rattle.sctp_delivery.proofs.Calls.{forgotten}
-use Rattle.sctp_delivery.proofs.Chains.{EndsWith, IsChained, begun_on, bit, opens_on, writes_on}
-use Rattle.sctp_delivery.proofs.Delivered.{EachSent, found-sent}
+use Rattle.sctp_delivery.proofs.Chains.{EndsWith, IsChained, bit, opens_on, writes_on}
+use Rattle.sctp_delivery.proofs.Delivered.{found-sent}
 use Rattle.sctp_delivery.proofs.EachRead.{BegunIn, IsIdle, begun-in, each-once-where, idle-of, taken, complete-messages}
 use Rattle.sctp_delivery.proofs.Every.{Every, every-at, every-of, every-of-all, one-of}
 use Rattle.sctp_delivery.proofs.Kept as kept

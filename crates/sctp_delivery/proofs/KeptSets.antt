@@ -40,10 +40,6 @@ pub rise-wider : (low top more : ℕ) (ss : List ChunkSet) → top ≤ more → 
 rise-wider low top more [] le r = tt
 rise-wider low top more (s ∷ ss) le r = let b = r.1.1 in (r.0, (r.1.0, omega (arith, b, le), r.1.2), rise-wider (r.0 + 1) top more ss le r.2)
 
-rise-from : (low less top : ℕ) (ss : List ChunkSet) → less ≤ low → Rise low top ss → Rise less top ss
-rise-from low less top [] le r = tt
-rise-from low less top (s ∷ ss) le r = let a = r.1.0 in (r.0, (omega (arith, a, le), r.1.1, r.1.2), r.2)
-
 -- ## A fragment comes
 
 -- where it is not too far on, it is of such an index

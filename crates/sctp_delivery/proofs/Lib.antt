@@ -39,8 +39,7 @@ pub mod SackLaws
 pub mod SpreadCalls
 pub mod ReadOnce
 pub mod OnceWritten
-pub mod OrderedReads
-pub mod OrderedCalls
+pub mod OrderedMessages
 pub mod OrderedLaw
 pub mod OrderedNext
 pub mod ShortNumbers

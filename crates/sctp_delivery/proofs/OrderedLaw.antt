@@ -1,28 +1,20 @@
 -- The ordered messages of a stream are read in the order of their writes.
-use Rattle.std.proofs.Common.{◌≡◌, ℕ, zero, suc, ◌+◌, ◌^◌, ◌<◌, ◌≤◌, Bool, true, false, not, List, [], ◌∷◌, ◌⊎◌, inl, inr, refl, ap, sym, subst, ◌∙◌, arith}
-use Rattle.std.specs.Prelude.{All, AllPairs, ◌==◌, ◌&&◌, ◌||◌, if◌then◌else◌, nat_le}
-use Rattle.std.specs.List.{list_all, list_any}
-use Rattle.std.proofs.lemmas.Bool.Decides.{nat_tests}
+use Rattle.std.proofs.Common.{◌≡◌, ℕ, zero, suc, ◌<◌, ◌≤◌, true, false, not, List, [], ◌∷◌, ◌⊎◌, inl, inr, ap, sym, subst, ◌∙◌, arith}
+use Rattle.std.specs.Prelude.{All, ◌==◌}
+use Rattle.std.specs.List.{list_all}
 use Rattle.sctp_list_lemmas.proofs.Cases.{negated, same-is}
-use Rattle.sctp_list_lemmas.proofs.Edits.{pairs_cons}
-use Rattle.sctp_list_lemmas.proofs.More.{and, both, not_both}
+use Rattle.sctp_list_lemmas.proofs.More.{and, both}
 use Rattle.sctp_data.specs.declared.chunk.chunk_payload_data.ChunkPayloadData.{ChunkPayloadData}
-use Rattle.sctp_data.specs.declared.chunk.chunk_forward_tsn.ChunkForwardTsnStream.{ChunkForwardTsnStream}
-use Rattle.sctp_data.specs.PayloadData.{Data, data_of}
+use Rattle.sctp_data.specs.PayloadData.{data_of}
 use Rattle.sctp_receiver.specs.ReceiverRuns.{Message}
-use Rattle.sctp_serial.specs.DataChunks.{is_on}
-use Rattle.sctp_delivery.specs.Order.{is_ordered_on, ordered_places}
-use Rattle.sctp_delivery.specs.SenderCalls.{Made, data_chunk, forward_tsn}
+use Rattle.sctp_delivery.specs.Order.{is_ordered_on}
 use Rattle.sctp_delivery.proofs.Begun.{AreOnce}
 use Rattle.sctp_delivery.proofs.Delivered.{IsReadOf}
-use Rattle.sctp_delivery.proofs.OnceWritten.{EachRead, one-first, places}
-use Rattle.sctp_delivery.proofs.OrderedCalls.{AreInTurn, is_in_order, is_large, passed}
-use Rattle.sctp_delivery.proofs.OrderedEntries.{AreIndexed, AreRising, IsUnder, begun_on, part-fewer, part-indexed}
-use Rattle.sctp_delivery.proofs.OrderedNames.{AreNamed}
+use Rattle.sctp_delivery.proofs.OnceWritten.{one-first}
+use Rattle.sctp_delivery.proofs.OrderedEntries.{AreRising, IsUnder, begun_on, part-fewer}
 use Rattle.sctp_delivery.proofs.OrderedPlaces.{AreNumbered, place-at}
-use Rattle.sctp_delivery.proofs.OrderedReads.{first_number, starts_ordered}
-use Rattle.sctp_delivery.proofs.Senders.{AreSent}
 use Rattle.sctp_delivery.proofs.Sent.{Entry, IsPart, Numbered, fragment, part-itself, terminal}
+use Rattle.sctp_delivery.proofs.OrderedMessages.{is_in_order, starts_ordered}
 
 -- ## Parts of the line
 
@@ -45,48 +37,6 @@ parts-meet (x ∷ xs) ys zs (inl p) (inl q) = inl (subst (λ t. IsPart t zs) (q 
 parts-meet (x ∷ xs) ys zs (inl p) (inr q) = inr (subst (IsPart zs) (sym p) (inr q))
 parts-meet (x ∷ xs) ys zs (inr p) (inl q) = inl (subst (IsPart ys) (sym q) (inr p))
 parts-meet (x ∷ xs) ys zs (inr p) (inr q) = parts-meet xs ys zs p q
-
--- ## Numbers below 2^15
-
-module _ (sent : List Entry) (indexed : AreIndexed sent) (st : ℕ) (few : begun_on st sent ≤ 2 ^ 15) where
-  -- on the stream the number of an entry is how many messages were begun before its own
-  number-is : (d : Data) (w : Numbered) (after : List ℕ) (xs : List Entry) → IsPart (fragment d w after ∷ xs) sent → d.unordered ≡ false
-      → d.stream_identifier ≡ st
-      → (d.stream_sequence_number + 1 ≡ begun_on d.stream_identifier (fragment d w after ∷ xs)) × (d.stream_sequence_number < 2 ^ 15)
-  number-is d w after xs p k on =
-      let i = (part-indexed sent (fragment d w after ∷ xs) p indexed).0 k in
-      let n = i.1 in
-      let e = i.2 in
-      let le = part-fewer d.stream_identifier sent (fragment d w after ∷ xs) p in
-      let most = subst (λ s. begun_on s sent ≤ 2 ^ 15) (sym on) few in
-      (omega (arith, n, e, le, most), omega (arith, n, e, le, most))
-
-  small-names : (ns : List ChunkForwardTsnStream) → AreNamed sent ns → list_any (λ n. (n.identifier == st) && nat_le (2 ^ 15) n.sequence) ns ≡ false
-  small-names [] h = refl
-  small-names (n ∷ ns) h = ap (λ b. b || list_any (λ m. (m.identifier == st) && nat_le (2 ^ 15) m.sequence) ns) (here (n.identifier == st) refl)
-      ∙ small-names ns h.1
-    where
-      here : (b : Bool) → (n.identifier == st) ≡ b → (b && nat_le (2 ^ 15) n.sequence) ≡ false
-      here false on = refl
-      here true on =
-          let k = h.0.1 in
-          let e = h.0.2 in
-          let most = subst (λ s. begun_on s sent ≤ 2 ^ 15) (sym (same-is n.identifier st on)) few in
-          let lt : n.sequence < 2 ^ 15 = omega (arith, k, e, most) in
-          grind (arith, nat_tests, lt)
-
-  pub small-made : (ms : List Made) → AreSent sent ms → list_any (is_large st) ms ≡ false
-  small-made [] a = refl
-  small-made (data_chunk d ∷ ms) a =
-      ap (λ b. b || list_any (is_large st) ms) (here (d.stream_identifier == st) refl d.unordered refl) ∙ small-made ms a.1
-    where
-      here : (a' : Bool) → (d.stream_identifier == st) ≡ a' → (b : Bool) → d.unordered ≡ b
-          → (a' && (not b && nat_le (2 ^ 15) d.stream_sequence_number)) ≡ false
-      here false on b k = refl
-      here true on true k = refl
-      here true on false k =
-          let lt = (number-is d a.0.0 a.0.1 a.0.2 a.0.3 k (same-is d.stream_identifier st on)).1 in grind (arith, nat_tests, lt)
-  small-made (forward_tsn f ∷ ms) a = ap (λ b. b || list_any (is_large st) ms) (small-names f.streams a.0) ∙ small-made ms a.1
 
 -- ## Messages
 
@@ -131,75 +81,3 @@ module _ (ns : List Numbered) (sent : List Entry) (once : AreOnce sent) (rising 
       let le = either (parts-meet sent (up_to ns sent m x) (up_to ns sent o y) x.part y.part) in
       let ne = differ in
       omega (arith, i, j, le, ne)
-
-module _ (ns : List Numbered) (sent : List Entry) (once : AreOnce sent) (indexed : AreIndexed sent) (rising : AreRising sent)
-    (numbered : AreNumbered ns) (st : ℕ) (few : begun_on st sent ≤ 2 ^ 15) where
-  -- a greater number is that of a greater index
-  by-number : (m o : Message) (x : IsReadOf ns sent m) (y : IsReadOf ns sent o) → x.chunk.unordered ≡ false → y.chunk.unordered ≡ false
-      → x.chunk.stream_identifier ≡ st → y.chunk.stream_identifier ≡ st → y.chunk.stream_sequence_number < x.chunk.stream_sequence_number
-      → x.written.0 < y.written.0
-  by-number m o x y kx ky sx sy lt =
-      let a = (number-is sent indexed st few (data_of x.chunk) x.numbered x.after x.entries x.part kx sx).0 in
-      let b = (number-is sent indexed st few (data_of y.chunk) y.numbered y.after y.entries y.part ky sy).0 in
-      let p = ap (λ s. begun_on s (up_to ns sent m x)) sx in
-      let q = ap (λ s. begun_on s (up_to ns sent o y)) sy in
-      before ns sent once rising numbered st m o x y kx ky (omega (arith, a, b, p, q, lt))
-      (λ it. let n = ap (λ (d : Data). d.stream_sequence_number) it in omega (arith, n, lt))
-
-  -- its first chunk is on the stream
-  chunk-on : (m : Message) (x : IsReadOf ns sent m) → m.stream ≡ st → list_all (is_on m.stream) m.fragments ≡ true → x.chunk.stream_identifier ≡ st
-  chunk-on m x same on =
-      same-is x.chunk.stream_identifier m.stream
-      (both (is_on m.stream x.chunk) (list_all (is_on m.stream) x.others) (subst (λ cs. list_all (is_on m.stream) cs ≡ true) x.fragments on)).0 ∙ same
-
-  abbrev pub AreOn : List Message → Type 0
-  AreOn ms = list_all (λ o. list_all (is_on o.stream) o.fragments) ms ≡ true
-
-  -- an ordered message, and those that were read before it
-  module _ (m : Message) (x : IsReadOf ns sent m) (kx : x.chunk.unordered ≡ false) (sx : x.chunk.stream_identifier ≡ st) where
-    away : (ms : List Message) (e : EachRead ns sent once ms) → AreOn ms → AreInTurn st ms → passed st ms ≤ x.chunk.stream_sequence_number
-        → All (λ q. x.written.0 < q) (ordered_places st ms (places ns sent once ms e))
-    away [] e on t le = λ k d lt. absurd (omega (arith, lt))
-    away (o ∷ os) e on t le = by (is_ordered_on st o) refl (is_in_order st o) refl le t.0 (away os e.1 ons.1 t.1)
-      where
-        ons : (list_all (is_on o.stream) o.fragments ≡ true) × AreOn os
-        ons = both (list_all (is_on o.stream) o.fragments) (list_all (λ p. list_all (is_on p.stream) p.fragments) os) on
-
-        here : is_ordered_on st o ≡ true → first_number o.fragments + 1 ≤ x.chunk.stream_sequence_number → x.written.0 < e.0.written.0
-        here h less =
-            let y = e.0 in
-            let s = starts st o y.chunk y.others y.fragments h in
-            let n = ap first_number y.fragments in
-            by-number m o x y kx s.1 sx (chunk-on o y s.0 ons.0) (omega (arith, less, n))
-
-        by : (b : Bool) → is_ordered_on st o ≡ b → (c : Bool) → is_in_order st o ≡ c
-            → (if c then first_number o.fragments + 1 else passed st os) ≤ x.chunk.stream_sequence_number
-            → (c ≡ true → passed st os ≤ first_number o.fragments)
-            → (passed st os ≤ x.chunk.stream_sequence_number → All (λ q. x.written.0 < q) (ordered_places st os (places ns sent once os e.1)))
-            → All (λ q. x.written.0 < q) (if b then e.0.written.0 ∷ ordered_places st os (places ns sent once os e.1) else ordered_places st os
-            (places ns sent once os e.1))
-        by true h false g less turn ih = absurd (not_both (sym g ∙ (starts st o e.0.chunk e.0.others e.0.fragments h).2))
-        by true h true g less turn ih = all-cons (λ q. x.written.0 < q) e.0.written.0 (ordered_places st os (places ns sent once os e.1))
-            (here h less) (ih (let u = turn refl in omega (arith, u, less)))
-        by false h true g less turn ih = ih (let u = turn refl in omega (arith, u, less))
-        by false h false g less turn ih = ih less
-
-  pub ordered : (ms : List Message) (e : EachRead ns sent once ms) → AreOn ms → AreInTurn st ms
-      → AllPairs (λ p q. p < q) (ordered_places st ms (places ns sent once ms e))
-  ordered [] e on t = λ i j d lt short. absurd (omega (arith, short))
-  ordered (m ∷ ms) e on t = by (is_ordered_on st m) refl (ordered ms e.1 ons.1 t.1)
-    where
-      ons : (list_all (is_on m.stream) m.fragments ≡ true) × AreOn ms
-      ons = both (list_all (is_on m.stream) m.fragments) (list_all (λ p. list_all (is_on p.stream) p.fragments) ms) on
-
-      by : (b : Bool) → is_ordered_on st m ≡ b → AllPairs (λ p q. p < q) (ordered_places st ms (places ns sent once ms e.1))
-          → AllPairs (λ p q. p < q) (if b then e.0.written.0 ∷ ordered_places st ms (places ns sent once ms e.1) else ordered_places st ms
-          (places ns sent once ms e.1))
-      by false h ih = ih
-      by true h ih =
-          let x = e.0 in
-          let s = starts st m x.chunk x.others x.fragments h in
-          let n = ap first_number x.fragments in
-          let u = t.0 s.2 in
-          pairs_cons (λ p q. p < q) x.written.0 (ordered_places st ms (places ns sent once ms e.1))
-          (away m x s.1 (chunk-on m x s.0 ons.0) ms e.1 ons.1 t.1 (omega (arith, n, u))) ih

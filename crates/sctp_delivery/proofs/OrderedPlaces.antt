@@ -1,10 +1,8 @@
 -- The place of a write among the writes, from where it stands in their list.
-use Rattle.std.proofs.Common.{◌≡◌, ℕ, zero, suc, ◌+◌, ◌<◌, Bool, true, false, List, [], ◌∷◌, length, refl, ap, arith}
-use Rattle.std.specs.Prelude.{⊤, ◌==◌, if◌then◌else◌, slice_index_or}
-use Rattle.std.specs.List.{filter}
+use Rattle.std.proofs.Common.{◌≡◌, ℕ, zero, suc, ◌+◌, ◌<◌, List, [], ◌∷◌, length, refl, ap, arith}
+use Rattle.std.specs.Prelude.{⊤, slice_index_or}
 use Rattle.sctp_delivery.specs.SenderCalls.{SenderCall, abandons, expires, expires_late, expires_rexmit, expires_tail, forwards, forwards_within, marks, misses, opens, resends, reserves, sends, sets_low, sets_mode, sets_size, starts, takes_sack, writes}
-use Rattle.sctp_delivery.proofs.Calls.{forget, forgotten, numbered_after}
-use Rattle.sctp_delivery.proofs.OrderedEntries.{one, written_on}
+use Rattle.sctp_delivery.proofs.Calls.{numbered_after}
 use Rattle.sctp_delivery.proofs.Sent.{Numbered}
 
 -- the writes, the last one first, have the numbers of their places
@@ -38,14 +36,3 @@ pub place-at : (ns : List Numbered) (k : ℕ) (n : Numbered) → AreNumbered ns 
 place-at [] k n h lt e = absurd (omega (arith, lt))
 place-at (w ∷ ws) zero n h lt e = let same = ap (λ (x : Numbered). x.place) e in let p = h.0 in omega (arith, same, p)
 place-at (w ∷ ws) (suc k) n h lt e = let ih = place-at ws k n h.1 (omega (arith, lt)) e in omega (arith, ih)
-
--- so many writes are on a stream
-pub written-few : (s : ℕ) (ns : List Numbered) → length (filter (λ w. w.stream == s) (forgotten ns)) ≡ written_on s ns
-written-few s [] = refl
-written-few s (n ∷ ns) = by (n.stream == s) (written-few s ns)
-  where
-    by : (b : Bool) → length (filter (λ w. w.stream == s) (forgotten ns)) ≡ written_on s ns
-        → length (if b then forget n ∷ filter (λ w. w.stream == s) (forgotten ns) else filter (λ w. w.stream == s) (forgotten ns)) ≡ one b +
-        written_on s ns
-    by true ih = omega (arith, ih)
-    by false ih = omega (arith, ih)

@@ -1,12 +1,12 @@
 -- Chunks in the order of their places: one more put in, some taken out, and a complete message among them.
 use Rattle.std.proofs.Common.{◌≡◌, ℕ, zero, suc, ◌+◌, ◌-◌, ◌<◌, ◌≤◌, ◌%◌, ◌^◌, Bool, true, false, List, [], ◌∷◌, ◌++◌, length, take, drop, inl, inr, refl, ap, sym, subst, ◌∙◌, arith}
-use Rattle.std.specs.Prelude.{⊤, IsTrue, All, AllPairs, ◌==◌, ◌||◌, if◌then◌else◌, nat_lt, remove, slice_index_or}
+use Rattle.std.specs.Prelude.{⊤, IsTrue, All, ◌==◌, ◌||◌, if◌then◌else◌, nat_lt, slice_index_or}
 use Rattle.std.specs.List.{list_any}
 use Rattle.std.proofs.lemmas.Bool.{cases_lt, eq-eqb}
 use Rattle.std.proofs.lemmas.Bool.Decides.{nat_tests}
 use Rattle.sctp_list_lemmas.specs.Lists.{insert_before}
 use Rattle.sctp_list_lemmas.specs.Serial.{comes_before}
-use Rattle.sctp_list_lemmas.proofs.Cases.{or-right, or-split, same-is, same-yes}
+use Rattle.sctp_list_lemmas.proofs.Cases.{or-split, same-is}
 use Rattle.sctp_list_lemmas.proofs.Edits.{pairs_cons}
 use Rattle.sctp_list_lemmas.proofs.More.{and, fails, not_both}
 use Rattle.sctp_list_lemmas.proofs.Round.{tsn}

@@ -1,7 +1,7 @@
 -- What a receiver holds of a reliable session stands in order: sets by TSNs, each of one number; unordered fragments by TSNs, of which
 -- no message is whole.
-use Rattle.std.proofs.Common.{◌≡◌, ℕ, zero, suc, ◌+◌, ◌%◌, ◌^◌, ◌<◌, ◌≤◌, Bool, true, false, List, [], ◌∷◌, ◌++◌, length, take, drop, Option, Some, None, refl, ap, sym, subst, ◌∙◌, arith}
-use Rattle.std.specs.Prelude.{⊤, ◌==◌, if◌then◌else◌, remove}
+use Rattle.std.proofs.Common.{◌≡◌, ℕ, suc, ◌+◌, ◌%◌, ◌^◌, ◌<◌, ◌≤◌, Bool, true, false, List, [], ◌∷◌, length, take, drop, Option, Some, None, refl, ap, sym, subst, ◌∙◌, arith}
+use Rattle.std.specs.Prelude.{◌==◌, if◌then◌else◌, remove}
 use Rattle.std.specs.List.{list_any}
 use Rattle.std.proofs.lemmas.Bool.{eq-eqb}
 use Rattle.sctp_list_lemmas.specs.Lists.{change_first, insert_before}
@@ -11,7 +11,7 @@ use Rattle.sctp_list_lemmas.proofs.More.{both, not_both}
 use Rattle.sctp_data.specs.declared.chunk.chunk_payload_data.ChunkPayloadData.{ChunkPayloadData}
 use Rattle.sctp_data.specs.ChunkSet.{ChunkSet}
 use Rattle.sctp_reassembly.specs.reassembly_queue.Fragments.{has_ssn, is_complete, new_set, set_before, sets_with, with_chunk}
-use Rattle.sctp_reassembly.specs.reassembly_queue.ReassemblyQueue.{BecomesComplete, Reassembly, ReassemblyState, TakesRun, after_read, front_readable, held_after_ordered_push, is_readable, message_among, message_read, rest_among, rest_read, set_of_run, without_first}
+use Rattle.sctp_reassembly.specs.reassembly_queue.ReassemblyQueue.{BecomesComplete, Reassembly, ReassemblyState, after_read, front_readable, held_after_ordered_push, is_readable, message_among, message_read, rest_among, rest_read, set_of_run, without_first}
 use Rattle.sctp_reassembly.proofs.lemmas.reassembly_queue.TakenRuns.{mark_after_take}
 use Rattle.sctp_receiver.specs.Inbound.{Pushes, PushesAs}
 use Rattle.sctp_serial.specs.DataChunks.{chunk_before, has_tsn}

@@ -1,8 +1,8 @@
 -- A reliable session, call by call of the receiver: what it holds stays in order, and ordered messages are read by their numbers.
-use Rattle.std.proofs.Common.{◌≡◌, ℕ, ◌+◌, ◌^◌, ◌<◌, ◌≤◌, Bool, true, false, List, [], ◌∷◌, ◌++◌, Option, Some, None, refl, ap, sym, subst, ◌∙◌, arith}
+use Rattle.std.proofs.Common.{◌≡◌, ℕ, ◌^◌, ◌<◌, ◌≤◌, Bool, true, false, List, [], ◌∷◌, ◌++◌, Option, Some, None, refl, ap, sym, subst, ◌∙◌, arith}
 use Rattle.std.specs.Prelude.{⊤, ◌==◌, ◌&&◌, find, if◌then◌else◌, not, option_map}
 use Rattle.std.specs.Option.{option_or}
-use Rattle.std.specs.List.{list_all, list_any, sum_by}
+use Rattle.std.specs.List.{list_all, list_any}
 use Rattle.std.proofs.lemmas.Bool.{eq-eqb}
 use Rattle.std.proofs.lemmas.List.Folds.{find-append}
 use Rattle.sctp_list_lemmas.specs.Lists.{insert_before}
@@ -23,7 +23,7 @@ use Rattle.sctp_receiver.specs.ReceiverRuns.{Message, Stand, with_message}
 use Rattle.sctp_receiver.specs.Ssns.{is_ssn_too_far, is_too_far_on}
 use Rattle.sctp_receiver.proofs.Handed.{found-changed, held_weight}
 use Rattle.sctp_receiver.proofs.Inbounds.{pushed-number}
-use Rattle.sctp_receiver.proofs.Weights.{set_weight, weight}
+use Rattle.sctp_receiver.proofs.Weights.{weight}
 use Rattle.sctp_sender.proofs.Lates.{found-passes}
 use Rattle.sctp_serial.specs.DataChunks.{chunk_before, has_tsn}
 use Rattle.sctp_delivery.specs.Complete.{is_reliable, is_reliable_at_receiver, is_reliable_at_sender}
@@ -31,7 +31,7 @@ use Rattle.sctp_delivery.specs.ReceiverCalls as incoming
 use Rattle.sctp_delivery.specs.ReceiverCalls.{ReceiverCall}
 use Rattle.sctp_delivery.specs.Sacks.{are_apart}
 use Rattle.sctp_delivery.specs.SenderCalls.{data_chunk}
-use Rattle.sctp_delivery.specs.Session.{Call, ReceiverFollows, RunsTo, SenderFollows, Session, at_start, of_receiver, of_sender}
+use Rattle.sctp_delivery.specs.Session.{Call, ReceiverFollows, RunsTo, Session, at_start, of_receiver, of_sender}
 use Rattle.sctp_delivery.proofs.Every.{Every, every-contained}
 use Rattle.sctp_delivery.proofs.Kept.{InTurn, IsKeptIn, apart-before, none-held, not-too-far, receiver-kept, sender-kept, sets-fresh}
 use Rattle.sctp_delivery.proofs.KeptSets.{IsInTurn, IsNear, near-of}
@@ -39,7 +39,7 @@ use Rattle.sctp_delivery.proofs.ReadOnce.{count-none, one}
 use Rattle.sctp_delivery.proofs.Rising.{IsPlaced}
 use Rattle.sctp_delivery.proofs.ShortNumbers.{IsShort, IsShortMade}
 use Rattle.sctp_delivery.proofs.TakenCalls.{fresh-new}
-use Rattle.sctp_delivery.proofs.Tidy.{AreBelow, IsNextRead, IsTidy, below-more, chunks_of, pushed-tidy, read-next, read-tidy}
+use Rattle.sctp_delivery.proofs.Tidy.{AreBelow, IsTidy, below-more, chunks_of, pushed-tidy, read-next, read-tidy}
 
 -- a chunk with the TSN of a place, and with a number below half the circle where it is ordered
 abbrev pub IsFit : ℕ → ℕ → ChunkPayloadData → Type 0

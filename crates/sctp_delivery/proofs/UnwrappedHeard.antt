@@ -1,24 +1,22 @@
 -- The fragments of a set by their places: where the set misses a TSN, a place of its message is missing.
 use Rattle.std.proofs.Common.{◌≡◌, ℕ, ◌+◌, ◌-◌, ◌^◌, ◌<◌, ◌≤◌, Bool, true, false, not, List, [], ◌∷◌, length, inl, inr, refl, ap, sym, ◌∙◌, arith}
-use Rattle.std.specs.Prelude.{⊤, ◌==◌, ◌&&◌, ◌||◌, if◌then◌else◌, nat_le, nat_lt}
+use Rattle.std.specs.Prelude.{⊤, ◌==◌, ◌&&◌, ◌||◌, if◌then◌else◌, nat_le}
 use Rattle.std.specs.List.{list_any}
 use Rattle.std.proofs.lemmas.Bool.{cases_lt}
 use Rattle.std.proofs.lemmas.Bool.Decides.{nat_tests}
-use Rattle.sctp_list_lemmas.specs.Lists.{insert_before}
-use Rattle.sctp_list_lemmas.specs.Serial.{at_or_before, comes_before}
+use Rattle.sctp_list_lemmas.specs.Serial.{at_or_before}
 use Rattle.sctp_list_lemmas.proofs.Cases.{negated, or-split, same-is, same-yes}
 use Rattle.sctp_list_lemmas.proofs.More.{both, fails, not_both}
 use Rattle.sctp_list_lemmas.proofs.Round.{tsn}
 use Rattle.sctp_data.specs.declared.chunk.chunk_payload_data.ChunkPayloadData.{ChunkPayloadData}
-use Rattle.sctp_data.specs.PayloadData.{data_of}
 use Rattle.sctp_reassembly.specs.reassembly_queue.Skips.{misses, misses_behind}
-use Rattle.sctp_serial.specs.DataChunks.{chunk_before, following_tsn, has_tsn, preceding_tsn}
+use Rattle.sctp_serial.specs.DataChunks.{following_tsn, has_tsn, preceding_tsn}
 use Rattle.sctp_sender.specs.Numbers.{is_ordered_on}
-use Rattle.sctp_delivery.proofs.Every.{Every, every-inserted, every-of}
-use Rattle.sctp_delivery.proofs.OrderedEntries.{AreIndexed, AreJoined, Joins, begins_on, begun_on, ends_on, one}
-use Rattle.sctp_delivery.proofs.Sent.{Entry, IsLine, Numbered, WasSent, fragment, part-itself, sent-more, terminal}
-use Rattle.sctp_delivery.proofs.SpreadEntries.{IsEntry, at-here, at-more, at-part, begun_to, is_at, joined-rest, made-entry, step-up, to-all, to-most, to-more, to-up}
-use Rattle.sctp_delivery.proofs.TsnPlaces.{at-or-before, base, before, next-place, same-place}
+use Rattle.sctp_delivery.proofs.Every.{Every}
+use Rattle.sctp_delivery.proofs.OrderedEntries.{AreJoined, Joins, begins_on, begun_on, ends_on, one}
+use Rattle.sctp_delivery.proofs.Sent.{Entry, fragment, part-itself, terminal}
+use Rattle.sctp_delivery.proofs.SpreadEntries.{IsEntry, at-here, at-more, at-part, begun_to, is_at, joined-rest, step-up, to-all, to-most, to-more, to-up}
+use Rattle.sctp_delivery.proofs.TsnPlaces.{at-or-before, base, next-place, same-place}
 
 -- n TSNs behind the base p
 module _ (p n : ℕ) (few : n < 2 ^ 31) where
@@ -36,47 +34,6 @@ module _ (p n : ℕ) (few : n < 2 ^ 31) where
 
   strictly : (j k : ℕ) → j ≤ k → (j ≡ k → ⊥) → j < k
   strictly j k le differ = elim (cases_lt j k) [ inl lt ↦ lt | inr ge ↦ absurd (differ (omega (arith, le, ge))) ]
-
-  rising-from : (j k : ℕ) (cs : List ChunkPayloadData) → j ≤ k → Rising k cs → Rising j cs
-  rising-from j k [] le r = tt
-  rising-from j k (c ∷ cs) le r =
-      let b = r.0 in
-      let x = b.past in
-      (record { place = b.place; past = omega (arith, x, le); within = b.within; is = b.is }, r.1)
-
-  neither : (a b : Bool) → (a || b) ≡ false → (a ≡ false) × (b ≡ false)
-  neither true b e = absurd (not_both (sym e))
-  neither false b e = (refl, e)
-
-  pub rising-inserted : (k : ℕ) (x : ChunkPayloadData) (cs : List ChunkPayloadData) → IsBehind k x → Rising k cs → list_any (has_tsn x.tsn) cs ≡ false
-      → Rising k (insert_before chunk_before x cs)
-  rising-inserted k x [] b r none = (b, tt)
-  rising-inserted k x (c ∷ cs) b r none = by (chunk_before x c) refl
-      (λ lt. rising-inserted r.0.place x cs (record { place = b.place; past = lt; within = b.within; is = b.is }) r.1
-      (neither (c.tsn == x.tsn) (list_any (has_tsn x.tsn) cs) none).1)
-    where
-      order : chunk_before x c ≡ nat_lt b.place r.0.place
-      order =
-          let v = b.within in
-          let w = r.0.within in
-          ap (λ t. comes_before t c.tsn) b.is ∙ ap (comes_before (tsn p b.place)) r.0.is
-          ∙ before p b.place r.0.place (omega (arith, v, few)) (omega (arith, w, few))
-
-      differ : b.place ≡ r.0.place → ⊥
-      differ same =
-          let e : c.tsn ≡ x.tsn = r.0.is ∙ ap (tsn p) (sym same) ∙ sym b.is in
-          not_both (sym (neither (c.tsn == x.tsn) (list_any (has_tsn x.tsn) cs) none).0 ∙ ap (λ t. t == x.tsn) e ∙ same-yes x.tsn)
-
-      by : (t : Bool) → chunk_before x c ≡ t → (r.0.place < b.place → Rising r.0.place (insert_before chunk_before x cs))
-          → Rising k (if t then x ∷ c ∷ cs else c ∷ insert_before chunk_before x cs)
-      by true e ih =
-          let t : nat_lt b.place r.0.place ≡ true = sym order ∙ e in
-          let lt : b.place < r.0.place = grind (arith, nat_tests, t) in
-          (b, (record { place = r.0.place; past = lt; within = r.0.within; is = r.0.is }, r.1))
-      by false e ih =
-          let t : nat_lt b.place r.0.place ≡ false = sym order ∙ e in
-          let ge : r.0.place ≤ b.place = grind (arith, nat_tests, t) in
-          (r.0, ih (elim (cases_lt r.0.place b.place) [ inl lt ↦ lt | inr le ↦ absurd (differ (omega (arith, ge, le))) ]))
 
   -- no chunk has the TSN of a place up to k
   pub none-upto : (j k : ℕ) (cs : List ChunkPayloadData) → j ≤ k → j ≤ n → Rising k cs → list_any (has_tsn (tsn p j)) cs ≡ false
@@ -197,14 +154,6 @@ module _ (p n : ℕ) (few : n < 2 ^ 31) where
               record { place = i.place; from = omega arith; upto = i.upto; absent = i.absent; beside = i.beside }
         ]
 
--- they rise so still, when more TSNs are given out
-pub rising-more : (p n m : ℕ) (few : n < 2 ^ 31) (more : m < 2 ^ 31) (k : ℕ) (cs : List ChunkPayloadData) → n ≤ m → Rising p n few k cs → Rising p m more k cs
-rising-more p n m few more k [] le r = tt
-rising-more p n m few more k (c ∷ cs) le r =
-    let b = r.0 in
-    let w = b.within in
-    (record { place = b.place; past = b.past; within = omega (arith, w, le); is = b.is }, rising-more p n m few more b.place cs le r.1)
-
 -- ## What is missing is of the message
 
 at-within : (st k : ℕ) (sent : List Entry) → is_at st k sent ≡ true → k ≤ length sent
@@ -299,80 +248,3 @@ module _ (st first n : ℕ) (few : n < 2 ^ 31) (sent : List Entry) (long : lengt
         ap (λ k. is_at st k sent) (sym it) ∙ prior.1 ∙ o.ordered,
         ap (λ k. begun_to st k sent) (sym it) ∙ sym (o.entry.inner begins) ∙ o.begun,
       )
-
--- ## Sets
-
--- a chunk that was made, an ordered one of the message of the stream with this index
-pub record IsOfMessage (st first : ℕ) (sent : List Entry) (i : ℕ) (c : ChunkPayloadData) : Type 0 where
-  pub made : WasSent sent (data_of c)
-  pub ordered : is_ordered_on st c ≡ true
-  pub place : ℕ
-  pub within : place ≤ length sent
-  pub is : c.tsn ≡ tsn (base first) place
-  pub begun : begun_to st place sent ≡ i + 1
-
--- it is so still, when one TSN more is given out
-pub of-message-more : (st first : ℕ) (x : Entry) (sent : List Entry) (i : ℕ) (c : ChunkPayloadData) → IsOfMessage st first sent i c
-    → IsOfMessage st first (x ∷ sent) i c
-of-message-more st first x sent i c o = record {
-  made = sent-more x sent (data_of c) o.made;
-  ordered = o.ordered;
-  place = o.place;
-  within = let w = o.within in omega (arith, w);
-  is = o.is;
-  begun = to-more st o.place x sent o.within ∙ o.begun;
-}
-
-module _ (ws : List Numbered) (st first n : ℕ) (few : n < 2 ^ 31) (sent : List Entry) (long : length sent ≡ n) (line : IsLine ws first sent)
-    (indexed : AreIndexed sent) (joined : AreJoined sent) where
-  piece : (i : ℕ) (c : ChunkPayloadData) → IsOfMessage st first sent i c → IsPiece st first n few sent long joined i c
-  piece i c o =
-      let e = made-entry ws first sent line indexed joined st c o.made in
-      let v = e.within in
-      let w = o.within in
-      let same : e.before + 1 ≡ o.place =
-      same-place (base first) (e.before + 1) o.place (omega (arith, v, long, few)) (omega (arith, w, long, few)) (sym e.is ∙ o.is) in
-      record { entry = e; ordered = o.ordered; begun = ap (λ k. begun_to st k sent) same ∙ o.begun }
-
-  -- the chunks of a set are of one message, and their places rise
-  abbrev pub Fits : ℕ → List ChunkPayloadData → Type 0
-  Fits i cs = Every (IsOfMessage st first sent i) cs × Rising (base first) n few 0 cs
-
-  behind-none : (i : ℕ) (c : ChunkPayloadData) → IsOfMessage st first sent i c → IsBehind (base first) n few 0 c
-  behind-none i c o =
-      let e = piece i c o in
-      let w = e.entry.within in
-      record { place = e.entry.before + 1; past = omega arith; within = omega (arith, w, long); is = e.entry.is }
-
-  pub fits-new : (i : ℕ) (c : ChunkPayloadData) → IsOfMessage st first sent i c → Fits i (c ∷ [])
-  fits-new i c o = ((o, tt), (behind-none i c o, tt))
-
-  pub fits-inserted : (i : ℕ) (c : ChunkPayloadData) (cs : List ChunkPayloadData) → IsOfMessage st first sent i c → Fits i cs
-      → list_any (has_tsn c.tsn) cs ≡ false → Fits i (insert_before chunk_before c cs)
-  fits-inserted i c cs o f none = (
-    every-inserted (IsOfMessage st first sent i) chunk_before c cs o f.0,
-    rising-inserted (base first) n few 0 c cs (behind-none i c o) f.1 none,
-  )
-
-  -- a place that a set misses is of its message
-  pub record Misses (i m : ℕ) (cs : List ChunkPayloadData) : Type 0 where
-    pub place : ℕ
-    pub upto : place ≤ m
-    pub on : is_at st place sent ≡ true
-    pub begun : begun_to st place sent ≡ i + 1
-    pub absent : list_any (has_tsn (tsn (base first) place)) cs ≡ false
-
-  pub fits-misses : (i m : ℕ) (cs : List ChunkPayloadData) → m ≤ n → Fits i cs → misses (tsn (base first) m) cs ≡ true → Misses i m cs
-  fits-misses i m cs le f e =
-      let x = missing (base first) n few (IsPiece st first n few sent long joined i) m le cs
-      (every-of (IsOfMessage st first sent i) (IsPiece st first n few sent long joined i) (piece i) cs f.0) f.1 e in
-      let upto = x.upto in
-      let o = missing-of st first n few sent long joined i x.place (omega (arith, upto, le)) x.beside in
-      record { place = x.place; upto = x.upto; on = o.0; begun = o.1; absent = x.absent }
-
-  -- where no ordered chunk of the stream stands behind the place a up to there, it is at most a
-  pub misses-acked : (i m a : ℕ) (cs : List ChunkPayloadData) (x : Misses i m cs) → ((k : ℕ) → a < k → k ≤ m → is_at st k sent ≡ false) → x.place ≤ a
-  misses-acked i m a cs x none = elim (cases_lt a x.place) [
-    | inl lt ↦ absurd (not_both (sym (none x.place lt x.upto) ∙ x.on))
-    | inr le ↦ le
-  ]

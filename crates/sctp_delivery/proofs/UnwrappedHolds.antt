@@ -1,43 +1,27 @@
 -- In each session the indexes of the ordered messages that are read on a stream rise: what is due on the stream, and what came.
-use Rattle.std.proofs.Common.{◌≡◌, ℕ, ◌+◌, ◌%◌, ◌^◌, ◌<◌, ◌≤◌, Bool, true, false, not, List, [], ◌∷◌, ◌++◌, map, Option, Some, None, inl, inr, refl, ap, sym, subst, ◌∙◌, arith}
-use Rattle.std.specs.Prelude.{⊤, ◌⊎◌, ◌==◌, ◌&&◌, ◌||◌, if◌then◌else◌, find, is_some, nat_le, nat_lt, option_map}
-use Rattle.std.specs.List.{filter, list_any}
-use Rattle.std.specs.Option.{option_or}
+use Rattle.std.proofs.Common.{◌≡◌, ℕ, ◌+◌, ◌%◌, ◌^◌, ◌<◌, ◌≤◌, Bool, true, false, not, List, [], ◌∷◌, Option, Some, None, inl, inr, refl, ap, sym, ◌∙◌, arith}
+use Rattle.std.specs.Prelude.{⊤, ◌⊎◌, ◌==◌, ◌&&◌, ◌||◌, if◌then◌else◌, nat_le, nat_lt}
+use Rattle.std.specs.List.{list_any}
 use Rattle.std.proofs.lemmas.Bool.{cases_lt, eq-eqb}
 use Rattle.std.proofs.lemmas.Bool.Decides.{nat_tests}
-use Rattle.std.proofs.lemmas.List.Folds.{find-append}
-use Rattle.sctp_list_lemmas.specs.Lists.{Seen, advance_over, change_where, insert_before}
+use Rattle.sctp_list_lemmas.specs.Lists.{Seen, advance_over, insert_before}
 use Rattle.sctp_list_lemmas.specs.Serial.{at_or_before, comes_before}
 use Rattle.sctp_list_lemmas.proofs.Cases.{negated, or-left, or-right, or-split, same-is}
-use Rattle.sctp_list_lemmas.proofs.Edits.{list_any-inserted, list_any-those}
-use Rattle.sctp_list_lemmas.proofs.More.{both, fails, not_both, same_test}
+use Rattle.sctp_list_lemmas.proofs.More.{both, not_both}
 use Rattle.sctp_list_lemmas.proofs.Round.{tsn}
 use Rattle.sctp_data.specs.declared.chunk.chunk_payload_data.ChunkPayloadData.{ChunkPayloadData}
-use Rattle.sctp_data.specs.declared.chunk.chunk_forward_tsn.ChunkForwardTsnStream.{ChunkForwardTsnStream}
 use Rattle.sctp_data.specs.ChunkSet.{ChunkSet}
-use Rattle.sctp_data.specs.ForwardTsn.{ForwardTsn}
-use Rattle.sctp_serial.specs.DataChunks.{chunk_before, following_tsn, has_tsn, is_on, preceding_tsn}
-use Rattle.sctp_reassembly.specs.reassembly_queue.Fragments.{is_complete}
-use Rattle.sctp_reassembly.specs.reassembly_queue.ReassemblyQueue.{held_after_ordered_skip, held_after_unordered_skip, message_read}
+use Rattle.sctp_serial.specs.DataChunks.{chunk_before, following_tsn, has_tsn, preceding_tsn}
 use Rattle.sctp_reassembly.specs.reassembly_queue.Skips.{cannot_complete, misses, misses_behind}
 use Rattle.sctp_receiver.specs.declared.receiver.inbound_streams.InboundStream.{InboundStream}
-use Rattle.sctp_receiver.specs.Inbound.{has_number, new_stream, number, skipped_each, ssns_of, stream_forwarded, stream_read, unassembled_forwarded, with_queue}
-use Rattle.sctp_receiver.specs.Receiver.{Accepts, Reception, filter_of, follow_forward_tsn, is_open, is_stale, message_of, message_on, stream_of}
-use Rattle.sctp_receiver.specs.ReceiverRuns.{Message, Stand, with_message}
-use Rattle.sctp_receiver.specs.Skips.{after_forward_tsn, incomplete_forwarded, is_ahead, names_closed, names_too_far, without_incomplete}
-use Rattle.sctp_receiver.specs.Ssns.{is_name_too_far, is_named_too_far, is_ssn_too_far, is_too_far_on}
-use Rattle.sctp_receiver.specs.TsnFilter.{has_come}
-use Rattle.sctp_receiver.proofs.Forwarded.{found-followed, found-mapped}
-use Rattle.sctp_receiver.proofs.Handed.{found-changed}
-use Rattle.sctp_receiver.proofs.Inbounds.{pushed-number}
-use Rattle.sctp_sender.specs.Abandonment.{is_pair_of}
+use Rattle.sctp_receiver.specs.Receiver.{Reception, stream_of}
+use Rattle.sctp_receiver.specs.ReceiverRuns.{Message, Stand}
 use Rattle.sctp_sender.specs.Numbers.{is_ordered_on}
-use Rattle.sctp_sender.proofs.Lates.{found-passes}
-use Rattle.sctp_delivery.proofs.Every.{Every, every-inserted, every-of, every-passing}
-use Rattle.sctp_delivery.proofs.OrderedReads.{starts_ordered}
+use Rattle.sctp_delivery.proofs.Every.{Every}
 use Rattle.sctp_delivery.proofs.TakenTsns.{come}
 use Rattle.sctp_delivery.proofs.TsnPlaces.{at-or-before, before, next-place, same-place}
-use Rattle.sctp_delivery.proofs.UnwrappedReads.{AreSets, Gone, IsDue, IsKeptAt, has_place, in-window, incomplete-due, name-due, push-ordered, push-unordered, read-due, recame, unassembled-due}
+use Rattle.sctp_delivery.proofs.UnwrappedReads.{IsDue, recame}
+use Rattle.sctp_delivery.proofs.OrderedMessages.{starts_ordered}
 
 pub neither : (a b : Bool) → (a || b) ≡ false → (a ≡ false) × (b ≡ false)
 neither true b e = absurd (not_both (sym e))

@@ -11,7 +11,6 @@ use Rattle.sctp_delivery.specs.Order.{AreReadInOrder, is_ordered_on, ordered_pla
 use Rattle.sctp_delivery.proofs.Begun.{AreOnce}
 use Rattle.sctp_delivery.proofs.Delivered.{IsReadOf, read-in}
 use Rattle.sctp_delivery.proofs.OnceWritten.{EachRead, apart, each-read, places, stand}
-use Rattle.sctp_delivery.proofs.OrderedCalls.{is_in_order}
 use Rattle.sctp_delivery.proofs.OrderedEntries.{AreRising, begun_on}
 use Rattle.sctp_delivery.proofs.OrderedLaw.{all-cons, before, starts, up_to}
 use Rattle.sctp_delivery.proofs.OrderedPlaces.{AreNumbered}
@@ -19,14 +18,12 @@ use Rattle.sctp_delivery.proofs.ReadOnce as read_once
 use Rattle.sctp_delivery.proofs.Sent.{Entry, IsLine, Numbered, WasSent, part-length, part-line}
 use Rattle.sctp_delivery.proofs.SpreadEntries.{begun_to, is_at, to-part}
 use Rattle.sctp_delivery.proofs.TsnPlaces.{base}
-use Rattle.sctp_delivery.proofs.UnwrappedHolds.{AreInTurn, Fits, IsOf, Where}
+use Rattle.sctp_delivery.proofs.UnwrappedHolds.{AreInTurn, Fits, Where}
 use Rattle.sctp_delivery.proofs.UnwrappedSessions.{unwrapped}
+use Rattle.sctp_delivery.proofs.OrderedMessages.{is_in_order}
 
 module _ (st first n : ℕ) (ns : List Numbered) (sent : List Entry) (few : n < 2 ^ 31) (long : length sent ≡ n) (line : IsLine ns first sent)
     (once : AreOnce sent) (rising : AreRising sent) (numbered : AreNumbered ns) where
-  abbrev Of : ℕ → ChunkPayloadData → Type 0
-  Of = IsOf (base first) st n (λ k. begun_to st k sent) (λ k. is_at st k sent) (λ c. WasSent sent (data_of c))
-
   abbrev Piece : ℕ → List ChunkPayloadData → Type 0
   Piece = Fits (base first) st n (λ k. begun_to st k sent) (λ k. is_at st k sent) (λ c. WasSent sent (data_of c))
 

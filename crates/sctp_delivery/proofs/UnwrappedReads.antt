@@ -23,7 +23,7 @@ use Rattle.sctp_receiver.specs.Ssns.{is_name_too_far, is_ssn_too_far, lowest_amo
 use Rattle.sctp_delivery.proofs.Every.{Every, every-inserted, every-joined, every-left, every-taken}
 use Rattle.sctp_delivery.proofs.KeptSets.{IsAt}
 use Rattle.sctp_delivery.proofs.TakenTsns.{any-inserted}
-use Rattle.sctp_delivery.proofs.OrderedReads.{IsUnorderedSet, starts_ordered}
+use Rattle.sctp_delivery.proofs.OrderedMessages.{IsUnorderedSet, starts_ordered}
 
 -- a number less than half the circle past another one, by their indexes
 window : (low j : ℕ) → low ≤ j + 2 ^ 15 → j < low + 2 ^ 16 → distance16 (low % 2 ^ 16) (j % 2 ^ 16) < 2 ^ 15 → (low ≤ j) × (j < low + 2 ^ 15)

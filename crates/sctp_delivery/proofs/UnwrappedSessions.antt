@@ -40,7 +40,6 @@ use Rattle.std.proofs.lemmas.Bool.Decides.{nat_tests}
 use Rattle.sctp_list_lemmas.proofs.Cases.{or-split, same-is}
 use Rattle.sctp_delivery.proofs.Every.{Every, every-contained, every-of}
 use Rattle.sctp_delivery.proofs.GivenTsns.{raises-abandoned, raises-each}
-use Rattle.sctp_delivery.proofs.OrderedCalls.{not-far}
 use Rattle.sctp_delivery.proofs.Queues.{IsOnceMore}
 use Rattle.sctp_delivery.proofs.SackLaws as sacks
 use Rattle.sctp_delivery.proofs.SackSteps.{flight_of, written-open}
@@ -53,6 +52,7 @@ use Rattle.sctp_delivery.proofs.TsnPlaces.{at-or-before, base, same-place}
 use Rattle.sctp_delivery.proofs.UnwrappedCalls.{followed-due, opened-due, quiet, read-on-due, taken-due}
 use Rattle.sctp_delivery.proofs.UnwrappedHolds.{AreDue, AreInTurn, Came, DueOn, Fits, IsBeyond, IsOf, IsStepOf, Rises, Where, is_in_order}
 use Rattle.sctp_delivery.proofs.UnwrappedReads.{AreSets, IsDue}
+use Rattle.sctp_delivery.proofs.OrderedMessages.{not-far}
 
 -- ## More TSNs are given out
 

@@ -20,7 +20,8 @@ ordered_places stream (m ∷ ms) [] = []
 ordered_places stream (m ∷ ms) (p ∷ ps) =
     if is_ordered_on stream m then p ∷ ordered_places stream ms ps else ordered_places stream ms ps
 
--- each message that was read is a write at a place of its own. On each stream, of two ordered messages the one that was read later was written later: its place is the lower one, since writes and messages have the last one first
+-- each message that was read is a write at a place of its own. On each stream, of two ordered messages the one that was read later was
+-- written later: its place is the lower one, since writes and messages have the last one first
 abbrev pub AreReadInOrder : Session → Type 0
 AreReadInOrder s =
     (places : List ℕ) × StandAt s.written s.receiving.read places
