@@ -1,5 +1,5 @@
--- In a reliable session with few writes on each stream, where nothing waits or is in flight and nothing is to be read, nothing is held.
-use Rattle.std.proofs.Common.{◌≡◌, ℕ, zero, suc, ◌+◌, ◌-◌, ◌<◌, ◌≤◌, ◌%◌, ◌^◌, Bool, true, false, not, List, [], ◌∷◌, ◌++◌, length, Option, Some, None, is_some, inl, inr, refl, ap, sym, subst, ◌∙◌, arith}
+-- In a reliable session, where nothing waits or is in flight and nothing is to be read, nothing is held.
+use Rattle.std.proofs.Common.{◌≡◌, ℕ, zero, suc, ◌+◌, ◌<◌, ◌≤◌, ◌%◌, ◌^◌, Bool, true, false, not, List, [], ◌∷◌, ◌++◌, length, Option, Some, None, is_some, inl, inr, refl, ap, sym, subst, ◌∙◌, arith}
 use Rattle.std.specs.Prelude.{find, ◌==◌, ◌&&◌, if◌then◌else◌, nat_le, nat_lt, slice_index_or}
 use Rattle.std.specs.List.{filter, list_all, list_any, sum_by}
 use Rattle.std.proofs.lemmas.Bool.{cases_lt, eq-eqb}
@@ -9,7 +9,7 @@ use Rattle.std.proofs.lemmas.List.Sums.{sum_by-cons}
 use Rattle.std.proofs.lemmas.Option.{none-some}
 use Rattle.sctp_list_lemmas.specs.Serial.{at_or_before16, distance}
 use Rattle.sctp_list_lemmas.proofs.Cases.{negated, or-split, same-is, same-yes, some-same}
-use Rattle.sctp_list_lemmas.proofs.More.{and, both, not_both}
+use Rattle.sctp_list_lemmas.proofs.More.{and, both, fails, not_both}
 use Rattle.sctp_list_lemmas.proofs.Round.{tsn}
 use Rattle.sctp_list_lemmas.proofs.Wraps.{at_or_before16-index}
 use Rattle.sctp_data.specs.declared.chunk.chunk_payload_data.ChunkPayloadData.{ChunkPayloadData}
@@ -24,22 +24,21 @@ use Rattle.sctp_receiver.specs.declared.receiver.inbound_streams.InboundStream.{
 use Rattle.sctp_receiver.specs.declared.receiver.limits.Limits.{Limits}
 use Rattle.sctp_receiver.specs.Inbound.{has_number}
 use Rattle.sctp_receiver.specs.Receiver.{Reception, stream_of}
-use Rattle.sctp_receiver.specs.ReceiverRuns.{Message, fragments_read}
+use Rattle.sctp_receiver.specs.ReceiverRuns.{fragments_read}
 use Rattle.sctp_receiver.proofs.Handed.{held_weight}
 use Rattle.sctp_receiver.proofs.Weights.{set_weight}
 use Rattle.sctp_serial.specs.DataChunks.{has_tsn, is_on}
 use Rattle.sctp_delivery.specs.Complete.{AfterEachReliableSession, IsAllReadInTheEnd, fragments_held, fragments_of_sets, fragments_on, is_all_acknowledged, is_reliable, reads_nothing}
 use Rattle.sctp_delivery.specs.Sacks.{are_apart, tsns_given}
-use Rattle.sctp_delivery.specs.SenderCalls.{Write}
 use Rattle.sctp_delivery.specs.Session.{Call, RunsTo, Session, at_start}
-use Rattle.sctp_delivery.proofs.Calls.{forgotten}
-use Rattle.sctp_delivery.proofs.Chains.{EndsWith, IsChained, bit, opens_on, writes_on}
+use Rattle.sctp_delivery.proofs.Chains.{EndsWith, IsChained, bit, opens_on}
+use Rattle.sctp_delivery.proofs.Counted.{IsBelow, StandsAt, agrees-of, count-still, none-forward, read-below, to-is}
 use Rattle.sctp_delivery.proofs.Delivered.{found-sent}
 use Rattle.sctp_delivery.proofs.EachRead.{BegunIn, IsIdle, begun-in, each-once-where, idle-of, taken, complete-messages}
 use Rattle.sctp_delivery.proofs.Every.{Every, every-at, every-of, every-of-all, one-of}
 use Rattle.sctp_delivery.proofs.Kept as kept
 use Rattle.sctp_delivery.proofs.KeptSets.{IsInTurn, Rise}
-use Rattle.sctp_delivery.proofs.Ranges.{Agrees, IsLinked, IsRange, agrees, at_place, count-is, count-more, count_to, last-ends, linked, nth-begun, range-from, range-of, same-count}
+use Rattle.sctp_delivery.proofs.Ranges.{Agrees, IsLinked, IsRange, agrees, at_place, count-more, count_to, last-ends, linked, nth-begun, range-from, range-of}
 use Rattle.sctp_delivery.proofs.ReadOnce as read_once
 use Rattle.sctp_delivery.proofs.ReadOnce.{count-none, none-count, one}
 use Rattle.sctp_delivery.proofs.Rising.{Covers, IsOf, complete-of, run-of}
@@ -47,11 +46,15 @@ use Rattle.sctp_delivery.proofs.SackLaws as sacks
 use Rattle.sctp_delivery.proofs.SackLaws.{in-step}
 use Rattle.sctp_delivery.proofs.SameData.{is_same, same-data, same-itself}
 use Rattle.sctp_delivery.proofs.Sending.{Queued}
-use Rattle.sctp_delivery.proofs.Sent.{Entry, IsLine, Numbered, fragment, terminal}
+use Rattle.sctp_delivery.proofs.Sent.{Entry, IsLine, IsPart, Numbered, WasSent, fragment, part-itself, part-length, part-line, terminal}
 use Rattle.sctp_delivery.proofs.Sessions as sessions
-use Rattle.sctp_delivery.proofs.Tidy.{AreBelow, IsPartOf, IsTidy, IsTidySet, IsUnordered}
-use Rattle.sctp_delivery.proofs.TidyCalls.{AreReadBelow, IsFit, IsInOrder, Tidy, in-order-after, next_of}
+use Rattle.sctp_delivery.proofs.Tidy.{IsOrdered, IsTidy, IsTidySet, IsUnordered}
+use Rattle.sctp_delivery.proofs.TidyCalls.{IsFit, IsInOrder, Tidy, in-order-after}
+use Rattle.sctp_delivery.proofs.SpreadEntries.{begun_to}
 use Rattle.sctp_delivery.proofs.TsnPlaces.{base, past-first, same-place}
+use Rattle.sctp_delivery.proofs.UnwrappedCalls as unwrapped_calls
+use Rattle.sctp_delivery.proofs.UnwrappedReads.{AreSets, IsDue}
+use Rattle.sctp_delivery.proofs.UnwrappedSessions.{HasUnwrapped, unwrapped}
 use Rattle.sctp_delivery.proofs.Waiting.{Waits, between, inside, place_of}
 use Rattle.sctp_delivery.proofs.Whole.{IsOn, place-of, read-whole}
 
@@ -130,20 +133,6 @@ sets-all t [] e = tt
 sets-all t (s ∷ ss) e = let b = both (list_all t s.chunks) (list_all t (fragments_of_sets ss))
     (sym (list_all-append t s.chunks (fragments_of_sets ss)) ∙ e) in (b.0, sets-all t ss b.1)
 
--- the ordered ones among what was read on a stream
-below-read : (st next : ℕ) (ms : List Message) → AreReadBelow st next ms → AreBelow next (fragments_read st ms)
-below-read st next [] e = tt
-below-read st next (m ∷ ms) e = by (m.stream == st) refl (below-read st next ms e.1)
-  where
-    joined : (xs ys : List ChunkPayloadData) → AreBelow next xs → AreBelow next ys → AreBelow next (xs ++ ys)
-    joined [] ys a b = b
-    joined (x ∷ xs) ys a b = (a.0, joined xs ys a.1 b)
-
-    by : (b : Bool) → (m.stream == st) ≡ b → AreBelow next (fragments_read st ms)
-        → AreBelow next (if b then m.fragments ++ fragments_read st ms else fragments_read st ms)
-    by true h ih = joined m.fragments (fragments_read st ms) (e.0 (same-is m.stream st h)) ih
-    by false h ih = ih
-
 -- ## The sender's side
 
 -- where nothing waits, no message is partially sent
@@ -168,21 +157,6 @@ none-selected ws first number q sent h o u = by q.selected refl
             let w = subst (λ x. Waits ws [] (place_of false x sent)) e (subst (λ xs. Waits ws xs (place_of false q.selected sent)) o h.ordered) in
             absurd (nowhere-ends s.message_id sent (subst (λ b. Waits ws [] (if b then between else inside s.message_id sent)) k w))
 
--- so many writes as the law counts
-writes-are : (st : ℕ) (ws : List Numbered) → writes_on st ws ≡ length (filter (λ (w : Write). w.stream == st) (forgotten ws))
-writes-are st [] = refl
-writes-are st (w ∷ ws) =
-    let m = sum_by-cons (λ (x : Numbered). bit (x.stream == st)) w ws in
-    let ih = writes-are st ws in
-    by (w.stream == st) refl m ih
-  where
-    by : (b : Bool) → (w.stream == st) ≡ b → writes_on st (w ∷ ws) ≡ bit (w.stream == st) + writes_on st ws
-        → writes_on st ws ≡ length (filter (λ (x : Write). x.stream == st) (forgotten ws))
-        → writes_on st (w ∷ ws) ≡ length (if b then record { stream = w.stream; payload_type = w.payload_type; bytes = w.bytes } ∷ filter
-        (λ (x : Write). x.stream == st) (forgotten ws) else filter (λ (x : Write). x.stream == st) (forgotten ws))
-    by true e m ih = let one' : bit (w.stream == st) ≡ 1 = ap bit e in omega (arith, m, ih, one')
-    by false e m ih = let zero' : bit (w.stream == st) ≡ 0 = ap bit e in omega (arith, m, ih, zero')
-
 none-data : Data
 none-data = record {
   unordered = false;
@@ -201,7 +175,7 @@ none-data = record {
 module _ (first size max most : ℕ) (limits : Option Limits) (cs : List Call) (s : Session) (run : RunsTo (at_start first size max most limits) cs s)
     (small : first < 2 ^ 32)
     (few : tsns_given (at_start first size max most limits) cs s run < 2 ^ 31) (all : list_all is_reliable cs ≡ true) (some : 0 < size)
-    (settled : is_all_acknowledged s.sending.sender ≡ true) (writes : (st : ℕ) → length (filter (λ w. w.stream == st) s.written) ≤ 2 ^ 15) where
+    (settled : is_all_acknowledged s.sending.sender ≡ true) where
   abbrev given : ℕ
   given = tsns_given (at_start first size max most limits) cs s run
 
@@ -254,31 +228,16 @@ module _ (first size max most : ℕ) (limits : Option Limits) (cs : List Call) (
   last : 0 < n → (f n).ending_fragment ≡ true
   last more = last-ends f sent agr ended more
 
-  -- ## Numbers do not come round
-
-  few-begun : (st : ℕ) → count_to f st n ≤ 2 ^ 15
-  few-begun st =
-      let a = count-is f st sent agr in
-      let b = chained.few st in
-      let c = writes-are st ns in
-      let d = ap (λ ws. length (filter (λ (w : Write). w.stream == st) ws)) h.writes in
-      let e = writes st in
-      omega (arith, a, b, c, d, e)
-
-  -- the number of an ordered message is how many were begun before it on the stream
-  number-is : (st a : ℕ) → 0 < a → a ≤ n → (f a).beginning_fragment ≡ true → (f a).unordered ≡ false → (f a).stream_identifier ≡ st → (i : ℕ) × (suc i ≡ a)
-      × (count_to f st i < 2 ^ 15) × ((f a).stream_sequence_number ≡ count_to f st i) × (opens_on st (f a) ≡ true)
-  number-is st zero pos le b u e = absurd (omega (arith, pos))
-  number-is st (suc i) pos le b u e =
-      let opens : opens_on st (f (suc i)) ≡ true = and ((f (suc i)).stream_identifier == st) ((f (suc i)).beginning_fragment && not (f (suc i)).unordered)
-      (eq-eqb (f (suc i)).stream_identifier st e) (and (f (suc i)).beginning_fragment (not (f (suc i)).unordered) b (ap not u)) in
-      let one' : bit (opens_on st (f (suc i))) ≡ 1 = ap bit opens in
-      let more = count-more f st (suc i) n le in
-      let top = few-begun st in
-      let low : count_to f st i < 2 ^ 15 = omega (arith, one', more, top) in
-      let is = lk.numbers i le b u in
-      let same : count_to f (f (suc i)).stream_identifier i ≡ count_to f st i = ap (λ x. count_to f x i) e in
-      (i, refl, low, omega (arith, is, same, low), opens)
+  -- an ordered message is begun at its first fragment
+  begun-at : (st a : ℕ) → 0 < a → (f a).beginning_fragment ≡ true → (f a).unordered ≡ false → (f a).stream_identifier ≡ st → (i : ℕ) × (suc i ≡ a)
+      × (opens_on st (f a) ≡ true)
+  begun-at st zero pos b u e = absurd (omega (arith, pos))
+  begun-at st (suc i) pos b u e = (
+    i,
+    refl,
+    and ((f (suc i)).stream_identifier == st) ((f (suc i)).beginning_fragment && not (f (suc i)).unordered) (eq-eqb (f (suc i)).stream_identifier st e)
+        (and (f (suc i)).beginning_fragment (not (f (suc i)).unordered) b (ap not u)),
+  )
 
   -- ## What was taken
 
@@ -293,30 +252,8 @@ module _ (first size max most : ℕ) (limits : Option Limits) (cs : List Call) (
   apart : are_apart accepted ≡ true
   apart = sacks.none-twice first size max most limits cs s run small few
 
-  low-number : (k : ℕ) → 0 < k → k ≤ n → (f k).unordered ≡ false → (f k).stream_sequence_number < 2 ^ 15
-  low-number k pos le u =
-      let g = range-of f n lk (last (omega (arith, pos, le))) k pos le in
-      let al = g.2.alike k g.3 g.4 in
-      let w = g.2.le in
-      let b = g.2.below in
-      let x = number-is (f g.0).stream_identifier g.0 g.2.some (omega (arith, w, b)) g.2.begins (sym al.kind ∙ u) refl in
-      let is = x.3 in
-      let lt = x.2 in
-      let same = al.number in
-      omega (arith, is, lt, same)
-
   fits : Every (IsFit p n) accepted
-  fits = every-of (λ c. (j : ℕ) × IsOn p n f c j) (IsFit p n) (λ c o. (
-    (o.0, (omega arith, o.1.within, o.1.is)),
-    λ u. ap' c o u,
-  )) accepted on-accepted
-    where
-      ap' : (c : ChunkPayloadData) → (o : (j : ℕ) × IsOn p n f c j) → c.unordered ≡ false → c.stream_sequence_number < 2 ^ 15
-      ap' c o u =
-          let d = o.1.data' in
-          let same : c.stream_sequence_number ≡ (f o.0).stream_sequence_number = ap (λ (x : Data). x.stream_sequence_number) d in
-          let lt = low-number o.0 o.1.some o.1.within (ap (λ (x : Data). x.unordered) (sym d) ∙ u) in
-          omega (arith, same, lt)
+  fits = every-of (λ c. (j : ℕ) × IsOn p n f c j) (IsFit p n) (λ c o. (o.0, (omega arith, o.1.within, o.1.is))) accepted on-accepted
 
   order : (st : ℕ) → IsInOrder p n st s.receiving
   order = in-order-after p n short first size max most limits cs s run all apart fits
@@ -410,6 +347,66 @@ module _ (first size max most : ℕ) (limits : Option Limits) (cs : List Call) (
       let same : i ≡ j = same-place p i j (omega (arith, u, short)) (omega (arith, le, short)) (sym o.is ∙ same-is c.tsn (tsn p j) e) in
       o.data' ∙ ap f same
 
+  -- ## Indexes
+
+  -- all of the session, with its own list of what got TSNs
+  u : HasUnwrapped first given s
+  u = unwrapped first size max most limits cs s small some run few
+
+  sent-both : Every (λ c. ((j : ℕ) × IsOn p n f c j) × WasSent u.sent (data_of c)) accepted
+  sent-both = every-two (λ c. (j : ℕ) × IsOn p n f c j) (λ c. WasSent u.sent (data_of c)) accepted on-accepted
+      (all-every (sessions.made_among s.made) (λ c. WasSent u.sent (data_of c))
+      (λ c e. found-sent u.sent s.made (data_of c) u.unwrapped.spread.holds.made (sessions.found-made s.made (data_of c) e)) accepted
+      (sessions.all-made cs (at_start first size max most limits) s run refl))
+
+  -- which is the same at each place, as each was taken
+  stands : (j : ℕ) → 0 < j → j ≤ length u.sent → StandsAt f u.sent j
+  stands j pos le =
+      let long = u.unwrapped.spread.long in
+      let upto : j ≤ given = omega (arith, le, long) in
+      let o = one-of (λ c. ((i : ℕ) × IsOn p n f c i) × WasSent u.sent (data_of c)) (has_tsn (tsn p j)) accepted
+      (taken p given s few (in-step first size max most limits cs s run small few) idle.inflight h.data' j pos upto) sent-both in
+      let x = o.2.0.1 in
+      let w = o.2.1 in
+      let within = x.within in
+      let same : o.2.0.0 ≡ j = same-place p o.2.0.0 j (omega (arith, within, short)) (omega (arith, upto, few))
+      (sym x.is ∙ same-is o.0.tsn (tsn p j) o.1) in
+      let number = (part-line u.numbered first u.sent (fragment (data_of o.0) w.0 w.1 ∷ w.2) w.3 u.unwrapped.spread.holds.held.stands.queued.line).0.number in
+      let most' = part-length u.sent (fragment (data_of o.0) w.0 w.1 ∷ w.2) w.3 in
+      let is = same-is o.0.tsn (tsn p j) o.1 in
+      let place : suc (length w.2) ≡ j = omega (arith, number, most', is, pos, upto, few, long) in
+      (w.0, w.1, w.2, place, subst (λ y. IsPart (fragment y w.0 w.1 ∷ w.2) u.sent) (x.data' ∙ ap f same) w.3)
+
+  abbrev to : ℕ → ℕ → ℕ
+  to st k = begun_to st k u.sent
+
+  to-count : (st k : ℕ) → k ≤ given → to st k ≡ count_to f st k
+  to-count st k le = let long = u.unwrapped.spread.long in
+      to-is f st k u.sent (agrees-of f u.sent stands u.sent (part-itself u.sent)) (omega (arith, le, long))
+
+  abbrev Of : ℕ → ℕ → ChunkPayloadData → Type 0
+  Of st = unwrapped_calls.IsOf p st given (to st)
+
+  -- so many ordered messages of the stream were begun up to the place of a chunk of the message with an index
+  of-count : (st i x : ℕ) (c : ChunkPayloadData) → Of st i c → x ≤ n → has_tsn (tsn p x) c ≡ true → count_to f st x ≡ i + 1
+  of-count st i x c o le e =
+      let w = o.within in
+      let same : o.before + 1 ≡ x = same-place p (o.before + 1) x (omega (arith, w, few)) (omega (arith, le, short))
+      (sym o.is ∙ same-is c.tsn (tsn p x) e) in
+      ap (count_to f st) (sym same) ∙ sym (to-count st (o.before + 1) w) ∙ o.begun
+
+  told : (st : ℕ) → unwrapped_calls.AreDue p st given (to st) u.unwrapped.spread.step.numbered.acked s.receiving
+  told st = (u.unwrapped.told st (none-forward st s.made h.data')).0
+
+  sets-of : (st m low top : ℕ) (ss : List ChunkSet) → m ≤ low → AreSets (Of st) low top ss
+      → Every (λ x. Every (λ c. (k : ℕ) × (m ≤ k) × Of st k c) x.chunks) ss
+  sets-of st m low top [] le a = tt
+  sets-of st m low top (x ∷ xs) le a =
+      let from = a.1.0.0 in (
+        every-of (Of st a.0) (λ c. (k : ℕ) × (m ≤ k) × Of st k c) (λ c o. (a.0, omega (arith, from, le), o)) x.chunks a.1.1,
+        sets-of st m (a.0 + 1) top xs (omega (arith, from, le)) a.2,
+      )
+
   -- ## A stream
 
   module _ (st : ℕ) (l : InboundStream) (found : stream_of st r ≡ Some l) (unread : message_read l.queue.held ≡ None) where
@@ -426,13 +423,16 @@ module _ (first size max most : ℕ) (limits : Option Limits) (cs : List Call) (
     L t = sum_by (one t) q.unassembled
 
     tidy : IsTidy p n q
-    tidy = subst (Tidy p n) found (order st).tidy
+    tidy = subst (Tidy p n) found (order st)
 
     turn : IsInTurn q
     turn = subst kept.InTurn found (kept.kept first size max most limits cs s run small few all st).turn
 
-    low : q.next_ssn ≤ 2 ^ 15
-    low = subst (λ o. next_of o ≤ 2 ^ 15) found (order st).low
+    due : IsDue (Of st) (told st).k (told st).reach q
+    due = subst (unwrapped_calls.DueOn p st given (to st) (told st).k (told st).reach) found (told st).due
+
+    abbrev next : ℕ
+    next = due.index
 
     none-unordered : q.unordered ≡ []
     none-unordered = by q.unordered refl unread
@@ -483,24 +483,24 @@ module _ (first size max most : ℕ) (limits : Option Limits) (cs : List Call) (
         let d = its-data o.0 o.2.0.0 j o.2.0.1 le o.1 in
         ap (λ (x : Data). x.unordered) (sym d) ∙ o.2.1
 
-    -- of a set, its place, and what it is part of
-    abbrev IsInSet : ChunkSet → ChunkPayloadData → Type 0
-    IsInSet x c = ((j : ℕ) × IsOn p n f c j) × IsPartOf x.ssn c
+    -- of a set: its place, and that it is ordered
+    abbrev IsInSet : ChunkPayloadData → Type 0
+    IsInSet c = ((j : ℕ) × IsOn p n f c j) × IsOrdered c
 
     in-each : (ss : List ChunkSet) → Every (λ x. list_all (is_at first n f) x.chunks ≡ true) ss → Every (IsTidySet p n) ss
-        → Every (λ x. Every (IsInSet x) x.chunks) ss
+        → Every (λ x. Every IsInSet x.chunks) ss
     in-each [] e t = tt
     in-each (x ∷ xs) e t = (
-      every-two (λ c. (j : ℕ) × IsOn p n f c j) (IsPartOf x.ssn) x.chunks
+      every-two (λ c. (j : ℕ) × IsOn p n f c j) IsOrdered x.chunks
           (all-every (is_at first n f) (λ c. (j : ℕ) × IsOn p n f c j) (λ c h. at-of first n f c small h) x.chunks e.0) t.0.1,
       in-each xs e.1 t.1,
     )
 
     set-kind : (j : ℕ) → j ≤ n → 0 < S (tsn p j) → (f j).unordered ≡ false
     set-kind j le lt =
-        let o = in-sets IsInSet (tsn p j) q.ordered (in-each q.ordered on-sets tidy.sets) lt in
+        let o = in-sets (λ x. IsInSet) (tsn p j) q.ordered (in-each q.ordered on-sets tidy.sets) lt in
         let d = its-data o.1 o.3.0.0 j o.3.0.1 le o.2 in
-        ap (λ (x : Data). x.unordered) (sym d) ∙ o.3.1.ordered
+        ap (λ (x : Data). x.unordered) (sym d) ∙ o.3.1
 
     -- ## Unordered fragments
 
@@ -554,40 +554,38 @@ module _ (first size max most : ℕ) (limits : Option Limits) (cs : List Call) (
 
     -- ## Ordered fragments
 
-    -- no set stands before the next number
-    rise-low : (ss : List ChunkSet) → (i top k : ℕ) → q.next_ssn ≡ i % 2 ^ 16 → i ≤ k → top ≤ i + 2 ^ 15 → Rise k top ss
-        → Every (λ x. x.ssn < 2 ^ 15 → q.next_ssn + (k - i) ≤ x.ssn) ss
-    rise-low [] i top k e le near g = tt
-    rise-low (x ∷ xs) i top k e le near g =
-        let a = g.1.0 in
-        let b = g.1.1 in
-        let c = g.1.2 in (
-          (λ lt. omega (arith, e, le, near, a, b, c, lt, low)),
-          weaker xs (rise-low xs i top (g.0 + 1) e (omega (arith, a, le)) near g.2) (omega (arith, a)),
-        )
+    -- no set is of a message before the next one
+    late-sets : AreSets (Of st) next (told st).reach q.ordered
+    late-sets = by q.ordered due.sets turn.rise
       where
-        weaker : (ys : List ChunkSet) → Every (λ y. y.ssn < 2 ^ 15 → q.next_ssn + (g.0 + 1 - i) ≤ y.ssn) ys → k ≤ g.0 + 1
-            → Every (λ y. y.ssn < 2 ^ 15 → q.next_ssn + (k - i) ≤ y.ssn) ys
-        weaker [] h' m = tt
-        weaker (y ∷ ys) h' m = ((λ lt. let v = h'.0 lt in omega (arith, v, m)), weaker ys h'.1 m)
+        by : (ss : List ChunkSet) → AreSets (Of st) due.low (told st).reach ss → Rise turn.index (turn.index + 2 ^ 15) ss
+            → AreSets (Of st) next (told st).reach ss
+        by [] a r = tt
+        by (x ∷ xs) a r =
+            let i = a.1.0.2 in
+            let j = r.1.2 in
+            let from = r.1.0 in
+            let to' = r.1.1 in
+            let e = turn.next in
+            let g = due.next in
+            let least = a.1.0.0 in
+            let near = due.near in
+            (a.0, ((omega (arith, i, j, from, to', e, g, least, near), a.1.0.1, a.1.0.2), a.1.1), a.2)
 
-    lows : (m : ℕ) (ss : List ChunkSet) → Every (λ x. Every (IsInSet x) x.chunks) ss → Every (λ x. x.ssn < 2 ^ 15 → m ≤ x.ssn) ss
-        → Every (λ x. Every (λ c. IsInSet x c × (m ≤ c.stream_sequence_number)) x.chunks) ss
-    lows m [] e b = tt
-    lows m (x ∷ xs) e b = (each x.chunks e.0, lows m xs e.1 b.1)
-      where
-        each : (ys : List ChunkPayloadData) → Every (IsInSet x) ys → Every (λ c. IsInSet x c × (m ≤ c.stream_sequence_number)) ys
-        each [] h' = tt
-        each (y ∷ ys) h' =
-            let is = h'.0.1.number in
-            let lt = h'.0.1.low in
-            let le = b.0 (omega (arith, is, lt)) in
-            ((h'.0, omega (arith, is, le)), each ys h'.1)
+    read-under : Every (IsBelow p st given (to st) (told st).k) (fragments_read st s.receiving.read)
+    read-under =
+        read-below p st given (to st) (told st).k s.receiving.read
+        (λ i d lt. (complete-messages first size max most limits cs s run sent h.made i d lt).1) (told st).turns
 
-    -- a message with the next number would be in front, whole
+    -- the next message would be in front, whole
     module _ (a b j0 : ℕ) (g : IsRange f n lk a b) (on : (f a).stream_identifier ≡ st) (kind : (f a).unordered ≡ false)
-        (number : (f a).stream_sequence_number ≡ q.next_ssn) (before : suc j0 ≡ a) (count : count_to f st j0 ≡ q.next_ssn)
-        (opens : opens_on st (f a) ≡ true) where
+        (before : suc j0 ≡ a) (count : count_to f st j0 ≡ next) (opens : opens_on st (f a) ≡ true) where
+      count-at : (i : ℕ) → a ≤ i → i ≤ b → count_to f st i ≡ next + 1
+      count-at i from upto =
+          let one' : bit (opens_on st (f (suc j0))) ≡ 1 = ap (λ k. bit (opens_on st (f k))) before ∙ ap bit opens in
+          let here : count_to f st (suc j0) ≡ next + 1 = omega (arith, one', count) in
+          count-still f st a i from (λ l lt short'. g.inner l lt (omega (arith, short', upto))) ∙ ap (count_to f st) (sym before) ∙ here
+
       -- of its fragments none was read, and each stands in a set
       in-set : (i : ℕ) → a ≤ i → i ≤ b → 0 < S (tsn p i)
       in-set i low' high =
@@ -601,23 +599,25 @@ module _ (first size max most : ℕ) (limits : Option Limits) (cs : List Call) (
           elim (cases_lt 0 (R (tsn p i))) [
             | inr none ↦ omega (arith, e, took, none, z)
             | inl read ↦
-                let under = subst (λ o. AreReadBelow st (next_of o) s.receiving.read) found (order st).read in
-                let o = one-of (λ c. ((x : ℕ) × IsOn p n f c x) × (c.unordered ≡ false → c.stream_sequence_number < q.next_ssn)) (has_tsn (tsn p i))
+                let o = one-of (λ c. ((x : ℕ) × IsOn p n f c x) × IsBelow p st given (to st) (told st).k c) (has_tsn (tsn p i))
                 (fragments_read st s.receiving.read) (any-of (tsn p i) (fragments_read st s.receiving.read) read)
-                (every-two (λ c. (x : ℕ) × IsOn p n f c x) (λ (c : ChunkPayloadData). c.unordered ≡ false → c.stream_sequence_number < q.next_ssn)
-                (fragments_read st s.receiving.read) on-read (below-read st q.next_ssn s.receiving.read under)) in
+                (every-two (λ c. (x : ℕ) × IsOn p n f c x) (IsBelow p st given (to st) (told st).k) (fragments_read st s.receiving.read) on-read read-under) in
                 let d = its-data o.0 o.2.0.0 i o.2.0.1 (omega (arith, high, below)) o.1 in
-                let lt = o.2.1 (ap (λ (x : Data). x.unordered) d ∙ al.kind ∙ kind) in
-                let is = ap (λ (x : Data). x.stream_sequence_number) d ∙ al.number ∙ number in
-                absurd (omega (arith, lt, is))
+                let x = o.2.1 (ap (λ (y : Data). y.unordered) d ∙ al.kind ∙ kind) in
+                let c = of-count st x.0 i o.0 x.2 (omega (arith, high, below)) o.1 in
+                let c' = count-at i low' high in
+                let less = x.1 in
+                let le = due.due in
+                let from = due.from in
+                absurd (omega (arith, c, c', less, le, from))
           ]
 
       module _ (F : ChunkSet) (rest : List ChunkSet) (is-first : q.ordered ≡ F ∷ rest) where
-        rise : Rise turn.index (turn.index + 2 ^ 15) (F ∷ rest)
-        rise = subst (Rise turn.index (turn.index + 2 ^ 15)) is-first turn.rise
+        sets : AreSets (Of st) next (told st).reach (F ∷ rest)
+        sets = subst (AreSets (Of st) next (told st).reach) is-first late-sets
 
-        each-set : Every (λ x. Every (IsInSet x) x.chunks) (F ∷ rest)
-        each-set = subst (λ xs. Every (λ x. Every (IsInSet x) x.chunks) xs) is-first (in-each q.ordered on-sets tidy.sets)
+        each-set : Every (λ x. Every IsInSet x.chunks) (F ∷ rest)
+        each-set = subst (Every (λ x. Every IsInSet x.chunks)) is-first (in-each q.ordered on-sets tidy.sets)
 
         -- and so in the front set
         in-front : (i : ℕ) → a ≤ i → i ≤ b → list_any (has_tsn (tsn p i)) F.chunks ≡ true
@@ -630,33 +630,34 @@ module _ (first size max most : ℕ) (limits : Option Limits) (cs : List Call) (
                 let m = sum_by-cons (set_weight (one (tsn p i))) F rest in
                 let w = in-set i low' high in
                 let is = ap (λ xs. sum_by (set_weight (one (tsn p i))) xs) is-first in
-                let from = rise.1.0 in
-                let later = rise-low rest turn.index (turn.index + 2 ^ 15) (rise.0 + 1) turn.next (omega (arith, from)) (omega arith) rise.2 in
-                let o = in-sets (λ x c. IsInSet x c × (q.next_ssn + (rise.0 + 1 - turn.index) ≤ c.stream_sequence_number)) (tsn p i) rest
-                (lows (q.next_ssn + (rise.0 + 1 - turn.index)) rest each-set.1 later) (omega (arith, z, m, w, is)) in
+                let o = in-sets (λ x c. (k : ℕ) × (sets.0 + 1 ≤ k) × Of st k c) (tsn p i) rest
+                (sets-of st (sets.0 + 1) (sets.0 + 1) (told st).reach rest (omega arith) sets.2) (omega (arith, z, m, w, is)) in
                 let below = g.below in
-                let d = its-data o.1 o.3.0.0.0 i o.3.0.0.1 (omega (arith, high, below)) o.2 in
-                let n' = ap (λ (x : Data). x.stream_sequence_number) d ∙ (g.alike i low' high).number ∙ number in
+                let c = of-count st o.3.0 i o.1 o.3.2 (omega (arith, high, below)) o.2 in
+                let c' = count-at i low' high in
+                let from = sets.1.0.0 in
                 let over = o.3.1 in
-                absurd (omega (arith, n', over, from))
+                absurd (omega (arith, c, c', from, over))
 
-        front-ssn : F.ssn ≡ q.next_ssn
-        front-ssn =
+        front-index : sets.0 ≡ next
+        front-index =
             let le = g.le in
             let below = g.below in
-            let o = one-of (IsInSet F) (has_tsn (tsn p a)) F.chunks (in-front a (omega arith) le) each-set.0 in
-            let d = its-data o.0 o.2.0.0 a o.2.0.1 (omega (arith, le, below)) o.1 in
-            sym o.2.1.number ∙ ap (λ (x : Data). x.stream_sequence_number) d ∙ number
+            let o = one-of (Of st sets.0) (has_tsn (tsn p a)) F.chunks (in-front a (omega arith) le) sets.1.1 in
+            let c = of-count st sets.0 a o.0 o.2 (omega (arith, le, below)) o.1 in
+            let c' = count-at a (omega arith) le in
+            omega (arith, c, c')
 
         -- nothing else stands there
         alone : Every (λ (y : ChunkPayloadData). (j : ℕ) → j ≤ n → y.tsn ≡ tsn p j → (a ≤ j) × (j ≤ b)) F.chunks
         alone = every-of-all (λ (y : ChunkPayloadData). (j : ℕ) → j ≤ n → y.tsn ≡ tsn p j → (a ≤ j) × (j ≤ b)) F.chunks
-            (λ i d lt. one-alone (slice_index_or F.chunks i d) (every-at (IsInSet F) F.chunks i d lt each-set.0)
+            (λ i d lt. one-alone (slice_index_or F.chunks i d) (every-at IsInSet F.chunks i d lt each-set.0)
+            (every-at (Of st sets.0) F.chunks i d lt sets.1.1)
             (list_any_at (has_tsn (slice_index_or F.chunks i d).tsn) F.chunks i d lt (same-yes (slice_index_or F.chunks i d).tsn)))
           where
-            one-alone : (y : ChunkPayloadData) → IsInSet F y → list_any (has_tsn y.tsn) F.chunks ≡ true → (j : ℕ) → j ≤ n → y.tsn ≡ tsn p j → (a ≤ j)
-                × (j ≤ b)
-            one-alone y in' there j le e =
+            one-alone : (y : ChunkPayloadData) → IsInSet y → Of st sets.0 y → list_any (has_tsn y.tsn) F.chunks ≡ true → (j : ℕ) → j ≤ n → y.tsn ≡ tsn p j
+                → (a ≤ j) × (j ≤ b)
+            one-alone y in' of' there j le e =
                 let w = some-of y.tsn F.chunks there in
                 let m = sum_by-cons (set_weight (one y.tsn)) F rest in
                 let is = ap (λ xs. sum_by (set_weight (one y.tsn)) xs) is-first in
@@ -667,25 +668,35 @@ module _ (first size max most : ℕ) (limits : Option Limits) (cs : List Call) (
                 let pos = subst (λ i. 0 < i) same x.1 in
                 let on' = ap (λ i. (f i).stream_identifier) (sym same) ∙ x.4 in
                 let d = its-data y in'.0.0 j in'.0.1 le (eq-eqb y.tsn (tsn p j) e) in
-                let u = ap (λ (z : Data). z.unordered) (sym d) ∙ in'.1.ordered in
-                let v = ap (λ (z : Data). z.stream_sequence_number) (sym d) ∙ in'.1.number ∙ front-ssn in
-                by-range j pos le on' u v
+                let u' = ap (λ (z : Data). z.unordered) (sym d) ∙ in'.1 in
+                let v = of-count st sets.0 j y of' le (eq-eqb y.tsn (tsn p j) e) in
+                by-range j pos le on' u' (v ∙ ap (λ k. k + 1) front-index)
               where
-                by-range : (j : ℕ) → 0 < j → j ≤ n → (f j).stream_identifier ≡ st → (f j).unordered ≡ false → (f j).stream_sequence_number ≡ q.next_ssn
+                by-range : (j : ℕ) → 0 < j → j ≤ n → (f j).stream_identifier ≡ st → (f j).unordered ≡ false → count_to f st j ≡ next + 1
                     → (a ≤ j) × (j ≤ b)
-                by-range j pos le on' u v =
+                by-range j pos le on' u' v =
                     let k = range-of f n lk (last (omega (arith, pos, le))) j pos le in
                     let al = k.2.alike j k.3 k.4 in
-                    let w = k.2.le in
-                    let top = k.2.below in
-                    let x = number-is st k.0 k.2.some (omega (arith, w, top)) k.2.begins (sym al.kind ∙ u) (sym al.stream ∙ on') in
-                    let same : k.0 ≡ a = same-count f n lk st k.0 a k.2.some g.some x.4 opens x.0 j0 x.1 before (sym x.3 ∙ sym al.number ∙ v ∙ sym count) in
+                    let x = begun-at st k.0 k.2.some k.2.begins (sym al.kind ∙ u') (sym al.stream ∙ on') in
                     let from = k.3 in
+                    let upto = k.4 in
+                    let edge = x.1 in
                     let le-b = g.le in (
-                      omega (arith, same, from),
+                      elim (cases_lt j a) [
+                        | inr ge ↦ ge
+                        | inl lt ↦ let m = count-more f st j j0 (omega (arith, lt, before)) in absurd (omega (arith, m, count, v))
+                      ],
                       elim (cases_lt b j) [
                         | inr le' ↦ le'
-                        | inl lt ↦ let to = k.4 in absurd (not_both (sym (k.2.open' b (omega (arith, same, le-b)) (omega (arith, lt, to))) ∙ g.ends))
+                        | inl lt ↦ elim (cases_lt b k.0) [
+                          | inr within ↦ absurd (not_both (sym (k.2.open' b within (omega (arith, lt, upto))) ∙ g.ends))
+                          | inl over ↦
+                              let one' : bit (opens_on st (f (suc x.0))) ≡ 1 = ap (λ i. bit (opens_on st (f i))) x.1 ∙ ap bit x.2 in
+                              let m = count-more f st (suc x.0) j (omega (arith, from, edge)) in
+                              let m' = count-more f st b x.0 (omega (arith, over, edge)) in
+                              let c = count-at b le-b (omega arith) in
+                              absurd (omega (arith, one', m, m', c, v))
+                        ]
                       ],
                     )
 
@@ -694,10 +705,10 @@ module _ (first size max most : ℕ) (limits : Option Limits) (cs : List Call) (
             let tidy-front = (subst (Every (IsTidySet p n)) is-first tidy.sets).0 in
             and (is_complete F.chunks) (at_or_before16 F.ssn q.next_ssn)
             (complete-of p n short f a b g.some g.le g.below g.begins g.ends g.inner 0 F.chunks tidy-front.0 in-front alone
-            (every-of (IsInSet F) (IsOf p n short f) (λ c o i pos le e. its-data c o.0.0 i o.0.1 le (eq-eqb c.tsn (tsn p i) e)) F.chunks each-set.0))
-            (ap (λ k. at_or_before16 k q.next_ssn) (front-ssn ∙ turn.next) ∙ ap (at_or_before16 (turn.index % 2 ^ 16)) turn.next
-            ∙ at_or_before16-index turn.index turn.index (omega arith) (omega arith)
-            ∙ (let it : nat_le turn.index turn.index ≡ true = grind (arith, nat_tests) in it))
+            (every-of IsInSet (IsOf p n short f) (λ c o i pos le e. its-data c o.0.0 i o.0.1 le (eq-eqb c.tsn (tsn p i) e)) F.chunks each-set.0))
+            (ap (λ k. at_or_before16 k q.next_ssn) (sets.1.0.2 ∙ ap (λ k. k % 2 ^ 16) front-index) ∙ ap (at_or_before16 (next % 2 ^ 16)) due.next
+            ∙ at_or_before16-index next next (omega arith) (omega arith)
+            ∙ (let it : nat_le next next ≡ true = grind (arith, nat_tests) in it))
 
         front-none : ⊥
         front-none =
@@ -717,42 +728,25 @@ module _ (first size max most : ℕ) (limits : Option Limits) (cs : List Call) (
       | inl more ↦ absurd (held-ordered more)
     ]
       where
-        -- where one is held, some message has the next number
-        at-place' : (k : ℕ) → 0 < k → k ≤ n → (f k).stream_identifier ≡ st → (f k).unordered ≡ false → q.next_ssn ≤ (f k).stream_sequence_number → ⊥
-        at-place' k pos le on u ge =
-            let g = range-of f n lk (last (omega (arith, pos, le))) k pos le in
-            let al = g.2.alike k g.3 g.4 in
-            let w = g.2.le in
-            let top = g.2.below in
-            let x = number-is st g.0 g.2.some (omega (arith, w, top)) g.2.begins (sym al.kind ∙ u) (sym al.stream ∙ on) in
-            let is = x.3 in
-            let same = al.number in
-            let bit' : bit (opens_on st (f (suc x.0))) ≡ 1 = ap (λ i. bit (opens_on st (f i))) x.1 ∙ ap bit x.4 in
-            let m = nth-begun f n lk st q.next_ssn (suc x.0) (omega (arith, is, same, ge, bit')) in
+        -- where the next message was begun, it is not held
+        begun-next : (k : ℕ) → 0 < k → k ≤ n → next < count_to f st k → ⊥
+        begun-next k pos le lt =
+            let m = nth-begun f n lk st next k lt in
             let c = both ((f (suc m.0)).stream_identifier == st) ((f (suc m.0)).beginning_fragment && not (f (suc m.0)).unordered) m.3 in
             let d = both (f (suc m.0)).beginning_fragment (not (f (suc m.0)).unordered) c.1 in
             let before = m.1 in
-            let edge = x.1 in
-            let le' : suc m.0 ≤ n = omega (arith, before, edge, w, top) in
-            let begun = range-from f n lk (last (omega (arith, pos, le))) (suc m.0) (omega arith) le' d.0 in
-            let on' = same-is (f (suc m.0)).stream_identifier st c.0 in
-            let u' = negated (f (suc m.0)).unordered d.1 in
-            let y = number-is st (suc m.0) (omega arith) le' d.0 u' on' in
-            let same' : y.0 ≡ m.0 = (let z = y.1 in omega (arith, z)) in
-            none-next (suc m.0) begun.0 m.0 begun.1 on' u' (y.3 ∙ ap (count_to f st) same' ∙ m.2) refl m.2 m.3
+            let begun = range-from f n lk (last (omega (arith, pos, le))) (suc m.0) (omega arith) (omega (arith, before, le)) d.0 in
+            none-next (suc m.0) begun.0 m.0 begun.1 (same-is (f (suc m.0)).stream_identifier st c.0) (negated (f (suc m.0)).unordered d.1) refl m.2 m.3
 
         held-ordered : 0 < S t → ⊥
         held-ordered more =
-            let first' = rise-low q.ordered turn.index (turn.index + 2 ^ 15) turn.index turn.next (omega arith) (omega arith) turn.rise in
-            let m = q.next_ssn + (turn.index - turn.index) in
-            let o = in-sets (λ x c. IsInSet x c × (m ≤ c.stream_sequence_number)) t q.ordered
-            (lows m q.ordered (in-each q.ordered on-sets tidy.sets) first') more in
+            let o = in-sets (λ x c. (k : ℕ) × (next ≤ k) × Of st k c) t q.ordered
+            (sets-of st next next (told st).reach q.ordered (omega arith) late-sets) more in
             let e = equation t in
             let x = on-stream t st (omega (arith, e, more)) in
-            let d = its-data o.1 o.3.0.0.0 x.0 o.3.0.0.1 x.2 (ap (λ u. o.1.tsn == u) (sym x.3) ∙ o.2) in
+            let c = of-count st o.3.0 x.0 o.1 o.3.2 x.2 (ap (λ u. o.1.tsn == u) (sym x.3) ∙ o.2) in
             let over = o.3.1 in
-            let is = ap (λ (z : Data). z.stream_sequence_number) d in
-            at-place' x.0 x.1 x.2 x.4 (ap (λ (z : Data). z.unordered) (sym d) ∙ o.3.0.1.ordered) (omega (arith, over, is))
+            begun-next x.0 x.1 x.2 (omega (arith, c, over))
 
   -- ## All streams
 
@@ -787,7 +781,7 @@ module _ (first size max most : ℕ) (limits : Option Limits) (cs : List Call) (
 -- ## The law
 
 pub all-read : AfterEachReliableSession (λ size s. 0 < size → IsAllReadInTheEnd s)
-all-read first size max most limits cs s run small few all some writes exhausted =
+all-read first size max most limits cs s run small few all some exhausted =
     let b = both (is_all_acknowledged s.sending.sender) (reads_nothing s.receiving.receiver) exhausted in
     each-once-where first size max most limits cs s run small few all some b.0
-    (none-held first size max most limits cs s run small few all some b.0 writes b.1)
+    (none-held first size max most limits cs s run small few all some b.0 b.1)

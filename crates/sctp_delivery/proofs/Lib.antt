@@ -53,6 +53,7 @@ pub mod AllBegun
 pub mod TidyCalls
 pub mod EachRead
 pub mod Whole
+pub mod Counted
 pub mod AllRead
 mod Examples
 pub mod UnwrappedReads

@@ -111,13 +111,7 @@ reads_nothing r = list_all (λ l. not (is_some (message_read l.queue.held))) r.s
 abbrev pub is_exhausted : Transmission → Reception → Bool
 is_exhausted t r = is_all_acknowledged t && reads_nothing r
 
--- at most 2^15 writes on each stream, so that no stream sequence number comes round (RFC 1982)
-abbrev pub AreFewWrites : Session → Type 0
-AreFewWrites s =
-    (stream : ℕ) → length (filter (λ w. w.stream == stream) s.written) ≤ 2 ^ 15
-
 -- then each write was read exactly once
 abbrev pub IsAllReadInTheEnd : Session → Type 0
 IsAllReadInTheEnd s =
-    AreFewWrites s → is_exhausted s.sending.sender s.receiving.receiver ≡ true
-    → EachIsReadOnce s
+    is_exhausted s.sending.sender s.receiving.receiver ≡ true → EachIsReadOnce s

@@ -1,7 +1,7 @@
 //! What the laws of what is read in the end tell a caller.
 
 ghost use Rattle.std.specs.Prelude.{◌≡◌, ◌<◌, true};
-ghost use Rattle.sctp_delivery.specs.Complete.{AfterEachReliableSession, AreFewWrites, EachIsReadOnce, holds_nothing, is_exhausted, is_settled, reads_nothing};
+ghost use Rattle.sctp_delivery.specs.Complete.{AfterEachReliableSession, EachIsReadOnce, holds_nothing, is_exhausted, is_settled, reads_nothing};
 
 use crate::laws::complete::{all_is_read_in_the_end, each_write_is_read_where_nothing_is_held};
 use sctp_receiver::receiver::Receiver;
@@ -45,13 +45,13 @@ pub fn is_nothing_readable(receiver: &Receiver) -> bool
     true
 }
 
-/// Whether nothing waits, nothing is in flight, and nothing is to be read. In whatever reliable session the two stand, with at most
-/// 2^15 writes on each stream, each write was read exactly once where that is so.
+/// Whether nothing waits, nothing is in flight, and nothing is to be read. In whatever reliable session the two stand, each write was
+/// read exactly once where that is so.
 pub fn is_all_read(sender: &Sender, receiver: &Receiver) -> bool
     ensures exact { result ≡ is_exhausted sender.now receiver.now }
     ensures read { result ≡ true → AfterEachReliableSession (λ size s. 0 < size
         → s.sending.sender ≡ sender.now → s.receiving.receiver ≡ receiver.now
-        → AreFewWrites s → EachIsReadOnce s) }
+        → EachIsReadOnce s) }
 {
     all_is_read_in_the_end();
     sender.outbound().pending_len() == 0

@@ -17,7 +17,7 @@ pub fn each_write_is_read_where_nothing_is_held()
 {}
 
 /// And where nothing waits to be sent, nothing is in flight, and on no stream is a message to read: each write was read exactly once.
-/// So it is in reliable sessions that give out fewer than 2^31 TSNs and have at most 2^15 writes on each stream.
+/// So it is in reliable sessions that give out fewer than 2^31 TSNs, however many writes a stream has.
 pub fn all_is_read_in_the_end()
     ensures { AfterEachReliableSession (λ size s. 0 < size → IsAllReadInTheEnd s) }
 {}
