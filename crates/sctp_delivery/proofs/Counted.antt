@@ -12,7 +12,7 @@ use Rattle.sctp_delivery.proofs.Chains.{bit, opens_on}
 use Rattle.sctp_delivery.proofs.EachRead.{IsData}
 use Rattle.sctp_delivery.proofs.Every.{Every, every-joined, every-of}
 use Rattle.sctp_delivery.proofs.OrderedEntries.{begun_on}
-use Rattle.sctp_delivery.proofs.OrderedReads.{starts_ordered}
+use Rattle.sctp_delivery.proofs.OrderedMessages.{starts_ordered}
 use Rattle.sctp_delivery.proofs.Ranges.{Agrees, count_to}
 use Rattle.sctp_delivery.proofs.Sent.{Entry, IsPart, Numbered, fragment, part-length, same-parts, tail-part, terminal}
 use Rattle.sctp_delivery.proofs.SpreadEntries.{begun_to, to-all, to-more}
