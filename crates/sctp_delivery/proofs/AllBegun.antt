@@ -26,7 +26,7 @@ use Rattle.sctp_sender.specs.Sender.{Transmission, with_flight, written_to}
 use Rattle.sctp_sender.specs.SenderRuns.{Makes}
 use Rattle.sctp_delivery.specs.Complete.{is_reliable_at_sender}
 use Rattle.sctp_delivery.specs.SenderCalls as outgoing
-use Rattle.sctp_delivery.specs.SenderCalls.{IsAccepted, Made, MakesExactly, SenderCall, as_run, data_chunk, made_after, next_chunk, with_chunk}
+use Rattle.sctp_delivery.specs.SenderCalls.{IsAccepted, Made, MakesExactly, SenderCall, as_run, made_after, next_chunk, with_chunk}
 use Rattle.sctp_delivery.proofs.Begun.{begins, begins-changed, was_begun}
 use Rattle.sctp_delivery.proofs.Calls.{numbered_after, stepped}
 use Rattle.sctp_delivery.proofs.Chains.{IsChained, WaitsAlike, next-chains, sent-chained, starts-alike, still-chained, waits-itself, waits-to, write-chained}
@@ -176,10 +176,10 @@ record Sends (ws : List Numbered) (first : ℕ) (sent : List Entry) (p : Pending
   once : IsOnceMore sent more
   made' : AreSent sent ms → AreSent more ns
   begun' : (n : ℕ) → AreBegun n sent p → AreBegun n more u.flight.queue.pending
-  chained : IsChained ws u more
+  chained : IsChained u more
 
 module _ (ws : List Numbered) (first : ℕ) (t : Transmission) (sent : List Entry) (ms : List Made) (now : ℕ) (h : IsHeld ws first t sent)
-    (chained : IsChained ws t sent) (short : AreShort t) where
+    (chained : IsChained t sent) (short : AreShort t) where
   abbrev ready : Outbound
   ready = all_started now t.flight.queue
 
@@ -189,8 +189,8 @@ module _ (ws : List Numbered) (first : ℕ) (t : Transmission) (sent : List Entr
   stands : Stands ws first (λ s. number_of s t.streams) ready next sent
   stands = started ws first (λ s. number_of s t.streams) now t.flight.queue next sent h.stands
 
-  ready-chained : IsChained ws (with_flight (record t.flight { queue = ready }) t) sent
-  ready-chained = still-chained ws t (with_flight (record t.flight { queue = ready }) t) sent sent refl (λ st. refl) (starts-alike now t.flight.queue) chained
+  ready-chained : IsChained (with_flight (record t.flight { queue = ready }) t) sent
+  ready-chained = still-chained t (with_flight (record t.flight { queue = ready }) t) sent sent refl (λ st. refl) (starts-alike now t.flight.queue) chained
 
   one : (o : Option ChunkPayloadData) → next_pending ready.pending ≡ o → Sends ws first sent ready.pending
       (record t { flight = record t.flight { queue = sent_of o ready next now; next_tsn = if is_some o then following_tsn next else next } }) ms
@@ -225,7 +225,7 @@ module _ (ws : List Numbered) (first : ℕ) (t : Transmission) (sent : List Entr
               ]
         ];
         chained =
-            sent-chained ws (with_flight (record t.flight { queue = ready }) t)
+            sent-chained (with_flight (record t.flight { queue = ready }) t)
             (record t { flight = record t.flight { queue = sent_of (Some c) ready next now; next_tsn = following_tsn next } }) sent c
             (data_of (as_sent next now c)) x.write x.after
             (next-chains ws first (λ s. number_of s t.streams) sent next now c chained.chain h.stands.queued.line
@@ -251,7 +251,7 @@ module _ (ws : List Numbered) (first : ℕ) (t : Transmission) (sent : List Entr
 pub record Begins (ws : List Numbered) (first : ℕ) (t : Transmission) (sent : List Entry) : Type 0 where
   pub held : IsHeld ws first t sent
   pub begun' : AreBegun (length ws) sent t.flight.queue.pending
-  pub chained : IsChained ws t sent
+  pub chained : IsChained t sent
   pub short : AreShort t
 
 -- where the next TSN stays, no entry is more
@@ -284,8 +284,8 @@ module _ (ws : List Numbered) (first : ℕ) (t u : Transmission) (sent : List En
           held = r.held;
           begun' = subst (λ vs. AreBegun (length vs) r.more u.flight.queue.pending) (sym e)
               (kept-begun (length ws) sent r.more t.flight.queue.pending u.flight.queue.pending r.once keeps h.begun');
-          chained = subst (λ vs. IsChained vs u r.more) (sym e) (still-chained ws t u sent r.more
-              (same-sent ws (numbered_after call ws) first t u sent r.more h.held r.held next r.once) numbers alike h.chained);
+          chained = still-chained t u sent r.more
+              (same-sent ws (numbered_after call ws) first t u sent r.more h.held r.held next r.once) numbers alike h.chained;
           short = stays-short t u h.short call reliable m x a;
         };
         once = r.once;
@@ -367,8 +367,8 @@ module _ (ws : List Numbered) (first : ℕ) (t u : Transmission) (sent : List En
               let w : Numbered = record { stream = stream; payload_type = ppi; bytes = b ∷ bs; place = length ws } in
               let v = written_to l.0 stream ppi (b ∷ bs) t in
               let e = x.1 (omega arith) l.0 l.1 in
-              subst (IsChained (w ∷ ws) u) (sym (same-sent ws (w ∷ ws) first t u sent s.more h.held s.held (next-of _ e) s.once))
-              (subst (λ y. IsChained (w ∷ ws) y sent) (sym e) (write-chained ws t sent w ppi b bs l.0 l.1 h.chained));
+              subst (IsChained u) (sym (same-sent ws (w ∷ ws) first t u sent s.more h.held s.held (next-of _ e) s.once))
+              (subst (λ y. IsChained y sent) (sym e) (write-chained t sent w ppi b bs l.0 l.1 h.chained));
           short = stays-short t u h.short (outgoing.writes stream ppi (b ∷ bs)) r m x a;
         };
         once = s.once;
@@ -383,7 +383,7 @@ module _ (ws : List Numbered) (first : ℕ) (t u : Transmission) (sent : List En
           begun' = subst (AreBegun (length ws) s.more) (sym (pending-of _ x))
               (s.begun' (length ws) (kept-begun (length ws) sent sent t.flight.queue.pending (all_started now t.flight.queue).pending (inl refl)
               (starts-keep now t.flight.queue) h.begun'));
-          chained = subst (λ v. IsChained ws v s.more) (sym x) s.chained;
+          chained = subst (λ v. IsChained v s.more) (sym x) s.chained;
           short = stays-short t u h.short (outgoing.sends now) r m x a;
         };
         once = s.once;

@@ -209,7 +209,7 @@ module _ (first size max most : ℕ) (limits : Option Limits) (cs : List Call) (
   idle : IsIdle s
   idle = idle-of s settled
 
-  chained : IsChained ns s.sending.sender sent
+  chained : IsChained s.sending.sender sent
   chained = h.begins'.chained
 
   abbrev f : ℕ → Data

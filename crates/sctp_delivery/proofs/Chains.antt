@@ -1,6 +1,6 @@
 -- What a sender of a reliable session gave TSNs to: the fragments of each message side by side, and the ordered messages of a stream by
 -- their numbers.
-use Rattle.std.proofs.Common.{◌≡◌, ℕ, zero, suc, ◌+◌, ◌%◌, ◌^◌, ◌<◌, ◌≤◌, ◌⊎◌, Bool, true, false, not, List, [], ◌∷◌, length, map, drop, Option, Some, None, slice_get, inl, inr, refl, ap, sym, subst, ◌∙◌, arith}
+use Rattle.std.proofs.Common.{◌≡◌, ℕ, zero, suc, ◌+◌, ◌%◌, ◌^◌, ◌<◌, ◌⊎◌, Bool, true, false, not, List, [], ◌∷◌, length, map, drop, Option, Some, None, slice_get, inl, inr, refl, ap, sym, subst, ◌∙◌, arith}
 use Rattle.std.specs.Prelude.{⊤, ◌==◌, ◌&&◌, if◌then◌else◌, nat_lt}
 use Rattle.std.specs.List.{sum_by}
 use Rattle.std.proofs.lemmas.Bool.Decides.{nat_tests}
@@ -292,16 +292,11 @@ module _ (ws : List Numbered) (first : ℕ) (number : ℕ → ℕ) (sent : List 
 
 -- ## A sender
 
--- so many of these were written on the stream
-abbrev pub writes_on : ℕ → List Numbered → ℕ
-writes_on st ws = sum_by (λ (w : Numbered). bit (w.stream == st)) ws
-
--- what got TSNs is a chain; the next number of a stream is how many of its ordered messages were begun or wait; and those were written
-pub record IsChained (ws : List Numbered) (t : Transmission) (sent : List Entry) : Type 0 where
+-- what got TSNs is a chain; the next number of a stream is how many of its ordered messages were begun or wait
+pub record IsChained (t : Transmission) (sent : List Entry) : Type 0 where
   pub chain : IsChain sent
   pub last : EndsWith t.flight.queue.pending.selected sent
   pub number : (st : ℕ) → number_of st t.streams ≡ (begun_on st sent + waiting_on st t.flight.queue.pending.ordered) % 2 ^ 16
-  pub few : (st : ℕ) → begun_on st sent + waiting_on st t.flight.queue.pending.ordered ≤ writes_on st ws
 
 -- as many messages wait, and the same one is partially sent
 pub record WaitsAlike (p q : Pending) : Type 0 where
@@ -315,14 +310,13 @@ pub waits-to : (p q : Pending) → q ≡ p → WaitsAlike p q
 waits-to p q e = subst (WaitsAlike p) (sym e) (waits-itself p)
 
 -- a call by which nothing is written or sent
-pub still-chained : (ws : List Numbered) (t u : Transmission) (sent more : List Entry) → more ≡ sent
-    → ((st : ℕ) → number_of st u.streams ≡ number_of st t.streams) → WaitsAlike t.flight.queue.pending u.flight.queue.pending → IsChained ws t sent
-    → IsChained ws u more
-still-chained ws t u sent more same numbers w c = subst (IsChained ws u) (sym same) (record {
+pub still-chained : (t u : Transmission) (sent more : List Entry) → more ≡ sent
+    → ((st : ℕ) → number_of st u.streams ≡ number_of st t.streams) → WaitsAlike t.flight.queue.pending u.flight.queue.pending → IsChained t sent
+    → IsChained u more
+still-chained t u sent more same numbers w c = subst (IsChained u) (sym same) (record {
   chain = c.chain;
   last = subst (λ o. EndsWith o sent) (sym w.selected) c.last;
   number = λ st. let n = numbers st in let e = c.number st in let f = w.waiting st in omega (arith, n, e, f);
-  few = λ st. let e = c.few st in let f = w.waiting st in omega (arith, e, f);
 })
 
 -- lifetimes start
@@ -387,8 +381,8 @@ waiting-new l ppi b bs m st =
     by true = refl
     by false = refl
 
-module _ (ws : List Numbered) (t : Transmission) (sent : List Entry) (w : Numbered) (ppi : PayloadProtocolIdentifier) (b : ℕ) (bs : List ℕ) (l : StreamState)
-    (found : stream_of w.stream t ≡ Some l) (c : IsChained ws t sent) where
+module _ (t : Transmission) (sent : List Entry) (w : Numbered) (ppi : PayloadProtocolIdentifier) (b : ℕ) (bs : List ℕ) (l : StreamState)
+    (found : stream_of w.stream t ≡ Some l) (c : IsChained t sent) where
   abbrev u : Transmission
   u = written_to l w.stream ppi (b ∷ bs) t
 
@@ -463,7 +457,7 @@ module _ (ws : List Numbered) (t : Transmission) (sent : List Entry) (w : Number
       by true = refl
       by false = refl
 
-  pub write-chained : IsChained (w ∷ ws) u sent
+  pub write-chained : IsChained u sent
   write-chained = record {
     chain = c.chain;
     last = subst (λ o. EndsWith o sent) (sym selected) c.last;
@@ -474,27 +468,15 @@ module _ (ws : List Numbered) (t : Transmission) (sent : List Entry) (w : Number
           | inl n ↦ omega (arith, e, w', n)
           | inr n ↦ let a = n.0 in let z = n.1 in omega (arith, e, w', a, z)
         ];
-    few = λ st.
-        let e = c.few st in
-        let w' = waiting (is_ordered l.unordered ppi) refl st in
-        let m = sum_by-cons (λ (x : Numbered). bit (x.stream == st)) w ws in
-        let le = less (is_ordered l.unordered ppi) (w.stream == st) in
-        omega (arith, e, w', m, le);
   }
-    where
-      less : (k j : Bool) → bit (k && j) ≤ bit j
-      less true true = omega arith
-      less true false = omega arith
-      less false true = omega arith
-      less false false = omega arith
 
 -- ## A fragment is sent
 
-pub sent-chained : (ws : List Numbered) (t u : Transmission) (sent : List Entry) (c : ChunkPayloadData) (d : Data) (w : Numbered) (after : List ℕ)
+pub sent-chained : (t u : Transmission) (sent : List Entry) (c : ChunkPayloadData) (d : Data) (w : Numbered) (after : List ℕ)
     → IsNext t.flight.queue.pending sent c d → u.streams ≡ t.streams
-    → u.flight.queue.pending ≡ rest_after c.beginning_fragment c.unordered t.flight.queue.pending → IsChained ws t sent
-    → IsChained ws u (fragment d w after ∷ sent)
-sent-chained ws t u sent c d w after n streams rest h = record {
+    → u.flight.queue.pending ≡ rest_after c.beginning_fragment c.unordered t.flight.queue.pending → IsChained t sent
+    → IsChained u (fragment d w after ∷ sent)
+sent-chained t u sent c d w after n streams rest h = record {
   chain = (n.joins, (n.numbered, h.chain));
   last = subst (λ (p : Pending). EndsWith p.selected (fragment d w after ∷ sent)) (sym rest) (n.last w after);
   number = λ st.
@@ -503,9 +485,4 @@ sent-chained ws t u sent c d w after n streams rest h = record {
       let r = ap (λ (p : Pending). waiting_on st p.ordered) rest in
       let s = ap (number_of st) streams in
       omega (arith, e, m, r, s);
-  few = λ st.
-      let e = h.few st in
-      let m = n.moves st in
-      let r = ap (λ (p : Pending). waiting_on st p.ordered) rest in
-      omega (arith, e, m, r);
 }

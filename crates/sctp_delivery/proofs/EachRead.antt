@@ -28,7 +28,7 @@ use Rattle.sctp_delivery.specs.Complete.{AfterEachReliableSession, EachIsReadOnc
 use Rattle.sctp_delivery.specs.Messages.{StandAt, fragments_of_all}
 use Rattle.sctp_delivery.specs.Sacks.{are_apart, passes, tsns_given, was_passed, was_taken}
 use Rattle.sctp_delivery.specs.SenderCalls as outgoing
-use Rattle.sctp_delivery.specs.SenderCalls.{Made, SenderCall, Write, data_chunk, forward_tsn, made_after, next_chunk, with_chunk, written_after}
+use Rattle.sctp_delivery.specs.SenderCalls.{Made, SenderCall, data_chunk, forward_tsn, made_after, next_chunk, with_chunk, written_after}
 use Rattle.sctp_delivery.specs.Session.{Call, ReceiverFollows, RunsTo, SenderFollows, Session, at_start, of_receiver, of_sender}
 use Rattle.sctp_delivery.proofs.AllBegun.{Begins, begins_in, stays-begun}
 use Rattle.sctp_delivery.proofs.Begun.{AreOnce, begins, was_begun}
@@ -38,7 +38,7 @@ use Rattle.sctp_delivery.proofs.Every.{Every}
 use Rattle.sctp_delivery.proofs.Kept as kept
 use Rattle.sctp_delivery.proofs.OnceWritten.{EachRead, apart, each-read, places, stand}
 use Rattle.sctp_delivery.proofs.ReadOnce as read_once
-use Rattle.sctp_delivery.proofs.ReadOnce.{count-none, one}
+use Rattle.sctp_delivery.proofs.ReadOnce.{one}
 use Rattle.sctp_delivery.proofs.SackLaws.{IsInStep, in-step}
 use Rattle.sctp_delivery.proofs.Senders.{AreSent}
 use Rattle.sctp_delivery.proofs.Sent.{Entry, GoesOn, IsLine, IsPart, Numbered, contains-more, fragment, part-length, part-line, same-parts, same-tsn, stands-behind, terminal}
@@ -169,7 +169,7 @@ at-first tsn size max most limits small some = record {
   begins' = record {
     held = held-first tsn size max most limits small some;
     begun' = λ m lt. absurd (omega (arith, lt));
-    chained = record { chain = tt; last = tt; number = λ st. omega arith; few = λ st. omega arith };
+    chained = record { chain = tt; last = tt; number = λ st. omega arith };
     short = record { streams = tt; queue = record { ordered = tt; unordered = tt; inflight = tt } };
   };
   made = tt;

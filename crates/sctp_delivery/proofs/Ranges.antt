@@ -60,7 +60,7 @@ abbrev pub count_to : (ℕ → Data) → ℕ → ℕ → ℕ
 count_to f st zero = 0
 count_to f st (suc k) = bit (opens_on st (f (suc k))) + count_to f st k
 
-pub count-is : (f : ℕ → Data) (st : ℕ) (xs : List Entry) → Agrees f xs → begun_on st xs ≡ count_to f st (length xs)
+count-is : (f : ℕ → Data) (st : ℕ) (xs : List Entry) → Agrees f xs → begun_on st xs ≡ count_to f st (length xs)
 count-is f st [] a = refl
 count-is f st (terminal ∷ xs) a = absurd a
 count-is f st (fragment d w after ∷ xs) a =
@@ -271,23 +271,6 @@ module _ (f : ℕ → Data) (n : ℕ) (l : IsLinked f n) where
       | inr more ↦ omega (arith, ge, more)
     ]
   ]
-
-  -- two ordered messages of a stream have different counts before them
-  pub same-count : (st a b : ℕ) → 0 < a → 0 < b → opens_on st (f a) ≡ true → opens_on st (f b) ≡ true → (i j : ℕ) → suc i ≡ a → suc j ≡ b
-      → count_to f st i ≡ count_to f st j → a ≡ b
-  same-count st a b some more x y i j e g same = elim (cases_lt a b) [
-    | inl lt ↦ absurd (apart i j e g x (omega (arith, lt, e, g)) same)
-    | inr ge ↦ elim (cases_lt b a) [
-      | inl lt ↦ absurd (apart j i g e y (omega (arith, lt, e, g)) (sym same))
-      | inr le ↦ omega (arith, ge, le)
-    ]
-  ]
-    where
-      apart : (i j : ℕ) {a b : ℕ} → suc i ≡ a → suc j ≡ b → opens_on st (f a) ≡ true → suc i ≤ j → count_to f st i ≡ count_to f st j → ⊥
-      apart i j e g x le same =
-          let one : bit (opens_on st (f (suc i))) ≡ 1 = ap (λ k. bit (opens_on st (f k))) e ∙ ap bit x in
-          let more = count-more f st (suc i) j le in
-          omega (arith, one, more, same)
 
   -- where more than so many were begun, the message behind so many was
   pub nth-begun : (st i k : ℕ) → i < count_to f st k → (j : ℕ) × (j < k) × (count_to f st j ≡ i) × (opens_on st (f (suc j)) ≡ true)
