@@ -9,7 +9,7 @@ use Rattle.std.proofs.lemmas.List.Sums.{sum_by-cons}
 use Rattle.std.proofs.lemmas.Option.{none-some}
 use Rattle.sctp_list_lemmas.specs.Serial.{at_or_before16, distance}
 use Rattle.sctp_list_lemmas.proofs.Cases.{negated, or-split, same-is, same-yes, some-same}
-use Rattle.sctp_list_lemmas.proofs.More.{and, both, fails, not_both}
+use Rattle.sctp_list_lemmas.proofs.More.{and, both, not_both}
 use Rattle.sctp_list_lemmas.proofs.Round.{tsn}
 use Rattle.sctp_list_lemmas.proofs.Wraps.{at_or_before16-index}
 use Rattle.sctp_data.specs.declared.chunk.chunk_payload_data.ChunkPayloadData.{ChunkPayloadData}
@@ -32,7 +32,7 @@ use Rattle.sctp_delivery.specs.Complete.{AfterEachReliableSession, IsAllReadInTh
 use Rattle.sctp_delivery.specs.Sacks.{are_apart, tsns_given}
 use Rattle.sctp_delivery.specs.Session.{Call, RunsTo, Session, at_start}
 use Rattle.sctp_delivery.proofs.Chains.{EndsWith, IsChained, bit, opens_on}
-use Rattle.sctp_delivery.proofs.Counted.{IsBelow, StandsAt, agrees-of, count-still, none-forward, read-below, to-is}
+use Rattle.sctp_delivery.proofs.Counted.{IsBelow, StandsAt, agrees-of, SetsOf, count-still, read-below, sets-each, to-is}
 use Rattle.sctp_delivery.proofs.Delivered.{found-sent}
 use Rattle.sctp_delivery.proofs.EachRead.{BegunIn, IsIdle, begun-in, each-once-where, idle-of, taken, complete-messages}
 use Rattle.sctp_delivery.proofs.Every.{Every, every-at, every-of, every-of-all, one-of}
@@ -51,9 +51,10 @@ use Rattle.sctp_delivery.proofs.Sessions as sessions
 use Rattle.sctp_delivery.proofs.Tidy.{IsOrdered, IsTidy, IsTidySet, IsUnordered}
 use Rattle.sctp_delivery.proofs.TidyCalls.{IsFit, IsInOrder, Tidy, in-order-after}
 use Rattle.sctp_delivery.proofs.SpreadEntries.{begun_to}
+use Rattle.sctp_delivery.proofs.SpreadEntries as spread_entries
 use Rattle.sctp_delivery.proofs.TsnPlaces.{base, past-first, same-place}
-use Rattle.sctp_delivery.proofs.UnwrappedCalls as unwrapped_calls
-use Rattle.sctp_delivery.proofs.UnwrappedReads.{AreSets, IsDue}
+use Rattle.sctp_delivery.proofs.UnwrappedHolds as holds
+use Rattle.sctp_delivery.proofs.UnwrappedReads.{IsDue}
 use Rattle.sctp_delivery.proofs.UnwrappedSessions.{HasUnwrapped, unwrapped}
 use Rattle.sctp_delivery.proofs.Waiting.{Waits, between, inside, place_of}
 use Rattle.sctp_delivery.proofs.Whole.{IsOn, place-of, read-whole}
@@ -384,8 +385,14 @@ module _ (first size max most : ℕ) (limits : Option Limits) (cs : List Call) (
   to-count st k le = let long = u.unwrapped.spread.long in
       to-is f st k u.sent (agrees-of f u.sent stands u.sent (part-itself u.sent)) (omega (arith, le, long))
 
+  abbrev at : ℕ → ℕ → Bool
+  at st k = spread_entries.is_at st k u.sent
+
+  abbrev Was : ChunkPayloadData → Type 0
+  Was c = WasSent u.sent (data_of c)
+
   abbrev Of : ℕ → ℕ → ChunkPayloadData → Type 0
-  Of st = unwrapped_calls.IsOf p st given (to st)
+  Of st = holds.IsOf p st given (to st) (at st) Was
 
   -- so many ordered messages of the stream were begun up to the place of a chunk of the message with an index
   of-count : (st i x : ℕ) (c : ChunkPayloadData) → Of st i c → x ≤ n → has_tsn (tsn p x) c ≡ true → count_to f st x ≡ i + 1
@@ -395,10 +402,16 @@ module _ (first size max most : ℕ) (limits : Option Limits) (cs : List Call) (
       (sym o.is ∙ same-is c.tsn (tsn p x) e) in
       ap (count_to f st) (sym same) ∙ sym (to-count st (o.before + 1) w) ∙ o.begun
 
-  told : (st : ℕ) → unwrapped_calls.AreDue p st given (to st) u.unwrapped.spread.step.numbered.acked s.receiving
-  told st = (u.unwrapped.told st (none-forward st s.made h.data')).0
+  told : (st : ℕ) → holds.AreDue p st given (to st) (at st) Was u.unwrapped.spread.step.numbered.acked s.receiving
+  told st = (u.unwrapped.told st).0
 
-  sets-of : (st m low top : ℕ) (ss : List ChunkSet) → m ≤ low → AreSets (Of st) low top ss
+  abbrev Pieces : ℕ → ℕ → List ChunkPayloadData → Type 0
+  Pieces st = holds.Fits p st given (to st) (at st) Was
+
+  abbrev Came : ℕ → ℕ → Type 0
+  Came st = holds.Came p st given (to st) (at st) Was r.cumulative_tsn r.beyond
+
+  sets-of : (st m low top : ℕ) (ss : List ChunkSet) → m ≤ low → SetsOf (Of st) low top ss
       → Every (λ x. Every (λ c. (k : ℕ) × (m ≤ k) × Of st k c) x.chunks) ss
   sets-of st m low top [] le a = tt
   sets-of st m low top (x ∷ xs) le a =
@@ -428,8 +441,8 @@ module _ (first size max most : ℕ) (limits : Option Limits) (cs : List Call) (
     turn : IsInTurn q
     turn = subst kept.InTurn found (kept.kept first size max most limits cs s run small few all st).turn
 
-    due : IsDue (Of st) (told st).k (told st).reach q
-    due = subst (unwrapped_calls.DueOn p st given (to st) (told st).k (told st).reach) found (told st).due
+    due : IsDue p given (to st) (Pieces st) (Came st) (told st).k (told st).reach q
+    due = subst (holds.DueOn p st given (to st) (at st) Was (Came st) (told st).k (told st).reach) found (told st).due
 
     abbrev next : ℕ
     next = due.index
@@ -555,11 +568,11 @@ module _ (first size max most : ℕ) (limits : Option Limits) (cs : List Call) (
     -- ## Ordered fragments
 
     -- no set is of a message before the next one
-    late-sets : AreSets (Of st) next (told st).reach q.ordered
-    late-sets = by q.ordered due.sets turn.rise
+    late-sets : SetsOf (Of st) next (told st).reach q.ordered
+    late-sets = by q.ordered (sets-each p st given (to st) (at st) Was (Came st) due.low (told st).reach q.ordered due.sets) turn.rise
       where
-        by : (ss : List ChunkSet) → AreSets (Of st) due.low (told st).reach ss → Rise turn.index (turn.index + 2 ^ 15) ss
-            → AreSets (Of st) next (told st).reach ss
+        by : (ss : List ChunkSet) → SetsOf (Of st) due.low (told st).reach ss → Rise turn.index (turn.index + 2 ^ 15) ss
+            → SetsOf (Of st) next (told st).reach ss
         by [] a r = tt
         by (x ∷ xs) a r =
             let i = a.1.0.2 in
@@ -572,9 +585,9 @@ module _ (first size max most : ℕ) (limits : Option Limits) (cs : List Call) (
             let near = due.near in
             (a.0, ((omega (arith, i, j, from, to', e, g, least, near), a.1.0.1, a.1.0.2), a.1.1), a.2)
 
-    read-under : Every (IsBelow p st given (to st) (told st).k) (fragments_read st s.receiving.read)
+    read-under : Every (IsBelow p st given (to st) (at st) Was (told st).k) (fragments_read st s.receiving.read)
     read-under =
-        read-below p st given (to st) (told st).k s.receiving.read
+        read-below p st given (to st) (at st) Was (told st).k s.receiving.read
         (λ i d lt. (complete-messages first size max most limits cs s run sent h.made i d lt).1) (told st).turns
 
     -- the next message would be in front, whole
@@ -599,9 +612,9 @@ module _ (first size max most : ℕ) (limits : Option Limits) (cs : List Call) (
           elim (cases_lt 0 (R (tsn p i))) [
             | inr none ↦ omega (arith, e, took, none, z)
             | inl read ↦
-                let o = one-of (λ c. ((x : ℕ) × IsOn p n f c x) × IsBelow p st given (to st) (told st).k c) (has_tsn (tsn p i))
+                let o = one-of (λ c. ((x : ℕ) × IsOn p n f c x) × IsBelow p st given (to st) (at st) Was (told st).k c) (has_tsn (tsn p i))
                 (fragments_read st s.receiving.read) (any-of (tsn p i) (fragments_read st s.receiving.read) read)
-                (every-two (λ c. (x : ℕ) × IsOn p n f c x) (IsBelow p st given (to st) (told st).k) (fragments_read st s.receiving.read) on-read read-under) in
+                (every-two (λ c. (x : ℕ) × IsOn p n f c x) (IsBelow p st given (to st) (at st) Was (told st).k) (fragments_read st s.receiving.read) on-read read-under) in
                 let d = its-data o.0 o.2.0.0 i o.2.0.1 (omega (arith, high, below)) o.1 in
                 let x = o.2.1 (ap (λ (y : Data). y.unordered) d ∙ al.kind ∙ kind) in
                 let c = of-count st x.0 i o.0 x.2 (omega (arith, high, below)) o.1 in
@@ -613,8 +626,8 @@ module _ (first size max most : ℕ) (limits : Option Limits) (cs : List Call) (
           ]
 
       module _ (F : ChunkSet) (rest : List ChunkSet) (is-first : q.ordered ≡ F ∷ rest) where
-        sets : AreSets (Of st) next (told st).reach (F ∷ rest)
-        sets = subst (AreSets (Of st) next (told st).reach) is-first late-sets
+        sets : SetsOf (Of st) next (told st).reach (F ∷ rest)
+        sets = subst (SetsOf (Of st) next (told st).reach) is-first late-sets
 
         each-set : Every (λ x. Every IsInSet x.chunks) (F ∷ rest)
         each-set = subst (Every (λ x. Every IsInSet x.chunks)) is-first (in-each q.ordered on-sets tidy.sets)

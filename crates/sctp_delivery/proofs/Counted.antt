@@ -1,23 +1,23 @@
 -- How many ordered messages of a stream were begun, by places and by entries; and what was read of them.
-use Rattle.std.proofs.Common.{◌≡◌, ℕ, zero, suc, ◌<◌, ◌≤◌, Bool, true, false, not, List, [], ◌∷◌, ◌++◌, length, inl, inr, refl, ap, sym, subst, ◌∙◌, arith}
-use Rattle.std.specs.Prelude.{All, ◌==◌, ◌&&◌, if◌then◌else◌}
-use Rattle.std.specs.List.{list_all, list_any}
+use Rattle.std.proofs.Common.{◌≡◌, ℕ, zero, suc, ◌+◌, ◌<◌, ◌≤◌, Bool, true, false, not, List, [], ◌∷◌, ◌++◌, length, inl, inr, refl, ap, sym, subst, ◌∙◌, arith}
+use Rattle.std.specs.Prelude.{⊤, All, ◌==◌, ◌&&◌, if◌then◌else◌}
+use Rattle.std.specs.List.{list_all}
 use Rattle.std.proofs.lemmas.Bool.{cases_lt}
 use Rattle.sctp_list_lemmas.proofs.More.{both, not_both}
 use Rattle.sctp_data.specs.declared.chunk.chunk_payload_data.ChunkPayloadData.{ChunkPayloadData}
+use Rattle.sctp_data.specs.ChunkSet.{ChunkSet}
 use Rattle.sctp_data.specs.PayloadData.{Data}
 use Rattle.sctp_receiver.specs.ReceiverRuns.{Message, fragments_read, is_like, is_one_message}
-use Rattle.sctp_delivery.specs.SenderCalls.{Made, data_chunk, forward_tsn}
 use Rattle.sctp_delivery.proofs.Chains.{bit, opens_on}
-use Rattle.sctp_delivery.proofs.EachRead.{IsData}
 use Rattle.sctp_delivery.proofs.Every.{Every, every-joined, every-of}
 use Rattle.sctp_delivery.proofs.OrderedEntries.{begun_on}
 use Rattle.sctp_delivery.proofs.OrderedMessages.{starts_ordered}
 use Rattle.sctp_delivery.proofs.Ranges.{Agrees, count_to}
 use Rattle.sctp_delivery.proofs.Sent.{Entry, IsPart, Numbered, fragment, part-length, same-parts, tail-part, terminal}
 use Rattle.sctp_delivery.proofs.SpreadEntries.{begun_to, to-all, to-more}
-use Rattle.sctp_delivery.proofs.UnwrappedCalls.{AreInTurn, IsOf, Where}
-use Rattle.sctp_delivery.proofs.UnwrappedSessions.{passes_by}
+use Rattle.sctp_delivery.proofs.UnwrappedHolds.{AreInTurn, Fits, IsOf, Rises, Where}
+use Rattle.sctp_delivery.proofs.UnwrappedReads.{AreSets}
+use Rattle.sctp_delivery.proofs.KeptSets.{IsAt}
 
 -- ## By places and by entries
 
@@ -73,15 +73,24 @@ count-still f st a (suc j) le inner = elim (cases_lt j a) [
 
 -- ## What was read
 
-pub none-forward : (st : ℕ) (ms : List Made) → Every IsData ms → list_any (passes_by st) ms ≡ false
-none-forward st [] h = refl
-none-forward st (data_chunk d ∷ ms) h = none-forward st ms h.1
-none-forward st (forward_tsn f ∷ ms) h = absurd h.0
+-- from set to set the index rises, and this is so of the chunks of each and its index
+abbrev pub SetsOf : (ℕ → ChunkPayloadData → Type 0) → ℕ → ℕ → List ChunkSet → Type 0
+SetsOf C low top [] = ⊤
+SetsOf C low top (s ∷ ss) = (k : ℕ) × (IsAt low top k s × Every (C k) s.chunks) × SetsOf C (k + 1) top ss
 
-module _ (p st n : ℕ) (B : ℕ → ℕ) where
+module _ (p st n : ℕ) (B : ℕ → ℕ) (E : ℕ → Bool) (M : ChunkPayloadData → Type 0) where
+  each-of : (i low : ℕ) (cs : List ChunkPayloadData) → Rises p st n B E M i low cs → Every (IsOf p st n B E M i) cs
+  each-of i low [] h = tt
+  each-of i low (c ∷ cs) h = (h.0, each-of i (h.0.before + 1) cs h.2)
+
+  pub sets-each : (C : ℕ → Type 0) (low top : ℕ) (ss : List ChunkSet) → AreSets p n B (Fits p st n B E M) C low top ss
+      → SetsOf (IsOf p st n B E M) low top ss
+  sets-each C low top [] a = tt
+  sets-each C low top (s ∷ ss) a = (a.0, (a.1.0, each-of a.0 0 s.chunks a.1.1), sets-each C (a.0 + 1) top ss a.2)
+
   -- if it is ordered, it is of a message with an index below this one
   abbrev pub IsBelow : ℕ → ChunkPayloadData → Type 0
-  IsBelow k c = c.unordered ≡ false → (i : ℕ) × (i < k) × IsOf p st n B i c
+  IsBelow k c = c.unordered ≡ false → (i : ℕ) × (i < k) × IsOf p st n B E M i c
 
   each-like : (k : ℕ) (x : ChunkPayloadData) → x.unordered ≡ true → (ys : List ChunkPayloadData) → list_all (is_like x) ys ≡ true → Every (IsBelow k) ys
   each-like k x u [] e = tt
@@ -105,20 +114,20 @@ module _ (p st n : ℕ) (B : ℕ → ℕ) where
       is-so true h = refl
       is-so false h = absurd (not_both (sym h))
 
-  pub read-below : (k : ℕ) (ms : List Message) → All (λ m. is_one_message m.fragments ≡ true) ms → AreInTurn p st n B k ms
+  pub read-below : (k : ℕ) (ms : List Message) → All (λ m. is_one_message m.fragments ≡ true) ms → AreInTurn p st n B E M k ms
       → Every (IsBelow k) (fragments_read st ms)
   read-below k [] all t = tt
   read-below k (m ∷ ms) all t =
       by (m.stream == st) refl (starts_ordered m.fragments) refl t (λ j h. read-below j ms (λ i d short. all (suc i) d (omega (arith, short))) h)
     where
       by : (b : Bool) → (m.stream == st) ≡ b → (c : Bool) → starts_ordered m.fragments ≡ c
-          → Where p st n B (b && c) ((i : ℕ) × (i < k) × Every (IsOf p st n B i) m.fragments × AreInTurn p st n B i ms) (AreInTurn p st n B k ms)
-          → ((j : ℕ) → AreInTurn p st n B j ms → Every (IsBelow j) (fragments_read st ms))
+          → Where p st n B E M (b && c) ((i : ℕ) × (i < k) × Fits p st n B E M i m.fragments × AreInTurn p st n B E M i ms) (AreInTurn p st n B E M k ms)
+          → ((j : ℕ) → AreInTurn p st n B E M j ms → Every (IsBelow j) (fragments_read st ms))
           → Every (IsBelow k) (if b then m.fragments ++ fragments_read st ms else fragments_read st ms)
       by true e true g h ih =
           let lt = h.1 in
           every-joined (IsBelow k) m.fragments (fragments_read st ms)
-          (every-of (IsOf p st n B h.0) (IsBelow k) (λ c o u. (h.0, h.1, o)) m.fragments h.2)
+          (every-of (IsOf p st n B E M h.0) (IsBelow k) (λ c o u. (h.0, h.1, o)) m.fragments (each-of h.0 0 m.fragments h.2))
           (every-of (IsBelow h.0) (IsBelow k) (λ c o u. let x = o u in let less = x.1 in (x.0, omega (arith, less, lt), x.2)) (fragments_read st ms)
           (ih h.0 h.3))
       by true e false g h ih =
