@@ -1,13 +1,13 @@
 -- In a reliable session, where nothing waits or is in flight and nothing is to be read, nothing is held.
 use Rattle.std.proofs.Common.{◌≡◌, ℕ, zero, suc, ◌+◌, ◌<◌, ◌≤◌, ◌%◌, ◌^◌, Bool, true, false, not, List, [], ◌∷◌, ◌++◌, length, Option, Some, None, is_some, inl, inr, refl, ap, sym, subst, ◌∙◌, arith}
-use Rattle.std.specs.Prelude.{find, ◌==◌, ◌&&◌, if◌then◌else◌, nat_le, nat_lt, slice_index_or}
+use Rattle.std.specs.Prelude.{find, ◌==◌, ◌&&◌, if◌then◌else◌, nat_le, slice_index_or}
 use Rattle.std.specs.List.{filter, list_all, list_any, sum_by}
 use Rattle.std.proofs.lemmas.Bool.{cases_lt, eq-eqb}
 use Rattle.std.proofs.lemmas.Bool.Decides.{nat_tests}
 use Rattle.std.proofs.lemmas.List.Folds.{list_all-append, list_any_at}
 use Rattle.std.proofs.lemmas.List.Sums.{sum_by-cons}
 use Rattle.std.proofs.lemmas.Option.{none-some}
-use Rattle.sctp_list_lemmas.specs.Serial.{at_or_before16, distance}
+use Rattle.sctp_list_lemmas.specs.Serial.{at_or_before16}
 use Rattle.sctp_list_lemmas.proofs.Cases.{negated, or-split, same-is, same-yes, some-same}
 use Rattle.sctp_list_lemmas.proofs.More.{and, both, not_both}
 use Rattle.sctp_list_lemmas.proofs.Round.{tsn}
@@ -32,7 +32,7 @@ use Rattle.sctp_delivery.specs.Complete.{AfterEachReliableSession, IsAllReadInTh
 use Rattle.sctp_delivery.specs.Sacks.{are_apart, tsns_given}
 use Rattle.sctp_delivery.specs.Session.{Call, RunsTo, Session, at_start}
 use Rattle.sctp_delivery.proofs.Chains.{EndsWith, IsChained, bit, opens_on}
-use Rattle.sctp_delivery.proofs.Counted.{IsBelow, StandsAt, agrees-of, SetsOf, count-still, read-below, sets-each, to-is}
+use Rattle.sctp_delivery.proofs.Counted.{IsBelow, SetsOf, StandsAt, agrees-of, at-of, count-still, is_at, of-at, read-below, sets-each, to-is}
 use Rattle.sctp_delivery.proofs.Delivered.{found-sent}
 use Rattle.sctp_delivery.proofs.EachRead.{BegunIn, IsIdle, begun-in, each-once-where, idle-of, taken, complete-messages}
 use Rattle.sctp_delivery.proofs.Every.{Every, every-at, every-of, every-of-all, one-of}
@@ -44,7 +44,6 @@ use Rattle.sctp_delivery.proofs.ReadOnce.{count-none, none-count, one}
 use Rattle.sctp_delivery.proofs.Rising.{Covers, IsOf, complete-of, run-of}
 use Rattle.sctp_delivery.proofs.SackLaws as sacks
 use Rattle.sctp_delivery.proofs.SackLaws.{in-step}
-use Rattle.sctp_delivery.proofs.SameData.{is_same, same-data, same-itself}
 use Rattle.sctp_delivery.proofs.Sending.{Queued}
 use Rattle.sctp_delivery.proofs.Sent.{Entry, IsLine, IsPart, Numbered, WasSent, fragment, part-itself, part-length, part-line, terminal}
 use Rattle.sctp_delivery.proofs.Sessions as sessions
@@ -52,41 +51,12 @@ use Rattle.sctp_delivery.proofs.Tidy.{IsOrdered, IsTidy, IsTidySet, IsUnordered}
 use Rattle.sctp_delivery.proofs.TidyCalls.{IsFit, IsInOrder, Tidy, in-order-after}
 use Rattle.sctp_delivery.proofs.SpreadEntries.{begun_to}
 use Rattle.sctp_delivery.proofs.SpreadEntries as spread_entries
-use Rattle.sctp_delivery.proofs.TsnPlaces.{base, past-first, same-place}
+use Rattle.sctp_delivery.proofs.TsnPlaces.{base, same-place}
 use Rattle.sctp_delivery.proofs.UnwrappedHolds as holds
 use Rattle.sctp_delivery.proofs.UnwrappedReads.{IsDue}
 use Rattle.sctp_delivery.proofs.UnwrappedSessions.{HasUnwrapped, unwrapped}
 use Rattle.sctp_delivery.proofs.Waiting.{Waits, between, inside, place_of}
 use Rattle.sctp_delivery.proofs.Whole.{IsOn, place-of, read-whole}
-
--- ## Chunks at their places, as a test
-
-abbrev is_at : ℕ → ℕ → (ℕ → Data) → ChunkPayloadData → Bool
-is_at first n f c = is_same (data_of c) (f (distance first c.tsn + 1)) && (nat_le (distance first c.tsn + 1) n && nat_lt c.tsn (2 ^ 32))
-
-distance-is : (first j : ℕ) → first < 2 ^ 32 → 0 < j → j < 2 ^ 32 → distance first (tsn (base first) j) + 1 ≡ j
-unfolding distance
-distance-is first j small some lt = omega (arith, small, some, lt)
-
-at-of : (first n : ℕ) (f : ℕ → Data) (c : ChunkPayloadData) → first < 2 ^ 32 → is_at first n f c ≡ true → (j : ℕ) × IsOn (base first) n f c j
-at-of first n f c small e =
-    let k = distance first c.tsn + 1 in
-    let a = both (is_same (data_of c) (f k)) (nat_le k n && nat_lt c.tsn (2 ^ 32)) e in
-    let b = both (nat_le k n) (nat_lt c.tsn (2 ^ 32)) a.1 in
-    let le : k ≤ n = (let h = b.0 in grind (arith, nat_tests, h)) in
-    let lt : c.tsn < 2 ^ 32 = (let h = b.1 in grind (arith, nat_tests, h)) in
-    (k, record { some = omega arith; within = le; is = past-first first c.tsn small lt; data' = same-data (data_of c) (f k) a.0 })
-
-of-at : (first n : ℕ) (f : ℕ → Data) (c : ChunkPayloadData) (j : ℕ) → first < 2 ^ 32 → n < 2 ^ 31 → IsOn (base first) n f c j → is_at first n f c ≡ true
-of-at first n f c j small few h =
-    let some = h.some in
-    let within = h.within in
-    let k : distance first c.tsn + 1 ≡ j = ap (λ t. distance first t + 1) h.is ∙ distance-is first j small some (omega (arith, within, few)) in
-    let lt : c.tsn < 2 ^ 32 = (let e = h.is in omega (arith, e)) in
-    let le : distance first c.tsn + 1 ≤ n = omega (arith, k, within) in
-    and (is_same (data_of c) (f (distance first c.tsn + 1))) (nat_le (distance first c.tsn + 1) n && nat_lt c.tsn (2 ^ 32))
-    (ap (λ i. is_same (data_of c) (f i)) k ∙ ap (is_same (data_of c)) (sym h.data') ∙ same-itself (data_of c))
-    (and (nat_le (distance first c.tsn + 1) n) (nat_lt c.tsn (2 ^ 32)) (grind (arith, nat_tests, le)) (grind (arith, nat_tests, lt)))
 
 -- ## Lists
 

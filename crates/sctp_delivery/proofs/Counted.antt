@@ -1,23 +1,58 @@
 -- How many ordered messages of a stream were begun, by places and by entries; and what was read of them.
-use Rattle.std.proofs.Common.{◌≡◌, ℕ, zero, suc, ◌+◌, ◌<◌, ◌≤◌, Bool, true, false, not, List, [], ◌∷◌, ◌++◌, length, inl, inr, refl, ap, sym, subst, ◌∙◌, arith}
-use Rattle.std.specs.Prelude.{⊤, All, ◌==◌, ◌&&◌, if◌then◌else◌}
+use Rattle.std.proofs.Common.{◌≡◌, ℕ, zero, suc, ◌+◌, ◌^◌, ◌<◌, ◌≤◌, Bool, true, false, not, List, [], ◌∷◌, ◌++◌, length, inl, inr, refl, ap, sym, subst, ◌∙◌, arith}
+use Rattle.std.specs.Prelude.{⊤, All, ◌==◌, ◌&&◌, if◌then◌else◌, nat_le, nat_lt}
 use Rattle.std.specs.List.{list_all}
 use Rattle.std.proofs.lemmas.Bool.{cases_lt}
-use Rattle.sctp_list_lemmas.proofs.More.{both, not_both}
+use Rattle.std.proofs.lemmas.Bool.Decides.{nat_tests}
+use Rattle.sctp_list_lemmas.specs.Serial.{distance}
+use Rattle.sctp_list_lemmas.proofs.More.{and, both, not_both}
+use Rattle.sctp_list_lemmas.proofs.Round.{tsn}
 use Rattle.sctp_data.specs.declared.chunk.chunk_payload_data.ChunkPayloadData.{ChunkPayloadData}
 use Rattle.sctp_data.specs.ChunkSet.{ChunkSet}
-use Rattle.sctp_data.specs.PayloadData.{Data}
+use Rattle.sctp_data.specs.PayloadData.{Data, data_of}
 use Rattle.sctp_receiver.specs.ReceiverRuns.{Message, fragments_read, is_like, is_one_message}
 use Rattle.sctp_delivery.proofs.Chains.{bit, opens_on}
 use Rattle.sctp_delivery.proofs.Every.{Every, every-joined, every-of}
 use Rattle.sctp_delivery.proofs.OrderedEntries.{begun_on}
 use Rattle.sctp_delivery.proofs.OrderedMessages.{starts_ordered}
 use Rattle.sctp_delivery.proofs.Ranges.{Agrees, count_to}
+use Rattle.sctp_delivery.proofs.SameData.{is_same, same-data, same-itself}
 use Rattle.sctp_delivery.proofs.Sent.{Entry, IsPart, Numbered, fragment, part-length, same-parts, tail-part, terminal}
 use Rattle.sctp_delivery.proofs.SpreadEntries.{begun_to, to-all, to-more}
 use Rattle.sctp_delivery.proofs.UnwrappedHolds.{AreInTurn, Fits, IsOf, Rises, Where}
 use Rattle.sctp_delivery.proofs.UnwrappedReads.{AreSets}
 use Rattle.sctp_delivery.proofs.KeptSets.{IsAt}
+use Rattle.sctp_delivery.proofs.TsnPlaces.{base, past-first}
+use Rattle.sctp_delivery.proofs.Whole.{IsOn}
+
+-- ## Chunks at their places, as a test
+
+abbrev pub is_at : ℕ → ℕ → (ℕ → Data) → ChunkPayloadData → Bool
+is_at first n f c = is_same (data_of c) (f (distance first c.tsn + 1)) && (nat_le (distance first c.tsn + 1) n && nat_lt c.tsn (2 ^ 32))
+
+distance-is : (first j : ℕ) → first < 2 ^ 32 → 0 < j → j < 2 ^ 32 → distance first (tsn (base first) j) + 1 ≡ j
+unfolding distance
+distance-is first j small some lt = omega (arith, small, some, lt)
+
+pub at-of : (first n : ℕ) (f : ℕ → Data) (c : ChunkPayloadData) → first < 2 ^ 32 → is_at first n f c ≡ true → (j : ℕ) × IsOn (base first) n f c j
+at-of first n f c small e =
+    let k = distance first c.tsn + 1 in
+    let a = both (is_same (data_of c) (f k)) (nat_le k n && nat_lt c.tsn (2 ^ 32)) e in
+    let b = both (nat_le k n) (nat_lt c.tsn (2 ^ 32)) a.1 in
+    let le : k ≤ n = (let h = b.0 in grind (arith, nat_tests, h)) in
+    let lt : c.tsn < 2 ^ 32 = (let h = b.1 in grind (arith, nat_tests, h)) in
+    (k, record { some = omega arith; within = le; is = past-first first c.tsn small lt; data' = same-data (data_of c) (f k) a.0 })
+
+pub of-at : (first n : ℕ) (f : ℕ → Data) (c : ChunkPayloadData) (j : ℕ) → first < 2 ^ 32 → n < 2 ^ 31 → IsOn (base first) n f c j → is_at first n f c ≡ true
+of-at first n f c j small few h =
+    let some = h.some in
+    let within = h.within in
+    let k : distance first c.tsn + 1 ≡ j = ap (λ t. distance first t + 1) h.is ∙ distance-is first j small some (omega (arith, within, few)) in
+    let lt : c.tsn < 2 ^ 32 = (let e = h.is in omega (arith, e)) in
+    let le : distance first c.tsn + 1 ≤ n = omega (arith, k, within) in
+    and (is_same (data_of c) (f (distance first c.tsn + 1))) (nat_le (distance first c.tsn + 1) n && nat_lt c.tsn (2 ^ 32))
+    (ap (λ i. is_same (data_of c) (f i)) k ∙ ap (is_same (data_of c)) (sym h.data') ∙ same-itself (data_of c))
+    (and (nat_le (distance first c.tsn + 1) n) (nat_lt c.tsn (2 ^ 32)) (grind (arith, nat_tests, le)) (grind (arith, nat_tests, lt)))
 
 -- ## By places and by entries
 
