@@ -151,10 +151,14 @@ static struct sctp_sendv_spa send_info(int stream) {
     return info;
 }
 
+/* Whether usrsctp has no association any more: where it aborted, its ABORT may still be on the way to us. */
+static int is_gone;
+
 static void they_write(void) {
     static uint8_t message[MAX_MESSAGE];
     static int stream = -1;
     static uint32_t length;
+    if (is_gone) return;
     for (int i = 0; i < writes_a_tick(); i++) {
         if (stream < 0) {
             stream = (int)(random_next(&message_random) % STREAMS);
@@ -164,6 +168,10 @@ static void they_write(void) {
         message_fill(message, length, THEIRS, stream, channels[THEIRS][stream].written);
         ssize_t n = usrsctp_sendv(theirs, message, length, NULL, 0, &info, sizeof info, SCTP_SENDV_SPA, 0);
         if (n < 0 && (errno == EWOULDBLOCK || errno == EAGAIN)) return;
+        if (n < 0 && errno == ENOENT) {
+            is_gone = 1;
+            return;
+        }
         if (n != (ssize_t)length) {
             if (!endpoint_is_over(&endpoint)) fault("usrsctp_sendv: %s", strerror(errno));
             return;
@@ -364,6 +372,7 @@ int main(int argc, char **argv) {
     print_all();
     int is_own = is_own_abort();
     if (endpoint.state == ENDPOINT_ABORTED && !is_own) fault("aborted");
+    if (is_gone && !endpoint_is_over(&endpoint)) fault("usrsctp has no association, and we were not told");
     uint64_t messages = messages_read(&bytes);
     endpoint_free(&endpoint);
     if (theirs) usrsctp_close(theirs);
