@@ -209,8 +209,8 @@ def rules():
 
 
 def rows_of(citations):
-    """Returns the rows of the page: an RFC, a section with its title, and the names; an RFC without titles is one row with all its sections."""
-    rows = [(rfc, f"{section} {titles.get(section, '')}".strip(), cell(citations[(rfc, section)]))
+    """Returns the rows of the page: an RFC, a section, and the names; an RFC without titles is one row with all its sections."""
+    rows = [(rfc, section, cell(citations[(rfc, section)]))
             for rfc, titles in TITLES.items() for section in sorted({it[1] for it in citations if it[0] == rfc and it[1]}, key=order)]
     for rfc in sorted({it[0] for it in citations} - set(TITLES), key=int):
         named = {it: places for it, places in citations.items() if it[0] == rfc and it[1] and cell(places)}
@@ -220,19 +220,21 @@ def rows_of(citations):
 
 def page(citations):
     print("# Which rule of an RFC stands where\n")
-    print("Made by `python3 tools/rfc.py --page` out of the comments. A name is a call or a type whose comment cites the section, or a file of definitions;")
-    print("`python3 tools/rfc.py RFC SECTION` prints where each stands, its clauses and its tests, and constants, errors, calls for C, programs and")
-    print("tests too, which are left out here, as are sections that only these cite. `python3 tools/trace.py NAME` prints the contract, the definitions")
-    print("and the tests of a call. RFC 9260 replaced RFC 4960; section numbers are those of RFC 4960.")
+    print("Made by `python3 tools/rfc.py --page` out of the comments. `python3 tools/rfc.py RFC SECTION` prints the title of a section, and of each call")
+    print("that cites it the place, clauses and tests; `python3 tools/trace.py NAME` a call's contract and its definitions. RFC 9260 replaced RFC 4960;")
+    print("the numbers are those of RFC 4960.")
     rules()
-    print("\n## By section\n\n| RFC | section | where |\n|---|---|---|")
+    print("\n## By section\n\nThe calls and types of the libraries whose comments cite a section, or files of definitions.")
+    before = ""
     for rfc, sections, names in rows_of(citations):
-        print(f"| {rfc} | {sections} | {names} |")
-    print("\n## Not cited\n\n| RFC | section | why |\n|---|---|---|")
+        group = f"RFC {rfc}" if rfc in TITLES else "Others"
+        print((f"\n{group}:\n\n" if group != before else "") + f"- {'' if rfc in TITLES else rfc + ' '}{sections}: {names}")
+        before = group
+    print("\n## Not cited\n")
     for rfc, titles in TITLES.items():
         for section in sorted(titles, key=order):
             if (rfc, section) not in citations:
-                print(f"| {rfc} | {section} {titles[section]} | {REASONS.get((rfc, section), '')} |")
+                print(f"- RFC {rfc} {section}: {REASONS.get((rfc, section), titles[section])}")
 
 
 def main():
