@@ -1,8 +1,9 @@
 -- A walk over a run of chunks that changes some of them.
-use Rattle.std.proofs.Common.{◌≡◌, ℕ, ◌+◌, ◌<◌, ◌%◌, ◌^◌, Bool, true, false, List, [], ◌∷◌, ◌++◌, length, length-append, take, drop, ◌-◌, get_or, set, Some, refl, ap, sym, ◌∙◌, arith}
+use Rattle.std.proofs.Common.{◌≡◌, ℕ, ◌+◌, ◌<◌, ◌%◌, ◌^◌, Bool, true, false, List, [], ◌∷◌, ◌++◌, length, length-append, take, drop, ◌-◌, get_or, set, slice_get, Some, refl, ap, sym, ◌∙◌, arith}
 use Rattle.std.specs.Prelude.{if◌then◌else◌, find}
 use Rattle.std.proofs.lemmas.List.{length-map, length-take-le, take-append-drop, get_or-append_right, get_or-drop}
 use Rattle.std.specs.List.{filter}
+use Rattle.std.proofs.lemmas.Option.{slice_get-get_or}
 use Rattle.sctp_list_lemmas.specs.Lists.{change_where}
 use Rattle.sctp_list_lemmas.proofs.Edits.{change_where-only, changed_step, unchanged_step, those-more, length-change_where}
 use Rattle.sctp_data.specs.declared.chunk.chunk_payload_data.ChunkPayloadData.{ChunkPayloadData}
@@ -37,6 +38,12 @@ module _ (p : ChunkPayloadData → Bool) (f : ChunkPayloadData → ChunkPayloadD
   -- the chunk at the place is found by its TSN
   pub found : (d : ChunkPayloadData) → find (has_tsn ((first + i) % 2 ^ 32)) ys ≡ Some (get_or ys i d)
   found d = found-at ys first i d small its-run (omega (arith, few, count)) (omega (arith, lt, count))
+
+  pub there : (d : ChunkPayloadData) → slice_get ys i ≡ Some (get_or ys i d)
+  there d = slice_get-get_or ys i d (omega (arith, lt, count))
+
+  pub found-there : (x : ChunkPayloadData) → slice_get ys i ≡ Some x → find (has_tsn ((first + i) % 2 ^ 32)) ys ≡ Some x
+  found-there x is = found x ∙ sym (there x) ∙ is
 
   module _ (x : ChunkPayloadData) (is : find (has_tsn ((first + i) % 2 ^ 32)) ys ≡ Some x) where
     read : x ≡ get_or ys i x

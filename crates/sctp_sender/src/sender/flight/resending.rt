@@ -204,14 +204,14 @@ fn count_missing(queue: &mut OutboundQueue, first: u32, count: usize) -> usize
 {
     let mut thirds = 0;
     for place in 0..count {
-        let tsn = first.wrapping_add(place as u32);
-        let Some(chunk) = queue.get(tsn) else {
+        let Some(chunk) = queue.inflight_at(place) else {
             unreachable!()
         };
         if !can_miss(chunk) {
             continue;
         }
         let misses = chunk.miss_indicator;
+        let tsn = first.wrapping_add(place as u32);
         let third = note_missing(queue, tsn, misses);
         thirds += third;
     }

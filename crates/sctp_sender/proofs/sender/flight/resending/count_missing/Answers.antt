@@ -5,7 +5,7 @@ use Rattle.sctp_serial.specs.DataChunks.{has_tsn}
 use Rattle.sctp_outbound.specs.outbound_queue.OutboundQueue.{Outbound, with_inflight}
 use Rattle.sctp_sender.specs.Resending.{can_miss, is_third, missed, missed_after}
 use Rattle.sctp_sender.proofs.Runs.{any_chunk}
-use Rattle.sctp_sender.proofs.MarkedRuns.{found, unmarked, marked-as, counted-of}
+use Rattle.sctp_sender.proofs.MarkedRuns.{found-there, there, unmarked, marked-as, counted-of}
 use Rattle.sctp_sender.proofs.sender.flight.resending.count_missing.Goals as goal
 
 at-most-one : (b : Bool) → (if b then 1 else 0) ≤ 1
@@ -18,7 +18,7 @@ unreachable-requires c =
     let i = c.loop-place.place in
     let ys = c.loop-place.queue.inflight.chunks in
     let lt : i < length q.inflight.chunks = omega (arith, c.loop-place-test.true, c.requires.within) in
-    let e = found can_miss missed (λ x. refl) q.inflight.chunks ys c.args.first i c.ranges.first.fits c.requires.run c.requires.few lt (ap (λ (o : Outbound). o.inflight.chunks) c.loop-place.invariant.missed) any_chunk in
+    let e = there can_miss missed (λ x. refl) q.inflight.chunks ys c.args.first i c.ranges.first.fits c.requires.run c.requires.few lt (ap (λ (o : Outbound). o.inflight.chunks) c.loop-place.invariant.missed) any_chunk in
     let none = c.in_default.ensures in
     cc
 
@@ -32,7 +32,7 @@ loop-place-preserved-then-not-can_miss c =
     let inv = c.loop-place.invariant in
     let lt : i < length cs = omega (arith, c.loop-place-test.true, c.requires.within) in
     let so_far : ys ≡ change_where can_miss missed (take i cs) ++ drop i cs = ap (λ (o : Outbound). o.inflight.chunks) inv.missed in
-    let is : find (has_tsn ((c.args.first + i) % 2 ^ 32)) ys ≡ Some x = sym c.in-Some.ensures in
+    let is : find (has_tsn ((c.args.first + i) % 2 ^ 32)) ys ≡ Some x = found-there can_miss missed (λ y. refl) cs ys c.args.first i c.ranges.first.fits c.requires.run c.requires.few lt so_far x (sym c.in-Some.ensures) in
     let nay : can_miss x ≡ false = sym c.can_miss.ensures ∙ c.if-not-can_miss.true in
     let third : is_third x ≡ false = ap (λ b. b && x.miss_indicator == 2) nay in
     let n = counted-of can_miss missed (λ y. refl) cs ys c.args.first i c.ranges.first.fits c.requires.run c.requires.few lt so_far x is is_third false third in
@@ -52,7 +52,7 @@ loop-place-preserved c =
     let inv = c.loop-place.invariant in
     let lt : i < length cs = omega (arith, c.loop-place-test.true, c.requires.within) in
     let so_far : ys ≡ change_where can_miss missed (take i cs) ++ drop i cs = ap (λ (o : Outbound). o.inflight.chunks) inv.missed in
-    let is : find (has_tsn ((c.args.first + i) % 2 ^ 32)) ys ≡ Some x = sym c.in-Some.ensures in
+    let is : find (has_tsn ((c.args.first + i) % 2 ^ 32)) ys ≡ Some x = found-there can_miss missed (λ y. refl) cs ys c.args.first i c.ranges.first.fits c.requires.run c.requires.few lt so_far x (sym c.in-Some.ensures) in
     let yea : can_miss x ≡ true = sym c.can_miss.ensures ∙ c.if-not-can_miss.false in
     let third : is_third x ≡ (x.miss_indicator == 2) = ap (λ b. b && x.miss_indicator == 2) yea in
     let n = counted-of can_miss missed (λ y. refl) cs ys c.args.first i c.ranges.first.fits c.requires.run c.requires.few lt so_far x is is_third (x.miss_indicator == 2) third in
