@@ -16,6 +16,7 @@ ghost use Rattle.sctp_base.specs.declared.error.Error.TheVariants.{ErrOutOfMemor
 
 pub mod chunks;
 mod counted_sets;
+pub mod fragment;
 mod incomplete;
 mod ordered_sets;
 mod outward;
@@ -29,11 +30,12 @@ pub mod undo;
 
 use self::chunks::{Chunks, Fragments};
 use self::counted_sets::CountedSets;
+use self::fragment::Fragment;
 use self::ordered_sets::OrderedSets;
 use self::pool::Pool;
 use self::sizes::{bytes_of_front, size_after, size_before};
 use self::skips::{earliest_from, goal, has_settled, latest_passable};
-use self::unassembled::{Loose, UnassembledFragment};
+use self::unassembled::Loose;
 use self::unassembled_places::{front_upto, place_for};
 use self::undo::{PushChange, PushUndo};
 use sctp_base::error::Result;
@@ -154,7 +156,7 @@ impl ReassemblyQueue {
     }
 
     /// The fragments of unordered messages that are not whole.
-    pub fn unordered_chunks(&self) -> &VecDeque<UnassembledFragment>
+    pub fn unordered_chunks(&self) -> &VecDeque<Fragment>
         ensures { result.now.items ≡ self.now.held.unassembled }
     {
         self.unordered_chunks.unassembled().as_deque()
@@ -301,7 +303,8 @@ impl ReassemblyQueue {
             return Ok((false, PushUndo::of(PushChange::NotKept, before)));
         }
         let len = chunk.user_data.len();
-        let Some(put) = self.ordered.put(self.alloc, chunk)? else {
+        let fragment = Fragment::new(self.alloc, chunk)?;
+        let Some(put) = self.ordered.put(self.alloc, fragment)? else {
             return Ok((false, PushUndo::of(PushChange::NotKept, before)));
         };
         self.n_bytes = before.saturating_add(len);
@@ -507,7 +510,7 @@ impl ReassemblyQueue {
 }
 
 // A complete message of these fragments.
-fn set_of_run(chunks: Vec<ChunkPayloadData>) -> Fragments
+fn set_of_run(chunks: Vec<Fragment>) -> Fragments
     ensures { result ≡ set_of_run chunks.items }
 {
     let ppi = match chunks.first() {

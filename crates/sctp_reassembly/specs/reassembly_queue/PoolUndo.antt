@@ -12,10 +12,10 @@ abbrev pub put_back : ℕ → List ChunkPayloadData → List ChunkPayloadData �
 put_back first kept xs = take first xs ++ kept ++ drop first xs
 
 -- those taken out are put back, and then the one put in is removed
-abbrev pub insertion_undone : InsertionUndo → Unassembled → Unassembled
-insertion_undone u p =
+abbrev pub insertion_undone : InsertionUndo → List ChunkPayloadData → Unassembled → Unassembled
+insertion_undone u kept p =
     record {
-      chunks = remove (put_back u.first u.kept.items p.chunks) u.place;
+      chunks = remove (put_back u.first kept p.chunks) u.place;
       places = u.marks.places;
     }
 
@@ -26,18 +26,19 @@ pub record IsNoted (m : Marks) (p : Unassembled) : Type 0 where
   pub places : m.places ≡ p.places
 
 -- both places are there, all fit without memory, and what was noted before will hold again
-pub record CanUndoInsertion (u : InsertionUndo) (p : Unassembled) : Type 0 where
+pub record CanUndoInsertion (u : InsertionUndo) (kept : List ChunkPayloadData) (p : Unassembled)
+    : Type 0 where
   pub first : u.first ≤ length p.chunks
-  pub place : u.place < length p.chunks + length u.kept.items
-  pub room : length p.chunks + length u.kept.items ≤ p.places
+  pub place : u.place < length p.chunks + length kept
+  pub room : length p.chunks + length kept ≤ p.places
   pub fewer : u.marks.places ≤ p.places
-  pub noted : IsNoted u.marks (insertion_undone u p)
+  pub noted : IsNoted u.marks (insertion_undone u kept p)
 
 -- ## With the mark of a search: no run was there, where it is on
 
-abbrev pub pool_undone : PoolUndo → Unassembled → Unassembled
-pool_undone u p = insertion_undone u.put p
+abbrev pub pool_undone : PoolUndo → List ChunkPayloadData → Unassembled → Unassembled
+pool_undone u run p = insertion_undone u.put run p
 
-pub record CanUndoPut (u : PoolUndo) (p : Unassembled) : Type 0 where
-  pub put : CanUndoInsertion u.put p
-  pub mark : IsMark u.searched (pool_undone u p).chunks
+pub record CanUndoPut (u : PoolUndo) (run : List ChunkPayloadData) (p : Unassembled) : Type 0 where
+  pub put : CanUndoInsertion u.put run p
+  pub mark : IsMark u.searched (pool_undone u run p).chunks

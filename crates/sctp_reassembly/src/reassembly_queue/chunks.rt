@@ -15,6 +15,7 @@ ghost use Rattle.sctp_serial.specs.DataChunks.{bytes_of, has_tsn, chunk_before};
 ghost use Rattle.sctp_serial.specs.Ascending.{IsAscending, IsOrder, IsInsertion};
 ghost use Rattle.sctp_base.specs.declared.error.Error.TheVariants.{ErrOutOfMemory, ErrShortBuffer};
 
+use crate::reassembly_queue::fragment::Fragment;
 use bytes::{Bytes, BytesMut};
 use sctp_base::error::{Error, Result};
 use sctp_base::util::{sna32lt, sna32lte};
@@ -29,7 +30,7 @@ use std::marker::Model;
 pub struct Fragments {
     ssn: u16,
     ppi: PayloadProtocolIdentifier,
-    chunks: Vec<ChunkPayloadData>,
+    chunks: Vec<Fragment>,
     // the length of their user data, up to the greatest usize
     n_bytes: usize,
     // whether their TSNs are known to ascend
@@ -55,7 +56,7 @@ impl Model for Fragments {
 
 impl Fragments {
     /// A set of these fragments, in the order in which they are given. It takes no memory.
-    pub fn new(ssn: u16, ppi: PayloadProtocolIdentifier, chunks: Vec<ChunkPayloadData>) -> Self
+    pub fn new(ssn: u16, ppi: PayloadProtocolIdentifier, chunks: Vec<Fragment>) -> Self
         ensures { result ≡ record { ssn = ssn; ppi = ppi; chunks = chunks.items } }
     {
         let n_bytes = bytes_in(&chunks);
@@ -84,10 +85,18 @@ impl Fragments {
     }
 
     /// The fragments.
-    pub fn fragments(&self) -> &[ChunkPayloadData]
+    pub fn fragments(&self) -> &[Fragment]
         ensures { result.now ≡ self.now.chunks }
     {
         &self.chunks
+    }
+
+    /// The fragments by themselves. It takes no memory.
+    pub(crate) fn into_fragments(self) -> Vec<Fragment>
+        ensures { result.items ≡ self.chunks }
+    {
+        let Fragments { chunks, .. } = self;
+        chunks
     }
 
     /// An equal set, which shares its bytes. Refuses only for memory.
@@ -121,14 +130,15 @@ impl Fragments {
         ensures err { OnErr result (self.new ≡ self.old) }
         ensures memory { IfErr result (λ e. e ≡ ErrOutOfMemory) }
     {
-        match self.put_placed(chunk)? {
+        let fragment = Fragment::new(*self.chunks.allocator(), chunk)?;
+        match self.put_placed(fragment)? {
             Some(put) => Ok(Some(put.whole)),
             None => Ok(None),
         }
     }
 
     /// The same, and says where the fragment is, from which `remove` takes it out again.
-    pub(crate) fn put_placed(&mut self, chunk: ChunkPayloadData) -> Result<Option<Placed>>
+    pub(crate) fn put_placed(&mut self, chunk: Fragment) -> Result<Option<Placed>>
         ensures ok { OnOk result (self.new ≡ with_chunk chunk self.old) }
         ensures answer { IfOk result (λ put. option_map (λ (p : Placed). p.whole) put
             ≡ answer_with chunk self.old.chunks) }
@@ -199,7 +209,7 @@ pub struct Chunks {
 
 impl Chunks {
     /// A message of these fragments, of which nothing was taken. It takes no memory.
-    pub fn new(ssn: u16, ppi: PayloadProtocolIdentifier, chunks: Vec<ChunkPayloadData>) -> Self
+    pub fn new(ssn: u16, ppi: PayloadProtocolIdentifier, chunks: Vec<Fragment>) -> Self
         ensures left { concat (left_of result) ≡ payload_of chunks.items }
         ensures value { result ≡ record {
           set = record {
@@ -252,7 +262,7 @@ impl Chunks {
     }
 
     /// All fragments of the message.
-    pub fn fragments(&self) -> &[ChunkPayloadData]
+    pub fn fragments(&self) -> &[Fragment]
         ensures { result.now ≡ self.now.set.chunks }
     {
         self.set.fragments()
@@ -384,18 +394,18 @@ fn put_at(buf: &mut [u8], at: usize, bytes: &[u8])
 }
 
 // Looks at a fragment, which is a turn.
-fn look<'a>(chunks: &'a [ChunkPayloadData], place: usize, turns: &mut Turns) -> &'a ChunkPayloadData
+fn look<'a>(chunks: &'a [Fragment], place: usize, turns: &mut Turns) -> &'a ChunkPayloadData
     requires { place < length chunks.now }
     ensures value { result.now ≡ slice_index_or chunks.now place result.now }
     ensures turn { turns.new ≡ turns.old + 1 }
 {
     turns.tick();
-    &chunks[place]
+    chunks[place].chunk()
 }
 
 // How many bytes are left from a place on, or the limit where they are more. It looks no further than the limit.
 fn room_of(
-    chunks: &[ChunkPayloadData],
+    chunks: &[Fragment],
     index: usize,
     offset: usize,
     limit: usize,
@@ -420,7 +430,7 @@ fn room_of(
 
 // Appends the next bytes of the fragments, at most so many, and says where the next piece begins.
 fn gather(
-    chunks: &[ChunkPayloadData],
+    chunks: &[Fragment],
     index: usize,
     offset: usize,
     max_length: usize,
@@ -457,7 +467,7 @@ fn gather(
 
 // Whether fragments are complete. Among TSNs that ascend both ends tell: if the last is as far from the first as there are others,
 // none is missing between them.
-fn are_complete(ascending: bool, chunks: &[ChunkPayloadData]) -> bool
+fn are_complete(ascending: bool, chunks: &[Fragment]) -> bool
     requires { IsOrder ascending (map (λ c. c.tsn) chunks.now) }
     ensures { result ≡ is_complete chunks.now }
 {
@@ -471,7 +481,7 @@ fn are_complete(ascending: bool, chunks: &[ChunkPayloadData]) -> bool
 }
 
 // A test of both ends, which complete fragments pass, and of those whose TSNs ascend no others.
-fn may_be_complete(chunks: &[ChunkPayloadData]) -> bool
+fn may_be_complete(chunks: &[Fragment]) -> bool
     ensures no { result ≡ false → is_complete chunks.now ≡ false }
     ensures yes { result ≡ true → IsAscending (map (λ c. c.tsn) chunks.now)
         → is_complete chunks.now ≡ true }
@@ -480,8 +490,8 @@ fn may_be_complete(chunks: &[ChunkPayloadData]) -> bool
     if len == 0 {
         return false;
     }
-    let first = &chunks[0];
-    let last = &chunks[len - 1];
+    let first = chunks[0].chunk();
+    let last = chunks[len - 1].chunk();
     if !first.beginning_fragment {
         return false;
     }
@@ -500,7 +510,7 @@ fn tsn_after(tsn: u32, places: usize) -> u32
 }
 
 // Whether the first fragment begins, the last ends, and TSNs rise by one.
-fn follow_on(chunks: &[ChunkPayloadData]) -> bool
+fn follow_on(chunks: &[Fragment]) -> bool
     ensures { result ≡ is_complete chunks.now }
 {
     let Some((first, rest)) = chunks.split_first() else {
@@ -522,20 +532,20 @@ fn follow_on(chunks: &[ChunkPayloadData]) -> bool
 /// Equal fragments, which share their bytes.
 pub(crate) fn clone_chunks(
     alloc: Global,
-    chunks: &[ChunkPayloadData],
-) -> Result<Vec<ChunkPayloadData>>
+    chunks: &[Fragment],
+) -> Result<Vec<Fragment>>
     ensures ok { IfOk result (λ copies. copies.items ≡ chunks.now) }
     ensures memory { IfErr result (λ e. e ≡ ErrOutOfMemory) }
 {
     let mut copies = Vec::with_capacity(alloc, chunks.len())?;
     for chunk in chunks {
-        copies.push(chunk.try_clone()?)?;
+        copies.push(chunk.try_clone(alloc)?)?;
     }
     Ok(copies)
 }
 
 /// How many bytes fragments carry, or the greatest number where they are more.
-pub(crate) fn bytes_in(chunks: &[ChunkPayloadData]) -> usize
+pub(crate) fn bytes_in(chunks: &[Fragment]) -> usize
     ensures { result ≡ min (bytes_of chunks.now) (2 ^ 64 - 1) }
 {
     let mut len = 0usize;
@@ -546,7 +556,7 @@ pub(crate) fn bytes_in(chunks: &[ChunkPayloadData]) -> usize
 }
 
 // The bytes of the fragments that are left, where so many were taken of so many: past the greatest number they are counted anew.
-fn bytes_without(n_bytes: usize, gone: usize, chunks: &[ChunkPayloadData]) -> usize
+fn bytes_without(n_bytes: usize, gone: usize, chunks: &[Fragment]) -> usize
     ensures { n_bytes ≡ min (gone + bytes_of chunks.now) (2 ^ 64 - 1)
         → result ≡ min (bytes_of chunks.now) (2 ^ 64 - 1) }
 {
@@ -557,7 +567,7 @@ fn bytes_without(n_bytes: usize, gone: usize, chunks: &[ChunkPayloadData]) -> us
 }
 
 // How many bytes the fragments at or before the TSN carry, or the greatest number where they are more.
-fn bytes_upto(chunks: &[ChunkPayloadData], tsn: u32) -> usize
+fn bytes_upto(chunks: &[Fragment], tsn: u32) -> usize
     ensures { result ≡ min (bytes_of (chunks_upto tsn chunks.now)) (2 ^ 64 - 1) }
 {
     let mut len = 0usize;
@@ -571,7 +581,7 @@ fn bytes_upto(chunks: &[ChunkPayloadData], tsn: u32) -> usize
 }
 
 /// Where a fragment of this number is put in: before the first that it comes before, or at the end.
-pub(crate) fn insertion_place(chunks: &[ChunkPayloadData], tsn: u32) -> usize
+pub(crate) fn insertion_place(chunks: &[Fragment], tsn: u32) -> usize
     ensures in_range { result ≤ length chunks.now }
     ensures inserted { (x : ChunkPayloadData)
         → x.tsn ≡ tsn → insert chunks.now result x ≡ insert_before chunk_before x chunks.now }
@@ -580,7 +590,7 @@ pub(crate) fn insertion_place(chunks: &[ChunkPayloadData], tsn: u32) -> usize
 }
 
 // The place of the first fragment that the number comes before, or the end.
-fn first_after(chunks: &[ChunkPayloadData], tsn: u32) -> usize
+fn first_after(chunks: &[Fragment], tsn: u32) -> usize
     ensures place { result ≡ position_or_len (λ e. comes_before tsn e.tsn) chunks.now }
     ensures in_range { result ≤ length chunks.now }
 {
@@ -594,7 +604,7 @@ fn first_after(chunks: &[ChunkPayloadData], tsn: u32) -> usize
 
 // Where a fragment of this TSN is put in, or nothing where it is there: by halves among TSNs that
 // ascend, unless it lies exactly half a circle from the first.
-fn insertion(ascending: bool, chunks: &[ChunkPayloadData], tsn: u32) -> Option<Insertion>
+fn insertion(ascending: bool, chunks: &[Fragment], tsn: u32) -> Option<Insertion>
     requires { IsOrder ascending (map (λ c. c.tsn) chunks.now) }
     ensures there { IfNone result (list_any (has_tsn tsn) chunks.now ≡ true) }
     ensures free { IfSome result (λ at.
@@ -607,13 +617,13 @@ fn insertion(ascending: bool, chunks: &[ChunkPayloadData], tsn: u32) -> Option<I
             ascending: true,
         });
     }
-    let first = chunks[0].tsn;
+    let first = tsn_of(&chunks[0]);
     let far = distance(first, tsn);
     if !ascending || far == 1 << 31 {
         return insertion_by_walk(chunks, tsn);
     }
     if far > 1 << 31 {
-        let ascending = distance(tsn, chunks[len - 1].tsn) < 1 << 31;
+        let ascending = distance(tsn, tsn_of(&chunks[len - 1])) < 1 << 31;
         return Some(Insertion {
             place: 0,
             ascending,
@@ -630,7 +640,7 @@ fn insertion(ascending: bool, chunks: &[ChunkPayloadData], tsn: u32) -> Option<I
 }
 
 // The place behind the fragments that lie no farther from the first TSN. The last is looked at first.
-fn place_within(chunks: &[ChunkPayloadData], first: u32, far: u32) -> usize
+fn place_within(chunks: &[Fragment], first: u32, far: u32) -> usize
     requires { IsNonDecreasingBy (λ c. distance first c.tsn) chunks.now }
     ensures in_range { result ≤ length chunks.now }
     ensures split { IsPartitionPoint
@@ -644,7 +654,7 @@ fn place_within(chunks: &[ChunkPayloadData], first: u32, far: u32) -> usize
 }
 
 // The same by a walk, among any TSNs; they are not known to ascend then.
-fn insertion_by_walk(chunks: &[ChunkPayloadData], tsn: u32) -> Option<Insertion>
+fn insertion_by_walk(chunks: &[Fragment], tsn: u32) -> Option<Insertion>
     ensures there { IfNone result (list_any (has_tsn tsn) chunks.now ≡ true) }
     ensures free { IfSome result (λ at.
         IsInsertion (has_tsn tsn) (λ c. c.tsn) chunk_before chunks.now at.place at.ascending) }
@@ -659,14 +669,14 @@ fn insertion_by_walk(chunks: &[ChunkPayloadData], tsn: u32) -> Option<Insertion>
 }
 
 // Whether TSNs ascend, seen by how far each lies from the first.
-fn is_ascending(chunks: &[ChunkPayloadData]) -> bool
+fn is_ascending(chunks: &[Fragment]) -> bool
     ensures { IsOrder result (map (λ c. c.tsn) chunks.now) }
 {
     let len = chunks.len();
     if len == 0 {
         return true;
     }
-    let first = chunks[0].tsn;
+    let first = tsn_of(&chunks[0]);
     let mut far = 0;
     for place in 1..len {
         let next = distance(first, chunks[place].tsn);
@@ -678,8 +688,16 @@ fn is_ascending(chunks: &[ChunkPayloadData]) -> bool
     true
 }
 
+// The TSN of a fragment.
+fn tsn_of(fragment: &Fragment) -> u32
+    ensures value { result ≡ fragment.now.tsn }
+    ensures fits { result < 2 ^ 32 }
+{
+    fragment.tsn
+}
+
 // Whether a fragment has the number.
-fn has_number(chunks: &[ChunkPayloadData], tsn: u32) -> bool
+fn has_number(chunks: &[Fragment], tsn: u32) -> bool
     ensures { result ≡ list_any (has_tsn tsn) chunks.now }
 {
     chunks.iter().any(|c| c.tsn == tsn)

@@ -13,9 +13,9 @@ ghost use Rattle.sctp_reassembly.specs.reassembly_queue.Resets.{is_old_message, 
 ghost use Rattle.sctp_reassembly.specs.reassembly_queue.Skips.{is_discarded};
 
 use crate::reassembly_queue::chunks::{Fragments, Placed};
+use crate::reassembly_queue::fragment::Fragment;
 use crate::reassembly_queue::{resets, skips};
 use sctp_base::error::Result;
-use sctp_data::chunk::chunk_payload_data::ChunkPayloadData;
 use std::alloc::Global;
 use std::collections::VecDeque;
 use std::marker::Model;
@@ -95,7 +95,7 @@ impl CountedSets {
     pub(crate) fn put_into(
         &mut self,
         place: usize,
-        chunk: ChunkPayloadData,
+        chunk: Fragment,
     ) -> Result<Option<Placed>>
         requires { place < length self.old.items }
         ensures ok { OnOk result ((d : ChunkSet) → self.new.items ≡ set self.old.items place
@@ -145,12 +145,15 @@ impl CountedSets {
 
     /// Takes out the last set. It takes no memory.
     /// Precondition: there is one.
-    pub(crate) fn remove_last(&mut self)
+    pub(crate) fn pop_back(&mut self) -> Fragments
         requires { 0 < length self.old.items }
-        ensures { self.new.items ≡ remove self.old.items (length self.old.items - 1) }
+        ensures { self.old.items ≡ self.new.items ++ result ∷ [] }
     {
-        let last = self.sets.len() - 1;
-        self.remove(last);
+        let Some(set) = self.sets.pop_back() else {
+            unreachable!()
+        };
+        self.n_chunks = chunks_without(self.n_chunks, set.fragments().len(), &self.sets);
+        set
     }
 
     /// Puts a set at a place, before the one that is there.

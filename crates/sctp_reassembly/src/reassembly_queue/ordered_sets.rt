@@ -17,9 +17,9 @@ ghost use Rattle.sctp_base.specs.declared.error.Error.TheVariants.{ErrOutOfMemor
 
 use crate::reassembly_queue::chunks::Fragments;
 use crate::reassembly_queue::counted_sets::CountedSets;
+use crate::reassembly_queue::fragment::Fragment;
 use sctp_base::error::Result;
 use sctp_base::util::sna16lt;
-use sctp_data::chunk::chunk_payload_data::ChunkPayloadData;
 use sctp_serial::serial::{Insertion, distance, upper_half};
 use std::alloc::Global;
 use std::collections::VecDeque;
@@ -132,7 +132,7 @@ impl OrderedSets {
     pub(crate) fn put(
         &mut self,
         alloc: Global,
-        chunk: ChunkPayloadData,
+        chunk: Fragment,
     ) -> Result<Option<OrderedPut>>
         ensures ok { OnOk result (self.new ≡ sets_with chunk self.old) }
         ensures answer { IfOk result (λ put. option_map (λ (p : OrderedPut). p.whole) put
@@ -206,7 +206,7 @@ impl OrderedSets {
 }
 
 // A set that a chunk alone makes. Where it is the complete message there is room for it alone.
-fn new_set(alloc: Global, chunk: ChunkPayloadData) -> Result<Fragments>
+fn new_set(alloc: Global, chunk: Fragment) -> Result<Fragments>
     ensures ok { IfOk result (λ set. set ≡ new_set chunk) }
     ensures memory { IfErr result (λ e. e ≡ ErrOutOfMemory) }
 {

@@ -7,10 +7,10 @@ ghost use Rattle.sctp_reassembly.specs.reassembly_queue.Loose.{IsRunTaken, IsMar
 
 pub(crate) mod undo;
 
+use crate::reassembly_queue::fragment::Fragment;
 use crate::reassembly_queue::outward::run_outward;
 use crate::reassembly_queue::unassembled::{Loose, find_run};
 use sctp_base::error::Error;
-use sctp_data::chunk::chunk_payload_data::ChunkPayloadData;
 use sctp_serial::turns::Turns;
 use std::alloc::{AllocError, Global};
 use std::marker::Model;
@@ -75,7 +75,7 @@ impl Pool {
     pub(crate) fn take_run(
         &mut self,
         alloc: Global,
-    ) -> Result<Option<Vec<ChunkPayloadData>>, AllocError>
+    ) -> Result<Option<Vec<Fragment>>, AllocError>
         ensures ok { IfOk result (λ run. MatchOption run
             (HasNoRun self.new.chunks × (self.new ≡ self.old)) (λ chunks. IsRunTaken self.old.chunks self.new.chunks chunks.items
             × (self.new.places ≡ self.old.places))) }
@@ -85,7 +85,7 @@ impl Pool {
             self.searched = true;
             return Ok(None);
         };
-        let (chunks, _kept) = self.unassembled.take_range(alloc, first, count)?;
+        let chunks = self.unassembled.take_range(alloc, first, count)?;
         self.searched = false;
         Ok(Some(chunks))
     }

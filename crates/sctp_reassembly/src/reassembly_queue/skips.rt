@@ -8,12 +8,12 @@ ghost use Rattle.sctp_reassembly.specs.reassembly_queue.ReassemblyQueue.{set_byt
 ghost use Rattle.sctp_reassembly.specs.reassembly_queue.Skips.{misses, misses_behind, cannot_complete, is_discarded, is_abandoned, is_unaffected, earlier_ssn, goal_of, is_covered, settles, earlier_tsn, earliest_among, earliest_from, is_from, is_upto, begins_upto, is_passable, later_ssn, latest_passable};
 
 use crate::reassembly_queue::chunks::Fragments;
+use crate::reassembly_queue::fragment::Fragment;
 use sctp_base::util::{sna16gt, sna16lt, sna16lte, sna32gt, sna32lt, sna32lte};
-use sctp_data::chunk::chunk_payload_data::ChunkPayloadData;
 use std::collections::VecDeque;
 
 // Whether a TSN at or before the given one is missing in a set.
-fn misses(chunks: &[ChunkPayloadData], tsn: u32) -> bool
+fn misses(chunks: &[Fragment], tsn: u32) -> bool
     ensures { result ≡ misses tsn chunks.now }
 {
     let Some((first, rest)) = chunks.split_first() else {
@@ -26,7 +26,7 @@ fn misses(chunks: &[ChunkPayloadData], tsn: u32) -> bool
 }
 
 // Whether one is missing behind the first.
-fn misses_behind(first: &ChunkPayloadData, rest: &[ChunkPayloadData], tsn: u32) -> bool
+fn misses_behind(first: &Fragment, rest: &[Fragment], tsn: u32) -> bool
     ensures { result ≡ misses_behind tsn first.now rest.now }
 {
     let mut last = first;
@@ -106,7 +106,7 @@ fn is_unaffected(set: &Fragments, last_ssn: u16, tsn: u32) -> bool
 }
 
 // Whether a fragment is after the TSN.
-fn reaches_past(chunks: &[ChunkPayloadData], tsn: u32) -> bool
+fn reaches_past(chunks: &[Fragment], tsn: u32) -> bool
     ensures { result ≡ list_any (λ c. comes_after c.tsn tsn) chunks.now }
 {
     chunks.iter().any(|c| sna32gt(c.tsn, tsn))
@@ -166,7 +166,7 @@ fn is_covered(set: &Fragments, tsn: u32) -> bool
 }
 
 /// Whether every fragment is at or before the TSN.
-pub(crate) fn lies_upto(chunks: &[ChunkPayloadData], tsn: u32) -> bool
+pub(crate) fn lies_upto(chunks: &[Fragment], tsn: u32) -> bool
     ensures { result ≡ list_all (λ c. at_or_before c.tsn tsn) chunks.now }
 {
     chunks.iter().all(|c| sna32lte(c.tsn, tsn))
@@ -187,7 +187,7 @@ pub(crate) fn earliest_from(sets: &VecDeque<Fragments>, last_ssn: u16) -> Option
 }
 
 // The first of a TSN and those of fragments.
-fn earliest_among(first: Option<u32>, chunks: &[ChunkPayloadData]) -> Option<u32>
+fn earliest_among(first: Option<u32>, chunks: &[Fragment]) -> Option<u32>
     ensures { result ≡ earliest_among first chunks.now }
 {
     let mut first = first;
@@ -239,7 +239,7 @@ fn is_passable(set: &Fragments, next_ssn: u16, last_ssn: u16, tsn: u32, peer_las
 }
 
 // Whether the first fragment is at or before the TSN.
-fn begins_upto(chunks: &[ChunkPayloadData], tsn: u32) -> bool
+fn begins_upto(chunks: &[Fragment], tsn: u32) -> bool
     ensures { result ≡ begins_upto tsn chunks.now }
 {
     match chunks.first() {

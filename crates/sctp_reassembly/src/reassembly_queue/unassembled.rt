@@ -12,6 +12,7 @@ ghost use Rattle.sctp_reassembly.specs.reassembly_queue.Loose.{IsOrderMark};
 ghost use Rattle.sctp_reassembly.specs.reassembly_queue.PoolUndo.{put_back};
 ghost use Rattle.sctp_serial.specs.Window.{IsSerial};
 
+use crate::reassembly_queue::fragment::Fragment;
 use sctp_base::error::Error;
 use sctp_base::util::sna32lt;
 use sctp_data::chunk::chunk_payload_data::ChunkPayloadData;
@@ -20,41 +21,10 @@ use std::alloc::{AllocError, Global};
 use std::collections::VecDeque;
 use std::marker::Model;
 
-/// A fragment on the heap, so that an insertion among many moves no more than a pointer of each.
-#[derive(Drop)]
-pub struct UnassembledFragment {
-    chunk: Box<ChunkPayloadData>,
-}
-
-impl Model for UnassembledFragment {
-    ghost use Rattle.sctp_data.specs.declared.chunk.chunk_payload_data.ChunkPayloadData.{ChunkPayloadData};
-
-    ghost Value = { ChunkPayloadData };
-
-    ghost view = { λ f. f.chunk.value };
-}
-
-impl UnassembledFragment {
-    /// Puts a fragment on the heap.
-    fn new(alloc: Global, chunk: ChunkPayloadData) -> Result<Self, AllocError>
-        ensures { IfOk result (λ fragment. fragment ≡ chunk) }
-    {
-        let chunk = Box::new(alloc, chunk)?;
-        Ok(UnassembledFragment { chunk })
-    }
-
-    /// The fragment.
-    pub fn chunk(&self) -> &ChunkPayloadData
-        ensures { result.now ≡ self.now }
-    {
-        &self.chunk
-    }
-}
-
 /// The unassembled fragments, by place, from 0. So many at once as there ever were take no memory.
 #[derive(Drop)]
 pub struct Loose {
-    chunks: VecDeque<UnassembledFragment>,
+    chunks: VecDeque<Fragment>,
     // the length of their user data, up to the greatest usize
     n_bytes: usize,
     // whether they stand in serial order, as fragments of honest peers do
@@ -90,28 +60,26 @@ pub struct Marks {
     places: usize,
 }
 
-/// What undoes an insertion and the removal of neighbours that followed it.
-#[derive(Drop)]
+/// What undoes an insertion and the removal of neighbours that followed it, where these are given back.
+#[derive(Clone, Copy)]
 pub struct InsertionUndo {
     // where the fragment was put in
     place: usize,
-    // where the neighbours were taken out then, and they themselves
+    // where the neighbours were taken out then
     first: usize,
-    kept: Vec<UnassembledFragment>,
     // what was noted before
     marks: Marks,
 }
 
 impl InsertionUndo {
-    /// The undo of an insertion at `place`, after which those kept were taken out from place `first` on. `marks` are from before
-    /// the insertion. It takes no memory.
-    pub fn new(place: usize, first: usize, kept: Vec<UnassembledFragment>, marks: Marks) -> Self
-        ensures { result ≡ record { place = place; first = first; kept = kept; marks = marks } }
+    /// The undo of an insertion at `place`, after which neighbours were taken out from place `first` on. `marks` are from before
+    /// the insertion.
+    pub fn new(place: usize, first: usize, marks: Marks) -> Self
+        ensures { result ≡ record { place = place; first = first; marks = marks } }
     {
         InsertionUndo {
             place,
             first,
-            kept,
             marks,
         }
     }
@@ -191,7 +159,7 @@ impl Loose {
     {
         let serial = self.stays_serial(place, chunk.tsn);
         let len = chunk.user_data.len();
-        let fragment = UnassembledFragment::new(alloc, chunk)?;
+        let fragment = Fragment::new(alloc, chunk)?;
         self.chunks.insert(place, fragment)?;
         self.n_bytes = self.n_bytes.saturating_add(len);
         self.serial = serial;
@@ -216,14 +184,13 @@ impl Loose {
 
     /// Puts the neighbours back that were taken out, and drops the fragment that was put in. It takes no memory.
     /// Precondition: `CanUndoInsertion`: both places are there, all fit without memory, and what was noted before will hold again.
-    pub fn put_back(&mut self, undo: InsertionUndo)
-        requires { CanUndoInsertion undo self.old }
-        ensures { self.new ≡ insertion_undone undo self.old }
+    pub fn put_back(&mut self, undo: InsertionUndo, kept: Vec<Fragment>)
+        requires { CanUndoInsertion undo kept.items self.old }
+        ensures { self.new ≡ insertion_undone undo kept.items self.old }
     {
         let InsertionUndo {
             place,
             first,
-            kept,
             marks,
         } = undo;
         put_back(&mut self.chunks, first, kept);
@@ -233,7 +200,7 @@ impl Loose {
         self.places = marks.places;
     }
 
-    /// Takes out `count` neighbours from place `first` on: their equals, which share their bytes, and they themselves.
+    /// Takes out `count` neighbours from place `first` on.
     /// Precondition: they are there.
     /// Refuses only for memory, and nothing changes then.
     pub fn take_range(
@@ -241,21 +208,19 @@ impl Loose {
         alloc: Global,
         first: usize,
         count: usize,
-    ) -> Result<(Vec<ChunkPayloadData>, Vec<UnassembledFragment>), AllocError>
+    ) -> Result<Vec<Fragment>, AllocError>
         requires { first + count ≤ length self.old.chunks }
-        ensures taken { IfOk result (λ r. r.0.items ≡ take count (drop first self.old.chunks)) }
-        ensures kept { IfOk result (λ r. r.1.items ≡ take count (drop first self.old.chunks)) }
+        ensures taken { IfOk result (λ taken. taken.items ≡ take count (drop first self.old.chunks)) }
         ensures rest { OnOk result (self.new ≡ with_chunks self.old
             (take first self.old.chunks ++ drop (first + count) self.old.chunks)) }
         ensures err { OnErr result (self.new ≡ self.old) }
     {
-        let taken = clone_range(alloc, &self.chunks, first, count)?;
-        let mut kept = Vec::with_capacity(alloc, count)?;
+        let mut taken = Vec::with_capacity(alloc, count)?;
         let gone = bytes_from(&self.chunks, first, count);
-        take_each(&mut self.chunks, first, count, &mut kept);
+        take_each(&mut self.chunks, first, count, &mut taken);
         self.n_bytes = bytes_without(self.n_bytes, gone, &self.chunks);
         self.serial = is_still_serial(self.serial, &self.chunks);
-        Ok((taken, kept))
+        Ok(taken)
     }
 
     /// Equal fragments, which share their bytes, and as many places. Refuses only for memory.
@@ -272,7 +237,7 @@ impl Loose {
     }
 
     /// All of them, which only the queue's accessor lends on.
-    pub fn as_deque(&self) -> &VecDeque<UnassembledFragment>
+    pub fn as_deque(&self) -> &VecDeque<Fragment>
         ensures { result.now.items ≡ self.now.chunks }
     {
         &self.chunks
@@ -303,7 +268,7 @@ fn is_before(first: u32, second: u32) -> bool
 }
 
 // Whether the number comes after what stands before the place: after the nearest and the first.
-fn is_behind(chunks: &VecDeque<UnassembledFragment>, place: usize, tsn: u32) -> bool
+fn is_behind(chunks: &VecDeque<Fragment>, place: usize, tsn: u32) -> bool
     requires { place ≤ length chunks.now.items }
     ensures yes { result ≡ true → IsSerial chunks.now.items → (k : ℕ) (d : ChunkPayloadData)
         → k < place → IsTrue (comes_before (slice_index_or chunks.now.items k d).tsn tsn) }
@@ -320,7 +285,7 @@ fn is_behind(chunks: &VecDeque<UnassembledFragment>, place: usize, tsn: u32) -> 
 }
 
 // Whether the number comes before what stands from the place on: before the nearest and the last.
-fn is_ahead(chunks: &VecDeque<UnassembledFragment>, place: usize, tsn: u32) -> bool
+fn is_ahead(chunks: &VecDeque<Fragment>, place: usize, tsn: u32) -> bool
     requires { place ≤ length chunks.now.items }
     ensures yes { result ≡ true → IsSerial chunks.now.items
         → (k : ℕ) (d : ChunkPayloadData) → place ≤ k → k < length chunks.now.items
@@ -340,7 +305,7 @@ fn is_ahead(chunks: &VecDeque<UnassembledFragment>, place: usize, tsn: u32) -> b
 }
 
 // Whether fragments stand in serial order: each after the one before it, and after the first.
-fn are_serial(chunks: &VecDeque<UnassembledFragment>) -> bool
+fn are_serial(chunks: &VecDeque<Fragment>) -> bool
     ensures { IsOrderMark result chunks.now.items }
 {
     let len = chunks.len();
@@ -363,7 +328,7 @@ fn are_serial(chunks: &VecDeque<UnassembledFragment>) -> bool
 }
 
 // Whether what is left stands in serial order: a list that did not is looked through.
-fn is_still_serial(was_serial: bool, chunks: &VecDeque<UnassembledFragment>) -> bool
+fn is_still_serial(was_serial: bool, chunks: &VecDeque<Fragment>) -> bool
     requires { was_serial ≡ true → IsSerial chunks.now.items }
     ensures { IsOrderMark result chunks.now.items }
 {
@@ -374,7 +339,7 @@ fn is_still_serial(was_serial: bool, chunks: &VecDeque<UnassembledFragment>) -> 
 }
 
 // How many bytes some neighbours carry, up to the greatest number.
-fn bytes_from(chunks: &VecDeque<UnassembledFragment>, first: usize, count: usize) -> usize
+fn bytes_from(chunks: &VecDeque<Fragment>, first: usize, count: usize) -> usize
     requires { first + count ≤ length chunks.now.items }
     ensures { result ≡ min (bytes_of (take count (drop first chunks.now.items))) (2 ^ 64 - 1) }
 {
@@ -386,7 +351,7 @@ fn bytes_from(chunks: &VecDeque<UnassembledFragment>, first: usize, count: usize
 }
 
 // The bytes of what is left, where so many were taken of so many: past the greatest number the rest is counted anew.
-fn bytes_without(n_bytes: usize, gone: usize, chunks: &VecDeque<UnassembledFragment>) -> usize
+fn bytes_without(n_bytes: usize, gone: usize, chunks: &VecDeque<Fragment>) -> usize
     ensures { (n : ℕ) → n_bytes ≡ min (n + bytes_of chunks.now.items) (2 ^ 64 - 1)
         → gone ≡ min n (2 ^ 64 - 1) → result ≡ min (bytes_of chunks.now.items) (2 ^ 64 - 1) }
 {
@@ -398,7 +363,7 @@ fn bytes_without(n_bytes: usize, gone: usize, chunks: &VecDeque<UnassembledFragm
 
 /// Takes out the fragment at a place.
 /// Precondition: the place has one.
-fn take_out(chunks: &mut VecDeque<UnassembledFragment>, place: usize) -> UnassembledFragment
+fn take_out(chunks: &mut VecDeque<Fragment>, place: usize) -> Fragment
     requires { place < length chunks.old.items }
     ensures capacity { deque_capacity chunks.new ≡ deque_capacity chunks.old }
     ensures rest { chunks.new.items ≡ remove chunks.old.items place }
@@ -412,10 +377,10 @@ fn take_out(chunks: &mut VecDeque<UnassembledFragment>, place: usize) -> Unassem
 
 // Takes out neighbours. The others are turned until these stand in front, and back, so that each of them is moved twice at most.
 fn take_each(
-    chunks: &mut VecDeque<UnassembledFragment>,
+    chunks: &mut VecDeque<Fragment>,
     first: usize,
     count: usize,
-    kept: &mut Vec<UnassembledFragment>,
+    kept: &mut Vec<Fragment>,
 )
     requires in_range { first + count ≤ length chunks.old.items }
     requires empty { kept.old.items ≡ [] }
@@ -441,9 +406,9 @@ fn take_each(
 /// Puts neighbours back at a place, by the same turns.
 /// Preconditions: the place is at most the number of fragments; the deque has room for all.
 fn put_back(
-    chunks: &mut VecDeque<UnassembledFragment>,
+    chunks: &mut VecDeque<Fragment>,
     first: usize,
-    kept: Vec<UnassembledFragment>,
+    kept: Vec<Fragment>,
 )
     requires in_range { first ≤ length chunks.old.items }
     requires room { length chunks.old.items + length kept.items ≤ deque_capacity chunks.old }
@@ -461,40 +426,19 @@ fn put_back(
     chunks.rotate_right(first);
 }
 
-// Fragments equal to some neighbours, which share their bytes.
-fn clone_range(
-    alloc: Global,
-    chunks: &VecDeque<UnassembledFragment>,
-    first: usize,
-    count: usize,
-) -> Result<Vec<ChunkPayloadData>, AllocError>
-    requires { first + count ≤ length chunks.now.items }
-    ensures { IfOk result (λ copies. copies.items ≡ take count (drop first chunks.now.items)) }
-{
-    let mut copies = Vec::with_capacity(alloc, count)?;
-    for step in 0..count {
-        let Ok(copy) = chunks[first + step].chunk().try_clone() else {
-            return Err(AllocError);
-        };
-        copies.push(copy)?;
-    }
-    Ok(copies)
-}
-
 // Equal fragments, which share their bytes; so many at once take no memory.
 fn clone_fragments(
     alloc: Global,
-    chunks: &VecDeque<UnassembledFragment>,
+    chunks: &VecDeque<Fragment>,
     places: usize,
-) -> Result<VecDeque<UnassembledFragment>, Error>
+) -> Result<VecDeque<Fragment>, Error>
     ensures ok { IfOk result (λ copies. copies.items ≡ chunks.now.items) }
     ensures room { IfOk result (λ copies. places ≤ deque_capacity copies) }
     ensures memory { IfErr result (λ e. e ≡ ErrOutOfMemory) }
 {
     let mut copies = VecDeque::with_capacity(alloc, places)?;
     for place in 0..chunks.len() {
-        let copy = chunks[place].chunk().try_clone()?;
-        copies.push_back(UnassembledFragment::new(alloc, copy)?)?;
+        copies.push_back(chunks[place].try_clone(alloc)?)?;
     }
     Ok(copies)
 }

@@ -2,7 +2,8 @@
 
 ghost use Rattle.std.specs.Prelude.{◌≡◌, ◌==◌, ◌+◌, ◌^◌, ◌<◌, length, OnErr, IfOk, IfErr, IsOk, IsOkAnd, true, false, if◌then◌else◌};
 ghost use Rattle.sctp_reassembly.specs.reassembly_queue.ReassemblyQueue.{is_too_large, after_ordered_push, is_complete_with, PushesUnordered, IsCounted, held_bytes};
-ghost use Rattle.sctp_reassembly.specs.reassembly_queue.Undo.{undone, CanUndo};
+ghost use Rattle.sctp_reassembly.specs.reassembly_queue.PoolUndo.{CanUndoPut, pool_undone};
+ghost use Rattle.sctp_reassembly.specs.reassembly_queue.Undo.{undone, CanUndo, last_chunks, unassembled_of, with_unassembled, without_last};
 ghost use Rattle.sctp_base.specs.declared.error.Error.TheVariants.{ErrOutOfMemory, ErrInboundPacketTooLarge};
 
 use crate::reassembly_queue::ReassemblyQueue;
@@ -87,12 +88,23 @@ impl ReassemblyQueue {
         match change {
             PushChange::NotKept => {}
             PushChange::Ordered(put) => self.ordered.undo_put(put),
-            PushChange::Unassembled(put) => self.unordered_chunks.undo_put(put),
-            PushChange::Message(put) => {
-                self.unordered_chunks.undo_put(put);
-                self.unordered.remove_last();
+            PushChange::Unassembled(put) => {
+                self.unordered_chunks.undo_put(put, Vec::new(self.alloc));
             }
+            PushChange::Message(put) => self.undo_message(put),
         }
         self.n_bytes = n_bytes;
+    }
+
+    // Takes the message that became whole last apart again, and puts its fragments back but for the one that completed it.
+    fn undo_message(&mut self, put: PoolUndo)
+        requires some { 0 < length self.old.held.unordered }
+        requires can { CanUndoPut put (last_chunks self.old.held.unordered)
+            (unassembled_of self.old) }
+        ensures { self.new ≡ with_unassembled (without_last self.old)
+            (pool_undone put (last_chunks self.old.held.unordered) (unassembled_of self.old)) }
+    {
+        let run = self.unordered.pop_back().into_fragments();
+        self.unordered_chunks.undo_put(put, run);
     }
 }

@@ -26,19 +26,19 @@ put_back_long f ks xs =
     omega (arith, behind, front, length-append (take f xs) (drop f xs), ap length (take-append-drop f xs))
 
 -- what the undo makes of the fragments, and that it can
-pub record Undoes (u : InsertionUndo) (old new : Unassembled) : Type 0 where
-  pub done : insertion_undone u new ≡ old
-  pub can : CanUndoInsertion u new
+pub record Undoes (u : InsertionUndo) (ks : List ChunkPayloadData) (old new : Unassembled) : Type 0 where
+  pub done : insertion_undone u ks new ≡ old
+  pub can : CanUndoInsertion u ks new
 
-undoes : (u : InsertionUndo) (old new : Unassembled) (x : ChunkPayloadData)
+undoes : (u : InsertionUndo) (ks : List ChunkPayloadData) (old new : Unassembled) (x : ChunkPayloadData)
     → IsNoted u.marks old → u.place ≤ length old.chunks → u.first ≤ length new.chunks
-    → put_back u.first u.kept.items new.chunks ≡ insert old.chunks u.place x
-    → new.places ≡ max old.places (length old.chunks + 1) → Undoes u old new
-undoes u old new x noted within first back places =
-    let done : insertion_undone u new ≡ old =
+    → put_back u.first ks new.chunks ≡ insert old.chunks u.place x
+    → new.places ≡ max old.places (length old.chunks + 1) → Undoes u ks old new
+undoes u ks old new x noted within first back places =
+    let done : insertion_undone u ks new ≡ old =
     same_parts (ap (λ ys. remove ys u.place) back ∙ remove-insert old.chunks u.place x within) noted.places in
-    let whole : length new.chunks + length u.kept.items ≡ length old.chunks + 1 =
-    omega (arith, put_back_long u.first u.kept.items new.chunks, ap length back, length-insert old.chunks u.place x within) in
+    let whole : length new.chunks + length ks ≡ length old.chunks + 1 =
+    omega (arith, put_back_long u.first ks new.chunks, ap length back, length-insert old.chunks u.place x within) in
     record {
       done = done;
       can = record {
@@ -51,21 +51,21 @@ undoes u old new x noted within first back places =
     }
 
 -- one was put in
-pub one_undone : (v u : InsertionUndo) (old new : Unassembled) (x : ChunkPayloadData)
-    → v ≡ u → u.first ≡ 0 → u.kept.items ≡ [] → IsNoted u.marks old → u.place ≤ length old.chunks → new ≡ with_one u.place x old → Undoes v old new
-one_undone v u old new x same front none noted within put =
-    let back = ap₂ (λ f ks. put_back f ks new.chunks) front none ∙ same_list put in
-    subst (λ w. Undoes w old new) (sym same) (undoes u old new x noted within (omega (arith, front)) back (same_places put))
+pub one_undone : (v u : InsertionUndo) (ks : List ChunkPayloadData) (old new : Unassembled) (x : ChunkPayloadData)
+    → v ≡ u → u.first ≡ 0 → ks ≡ [] → IsNoted u.marks old → u.place ≤ length old.chunks → new ≡ with_one u.place x old → Undoes v ks old new
+one_undone v u ks old new x same front none noted within put =
+    let back = ap₂ (λ f ls. put_back f ls new.chunks) front none ∙ same_list put in
+    subst (λ w. Undoes w ks old new) (sym same) (undoes u ks old new x noted within (omega (arith, front)) back (same_places put))
 
 -- and a run was taken out then
-pub run_undone : (v u : InsertionUndo) (old mid new : Unassembled) (x : ChunkPayloadData) (n : ℕ)
-    → v ≡ u → u.kept.items ≡ take n (drop u.first mid.chunks) → u.first + n ≤ length mid.chunks
+pub run_undone : (v u : InsertionUndo) (ks : List ChunkPayloadData) (old mid new : Unassembled) (x : ChunkPayloadData) (n : ℕ)
+    → v ≡ u → ks ≡ take n (drop u.first mid.chunks) → u.first + n ≤ length mid.chunks
     → IsNoted u.marks old → u.place ≤ length old.chunks → mid ≡ with_one u.place x old
-    → new ≡ with_chunks mid (take u.first mid.chunks ++ drop (u.first + n) mid.chunks) → Undoes v old new
-run_undone v u old mid new x n same kept in_range noted within put taken =
+    → new ≡ with_chunks mid (take u.first mid.chunks ++ drop (u.first + n) mid.chunks) → Undoes v ks old new
+run_undone v u ks old mid new x n same kept in_range noted within put taken =
     let xs = mid.chunks in
-    let back = ap₂ (λ ks ys. put_back u.first ks ys) kept (same_list taken) ∙ put_back_taken u.first n xs in_range ∙ same_list put in
+    let back = ap₂ (λ ls ys. put_back u.first ls ys) kept (same_list taken) ∙ put_back_taken u.first n xs in_range ∙ same_list put in
     let front = length-take-le u.first xs (omega (arith, in_range)) in
     let first : u.first ≤ length new.chunks =
     omega (arith, in_range, same_long taken, length-append (take u.first xs) (drop (u.first + n) xs), front) in
-    subst (λ w. Undoes w old new) (sym same) (undoes u old new x noted within first back (same_places taken ∙ same_places put))
+    subst (λ w. Undoes w ks old new) (sym same) (undoes u ks old new x noted within first back (same_places taken ∙ same_places put))

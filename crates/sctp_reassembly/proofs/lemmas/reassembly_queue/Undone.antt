@@ -6,6 +6,7 @@ use Rattle.sctp_serial.proofs.lemmas.ListEdits.{remove_seam}
 use Rattle.sctp_data.specs.ChunkSet.{ChunkSet}
 use Rattle.sctp_reassembly.specs.declared.reassembly_queue.chunks.Placed.{Placed}
 use Rattle.sctp_reassembly.specs.reassembly_queue.Fragments.{without_chunk}
+use Rattle.sctp_reassembly.specs.reassembly_queue.Undo.{last_chunks}
 
 -- a change at a place writes what it makes of the element there
 pub changed-set : {X : Type 0} (f : X → X) (i : ℕ) (xs : List X) (d : X) → change_at f i xs ≡ set xs i (f (get_or xs i d))
@@ -36,6 +37,12 @@ pub same_numbers : {X : Type 0} (num : X → ℕ) (f : X → X) → ((x : X) →
 same_numbers num f same i [] = refl
 same_numbers num f same zero (x ∷ xs) = ap (λ n. n ∷ map num xs) (same x)
 same_numbers num f same (suc i) (x ∷ xs) = ap (λ ns. num x ∷ ns) (same_numbers num f same i xs)
+
+-- the fragments of the last set
+pub last_there : (xs : List ChunkSet) (y : ChunkSet) → last_chunks (xs ++ y ∷ []) ≡ y.chunks
+last_there [] y = refl
+last_there (x ∷ []) y = refl
+last_there (x ∷ z ∷ xs) y = last_there (z ∷ xs) y
 
 -- what came last is taken out
 pub last_out : {X : Type 0} (xs : List X) (y : X) → remove (xs ++ y ∷ []) (length (xs ++ y ∷ []) - 1) ≡ xs

@@ -1,6 +1,6 @@
 //! A fragment put among the unassembled ones so that it can be taken back.
 
-ghost use Rattle.std.specs.Prelude.{◌≡◌, ◌+◌, length, max, OnOk, OnErr, IfOk, IfErr, MatchOption};
+ghost use Rattle.std.specs.Prelude.{◌≡◌, ◌+◌, [], length, max, OnOk, OnErr, IfOk, IfErr, MatchOption};
 ghost use Rattle.sctp_base.specs.declared.error.Error.TheVariants.{ErrOutOfMemory};
 ghost use Rattle.sctp_list_lemmas.specs.Lists.{insert_before};
 ghost use Rattle.sctp_serial.specs.DataChunks.{chunk_before};
@@ -8,6 +8,7 @@ ghost use Rattle.sctp_serial.specs.Runs.{HasNoRun};
 ghost use Rattle.sctp_reassembly.specs.reassembly_queue.Loose.{IsRunTaken, place_among};
 ghost use Rattle.sctp_reassembly.specs.reassembly_queue.PoolUndo.{CanUndoPut, pool_undone};
 
+use crate::reassembly_queue::fragment::Fragment;
 use crate::reassembly_queue::pool::{Pool, is_searched_after, search};
 use crate::reassembly_queue::unassembled::InsertionUndo;
 use sctp_base::error::Result;
@@ -15,7 +16,7 @@ use sctp_data::chunk::chunk_payload_data::ChunkPayloadData;
 use std::alloc::Global;
 
 /// What `put_undoable` did.
-#[derive(Drop)]
+#[derive(Clone, Copy)]
 pub(crate) struct PoolUndo {
     put: InsertionUndo,
     // as it was
@@ -24,7 +25,7 @@ pub(crate) struct PoolUndo {
 
 impl Pool {
     /// Puts a fragment before the first that it comes before, and takes out the run
-    /// that ends earliest, if there is one. Answers that run's fragments, and what takes it all back.
+    /// that ends earliest, if there is one. Answers that run's fragments, and what takes it all back with them.
     /// Precondition: `place` is that place.
     /// Refuses only for memory, and nothing changes then.
     pub(crate) fn put_undoable(
@@ -32,7 +33,7 @@ impl Pool {
         alloc: Global,
         place: usize,
         chunk: ChunkPayloadData,
-    ) -> Result<(Option<Vec<ChunkPayloadData>>, PoolUndo)>
+    ) -> Result<(Option<Vec<Fragment>>, PoolUndo)>
         requires { place ≡ place_among chunk.tsn self.old.chunks }
         ensures ok { IfOk result (λ r.
             MatchOption r.0 (HasNoRun self.new.chunks
@@ -41,8 +42,10 @@ impl Pool {
             (insert_before chunk_before chunk self.old.chunks) self.new.chunks chunks.items)) }
         ensures places { OnOk result (self.new.places
             ≡ max self.old.places (length self.old.chunks + 1)) }
-        ensures undo { IfOk result (λ r. pool_undone r.1 self.new ≡ self.old) }
-        ensures can { IfOk result (λ r. CanUndoPut r.1 self.new) }
+        ensures undo { IfOk result (λ r. MatchOption r.0 (pool_undone r.1 [] self.new ≡ self.old)
+            (λ chunks. pool_undone r.1 chunks.items self.new ≡ self.old)) }
+        ensures can { IfOk result (λ r. MatchOption r.0 (CanUndoPut r.1 [] self.new)
+            (λ chunks. CanUndoPut r.1 chunks.items self.new)) }
         ensures err { OnErr result (self.new ≡ self.old) }
         ensures memory { IfErr result (λ e. e ≡ ErrOutOfMemory) }
     {
@@ -52,31 +55,31 @@ impl Pool {
         let serial = self.unassembled.is_serial();
         let Some((first, count)) = search(&self.unassembled, searched, place) else {
             self.searched = true;
-            let put = InsertionUndo::new(place, 0, Vec::new(alloc), marks);
+            let put = InsertionUndo::new(place, 0, marks);
             return Ok((None, PoolUndo { put, searched }));
         };
         match self.unassembled.take_range(alloc, first, count) {
-            Ok((chunks, kept)) => {
+            Ok(chunks) => {
                 self.searched = is_searched_after(searched, serial);
-                let put = InsertionUndo::new(place, first, kept, marks);
+                let put = InsertionUndo::new(place, first, marks);
                 Ok((Some(chunks), PoolUndo { put, searched }))
             }
             Err(e) => {
-                let put = InsertionUndo::new(place, 0, Vec::new(alloc), marks);
-                self.unassembled.put_back(put);
+                let put = InsertionUndo::new(place, 0, marks);
+                self.unassembled.put_back(put, Vec::new(alloc));
                 Err(e.into())
             }
         }
     }
 
-    /// Takes back what `put_undoable` did. It takes no memory.
+    /// Takes back what `put_undoable` did, where the fragments of the run that it answered are given back. It takes no memory.
     /// Precondition: `CanUndoPut`, which that call promises of what it left.
-    pub(crate) fn undo_put(&mut self, undo: PoolUndo)
-        requires { CanUndoPut undo self.old }
-        ensures { self.new ≡ pool_undone undo self.old }
+    pub(crate) fn undo_put(&mut self, undo: PoolUndo, run: Vec<Fragment>)
+        requires { CanUndoPut undo run.items self.old }
+        ensures { self.new ≡ pool_undone undo run.items self.old }
     {
         let PoolUndo { put, searched } = undo;
-        self.unassembled.put_back(put);
+        self.unassembled.put_back(put, run);
         self.searched = searched;
     }
 }

@@ -17,14 +17,14 @@ returns-then-far-2-clause-free c =
     let last = c.index-chunks-len.result in
     let some : 0 < length xs = omega (arith, c.if-len-eq0.false) in
     let s = order_on num c.args.ascending xs c.if-not-ascending.false c.requires in
-    let first = (slice_index_or xs 0 x).tsn in
-    let is_first = λ (d : ChunkPayloadData). ap num (get_or_default xs 0 d x some) in
+    let first = c.tsn_of-first.result in
+    let is_first = λ (d : ChunkPayloadData). ap num (get_or_default xs 0 d x some ∙ sym c.index-chunks-0.is) ∙ sym c.tsn_of-first.ensures.value in
     let small = first_small num xs s first is_first some in
     insertion_in_front (has_tsn n) num chunk_before n c.ranges.tsn.fits (λ y. refl) (λ y e same lt. ap (λ t. comes_before t e.tsn) same) xs s first is_first some _ last c.index-chunks-len.is
     (before_half first n small c.ranges.tsn.fits (omega (arith, c.distance-far.ensures.value, c.if-far-2.true)))
     (λ on.
     let end : distance n (slice_index_or xs (length xs - 1) last).tsn ≡ distance n last.tsn = ap (λ (y : ChunkPayloadData). distance n y.tsn) (sym c.index-chunks-len.is) in
-    grind (arith, nat_tests, c.distance.ensures.value))
+    grind (arith, nat_tests, c.distance.ensures.value, c.tsn_of.ensures.value))
 
 pub place_within-place-requires : goal.place_within-place-requires
 place_within-place-requires c =
@@ -33,7 +33,7 @@ place_within-place-requires c =
     let x = c.index-chunks-0.result in
     let some : 0 < length xs = omega (arith, c.if-len-eq0.false) in
     let s = order_on num c.args.ascending xs c.if-not-ascending.false c.requires in
-    sorted num xs s (slice_index_or xs 0 x).tsn (λ d. ap num (get_or_default xs 0 d x some)) some
+    sorted num xs s c.tsn_of-first.result (λ d. ap num (get_or_default xs 0 d x some ∙ sym c.index-chunks-0.is) ∙ sym c.tsn_of-first.ensures.value) some
 
 pub overflow_sub-place : goal.overflow_sub-place
 overflow_sub-place c =
@@ -44,8 +44,8 @@ overflow_sub-place c =
     let place = c.place_within-place.result in
     let some : 0 < length xs = omega (arith, c.if-len-eq0.false) in
     let s = order_on num c.args.ascending xs c.if-not-ascending.false c.requires in
-    let first = (slice_index_or xs 0 x).tsn in
-    let is_first = λ (d : ChunkPayloadData). ap num (get_or_default xs 0 d x some) in
+    let first = c.tsn_of-first.result in
+    let is_first = λ (d : ChunkPayloadData). ap num (get_or_default xs 0 d x some ∙ sym c.index-chunks-0.is) ∙ sym c.tsn_of-first.ensures.value in
     let split = subst (λ far. IsPartitionPoint (λ (y : ChunkPayloadData). distance first y.tsn ≤ far) (λ (y : ChunkPayloadData). far < distance first y.tsn) xs place) c.distance-far.ensures.value c.place_within-place.ensures.split in
     place_positive num xs s first is_first some n place (place_from_split num xs s first is_first some n place c.place_within-place.ensures.in_range split)
 
@@ -58,10 +58,10 @@ returns-clause-free c =
     let place = c.place_within-place.result in
     let some : 0 < length xs = omega (arith, c.if-len-eq0.false) in
     let s = order_on num c.args.ascending xs c.if-not-ascending.false c.requires in
-    let first = (slice_index_or xs 0 x).tsn in
-    let is_first = λ (d : ChunkPayloadData). ap num (get_or_default xs 0 d x some) in
+    let first = c.tsn_of-first.result in
+    let is_first = λ (d : ChunkPayloadData). ap num (get_or_default xs 0 d x some ∙ sym c.index-chunks-0.is) ∙ sym c.tsn_of-first.ensures.value in
     let split = subst (λ far. IsPartitionPoint (λ (y : ChunkPayloadData). distance first y.tsn ≤ far) (λ (y : ChunkPayloadData). far < distance first y.tsn) xs place) c.distance-far.ensures.value c.place_within-place.ensures.split in
     let near : distance first n < 2 ^ 31 = omega (arith, c.distance-far.ensures.value, c.if-far.false, c.if-far-2.false) in
     insertion_between (has_tsn n) num chunk_before n c.ranges.tsn.fits (λ y. refl) (λ y e same lt. ap (λ t. comes_before t e.tsn) same) xs s first is_first some place near
     (place_from_split num xs s first is_first some n place c.place_within-place.ensures.in_range split)
-    (λ d pos e. c.if-chunks-place.false (ap num (get_or_default xs (place - 1) c.index-chunks-place.result d (omega (arith, c.place_within-place.ensures.in_range))) ∙ e))
+    (λ d pos e. c.if-deref-tsn.false (ap num (c.deref.ensures ∙ c.index-chunks-place.is) ∙ ap num (get_or_default xs (place - 1) c.index-chunks-place.result d (omega (arith, c.place_within-place.ensures.in_range))) ∙ e))

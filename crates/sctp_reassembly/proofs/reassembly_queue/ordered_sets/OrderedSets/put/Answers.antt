@@ -36,12 +36,12 @@ module _ (x : ChunkPayloadData) (xs : List ChunkSet) (i : ℕ) (at : IsThere x x
 
 pub returns-in_default-clause-ok : goal.returns-in_default-clause-ok
 returns-in_default-clause-ok c =
-    let at = rw c.as_deque.ensures at c.in-Ok.ensures.there in
+    let at = rw (c.deref.ensures, c.as_deque.ensures) at c.in-Ok.ensures.there in
     rw (← c.self.view_is) (put_there c.args.chunk c.self.inside.sets.items c.in-Ok.set at _ c.in_ok-put-in-Ok.ensures.ok)
 
 pub returns-in_default-clause-answer : goal.returns-in_default-clause-answer
 returns-in_default-clause-answer c =
-    let at = rw c.as_deque.ensures at c.in-Ok.ensures.there in
+    let at = rw (c.deref.ensures, c.as_deque.ensures) at c.in-Ok.ensures.there in
     rw (← c.self.view_is) (answer_there c.args.chunk c.self.inside.sets.items c.in-Ok.set at _ (rw c.in_default.is at c.in_ok-put-in-Ok.ensures.answer))
 
 pub invariant_of-self-in-Ok : goal.invariant_of-self-in-Ok
@@ -55,12 +55,12 @@ invariant_of-self-in-Ok c =
 
 pub returns-in-Some-clause-ok : goal.returns-in-Some-clause-ok
 returns-in-Some-clause-ok c =
-    let at = rw c.as_deque.ensures at c.in-Ok.ensures.there in
+    let at = rw (c.deref.ensures, c.as_deque.ensures) at c.in-Ok.ensures.there in
     rw (← c.self.view_is) (put_there c.args.chunk c.self.inside.sets.items c.in-Ok.set at _ c.in_ok-put-in-Ok.ensures.ok)
 
 pub returns-in-Some-clause-answer : goal.returns-in-Some-clause-answer
 returns-in-Some-clause-answer c =
-    let at = rw c.as_deque.ensures at c.in-Ok.ensures.there in
+    let at = rw (c.deref.ensures, c.as_deque.ensures) at c.in-Ok.ensures.there in
     rw (← c.self.view_is) (answer_there c.args.chunk c.self.inside.sets.items c.in-Ok.set at _ (rw c.in-Some.is at c.in_ok-put-in-Ok.ensures.answer))
 
 pub returns-in-Some-clause-undo : goal.returns-in-Some-clause-undo
@@ -68,7 +68,7 @@ returns-in-Some-clause-undo c =
     let xs = c.self.inside.sets.items in
     let i = c.in-Ok.set in
     let d = new_set c.args.chunk in
-    let at = rw c.as_deque.ensures at c.in-Ok.ensures.there in
+    let at = rw (c.deref.ensures, c.as_deque.ensures) at c.in-Ok.ensures.there in
     let undo = rw c.in-Some.is at c.in_ok-put-in-Ok.ensures.undo in
     let long = ap length (c.in_ok-put-in-Ok.ensures.ok d) in
     ((omega (arith, at.1, long, length-set xs i (with_chunk c.args.chunk (get_or xs i d))), undo.0), undo.1 ∙ c.self.view_is)
@@ -78,7 +78,7 @@ returns-in_ok-insert-in-Err-clause-answer c =
     let xs = c.self.inside.sets.items in
     let x = c.args.chunk in
     let ssn = x.stream_sequence_number in
-    let none = rw c.as_deque.ensures at c.in-Err.ensures.free.absent in
+    let none = rw (c.deref.ensures, c.as_deque.ensures) at c.in-Err.ensures.free.absent in
     rw (← c.self.view_is)
     (ap (λ b. Some b) c.is_complete-whole.ensures
     ∙ ap (λ (s : ChunkSet). Some (is_complete s.chunks)) c.in_ok-set-in-Err.ensures.ok

@@ -1,4 +1,4 @@
-use Rattle.std.proofs.Common.{◌≡◌, ℕ, ◌<◌, ◌≤◌, Bool, List, length, insert, remove, refl, sym, ap, ap₂, subst, ◌∙◌, arith}
+use Rattle.std.proofs.Common.{◌≡◌, ℕ, ◌<◌, ◌≤◌, Bool, List, [], length, insert, remove, refl, sym, ap, ap₂, subst, ◌∙◌, arith}
 use Rattle.std.proofs.lemmas.List.Edits.{length-insert}
 use Rattle.sctp_data.specs.declared.chunk.chunk_payload_data.ChunkPayloadData.{ChunkPayloadData}
 use Rattle.sctp_list_lemmas.specs.Lists.{insert_before}
@@ -29,7 +29,7 @@ within : {p q : Unassembled} → p ≡ q → (n place : ℕ) → place ≡ place
 within {q} e n place at = omega (arith, same_long e, place_upto n q.chunks place at)
 
 -- an undo of the fragments is one of the pool, where the mark was on for a reason
-can_undo : {u : InsertionUndo} {old new : Unassembled} → Undoes u old new → (b : Bool) → IsMark b old.chunks → CanUndoPut (record { put = u; searched = b }) new
+can_undo : {u : InsertionUndo} {ks : List ChunkPayloadData} {old new : Unassembled} → Undoes u ks old new → (b : Bool) → IsMark b old.chunks → CanUndoPut (record { put = u; searched = b }) ks new
 can_undo h b mark = record { put = h.can; mark = subst (λ (p : Unassembled). IsMark b p.chunks) (sym h.done) mark }
 
 pub insert-requires : goal.insert-requires
@@ -77,13 +77,13 @@ returns-in-Ok-clause-ok c =
 pub returns-in_default-clause-undo : goal.returns-in_default-clause-undo
 returns-in_default-clause-undo c =
     let le = within c.self.view_is c.args.chunk.tsn c.args.place c.requires in
-    let back = one_undone _ _ _ _ c.args.chunk c.new-put.ensures refl c.new.ensures.items c.marks-marks.ensures le c.in_ok-insert.ensures.ok in
+    let back = one_undone _ _ [] _ _ c.args.chunk c.new-put.ensures refl refl c.marks-marks.ensures le c.in_ok-insert.ensures.ok in
     back.done ∙ c.self.view_is
 
 pub returns-in_default-clause-can : goal.returns-in_default-clause-can
 returns-in_default-clause-can c =
     let le = within c.self.view_is c.args.chunk.tsn c.args.place c.requires in
-    let back = one_undone _ _ _ _ c.args.chunk c.new-put.ensures refl c.new.ensures.items c.marks-marks.ensures le c.in_ok-insert.ensures.ok in
+    let back = one_undone _ _ [] _ _ c.args.chunk c.new-put.ensures refl refl c.marks-marks.ensures le c.in_ok-insert.ensures.ok in
     can_undo back c.self.inside.searched c.self.invariant
 
 pub returns-in-Ok-clause-undo : goal.returns-in-Ok-clause-undo
@@ -91,7 +91,7 @@ returns-in-Ok-clause-undo c =
     let le = within c.self.view_is c.args.chunk.tsn c.args.place c.requires in
     let in_range = c.in-Some.ensures.found.run.in_range in
     let put = c.in_ok-insert.ensures.ok in
-    let back = run_undone _ _ _ _ _ c.args.chunk _ c.new-put-in-Ok.ensures c.in-Ok.ensures.kept in_range c.marks-marks.ensures le put c.in-Ok.ensures.rest in
+    let back = run_undone _ _ _ _ _ _ c.args.chunk _ c.new-put-in-Ok.ensures c.in-Ok.ensures.taken in_range c.marks-marks.ensures le put c.in-Ok.ensures.rest in
     back.done ∙ c.self.view_is
 
 pub returns-in-Ok-clause-can : goal.returns-in-Ok-clause-can
@@ -99,26 +99,26 @@ returns-in-Ok-clause-can c =
     let le = within c.self.view_is c.args.chunk.tsn c.args.place c.requires in
     let in_range = c.in-Some.ensures.found.run.in_range in
     let put = c.in_ok-insert.ensures.ok in
-    let back = run_undone _ _ _ _ _ c.args.chunk _ c.new-put-in-Ok.ensures c.in-Ok.ensures.kept in_range c.marks-marks.ensures le put c.in-Ok.ensures.rest in
+    let back = run_undone _ _ _ _ _ _ c.args.chunk _ c.new-put-in-Ok.ensures c.in-Ok.ensures.taken in_range c.marks-marks.ensures le put c.in-Ok.ensures.rest in
     can_undo back c.self.inside.searched c.self.invariant
 
 pub put_back-requires : goal.put_back-requires
 put_back-requires c =
     let le = within c.self.view_is c.args.chunk.tsn c.args.place c.requires in
     let put = c.in-Err.ensures.err ∙ c.in_ok-insert.ensures.ok in
-    let back = one_undone _ _ _ _ c.args.chunk c.new-put-in-Err.ensures refl c.new-in-Err.ensures.items c.marks-marks.ensures le put in
+    let back = one_undone _ _ _ _ _ c.args.chunk c.new-put-in-Err.ensures refl c.new.ensures.items c.marks-marks.ensures le put in
     back.can
 
 pub returns-in-Err-clause-err : goal.returns-in-Err-clause-err
 returns-in-Err-clause-err c =
     let le = within c.self.view_is c.args.chunk.tsn c.args.place c.requires in
     let put = c.in-Err.ensures.err ∙ c.in_ok-insert.ensures.ok in
-    let back = one_undone _ _ _ _ c.args.chunk c.new-put-in-Err.ensures refl c.new-in-Err.ensures.items c.marks-marks.ensures le put in
+    let back = one_undone _ _ _ _ _ c.args.chunk c.new-put-in-Err.ensures refl c.new.ensures.items c.marks-marks.ensures le put in
     c.put_back.ensures ∙ back.done ∙ c.self.view_is
 
 pub invariant_of-self-in-Err : goal.invariant_of-self-in-Err
 invariant_of-self-in-Err c =
     let le = within c.self.view_is c.args.chunk.tsn c.args.place c.requires in
     let put = c.in-Err.ensures.err ∙ c.in_ok-insert.ensures.ok in
-    let back = one_undone _ _ _ _ c.args.chunk c.new-put-in-Err.ensures refl c.new-in-Err.ensures.items c.marks-marks.ensures le put in
+    let back = one_undone _ _ _ _ _ c.args.chunk c.new-put-in-Err.ensures refl c.new.ensures.items c.marks-marks.ensures le put in
     subst (λ (p : Unassembled). IsMark c.self.inside.searched p.chunks) (sym (c.put_back.ensures ∙ back.done)) c.self.invariant
