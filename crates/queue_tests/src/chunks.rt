@@ -3,8 +3,9 @@
 
 use crate::part::{FIRST, LAST, MIDDLE, WHOLE, ordered};
 use sctp_base::error::Error;
-use sctp_chunks::chunk::chunk_payload_data::{ChunkPayloadData, PayloadProtocolIdentifier};
+use sctp_chunks::chunk::chunk_payload_data::PayloadProtocolIdentifier;
 use sctp_queues::chunks::{Chunks, Fragments};
+use sctp_queues::fragment::Fragment;
 use std::alloc::Global;
 
 // Whether this fragment makes the message whole, or does not.
@@ -98,10 +99,11 @@ fn an_empty_fragment_is_one_piece(rt: HostRuntime) {
 }
 
 // Fragments of these TSNs.
-fn given(alloc: Global, tsns: &[u32]) -> Result<Vec<ChunkPayloadData>, Error> {
+fn given(alloc: Global, tsns: &[u32]) -> Result<Vec<Fragment>, Error> {
     let mut chunks = Vec::new(alloc);
     for tsn in tsns {
-        chunks.push(ordered(alloc, *tsn, 0, MIDDLE, b"x")?)?;
+        let chunk = ordered(alloc, *tsn, 0, MIDDLE, b"x")?;
+        chunks.push(Fragment::new(alloc, chunk)?)?;
     }
     Ok(chunks)
 }

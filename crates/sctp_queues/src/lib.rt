@@ -6,6 +6,7 @@ pub use sctp_outbound::{
     pending_queue,
 };
 pub use sctp_reassembly::{
-    Chunk, Chunks, Fragments, ReassemblyQueue, chunks, reassembly_queue, unassembled,
+    Chunk, Chunks, Fragment, Fragments, ReassemblyQueue, chunks, fragment, reassembly_queue,
+    unassembled,
 };
 pub use sctp_serial::{Turns, turns};
