@@ -1,4 +1,5 @@
-use Rattle.std.proofs.Common.{◌≡◌, ℕ, refl, true, arith}
+use Rattle.std.proofs.Common.{◌≡◌, ℕ, ◌+◌, ◌-◌, ◌%◌, ◌^◌, slice_index_or, refl, true, ap, ◌∙◌, arith}
+use Rattle.sctp_data.specs.declared.chunk.chunk_payload_data.ChunkPayloadData.{ChunkPayloadData}
 use Rattle.sctp_model.specs.Receiver.{is_held}
 use Rattle.sctp_model.specs.Queues.{set_of}
 use Rattle.sctp_link.specs.Fields.{record_in, state_in}
@@ -14,7 +15,8 @@ index-requires g c =
     let r : (s : ℕ) × (n : ℕ) × (is_held (record_in c.self.inside) s n ≡ true) × (c.args.set.now ≡ set_of (record_in c.self.inside) n) = rw (← c.self.view_is) at c.requires in
     let begins = held-begins sum x c.self.invariant.1 slots messages refl refl r.0 r.1 c.args.set.now c.fragments.result.now c.fragments.ensures r.2 r.3 in
     let made = held-made sum x c.self.invariant.1 slots messages refl refl r.0 r.1 r.2 in
-    omega (arith, lead-slot sum x c.self.invariant.1 slots messages refl refl r.1 c.fragments.result.now c.index-fragments-0.result begins made)
+    let first = ap (λ (y : ChunkPayloadData). y.tsn) (c.deref.ensures ∙ c.index-fragments-0.is) in
+    omega (arith, first, lead-slot sum x c.self.invariant.1 slots messages refl refl r.1 c.fragments.result.now c.index-fragments-0.result begins made)
 
 pub index-requires-2 : goal.index-requires-2
 index-requires-2 g c =
@@ -25,7 +27,10 @@ index-requires-2 g c =
     let r : (s : ℕ) × (n : ℕ) × (is_held (record_in c.self.inside) s n ≡ true) × (c.args.set.now ≡ set_of (record_in c.self.inside) n) = rw (← c.self.view_is) at c.requires in
     let begins = held-begins sum x c.self.invariant.1 slots messages refl refl r.0 r.1 c.args.set.now c.fragments.result.now c.fragments.ensures r.2 r.3 in
     let made = held-made sum x c.self.invariant.1 slots messages refl refl r.0 r.1 r.2 in
-    omega (arith, lead-message sum x c.self.invariant.1 slots messages refl refl r.1 c.fragments.result.now c.index-fragments-0.result begins made c.index.result.now c.index.ensures)
+    let first = ap (λ (y : ChunkPayloadData). y.tsn) (c.deref.ensures ∙ c.index-fragments-0.is) in
+    let there = c.index.ensures ∙ ap (λ t. slice_index_or slots ((t + (2 ^ 32 - x.recorded.setup.first)) % 2 ^ 32) c.index.result.now) first in
+    let held = lead-message sum x c.self.invariant.1 slots messages refl refl r.1 c.fragments.result.now c.index-fragments-0.result begins made in
+    omega (arith, held c.index.result.now there)
 
 pub returns : goal.returns
 returns g c =
@@ -33,4 +38,11 @@ returns g c =
     let x = state_in c.self.inside in
     let slots = c.self.inside.slots.items in
     let messages = c.self.inside.messages.items in
-    rw (← c.self.view_is) (λ s n h e. lead-index sum x c.self.invariant.1 slots messages refl refl n c.fragments.result.now c.index-fragments-0.result (held-begins sum x c.self.invariant.1 slots messages refl refl s n c.args.set.now c.fragments.result.now c.fragments.ensures h e) (held-made sum x c.self.invariant.1 slots messages refl refl s n h) refl (held-ordered sum x c.self.invariant.1 slots messages refl refl s n h) c.index.result.now c.index-2.result.now c.index.ensures c.index-2.ensures)
+    let first = ap (λ (y : ChunkPayloadData). y.tsn) (c.deref.ensures ∙ c.index-fragments-0.is) in
+    let there = c.index.ensures ∙ ap (λ t. slice_index_or slots ((t + (2 ^ 32 - x.recorded.setup.first)) % 2 ^ 32) c.index.result.now) first in
+    rw (← c.self.view_is) (λ s n h e.
+    let begins = held-begins sum x c.self.invariant.1 slots messages refl refl s n c.args.set.now c.fragments.result.now c.fragments.ensures h e in
+    let made = held-made sum x c.self.invariant.1 slots messages refl refl s n h in
+    let ordered = held-ordered sum x c.self.invariant.1 slots messages refl refl s n h in
+    lead-index sum x c.self.invariant.1 slots messages refl refl n c.fragments.result.now c.index-fragments-0.result begins made
+    refl ordered c.index.result.now c.index-2.result.now there c.index-2.ensures)
