@@ -530,10 +530,7 @@ fn follow_on(chunks: &[Fragment]) -> bool
 }
 
 /// Equal fragments, which share their bytes.
-pub(crate) fn clone_chunks(
-    alloc: Global,
-    chunks: &[Fragment],
-) -> Result<Vec<Fragment>>
+pub(crate) fn clone_chunks(alloc: Global, chunks: &[Fragment]) -> Result<Vec<Fragment>>
     ensures ok { IfOk result (λ copies. copies.items ≡ chunks.now) }
     ensures memory { IfErr result (λ e. e ≡ ErrOutOfMemory) }
 {

@@ -92,11 +92,7 @@ impl CountedSets {
     /// TSN is there already.
     /// Precondition: the place has a set.
     /// Refuses only for memory, and nothing changes then.
-    pub(crate) fn put_into(
-        &mut self,
-        place: usize,
-        chunk: Fragment,
-    ) -> Result<Option<Placed>>
+    pub(crate) fn put_into(&mut self, place: usize, chunk: Fragment) -> Result<Option<Placed>>
         requires { place < length self.old.items }
         ensures ok { OnOk result ((d : ChunkSet) → self.new.items ≡ set self.old.items place
             (with_chunk chunk (slice_index_or self.old.items place d))) }

@@ -129,11 +129,7 @@ impl OrderedSets {
     /// Puts a chunk into the first set of its number, or into a new one at its place, and says whether that set
     /// is complete then, and how it is undone; None where its TSN is there already.
     /// Refuses only for memory, and nothing changes then.
-    pub(crate) fn put(
-        &mut self,
-        alloc: Global,
-        chunk: Fragment,
-    ) -> Result<Option<OrderedPut>>
+    pub(crate) fn put(&mut self, alloc: Global, chunk: Fragment) -> Result<Option<OrderedPut>>
         ensures ok { OnOk result (self.new ≡ sets_with chunk self.old) }
         ensures answer { IfOk result (λ put. option_map (λ (p : OrderedPut). p.whole) put
             ≡ answer_with chunk (chunks_of_ssn chunk.stream_sequence_number self.old)) }

@@ -72,10 +72,7 @@ impl Pool {
     }
 
     /// Takes out the run that ends earliest, if there is one. Refuses only for memory, and nothing changes then.
-    pub(crate) fn take_run(
-        &mut self,
-        alloc: Global,
-    ) -> Result<Option<Vec<Fragment>>, AllocError>
+    pub(crate) fn take_run(&mut self, alloc: Global) -> Result<Option<Vec<Fragment>>, AllocError>
         ensures ok { IfOk result (λ run. MatchOption run
             (HasNoRun self.new.chunks × (self.new ≡ self.old)) (λ chunks. IsRunTaken self.old.chunks self.new.chunks chunks.items
             × (self.new.places ≡ self.old.places))) }

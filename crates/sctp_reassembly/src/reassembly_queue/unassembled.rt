@@ -210,7 +210,8 @@ impl Loose {
         count: usize,
     ) -> Result<Vec<Fragment>, AllocError>
         requires { first + count ≤ length self.old.chunks }
-        ensures taken { IfOk result (λ taken. taken.items ≡ take count (drop first self.old.chunks)) }
+        ensures taken { IfOk result (λ taken. taken.items
+            ≡ take count (drop first self.old.chunks)) }
         ensures rest { OnOk result (self.new ≡ with_chunks self.old
             (take first self.old.chunks ++ drop (first + count) self.old.chunks)) }
         ensures err { OnErr result (self.new ≡ self.old) }
@@ -376,12 +377,7 @@ fn take_out(chunks: &mut VecDeque<Fragment>, place: usize) -> Fragment
 }
 
 // Takes out neighbours. The others are turned until these stand in front, and back, so that each of them is moved twice at most.
-fn take_each(
-    chunks: &mut VecDeque<Fragment>,
-    first: usize,
-    count: usize,
-    kept: &mut Vec<Fragment>,
-)
+fn take_each(chunks: &mut VecDeque<Fragment>, first: usize, count: usize, kept: &mut Vec<Fragment>)
     requires in_range { first + count ≤ length chunks.old.items }
     requires empty { kept.old.items ≡ [] }
     requires room { count ≤ vec_capacity kept.old }
@@ -405,11 +401,7 @@ fn take_each(
 
 /// Puts neighbours back at a place, by the same turns.
 /// Preconditions: the place is at most the number of fragments; the deque has room for all.
-fn put_back(
-    chunks: &mut VecDeque<Fragment>,
-    first: usize,
-    kept: Vec<Fragment>,
-)
+fn put_back(chunks: &mut VecDeque<Fragment>, first: usize, kept: Vec<Fragment>)
     requires in_range { first ≤ length chunks.old.items }
     requires room { length chunks.old.items + length kept.items ≤ deque_capacity chunks.old }
     ensures value { chunks.new.items ≡ put_back first kept.items chunks.old.items }

@@ -64,4 +64,6 @@ returns-clause-free c =
     let near : distance first n < 2 ^ 31 = omega (arith, c.distance-far.ensures.value, c.if-far.false, c.if-far-2.false) in
     insertion_between (has_tsn n) num chunk_before n c.ranges.tsn.fits (λ y. refl) (λ y e same lt. ap (λ t. comes_before t e.tsn) same) xs s first is_first some place near
     (place_from_split num xs s first is_first some n place c.place_within-place.ensures.in_range split)
-    (λ d pos e. c.if-deref-tsn.false (ap num (c.deref.ensures ∙ c.index-chunks-place.is) ∙ ap num (get_or_default xs (place - 1) c.index-chunks-place.result d (omega (arith, c.place_within-place.ensures.in_range))) ∙ e))
+    (λ d pos e.
+    let there = get_or_default xs (place - 1) c.index-chunks-place.result d (omega (arith, c.place_within-place.ensures.in_range)) in
+    c.if-deref-tsn.false (ap num (c.deref.ensures ∙ c.index-chunks-place.is ∙ there) ∙ e))

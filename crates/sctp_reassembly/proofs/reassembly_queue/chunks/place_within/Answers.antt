@@ -11,7 +11,10 @@ returns-then-distance-far-clause-split c =
     let xs = c.args.chunks.now in
     let last = c.index-chunks-len.result in (
       (λ k d low high.
-          let end : distance c.args.first (slice_index_or xs (length xs - 1) d).tsn ≡ c.distance.result = ap (λ (x : ChunkPayloadData). distance c.args.first x.tsn) (get_or_default xs (length xs - 1) d last (omega arith)) ∙ sym (c.distance.ensures.value ∙ ap (λ (x : ChunkPayloadData). distance c.args.first x.tsn) (c.deref.ensures ∙ c.index-chunks-len.is)) in
+          let far = (λ (x : ChunkPayloadData). distance c.args.first x.tsn) in
+          let read = c.distance.ensures.value ∙ ap far (c.deref.ensures ∙ c.index-chunks-len.is) in
+          let end : distance c.args.first (slice_index_or xs (length xs - 1) d).tsn ≡ c.distance.result =
+          ap far (get_or_default xs (length xs - 1) d last (omega arith)) ∙ sym read in
           let le = c.requires k (length xs - 1) d (omega arith) (omega arith) in
           omega (arith, c.if-distance-far.true)),
       (λ k d low high. absurd (omega arith)),
