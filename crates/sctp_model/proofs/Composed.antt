@@ -1,5 +1,6 @@
 -- Without loss what is read in the end is settled by what was written and by what of it arrived.
-use Rattle.std.proofs.Common.{◌≡◌, ℕ, zero, suc, ◌+◌, ◌-◌, ◌<◌, ◌≤◌, Bool, true, false, List, [], ◌∷◌, ◌++◌, length, map, get_or, take, drop, refl, ap, sym, ◌∙◌, inl, inr, arith}
+use Rattle.std.proofs.Common.{◌≡◌, ℕ, zero, suc, ◌+◌, ◌-◌, ◌<◌, ◌≤◌, Bool, true, false, List, [], ◌∷◌, ◌++◌, length, map, get_or, take, drop, refl, ap, sym}
+use Rattle.std.proofs.Common.{◌∙◌, inl, inr, arith}
 use Rattle.std.specs.Prelude.{◌⊎◌, if◌then◌else◌, ◌==◌, ◌&&◌, ◌||◌, not, nat_lt}
 use Rattle.std.specs.List.{list_any, list_all, filter}
 use Rattle.std.proofs.Math.Nat.{eq-or-lt_of_le}
@@ -12,11 +13,14 @@ use Rattle.sctp_list_lemmas.proofs.More.{fails, not_both, both, and, same_test}
 use Rattle.sctp_model.specs.LinkRecord.{Setup, LinkRecord}
 use Rattle.sctp_model.specs.Messages
 use Rattle.sctp_model.specs.Log
-use Rattle.sctp_model.specs.Log.{LogEntry, SlotReceived, SkipReceived, SackMade, arrived_new, is_skipped, were_complete, is_complete_by, run_by, complete_by, named_by, log_of, Shown, Mode, written_on, writes_on, writes_in, modes_in}
+use Rattle.sctp_model.specs.Log.{LogEntry, SlotReceived, SkipReceived, SackMade, arrived_new, is_skipped, were_complete, is_complete_by, run_by, complete_by}
+use Rattle.sctp_model.specs.Log.{named_by, log_of, Shown, Mode, written_on, writes_on, writes_in, modes_in}
 use Rattle.sctp_model.specs.Steps.{History, record_of, reply_to, IsRun}
 use Rattle.sctp_model.specs.declared.event.Event.TheVariants as E
 use Rattle.sctp_model.specs.Reply as R
-use Rattle.sctp_model.specs.Laws.{OnEveryRun, IsSetup, IsReadWholly, ReadsAreSettled, ReadsByArrivals, NoneIsLost, messages_on, fragment_arrived, arrived_wholly, arrivals_on, is_passed_over, was_lost, has_loss_on, has_expired, loses_nothing, ordered_run, complete_unordered, ordered_shown, unordered_shown, ordered_reads, unordered_reads, is_ordered, mode_of, shown_of}
+use Rattle.sctp_model.specs.Laws.{OnEveryRun, IsSetup, IsReadWholly, ReadsAreSettled, ReadsByArrivals, NoneIsLost, messages_on, fragment_arrived}
+use Rattle.sctp_model.specs.Laws.{arrived_wholly, arrivals_on, is_passed_over, was_lost, has_loss_on, has_expired, loses_nothing, ordered_run}
+use Rattle.sctp_model.specs.Laws.{complete_unordered, ordered_shown, unordered_shown, ordered_reads, unordered_reads, is_ordered, mode_of, shown_of}
 use Rattle.sctp_model.proofs.sender.Shape.{Shape, shape, has, sent}
 use Rattle.sctp_model.proofs.sender.Sender.{Sender}
 use Rattle.sctp_model.proofs.sender.SenderSteps.{of-has}
@@ -41,18 +45,23 @@ arrived-more SackMade log p e = e
 
 were-arrived : (places : List ℕ) (log : List LogEntry) → were_complete places log ≡ true → list_all (arrived_new log) places ≡ true
 were-arrived places [] e = cc
-were-arrived places (c ∷ log) e = side (or-split (were_complete places log) (list_all (λ p. arrived_new (c ∷ log) p && not (is_skipped (c ∷ log) p)) places) e) (λ h. were-arrived places log h)
+were-arrived places (c ∷ log) e = side (or-split (were_complete places log) (list_all (λ p. arrived_new (c ∷ log) p && not (is_skipped (c ∷ log) p)) places) e)
+    (λ h. were-arrived places log h)
   where
-    side : (were_complete places log ≡ true) ⊎ (list_all (λ p. arrived_new (c ∷ log) p && not (is_skipped (c ∷ log) p)) places ≡ true) → (were_complete places log ≡ true → list_all (arrived_new log) places ≡ true) → list_all (arrived_new (c ∷ log)) places ≡ true
+    side : (were_complete places log ≡ true) ⊎ (list_all (λ p. arrived_new (c ∷ log) p && not (is_skipped (c ∷ log) p)) places ≡ true)
+        → (were_complete places log ≡ true → list_all (arrived_new log) places ≡ true) → list_all (arrived_new (c ∷ log)) places ≡ true
     side (inl h) ih = all-more (arrived_new log) (arrived_new (c ∷ log)) places (λ p. arrived-more c log p) (ih h)
-    side (inr h) ih = all-more (λ p. arrived_new (c ∷ log) p && not (is_skipped (c ∷ log) p)) (arrived_new (c ∷ log)) places (λ p g. (both (arrived_new (c ∷ log) p) (not (is_skipped (c ∷ log) p)) g).0) h
+    side (inr h) ih = all-more (λ p. arrived_new (c ∷ log) p && not (is_skipped (c ∷ log) p))
+        (arrived_new (c ∷ log)) places (λ p g. (both (arrived_new (c ∷ log) p) (not (is_skipped (c ∷ log) p)) g).0) h
 
-arrived-were : (places : List ℕ) (log : List LogEntry) → list_any is_skip log ≡ false → 0 < length places → list_all (arrived_new log) places ≡ true → were_complete places log ≡ true
+arrived-were : (places : List ℕ) (log : List LogEntry) → list_any is_skip log ≡ false → 0 < length places → list_all (arrived_new log) places ≡ true
+    → were_complete places log ≡ true
 arrived-were [] log n some e = absurd (omega arith)
 arrived-were (p ∷ ps) [] n some e = cc
 arrived-were (p ∷ ps) (c ∷ log) n some e =
     or-right (were_complete (p ∷ ps) log) (list_all (λ q. arrived_new (c ∷ log) q && not (is_skipped (c ∷ log) q)) (p ∷ ps))
-    (all-more (arrived_new (c ∷ log)) (λ q. arrived_new (c ∷ log) q && not (is_skipped (c ∷ log) q)) (p ∷ ps) (λ q h. and (arrived_new (c ∷ log) q) (not (is_skipped (c ∷ log) q)) h (ap not (none-skipped (c ∷ log) q n))) e)
+    (all-more (arrived_new (c ∷ log)) (λ q. arrived_new (c ∷ log) q && not (is_skipped (c ∷ log) q)) (p ∷ ps)
+    (λ q h. and (arrived_new (c ∷ log) q) (not (is_skipped (c ∷ log) q)) h (ap not (none-skipped (c ∷ log) q n))) e)
 
 module _ (w : LinkRecord) (log : List LogEntry) (n : ℕ) (s : Sender (shape w)) (lt : n < length w.messages) where
   abbrev x : Shape
@@ -65,12 +74,15 @@ module _ (w : LinkRecord) (log : List LogEntry) (n : ℕ) (s : Sender (shape w))
   number p l h = s.number p l ∙ ap (λ m. length (numbers_where (has x m) 0 p)) (of-has x n p h).0
 
   -- a fragment has one slot
-  one-slot : (p q : ℕ) → p < length w.slots → q < length w.slots → has x n p ≡ true → has x n q ≡ true → (Messages.slot_at w p).fragment ≡ (Messages.slot_at w q).fragment → p ≡ q
+  one-slot : (p q : ℕ) → p < length w.slots → q < length w.slots → has x n p ≡ true → has x n q ≡ true
+      → (Messages.slot_at w p).fragment ≡ (Messages.slot_at w q).fragment → p ≡ q
   one-slot p q lp lq hp hq e = step (cases_lt p q) (cases_lt q p)
     where
       step : (p < q) ⊎ (q ≤ p) → (q < p) ⊎ (p ≤ q) → p ≡ q
-      step (inl l) t = absurd (omega (arith, number p lp hp, number q lq hq, e, length-kept-lt (has x n) 0 p q (ap (has x n) (let z : 0 + p ≡ p = omega arith in z) ∙ hp) l))
-      step (inr g) (inl l) = absurd (omega (arith, number p lp hp, number q lq hq, e, length-kept-lt (has x n) 0 q p (ap (has x n) (let z : 0 + q ≡ q = omega arith in z) ∙ hq) l))
+      step (inl l) t =
+          absurd (omega (arith, number p lp hp, number q lq hq, e, length-kept-lt (has x n) 0 p q (ap (has x n) (let z : 0 + p ≡ p = omega arith in z) ∙ hp) l))
+      step (inr g) (inl l) =
+          absurd (omega (arith, number p lp hp, number q lq hq, e, length-kept-lt (has x n) 0 q p (ap (has x n) (let z : 0 + q ≡ q = omega arith in z) ∙ hq) l))
       step (inr g) (inr h) = omega arith
 
   -- a fragment with a slot is among the first ones
@@ -82,8 +94,10 @@ module _ (w : LinkRecord) (log : List LogEntry) (n : ℕ) (s : Sender (shape w))
   slot-for i l =
       let f : ℕ → ℕ = λ p. (Messages.slot_at w p).fragment in
       let rows = numbered f (has x n) (length w.slots) number in
-      let there : list_any (λ k. k == i) (numbers_where always 0 (sent x n)) ≡ true = any-in (λ k. k == i) always i 0 (sent x n) (omega arith) (omega arith) refl (same-yes i) in
-      let r = any-out (λ p. f p == i) (has x n) 0 (length w.slots) (sym (mapped f (numbers_where (has x n) 0 (length w.slots))) ∙ ap (list_any (λ k. k == i)) rows ∙ there) in
+      let there : list_any (λ k. k == i) (numbers_where always 0 (sent x n)) ≡ true = any-in (λ k. k == i) always i 0 (sent x n) (omega arith)
+      (omega arith) refl (same-yes i) in
+      let r = any-out (λ p. f p == i) (has x n) 0 (length w.slots)
+      (sym (mapped f (numbers_where (has x n) 0 (length w.slots))) ∙ ap (list_any (λ k. k == i)) rows ∙ there) in
       (r.0, omega (arith, r.2), r.3, same-is (f r.0) i r.4)
     where
       mapped : (f : ℕ → ℕ) (ps : List ℕ) → list_any (λ k. k == i) (map f ps) ≡ list_any (λ p. f p == i) ps
@@ -93,11 +107,13 @@ module _ (w : LinkRecord) (log : List LogEntry) (n : ℕ) (s : Sender (shape w))
   all-arrived : is_complete_by w log n ≡ true → list_all (arrived_new log) (Messages.slots_of w n) ≡ true
   all-arrived e = step (Messages.message_at w n).ordered (both (Messages.sent_of w n == Messages.fragment_count w n) _ e).1
     where
-      step : (b : Bool) → (if b then list_all (arrived_new log) (Messages.slots_of w n) else were_complete (Messages.slots_of w n) log) ≡ true → list_all (arrived_new log) (Messages.slots_of w n) ≡ true
+      step : (b : Bool) → (if b then list_all (arrived_new log) (Messages.slots_of w n) else were_complete (Messages.slots_of w n) log) ≡ true
+          → list_all (arrived_new log) (Messages.slots_of w n) ≡ true
       step true h = h
       step false h = were-arrived (Messages.slots_of w n) log h
 
-  place : (i : ℕ) → fragment_arrived w log n i ≡ true → (p : ℕ) × (p < length w.slots) × (has x n p ≡ true) × ((Messages.slot_at w p).fragment ≡ i) × (arrived_new log p ≡ true)
+  place : (i : ℕ) → fragment_arrived w log n i ≡ true
+      → (p : ℕ) × (p < length w.slots) × (has x n p ≡ true) × ((Messages.slot_at w p).fragment ≡ i) × (arrived_new log p ≡ true)
   place i e =
       let r = any-out (arrived_as i) always 0 (length w.slots) e in
       let a = both (has x n r.0) (((Messages.slot_at w r.0).fragment == i) && arrived_new log r.0) r.4 in
@@ -105,9 +121,11 @@ module _ (w : LinkRecord) (log : List LogEntry) (n : ℕ) (s : Sender (shape w))
       (r.0, omega (arith, r.2), a.0, same-is (Messages.slot_at w r.0).fragment i b.0, b.1)
 
   -- where each fragment arrived, all of the message was sent, and each of its slots arrived
-  pub wholly-sent : arrived_wholly w log n ≡ true → (Messages.sent_of w n ≡ Messages.fragment_count w n) × (list_all (arrived_new log) (Messages.slots_of w n) ≡ true)
+  pub wholly-sent : arrived_wholly w log n ≡ true
+      → (Messages.sent_of w n ≡ Messages.fragment_count w n) × (list_all (arrived_new log) (Messages.slots_of w n) ≡ true)
   wholly-sent e =
-      let each : (i : ℕ) → i < Messages.fragment_count w n → fragment_arrived w log n i ≡ true = λ i l. all-out (fragment_arrived w log n) always i 0 (Messages.fragment_count w n) e (omega arith) (omega arith) refl in
+      let each : (i : ℕ) → i < Messages.fragment_count w n → fragment_arrived w log n i ≡ true =
+      λ i l. all-out (fragment_arrived w log n) always i 0 (Messages.fragment_count w n) e (omega arith) (omega arith) refl in
       let top = last (Messages.fragment_count w n) (s.some n lt) in
       let r = place top.0 (each top.0 (omega (arith, top.1))) in
       let high : top.0 < sent x n = omega (arith, below r.0 r.1 r.2, r.3) in
@@ -124,21 +142,26 @@ module _ (w : LinkRecord) (log : List LogEntry) (n : ℕ) (s : Sender (shape w))
 
   complete-arrived : is_complete_by w log n ≡ true → arrived_wholly w log n ≡ true
   complete-arrived e =
-      let count = same-is (Messages.sent_of w n) (Messages.fragment_count w n) (both (Messages.sent_of w n == Messages.fragment_count w n) (if (Messages.message_at w n).ordered then list_all (arrived_new log) (Messages.slots_of w n) else were_complete (Messages.slots_of w n) log) e).0 in
+      let count = same-is (Messages.sent_of w n) (Messages.fragment_count w n) (both (Messages.sent_of w n == Messages.fragment_count w n)
+      (if (Messages.message_at w n).ordered then list_all (arrived_new log) (Messages.slots_of w n) else were_complete (Messages.slots_of w n) log) e).0 in
       all-kept (fragment_arrived w log n) always 0 (Messages.fragment_count w n) (λ i a b f.
       let r = slot-for i (omega (arith, count)) in
       let came = all-out (arrived_new log) (has x n) r.0 0 (length w.slots) (all-arrived e) (omega arith) (omega (arith, r.1)) r.2 in
       any-in (arrived_as i) always r.0 0 (length w.slots) (omega arith) (omega (arith, r.1)) refl
-      (and (has x n r.0) (((Messages.slot_at w r.0).fragment == i) && arrived_new log r.0) r.2 (and ((Messages.slot_at w r.0).fragment == i) (arrived_new log r.0) (ap (λ k. k == i) r.3 ∙ same-yes i) came)))
+      (and (has x n r.0) (((Messages.slot_at w r.0).fragment == i) && arrived_new log r.0) r.2
+      (and ((Messages.slot_at w r.0).fragment == i) (arrived_new log r.0) (ap (λ k. k == i) r.3 ∙ same-yes i) came)))
 
   -- a message is complete exactly where it arrived wholly, an unordered one before a skip covered a fragment
-  pub complete-settled : ((Messages.message_at w n).ordered ≡ false → arrived_wholly w log n ≡ true → were_complete (Messages.slots_of w n) log ≡ true) → is_complete_by w log n ≡ arrived_wholly w log n
+  pub complete-settled : ((Messages.message_at w n).ordered ≡ false → arrived_wholly w log n ≡ true → were_complete (Messages.slots_of w n) log ≡ true)
+      → is_complete_by w log n ≡ arrived_wholly w log n
   complete-settled early = same_test (is_complete_by w log n) (arrived_wholly w log n) complete-arrived (λ e.
       let a = wholly-sent e in
-      and (Messages.sent_of w n == Messages.fragment_count w n) (if (Messages.message_at w n).ordered then list_all (arrived_new log) (Messages.slots_of w n) else were_complete (Messages.slots_of w n) log) (ap (λ c. c == Messages.fragment_count w n) a.0 ∙ same-yes (Messages.fragment_count w n))
+      and (Messages.sent_of w n == Messages.fragment_count w n) (if (Messages.message_at w n).ordered then list_all (arrived_new log) (Messages.slots_of w n)
+      else were_complete (Messages.slots_of w n) log) (ap (λ c. c == Messages.fragment_count w n) a.0 ∙ same-yes (Messages.fragment_count w n))
       (kind (Messages.message_at w n).ordered refl a.1 e))
     where
-      kind : (b : Bool) → (Messages.message_at w n).ordered ≡ b → list_all (arrived_new log) (Messages.slots_of w n) ≡ true → arrived_wholly w log n ≡ true → (if b then list_all (arrived_new log) (Messages.slots_of w n) else were_complete (Messages.slots_of w n) log) ≡ true
+      kind : (b : Bool) → (Messages.message_at w n).ordered ≡ b → list_all (arrived_new log) (Messages.slots_of w n) ≡ true → arrived_wholly w log n ≡ true
+          → (if b then list_all (arrived_new log) (Messages.slots_of w n) else were_complete (Messages.slots_of w n) log) ≡ true
       kind true o h e = h
       kind false o h e = early o e
 
@@ -156,9 +179,12 @@ record Unlost (w : LinkRecord) (log : List LogEntry) (s n : ℕ) : Type 0 where
 
 unlost-parts : (w : LinkRecord) (log : List LogEntry) (s n : ℕ) → (Messages.message_at w n).stream ≡ s → was_lost w log n ≡ false → Unlost w log s n
 unlost-parts w log s n at e = record {
-  unexpired = λ o. (ordered-parts (Messages.message_at w n).ordered (Messages.message_at w n).expired (is_passed_over w log n) (arrived_wholly w log n) (were_complete (Messages.slots_of w n) log) o e).0;
-  near = λ o l. (ordered-parts (Messages.message_at w n).ordered (Messages.message_at w n).expired (is_passed_over w log n) (arrived_wholly w log n) (were_complete (Messages.slots_of w n) log) o e).1 (ap (λ t. nat_lt (Messages.ordered_before w t n) (named_by w t log)) at ∙ l);
-  early = unordered-parts (Messages.message_at w n).ordered (Messages.message_at w n).expired (is_passed_over w log n) (arrived_wholly w log n) (were_complete (Messages.slots_of w n) log) e;
+  unexpired = λ o. (ordered-parts (Messages.message_at w n).ordered (Messages.message_at w n).expired (is_passed_over w log n) (arrived_wholly w log n)
+      (were_complete (Messages.slots_of w n) log) o e).0;
+  near = λ o l. (ordered-parts (Messages.message_at w n).ordered (Messages.message_at w n).expired (is_passed_over w log n) (arrived_wholly w log n)
+      (were_complete (Messages.slots_of w n) log) o e).1 (ap (λ t. nat_lt (Messages.ordered_before w t n) (named_by w t log)) at ∙ l);
+  early = unordered-parts (Messages.message_at w n).ordered (Messages.message_at w n).expired (is_passed_over w log n) (arrived_wholly w log n)
+      (were_complete (Messages.slots_of w n) log) e;
 }
   where
     ordered-parts : (o x p a u : Bool) → o ≡ true → (if o then x || (p && not a) else a && not u) ≡ false → (x ≡ false) × (p ≡ true → a ≡ true)
@@ -179,11 +205,13 @@ none-has : (t p : ℕ → Bool) (count : ℕ) → list_any t (numbers_where p 0 
 none-has t p count e n lt h = fails (t n) (λ y. not_both (sym e ∙ any-in t p n 0 count (omega arith) (omega arith) h y))
 
 -- none has it where each has not
-has-none : (t p : ℕ → Bool) (from count : ℕ) → ((n : ℕ) → from ≤ n → n < from + count → p n ≡ true → t n ≡ false) → list_any t (numbers_where p from count) ≡ false
+has-none : (t p : ℕ → Bool) (from count : ℕ) → ((n : ℕ) → from ≤ n → n < from + count → p n ≡ true → t n ≡ false)
+    → list_any t (numbers_where p from count) ≡ false
 has-none t p from zero h = refl
 has-none t p from (suc count) h = step (p from) refl (has-none t p (from + 1) count (λ n a b e. h n (omega arith) (omega arith) e))
   where
-    step : (b : Bool) → p from ≡ b → list_any t (numbers_where p (from + 1) count) ≡ false → list_any t (if b then from ∷ numbers_where p (from + 1) count else numbers_where p (from + 1) count) ≡ false
+    step : (b : Bool) → p from ≡ b → list_any t (numbers_where p (from + 1) count) ≡ false
+        → list_any t (if b then from ∷ numbers_where p (from + 1) count else numbers_where p (from + 1) count) ≡ false
     step true e ih = rw (h from (omega arith) (omega arith) e) ih
     step false e ih = ih
 
@@ -205,14 +233,17 @@ module _ (setup : Setup) (h : History) (run : IsRun setup h) (lossless : list_al
   never : (i : ℕ) → nat_lt i 0 ≡ false
   never i = grind (arith, nat_tests)
 
-  not-lost : (n : ℕ) → n < length v.messages → (o : Bool) → (if o then has_expired v n || (is_passed_over v came n && not (arrived_wholly v came n)) else arrived_wholly v came n && not (were_complete (Messages.slots_of v n) came)) ≡ false
+  not-lost : (n : ℕ) → n < length v.messages → (o : Bool) → (if o then has_expired v n || (is_passed_over v came n && not (arrived_wholly v came n))
+      else arrived_wholly v came n && not (were_complete (Messages.slots_of v n) came)) ≡ false
   not-lost n lt true =
-      let unnamed : is_passed_over v came n ≡ false = ap (nat_lt (Messages.index_of v n)) (none-named v (Messages.message_at v n).stream came none) ∙ never (Messages.index_of v n) in
+      let unnamed : is_passed_over v came n ≡ false = ap (nat_lt (Messages.index_of v n)) (none-named v (Messages.message_at v n).stream came none)
+      ∙ never (Messages.index_of v n) in
       rw ((alive-run setup h lossless n lt).0, unnamed) refl
   not-lost n lt false = late n lt (arrived_wholly v came n) refl
 
   none-lost : (s : ℕ) → has_loss_on setup h s ≡ false
-  none-lost s = has-none (was_lost v came) (λ n. (Messages.message_at v n).stream == s) 0 (length v.messages) (λ n a b at. not-lost n (omega arith) (Messages.message_at v n).ordered)
+  none-lost s = has-none (was_lost v came) (λ n. (Messages.message_at v n).stream == s) 0 (length v.messages)
+      (λ n a b at. not-lost n (omega arith) (Messages.message_at v n).ordered)
 
 pub none_is_lost : OnEveryRun NoneIsLost
 none_is_lost setup h is run s lossless = none-lost setup h run lossless s
@@ -220,8 +251,10 @@ none_is_lost setup h is run s lossless = none-lost setup h run lossless s
 -- ## What is read
 
 -- the unordered messages that became complete are those that are complete
-complete-among : (w : LinkRecord) (s n : ℕ) (log : List LogEntry) → list_any (λ k. k == n) (complete_by w log s) ≡ (nat_lt n (length w.messages) && (Messages.is_unordered_on w s n && is_complete_by w log n))
-complete-among w s n [] = sym (none (nat_lt n (length w.messages)) ((Messages.message_at w n).stream == s) (Messages.message_at w n).ordered (Messages.sent_of w n == Messages.fragment_count w n))
+complete-among : (w : LinkRecord) (s n : ℕ) (log : List LogEntry)
+    → list_any (λ k. k == n) (complete_by w log s) ≡ (nat_lt n (length w.messages) && (Messages.is_unordered_on w s n && is_complete_by w log n))
+complete-among w s n [] = sym (none (nat_lt n (length w.messages)) ((Messages.message_at w n).stream == s) (Messages.message_at w n).ordered
+    (Messages.sent_of w n == Messages.fragment_count w n))
   where
     none : (a b o d : Bool) → (a && ((b && not o) && (d && (if o then list_all (arrived_new []) (Messages.slots_of w n) else false)))) ≡ false
     none true true true d = refl
@@ -230,20 +263,30 @@ complete-among w s n [] = sym (none (nat_lt n (length w.messages)) ((Messages.me
     none true false o d = refl
     none false b o d = refl
 complete-among w s n (c ∷ log) =
-    any-append (λ k. k == n) (complete_by w log s) (Messages.messages_where w (λ k. Messages.is_unordered_on w s k && (is_complete_by w (c ∷ log) k && not (is_complete_by w log k))))
-    ∙ ap (λ b. b || list_any (λ k. k == n) (Messages.messages_where w (λ k. Messages.is_unordered_on w s k && (is_complete_by w (c ∷ log) k && not (is_complete_by w log k))))) (complete-among w s n log)
-    ∙ ap (λ b. (nat_lt n (length w.messages) && (Messages.is_unordered_on w s n && is_complete_by w log n)) || b) (among-kept (λ k. Messages.is_unordered_on w s k && (is_complete_by w (c ∷ log) k && not (is_complete_by w log k))) n 0 (length w.messages) (omega arith))
-    ∙ ap (λ k. (nat_lt n (length w.messages) && (Messages.is_unordered_on w s n && is_complete_by w log n)) || (nat_lt n k && (Messages.is_unordered_on w s n && (is_complete_by w (c ∷ log) n && not (is_complete_by w log n))))) (let z : 0 + length w.messages ≡ length w.messages = omega arith in z)
-    ∙ joined (nat_lt n (length w.messages)) ((Messages.message_at w n).stream == s) (Messages.message_at w n).ordered refl (is_complete_by w log n) (is_complete_by w (c ∷ log) n) refl refl
+    any-append (λ k. k == n) (complete_by w log s)
+    (Messages.messages_where w (λ k. Messages.is_unordered_on w s k && (is_complete_by w (c ∷ log) k && not (is_complete_by w log k))))
+    ∙ ap (λ b. b || list_any (λ k. k == n)
+    (Messages.messages_where w (λ k. Messages.is_unordered_on w s k && (is_complete_by w (c ∷ log) k && not (is_complete_by w log k)))))
+    (complete-among w s n log) ∙ ap (λ b. (nat_lt n (length w.messages) && (Messages.is_unordered_on w s n && is_complete_by w log n)) || b) (among-kept
+    (λ k. Messages.is_unordered_on w s k && (is_complete_by w (c ∷ log) k && not (is_complete_by w log k))) n 0 (length w.messages) (omega arith))
+    ∙ ap (λ k. (nat_lt n (length w.messages) && (Messages.is_unordered_on w s n && is_complete_by w log n))
+    || (nat_lt n k && (Messages.is_unordered_on w s n && (is_complete_by w (c ∷ log) n && not (is_complete_by w log n)))))
+    (let z : 0 + length w.messages ≡ length w.messages = omega arith in z) ∙ joined (nat_lt n (length w.messages)) ((Messages.message_at w n).stream == s)
+    (Messages.message_at w n).ordered refl (is_complete_by w log n) (is_complete_by w (c ∷ log) n) refl refl
   where
     more : (Messages.message_at w n).ordered ≡ false → is_complete_by w log n ≡ true → is_complete_by w (c ∷ log) n ≡ true
     more o e =
-        let a = both (Messages.sent_of w n == Messages.fragment_count w n) (if (Messages.message_at w n).ordered then list_all (arrived_new log) (Messages.slots_of w n) else were_complete (Messages.slots_of w n) log) e in
-        let b : were_complete (Messages.slots_of w n) log ≡ true = ap (λ t. if t then list_all (arrived_new log) (Messages.slots_of w n) else were_complete (Messages.slots_of w n) log) (sym o) ∙ a.1 in
-        and (Messages.sent_of w n == Messages.fragment_count w n) (if (Messages.message_at w n).ordered then list_all (arrived_new (c ∷ log)) (Messages.slots_of w n) else were_complete (Messages.slots_of w n) (c ∷ log)) a.0
-        (ap (λ t. if t then list_all (arrived_new (c ∷ log)) (Messages.slots_of w n) else were_complete (Messages.slots_of w n) (c ∷ log)) o ∙ or-left (were_complete (Messages.slots_of w n) log) (list_all (λ p. arrived_new (c ∷ log) p && not (is_skipped (c ∷ log) p)) (Messages.slots_of w n)) b)
+        let a = both (Messages.sent_of w n == Messages.fragment_count w n)
+        (if (Messages.message_at w n).ordered then list_all (arrived_new log) (Messages.slots_of w n) else were_complete (Messages.slots_of w n) log) e in
+        let b : were_complete (Messages.slots_of w n) log ≡ true =
+        ap (λ t. if t then list_all (arrived_new log) (Messages.slots_of w n) else were_complete (Messages.slots_of w n) log) (sym o) ∙ a.1 in
+        and (Messages.sent_of w n == Messages.fragment_count w n) (if (Messages.message_at w n).ordered
+        then list_all (arrived_new (c ∷ log)) (Messages.slots_of w n) else were_complete (Messages.slots_of w n) (c ∷ log)) a.0
+        (ap (λ t. if t then list_all (arrived_new (c ∷ log)) (Messages.slots_of w n) else were_complete (Messages.slots_of w n) (c ∷ log)) o ∙ or-left
+        (were_complete (Messages.slots_of w n) log) (list_all (λ p. arrived_new (c ∷ log) p && not (is_skipped (c ∷ log) p)) (Messages.slots_of w n)) b)
 
-    joined : (a b o : Bool) → (Messages.message_at w n).ordered ≡ o → (old new : Bool) → is_complete_by w log n ≡ old → is_complete_by w (c ∷ log) n ≡ new → ((a && ((b && not o) && old)) || (a && ((b && not o) && (new && not old)))) ≡ (a && ((b && not o) && new))
+    joined : (a b o : Bool) → (Messages.message_at w n).ordered ≡ o → (old new : Bool) → is_complete_by w log n ≡ old → is_complete_by w (c ∷ log) n ≡ new
+        → ((a && ((b && not o) && old)) || (a && ((b && not o) && (new && not old)))) ≡ (a && ((b && not o) && new))
     joined true true false e true true x y = refl
     joined true true false e true false x y = absurd (not_both (sym y ∙ more e x))
     joined true true false e false true x y = refl
@@ -259,7 +302,9 @@ run-passed t zero (x ∷ xs) e = refl
 run-passed t (suc i) [] e = refl
 run-passed t (suc i) (x ∷ xs) e = step (t x) e (run-passed t i xs)
   where
-    step : (b : Bool) → (if not b then x ∷ filter (λ n. not (t n)) (take i xs) else filter (λ n. not (t n)) (take i xs)) ≡ [] → (filter (λ n. not (t n)) (take i xs) ≡ [] → filter t (take i xs) ++ leading t (drop i xs) ≡ leading t xs) → (if b then x ∷ filter t (take i xs) else filter t (take i xs)) ++ leading t (drop i xs) ≡ (if b then x ∷ leading t xs else [])
+    step : (b : Bool) → (if not b then x ∷ filter (λ n. not (t n)) (take i xs) else filter (λ n. not (t n)) (take i xs)) ≡ []
+        → (filter (λ n. not (t n)) (take i xs) ≡ [] → filter t (take i xs) ++ leading t (drop i xs) ≡ leading t xs)
+        → (if b then x ∷ filter t (take i xs) else filter t (take i xs)) ++ leading t (drop i xs) ≡ (if b then x ∷ leading t xs else [])
     step true e ih = ap (λ l. x ∷ l) (ih e)
     step false e ih = cc
 
@@ -269,23 +314,29 @@ leading-as f o t [] = refl
 leading-as f o t (n ∷ ns) = step (o n) (t n) refl (leading-as f o t ns)
   where
     step : (a b : Bool) → t n ≡ b → map f (leading t (filter o ns)) ≡ ordered_run (map (λ n. (f n, not (o n))) ns) (map t ns)
-        → map f (leading t (if a then n ∷ filter o ns else filter o ns)) ≡ (if not a then ordered_run (map (λ n. (f n, not (o n))) ns) (map t ns) else (if b then f n ∷ ordered_run (map (λ n. (f n, not (o n))) ns) (map t ns) else []))
+        → map f (leading t (if a then n ∷ filter o ns else filter o ns)) ≡ (if not a then ordered_run (map (λ n. (f n, not (o n))) ns) (map t ns)
+        else (if b then f n ∷ ordered_run (map (λ n. (f n, not (o n))) ns) (map t ns) else []))
     step true true y ih = rw y (ap (λ l. f n ∷ l) ih)
     step true false y ih = rw y refl
     step false b y ih = ih
 
 -- the unordered complete ones, by what was written and what arrived
-complete_ones-as : (f : ℕ → Shown) (o t : ℕ → Bool) (ns : List ℕ) → map (λ n. not (o n) && t n) ns ≡ complete_unordered (map (λ n. (f n, not (o n))) ns) (map t ns)
+complete_ones-as : (f : ℕ → Shown) (o t : ℕ → Bool) (ns : List ℕ)
+    → map (λ n. not (o n) && t n) ns ≡ complete_unordered (map (λ n. (f n, not (o n))) ns) (map t ns)
 complete_ones-as f o t [] = refl
 complete_ones-as f o t (n ∷ ns) = ap (λ l. (not (o n) && t n) ∷ l) (complete_ones-as f o t ns)
 
 -- the writes on a stream, by number
-written-as : (s : ℕ) (f : ℕ → Shown) (g : ℕ → Mode) (from count : ℕ) → written_on s (map f (numbers_where always from count)) (map g (numbers_where always from count)) ≡ map (λ n. (f n, (g n).unordered)) (numbers_where (λ n. (f n).0 == s) from count)
+written-as : (s : ℕ) (f : ℕ → Shown) (g : ℕ → Mode) (from count : ℕ) → written_on s (map f (numbers_where always from count))
+    (map g (numbers_where always from count)) ≡ map (λ n. (f n, (g n).unordered)) (numbers_where (λ n. (f n).0 == s) from count)
 written-as s f g from zero = refl
 written-as s f g from (suc count) = step ((f from).0 == s) (written-as s f g (from + 1) count)
   where
-    step : (b : Bool) → written_on s (map f (numbers_where always (from + 1) count)) (map g (numbers_where always (from + 1) count)) ≡ map (λ n. (f n, (g n).unordered)) (numbers_where (λ n. (f n).0 == s) (from + 1) count)
-        → (if b then (f from, (g from).unordered) ∷ written_on s (map f (numbers_where always (from + 1) count)) (map g (numbers_where always (from + 1) count)) else written_on s (map f (numbers_where always (from + 1) count)) (map g (numbers_where always (from + 1) count))) ≡ map (λ n. (f n, (g n).unordered)) (if b then from ∷ numbers_where (λ n. (f n).0 == s) (from + 1) count else numbers_where (λ n. (f n).0 == s) (from + 1) count)
+    step : (b : Bool) → written_on s (map f (numbers_where always (from + 1) count))
+        (map g (numbers_where always (from + 1) count)) ≡ map (λ n. (f n, (g n).unordered)) (numbers_where (λ n. (f n).0 == s) (from + 1) count)
+        → (if b then (f from, (g from).unordered) ∷ written_on s (map f (numbers_where always (from + 1) count)) (map g (numbers_where always (from + 1) count))
+        else written_on s (map f (numbers_where always (from + 1) count)) (map g (numbers_where always (from + 1) count))) ≡ map (λ n. (f n, (g n).unordered))
+        (if b then from ∷ numbers_where (λ n. (f n).0 == s) (from + 1) count else numbers_where (λ n. (f n).0 == s) (from + 1) count)
     step true ih = ap (λ l. (f from, (g from).unordered) ∷ l) ih
     step false ih = ih
 
@@ -298,8 +349,8 @@ by-place : {A B : Type 0} (f : A → B) (d : A) (xs : List A) → map f xs ≡ m
 by-place f d [] = refl
 by-place f d (x ∷ xs) =
     ap (λ l. f x ∷ l) (by-place f d xs
-    ∙ map-kept-same (λ n. f (get_or xs n d)) (λ n. f (get_or (x ∷ xs) (n + 1) d)) always always 0 (length xs) (λ k a b. refl) (λ k a b e. ap (λ j. f (get_or (x ∷ xs) j d)) (let z : suc k ≡ k + 1 = omega arith in z))
-    ∙ sym (moved-up (λ n. f (get_or (x ∷ xs) n d)) 0 (length xs)))
+    ∙ map-kept-same (λ n. f (get_or xs n d)) (λ n. f (get_or (x ∷ xs) (n + 1) d)) always always 0 (length xs) (λ k a b. refl)
+    (λ k a b e. ap (λ j. f (get_or (x ∷ xs) j d)) (let z : suc k ≡ k + 1 = omega arith in z)) ∙ sym (moved-up (λ n. f (get_or (x ∷ xs) n d)) 0 (length xs)))
 
 -- ## One history
 
@@ -320,20 +371,22 @@ module _ (setup : Setup) (h : History) (s : ℕ) (is : IsSetup setup) (run : IsR
   complete-here n lt at = complete-settled w log n (sane-run setup h run).sender lt (parts n lt at).early
 
   complete_ones-are : map (is_complete_by w log) (messages_on w s) ≡ arrivals_on setup h s
-  complete_ones-are = map-kept-same (is_complete_by w log) (arrived_wholly w log) here here 0 (length w.messages) (λ k a b. refl) (λ k a b e. complete-here k (omega arith) e)
+  complete_ones-are =
+      map-kept-same (is_complete_by w log) (arrived_wholly w log) here here 0 (length w.messages) (λ k a b. refl) (λ k a b e. complete-here k (omega arith) e)
 
   writes-are : writes_on h s ≡ map (λ n. (shown_of w n, not (is_ordered w n))) (messages_on w s)
   writes-are =
       ap (λ xs. written_on s xs (modes_in h)) (sym (messages_are_writes setup h is run))
-      ∙ ap (written_on s (map (shown_of w) (numbers_where always 0 (length w.messages)))) (sym (modes_are_kept setup h is run) ∙ by-place mode_of Messages.no_message w.messages)
-      ∙ written-as s (shown_of w) (λ n. mode_of (Messages.message_at w n)) 0 (length w.messages)
+      ∙ ap (written_on s (map (shown_of w) (numbers_where always 0 (length w.messages)))) (sym (modes_are_kept setup h is run)
+      ∙ by-place mode_of Messages.no_message w.messages) ∙ written-as s (shown_of w) (λ n. mode_of (Messages.message_at w n)) 0 (length w.messages)
 
   line-is : Messages.ordered_on w s ≡ filter (is_ordered w) (messages_on w s)
   line-is =
-      kept-same (Messages.is_ordered_on w s) (λ n. here n && is_ordered w n) 0 (length w.messages) (λ n a b. step n (omega arith) (here n) refl (is_ordered w n) refl)
-      ∙ sym (passing-kept (is_ordered w) here 0 (length w.messages))
+      kept-same (Messages.is_ordered_on w s) (λ n. here n && is_ordered w n) 0 (length w.messages)
+      (λ n a b. step n (omega arith) (here n) refl (is_ordered w n) refl) ∙ sym (passing-kept (is_ordered w) here 0 (length w.messages))
     where
-      step : (n : ℕ) → n < length w.messages → (b : Bool) → here n ≡ b → (o : Bool) → is_ordered w n ≡ o → (b && (o && not (Messages.message_at w n).expired)) ≡ (b && o)
+      step : (n : ℕ) → n < length w.messages → (b : Bool) → here n ≡ b → (o : Bool) → is_ordered w n ≡ o
+          → (b && (o && not (Messages.message_at w n).expired)) ≡ (b && o)
       step n lt true at true o = ap not ((parts n lt at).unexpired o)
       step n lt true at false o = refl
       step n lt false at t o = refl
@@ -341,14 +394,17 @@ module _ (setup : Setup) (h : History) (s : ℕ) (is : IsSetup setup) (run : IsR
   placed : (k : ℕ) → Messages.ordered_before w s k ≡ 0 + length (numbers_where (Messages.is_ordered_on w s) 0 (k - 0))
   placed k =
       let z : k ≡ k - 0 = omega arith in
-      let e : length (numbers_where (Messages.is_ordered_on w s) 0 k) ≡ length (numbers_where (Messages.is_ordered_on w s) 0 (k - 0)) = ap (λ j. length (numbers_where (Messages.is_ordered_on w s) 0 j)) z in
+      let e : length (numbers_where (Messages.is_ordered_on w s) 0 k) ≡ length (numbers_where (Messages.is_ordered_on w s) 0 (k - 0)) =
+      ap (λ j. length (numbers_where (Messages.is_ordered_on w s) 0 j)) z in
       omega (arith, e)
 
   -- each of those passed over is complete
   none-passed : filter (λ n. not (is_complete_by w log n)) (take (named_by w s log) (Messages.ordered_on w s)) ≡ []
   none-passed =
-      take-kept (Messages.is_ordered_on w s) (λ n. not (is_complete_by w log n)) (Messages.ordered_before w s) 0 (length w.messages) (named_by w s log) 0 (named_by w s log) (omega arith) (λ k a b e. placed k)
-      ∙ kept-none (λ n. Messages.is_ordered_on w s n && (not (is_complete_by w log n) && nat_lt (Messages.ordered_before w s n) (named_by w s log))) 0 (length w.messages) (λ n a b. fails (Messages.is_ordered_on w s n && (not (is_complete_by w log n) && nat_lt (Messages.ordered_before w s n) (named_by w s log))) (λ e.
+      take-kept (Messages.is_ordered_on w s) (λ n. not (is_complete_by w log n)) (Messages.ordered_before w s) 0 (length w.messages)
+      (named_by w s log) 0 (named_by w s log) (omega arith) (λ k a b e. placed k) ∙ kept-none (λ n. Messages.is_ordered_on w s n
+      && (not (is_complete_by w log n) && nat_lt (Messages.ordered_before w s n) (named_by w s log))) 0 (length w.messages)
+      (λ n a b. fails (Messages.is_ordered_on w s n && (not (is_complete_by w log n) && nat_lt (Messages.ordered_before w s n) (named_by w s log))) (λ e.
       let c = both (Messages.is_ordered_on w s n) (not (is_complete_by w log n) && nat_lt (Messages.ordered_before w s n) (named_by w s log)) e in
       let d = both (here n) (is_ordered w n && not (Messages.message_at w n).expired) c.0 in
       let o = both (is_ordered w n) (not (Messages.message_at w n).expired) d.1 in
@@ -365,14 +421,18 @@ module _ (setup : Setup) (h : History) (s : ℕ) (is : IsSetup setup) (run : IsR
       ∙ ap (λ xs. ordered_run xs (map (is_complete_by w log) (messages_on w s))) (sym writes-are)
       ∙ ap (ordered_run (writes_on h s)) complete_ones-are
 
-  pub unordered-settled : unordered_reads setup h s ≡ complete_by w log s → unordered_shown setup h s ≡ complete_unordered (writes_on h s) (arrivals_on setup h s)
+  pub unordered-settled : unordered_reads setup h s ≡ complete_by w log s
+      → unordered_shown setup h s ≡ complete_unordered (writes_on h s) (arrivals_on setup h s)
   unordered-settled e =
-      map-kept-same (λ n. list_any (λ m. m == n) (unordered_reads setup h s)) (λ n. not (is_ordered w n) && is_complete_by w log n) here here 0 (length w.messages) (λ k a b. refl) (λ n a b at. ap (list_any (λ m. m == n)) e ∙ complete-among w s n log ∙ step n (nat_lt n (length w.messages)) (let lt : n < length w.messages = omega arith in grind (arith, nat_tests)) (here n) at)
+      map-kept-same (λ n. list_any (λ m. m == n) (unordered_reads setup h s)) (λ n. not (is_ordered w n) && is_complete_by w log n) here here 0
+      (length w.messages) (λ k a b. refl) (λ n a b at. ap (list_any (λ m. m == n)) e ∙ complete-among w s n log
+      ∙ step n (nat_lt n (length w.messages)) (let lt : n < length w.messages = omega arith in grind (arith, nat_tests)) (here n) at)
       ∙ complete_ones-as (shown_of w) (is_ordered w) (is_complete_by w log) (messages_on w s)
       ∙ ap (λ xs. complete_unordered xs (map (is_complete_by w log) (messages_on w s))) (sym writes-are)
       ∙ ap (complete_unordered (writes_on h s)) complete_ones-are
     where
-      step : (n : ℕ) (l : Bool) → l ≡ true → (b : Bool) → b ≡ true → (l && ((b && not (is_ordered w n)) && is_complete_by w log n)) ≡ (not (is_ordered w n) && is_complete_by w log n)
+      step : (n : ℕ) (l : Bool) → l ≡ true → (b : Bool) → b ≡ true
+          → (l && ((b && not (is_ordered w n)) && is_complete_by w log n)) ≡ (not (is_ordered w n) && is_complete_by w log n)
       step n true e true f = refl
       step n true e false f = cc
       step n false e b f = cc
@@ -398,7 +458,8 @@ reads_are_settled a b g h s x y writes arrivals =
 pub record SameFragments (setup : Setup) (g h : History) (s : ℕ) : Type 0 where
   pub writes : writes_in g ≡ writes_in h
   pub kinds : map (λ m. m.unordered) (modes_in g) ≡ map (λ m. m.unordered) (modes_in h)
-  pub fragments : (n i : ℕ) → (Messages.message_at (record_of setup h) n).stream ≡ s → fragment_arrived (record_of setup g) (log_of setup g) n i ≡ fragment_arrived (record_of setup h) (log_of setup h) n i
+  pub fragments : (n i : ℕ) → (Messages.message_at (record_of setup h) n).stream ≡ s
+      → fragment_arrived (record_of setup g) (log_of setup g) n i ≡ fragment_arrived (record_of setup h) (log_of setup h) n i
 
 written-kinds : (s : ℕ) (xs : List Shown) (ms ns : List Mode) → map (λ m. m.unordered) ms ≡ map (λ m. m.unordered) ns → written_on s xs ms ≡ written_on s xs ns
 written-kinds s [] ms ns e = refl
@@ -410,16 +471,20 @@ written-kinds s (y ∷ ys) (m ∷ ms) (n ∷ ns) e =
     let others : map (λ m. m.unordered) ms ≡ map (λ m. m.unordered) ns = cc in
     step (y.0 == s) first (written-kinds s ys ms ns others)
   where
-    step : (b : Bool) → m.unordered ≡ n.unordered → written_on s ys ms ≡ written_on s ys ns → (if b then (y, m.unordered) ∷ written_on s ys ms else written_on s ys ms) ≡ (if b then (y, n.unordered) ∷ written_on s ys ns else written_on s ys ns)
+    step : (b : Bool) → m.unordered ≡ n.unordered → written_on s ys ms ≡ written_on s ys ns
+        → (if b then (y, m.unordered) ∷ written_on s ys ms else written_on s ys ms) ≡ (if b then (y, n.unordered) ∷ written_on s ys ns else written_on s ys ns)
     step true k ih = ap (λ u. (y, u) ∷ written_on s ys ms) k ∙ ap (λ l. (y, n.unordered) ∷ l) ih
     step false k ih = ih
 
 -- values that agree one after another agree at each number
-same-at : {A : Type 0} (f g : ℕ → A) (p : ℕ → Bool) (from count n : ℕ) → map f (numbers_where p from count) ≡ map g (numbers_where p from count) → from ≤ n → n < from + count → p n ≡ true → f n ≡ g n
+same-at : {A : Type 0} (f g : ℕ → A) (p : ℕ → Bool) (from count n : ℕ) → map f (numbers_where p from count) ≡ map g (numbers_where p from count) → from ≤ n
+    → n < from + count → p n ≡ true → f n ≡ g n
 same-at f g p from zero n e a b h = absurd (omega arith)
 same-at {A} f g p from (suc count) n e a b h = step (p from) refl e (eq-or-lt_of_le a) (λ t l. same-at f g p (from + 1) count n t l (omega arith) h)
   where
-    step : (b : Bool) → p from ≡ b → map f (if b then from ∷ numbers_where p (from + 1) count else numbers_where p (from + 1) count) ≡ map g (if b then from ∷ numbers_where p (from + 1) count else numbers_where p (from + 1) count) → (from ≡ n) ⊎ (from < n) → (map f (numbers_where p (from + 1) count) ≡ map g (numbers_where p (from + 1) count) → from + 1 ≤ n → f n ≡ g n) → f n ≡ g n
+    step : (b : Bool) → p from ≡ b → map f (if b then from ∷ numbers_where p (from + 1) count else numbers_where p (from + 1) count)
+        ≡ map g (if b then from ∷ numbers_where p (from + 1) count else numbers_where p (from + 1) count) → (from ≡ n) ⊎ (from < n)
+        → (map f (numbers_where p (from + 1) count) ≡ map g (numbers_where p (from + 1) count) → from + 1 ≤ n → f n ≡ g n) → f n ≡ g n
     step true x t (inl z) ih = let y : f from ≡ g from = cc in ap f (sym z) ∙ y ∙ ap g z
     step true x t (inr l) ih = let y : map f (numbers_where p (from + 1) count) ≡ map g (numbers_where p (from + 1) count) = cc in ih y (omega arith)
     step false x t (inl z) ih = absurd (not_both (sym x ∙ ap p z ∙ h))
@@ -448,7 +513,8 @@ module _ (setup : Setup) (g h : History) (s : ℕ) (a : IsReadWholly setup g s) 
   each : (n : ℕ) → n < length new.messages → shown_of old n ≡ shown_of new n
   each n lt =
       same-at (shown_of old) (shown_of new) always 0 (length new.messages) n
-      (ap (λ c. map (shown_of old) (numbers_where always 0 c)) (sym counts) ∙ messages_are_writes setup g a.is a.run ∙ same.writes ∙ sym (messages_are_writes setup h b.is b.run)) (omega arith) (omega arith) refl
+      (ap (λ c. map (shown_of old) (numbers_where always 0 c)) (sym counts) ∙ messages_are_writes setup g a.is a.run ∙ same.writes
+      ∙ sym (messages_are_writes setup h b.is b.run)) (omega arith) (omega arith) refl
 
   line : messages_on old s ≡ messages_on new s
   line =
@@ -458,14 +524,17 @@ module _ (setup : Setup) (g h : History) (s : ℕ) (a : IsReadWholly setup g s) 
   parts-same : (n : ℕ) → n < length new.messages → Messages.fragment_count old n ≡ Messages.fragment_count new n
   parts-same n lt =
       ap (λ y. length (pieces (length y) old.setup.size y)) (ap (λ y. y.2) (each n lt))
-      ∙ ap (λ z. length (pieces (length (Messages.message_at new n).bytes) z.size (Messages.message_at new n).bytes)) ((sane-run setup g a.run).setup_is ∙ sym (sane-run setup h b.run).setup_is)
+      ∙ ap (λ z. length (pieces (length (Messages.message_at new n).bytes) z.size (Messages.message_at new n).bytes))
+      ((sane-run setup g a.run).setup_is ∙ sym (sane-run setup h b.run).setup_is)
 
   arrivals : arrivals_on setup g s ≡ arrivals_on setup h s
   arrivals =
       ap (map (arrived_wholly old (log_of setup g))) line
-      ∙ map-kept-same (arrived_wholly old (log_of setup g)) (arrived_wholly new (log_of setup h)) there there 0 (length new.messages) (λ n i j. refl) (λ n i j at.
+      ∙ map-kept-same (arrived_wholly old (log_of setup g)) (arrived_wholly new (log_of setup h)) there there 0 (length new.messages) (λ n i j. refl)
+      (λ n i j at.
       ap (λ c. list_all (fragment_arrived old (log_of setup g) n) (numbers_from 0 c)) (parts-same n (omega arith))
-      ∙ all-same (fragment_arrived old (log_of setup g) n) (fragment_arrived new (log_of setup h) n) always 0 (Messages.fragment_count new n) (λ k x y z. same.fragments n k (same-is (Messages.message_at new n).stream s at)))
+      ∙ all-same (fragment_arrived old (log_of setup g) n) (fragment_arrived new (log_of setup h) n) always 0 (Messages.fragment_count new n)
+      (λ k x y z. same.fragments n k (same-is (Messages.message_at new n).stream s at)))
 
   both-read : (ordered_shown setup g s ≡ ordered_shown setup h s) × (unordered_shown setup g s ≡ unordered_shown setup h s)
   both-read =
@@ -476,8 +545,10 @@ module _ (setup : Setup) (g h : History) (s : ℕ) (a : IsReadWholly setup g s) 
   abbrev was_read : History → ℕ → Bool
   was_read k n = list_any (λ m. m == n) (unordered_reads setup k s)
 
-  among : (k : History) → IsReadWholly setup k s → (n : ℕ) → was_read k n ≡ (nat_lt n (length (record_of setup k).messages) && (Messages.is_unordered_on (record_of setup k) s n && is_complete_by (record_of setup k) (log_of setup k) n))
-  among k c n = ap (list_any (λ m. m == n)) ((nothing_where_read setup k c.is c.run s).0 c.exhausted).1 ∙ complete-among (record_of setup k) s n (log_of setup k)
+  among : (k : History) → IsReadWholly setup k s → (n : ℕ) → was_read k n ≡ (nat_lt n (length (record_of setup k).messages)
+      && (Messages.is_unordered_on (record_of setup k) s n && is_complete_by (record_of setup k) (log_of setup k) n))
+  among k c n = ap (list_any (λ m. m == n)) ((nothing_where_read setup k c.is c.run s).0 c.exhausted).1
+      ∙ complete-among (record_of setup k) s n (log_of setup k)
 
   each-read : (n : ℕ) → was_read g n ≡ was_read h n
   each-read n = step (nat_lt n (length new.messages)) refl (there n) refl
@@ -489,11 +560,9 @@ module _ (setup : Setup) (g h : History) (s : ℕ) (a : IsReadWholly setup g s) 
       step true l false c =
           let lt : n < length new.messages = grind (arith, nat_tests) in
           among g a n
-          ∙ ap (λ y. nat_lt n (length old.messages) && ((y && not (Messages.message_at old n).ordered) && is_complete_by old (log_of setup g) n)) (ap (λ y. y.0 == s) (each n lt) ∙ c)
-          ∙ and-none (nat_lt n (length old.messages))
-          ∙ sym (among h b n
-          ∙ ap (λ y. nat_lt n (length new.messages) && ((y && not (Messages.message_at new n).ordered) && is_complete_by new (log_of setup h) n)) c
-          ∙ and-none (nat_lt n (length new.messages)))
+          ∙ ap (λ y. nat_lt n (length old.messages) && ((y && not (Messages.message_at old n).ordered) && is_complete_by old (log_of setup g) n))
+          (ap (λ y. y.0 == s) (each n lt) ∙ c) ∙ and-none (nat_lt n (length old.messages)) ∙ sym (among h b n ∙ ap (λ y. nat_lt n (length new.messages)
+          && ((y && not (Messages.message_at new n).ordered) && is_complete_by new (log_of setup h) n)) c ∙ and-none (nat_lt n (length new.messages)))
       step false l c e =
           among g a n
           ∙ ap (λ y. y && (Messages.is_unordered_on old s n && is_complete_by old (log_of setup g) n)) (ap (nat_lt n) counts ∙ l)
@@ -501,7 +570,8 @@ module _ (setup : Setup) (g h : History) (s : ℕ) (a : IsReadWholly setup g s) 
 
 -- the same ordered messages are read, and by number the same unordered ones
 pub settled-by_number : (setup : Setup) (g h : History) (s : ℕ) → IsReadWholly setup g s → IsReadWholly setup h s → SameFragments setup g h s →
-    (ordered_shown setup g s ≡ ordered_shown setup h s) × ((n : ℕ) → list_any (λ m. m == n) (unordered_reads setup g s) ≡ list_any (λ m. m == n) (unordered_reads setup h s))
+    (ordered_shown setup g s ≡ ordered_shown setup h s)
+    × ((n : ℕ) → list_any (λ m. m == n) (unordered_reads setup g s) ≡ list_any (λ m. m == n) (unordered_reads setup h s))
 settled-by_number setup g h s a b same = ((both-read setup g h s a b same).0, each-read setup g h s a b same)
 
 -- so too where no event can lose, all modes are the same, and the same fragments of all messages arrived
@@ -509,7 +579,8 @@ pub settled-lossless : (setup : Setup) (g h : History) (s : ℕ) → IsSetup set
     reply_to (record_of setup g) (E.Read s) ≡ R.Nothing → reply_to (record_of setup h) (E.Read s) ≡ R.Nothing →
     writes_in g ≡ writes_in h → modes_in g ≡ modes_in h →
     ((n i : ℕ) → fragment_arrived (record_of setup g) (log_of setup g) n i ≡ fragment_arrived (record_of setup h) (log_of setup h) n i) →
-    (ordered_shown setup g s ≡ ordered_shown setup h s) × ((n : ℕ) → list_any (λ m. m == n) (unordered_reads setup g s) ≡ list_any (λ m. m == n) (unordered_reads setup h s))
+    (ordered_shown setup g s ≡ ordered_shown setup h s)
+    × ((n : ℕ) → list_any (λ m. m == n) (unordered_reads setup g s) ≡ list_any (λ m. m == n) (unordered_reads setup h s))
 settled-lossless setup g h s is a b k l x y writes modes fragments =
     settled-by_number setup g h s
     (record { is = is; run = a; unlost = none_is_lost setup g is a s k; exhausted = x })

@@ -1,5 +1,6 @@
 -- What a sender and a receiver can count on in each exchange.
-use Rattle.std.proofs.Common.{◌≡◌, ℕ, zero, suc, ◌+◌, ◌-◌, ◌<◌, ◌≤◌, ◌^◌, ◌%◌, Bool, true, false, List, [], ◌∷◌, ◌++◌, length, map, Option, Some, None, refl, ap, sym, ◌∙◌, inl, inr, arith, zero-add}
+use Rattle.std.proofs.Common.{◌≡◌, ℕ, zero, suc, ◌+◌, ◌-◌, ◌<◌, ◌≤◌, ◌^◌, ◌%◌, Bool, true, false, List, [], ◌∷◌, ◌++◌, length, map, Option, Some, None, refl}
+use Rattle.std.proofs.Common.{ap, sym, ◌∙◌, inl, inr, arith, zero-add}
 use Rattle.std.specs.Prelude.{◌⊎◌, if◌then◌else◌, ◌==◌, ◌&&◌, ◌||◌, not, nat_lt, nat_le, min, max, slice_get, take, All}
 use Rattle.std.specs.List.{list_all, list_any}
 use Rattle.std.proofs.lemmas.Bool.{cases_lt}
@@ -31,7 +32,8 @@ use Rattle.sctp_model.proofs.acknowledgement.Acknowledged.{acknowledged_is_repor
 use Rattle.sctp_model.proofs.receiver.Arrivals.{heard-run, cumulative_is_seen}
 use Rattle.sctp_model.proofs.receiver.Shown.{slots-joined}
 use Rattle.sctp_model.proofs.sender.Shape.{shape, front_of, index}
-use Rattle.sctp_model.proofs.sender.Network.{same-network, network-written, network-expired, network-tail, network-late, network-abandoned, same-received, same-taken, same-read}
+use Rattle.sctp_model.proofs.sender.Network.{same-network, network-written, network-expired, network-tail, network-late, network-abandoned, same-received}
+use Rattle.sctp_model.proofs.sender.Network.{same-taken, same-read}
 use Rattle.sctp_model.proofs.sender.Shapes
 use Rattle.sctp_list_lemmas.specs.Lists.{pieces}
 use Rattle.sctp_model.proofs.sender.SenderSteps.{of-has}
@@ -44,13 +46,15 @@ use Rattle.sctp_model.proofs.sender.Written.{messages_are_writes}
 pub begin_and_end : OnEveryRun Exchanges.BeginAndEnd
 begin_and_end setup h is run n last lt e =
     let w = record_of setup h in
-    let order : map (λ p. (Messages.slot_at w p).fragment) (Messages.slots_of w n) ≡ numbers_from 0 (Messages.sent_of w n) = (slots_in_order setup h is run n lt).0 in
+    let order : map (λ p. (Messages.slot_at w p).fragment)
+    (Messages.slots_of w n) ≡ numbers_from 0 (Messages.sent_of w n) = (slots_in_order setup h is run n lt).0 in
     let begins : ℕ → Bool = λ i. i == 0 in
     let ends : ℕ → Bool = λ i. i == last in (
       map-twice (λ c. c.beginning_fragment) (chunk_at w) (Messages.slots_of w n)
           ∙ sym (map-twice begins (λ p. (Messages.slot_at w p).fragment) (Messages.slots_of w n)) ∙ ap (map begins) order,
       map-twice (λ c. c.ending_fragment) (chunk_at w) (Messages.slots_of w n)
-          ∙ map-kept-same (λ p. (chunk_at w p).ending_fragment) (λ p. ends (Messages.slot_at w p).fragment) (Messages.has_fragment w n) (Messages.has_fragment w n) 0 (length w.slots)
+          ∙ map-kept-same (λ p. (chunk_at w p).ending_fragment) (λ p. ends (Messages.slot_at w p).fragment) (Messages.has_fragment w n)
+          (Messages.has_fragment w n) 0 (length w.slots)
           (λ k a b. refl) (λ k a b f. ending (Messages.slot_at w k).fragment (Messages.message_of w k) (of-has (shape w) n k f).0)
           ∙ sym (map-twice ends (λ p. (Messages.slot_at w p).fragment) (Messages.slots_of w n)) ∙ ap (map ends) order,
     )
@@ -74,7 +78,8 @@ all-mapped {A} P f t from (suc count) each = step (t from) refl (all-mapped P f 
 
 pub chunks_say_messages : OnEveryRun Exchanges.ChunksSayMessages
 chunks_say_messages setup h is run n =
-    all-mapped (Exchanges.SaysMessage (record_of setup h) n) (chunk_at (record_of setup h)) (Messages.has_fragment (record_of setup h) n) 0 (length (record_of setup h).slots)
+    all-mapped (Exchanges.SaysMessage (record_of setup h) n) (chunk_at (record_of setup h))
+    (Messages.has_fragment (record_of setup h) n) 0 (length (record_of setup h).slots)
     (λ k a b f. says k (omega (arith, b)) f)
   where
     w : LinkRecord
@@ -84,7 +89,8 @@ chunks_say_messages setup h is run n =
     number pos = step (Messages.message_at w n).ordered refl
       where
         step : (b : Bool) → (Messages.message_at w n).ordered ≡ b
-            → (if b then Messages.index_of w n else (Messages.message_at w n).before) % 2 ^ 16 ≡ (if b then length (sent_before w n) else (Messages.message_at w n).before) % 2 ^ 16
+            → (if b then Messages.index_of w n else (Messages.message_at w n).before) % 2 ^ 16
+            ≡ (if b then length (sent_before w n) else (Messages.message_at w n).before) % 2 ^ 16
         step true o = ap (λ i. i % 2 ^ 16) (indexes_leave_no_gap setup h is run n o pos)
         step false o = refl
 
@@ -146,7 +152,8 @@ acknowledges_seen setup h is run credit place lt =
     let l : place < cumulative w = omega (arith, lt, c) in
     let t : nat_lt place (cumulative w) ≡ true = grind (arith, nat_tests) in (
       taken-reports w credit place (omega (arith, lt, short)) (first t (list_any (covers (cumulative w) place) (gap_blocks w))),
-      beyond (Exchanges.acknowledged w credit).taken w.taken (cumulative w) (ap (λ o. (Changes.after_acked (Changes.after_ack w credit) o).taken) (get-last w.network (Sack (report_of w credit)))) l,
+      beyond (Exchanges.acknowledged w credit).taken w.taken (cumulative w)
+          (ap (λ o. (Changes.after_acked (Changes.after_ack w credit) o).taken) (get-last w.network (Sack (report_of w credit)))) l,
     )
   where
     first : {a : Bool} → a ≡ true → (b : Bool) → (a || b) ≡ true
@@ -160,7 +167,8 @@ run-ordered : (ds : List ℕ) (b : ℕ × ℕ) (bs : List (ℕ × ℕ)) → runs
 run-ordered [] b bs e = cc
 run-ordered (d ∷ ds) b bs e = by_rest (runs_of ds) refl e (λ c cs f. run-ordered ds c cs f)
   where
-    by_rest : (rs : List (ℕ × ℕ)) → runs_of ds ≡ rs → put_before_runs d rs ≡ b ∷ bs → ((c : ℕ × ℕ) (cs : List (ℕ × ℕ)) → runs_of ds ≡ c ∷ cs → c.0 ≤ c.1) → b.0 ≤ b.1
+    by_rest : (rs : List (ℕ × ℕ)) → runs_of ds ≡ rs → put_before_runs d rs ≡ b ∷ bs → ((c : ℕ × ℕ) (cs : List (ℕ × ℕ)) → runs_of ds ≡ c ∷ cs → c.0 ≤ c.1)
+        → b.0 ≤ b.1
     by_rest [] f e ih = let same : (d, d) ≡ b = cc in omega (arith, ap (λ x. x.0) same, ap (λ x. x.1) same)
     by_rest (r ∷ rs) f e ih = step (r.0 == d + 1) refl e (ih r rs f)
       where
@@ -251,7 +259,8 @@ acknowledges_arrived setup h is run credit place lt arrived near few = step (cas
     step (inl l) = (acknowledges_seen setup h is run credit place (omega (arith, l, c))).0
     step (inr g) =
         let e : cumulative w + (place + 1 - cumulative w) ≡ place + 1 = omega (arith, g) in
-        taken-reports w credit place lt (or-right (nat_lt place (cumulative w)) (list_any (covers (cumulative w) place) (gap_blocks w)) (covered (place + 1 - cumulative w) e g))
+        taken-reports w credit place lt
+        (or-right (nat_lt place (cumulative w)) (list_any (covers (cumulative w) place) (gap_blocks w)) (covered (place + 1 - cumulative w) e g))
 
 -- ## What goes first
 
@@ -313,12 +322,14 @@ unordered_go_first setup h is run now d tsn ssn count n m e first ordered none l
     half_front : (k : ℕ) → Messages.is_partially_sent w k ≡ true → Some k ≡ Some n → ⊥
     half_front k p same =
         let s : k ≡ n = cc in
-        let a = (both (nat_lt 0 (Messages.sent_of w k)) (nat_lt (Messages.sent_of w k) (Messages.fragment_count w k) && not (Messages.message_at w k).abandoned) p).0 in
+        let a = (both (nat_lt 0 (Messages.sent_of w k))
+        (nat_lt (Messages.sent_of w k) (Messages.fragment_count w k) && not (Messages.message_at w k).abandoned) p).0 in
         let pos : 0 < Messages.sent_of w k = grind (arith, nat_tests) in
         omega (arith, pos, ap (Messages.sent_of w) s, none)
 
     clash : Messages.is_unsent w m ≡ true → ⊥
-    clash u = half_or (first_of (Messages.messages_where w (Messages.is_partially_sent w))) (first-kept (Messages.is_partially_sent w) (length w.messages)) front
+    clash u =
+        half_or (first_of (Messages.messages_where w (Messages.is_partially_sent w))) (first-kept (Messages.is_partially_sent w) (length w.messages)) front
       where
         waiting : ℕ → Bool
         waiting k = Messages.is_unsent w k && not (Messages.message_at w k).ordered
@@ -363,7 +374,8 @@ pub write_is_told : OnEveryRun Exchanges.WriteIsTold
 write_is_told setup h is run s byte ppi bytes =
     let w = record_of setup h in
     let c : length w.messages ≡ length (Log.writes_in h) =
-    sym (length-numbers 0 (length w.messages)) ∙ sym (length-mapped (shown_of w) (numbers_from 0 (length w.messages))) ∙ ap length (messages_are_writes setup h is run) in
+    sym (length-numbers 0 (length w.messages)) ∙ sym (length-mapped (shown_of w) (numbers_from 0 (length w.messages)))
+    ∙ ap length (messages_are_writes setup h is run) in
     let m = Changes.message_on w (Messages.stream_of w s) ppi (byte ∷ bytes) in
     let v = after w (E.Write s ppi (byte ∷ bytes)) in
     let cut : fragments_in w (byte ∷ bytes) ≡ Messages.fragment_count v (length w.messages) =
@@ -398,9 +410,11 @@ writes-fit setup ((E.Write s ppi [], r) ∷ older) run = writes-fit setup older 
 writes-fit setup ((E.Write s ppi (b ∷ bs), r) ∷ older) run =
     let w = record_of setup older in
     let open' = unless-holds (Messages.is_open w s) StreamUnknown
-    (unless (nat_le (length (b ∷ bs)) w.setup.largest) MessageTooLarge (unless (nat_lt (fragments_accepted w + fragments_in w (b ∷ bs)) (2 ^ 31)) TsnsUsedUp None)) run.0 in
+    (unless (nat_le (length (b ∷ bs)) w.setup.largest) MessageTooLarge
+    (unless (nat_lt (fragments_accepted w + fragments_in w (b ∷ bs)) (2 ^ 31)) TsnsUsedUp None)) run.0 in
     let short : nat_le (length (b ∷ bs)) w.setup.largest ≡ true =
-    (unless-holds (nat_le (length (b ∷ bs)) w.setup.largest) MessageTooLarge (unless (nat_lt (fragments_accepted w + fragments_in w (b ∷ bs)) (2 ^ 31)) TsnsUsedUp None) open'.1).0 in
+    (unless-holds (nat_le (length (b ∷ bs)) w.setup.largest) MessageTooLarge
+    (unless (nat_lt (fragments_accepted w + fragments_in w (b ∷ bs)) (2 ^ 31)) TsnsUsedUp None) open'.1).0 in
     all-snoc (fits setup) (Log.writes_in older) (s, ppi, b ∷ bs) (writes-fit setup older run.1.1)
     (and (nat_lt 0 (length (b ∷ bs))) (nat_le (length (b ∷ bs)) setup.largest) (grind (arith, nat_tests))
     (ap (λ t. nat_le (length (b ∷ bs)) t.largest) (sym (sane-run setup older run.1.1).setup_is) ∙ short))
@@ -423,8 +437,10 @@ pub messages_are_bounded : OnEveryRun Exchanges.MessagesAreBounded
 messages_are_bounded setup h is run n lt =
     let w = record_of setup h in
     let all : list_all (λ k. fits setup (shown_of w k)) (numbers_from 0 (length w.messages)) ≡ true =
-    sym (all-map (fits setup) (shown_of w) (numbers_from 0 (length w.messages))) ∙ ap (list_all (fits setup)) (messages_are_writes setup h is run) ∙ writes-fit setup h run in
-    let fit : fits setup (shown_of w n) ≡ true = all-out (λ k. fits setup (shown_of w k)) always n 0 (length w.messages) all (omega arith) (omega (arith, lt)) refl in
+    sym (all-map (fits setup) (shown_of w) (numbers_from 0 (length w.messages))) ∙ ap (list_all (fits setup)) (messages_are_writes setup h is run)
+    ∙ writes-fit setup h run in
+    let fit : fits setup (shown_of w n) ≡ true = all-out (λ k. fits setup (shown_of w k)) always n 0 (length w.messages) all (omega arith)
+    (omega (arith, lt)) refl in
     let a = both (nat_lt 0 (length (Messages.message_at w n).bytes)) (nat_le (length (Messages.message_at w n).bytes) setup.largest) fit in
     let low = a.0 in
     let high = a.1 in
@@ -436,7 +452,8 @@ few (Forward upto names) = nat_le (length names) 16381
 few (Data slots) = true
 few (Sack r) = true
 
-few-sent : (w : LinkRecord) (now : ℕ) (o : Option ℕ) → list_all few w.network ≡ true → list_all few (Changes.send_from (Changes.after_start w now) o).network ≡ true
+few-sent : (w : LinkRecord) (now : ℕ) (o : Option ℕ) → list_all few w.network ≡ true
+    → list_all few (Changes.send_from (Changes.after_start w now) o).network ≡ true
 few-sent w now None e = e
 few-sent w now (Some n) e =
     let u = Changes.after_start w now in
@@ -469,7 +486,8 @@ few-run : (setup : Setup) (h : History) → IsRun setup h → list_all few (reco
 few-run setup [] run = refl
 few-run setup (entry ∷ older) run = few-after (record_of setup older) entry.0 run.0 (few-run setup older run.1.1)
 
-few-at : (ds : List Datagram) (k upto : ℕ) (names : List ℕ) → list_all few ds ≡ true → slice_get ds k ≡ Some (Forward upto names) → nat_le (length names) 16381 ≡ true
+few-at : (ds : List Datagram) (k upto : ℕ) (names : List ℕ) → list_all few ds ≡ true → slice_get ds k ≡ Some (Forward upto names)
+    → nat_le (length names) 16381 ≡ true
 few-at [] k upto names e f = cc
 few-at (d ∷ ds) zero upto names e f = let same : d ≡ Forward upto names = cc in ap few (sym same) ∙ (both (few d) (list_all few ds) e).0
 few-at (d ∷ ds) (suc k) upto names e f = few-at ds k upto names (both (few d) (list_all few ds) e).1 f

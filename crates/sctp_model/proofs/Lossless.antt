@@ -13,7 +13,8 @@ use Rattle.sctp_model.specs.Messages
 use Rattle.sctp_model.specs.Receiver.{next_read}
 use Rattle.sctp_model.specs.Changes
 use Rattle.sctp_model.specs.Log
-use Rattle.sctp_model.specs.Log.{LogEntry, SlotReceived, SkipReceived, SackMade, Made, MadeData, MadeForward, MadeSack, made_in, made_by, log_of, named_by, is_skipped}
+use Rattle.sctp_model.specs.Log.{LogEntry, SlotReceived, SkipReceived, SackMade, Made, MadeData, MadeForward, MadeSack, made_in, made_by, log_of, named_by}
+use Rattle.sctp_model.specs.Log.{is_skipped}
 use Rattle.sctp_model.specs.Steps.{History, record_of, after}
 use Rattle.sctp_model.specs.Laws.{loses_nothing}
 use Rattle.sctp_model.proofs.sender.Shape.{Shape, shape, message_part, written}
@@ -45,7 +46,8 @@ alive-after w (E.Write s ppi (b ∷ bs)) k a =
     subst AllAlive (sym (Shapes.shape-written w (written_as w s ppi (b ∷ bs))))
     (λ n lt. by_last {P = (((written (shape w) m).message n).expired ≡ false) × (((written (shape w) m).message n).abandoned ≡ false)} n (length w.messages) lt
     (λ o. let c = a n o in let e = message-old (shape w) m n o in (ap (λ y. y.expired) e ∙ c.0, ap (λ y. y.abandoned) e ∙ c.1))
-    (λ z. let e : (written (shape w) m).message n ≡ m = ap (written (shape w) m).message z ∙ message-new (shape w) m in (ap (λ y. y.expired) e, ap (λ y. y.abandoned) e)))
+    (λ z. let e : (written (shape w) m).message n ≡ m = ap (written (shape w) m).message z ∙ message-new (shape w) m in
+    (ap (λ y. y.expired) e, ap (λ y. y.abandoned) e)))
 alive-after w (E.Start now) k a = alive-sent w now None a
 alive-after w (E.Send now) k a = alive-sent w now (Messages.front w) a
 alive-after w (E.Resend x) k a = a
@@ -64,7 +66,8 @@ Lossless h = list_all (λ entry. loses_nothing entry.0) h ≡ true
 
 pub alive-run : (setup : Setup) (h : History) → Lossless h → AllAlive (shape (record_of setup h))
 alive-run setup [] l = λ n lt. absurd (omega arith)
-alive-run setup (entry ∷ older) l = let a = both (loses_nothing entry.0) (list_all (λ entry. loses_nothing entry.0) older) l in alive-after (record_of setup older) entry.0 a.0 (alive-run setup older a.1)
+alive-run setup (entry ∷ older) l = let a = both (loses_nothing entry.0) (list_all (λ entry. loses_nothing entry.0) older) l in
+    alive-after (record_of setup older) entry.0 a.0 (alive-run setup older a.1)
 
 -- ## No skip comes
 
@@ -80,7 +83,8 @@ any-append : (xs ys : List Made) → list_any is_forward xs ≡ false → list_a
 any-append [] ys a b = b
 any-append (x ∷ xs) ys a b = step (is_forward x) a (λ h. any-append xs ys h b)
   where
-    step : (c : Bool) → (c || list_any is_forward xs) ≡ false → (list_any is_forward xs ≡ false → list_any is_forward (xs ++ ys) ≡ false) → (c || list_any is_forward (xs ++ ys)) ≡ false
+    step : (c : Bool) → (c || list_any is_forward xs) ≡ false → (list_any is_forward xs ≡ false → list_any is_forward (xs ++ ys) ≡ false)
+        → (c || list_any is_forward (xs ++ ys)) ≡ false
     step true e ih = cc
     step false e ih = ih e
 
@@ -124,7 +128,8 @@ none-made setup (E.Read a) r k = refl
 
 none-forward : (setup : Setup) (h : History) → Lossless h → list_any is_forward (made_in setup h) ≡ false
 none-forward setup [] l = refl
-none-forward setup (entry ∷ older) l = let a = both (loses_nothing entry.0) (list_all (λ entry. loses_nothing entry.0) older) l in any-append (made_in setup older) (made_by setup entry.0 entry.1) (none-forward setup older a.1) (none-made setup entry.0 entry.1 a.0)
+none-forward setup (entry ∷ older) l = let a = both (loses_nothing entry.0) (list_all (λ entry. loses_nothing entry.0) older) l in
+    any-append (made_in setup older) (made_by setup entry.0 entry.1) (none-forward setup older a.1) (none-made setup entry.0 entry.1 a.0)
 
 not-at : (ds : List Made) (k : ℕ) (d : Made) → list_any is_forward ds ≡ false → slice_get ds k ≡ Some d → is_forward d ≡ false
 not-at [] k d a e = cc
@@ -143,7 +148,8 @@ skips-slots : (ps : List ℕ) (log : List LogEntry) → list_any is_skip log ≡
 skips-slots [] log e = e
 skips-slots (p ∷ ps) log e = skips-slots ps (SlotReceived p ∷ log) e
 
-skips-received : (o : Option Made) (log : List LogEntry) → ((d : Made) → o ≡ Some d → is_forward d ≡ false) → list_any is_skip log ≡ false → list_any is_skip (Log.datagram_comes o log) ≡ false
+skips-received : (o : Option Made) (log : List LogEntry) → ((d : Made) → o ≡ Some d → is_forward d ≡ false) → list_any is_skip log ≡ false
+    → list_any is_skip (Log.datagram_comes o log) ≡ false
 skips-received None log f e = e
 skips-received (Some (MadeData ps)) log f e = skips-slots ps log e
 skips-received (Some (MadeForward upto names)) log f e = absurd (not_both (sym (f (MadeForward upto names) refl)))
@@ -154,7 +160,8 @@ no-skips setup [] l = refl
 no-skips setup ((e, r) ∷ older) l = let a = both (loses_nothing e) (list_all (λ entry. loses_nothing entry.0) older) l in step e (no-skips setup older a.1) a.1
   where
     step : (e : Event) → list_any is_skip (log_of setup older) ≡ false → Lossless older → list_any is_skip (log_of setup ((e, r) ∷ older)) ≡ false
-    step (E.Arrive k) h l = skips-received (slice_get (made_in setup older) k) (log_of setup older) (λ d e. not-at (made_in setup older) k d (none-forward setup older l) e) h
+    step (E.Arrive k) h l =
+        skips-received (slice_get (made_in setup older) k) (log_of setup older) (λ d e. not-at (made_in setup older) k d (none-forward setup older l) e) h
     step (E.Ack credit) h l = h
     step (E.Open s) h l = h
     step (E.Mode s a b c) h l = h

@@ -1,5 +1,6 @@
 -- What an accepted event adds to the record, one definition for each event.
-use Rattle.std.specs.Prelude.{ℕ, zero, suc, ◌+◌, ◌-◌, ◌%◌, max, Bool, true, false, ◌&&◌, ◌||◌, not, ◌==◌, nat_le, if◌then◌else◌, List, [], ◌∷◌, ◌++◌, length, drop, map, fold, Option, Some, None, is_none}
+use Rattle.std.specs.Prelude.{ℕ, zero, suc, ◌+◌, ◌-◌, ◌%◌, max, Bool, true, false, ◌&&◌, ◌||◌, not, ◌==◌, nat_le, if◌then◌else◌, List, [], ◌∷◌, ◌++◌, length}
+use Rattle.std.specs.Prelude.{drop, map, fold, Option, Some, None, is_none}
 use Rattle.std.specs.List.{list_all, filter}
 use Rattle.sctp_data.specs.PayloadTypes.{is_ordered}
 use Rattle.sctp_list_lemmas.specs.Kept.{numbers_from}

@@ -1,5 +1,6 @@
 -- What holds of every history. Each law is the contract of an empty public function.
-use Rattle.std.specs.Prelude.{◌≡◌, ℕ, ◌+◌, ◌-◌, ◌*◌, ◌/◌, ◌^◌, ◌<◌, ◌≤◌, ◌↔◌, min, Bool, true, false, ◌&&◌, ◌||◌, not, ◌==◌, nat_lt, nat_le, if◌then◌else◌, List, [], ◌∷◌, ◌++◌, length, take, map, slice_get, Option, Some, None, option_to_list, Result, Ok}
+use Rattle.std.specs.Prelude.{◌≡◌, ℕ, ◌+◌, ◌-◌, ◌*◌, ◌/◌, ◌^◌, ◌<◌, ◌≤◌, ◌↔◌, min, Bool, true, false, ◌&&◌, ◌||◌, not, ◌==◌, nat_lt, nat_le, if◌then◌else◌}
+use Rattle.std.specs.Prelude.{List, [], ◌∷◌, ◌++◌, length, take, map, slice_get, Option, Some, None, option_to_list, Result, Ok}
 use Rattle.std.specs.List.{list_any, list_all, filter}
 use Rattle.sctp_list_lemmas.specs.Kept.{numbers_where, leading, numbers_from, first_of, runs_of}
 use Rattle.sctp_model.specs.declared.event.Event.{Event}
@@ -118,7 +119,8 @@ terminal_chunks_of w n =
     Messages.slots_where w (λ place. Messages.belongs_to w n place
     && (Messages.slot_at w place).is_terminal_chunk)
 
--- the slots of a message have its fragments from the first on, each once; an abandoned one that was not wholly sent has one terminal chunk, and no other has one
+-- the slots of a message have its fragments from the first on, each once; an abandoned one that was not wholly sent has one terminal chunk, and no other has
+-- one
 abbrev pub SlotsInOrder : Setup → History → LinkRecord → List Log.LogEntry → Type 0
 SlotsInOrder setup h w log =
     (n : ℕ) → n < length w.messages →
@@ -650,7 +652,8 @@ Beside =
     SlotsAreValid × (DatagramsKeepLimit ×
     (ArrivalsAgree × (LifetimesEnd × (CountersCount × (Composition × RecordsAreValid)))))
 
--- where nothing expires, is abandoned or skipped: the ordered reads begin the longest complete run and what arrived settles the reads, with all that holds of every history
+-- where nothing expires, is abandoned or skipped: the ordered reads begin the longest complete run and what arrived settles the reads, with all that holds of
+-- every history
 abbrev pub ReliableDelivery : Type 0
 ReliableDelivery =
     OnEveryRun ReadsBeginCompleteRun × (Composition

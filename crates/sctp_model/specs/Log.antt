@@ -1,6 +1,7 @@
 -- What a history says by itself: what came to the receiver in which order, and what follows from that order alone.
 -- No flag of the record is looked at. The newest entry stands first.
-use Rattle.std.specs.Prelude.{ℕ, ◌%◌, ◌^◌, ◌+◌, ◌-◌, ◌*◌, max, Bool, true, false, ◌&&◌, ◌||◌, not, ◌==◌, nat_lt, nat_le, if◌then◌else◌, List, [], ◌∷◌, ◌++◌, length, take, drop, map, slice_get, Option, Some, None, option_to_list}
+use Rattle.std.specs.Prelude.{ℕ, ◌%◌, ◌^◌, ◌+◌, ◌-◌, ◌*◌, max, Bool, true, false, ◌&&◌, ◌||◌, not, ◌==◌, nat_lt, nat_le, if◌then◌else◌, List, [], ◌∷◌, ◌++◌}
+use Rattle.std.specs.Prelude.{length, take, drop, map, slice_get, Option, Some, None, option_to_list}
 use Rattle.std.specs.List.{list_any, list_all, filter}
 use Rattle.sctp_data.specs.PayloadTypes.{has_bytes, is_counted, is_ordered}
 use Rattle.sctp_list_lemmas.specs.Kept.{unbroken, leading, numbers_from, or_else}

@@ -1,5 +1,6 @@
 -- Streams, messages, fragments and slots.
-use Rattle.std.specs.Prelude.{slice_index_or, ℕ, ◌+◌, ◌-◌, ◌%◌, ◌^◌, Bool, true, false, ◌&&◌, not, ◌==◌, nat_lt, nat_le, if◌then◌else◌, List, [], length, find, Option, Some, None, is_some, unwrap_or}
+use Rattle.std.specs.Prelude.{slice_index_or, ℕ, ◌+◌, ◌-◌, ◌%◌, ◌^◌, Bool, true, false, ◌&&◌, not, ◌==◌, nat_lt, nat_le, if◌then◌else◌, List, [], length, find}
+use Rattle.std.specs.Prelude.{Option, Some, None, is_some, unwrap_or}
 use Rattle.sctp_list_lemmas.specs.Kept.{numbers_where, first_of, or_else}
 use Rattle.sctp_list_lemmas.specs.Lists.{pieces}
 use Rattle.sctp_data.specs.declared.chunk.chunk_payload_data.ReliabilityType.TheVariants.{Reliable}

@@ -1,5 +1,6 @@
 -- Which event is refused with what, which reply is right, and what the record is then.
-use Rattle.std.specs.Prelude.{◌≡◌, ℕ, ◌+◌, ◌-◌, ◌^◌, Bool, true, false, ◌&&◌, ◌||◌, not, ◌==◌, nat_lt, nat_le, if◌then◌else◌, List, [], ◌∷◌, length, map, slice_get, Option, Some, None, is_none, is_some, Result, Ok, Err}
+use Rattle.std.specs.Prelude.{◌≡◌, ℕ, ◌+◌, ◌-◌, ◌^◌, Bool, true, false, ◌&&◌, ◌||◌, not, ◌==◌, nat_lt, nat_le, if◌then◌else◌, List, [], ◌∷◌, length, map}
+use Rattle.std.specs.Prelude.{slice_get, Option, Some, None, is_none, is_some, Result, Ok, Err}
 use Rattle.std.specs.List.{list_all, list_any, filter}
 use Rattle.sctp_list_lemmas.specs.Lists.{pieces}
 use Rattle.sctp_model.specs.declared.event.Event.{Event}
@@ -7,7 +8,8 @@ use Rattle.sctp_model.specs.declared.event.Event.TheVariants as E
 use Rattle.sctp_model.specs.Reply.{Reply}
 use Rattle.sctp_model.specs.Reply as R
 use Rattle.sctp_model.specs.declared.event.LinkRefusal.{LinkRefusal}
-use Rattle.sctp_model.specs.declared.event.LinkRefusal.TheVariants.{StreamUnknown, StreamOpen, MessageTooLarge, TsnsUsedUp, NoSuchDatagram, NotInFlight, SkipUnassigned, SkipNames, SpanTooWide, OutOfMemory}
+use Rattle.sctp_model.specs.declared.event.LinkRefusal.TheVariants.{StreamUnknown, StreamOpen, MessageTooLarge, TsnsUsedUp, NoSuchDatagram, NotInFlight}
+use Rattle.sctp_model.specs.declared.event.LinkRefusal.TheVariants.{SkipUnassigned, SkipNames, SpanTooWide, OutOfMemory}
 use Rattle.sctp_model.specs.LinkRecord.{Setup, Datagram, Data, Forward, Sack, LinkRecord, start}
 use Rattle.sctp_model.specs.Messages
 use Rattle.sctp_model.specs.Receiver

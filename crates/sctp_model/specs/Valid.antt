@@ -3,7 +3,8 @@ use Rattle.std.specs.Prelude.{◌≡◌, ℕ, ◌+◌, ◌-◌, ◌<◌, ◌≤�
 use Rattle.std.specs.List.{list_any, filter}
 use Rattle.sctp_model.specs.declared.event.Event.TheVariants as E
 use Rattle.sctp_model.specs.LinkRecord.{Setup, StreamRecord, Data, Forward, LinkRecord}
-use Rattle.sctp_model.specs.Messages.{message_at, slot_at, message_of, stream_at, stream_of, is_open, is_ordered_on, index_of, ordered_on, fragment_count, has_fragment}
+use Rattle.sctp_model.specs.Messages.{message_at, slot_at, message_of, stream_at, stream_of, is_open, is_ordered_on, index_of, ordered_on, fragment_count}
+use Rattle.sctp_model.specs.Messages.{has_fragment}
 use Rattle.sctp_model.specs.Receiver.{arrived_at, has_arrived, next_of, is_complete_message, is_new, is_held, cumulative}
 use Rattle.sctp_model.specs.Changes.{becomes_complete, receive_slot, after_arrive}
 use Rattle.sctp_model.specs.Steps.{History, refusal_of}

@@ -8,7 +8,8 @@ use Rattle.sctp_receiver.specs.Receiver.{Reception, TakesEachBy, data_refusal, i
 use Rattle.sctp_progress.specs.Progress.{Standing, has_number, numbers_of, with_complete, after_one, after_each}
 
 -- one more is answered
-pub each-next : (cs : List ChunkPayloadData) (ns : List ℕ) (bs : List Arrival) (c : ChunkPayloadData) (b : Arrival) (ps : List Standing) → length cs ≡ length bs → length cs < length ns → after_each (cs ++ c ∷ []) ns (bs ++ b ∷ []) ps ≡ after_one c (slice_index_or ns (length cs) 0) b (after_each cs ns bs ps)
+pub each-next : (cs : List ChunkPayloadData) (ns : List ℕ) (bs : List Arrival) (c : ChunkPayloadData) (b : Arrival) (ps : List Standing) → length cs ≡ length bs
+    → length cs < length ns → after_each (cs ++ c ∷ []) ns (bs ++ b ∷ []) ps ≡ after_one c (slice_index_or ns (length cs) 0) b (after_each cs ns bs ps)
 each-next [] [] bs c b ps same lt = absurd (omega (arith, lt))
 each-next [] (n ∷ ns) [] c b ps same lt = refl
 each-next [] (n ∷ ns) (d ∷ bs) c b ps same lt = absurd (omega (arith, same))
@@ -24,14 +25,16 @@ answered (c ∷ cs) [] r s t = absurd t
 answered (c ∷ cs) (b ∷ bs) r s t = ap suc (answered cs bs t.0 s t.1.1)
 
 -- a message became complete, or none did
-pub one-complete : (c : ChunkPayloadData) (n : ℕ) (b : Arrival) (ps : List Standing) → (is_told_complete b && c.unordered) ≡ true → after_one c n b ps ≡ change_where (has_number c.stream_identifier) (with_complete n) ps
+pub one-complete : (c : ChunkPayloadData) (n : ℕ) (b : Arrival) (ps : List Standing) → (is_told_complete b && c.unordered) ≡ true
+    → after_one c n b ps ≡ change_where (has_number c.stream_identifier) (with_complete n) ps
 one-complete c n b ps e = ap (λ t. if t then change_where (has_number c.stream_identifier) (with_complete n) ps else ps) e
 
 pub one-more : (c : ChunkPayloadData) (n : ℕ) (b : Arrival) (ps : List Standing) → (is_told_complete b && c.unordered) ≡ false → after_one c n b ps ≡ ps
 one-more c n b ps e = ap (λ t. if t then change_where (has_number c.stream_identifier) (with_complete n) ps else ps) e
 
 -- on a stream that is not open nothing is recorded
-pub one-absent : (c : ChunkPayloadData) (n : ℕ) (b : Arrival) (ps : List Standing) → ps ≡ change_where (has_number c.stream_identifier) (with_complete n) ps → ps ≡ after_one c n b ps
+pub one-absent : (c : ChunkPayloadData) (n : ℕ) (b : Arrival) (ps : List Standing) → ps ≡ change_where (has_number c.stream_identifier) (with_complete n) ps
+    → ps ≡ after_one c n b ps
 one-absent c n b ps e = by (is_told_complete b && c.unordered)
   where
     by : (t : Bool) → ps ≡ (if t then change_where (has_number c.stream_identifier) (with_complete n) ps else ps)
@@ -41,7 +44,8 @@ one-absent c n b ps e = by (is_told_complete b && c.unordered)
 -- the numbers of the streams stay
 changed-numbers : (s n : ℕ) (ps : List Standing) → numbers_of (change_where (has_number s) (with_complete n) ps) ≡ numbers_of ps
 changed-numbers s n [] = refl
-changed-numbers s n (p ∷ ps) = ap (λ m. m ∷ numbers_of (change_where (has_number s) (with_complete n) ps)) (by (has_number s p)) ∙ ap (λ ms. p.number ∷ ms) (changed-numbers s n ps)
+changed-numbers s n (p ∷ ps) = ap (λ m. m ∷ numbers_of (change_where (has_number s) (with_complete n) ps)) (by (has_number s p))
+    ∙ ap (λ ms. p.number ∷ ms) (changed-numbers s n ps)
   where
     by : (b : Bool) → (if b then with_complete n p else p).number ≡ p.number
     by true = refl

@@ -52,7 +52,8 @@ pub numbers-shown : (ps : List StreamProgress) → map (λ (p : StreamProgress).
 numbers-shown ps = sym (map-twice number standing_of ps)
 
 -- what is shown alike has the same numbers
-pub numbers-alike : (ps qs : List StreamProgress) → map standing_of qs ≡ map standing_of ps → map (λ (p : StreamProgress). p.number) qs ≡ map (λ (p : StreamProgress). p.number) ps
+pub numbers-alike : (ps qs : List StreamProgress) → map standing_of qs ≡ map standing_of ps
+    → map (λ (p : StreamProgress). p.number) qs ≡ map (λ (p : StreamProgress). p.number) ps
 numbers-alike ps qs e = numbers-shown qs ∙ ap numbers_of e ∙ sym (numbers-shown ps)
 
 module _ (ns : List ℕ) (ps : List StreamProgress) (is : ns ≡ map (λ (p : StreamProgress). p.number) ps) where
@@ -75,20 +76,26 @@ module _ (ns : List ℕ) (ps : List StreamProgress) (is : ns ≡ map (λ (p : St
   pub place-inside : (s k : ℕ) → IsOnlyPlace s ns k → k < length ps
   place-inside s k only = Places.inside (λ (p : StreamProgress). p.number) ps ns is s k only
 
-  pub numbered : (k : ℕ) (p q : StreamProgress) → p ≡ slice_index_or ps k p → q.number ≡ p.number → ns ≡ map (λ (x : StreamProgress). x.number) (slice_set ps k q)
+  pub numbered : (k : ℕ) (p q : StreamProgress) → p ≡ slice_index_or ps k p → q.number ≡ p.number
+      → ns ≡ map (λ (x : StreamProgress). x.number) (slice_set ps k q)
   numbered k p q at' same = is ∙ sym (Places.map-set_same (λ (x : StreamProgress). x.number) ps k q p (same ∙ ap (λ (x : StreamProgress). x.number) at'))
 
   shown-at : (k : ℕ) (p : StreamProgress) → p ≡ slice_index_or ps k p → standing_of p ≡ slice_index_or (map standing_of ps) k (standing_of p)
   shown-at k p at' = ap standing_of at' ∙ sym (mapped-at standing_of ps k p)
 
-  pub found-at : (s k : ℕ) → IsOnlyPlace s ns k → (p : StreamProgress) → p ≡ slice_index_or ps k p → find (has_number s) (map standing_of ps) ≡ Some (standing_of p)
+  pub found-at : (s k : ℕ) → IsOnlyPlace s ns k → (p : StreamProgress) → p ≡ slice_index_or ps k p
+      → find (has_number s) (map standing_of ps) ≡ Some (standing_of p)
   found-at s k only p at' = Places.found number (map standing_of ps) ns shown s k only (standing_of p) (shown-at k p at')
 
-  pub put-on : (s k : ℕ) → IsOnlyPlace s ns k → (p q : StreamProgress) → p ≡ slice_index_or ps k p → (f : Standing → Standing) → standing_of q ≡ f (standing_of p) → map standing_of (slice_set ps k q) ≡ change_where (has_number s) f (map standing_of ps)
-  put-on s k only p q at' f made = mapped-set standing_of ps k q ∙ Places.changed number (map standing_of ps) ns shown s k only f (standing_of p) (standing_of q) (shown-at k p at') made
+  pub put-on : (s k : ℕ) → IsOnlyPlace s ns k → (p q : StreamProgress) → p ≡ slice_index_or ps k p → (f : Standing → Standing)
+      → standing_of q ≡ f (standing_of p) → map standing_of (slice_set ps k q) ≡ change_where (has_number s) f (map standing_of ps)
+  put-on s k only p q at' f made = mapped-set standing_of ps k q
+      ∙ Places.changed number (map standing_of ps) ns shown s k only f (standing_of p) (standing_of q) (shown-at k p at') made
 
-  pub put-at : (k : ℕ) (p q : StreamProgress) → p ≡ slice_index_or ps k p → (f : Standing → Standing) → standing_of q ≡ f (standing_of p) → map standing_of (slice_set ps k q) ≡ change_at f k (map standing_of ps)
-  put-at k p q at' f made = mapped-set standing_of ps k q ∙ ap (slice_set (map standing_of ps) k) made ∙ changed-set f k (map standing_of ps) (standing_of p) (shown-at k p at')
+  pub put-at : (k : ℕ) (p q : StreamProgress) → p ≡ slice_index_or ps k p → (f : Standing → Standing) → standing_of q ≡ f (standing_of p)
+      → map standing_of (slice_set ps k q) ≡ change_at f k (map standing_of ps)
+  put-at k p q at' f made = mapped-set standing_of ps k q ∙ ap (slice_set (map standing_of ps) k) made
+      ∙ changed-set f k (map standing_of ps) (standing_of p) (shown-at k p at')
 
   pub opens : (s : ℕ) (o : Option ℕ) → MatchOption o (IsAbsent s ns) (IsOnlyPlace s ns) → is_some o ≡ is_some (find (has_number s) (map standing_of ps))
   opens s None absent = ap is_some (sym (absent-found s absent))
@@ -99,8 +106,10 @@ module _ (ns : List ℕ) (ps : List StreamProgress) (is : ns ≡ map (λ (p : St
       ap is_some (sym (Places.found number ls ns shown s k only x (get_or_default ls k (fresh 0) x inside)))
 
 -- the progress in other memory
-pub kept-set : (ps : List StreamProgress) (k : ℕ) (p q : StreamProgress) → p ≡ slice_index_or ps k p → standing_of q ≡ standing_of p → map standing_of (slice_set ps k q) ≡ map standing_of ps
-kept-set ps k p q at' same = mapped-set standing_of ps k q ∙ ap (slice_set (map standing_of ps) k) same ∙ same-set (map standing_of ps) k (standing_of p) (ap standing_of at' ∙ sym (mapped-at standing_of ps k p))
+pub kept-set : (ps : List StreamProgress) (k : ℕ) (p q : StreamProgress) → p ≡ slice_index_or ps k p → standing_of q ≡ standing_of p
+    → map standing_of (slice_set ps k q) ≡ map standing_of ps
+kept-set ps k p q at' same = mapped-set standing_of ps k q ∙ ap (slice_set (map standing_of ps) k) same
+    ∙ same-set (map standing_of ps) k (standing_of p) (ap standing_of at' ∙ sym (mapped-at standing_of ps k p))
 
 -- what is read at a place twice is the same
 pub same-place : (ps : List StreamProgress) (k : ℕ) (p q : StreamProgress) → k < length ps → p ≡ slice_index_or ps k p → q ≡ slice_index_or ps k q → p ≡ q

@@ -63,7 +63,8 @@ unfolding distance at_or_before comes_before at_or_before16 comes_before16 dista
 new_second = refl
 
 -- an incomplete message of the old use is gone, and one with fragments on both sides keeps those of the new use
-split_set : held_after_reset 11 (holding 3 (new_set (fragment 10 3 true false) ∷ record { ssn = 4; ppi = identifiers.Binary; chunks = fragment 11 4 true false ∷ fragment 12 4 false true ∷ [] } ∷ []))
+split_set : held_after_reset 11 (holding 3
+    (new_set (fragment 10 3 true false) ∷ record { ssn = 4; ppi = identifiers.Binary; chunks = fragment 11 4 true false ∷ fragment 12 4 false true ∷ [] } ∷ []))
     ≡ holding 0 (record { ssn = 4; ppi = identifiers.Binary; chunks = fragment 12 4 false true ∷ [] } ∷ [])
 unfolding distance at_or_before comes_before at_or_before16 comes_before16 distance16
 split_set = refl
@@ -88,6 +89,7 @@ unfolding distance at_or_before comes_before at_or_before16 comes_before16 dista
 next_is_read = refl
 
 -- a complete message between two that are cut is read, and none of both is waited for
-between : held_after_incomplete_skip 4 (holding 0 (new_set (fragment 1 0 true false) ∷ new_set (whole 3 1) ∷ new_set (fragment 5 2 false true) ∷ [])) ≡ holding 3 (new_set (whole 3 1) ∷ [])
+between : held_after_incomplete_skip 4 (holding 0 (new_set (fragment 1 0 true false) ∷ new_set (whole 3 1) ∷ new_set (fragment 5 2 false true) ∷ []))
+    ≡ holding 3 (new_set (whole 3 1) ∷ [])
 unfolding distance at_or_before comes_before at_or_before16 comes_before16 distance16
 between = refl

@@ -31,9 +31,11 @@ module _ (why : ChunkPayloadData → Reception → Option ReceiverRefusal) where
   stops cs bs i c old mid e t at (inr h) = inr (record { count = i; arrivals = bs; mid = mid; taken = t; chunk = c; next = at; refused = h })
 
 -- a chunk leaves the numbers of the streams
-changed-numbers : (s : ℕ) (q : ReassemblyState) → q.si ≡ s → (ls : List InboundStream) → numbers_of (change_where (has_number s) (with_queue q) ls) ≡ numbers_of ls
+changed-numbers : (s : ℕ) (q : ReassemblyState) → q.si ≡ s → (ls : List InboundStream)
+    → numbers_of (change_where (has_number s) (with_queue q) ls) ≡ numbers_of ls
 changed-numbers s q same [] = refl
-changed-numbers s q same (l ∷ ls) = ap (λ n. n ∷ numbers_of (change_where (has_number s) (with_queue q) ls)) (one (has_number s l) refl) ∙ ap (λ ns. number l ∷ ns) (changed-numbers s q same ls)
+changed-numbers s q same (l ∷ ls) = ap (λ n. n ∷ numbers_of (change_where (has_number s) (with_queue q) ls)) (one (has_number s l) refl)
+    ∙ ap (λ ns. number l ∷ ns) (changed-numbers s q same ls)
   where
     one : (b : Bool) → has_number s l ≡ b → number (if b then with_queue q l else l) ≡ number l
     one true h = let e : l.queue.si ≡ s = grind (arith, nat_tests, h) in same ∙ sym e
@@ -47,9 +49,12 @@ found-has p (l ∷ ls) x e = by (p l) refl e (found-has p ls x)
     by true h f rest = let same : l ≡ x = cc in subst (λ y. p y ≡ true) same h
     by false h f rest = rest f
 
-pub takes-keeps : (c : ChunkPayloadData) (a : Arrival) (old new : Reception) → Takes c a old new → (numbers_of new.streams ≡ numbers_of old.streams) × (new.max_message_size ≡ old.max_message_size)
+pub takes-keeps : (c : ChunkPayloadData) (a : Arrival) (old new : Reception) → Takes c a old new
+    → (numbers_of new.streams ≡ numbers_of old.streams) × (new.max_message_size ≡ old.max_message_size)
 takes-keeps c (New complete) old new t =
     let has : (t.stream.queue.si == c.stream_identifier) ≡ true = found-has (has_number c.stream_identifier) old.streams t.stream t.found in
-    let same : t.queue.si ≡ c.stream_identifier = pushed-number c complete t.stream.queue t.queue t.pushed ∙ grind (arith, nat_tests, has) in
-    (ap (λ (r : Reception). numbers_of r.streams) t.after ∙ changed-numbers c.stream_identifier t.queue same old.streams, ap (λ (r : Reception). r.max_message_size) t.after)
+    let same : t.queue.si ≡ c.stream_identifier = pushed-number c complete t.stream.queue t.queue t.pushed ∙ grind (arith, nat_tests, has) in (
+      ap (λ (r : Reception). numbers_of r.streams) t.after ∙ changed-numbers c.stream_identifier t.queue same old.streams,
+      ap (λ (r : Reception). r.max_message_size) t.after,
+    )
 takes-keeps c Repeat old new t = (ap (λ (r : Reception). numbers_of r.streams) t, ap (λ (r : Reception). r.max_message_size) t)

@@ -7,7 +7,8 @@ use Rattle.sctp_data.specs.declared.chunk.chunk_forward_tsn.ChunkForwardTsnStrea
 use Rattle.sctp_data.specs.ForwardTsn.{ForwardTsn}
 use Rattle.sctp_reassembly.specs.reassembly_queue.ReassemblyQueue.{ReassemblyState, after_ordered_skip}
 use Rattle.sctp_receiver.specs.declared.receiver.inbound_streams.InboundStream.{InboundStream}
-use Rattle.sctp_receiver.specs.Inbound.{number, numbers_of, has_number, with_queue, ssn_forwarded, named_forwarded, unassembled_forwarded, ssns_of, skipped_each, stream_forwarded}
+use Rattle.sctp_receiver.specs.Inbound.{number, numbers_of, has_number, with_queue, ssn_forwarded, named_forwarded, unassembled_forwarded, ssns_of}
+use Rattle.sctp_receiver.specs.Inbound.{skipped_each, stream_forwarded}
 use Rattle.sctp_receiver.specs.Receiver.{Reception, stream_of, follow_forward_tsn, after_forward, is_stale}
 use Rattle.sctp_receiver.proofs.Inbounds.{stays-mapped}
 use Rattle.sctp_list_lemmas.proofs.Getting.{map-twice}
@@ -25,17 +26,20 @@ skipped-size (ssn ∷ ssns) q = skipped-size ssns (after_ordered_skip ssn q)
 -- ## Names
 
 -- the first name, and then the others
-first-name : (n : ChunkForwardTsnStream) (ns : List ChunkForwardTsnStream) (l : InboundStream) → stream_forwarded ns (if has_number n.identifier l then ssn_forwarded n.sequence l else l) ≡ stream_forwarded (n ∷ ns) l
+first-name : (n : ChunkForwardTsnStream) (ns : List ChunkForwardTsnStream) (l : InboundStream)
+    → stream_forwarded ns (if has_number n.identifier l then ssn_forwarded n.sequence l else l) ≡ stream_forwarded (n ∷ ns) l
 first-name n ns l = by (l.queue.si == n.identifier)
   where
     others : List ChunkForwardTsnStream
     others = filter (λ m. l.queue.si == m.identifier) ns
 
-    by : (b : Bool) → stream_forwarded ns (if b then ssn_forwarded n.sequence l else l) ≡ with_queue (skipped_each (map (λ m. m.sequence) (if b then n ∷ others else others)) l.queue) l
+    by : (b : Bool) → stream_forwarded ns (if b then ssn_forwarded n.sequence l else l)
+        ≡ with_queue (skipped_each (map (λ m. m.sequence) (if b then n ∷ others else others)) l.queue) l
     by true = refl
     by false = refl
 
-first-names : (n : ChunkForwardTsnStream) (ns : List ChunkForwardTsnStream) (ls : List InboundStream) → map (stream_forwarded ns) (change_where (has_number n.identifier) (ssn_forwarded n.sequence) ls) ≡ map (stream_forwarded (n ∷ ns)) ls
+first-names : (n : ChunkForwardTsnStream) (ns : List ChunkForwardTsnStream) (ls : List InboundStream)
+    → map (stream_forwarded ns) (change_where (has_number n.identifier) (ssn_forwarded n.sequence) ls) ≡ map (stream_forwarded (n ∷ ns)) ls
 first-names n ns [] = refl
 first-names n ns (l ∷ ls) = rw (first-name n ns l) (ap (λ xs. stream_forwarded (n ∷ ns) l ∷ xs) (first-names n ns ls))
 
@@ -49,28 +53,36 @@ named-mapped [] ls = no-names ls
 named-mapped (n ∷ ns) ls = named-mapped ns (change_where (has_number n.identifier) (ssn_forwarded n.sequence) ls) ∙ first-names n ns ls
 
 -- and then the unassembled fragments
-pub unassembled-mapped : (tsn : ℕ) (ns : List ChunkForwardTsnStream) (ls : List InboundStream) → map (unassembled_forwarded tsn) (named_forwarded ns ls) ≡ map (λ l. unassembled_forwarded tsn (stream_forwarded ns l)) ls
+pub unassembled-mapped : (tsn : ℕ) (ns : List ChunkForwardTsnStream) (ls : List InboundStream)
+    → map (unassembled_forwarded tsn) (named_forwarded ns ls) ≡ map (λ l. unassembled_forwarded tsn (stream_forwarded ns l)) ls
 unassembled-mapped tsn ns ls = ap (map (unassembled_forwarded tsn)) (named-mapped ns ls) ∙ map-twice (unassembled_forwarded tsn) (stream_forwarded ns) ls
 
-pub followed-mapped : (f : ForwardTsn) (r : Reception) → (follow_forward_tsn f r).streams ≡ map (λ l. unassembled_forwarded f.new_cumulative_tsn (stream_forwarded f.streams l)) r.streams
+pub followed-mapped : (f : ForwardTsn) (r : Reception)
+    → (follow_forward_tsn f r).streams ≡ map (λ l. unassembled_forwarded f.new_cumulative_tsn (stream_forwarded f.streams l)) r.streams
 followed-mapped f r = unassembled-mapped f.new_cumulative_tsn f.streams r.streams
 
 -- ## A stream by its number
 
-pub found-mapped : (s : ℕ) (f : InboundStream → InboundStream) → ((l : InboundStream) → number (f l) ≡ number l) → (ls : List InboundStream) → find (has_number s) (map f ls) ≡ option_map f (find (has_number s) ls)
+pub found-mapped : (s : ℕ) (f : InboundStream → InboundStream) → ((l : InboundStream) → number (f l) ≡ number l) → (ls : List InboundStream)
+    → find (has_number s) (map f ls) ≡ option_map f (find (has_number s) ls)
 found-mapped s f same [] = refl
-found-mapped s f same (l ∷ ls) = ap (λ n. if n == s then Some (f l) else find (has_number s) (map f ls)) (same l) ∙ by (has_number s l) (found-mapped s f same ls)
+found-mapped s f same (l ∷ ls) = ap (λ n. if n == s then Some (f l) else find (has_number s) (map f ls)) (same l)
+    ∙ by (has_number s l) (found-mapped s f same ls)
   where
-    by : (b : Bool) → find (has_number s) (map f ls) ≡ option_map f (find (has_number s) ls) → (if b then Some (f l) else find (has_number s) (map f ls)) ≡ option_map f (if b then Some l else find (has_number s) ls)
+    by : (b : Bool) → find (has_number s) (map f ls) ≡ option_map f (find (has_number s) ls)
+        → (if b then Some (f l) else find (has_number s) (map f ls)) ≡ option_map f (if b then Some l else find (has_number s) ls)
     by true rest = refl
     by false rest = rest
 
-pub found-followed : (s : ℕ) (f : ForwardTsn) (r : Reception) → stream_of s (follow_forward_tsn f r) ≡ option_map (λ l. unassembled_forwarded f.new_cumulative_tsn (stream_forwarded f.streams l)) (stream_of s r)
-found-followed s f r = ap (find (has_number s)) (followed-mapped f r) ∙ found-mapped s (λ l. unassembled_forwarded f.new_cumulative_tsn (stream_forwarded f.streams l)) (λ l. skipped-number (ssns_of l.queue.si f.streams) l.queue) r.streams
+pub found-followed : (s : ℕ) (f : ForwardTsn) (r : Reception)
+    → stream_of s (follow_forward_tsn f r) ≡ option_map (λ l. unassembled_forwarded f.new_cumulative_tsn (stream_forwarded f.streams l)) (stream_of s r)
+found-followed s f r = ap (find (has_number s)) (followed-mapped f r) ∙ found-mapped s
+    (λ l. unassembled_forwarded f.new_cumulative_tsn (stream_forwarded f.streams l)) (λ l. skipped-number (ssns_of l.queue.si f.streams) l.queue) r.streams
 
 -- ## What stays
 
-pub stays-named : {B : Type 0} (p : InboundStream → B) (ns : List ChunkForwardTsnStream) → ((l : InboundStream) → p (stream_forwarded ns l) ≡ p l) → (ls : List InboundStream) → map p (named_forwarded ns ls) ≡ map p ls
+pub stays-named : {B : Type 0} (p : InboundStream → B) (ns : List ChunkForwardTsnStream) → ((l : InboundStream) → p (stream_forwarded ns l) ≡ p l)
+    → (ls : List InboundStream) → map p (named_forwarded ns ls) ≡ map p ls
 stays-named p ns same ls = ap (map p) (named-mapped ns ls) ∙ stays-mapped p (stream_forwarded ns) same ls
 
 pub named-numbers : (ns : List ChunkForwardTsnStream) (ls : List InboundStream) → numbers_of (named_forwarded ns ls) ≡ numbers_of ls
@@ -79,7 +91,8 @@ named-numbers ns ls = stays-named number ns (λ l. skipped-number (ssns_of l.que
 pub named-stats : (ns : List ChunkForwardTsnStream) (ls : List InboundStream) → map (λ l. l.stats) (named_forwarded ns ls) ≡ map (λ l. l.stats) ls
 named-stats ns ls = stays-named (λ l. l.stats) ns (λ l. refl) ls
 
-pub named-sizes : (ns : List ChunkForwardTsnStream) (ls : List InboundStream) → map (λ l. l.queue.max_message_size) (named_forwarded ns ls) ≡ map (λ l. l.queue.max_message_size) ls
+pub named-sizes : (ns : List ChunkForwardTsnStream) (ls : List InboundStream)
+    → map (λ l. l.queue.max_message_size) (named_forwarded ns ls) ≡ map (λ l. l.queue.max_message_size) ls
 named-sizes ns ls = stays-named (λ l. l.queue.max_message_size) ns (λ l. skipped-size (ssns_of l.queue.si ns) l.queue) ls
 
 pub named-length : (ns : List ChunkForwardTsnStream) (ls : List InboundStream) → length (named_forwarded ns ls) ≡ length ls
@@ -90,10 +103,12 @@ named-length ns ls = ap length (named-mapped ns ls) ∙ mapped (stream_forwarded
     mapped f (x ∷ xs) = ap suc (mapped f xs)
 
 pub followed-numbers : (f : ForwardTsn) (r : Reception) → numbers_of (follow_forward_tsn f r).streams ≡ numbers_of r.streams
-followed-numbers f r = stays-mapped number (unassembled_forwarded f.new_cumulative_tsn) (λ l. refl) (named_forwarded f.streams r.streams) ∙ named-numbers f.streams r.streams
+followed-numbers f r = stays-mapped number (unassembled_forwarded f.new_cumulative_tsn) (λ l. refl) (named_forwarded f.streams r.streams)
+    ∙ named-numbers f.streams r.streams
 
 pub followed-stats : (f : ForwardTsn) (r : Reception) → map (λ l. l.stats) (follow_forward_tsn f r).streams ≡ map (λ l. l.stats) r.streams
-followed-stats f r = stays-mapped (λ l. l.stats) (unassembled_forwarded f.new_cumulative_tsn) (λ l. refl) (named_forwarded f.streams r.streams) ∙ named-stats f.streams r.streams
+followed-stats f r = stays-mapped (λ l. l.stats) (unassembled_forwarded f.new_cumulative_tsn) (λ l. refl) (named_forwarded f.streams r.streams)
+    ∙ named-stats f.streams r.streams
 
 -- also where it is stale
 pub after-numbers : (f : ForwardTsn) (r : Reception) → numbers_of (after_forward f r).streams ≡ numbers_of r.streams

@@ -1,5 +1,6 @@
 -- How many TSNs are missing below the highest one that came: how far that lies past the cumulative one, less how many came beyond it.
-use Rattle.std.proofs.Common.{◌≡◌, ℕ, zero, suc, ◌+◌, ◌-◌, ◌<◌, ◌≤◌, ◌^◌, Bool, true, false, List, [], ◌∷◌, length, Some, refl, ap, sym, subst, ◌∙◌, inl, inr, arith}
+use Rattle.std.proofs.Common.{◌≡◌, ℕ, zero, suc, ◌+◌, ◌-◌, ◌<◌, ◌≤◌, ◌^◌, Bool, true, false, List, [], ◌∷◌, length, Some, refl, ap, sym, subst, ◌∙◌, inl, inr}
+use Rattle.std.proofs.Common.{arith}
 use Rattle.std.specs.Prelude.{if◌then◌else◌, ◌==◌, not, slice_get, unwrap_or}
 use Rattle.std.specs.List.{list_any, filter}
 use Rattle.std.proofs.lemmas.Bool.{cases_lt}
@@ -33,7 +34,8 @@ pub far-inserted : (base far x m : ℕ) (ts : List ℕ) → distance base x ≤ 
 far-inserted base far x m [] le h = le
 far-inserted base far x m (t ∷ ts) le h = by (comes_before x t) (far-inserted base (distance base t) x m ts le h)
   where
-    by : (b : Bool) → far_of base (distance base t) (insert_before comes_before x ts) ≤ m → far_of base far (if b then x ∷ t ∷ ts else t ∷ insert_before comes_before x ts) ≤ m
+    by : (b : Bool) → far_of base (distance base t) (insert_before comes_before x ts) ≤ m
+        → far_of base far (if b then x ∷ t ∷ ts else t ∷ insert_before comes_before x ts) ≤ m
     by true ih = h
     by false ih = ih
 
@@ -41,14 +43,16 @@ pub length-inserted : (x : ℕ) (ts : List ℕ) → length (insert_before comes_
 length-inserted x [] = omega arith
 length-inserted x (t ∷ ts) = by (comes_before x t) (length-inserted x ts)
   where
-    by : (b : Bool) → length (insert_before comes_before x ts) ≡ length ts + 1 → length (if b then x ∷ t ∷ ts else t ∷ insert_before comes_before x ts) ≡ length (t ∷ ts) + 1
+    by : (b : Bool) → length (insert_before comes_before x ts) ≡ length ts + 1
+        → length (if b then x ∷ t ∷ ts else t ∷ insert_before comes_before x ts) ≡ length (t ∷ ts) + 1
     by true ih = omega arith
     by false ih = omega (arith, ih)
 
 -- ## The cumulative TSN moves
 
 -- seen from a base that is not farther than they are
-far-rebased : (base b far : ℕ) (ts : List ℕ) → base < 2 ^ 32 → b < 2 ^ 32 → distance base b ≤ far → rise_beyond base far ts ≡ true → far_of b (far - distance base b) ts + distance base b ≡ far_of base far ts
+far-rebased : (base b far : ℕ) (ts : List ℕ) → base < 2 ^ 32 → b < 2 ^ 32 → distance base b ≤ far → rise_beyond base far ts ≡ true
+    → far_of b (far - distance base b) ts + distance base b ≡ far_of base far ts
 far-rebased base b far [] hc hb le h = omega (arith, le)
 far-rebased base b far (t ∷ ts) hc hb le h =
     let s = step-of base far t ts h in
@@ -75,9 +79,11 @@ advanced c (t ∷ ts) lt h = by (t == following_tsn c) (advanced t ts s.0.small 
     from-next = subst (λ n. rise_beyond t n ts ≡ true) zero-far (rebased c t (distance c t) ts lt s.0.small (omega arith) s.1)
 
     nearer-by : far_of t 0 ts + distance c t ≡ far_of c (distance c t) ts
-    nearer-by = subst (λ n. far_of t n ts + distance c t ≡ far_of c (distance c t) ts) zero-far (far-rebased c t (distance c t) ts lt s.0.small (omega arith) s.1)
+    nearer-by =
+        subst (λ n. far_of t n ts + distance c t ≡ far_of c (distance c t) ts) zero-far (far-rebased c t (distance c t) ts lt s.0.small (omega arith) s.1)
 
-    by : (b : Bool) → IsNoWider (advance_over t ts) (far_of t 0 ts) (length ts) → IsNoWider (if b then advance_over t ts else (let r : Seen = record { cum = c; held = t ∷ ts } in r)) (far_of c (distance c t) ts) (length (t ∷ ts))
+    by : (b : Bool) → IsNoWider (advance_over t ts) (far_of t 0 ts) (length ts)
+        → IsNoWider (if b then advance_over t ts else (let r : Seen = record { cum = c; held = t ∷ ts } in r)) (far_of c (distance c t) ts) (length (t ∷ ts))
     by true ih = let farther = s.0.farther in let le = ih.le in let e = nearer-by in record { le = omega arith }
     by false ih = record { le = omega arith }
 
@@ -87,7 +93,8 @@ advanced c (t ∷ ts) lt h = by (t == following_tsn c) (advanced t ts s.0.small 
 abbrev left : ℕ → List ℕ → List ℕ
 left n ts = filter (λ t. not (at_or_before t n)) ts
 
-far-past : (c n far : ℕ) (ts : List ℕ) → c < 2 ^ 32 → n < 2 ^ 32 → distance c n < 2 ^ 31 → rise_beyond c far ts ≡ true → far_of n (far - distance c n) (left n ts) + length ts + (far - (far - distance c n)) ≤ far_of c far ts + length (left n ts)
+far-past : (c n far : ℕ) (ts : List ℕ) → c < 2 ^ 32 → n < 2 ^ 32 → distance c n < 2 ^ 31 → rise_beyond c far ts ≡ true
+    → far_of n (far - distance c n) (left n ts) + length ts + (far - (far - distance c n)) ≤ far_of c far ts + length (left n ts)
 far-past c n far [] hc hn near h = omega arith
 far-past c n far (t ∷ ts) hc hn near h =
     let s = step-of c far t ts h in
@@ -98,14 +105,16 @@ far-past c n far (t ∷ ts) hc hn near h =
           let sum : distance c n + distance n t ≡ distance c t = distance_rest c n t hc hn s.0.small (omega (arith, later)) in
           let same : distance c t - distance c n ≡ distance n t = omega arith in
           let next = subst (λ d. far_of n d (left n ts) + length ts + (distance c t - d) ≤ far_of c (distance c t) ts + length (left n ts)) same ih in
-          subst (λ b. far_of n (far - distance c n) (if not b then t ∷ left n ts else left n ts) + length (t ∷ ts) + (far - (far - distance c n)) ≤ far_of c (distance c t) ts + length (if not b then t ∷ left n ts else left n ts)) (sym (behind-it c n t hc hn s.0.small s.0.near later))
+          subst (λ b. far_of n (far - distance c n) (if not b then t ∷ left n ts else left n ts) + length (t ∷ ts) + (far - (far - distance c n))
+          ≤ far_of c (distance c t) ts + length (if not b then t ∷ left n ts else left n ts)) (sym (behind-it c n t hc hn s.0.small s.0.near later))
           (omega arith)
       | inr before ↦
           let none : distance c t - distance c n ≡ 0 = omega arith in
           let one : far - distance c n ≡ 0 = omega arith in
           let same : distance c t - distance c n ≡ far - distance c n = none ∙ sym one in
           let next = subst (λ d. far_of n d (left n ts) + length ts + (distance c t - d) ≤ far_of c (distance c t) ts + length (left n ts)) same ih in
-          subst (λ b. far_of n (far - distance c n) (if not b then t ∷ left n ts else left n ts) + length (t ∷ ts) + (far - (far - distance c n)) ≤ far_of c (distance c t) ts + length (if not b then t ∷ left n ts else left n ts)) (sym (before-it c n t hc hn s.0.small near before))
+          subst (λ b. far_of n (far - distance c n) (if not b then t ∷ left n ts else left n ts) + length (t ∷ ts) + (far - (far - distance c n))
+          ≤ far_of c (distance c t) ts + length (if not b then t ∷ left n ts else left n ts)) (sym (before-it c n t hc hn s.0.small near before))
           (omega arith)
     ]
 
@@ -129,7 +138,8 @@ record IsLast (base m t : ℕ) : Type 0 where
   small : t < 2 ^ 32
   far : distance base t ≡ m
 
-last-far : (base d far : ℕ) (ts : List ℕ) → d < 2 ^ 32 → distance base d ≡ far → rise_beyond base far ts ≡ true → IsLast base (far_of base far ts) (last_of d ts)
+last-far : (base d far : ℕ) (ts : List ℕ) → d < 2 ^ 32 → distance base d ≡ far → rise_beyond base far ts ≡ true
+    → IsLast base (far_of base far ts) (last_of d ts)
 last-far base d far [] small e h = record { small = small; far = e }
 last-far base d far (t ∷ ts) small e h = let s = step-of base far t ts h in last-far base t (distance base t) ts s.0.small refl s.1
 
@@ -151,7 +161,8 @@ pub few-beyond : (f : Filter) → IsAscending f → length f.beyond ≤ far_in f
 few-beyond f a = let e = length-far f.cumulative_tsn 0 f.beyond (from-zero f a) in omega arith
 
 -- what lies farther comes after the highest
-pub past-highest : (f : Filter) (t : ℕ) → IsAscending f → t < 2 ^ 32 → distance f.cumulative_tsn t < 2 ^ 31 → far_in f < distance f.cumulative_tsn t → comes_before (highest_tsn f) t ≡ true
+pub past-highest : (f : Filter) (t : ℕ) → IsAscending f → t < 2 ^ 32 → distance f.cumulative_tsn t < 2 ^ 31 → far_in f < distance f.cumulative_tsn t
+    → comes_before (highest_tsn f) t ≡ true
 past-highest f t a small near far =
     let l = last-far f.cumulative_tsn f.cumulative_tsn 0 f.beyond a.small (distance_self f.cumulative_tsn a.small) (from-zero f a) in
     let at = l.far in
@@ -169,7 +180,8 @@ pub record IsNext (f : Filter) (m : ℕ) (n : ℕ) (new : Filter) : Type 0 where
   pub ascending : IsAscending new
   pub le : far_in new + n ≤ m + length new.beyond
 
-pub next-with : (f : Filter) (t m : ℕ) → IsAscending f → t < 2 ^ 32 → has_come t f ≡ false → is_opposite t f ≡ false → distance f.cumulative_tsn t ≤ m → far_in f ≤ m → IsNext f m (length f.beyond + 1) (with_tsn t f)
+pub next-with : (f : Filter) (t m : ℕ) → IsAscending f → t < 2 ^ 32 → has_come t f ≡ false → is_opposite t f ≡ false → distance f.cumulative_tsn t ≤ m
+    → far_in f ≤ m → IsNext f m (length f.beyond + 1) (with_tsn t f)
 next-with f t m a small fresh near le far =
     let c = f.cumulative_tsn in
     let ts = insert_before comes_before t f.beyond in
@@ -181,7 +193,8 @@ next-with f t m a small fresh near le far =
     let bound = far-inserted c 0 t m f.beyond le far in
     record { ascending = record { small = to.small; rise = to.rise }; le = omega arith }
 
-pub next-skipped : (f : Filter) (n : ℕ) → IsAscending f → n < 2 ^ 32 → comes_before f.cumulative_tsn n ≡ true → IsNext f (far_in f) (length f.beyond) (skipped_to n f)
+pub next-skipped : (f : Filter) (n : ℕ) → IsAscending f → n < 2 ^ 32 → comes_before f.cumulative_tsn n ≡ true
+    → IsNext f (far_in f) (length f.beyond) (skipped_to n f)
 next-skipped f n a small after' =
     let c = f.cumulative_tsn in
     let d = before_is c n after' in
@@ -190,7 +203,8 @@ next-skipped f n a small after' =
     let rise = subst (λ k. rise_beyond n k (left n f.beyond) ≡ true) one (rise-past c n 1 f.beyond a.small small d.1 a.rise) in
     let m = moved n (left n f.beyond) small rise in
     let w = (advanced n (left n f.beyond) small rise).le in
-    let past = subst (λ k. far_of n k (left n f.beyond) + length f.beyond + (0 - k) ≤ far_of c 0 f.beyond + length (left n f.beyond)) none (far-past c n 0 f.beyond a.small small d.1 (from-zero f a)) in
+    let past = subst (λ k. far_of n k (left n f.beyond) + length f.beyond + (0 - k) ≤ far_of c 0 f.beyond + length (left n f.beyond)) none
+    (far-past c n 0 f.beyond a.small small d.1 (from-zero f a)) in
     record { ascending = record { small = m.small; rise = m.rise }; le = omega arith }
 
 -- the highest TSN lies within what is reached, after a call as before it

@@ -19,16 +19,20 @@ use Rattle.sctp_receiver.specs.declared.receiver.arrival.Arrival.TheVariants.{Ne
 use Rattle.sctp_receiver.specs.declared.receiver.limits.Limits.{Limits}
 use Rattle.sctp_receiver.specs.declared.receiver.inbound_streams.InboundStream.{InboundStream}
 use Rattle.sctp_receiver.specs.Inbound.{number, has_number, new_stream, with_queue, Pushes, stream_read, ssn_forwarded, named_forwarded, unassembled_forwarded}
-use Rattle.sctp_receiver.specs.Receiver.{Reception, filter_of, with_filter, stream_of, Accepts, repeat_tsn, after_discard, message_of, message_on, after_read, is_stale, follow_forward_tsn, after_forward}
+use Rattle.sctp_receiver.specs.Receiver.{Reception, filter_of, with_filter, stream_of, Accepts, repeat_tsn, after_discard, message_of, message_on, after_read}
+use Rattle.sctp_receiver.specs.Receiver.{is_stale, follow_forward_tsn, after_forward}
 use Rattle.sctp_receiver.specs.Resets.{stream_reset}
 use Rattle.sctp_receiver.specs.Skips.{incomplete_forwarded, without_incomplete, after_forward_tsn}
 use Rattle.sctp_receiver.specs.TsnFilter.{has_come, with_tsn}
-use Rattle.sctp_receiver.specs.ReceiverRuns.{Call, opens, closes, takes, discards, reports, reports_within, reads, resets, forwards, forwards_by_names, Message, Stand, with_message, Follows, RunsTo, at_start, AfterEachRun, AreComplete, AreOfOneMessage, WereAccepted, is_one_message, fragments_read}
+use Rattle.sctp_receiver.specs.ReceiverRuns.{Call, opens, closes, takes, discards, reports, reports_within, reads, resets, forwards, forwards_by_names, Message}
+use Rattle.sctp_receiver.specs.ReceiverRuns.{Stand, with_message, Follows, RunsTo, at_start, AfterEachRun, AreComplete, AreOfOneMessage, WereAccepted}
+use Rattle.sctp_receiver.specs.ReceiverRuns.{is_one_message, fragments_read}
 use Rattle.sctp_receiver.proofs.Inbounds.{pushed-number}
 use Rattle.sctp_receiver.proofs.Weights as weights
 use Rattle.sctp_receiver.proofs.Weights.{weight, message_weight}
 use Rattle.sctp_receiver.proofs.CompleteMessages.{all_complete, message_complete, pushed-complete, read-complete, rest-complete, reset-complete}
-use Rattle.sctp_receiver.proofs.OneMessage.{is_unmixed, message_one, pushed-unmixed, read-one, rest-unmixed, named-unmixed, unassembled-unmixed, incomplete-unmixed, reset-unmixed}
+use Rattle.sctp_receiver.proofs.OneMessage.{is_unmixed, message_one, pushed-unmixed, read-one, rest-unmixed, named-unmixed, unassembled-unmixed}
+use Rattle.sctp_receiver.proofs.OneMessage.{incomplete-unmixed, reset-unmixed}
 use Rattle.sctp_receiver.proofs.Forwarded.{found-mapped}
 use Rattle.sctp_serial.specs.DataChunks.{is_on}
 
@@ -38,24 +42,30 @@ found-number : (s : ℕ) (ls : List InboundStream) (x : InboundStream) → find 
 found-number s [] x e = cc
 found-number s (l ∷ ls) x e = by (number l == s) refl e (found-number s ls x)
   where
-    by : (b : Bool) → (number l == s) ≡ b → (if b then Some l else find (has_number s) ls) ≡ Some x → (find (has_number s) ls ≡ Some x → (number x == s) ≡ true) → (number x == s) ≡ true
+    by : (b : Bool) → (number l == s) ≡ b → (if b then Some l else find (has_number s) ls) ≡ Some x → (find (has_number s) ls ≡ Some x → (number x == s) ≡ true)
+        → (number x == s) ≡ true
     by true h e ih = let same : l ≡ x = cc in ap (λ y. number y == s) (sym same) ∙ h
     by false h e ih = ih e
 
 -- after a change of one stream, which keeps its number
-pub found-changed : (s st : ℕ) (f : InboundStream → InboundStream) → ((l : InboundStream) → (number l == s) ≡ true → number (f l) ≡ number l) → (ls : List InboundStream) → find (has_number st) (change_where (has_number s) f ls) ≡ option_map (λ l. if has_number s l then f l else l) (find (has_number st) ls)
+pub found-changed : (s st : ℕ) (f : InboundStream → InboundStream) → ((l : InboundStream) → (number l == s) ≡ true → number (f l) ≡ number l)
+    → (ls : List InboundStream)
+    → find (has_number st) (change_where (has_number s) f ls) ≡ option_map (λ l. if has_number s l then f l else l) (find (has_number st) ls)
 found-changed s st f keeps [] = refl
 found-changed s st f keeps (l ∷ ls) = by (number l == s) refl (number l == st) refl (found-changed s st f keeps ls)
   where
-    by : (b : Bool) → (number l == s) ≡ b → (c : Bool) → (number l == st) ≡ c → find (has_number st) (change_where (has_number s) f ls) ≡ option_map (λ l. if has_number s l then f l else l) (find (has_number st) ls)
-        → find (has_number st) ((if b then f l else l) ∷ change_where (has_number s) f ls) ≡ option_map (λ l. if has_number s l then f l else l) (if c then Some l else find (has_number st) ls)
+    by : (b : Bool) → (number l == s) ≡ b → (c : Bool) → (number l == st) ≡ c
+        → find (has_number st) (change_where (has_number s) f ls) ≡ option_map (λ l. if has_number s l then f l else l) (find (has_number st) ls)
+        → find (has_number st) ((if b then f l else l) ∷ change_where (has_number s) f ls) ≡ option_map (λ l. if has_number s l then f l else l)
+        (if c then Some l else find (has_number st) ls)
     by true h true g ih =
         ap (λ (n : ℕ). if n == st then Some (f l) else find (has_number st) (change_where (has_number s) f ls)) (keeps l h)
         ∙ ap (λ b. if b then Some (f l) else find (has_number st) (change_where (has_number s) f ls)) g ∙ ap (λ b. Some (if b then f l else l)) (sym h)
     by true h false g ih =
         ap (λ (n : ℕ). if n == st then Some (f l) else find (has_number st) (change_where (has_number s) f ls)) (keeps l h)
         ∙ ap (λ b. if b then Some (f l) else find (has_number st) (change_where (has_number s) f ls)) g ∙ ih
-    by false h true g ih = ap (λ b. if b then Some l else find (has_number st) (change_where (has_number s) f ls)) g ∙ ap (λ b. Some (if b then f l else l)) (sym h)
+    by false h true g ih = ap (λ b. if b then Some l else find (has_number st) (change_where (has_number s) f ls)) g
+        ∙ ap (λ b. Some (if b then f l else l)) (sym h)
     by false h false g ih = ap (λ b. if b then Some l else find (has_number st) (change_where (has_number s) f ls)) g ∙ ih
 
 -- ## What a stream holds
@@ -93,22 +103,39 @@ record Lightens (f : InboundStream → InboundStream) : Type 0 where
   orderly : (l : InboundStream) → is_orderly l.queue ≡ true → is_orderly (f l).queue ≡ true
 
 names-lighten : (ssn : ℕ) → Lightens (ssn_forwarded ssn)
-names-lighten ssn = record { number = λ l. refl; weighs = λ w l. weights.named w ssn l.queue; orderly = λ l h. let p = orderly-both l.queue h in and _ _ p.0 (named-unmixed l.queue.si ssn l.queue.held p.1) }
+names-lighten ssn = record {
+  number = λ l. refl;
+  weighs = λ w l. weights.named w ssn l.queue;
+  orderly = λ l h. let p = orderly-both l.queue h in and _ _ p.0 (named-unmixed l.queue.si ssn l.queue.held p.1);
+}
 
 unassembled-lightens : (tsn : ℕ) → Lightens (unassembled_forwarded tsn)
-unassembled-lightens tsn = record { number = λ l. refl; weighs = λ w l. weights.unassembled w tsn l.queue; orderly = λ l h. let p = orderly-both l.queue h in and _ _ p.0 (unassembled-unmixed l.queue.si tsn l.queue.held p.1) }
+unassembled-lightens tsn = record {
+  number = λ l. refl;
+  weighs = λ w l. weights.unassembled w tsn l.queue;
+  orderly = λ l h. let p = orderly-both l.queue h in and _ _ p.0 (unassembled-unmixed l.queue.si tsn l.queue.held p.1);
+}
 
 incomplete-lightens : (tsn : ℕ) → Lightens (incomplete_forwarded tsn)
-incomplete-lightens tsn = record { number = λ l. refl; weighs = λ w l. weights.incomplete w tsn l.queue; orderly = λ l h. let p = orderly-both l.queue h in and _ _ p.0 (incomplete-unmixed l.queue.si tsn l.queue.held p.1) }
+incomplete-lightens tsn = record {
+  number = λ l. refl;
+  weighs = λ w l. weights.incomplete w tsn l.queue;
+  orderly = λ l h. let p = orderly-both l.queue h in and _ _ p.0 (incomplete-unmixed l.queue.si tsn l.queue.held p.1);
+}
 
 reset-lightens : (last : ℕ) → Lightens (stream_reset last)
-reset-lightens last = record { number = λ l. refl; weighs = λ w l. weights.reset w last l.queue; orderly = λ l h. let p = orderly-both l.queue h in and _ _ (reset-complete last l.queue.held p.0) (reset-unmixed l.queue.si last l.queue.held p.1) }
+reset-lightens last = record {
+  number = λ l. refl;
+  weighs = λ w l. weights.reset w last l.queue;
+  orderly = λ l h. let p = orderly-both l.queue h in and _ _ (reset-complete last l.queue.held p.0) (reset-unmixed l.queue.si last l.queue.held p.1);
+}
 
 lighter : (f : InboundStream → InboundStream) (o : Option InboundStream) → Lightens f → IsNoMore o (option_map f o)
 lighter f None h = same-held None
 lighter f (Some l) h = record { weighs = λ w. h.weighs w l; orderly = λ t. h.orderly l t }
 
-lighter-one : (s : ℕ) (f : InboundStream → InboundStream) (o : Option InboundStream) → Lightens f → IsNoMore o (option_map (λ l. if has_number s l then f l else l) o)
+lighter-one : (s : ℕ) (f : InboundStream → InboundStream) (o : Option InboundStream) → Lightens f
+    → IsNoMore o (option_map (λ l. if has_number s l then f l else l) o)
 lighter-one s f None h = same-held None
 lighter-one s f (Some l) h = by (has_number s l)
   where
@@ -116,12 +143,14 @@ lighter-one s f (Some l) h = by (has_number s l)
     by true = lighter f (Some l) h
     by false = same-held (Some l)
 
-named-less : (st : ℕ) (names : List ChunkForwardTsnStream) (ls : List InboundStream) → IsNoMore (find (has_number st) ls) (find (has_number st) (named_forwarded names ls))
+named-less : (st : ℕ) (names : List ChunkForwardTsnStream) (ls : List InboundStream)
+    → IsNoMore (find (has_number st) ls) (find (has_number st) (named_forwarded names ls))
 named-less st [] ls = same-held (find (has_number st) ls)
 named-less st (n ∷ ns) ls =
     let f = ssn_forwarded n.sequence in
     let h = names-lighten n.sequence in
-    let once = subst (IsNoMore (find (has_number st) ls)) (sym (found-changed n.identifier st f (λ l e. h.number l) ls)) (lighter-one n.identifier f (find (has_number st) ls) h) in
+    let once = subst (IsNoMore (find (has_number st) ls)) (sym (found-changed n.identifier st f (λ l e. h.number l) ls))
+    (lighter-one n.identifier f (find (has_number st) ls) h) in
     then-less _ _ _ once (named-less st ns (change_where (has_number n.identifier) f ls))
 
 followed-less : (st : ℕ) (f : ForwardTsn) (r : Reception) → IsNoMore (stream_of st r) (stream_of st (after_forward f r))
@@ -135,23 +164,29 @@ followed-less st f r = by (is_stale f r)
     by false =
         let ls = named_forwarded f.streams r.streams in
         then-less _ _ _ (named-less st f.streams r.streams)
-        (subst (IsNoMore (find (has_number st) ls)) (sym (found-mapped st (unassembled_forwarded f.new_cumulative_tsn) (λ l. refl) ls)) (lighter (unassembled_forwarded f.new_cumulative_tsn) (find (has_number st) ls) (unassembled-lightens f.new_cumulative_tsn)))
+        (subst (IsNoMore (find (has_number st) ls)) (sym (found-mapped st (unassembled_forwarded f.new_cumulative_tsn) (λ l. refl) ls))
+        (lighter (unassembled_forwarded f.new_cumulative_tsn) (find (has_number st) ls) (unassembled-lightens f.new_cumulative_tsn)))
 
 skipped-less : (st : ℕ) (f : ForwardTsn) (r : Reception) → IsNoMore (stream_of st r) (stream_of st (after_forward_tsn f r))
 skipped-less st f r = by (is_stale f r) (followed-less st f r)
   where
-    by : (b : Bool) → IsNoMore (stream_of st r) (stream_of st (after_forward f r)) → IsNoMore (stream_of st r) (stream_of st (if b then r else without_incomplete f.new_cumulative_tsn (after_forward f r)))
+    by : (b : Bool) → IsNoMore (stream_of st r) (stream_of st (after_forward f r))
+        → IsNoMore (stream_of st r) (stream_of st (if b then r else without_incomplete f.new_cumulative_tsn (after_forward f r)))
     by true less = same-held (stream_of st r)
     by false less =
         let ls = (after_forward f r).streams in
         then-less _ _ _ less
-        (subst (IsNoMore (find (has_number st) ls)) (sym (found-mapped st (incomplete_forwarded f.new_cumulative_tsn) (λ l. refl) ls)) (lighter (incomplete_forwarded f.new_cumulative_tsn) (find (has_number st) ls) (incomplete-lightens f.new_cumulative_tsn)))
+        (subst (IsNoMore (find (has_number st) ls)) (sym (found-mapped st (incomplete_forwarded f.new_cumulative_tsn) (λ l. refl) ls))
+        (lighter (incomplete_forwarded f.new_cumulative_tsn) (find (has_number st) ls) (incomplete-lightens f.new_cumulative_tsn)))
 
-reset-less : (st s last : ℕ) (ls : List InboundStream) → IsNoMore (find (has_number st) ls) (find (has_number st) (change_where (has_number s) (stream_reset last) ls))
-reset-less st s last ls = subst (IsNoMore (find (has_number st) ls)) (sym (found-changed s st (stream_reset last) (λ l e. refl) ls)) (lighter-one s (stream_reset last) (find (has_number st) ls) (reset-lightens last))
+reset-less : (st s last : ℕ) (ls : List InboundStream)
+    → IsNoMore (find (has_number st) ls) (find (has_number st) (change_where (has_number s) (stream_reset last) ls))
+reset-less st s last ls = subst (IsNoMore (find (has_number st) ls)) (sym (found-changed s st (stream_reset last) (λ l e. refl) ls))
+    (lighter-one s (stream_reset last) (find (has_number st) ls) (reset-lightens last))
 
 opened-less : (st s max : ℕ) (ls : List InboundStream) → IsNoMore (find (has_number st) ls) (find (has_number st) (ls ++ new_stream s max ∷ []))
-opened-less st s max ls = subst (IsNoMore (find (has_number st) ls)) (sym (find-append (has_number st) ls (new_stream s max ∷ []))) (by (find (has_number st) ls) (s == st))
+opened-less st s max ls =
+    subst (IsNoMore (find (has_number st) ls)) (sym (find-append (has_number st) ls (new_stream s max ∷ []))) (by (find (has_number st) ls) (s == st))
   where
     by : (o : Option InboundStream) (b : Bool) → IsNoMore o (option_or o (if b then Some (new_stream s max) else None))
     by None true = record { weighs = λ w. omega arith; orderly = λ h. refl }
@@ -174,11 +209,13 @@ closed-less st s (l ∷ ls) = by (number l == s) refl (number l == st) refl (clo
     gone : IsNoMore (Some l) None
     gone = record { weighs = λ w. omega arith; orderly = λ h. refl }
 
-    by : (b : Bool) → (number l == s) ≡ b → (c : Bool) → (number l == st) ≡ c → IsNoMore (find (has_number st) ls) (find (has_number st) (filter (λ l. not (has_number s l)) ls))
-        → IsNoMore (if c then Some l else find (has_number st) ls) (find (has_number st) (if not b then l ∷ filter (λ l. not (has_number s l)) ls else filter (λ l. not (has_number s l)) ls))
+    by : (b : Bool) → (number l == s) ≡ b → (c : Bool) → (number l == st) ≡ c → IsNoMore (find (has_number st) ls)
+        (find (has_number st) (filter (λ l. not (has_number s l)) ls)) → IsNoMore (if c then Some l else find (has_number st) ls)
+        (find (has_number st) (if not b then l ∷ filter (λ l. not (has_number s l)) ls else filter (λ l. not (has_number s l)) ls))
     by true h true g ih =
         let same : st ≡ s = sym (same-is (number l) st g) ∙ same-is (number l) s h in
-        subst (λ n. IsNoMore (Some l) (find (has_number n) (filter (λ l. not (has_number s l)) ls))) (sym same) (subst (IsNoMore (Some l)) (sym (none-left s ls)) gone)
+        subst (λ n. IsNoMore (Some l) (find (has_number n) (filter (λ l. not (has_number s l)) ls))) (sym same)
+        (subst (IsNoMore (Some l)) (sym (none-left s ls)) gone)
     by true h false g ih = ih
     by false h true g ih =
         subst (λ b. IsNoMore (Some l) (if b then Some l else find (has_number st) (filter (λ l. not (has_number s l)) ls))) (sym g) (same-held (Some l))
@@ -197,7 +234,8 @@ record IsValid (s : Stand) : Type 0 where
   one : AreOfOneMessage s
 
 -- a call by which no stream holds more, no chunk is taken and none is read
-quiet : (old new : Stand) → IsValid old → new.accepted ≡ old.accepted → new.read ≡ old.read → ((st : ℕ) → IsNoMore (stream_of st old.receiver) (stream_of st new.receiver)) → IsValid new
+quiet : (old new : Stand) → IsValid old → new.accepted ≡ old.accepted → new.read ≡ old.read
+    → ((st : ℕ) → IsNoMore (stream_of st old.receiver) (stream_of st new.receiver)) → IsValid new
 quiet old new s a r less = record {
   holds = λ st. record {
     weighs = λ w.
@@ -214,7 +252,8 @@ quiet old new s a r less = record {
 
 -- ## A chunk is taken
 
-pub taken-more : (w : ChunkPayloadData → ℕ) (st : ℕ) (c : ChunkPayloadData) (cs : List ChunkPayloadData) (b : Bool) → is_on st c ≡ b → sum_by w (filter (is_on st) (c ∷ cs)) ≡ (if b then w c else 0) + sum_by w (filter (is_on st) cs)
+pub taken-more : (w : ChunkPayloadData → ℕ) (st : ℕ) (c : ChunkPayloadData) (cs : List ChunkPayloadData) (b : Bool) → is_on st c ≡ b
+    → sum_by w (filter (is_on st) (c ∷ cs)) ≡ (if b then w c else 0) + sum_by w (filter (is_on st) cs)
 taken-more w st c cs b e = ap (λ t. sum_by w (if t then c ∷ filter (is_on st) cs else filter (is_on st) cs)) e ∙ by b
   where
     by : (b : Bool) → sum_by w (if b then c ∷ filter (is_on st) cs else filter (is_on st) cs) ≡ (if b then w c else 0) + sum_by w (filter (is_on st) cs)
@@ -230,7 +269,8 @@ no-less : (c : ChunkPayloadData) (b : Bool) (o : Option InboundStream) → IsMor
 no-less c true o = record { weighs = λ w. omega arith; orderly = λ h. h }
 no-less c false o = record { weighs = λ w. omega arith; orderly = λ h. h }
 
-pushed-orderly : (c : ChunkPayloadData) (told : Bool) (old new : ReassemblyState) → is_on old.si c ≡ true → Pushes c told old new → is_orderly old ≡ true → is_orderly new ≡ true
+pushed-orderly : (c : ChunkPayloadData) (told : Bool) (old new : ReassemblyState) → is_on old.si c ≡ true → Pushes c told old new → is_orderly old ≡ true
+    → is_orderly new ≡ true
 pushed-orderly c told old new on p h =
     let s = orderly-both old h in
     and _ _ (pushed-complete c told old new p s.0) (ap (λ n. is_unmixed n new.held) (pushed-number c told old new p) ∙ pushed-unmixed c told old new on p s.1)
@@ -243,7 +283,8 @@ module _ (c : ChunkPayloadData) (told : Bool) (old new : Reception) (a : Accepts
   on-stream = eq-eqb sid (number a.stream) (sym (same-is (number a.stream) sid (found-number sid old.streams a.stream a.found)))
 
   keeps : (l : InboundStream) → (number l == sid) ≡ true → a.queue.si ≡ number l
-  keeps l e = pushed-number c told a.stream.queue a.queue a.pushed ∙ same-is (number a.stream) sid (found-number sid old.streams a.stream a.found) ∙ sym (same-is (number l) sid e)
+  keeps l e = pushed-number c told a.stream.queue a.queue a.pushed ∙ same-is (number a.stream) sid (found-number sid old.streams a.stream a.found)
+      ∙ sym (same-is (number l) sid e)
 
   now : stream_of st new ≡ option_map (λ l. if has_number sid l then with_queue a.queue l else l) (stream_of st old)
   now = ap (λ (r : Reception). stream_of st r) a.after ∙ found-changed sid st (with_queue a.queue) keeps old.streams
@@ -261,14 +302,16 @@ module _ (c : ChunkPayloadData) (told : Bool) (old new : Reception) (a : Accepts
           let on : is_on st c ≡ true = eq-eqb sid st (sym same) in
           subst (λ b. IsMoreBy c b (Some l) (Some (with_queue a.queue l))) (sym on)
           (record {
-            weighs = λ w. let p = weights.pushed w c told a.stream.queue a.queue a.pushed in let q = ap (λ (x : InboundStream). weight w x.queue.held) is in omega arith;
+            weighs = λ w. let p = weights.pushed w c told a.stream.queue a.queue a.pushed in let q = ap (λ (x : InboundStream). weight w x.queue.held) is in
+                omega arith;
             orderly = λ t. pushed-orderly c told a.stream.queue a.queue on-stream a.pushed (ap (λ (x : InboundStream). is_orderly x.queue) (sym is) ∙ t);
           })
 
   more : IsMoreBy c (is_on st c) (stream_of st old) (stream_of st new)
   more = subst (IsMoreBy c (is_on st c) (stream_of st old)) (sym now) (at (stream_of st old) refl)
 
-taken-valid : (c : ChunkPayloadData) (told : Bool) (old new : Stand) → IsValid old → Accepts c told old.receiver new.receiver → new.accepted ≡ c ∷ old.accepted → new.read ≡ old.read → IsValid new
+taken-valid : (c : ChunkPayloadData) (told : Bool) (old new : Stand) → IsValid old → Accepts c told old.receiver new.receiver → new.accepted ≡ c ∷ old.accepted
+    → new.read ≡ old.read → IsValid new
 taken-valid c told old new s a e r = record {
   holds = λ st. record {
     weighs = λ w.
@@ -286,7 +329,8 @@ taken-valid c told old new s a e r = record {
 
 -- ## A message is read
 
-pub read-more : (w : ChunkPayloadData → ℕ) (st s : ℕ) (m : Option ChunkSet) (ms : List Message) → sum_by w (fragments_read st (with_message s m ms)) ≡ (if s == st then message_weight w m else 0) + sum_by w (fragments_read st ms)
+pub read-more : (w : ChunkPayloadData → ℕ) (st s : ℕ) (m : Option ChunkSet) (ms : List Message)
+    → sum_by w (fragments_read st (with_message s m ms)) ≡ (if s == st then message_weight w m else 0) + sum_by w (fragments_read st ms)
 read-more w st s None ms = by (s == st)
   where
     by : (b : Bool) → sum_by w (fragments_read st ms) ≡ (if b then 0 else 0) + sum_by w (fragments_read st ms)
@@ -294,7 +338,8 @@ read-more w st s None ms = by (s == st)
     by false = omega arith
 read-more w st s (Some set) ms = by (s == st)
   where
-    by : (b : Bool) → sum_by w (if b then set.chunks ++ fragments_read st ms else fragments_read st ms) ≡ (if b then sum_by w set.chunks else 0) + sum_by w (fragments_read st ms)
+    by : (b : Bool) → sum_by w (if b then set.chunks ++ fragments_read st ms else fragments_read st ms)
+        ≡ (if b then sum_by w set.chunks else 0) + sum_by w (fragments_read st ms)
     by true = sum_by-append w set.chunks (fragments_read st ms)
     by false = omega arith
 
@@ -304,28 +349,37 @@ record IsLessBy (b : Bool) (m : Option ChunkSet) (old new : Option InboundStream
   orderly : held_orderly old ≡ true → held_orderly new ≡ true
 
 module _ (s st : ℕ) (r : Reception) where
-  here : (o : Option InboundStream) → stream_of st r ≡ o → s ≡ st → IsLessBy true (message_of o) o (option_map (λ l. if has_number s l then stream_read l else l) o)
+  here : (o : Option InboundStream) → stream_of st r ≡ o → s ≡ st
+      → IsLessBy true (message_of o) o (option_map (λ l. if has_number s l then stream_read l else l) o)
   here None e same = record { weighs = λ w. omega arith; orderly = λ h. h }
   here (Some l) e same =
       let on : has_number s l ≡ true = ap (λ n. number l == n) same ∙ found-number st r.streams l e in
       subst (λ b. IsLessBy true (message_read l.queue.held) (Some l) (Some (if b then stream_read l else l))) (sym on)
-      (record { weighs = λ w. let h = weights.read w l.queue.held in omega arith; orderly = λ h. let p = orderly-both l.queue h in and _ _ (rest-complete l.queue.held p.0) (rest-unmixed l.queue.si l.queue.held p.1) })
+      (record {
+        weighs = λ w. let h = weights.read w l.queue.held in omega arith;
+        orderly = λ h. let p = orderly-both l.queue h in and _ _ (rest-complete l.queue.held p.0) (rest-unmixed l.queue.si l.queue.held p.1);
+      })
 
-  elsewhere : (m : Option ChunkSet) (o : Option InboundStream) → stream_of st r ≡ o → (s == st) ≡ false → IsLessBy false m o (option_map (λ l. if has_number s l then stream_read l else l) o)
+  elsewhere : (m : Option ChunkSet) (o : Option InboundStream) → stream_of st r ≡ o → (s == st) ≡ false
+      → IsLessBy false m o (option_map (λ l. if has_number s l then stream_read l else l) o)
   elsewhere m None e differ = record { weighs = λ w. omega arith; orderly = λ h. h }
   elsewhere m (Some l) e differ =
-      let off : has_number s l ≡ false = fails (has_number s l) (λ t. not_both (sym differ ∙ eq-eqb s st (sym (same-is (number l) s t) ∙ same-is (number l) st (found-number st r.streams l e)))) in
+      let off : has_number s l ≡ false = fails (has_number s l)
+      (λ t. not_both (sym differ ∙ eq-eqb s st (sym (same-is (number l) s t) ∙ same-is (number l) st (found-number st r.streams l e)))) in
       subst (λ b. IsLessBy false m (Some l) (Some (if b then stream_read l else l))) (sym off)
       (record { weighs = λ w. omega arith; orderly = λ h. h })
 
-  either : (b : Bool) → (s == st) ≡ b → IsLessBy b (message_on s r) (stream_of st r) (option_map (λ l. if has_number s l then stream_read l else l) (stream_of st r))
+  either : (b : Bool) → (s == st) ≡ b
+      → IsLessBy b (message_on s r) (stream_of st r) (option_map (λ l. if has_number s l then stream_read l else l) (stream_of st r))
   either true e =
       let same = same-is s st e in
-      subst (λ m. IsLessBy true m (stream_of st r) (option_map (λ l. if has_number s l then stream_read l else l) (stream_of st r))) (ap (λ n. message_of (stream_of n r)) (sym same)) (here (stream_of st r) refl same)
+      subst (λ m. IsLessBy true m (stream_of st r) (option_map (λ l. if has_number s l then stream_read l else l) (stream_of st r)))
+      (ap (λ n. message_of (stream_of n r)) (sym same)) (here (stream_of st r) refl same)
   either false e = elsewhere (message_on s r) (stream_of st r) refl e
 
   read-less : IsLessBy (s == st) (message_on s r) (stream_of st r) (stream_of st (after_read s r))
-  read-less = subst (IsLessBy (s == st) (message_on s r) (stream_of st r)) (sym (found-changed s st stream_read (λ l e. refl) r.streams)) (either (s == st) refl)
+  read-less =
+      subst (IsLessBy (s == st) (message_on s r) (stream_of st r)) (sym (found-changed s st stream_read (λ l e. refl) r.streams)) (either (s == st) refl)
 
 on-complete : (s : ℕ) (r : Reception) → held_orderly (stream_of s r) ≡ true → message_complete (message_on s r) ≡ true
 on-complete s r h = by (stream_of s r) h
@@ -341,15 +395,18 @@ on-one s r h = by (stream_of s r) h
     by None h = refl
     by (Some l) h = read-one l.queue.si l.queue.held (orderly-both l.queue h).1
 
-with-complete : (s : ℕ) (m : Option ChunkSet) (ms : List Message) → message_complete m ≡ true → list_all (λ x. is_complete x.fragments) ms ≡ true → list_all (λ x. is_complete x.fragments) (with_message s m ms) ≡ true
+with-complete : (s : ℕ) (m : Option ChunkSet) (ms : List Message) → message_complete m ≡ true → list_all (λ x. is_complete x.fragments) ms ≡ true
+    → list_all (λ x. is_complete x.fragments) (with_message s m ms) ≡ true
 with-complete s None ms h k = k
 with-complete s (Some set) ms h k = and _ _ h k
 
-with-one : (s : ℕ) (m : Option ChunkSet) (ms : List Message) → message_one m ≡ true → list_all (λ x. is_one_message x.fragments) ms ≡ true → list_all (λ x. is_one_message x.fragments) (with_message s m ms) ≡ true
+with-one : (s : ℕ) (m : Option ChunkSet) (ms : List Message) → message_one m ≡ true → list_all (λ x. is_one_message x.fragments) ms ≡ true
+    → list_all (λ x. is_one_message x.fragments) (with_message s m ms) ≡ true
 with-one s None ms h k = k
 with-one s (Some set) ms h k = and _ _ h k
 
-read-valid : (stream : ℕ) (old new : Stand) → IsValid old → new.receiver ≡ after_read stream old.receiver → new.accepted ≡ old.accepted → new.read ≡ with_message stream (message_on stream old.receiver) old.read → IsValid new
+read-valid : (stream : ℕ) (old new : Stand) → IsValid old → new.receiver ≡ after_read stream old.receiver → new.accepted ≡ old.accepted
+    → new.read ≡ with_message stream (message_on stream old.receiver) old.read → IsValid new
 read-valid stream old new s is a r = record {
   holds = λ st. record {
     weighs = λ w.
@@ -362,15 +419,18 @@ read-valid stream old new s is a r = record {
         omega arith;
     orderly = ap (λ (x : Reception). held_orderly (stream_of st x)) is ∙ (read-less stream st old.receiver).orderly (s.holds st).orderly;
   };
-  read = ap (λ ms. list_all (λ m. is_complete m.fragments) ms) r ∙ with-complete stream (message_on stream old.receiver) old.read (on-complete stream old.receiver (s.holds stream).orderly) s.read;
-  one = ap (λ ms. list_all (λ m. is_one_message m.fragments) ms) r ∙ with-one stream (message_on stream old.receiver) old.read (on-one stream old.receiver (s.holds stream).orderly) s.one;
+  read = ap (λ ms. list_all (λ m. is_complete m.fragments) ms) r
+      ∙ with-complete stream (message_on stream old.receiver) old.read (on-complete stream old.receiver (s.holds stream).orderly) s.read;
+  one = ap (λ ms. list_all (λ m. is_one_message m.fragments) ms) r
+      ∙ with-one stream (message_on stream old.receiver) old.read (on-one stream old.receiver (s.holds stream).orderly) s.one;
 }
 
 -- ## Every run
 
 -- the streams stay
 still : (old new : Stand) → IsValid old → new.receiver.streams ≡ old.receiver.streams → new.accepted ≡ old.accepted → new.read ≡ old.read → IsValid new
-still old new s streams a r = quiet old new s a r (λ st. subst (λ ls. IsNoMore (stream_of st old.receiver) (find (has_number st) ls)) (sym streams) (same-held (stream_of st old.receiver)))
+still old new s streams a r = quiet old new s a r
+    (λ st. subst (λ ls. IsNoMore (stream_of st old.receiver) (find (has_number st) ls)) (sym streams) (same-held (stream_of st old.receiver)))
 
 discard-streams : (tsn : ℕ) (r : Reception) → (after_discard tsn r).streams ≡ r.streams
 discard-streams tsn r = by (has_come tsn (filter_of r))
@@ -380,17 +440,23 @@ discard-streams tsn r = by (has_come tsn (filter_of r))
     by false = refl
 
 step : (c : Call) (old new : Stand) → IsValid old → Follows c old new → IsValid new
-step (opens stream) old new s f = quiet old new s f.accepted f.read (λ st. subst (λ (r : Reception). IsNoMore (stream_of st old.receiver) (stream_of st r)) (sym f.receiver.1) (opened-less st stream old.receiver.max_message_size old.receiver.streams))
-step (closes stream) old new s f = quiet old new s f.accepted f.read (λ st. subst (λ (r : Reception). IsNoMore (stream_of st old.receiver) (stream_of st r)) (sym f.receiver) (closed-less st stream old.receiver.streams))
+step (opens stream) old new s f = quiet old new s f.accepted f.read (λ st. subst (λ (r : Reception). IsNoMore (stream_of st old.receiver) (stream_of st r))
+    (sym f.receiver.1) (opened-less st stream old.receiver.max_message_size old.receiver.streams))
+step (closes stream) old new s f = quiet old new s f.accepted f.read
+    (λ st. subst (λ (r : Reception). IsNoMore (stream_of st old.receiver) (stream_of st r)) (sym f.receiver) (closed-less st stream old.receiver.streams))
 step (takes c (New told)) old new s f = taken-valid c told old new s f.receiver f.accepted f.read
 step (takes c Repeat) old new s f = still old new s (ap (λ (r : Reception). r.streams) f.receiver) f.accepted f.read
 step (discards tsn) old new s f = still old new s (ap (λ (r : Reception). r.streams) f.receiver ∙ discard-streams tsn old.receiver) f.accepted f.read
 step (reports_within bytes) old new s f = still old new s (ap (λ (r : Reception). r.streams) f.receiver) f.accepted f.read
-step reports old new s f = quiet old new s f.accepted f.read (λ st. subst (λ (r : Reception). IsNoMore (stream_of st old.receiver) (stream_of st r)) (sym f.receiver) (same-held (stream_of st old.receiver)))
+step reports old new s f = quiet old new s f.accepted f.read
+    (λ st. subst (λ (r : Reception). IsNoMore (stream_of st old.receiver) (stream_of st r)) (sym f.receiver) (same-held (stream_of st old.receiver)))
 step (reads stream) old new s f = read-valid stream old new s f.receiver f.accepted f.read
-step (resets stream last) old new s f = quiet old new s f.accepted f.read (λ st. subst (λ (r : Reception). IsNoMore (stream_of st old.receiver) (stream_of st r)) (sym f.receiver) (reset-less st stream last old.receiver.streams))
-step (forwards g) old new s f = quiet old new s f.accepted f.read (λ st. subst (λ (r : Reception). IsNoMore (stream_of st old.receiver) (stream_of st r)) (sym f.receiver) (skipped-less st g old.receiver))
-step (forwards_by_names g) old new s f = quiet old new s f.accepted f.read (λ st. subst (λ (r : Reception). IsNoMore (stream_of st old.receiver) (stream_of st r)) (sym f.receiver) (followed-less st g old.receiver))
+step (resets stream last) old new s f = quiet old new s f.accepted f.read
+    (λ st. subst (λ (r : Reception). IsNoMore (stream_of st old.receiver) (stream_of st r)) (sym f.receiver) (reset-less st stream last old.receiver.streams))
+step (forwards g) old new s f = quiet old new s f.accepted f.read
+    (λ st. subst (λ (r : Reception). IsNoMore (stream_of st old.receiver) (stream_of st r)) (sym f.receiver) (skipped-less st g old.receiver))
+step (forwards_by_names g) old new s f = quiet old new s f.accepted f.read
+    (λ st. subst (λ (r : Reception). IsNoMore (stream_of st old.receiver) (stream_of st r)) (sym f.receiver) (followed-less st g old.receiver))
 
 run : (calls : List Call) (old new : Stand) → IsValid old → RunsTo old calls new → IsValid new
 run [] old new s e = subst IsValid (sym e) s

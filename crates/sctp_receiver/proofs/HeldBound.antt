@@ -1,5 +1,6 @@
 -- What a receiver with limits holds, in every run of calls of which none is refused.
-use Rattle.std.proofs.Common.{◌≡◌, ℕ, suc, ◌+◌, ◌*◌, ◌<◌, ◌≤◌, ◌^◌, Bool, true, false, List, [], ◌∷◌, ◌++◌, map, length, Option, Some, None, refl, ap, sym, ◌∙◌, inl, inr, arith, subst}
+use Rattle.std.proofs.Common.{◌≡◌, ℕ, suc, ◌+◌, ◌*◌, ◌<◌, ◌≤◌, ◌^◌, Bool, true, false, List, [], ◌∷◌, ◌++◌, map, length, Option, Some, None, refl, ap, sym, ◌∙◌}
+use Rattle.std.proofs.Common.{inl, inr, arith, subst}
 use Rattle.std.proofs.Math.Nat.{mul-le-mul_right, add-mul}
 use Rattle.std.specs.Prelude.{if◌then◌else◌, not, ⊤, ◌&&◌, nat_lt, nat_le, All}
 use Rattle.std.specs.List.{sum_by, filter}
@@ -20,8 +21,12 @@ use Rattle.sctp_receiver.specs.declared.receiver.refusal.ReceiverRefusal.{Receiv
 use Rattle.sctp_receiver.specs.declared.receiver.refusal.ReceiverRefusal.TheVariants.{TsnOpposite, TsnTooFar, WindowFull}
 use Rattle.sctp_receiver.specs.Inbound.{number, numbers_of, has_number, new_stream, with_queue, stream_read, named_forwarded, unassembled_forwarded}
 use Rattle.sctp_receiver.specs.Limits.{cost_of, held_cost, refusal_within, refusal_by}
-use Rattle.sctp_receiver.specs.Receiver.{Reception, filter_of, with_filter, Accepts, noted_by, repeat_tsn, new_refusal, stream_of, stream_refusal, data_refusal, discard_refusal, forward_refusal, arrival_of, after_discard, max_sack_entries, duplicates_told, sack_entries, after_sack_within, is_stale, follow_forward_tsn, after_forward}
-use Rattle.sctp_receiver.specs.ReceiverRuns.{Call, opens, closes, takes, discards, reports, reports_within, reads, resets, forwards, forwards_by_names, Stand, Makes, accepted_after, Follows, at_start, IsAnswered, IsUnrefused, RunsUnrefused, AfterEachRunWithin, HoldsFewChunks, CostsLittle, NotesFewDuplicates, KeepsFewTsns}
+use Rattle.sctp_receiver.specs.Receiver.{Reception, filter_of, with_filter, Accepts, noted_by, repeat_tsn, new_refusal, stream_of, stream_refusal, data_refusal}
+use Rattle.sctp_receiver.specs.Receiver.{discard_refusal, forward_refusal, arrival_of, after_discard, max_sack_entries, duplicates_told, sack_entries}
+use Rattle.sctp_receiver.specs.Receiver.{after_sack_within, is_stale, follow_forward_tsn, after_forward}
+use Rattle.sctp_receiver.specs.ReceiverRuns.{Call, opens, closes, takes, discards, reports, reports_within, reads, resets, forwards, forwards_by_names, Stand}
+use Rattle.sctp_receiver.specs.ReceiverRuns.{Makes, accepted_after, Follows, at_start, IsAnswered, IsUnrefused, RunsUnrefused, AfterEachRunWithin}
+use Rattle.sctp_receiver.specs.ReceiverRuns.{HoldsFewChunks, CostsLittle, NotesFewDuplicates, KeepsFewTsns}
 use Rattle.sctp_receiver.specs.Resets.{stream_reset}
 use Rattle.sctp_receiver.specs.Skips.{incomplete_forwarded, without_incomplete, after_forward_tsn}
 use Rattle.sctp_receiver.proofs.Inbounds.{stays-mapped, stays-changed}
@@ -30,18 +35,21 @@ use Rattle.sctp_receiver.proofs.DataEach.{takes-keeps}
 use Rattle.sctp_receiver.proofs.Forwarded.{followed-numbers}
 use Rattle.sctp_receiver.proofs.GapCounts.{IsAscending, far_in, few-beyond, past-highest, lies-beyond, next-with, next-skipped, reached-with, reached-skipped}
 use Rattle.sctp_receiver.proofs.Receptions.{after, read-numbers}
-use Rattle.sctp_receiver.proofs.StreamCosts.{IsCost, chunk_cost, chunks-cost, all-cost, are_apart, changed-cost, mapped-cost, named-cost, kept-cost, opened-cost, one-changed, kept-apart, more-apart}
+use Rattle.sctp_receiver.proofs.StreamCosts.{IsCost, chunk_cost, chunks-cost, all-cost, are_apart, changed-cost, mapped-cost, named-cost, kept-cost}
+use Rattle.sctp_receiver.proofs.StreamCosts.{opened-cost, one-changed, kept-apart, more-apart}
 
 -- ## Numbers
 
 -- where no more are missing, and no more is held
-no-more : (cost cost' w far far' n n' reach k : ℕ) → cost' ≤ cost → far' + n ≤ far + n' → cost + far * k ≤ w + (reach + n) * k → cost' + far' * k ≤ w + (reach + n') * k
+no-more : (cost cost' w far far' n n' reach k : ℕ) → cost' ≤ cost → far' + n ≤ far + n' → cost + far * k ≤ w + (reach + n) * k
+    → cost' + far' * k ≤ w + (reach + n') * k
 no-more cost cost' w far far' n n' reach k less narrower bound =
     let p = mul-le-mul_right k narrower in
     omega (arith, add-mul far' n k, add-mul far n' k, add-mul reach n k, add-mul reach n' k)
 
 -- where one that was missing came
-one-filled : (cost cost' w far far' n n' reach k : ℕ) → cost' ≤ cost + k → far' + (n + 1) ≤ far + n' → cost + far * k ≤ w + (reach + n) * k → cost' + far' * k ≤ w + (reach + n') * k
+one-filled : (cost cost' w far far' n n' reach k : ℕ) → cost' ≤ cost + k → far' + (n + 1) ≤ far + n' → cost + far * k ≤ w + (reach + n) * k
+    → cost' + far' * k ≤ w + (reach + n') * k
 one-filled cost cost' w far far' n n' reach k less narrower bound =
     let p = mul-le-mul_right k narrower in
     let one : 1 * k ≡ k = omega arith in
@@ -64,11 +72,14 @@ record IsWithin (l : Limits) (t : ℕ) (f : Filter) (ls : List InboundStream) : 
 within : (l : Limits) (t : ℕ) (f : Filter) (ls : List InboundStream) → refusal_within l t f ls ≡ None → IsWithin l t f ls
 within l t f ls e = by (nat_lt l.reach (distance f.cumulative_tsn t)) refl e
   where
-    by : (b : Bool) → nat_lt l.reach (distance f.cumulative_tsn t) ≡ b → (if b then Some TsnTooFar else (if comes_before (highest_tsn f) t && nat_le l.window (held_cost ls) then Some WindowFull else None)) ≡ None → IsWithin l t f ls
+    by : (b : Bool) → nat_lt l.reach (distance f.cumulative_tsn t) ≡ b
+        → (if b then Some TsnTooFar else (if comes_before (highest_tsn f) t && nat_le l.window (held_cost ls) then Some WindowFull else None)) ≡ None
+        → IsWithin l t f ls
     by true h e = cc
     by false h e = record {
       near = grind (arith, nat_tests, h);
-      unfilled = λ past. left (nat_le l.window (held_cost ls)) refl (subst (λ b. (if b && nat_le l.window (held_cost ls) then Some WindowFull else None) ≡ None) past e);
+      unfilled = λ past.
+          left (nat_le l.window (held_cost ls)) refl (subst (λ b. (if b && nat_le l.window (held_cost ls) then Some WindowFull else None) ≡ None) past e);
     }
       where
         left : (c : Bool) → nat_le l.window (held_cost ls) ≡ c → (if c then Some WindowFull else None) ≡ None → held_cost ls < l.window
@@ -80,7 +91,8 @@ record IsTaken (l : Limits) (t : ℕ) (r : Reception) : Type 0 where
   near : is_opposite t (filter_of r) ≡ false
   limits : IsWithin l t (filter_of r) r.streams
 
-new-taken : (l : Limits) (t : ℕ) (r : Reception) (rest : Option ReceiverRefusal) → r.limits ≡ Some l → (if is_opposite t (filter_of r) then Some TsnOpposite else option_or (new_refusal t r) rest) ≡ None → IsTaken l t r
+new-taken : (l : Limits) (t : ℕ) (r : Reception) (rest : Option ReceiverRefusal) → r.limits ≡ Some l
+    → (if is_opposite t (filter_of r) then Some TsnOpposite else option_or (new_refusal t r) rest) ≡ None → IsTaken l t r
 new-taken l t r rest some e = by (is_opposite t (filter_of r)) refl e
   where
     first : (o : Option ReceiverRefusal) → option_or o rest ≡ None → o ≡ None
@@ -89,7 +101,10 @@ new-taken l t r rest some e = by (is_opposite t (filter_of r)) refl e
 
     by : (b : Bool) → is_opposite t (filter_of r) ≡ b → (if b then Some TsnOpposite else option_or (new_refusal t r) rest) ≡ None → IsTaken l t r
     by true h e = cc
-    by false h e = record { near = h; limits = within l t (filter_of r) r.streams (ap (λ o. refusal_by o t (filter_of r) r.streams) (sym some) ∙ first (new_refusal t r) e) }
+    by false h e = record {
+      near = h;
+      limits = within l t (filter_of r) r.streams (ap (λ o. refusal_by o t (filter_of r) r.streams) (sym some) ∙ first (new_refusal t r) e);
+    }
 
 -- ## One call
 
@@ -117,7 +132,8 @@ module _ (m : InboundStream → ℕ) (fits : ChunkPayloadData → Type 0) (most 
       | inr below ↦ (next-with (filter_of r) t (far_in (filter_of r)) a small fresh taken.near below (omega arith)).ascending
     ]
 
-    new-bound : (cost' : ℕ) → cost' ≤ sum_by m r.streams + most → IsWithinLimits r → cost' + far_in next * most ≤ l.window + (l.reach + length next.beyond) * most
+    new-bound : (cost' : ℕ) → cost' ≤ sum_by m r.streams + most → IsWithinLimits r
+        → cost' + far_in next * most ≤ l.window + (l.reach + length next.beyond) * most
     new-bound cost' less bound = elim (cases_lt (far_in (filter_of r)) (distance r.cumulative_tsn t)) [
       | inl past ↦
           let near = taken.limits.near in
@@ -125,14 +141,17 @@ module _ (m : InboundStream → ℕ) (fits : ChunkPayloadData → Type 0) (most 
           let step = lies-beyond (filter_of r) t a small fresh taken.near in
           let left : held_cost r.streams < l.window = taken.limits.unfilled (past-highest (filter_of r) t a small step.near past) in
           let less-than = sum_by-le-sum_by m cost_of r.streams is.within in
-          one-past (sum_by m r.streams) cost' l.window (far_in next) (length r.beyond) (length next.beyond) l.reach most less (omega (arith, usize, left, less-than)) narrower
+          one-past (sum_by m r.streams) cost' l.window (far_in next) (length r.beyond)
+          (length next.beyond) l.reach most less (omega (arith, usize, left, less-than)) narrower
       | inr below ↦
           let narrower = (next-with (filter_of r) t (far_in (filter_of r)) a small fresh taken.near below (omega arith)).le in
-          one-filled (sum_by m r.streams) cost' l.window (far_in (filter_of r)) (far_in next) (length r.beyond) (length next.beyond) l.reach most less narrower bound
+          one-filled (sum_by m r.streams) cost' l.window (far_in (filter_of r)) (far_in next) (length r.beyond)
+          (length next.beyond) l.reach most less narrower bound
     ]
 
   -- a call by which no TSN comes
-  quiet : (r : Reception) (ls : List InboundStream) (cs : List ChunkPayloadData) → IsBounded r cs → are_apart (numbers_of ls) ≡ true → sum_by m ls ≤ sum_by m r.streams → IsBounded (record r { streams = ls }) cs
+  quiet : (r : Reception) (ls : List InboundStream) (cs : List ChunkPayloadData) → IsBounded r cs → are_apart (numbers_of ls) ≡ true
+      → sum_by m ls ≤ sum_by m r.streams → IsBounded (record r { streams = ls }) cs
   quiet r ls cs b apart less = record {
     limited = b.limited;
     ascending = record { small = b.ascending.small; rise = b.ascending.rise };
@@ -185,22 +204,26 @@ module _ (m : InboundStream → ℕ) (fits : ChunkPayloadData → Type 0) (most 
   chunk-taken : (c : ChunkPayloadData) (r : Reception) → r.limits ≡ Some l → has_come c.tsn (filter_of r) ≡ false → data_refusal c r ≡ None → IsTaken l c.tsn r
   chunk-taken c r some fresh e =
       new-taken l c.tsn r (stream_refusal c (stream_of c.stream_identifier r)) some
-      (subst (λ b. (if b then None else (if is_opposite c.tsn (filter_of r) then Some TsnOpposite else option_or (new_refusal c.tsn r) (stream_refusal c (stream_of c.stream_identifier r)))) ≡ None) fresh e)
+      (subst (λ b. (if b then None else (if is_opposite c.tsn (filter_of r) then Some TsnOpposite
+      else option_or (new_refusal c.tsn r) (stream_refusal c (stream_of c.stream_identifier r)))) ≡ None) fresh e)
 
-  accepts : (c : ChunkPayloadData) (told : Bool) (old new : Reception) (cs : List ChunkPayloadData) → IsBounded old cs → IsAnswered c (New told) old → Accepts c told old new → IsBounded new (c ∷ cs)
+  accepts : (c : ChunkPayloadData) (told : Bool) (old new : Reception) (cs : List ChunkPayloadData) → IsBounded old cs → IsAnswered c (New told) old
+      → Accepts c told old new → IsBounded new (c ∷ cs)
   accepts c told old new cs b answered a =
       let fresh = told-new c.tsn told old answered.answer in
       let taken = chunk-taken c old b.limited fresh answered.accepted in
       let ls = change_where (has_number c.stream_identifier) (with_queue a.queue) old.streams in
       let r' : Reception = with_filter (with_tsn c.tsn (filter_of old)) (record old { streams = ls }) in
       let ascending = new-ascending c.tsn old answered.fits b.ascending fresh taken in
-      let numbers : numbers_of ls ≡ numbers_of old.streams = ap (λ (r : Reception). numbers_of r.streams) (sym a.after) ∙ (takes-keeps c (New told) old new a).0 in
+      let numbers : numbers_of ls ≡ numbers_of old.streams = ap (λ (r : Reception). numbers_of r.streams) (sym a.after)
+      ∙ (takes-keeps c (New told) old new a).0 in
       let bounded : IsBounded r' (c ∷ cs) = record {
         limited = b.limited;
         ascending = record { small = ascending.small; rise = ascending.rise };
         apart = ap are_apart numbers ∙ b.apart;
         bound = λ fit.
-            let more = one-changed m c.stream_identifier most (with_queue a.queue) a.stream old.streams b.apart a.found (is.pushed c told a.stream a.queue (head c cs fit) a.pushed) in
+            let more = one-changed m c.stream_identifier most (with_queue a.queue) a.stream old.streams b.apart a.found
+            (is.pushed c told a.stream a.queue (head c cs fit) a.pushed) in
             new-bound c.tsn old answered.fits b.ascending fresh taken (sum_by m ls) more (b.bound (tail c cs fit));
         reached = reached-with (filter_of old) c.tsn l.reach b.ascending answered.fits fresh taken.near taken.limits.near b.reached;
         noted = b.noted;
@@ -212,7 +235,8 @@ module _ (m : InboundStream → ℕ) (fits : ChunkPayloadData → Type 0) (most 
   discarded : (t : ℕ) (r : Reception) (cs : List ChunkPayloadData) → IsBounded r cs → t < 2 ^ 32 → discard_refusal t r ≡ None → IsBounded (after_discard t r) cs
   discarded t r cs b small e = by (has_come t (filter_of r)) refl e
     where
-      by : (c : Bool) → has_come t (filter_of r) ≡ c → (if c then None else (if is_opposite t (filter_of r) then Some TsnOpposite else new_refusal t r)) ≡ None → IsBounded (if c then repeat_tsn t r else with_filter (with_tsn t (filter_of r)) r) cs
+      by : (c : Bool) → has_come t (filter_of r) ≡ c → (if c then None else (if is_opposite t (filter_of r) then Some TsnOpposite else new_refusal t r)) ≡ None
+          → IsBounded (if c then repeat_tsn t r else with_filter (with_tsn t (filter_of r)) r) cs
       by true h e = repeated t r cs b
       by false h e =
           let taken = new-taken l t r None b.limited (alone (is_opposite t (filter_of r)) e) in
@@ -226,13 +250,15 @@ module _ (m : InboundStream → ℕ) (fits : ChunkPayloadData → Type 0) (most 
             noted = b.noted;
           }
         where
-          alone : (c : Bool) → (if c then Some TsnOpposite else new_refusal t r) ≡ None → (if c then Some TsnOpposite else option_or (new_refusal t r) None) ≡ None
+          alone : (c : Bool) → (if c then Some TsnOpposite else new_refusal t r) ≡ None
+              → (if c then Some TsnOpposite else option_or (new_refusal t r) None) ≡ None
           alone true e = e
           alone false e = ap (λ o. option_or o None) e
 
   -- ## A FORWARD-TSN comes
 
-  forwarded : (g : ForwardTsn) (r : Reception) (cs : List ChunkPayloadData) → IsBounded r cs → g.new_cumulative_tsn < 2 ^ 32 → forward_refusal g r ≡ None → IsBounded (after_forward g r) cs
+  forwarded : (g : ForwardTsn) (r : Reception) (cs : List ChunkPayloadData) → IsBounded r cs → g.new_cumulative_tsn < 2 ^ 32 → forward_refusal g r ≡ None
+      → IsBounded (after_forward g r) cs
   forwarded g r cs b small e = by (is_stale g r) refl
     where
       near : (c : Bool) → (if c then Some TsnOpposite else None) ≡ None → c ≡ false
@@ -252,13 +278,16 @@ module _ (m : InboundStream → ℕ) (fits : ChunkPayloadData → Type 0) (most 
             limited = b.limited;
             ascending = record { small = next.ascending.small; rise = next.ascending.rise };
             apart = ap are_apart (followed-numbers g r) ∙ b.apart;
-            bound = λ fit. no-more (sum_by m r.streams) (sum_by m (follow_forward_tsn g r).streams) l.window (far_in (filter_of r)) (far_in (skipped_to t (filter_of r))) (length r.beyond) (length (skipped_to t (filter_of r)).beyond) l.reach most (omega (arith, named, less)) narrower (b.bound fit);
+            bound = λ fit. no-more (sum_by m r.streams) (sum_by m (follow_forward_tsn g r).streams) l.window (far_in (filter_of r))
+                (far_in (skipped_to t (filter_of r))) (length r.beyond)
+                (length (skipped_to t (filter_of r)).beyond) l.reach most (omega (arith, named, less)) narrower (b.bound fit);
             reached = reached-skipped (filter_of r) t l.reach b.ascending small past b.reached;
             noted = b.noted;
           }
 
   -- and what it leaves that can't become complete is discarded
-  skipped : (g : ForwardTsn) (r : Reception) (cs : List ChunkPayloadData) → IsBounded r cs → g.new_cumulative_tsn < 2 ^ 32 → forward_refusal g r ≡ None → IsBounded (after_forward_tsn g r) cs
+  skipped : (g : ForwardTsn) (r : Reception) (cs : List ChunkPayloadData) → IsBounded r cs → g.new_cumulative_tsn < 2 ^ 32 → forward_refusal g r ≡ None
+      → IsBounded (after_forward_tsn g r) cs
   skipped g r cs b small e = by (is_stale g r) (forwarded g r cs b small e)
     where
       by : (c : Bool) → IsBounded (after_forward g r) cs → IsBounded (if c then r else without_incomplete g.new_cumulative_tsn (after_forward g r)) cs
@@ -266,19 +295,24 @@ module _ (m : InboundStream → ℕ) (fits : ChunkPayloadData → Type 0) (most 
       by false h =
           let t = g.new_cumulative_tsn in
           let ls = (after_forward g r).streams in
-          quiet (after_forward g r) (map (incomplete_forwarded t) ls) cs h (ap are_apart (stays-mapped number (incomplete_forwarded t) (λ l. refl) ls) ∙ h.apart) (mapped-cost m (incomplete_forwarded t) (is.incomplete t) ls)
+          quiet (after_forward g r) (map (incomplete_forwarded t) ls) cs h (ap are_apart (stays-mapped number (incomplete_forwarded t) (λ l. refl) ls)
+          ∙ h.apart) (mapped-cost m (incomplete_forwarded t) (is.incomplete t) ls)
 
   -- ## Every run
 
-  step : (c : Call) (old new : Stand) → IsBounded old.receiver old.accepted → IsUnrefused c old.receiver → Follows c old new → IsBounded new.receiver new.accepted
+  step : (c : Call) (old new : Stand) → IsBounded old.receiver old.accepted → IsUnrefused c old.receiver → Follows c old new
+      → IsBounded new.receiver new.accepted
   step c old new b u f = subst (IsBounded new.receiver) (sym f.accepted) (by c u f.receiver)
     where
       by : (c : Call) → IsUnrefused c old.receiver → Makes c old.receiver new.receiver → IsBounded new.receiver (accepted_after c old.accepted)
       by (opens stream) u made = subst (λ r. IsBounded r old.accepted) (sym made.1)
-          (quiet old.receiver (old.receiver.streams ++ new_stream stream old.receiver.max_message_size ∷ []) old.accepted b (more-apart old.receiver.streams (new_stream stream old.receiver.max_message_size) b.apart made.0)
-          (let e = opened-cost m old.receiver.streams (new_stream stream old.receiver.max_message_size) (is.fresh stream old.receiver.max_message_size) in omega (arith, e)))
+          (quiet old.receiver (old.receiver.streams ++ new_stream stream old.receiver.max_message_size ∷ []) old.accepted b
+          (more-apart old.receiver.streams (new_stream stream old.receiver.max_message_size) b.apart made.0)
+          (let e = opened-cost m old.receiver.streams (new_stream stream old.receiver.max_message_size) (is.fresh stream old.receiver.max_message_size) in
+          omega (arith, e)))
       by (closes stream) u made = subst (λ r. IsBounded r old.accepted) (sym made)
-          (quiet old.receiver (filter (λ x. not (has_number stream x)) old.receiver.streams) old.accepted b (kept-apart (λ x. not (has_number stream x)) old.receiver.streams b.apart) (kept-cost m (λ x. not (has_number stream x)) old.receiver.streams))
+          (quiet old.receiver (filter (λ x. not (has_number stream x)) old.receiver.streams) old.accepted b
+          (kept-apart (λ x. not (has_number stream x)) old.receiver.streams b.apart) (kept-cost m (λ x. not (has_number stream x)) old.receiver.streams))
       by (takes c (New told)) u made = accepts c told old.receiver new.receiver old.accepted b u made
       by (takes c Repeat) u made = subst (λ r. IsBounded r old.accepted) (sym made) (repeated c.tsn old.receiver old.accepted b)
       by (discards tsn) u made = subst (λ r. IsBounded r old.accepted) (sym made) (discarded tsn old.receiver old.accepted b u.0 u.1)
@@ -287,9 +321,12 @@ module _ (m : InboundStream → ℕ) (fits : ChunkPayloadData → Type 0) (most 
           (duplicated old.receiver (after_sack_within bytes old.receiver).duplicates old.accepted b
           (let e = length-drop (duplicates_told (sack_entries bytes) old.receiver) old.receiver.duplicates in omega (arith, e, b.noted)))
       by (reads stream) u made = subst (λ r. IsBounded r old.accepted) (sym made)
-          (quiet old.receiver (change_where (has_number stream) stream_read old.receiver.streams) old.accepted b (ap are_apart (read-numbers stream old.receiver) ∙ b.apart) (changed-cost m (has_number stream) stream_read is.read old.receiver.streams))
+          (quiet old.receiver (change_where (has_number stream) stream_read old.receiver.streams) old.accepted b
+          (ap are_apart (read-numbers stream old.receiver) ∙ b.apart) (changed-cost m (has_number stream) stream_read is.read old.receiver.streams))
       by (resets stream last) u made = subst (λ r. IsBounded r old.accepted) (sym made)
-          (quiet old.receiver (change_where (has_number stream) (stream_reset last) old.receiver.streams) old.accepted b (ap are_apart (stays-changed number (stream_reset last) (λ x. refl) (has_number stream) old.receiver.streams) ∙ b.apart) (changed-cost m (has_number stream) (stream_reset last) (is.reset last) old.receiver.streams))
+          (quiet old.receiver (change_where (has_number stream) (stream_reset last) old.receiver.streams) old.accepted b
+          (ap are_apart (stays-changed number (stream_reset last) (λ x. refl) (has_number stream) old.receiver.streams)
+          ∙ b.apart) (changed-cost m (has_number stream) (stream_reset last) (is.reset last) old.receiver.streams))
       by (forwards g) u made = subst (λ r. IsBounded r old.accepted) (sym made) (skipped g old.receiver old.accepted b u.0 u.1)
       by (forwards_by_names g) u made = subst (λ r. IsBounded r old.accepted) (sym made) (forwarded g old.receiver old.accepted b u.0 u.1)
 
@@ -323,7 +360,8 @@ module _ (m : InboundStream → ℕ) (fits : ChunkPayloadData → Type 0) (most 
   duplicates tsn max calls s r = (after-run tsn max calls s r).noted
 
   -- what is held alone
-  pub held : (tsn max : ℕ) (calls : List Call) (s : Stand) → RunsUnrefused (at_start tsn max (Some l)) calls s → All fits s.accepted → sum_by m s.receiver.streams ≤ l.window + l.reach * most
+  pub held : (tsn max : ℕ) (calls : List Call) (s : Stand) → RunsUnrefused (at_start tsn max (Some l)) calls s → All fits s.accepted
+      → sum_by m s.receiver.streams ≤ l.window + l.reach * most
   held tsn max calls s r fit =
       let b = after-run tsn max calls s r in
       let bound = b.bound fit in

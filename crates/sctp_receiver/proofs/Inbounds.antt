@@ -35,7 +35,8 @@ module _ {B : Type 0} (p : InboundStream → B) (f : InboundStream → InboundSt
       by false = refl
 
 -- a push on the stream at a place
-module _ (c : ChunkPayloadData) (ls : List InboundStream) (k : ℕ) (p : IsOnlyPlace c.stream_identifier (numbers_of ls) k) (x y : InboundStream) (at : x ≡ slice_index_or ls k x) (rest : y ≡ record x { queue = y.queue }) where
+module _ (c : ChunkPayloadData) (ls : List InboundStream) (k : ℕ) (p : IsOnlyPlace c.stream_identifier (numbers_of ls) k) (x y : InboundStream)
+    (at : x ≡ slice_index_or ls k x) (rest : y ≡ record x { queue = y.queue }) where
   pub number-stays : (r : Result (Bool × PushUndo) ReceiverRefusal) → IfOk r (λ put. Pushes c put.0 x.queue y.queue) → OnErr r (y ≡ x) → number y ≡ number x
   number-stays (Ok put) ok err = pushed-number c put.0 x.queue y.queue ok
   number-stays (Err e) ok err = ap number err
@@ -43,20 +44,29 @@ module _ (c : ChunkPayloadData) (ls : List InboundStream) (k : ℕ) (p : IsOnlyP
   is-found : find (has_number c.stream_identifier) ls ≡ Some x
   is-found = found number ls (numbers_of ls) refl c.stream_identifier k p x at
 
-  pub pushes : (r : Result (Bool × PushUndo) ReceiverRefusal) → IfOk r (λ put. Pushes c put.0 x.queue y.queue) → IfOk r (λ put. PushesOn c put.0 ls (slice_set ls k y))
-  pushes (Ok put) ok = record { stream = x; found = is-found; queue = y.queue; pushed = ok; after = changed number ls (numbers_of ls) refl c.stream_identifier k p (with_queue y.queue) x y at rest }
+  pub pushes : (r : Result (Bool × PushUndo) ReceiverRefusal) → IfOk r (λ put. Pushes c put.0 x.queue y.queue)
+      → IfOk r (λ put. PushesOn c put.0 ls (slice_set ls k y))
+  pushes (Ok put) ok = record {
+    stream = x;
+    found = is-found;
+    queue = y.queue;
+    pushed = ok;
+    after = changed number ls (numbers_of ls) refl c.stream_identifier k p (with_queue y.queue) x y at rest;
+  }
   pushes (Err e) ok = ok
 
   pub fits : is_too_large c x.queue ≡ false → stream_refusal c (find (has_number c.stream_identifier) ls) ≡ None
   fits small = ap (stream_refusal c) is-found ∙ ap (λ b. if b then Some MessageTooLarge else None) small
 
-  why : (e : ReceiverRefusal) → e ≡ (if is_too_large c x.queue then MessageTooLarge else OutOfMemory) → IsRefusedFor (stream_refusal c (find (has_number c.stream_identifier) ls)) e
+  why : (e : ReceiverRefusal) → e ≡ (if is_too_large c x.queue then MessageTooLarge else OutOfMemory)
+      → IsRefusedFor (stream_refusal c (find (has_number c.stream_identifier) ls)) e
   why e h = subst (λ o. IsRefusedFor o e) (sym (ap (stream_refusal c) is-found)) (by (is_too_large c x.queue) h)
     where
       by : (b : Bool) → e ≡ (if b then MessageTooLarge else OutOfMemory) → IsRefusedFor (if b then Some MessageTooLarge else None) e
       by true h = inr (ap Some (sym h))
       by false h = inl (h, refl)
 
-  pub refused : {T : Type 0} (r : Result T ReceiverRefusal) → IfErr r (λ e. e ≡ (if is_too_large c x.queue then MessageTooLarge else OutOfMemory)) → IfErr r (λ e. IsRefusedFor (stream_refusal c (find (has_number c.stream_identifier) ls)) e)
+  pub refused : {T : Type 0} (r : Result T ReceiverRefusal) → IfErr r (λ e. e ≡ (if is_too_large c x.queue then MessageTooLarge else OutOfMemory))
+      → IfErr r (λ e. IsRefusedFor (stream_refusal c (find (has_number c.stream_identifier) ls)) e)
   refused (Ok t) h = h
   refused (Err e) h = why e h

@@ -26,7 +26,9 @@ pub marks-inserted : (x : ℕ) (ts : List ℕ) → insert_before chunk_before (m
 marks-inserted x [] = refl
 marks-inserted x (t ∷ ts) = step (comes_before x t) (marks-inserted x ts)
   where
-    step : (b : Bool) → insert_before chunk_before (mark x) (map mark ts) ≡ map mark (insert_before comes_before x ts) → (if b then mark x ∷ mark t ∷ map mark ts else mark t ∷ insert_before chunk_before (mark x) (map mark ts)) ≡ map mark (if b then x ∷ t ∷ ts else t ∷ insert_before comes_before x ts)
+    step : (b : Bool) → insert_before chunk_before (mark x) (map mark ts) ≡ map mark (insert_before comes_before x ts)
+        → (if b then mark x ∷ mark t ∷ map mark ts else mark t ∷ insert_before chunk_before (mark x) (map mark ts))
+        ≡ map mark (if b then x ∷ t ∷ ts else t ∷ insert_before comes_before x ts)
     step true ih = refl
     step false ih = ap (λ cs. mark t ∷ cs) ih
 
@@ -34,7 +36,8 @@ pub marks-past : (n : ℕ) (ts : List ℕ) → past n (map mark ts) ≡ map mark
 marks-past n [] = refl
 marks-past n (t ∷ ts) = step (not (at_or_before t n)) (marks-past n ts)
   where
-    step : (b : Bool) → past n (map mark ts) ≡ map mark (filter (λ u. not (at_or_before u n)) ts) → (if b then mark t ∷ past n (map mark ts) else past n (map mark ts)) ≡ map mark (if b then t ∷ filter (λ u. not (at_or_before u n)) ts else filter (λ u. not (at_or_before u n)) ts)
+    step : (b : Bool) → past n (map mark ts) ≡ map mark (filter (λ u. not (at_or_before u n)) ts) → (if b then mark t ∷ past n (map mark ts)
+        else past n (map mark ts)) ≡ map mark (if b then t ∷ filter (λ u. not (at_or_before u n)) ts else filter (λ u. not (at_or_before u n)) ts)
     step true ih = ap (λ cs. mark t ∷ cs) ih
     step false ih = ih
 

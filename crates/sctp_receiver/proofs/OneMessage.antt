@@ -1,5 +1,6 @@
 -- The fragments that are held as one message are of one message.
-use Rattle.std.proofs.Common.{◌≡◌, ℕ, zero, suc, ◌+◌, ◌-◌, ◌<◌, ◌≤◌, Bool, true, false, List, [], ◌∷◌, ◌++◌, map, length, take, drop, Option, Some, None, refl, ap, sym, ◌∙◌, arith, get_or}
+use Rattle.std.proofs.Common.{◌≡◌, ℕ, zero, suc, ◌+◌, ◌-◌, ◌<◌, ◌≤◌, Bool, true, false, List, [], ◌∷◌, ◌++◌, map, length, take, drop, Option, Some, None, refl}
+use Rattle.std.proofs.Common.{ap, sym, ◌∙◌, arith, get_or}
 use Rattle.std.specs.Prelude.{if◌then◌else◌, not, ◌&&◌, ◌==◌}
 use Rattle.std.specs.List.{list_all, list_any, filter}
 use Rattle.std.proofs.lemmas.Bool.{eq-eqb}
@@ -14,7 +15,9 @@ use Rattle.sctp_data.specs.ChunkSet.{ChunkSet}
 use Rattle.sctp_serial.specs.DataChunks.{chunk_before, has_tsn, is_on}
 use Rattle.sctp_serial.specs.Runs.{IsRun, IsEarliestRun}
 use Rattle.sctp_reassembly.specs.reassembly_queue.Fragments.{has_ssn, with_chunk, new_set, sets_with, set_before}
-use Rattle.sctp_reassembly.specs.reassembly_queue.ReassemblyQueue.{Reassembly, ReassemblyState, set_of_run, TakesRun, BecomesComplete, is_readable, front_readable, without_first, after_read, message_among, message_read, rest_among, rest_read, is_passed, held_after_ordered_skip, held_after_unordered_skip}
+use Rattle.sctp_reassembly.specs.reassembly_queue.ReassemblyQueue.{Reassembly, ReassemblyState, set_of_run, TakesRun, BecomesComplete, is_readable}
+use Rattle.sctp_reassembly.specs.reassembly_queue.ReassemblyQueue.{front_readable, without_first, after_read, message_among, message_read, rest_among}
+use Rattle.sctp_reassembly.specs.reassembly_queue.ReassemblyQueue.{rest_read, is_passed, held_after_ordered_skip, held_after_unordered_skip}
 use Rattle.sctp_reassembly.specs.reassembly_queue.Resets.{is_old_message, rest_past, is_some_left, of_new_use, held_after_reset}
 use Rattle.sctp_reassembly.specs.reassembly_queue.Skips.{cannot_complete, held_after_incomplete_skip}
 use Rattle.sctp_receiver.specs.TsnFilter.{mark}
@@ -60,7 +63,8 @@ module _ {A : Type 0} (t : A → Bool) where
   back (suc n) [] all = refl
   back (suc n) (x ∷ xs) all = back n xs (both (t x) (list_all t xs) all).1
 
-  first-changed : (p : A → Bool) (f : A → A) → ((x : A) → p x ≡ true → t x ≡ true → t (f x) ≡ true) → (xs : List A) → list_all t xs ≡ true → list_all t (change_first p f xs) ≡ true
+  first-changed : (p : A → Bool) (f : A → A) → ((x : A) → p x ≡ true → t x ≡ true → t (f x) ≡ true) → (xs : List A) → list_all t xs ≡ true
+      → list_all t (change_first p f xs) ≡ true
   first-changed p f keeps [] all = refl
   first-changed p f keeps (x ∷ xs) all = by (p x) refl (first-changed p f keeps xs (both (t x) (list_all t xs) all).1)
     where
@@ -88,7 +92,8 @@ ordered-like si ssn x y hx hy =
     let a = both (is_on si y) (not y.unordered && (y.stream_sequence_number == ssn)) hy in
     let b = both (not y.unordered) (y.stream_sequence_number == ssn) a.1 in
     let stream : y.stream_identifier ≡ x.stream_identifier = same-is y.stream_identifier si a.0 ∙ sym (same-is x.stream_identifier si p.0) in
-    let number : y.stream_sequence_number ≡ x.stream_sequence_number = same-is y.stream_sequence_number ssn b.1 ∙ sym (same-is x.stream_sequence_number ssn q.1) in
+    let number : y.stream_sequence_number ≡ x.stream_sequence_number = same-is y.stream_sequence_number ssn b.1
+    ∙ sym (same-is x.stream_sequence_number ssn q.1) in
     and _ _ (eq-eqb y.stream_identifier x.stream_identifier stream)
     (ap (λ u. if u then y.unordered else not y.unordered && (y.stream_sequence_number == x.stream_sequence_number)) (negated x.unordered q.0)
     ∙ and _ _ b.0 (eq-eqb y.stream_sequence_number x.stream_sequence_number number))
@@ -109,16 +114,19 @@ ordered-message si ssn (x ∷ ys) all =
     and _ _ (all-by (is_ordered_part si ssn) (is_like x) (λ y hy. ordered-like si ssn x y h.0 hy) ys h.1)
     (ap (λ u. if u then list_all (λ y. not y.beginning_fragment) ys && none_ends_before x ys else true) (negated x.unordered kind))
 
-none-begin : (ys : List ChunkPayloadData) (d : ChunkPayloadData) → ((k : ℕ) → k < length ys → (get_or ys k d).beginning_fragment ≡ false) → list_all (λ y. not y.beginning_fragment) ys ≡ true
+none-begin : (ys : List ChunkPayloadData) (d : ChunkPayloadData) → ((k : ℕ) → k < length ys → (get_or ys k d).beginning_fragment ≡ false)
+    → list_all (λ y. not y.beginning_fragment) ys ≡ true
 none-begin [] d h = refl
 none-begin (y ∷ ys) d h = and _ _ (ap not (h 0 (omega arith))) (none-begin ys d (λ k lt. h (suc k) (omega (arith, lt))))
 
-none-end : (x : ChunkPayloadData) (ys : List ChunkPayloadData) (d : ChunkPayloadData) → ((k : ℕ) → k + 1 < length (x ∷ ys) → (get_or (x ∷ ys) k d).ending_fragment ≡ false) → none_ends_before x ys ≡ true
+none-end : (x : ChunkPayloadData) (ys : List ChunkPayloadData) (d : ChunkPayloadData)
+    → ((k : ℕ) → k + 1 < length (x ∷ ys) → (get_or (x ∷ ys) k d).ending_fragment ≡ false) → none_ends_before x ys ≡ true
 none-end x [] d h = refl
 none-end x (y ∷ ys) d h = and _ _ (ap not (h 0 (omega arith))) (none-end y ys d (λ k lt. h (suc k) (omega (arith, lt))))
 
 unordered-message : (si : ℕ) (run : List ChunkPayloadData) (d : ChunkPayloadData) → list_all (is_unordered_part si) run ≡ true
-    → ((k : ℕ) → 0 < k → k < length run → (get_or run k d).beginning_fragment ≡ false) → ((k : ℕ) → k + 1 < length run → (get_or run k d).ending_fragment ≡ false) → is_one_message run ≡ true
+    → ((k : ℕ) → 0 < k → k < length run → (get_or run k d).beginning_fragment ≡ false)
+    → ((k : ℕ) → k + 1 < length run → (get_or run k d).ending_fragment ≡ false) → is_one_message run ≡ true
 unordered-message si [] d all begins ends = refl
 unordered-message si (x ∷ ys) d all begins ends =
     let h = both (is_unordered_part si x) (list_all (is_unordered_part si) ys) all in
@@ -160,13 +168,15 @@ module _ (xs : List ChunkPayloadData) (first count : ℕ) (r : IsEarliestRun xs 
         begins = r.run.begins;
         no_other = λ j z a b. r.run.no_other j z a (omega (arith, b, less));
         rising = λ j z a b. r.run.rising j z a (omega (arith, b, less));
-        ends = λ z. ap (λ i. (get_or xs i z).ending_fragment) here ∙ ap (λ (c : ChunkPayloadData). c.ending_fragment) (get_or_default xs (first + k) z d inside) ∙ e;
+        ends = λ z. ap (λ i. (get_or xs i z).ending_fragment) here ∙ ap (λ (c : ChunkPayloadData). c.ending_fragment) (get_or_default xs (first + k) z d inside)
+            ∙ e;
       } in
       let most : first + count ≤ first + (k + 1) = r.earliest first (k + 1) shorter in
       omega (arith, most, less))
 
   run-message : (si : ℕ) → list_all (is_unordered_part si) xs ≡ true → is_one_message run ≡ true
-  run-message si all = unordered-message si run d (front (is_unordered_part si) count (drop first xs) (back (is_unordered_part si) first xs all)) inside-begins inside-ends
+  run-message si all =
+      unordered-message si run d (front (is_unordered_part si) count (drop first xs) (back (is_unordered_part si) first xs all)) inside-begins inside-ends
 
 -- ## What a stream holds
 
@@ -195,17 +205,21 @@ whole si q u = and _ _ u.ordered (and _ _ u.unordered u.unassembled)
 
 -- ## A fragment comes
 
-set-put : (si : ℕ) (x : ChunkPayloadData) → is_ordered_part si x.stream_sequence_number x ≡ true → (set : ChunkSet) → has_ssn x.stream_sequence_number set ≡ true → is_ordered_set si set ≡ true → is_ordered_set si (with_chunk x set) ≡ true
+set-put : (si : ℕ) (x : ChunkPayloadData) → is_ordered_part si x.stream_sequence_number x ≡ true → (set : ChunkSet)
+    → has_ssn x.stream_sequence_number set ≡ true → is_ordered_set si set ≡ true → is_ordered_set si (with_chunk x set) ≡ true
 set-put si x part set has all = by (list_any (has_tsn x.tsn) set.chunks)
   where
     by : (b : Bool) → list_all (is_ordered_part si set.ssn) (if b then set.chunks else insert_before chunk_before x set.chunks) ≡ true
     by true = all
-    by false = inserted (is_ordered_part si set.ssn) chunk_before x set.chunks (ap (λ n. is_ordered_part si n x) (same-is set.ssn x.stream_sequence_number has) ∙ part) all
+    by false = inserted (is_ordered_part si set.ssn) chunk_before x set.chunks (ap (λ n. is_ordered_part si n x) (same-is set.ssn x.stream_sequence_number has)
+        ∙ part) all
 
-put-ordered : (si : ℕ) (x : ChunkPayloadData) → is_ordered_part si x.stream_sequence_number x ≡ true → (sets : List ChunkSet) → list_all (is_ordered_set si) sets ≡ true → list_all (is_ordered_set si) (sets_with x sets) ≡ true
+put-ordered : (si : ℕ) (x : ChunkPayloadData) → is_ordered_part si x.stream_sequence_number x ≡ true → (sets : List ChunkSet)
+    → list_all (is_ordered_set si) sets ≡ true → list_all (is_ordered_set si) (sets_with x sets) ≡ true
 put-ordered si x part sets all = by (list_any (has_ssn x.stream_sequence_number) sets)
   where
-    by : (b : Bool) → list_all (is_ordered_set si) (if b then change_first (has_ssn x.stream_sequence_number) (with_chunk x) sets else insert_before set_before (new_set x) sets) ≡ true
+    by : (b : Bool) → list_all (is_ordered_set si)
+        (if b then change_first (has_ssn x.stream_sequence_number) (with_chunk x) sets else insert_before set_before (new_set x) sets) ≡ true
     by true = first-changed (is_ordered_set si) (has_ssn x.stream_sequence_number) (with_chunk x) (set-put si x part) sets all
     by false = inserted (is_ordered_set si) set_before (new_set x) sets (and _ _ part refl) all
 
@@ -213,16 +227,20 @@ run-set : (xs : List ChunkPayloadData) → (set_of_run xs).chunks ≡ xs
 run-set [] = refl
 run-set (x ∷ xs) = refl
 
-run-taken : (si : ℕ) (xs : List ChunkPayloadData) (old new : Reassembly) → TakesRun xs old new → IsUnmixed si old → list_all (is_unordered_part si) xs ≡ true → is_unmixed si new ≡ true
+run-taken : (si : ℕ) (xs : List ChunkPayloadData) (old new : Reassembly) → TakesRun xs old new → IsUnmixed si old → list_all (is_unordered_part si) xs ≡ true
+    → is_unmixed si new ≡ true
 run-taken si xs old new t u all =
     let run = take t.count (drop t.first xs) in
     let one : list_all is_message (set_of_run run ∷ []) ≡ true = and _ _ (ap is_one_message (run-set run) ∙ run-message xs t.first t.count t.run si all) refl in
-    let made : list_all is_message (old.unordered ++ set_of_run run ∷ []) ≡ true = list_all-append is_message old.unordered (set_of_run run ∷ []) ∙ and _ _ u.unordered one in
+    let made : list_all is_message (old.unordered ++ set_of_run run ∷ []) ≡ true = list_all-append is_message old.unordered (set_of_run run ∷ [])
+    ∙ and _ _ u.unordered one in
     let left : list_all (is_unordered_part si) (take t.first xs ++ drop (t.first + t.count) xs) ≡ true =
-    list_all-append (is_unordered_part si) (take t.first xs) (drop (t.first + t.count) xs) ∙ and _ _ (front (is_unordered_part si) t.first xs all) (back (is_unordered_part si) (t.first + t.count) xs all) in
+    list_all-append (is_unordered_part si) (take t.first xs) (drop (t.first + t.count) xs)
+    ∙ and _ _ (front (is_unordered_part si) t.first xs all) (back (is_unordered_part si) (t.first + t.count) xs all) in
     ap (is_unmixed si) t.moved ∙ and _ _ u.ordered (and _ _ made left)
 
-pub pushed-unmixed : (x : ChunkPayloadData) (complete : Bool) (old new : ReassemblyState) → is_on old.si x ≡ true → Pushes x complete old new → is_unmixed old.si old.held ≡ true → is_unmixed old.si new.held ≡ true
+pub pushed-unmixed : (x : ChunkPayloadData) (complete : Bool) (old new : ReassemblyState) → is_on old.si x ≡ true → Pushes x complete old new
+    → is_unmixed old.si old.held ≡ true → is_unmixed old.si new.held ≡ true
 pushed-unmixed x complete old new on p h = by x.unordered refl p
   where
     u : IsUnmixed old.si old.held
@@ -230,12 +248,14 @@ pushed-unmixed x complete old new on p h = by x.unordered refl p
 
     in-order : x.unordered ≡ false → (b : Bool) → is_unmixed old.si (if b then old.held else record old.held { ordered = sets_with x old.held.ordered }) ≡ true
     in-order e true = h
-    in-order e false = and _ _ (put-ordered old.si x (and _ _ on (and _ _ (ap not e) (same-yes x.stream_sequence_number))) old.held.ordered u.ordered) (and _ _ u.unordered u.unassembled)
+    in-order e false = and _ _ (put-ordered old.si x (and _ _ on (and _ _ (ap not e) (same-yes x.stream_sequence_number))) old.held.ordered u.ordered)
+        (and _ _ u.unordered u.unassembled)
 
     all : x.unordered ≡ true → list_all (is_unordered_part old.si) (insert_before chunk_before x old.held.unassembled) ≡ true
     all e = inserted (is_unordered_part old.si) chunk_before x old.held.unassembled (and _ _ on e) u.unassembled
 
-    becomes : x.unordered ≡ true → (b : Bool) → BecomesComplete (insert_before chunk_before x old.held.unassembled) old.held new.held b → is_unmixed old.si new.held ≡ true
+    becomes : x.unordered ≡ true → (b : Bool) → BecomesComplete (insert_before chunk_before x old.held.unassembled) old.held new.held b
+        → is_unmixed old.si new.held ≡ true
     becomes e true t = run-taken old.si (insert_before chunk_before x old.held.unassembled) old.held new.held t u (all e)
     becomes e false t = ap (is_unmixed old.si) t.1 ∙ and _ _ u.ordered (and _ _ u.unordered (all e))
 
@@ -301,7 +321,8 @@ incomplete-unmixed si tsn q h =
 
 -- ## A stream is reset
 
-rests-ordered : (si last : ℕ) (sets : List ChunkSet) → list_all (is_ordered_set si) sets ≡ true → list_all (is_ordered_set si) (map (rest_past last) sets) ≡ true
+rests-ordered : (si last : ℕ) (sets : List ChunkSet) → list_all (is_ordered_set si) sets ≡ true
+    → list_all (is_ordered_set si) (map (rest_past last) sets) ≡ true
 rests-ordered si last [] all = refl
 rests-ordered si last (s ∷ sets) all =
     let h = both (is_ordered_set si s) (list_all (is_ordered_set si) sets) all in
@@ -310,8 +331,11 @@ rests-ordered si last (s ∷ sets) all =
 pub reset-unmixed : (si last : ℕ) (q : Reassembly) → is_unmixed si q ≡ true → is_unmixed si (held_after_reset last q) ≡ true
 reset-unmixed si last q h =
     let u = parts si q h in
-    let left : list_all (is_ordered_set si) (of_new_use last q.ordered) ≡ true = those (is_ordered_set si) (λ s. is_some_left s.chunks) (map (rest_past last) q.ordered) (rests-ordered si last q.ordered u.ordered) in
-    let messages : list_all is_message q.ordered ≡ true = all-by (is_ordered_set si) is_message (λ s t. ordered-message si s.ssn s.chunks t) q.ordered u.ordered in
+    let left : list_all (is_ordered_set si) (of_new_use last q.ordered) ≡ true = those (is_ordered_set si) (λ s. is_some_left s.chunks)
+    (map (rest_past last) q.ordered) (rests-ordered si last q.ordered u.ordered) in
+    let messages : list_all is_message q.ordered ≡ true =
+    all-by (is_ordered_set si) is_message (λ s t. ordered-message si s.ssn s.chunks t) q.ordered u.ordered in
     let moved : list_all is_message (q.unordered ++ filter (is_old_message last) q.ordered) ≡ true =
-    list_all-append is_message q.unordered (filter (is_old_message last) q.ordered) ∙ and _ _ u.unordered (those is_message (is_old_message last) q.ordered messages) in
+    list_all-append is_message q.unordered (filter (is_old_message last) q.ordered)
+    ∙ and _ _ u.unordered (those is_message (is_old_message last) q.ordered messages) in
     and _ _ left (and _ _ moved u.unassembled)

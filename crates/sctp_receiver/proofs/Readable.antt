@@ -1,5 +1,6 @@
 -- The streams with a message to read, and duplicates that are noted again.
-use Rattle.std.proofs.Common.{◌≡◌, ℕ, zero, suc, ◌+◌, ◌-◌, ◌%◌, ◌<◌, ◌^◌, Bool, true, false, List, [], ◌∷◌, ◌++◌, length, map, take, drop, get_or, refl, ap, sym, ◌∙◌, arith, append_assoc}
+use Rattle.std.proofs.Common.{◌≡◌, ℕ, zero, suc, ◌+◌, ◌-◌, ◌%◌, ◌<◌, ◌^◌, Bool, true, false, List, [], ◌∷◌, ◌++◌, length, map, take, drop, get_or, refl, ap}
+use Rattle.std.proofs.Common.{sym, ◌∙◌, arith, append_assoc}
 use Rattle.std.specs.Prelude.{if◌then◌else◌, is_some, not, ◌&&◌}
 use Rattle.std.specs.List.{filter}
 use Rattle.std.proofs.lemmas.Bool.Decides.{nat_tests}
@@ -24,7 +25,8 @@ is_due l = is_some (message_read l.queue.held)
 readable-append : (xs ys : List InboundStream) → readable_streams (xs ++ ys) ≡ readable_streams xs ++ readable_streams ys
 readable-append xs ys = ap (map number) (filter-append is_due xs ys) ∙ map-append number (filter is_due xs) (filter is_due ys)
 
-readable-next : (xs : List InboundStream) (i : ℕ) (x : InboundStream) → i < length xs → get_or xs i x ≡ x → readable_streams (take (i + 1) xs) ≡ readable_streams (take i xs) ++ readable_streams (x ∷ [])
+readable-next : (xs : List InboundStream) (i : ℕ) (x : InboundStream) → i < length xs → get_or xs i x ≡ x
+    → readable_streams (take (i + 1) xs) ≡ readable_streams (take i xs) ++ readable_streams (x ∷ [])
 readable-next xs i x lt at = ap readable_streams (take_more xs i x lt ∙ ap (λ y. take i xs ++ y ∷ []) at) ∙ readable-append (take i xs) (x ∷ [])
 
 one : (x : InboundStream) (b : Bool) → is_due x ≡ b → readable_streams (x ∷ []) ≡ (if b then number x ∷ [] else [])
@@ -34,15 +36,18 @@ one x b e = ap (λ b. map number (if b then x ∷ [] else [])) e ∙ by b
     by true = refl
     by false = refl
 
-pub readable-more : (xs : List InboundStream) (i : ℕ) (x : InboundStream) → i < length xs → get_or xs i x ≡ x → is_due x ≡ true → readable_streams (take (i + 1) xs) ≡ readable_streams (take i xs) ++ number x ∷ []
+pub readable-more : (xs : List InboundStream) (i : ℕ) (x : InboundStream) → i < length xs → get_or xs i x ≡ x → is_due x ≡ true
+    → readable_streams (take (i + 1) xs) ≡ readable_streams (take i xs) ++ number x ∷ []
 readable-more xs i x lt at due = readable-next xs i x lt at ∙ ap (λ ns. readable_streams (take i xs) ++ ns) (one x true due)
 
 nothing-more : (ns : List ℕ) → ns ++ [] ≡ ns
 nothing-more [] = refl
 nothing-more (n ∷ ns) = ap (λ ms. n ∷ ms) (nothing-more ns)
 
-pub readable-same : (xs : List InboundStream) (i : ℕ) (x : InboundStream) → i < length xs → get_or xs i x ≡ x → is_due x ≡ false → readable_streams (take (i + 1) xs) ≡ readable_streams (take i xs)
-readable-same xs i x lt at due = readable-next xs i x lt at ∙ ap (λ ns. readable_streams (take i xs) ++ ns) (one x false due) ∙ nothing-more (readable_streams (take i xs))
+pub readable-same : (xs : List InboundStream) (i : ℕ) (x : InboundStream) → i < length xs → get_or xs i x ≡ x → is_due x ≡ false
+    → readable_streams (take (i + 1) xs) ≡ readable_streams (take i xs)
+readable-same xs i x lt at due = readable-next xs i x lt at ∙ ap (λ ns. readable_streams (take i xs) ++ ns) (one x false due)
+    ∙ nothing-more (readable_streams (take i xs))
 
 -- ## Duplicates
 
@@ -58,13 +63,16 @@ never-new cs t lt =
     by true = refl
     by false = refl
 
-pub noted : (q old new : Payload) (ts : List ℕ) (i t : ℕ) (b : Bool) → i < length ts → get_or ts i t ≡ t → t < 2 ^ 32 → old ≡ record q { duplicates = q.duplicates ++ take i ts } → b ≡ Window.is_new old.chunks t t → new ≡ (if b then push_chunk old (mark t) else add_duplicate old t) → new ≡ record q { duplicates = q.duplicates ++ take (i + 1) ts }
+pub noted : (q old new : Payload) (ts : List ℕ) (i t : ℕ) (b : Bool) → i < length ts → get_or ts i t ≡ t → t < 2 ^ 32
+    → old ≡ record q { duplicates = q.duplicates ++ take i ts } → b ≡ Window.is_new old.chunks t t
+    → new ≡ (if b then push_chunk old (mark t) else add_duplicate old t) → new ≡ record q { duplicates = q.duplicates ++ take (i + 1) ts }
 noted q old new ts i t b lt at small is answer made =
     let none : b ≡ false = answer ∙ never-new old.chunks t small in
     let put : new ≡ add_duplicate old t = made ∙ ap (λ c. if c then push_chunk old (mark t) else add_duplicate old t) none in
     let more : take (i + 1) ts ≡ take i ts ++ t ∷ [] = take_more ts i t lt ∙ ap (λ u. take i ts ++ u ∷ []) at in
     put ∙ ap (λ p. add_duplicate p t) is
-    ∙ ap (λ (ds : List ℕ). let p : Payload = record q { duplicates = ds } in p) (append_assoc q.duplicates (take i ts) (t ∷ []) ∙ ap (λ us. q.duplicates ++ us) (sym more))
+    ∙ ap (λ (ds : List ℕ). let p : Payload = record q { duplicates = ds } in p)
+    (append_assoc q.duplicates (take i ts) (t ∷ []) ∙ ap (λ us. q.duplicates ++ us) (sym more))
 
 -- where so many were taken, no more are dropped
 pub drop-taken : (n : ℕ) (xs : List ℕ) → drop (length (take n xs)) xs ≡ drop n xs

@@ -18,7 +18,8 @@ module _ (s last : ℕ) (ls : List InboundStream) (k : ℕ) (p : IsOnlyPlace s (
   number-kept (Ok v) ok err = ap number ok
   number-kept (Err e) ok err = ap number err
 
-  pub resets : {T E : Type 0} (r : Result T E) → OnOk r (y ≡ stream_reset last x) → OnOk r (slice_set ls k y ≡ change_where (has_number s) (stream_reset last) ls)
+  pub resets : {T E : Type 0} (r : Result T E) → OnOk r (y ≡ stream_reset last x)
+      → OnOk r (slice_set ls k y ≡ change_where (has_number s) (stream_reset last) ls)
   resets (Ok v) ok = changed number ls (numbers_of ls) refl s k p (stream_reset last) x y at ok
   resets (Err e) ok = tt
 

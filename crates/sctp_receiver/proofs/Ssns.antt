@@ -31,7 +31,8 @@ next_near next (set ∷ sets) h = by (at_or_before16 set.ssn next) refl
     by false e = itself_near next h
 
 -- what lies before the next number and not too far past the lowest one lies between them
-between : (lowest ssn next : ℕ) → lowest < 2 ^ 16 → ssn < 2 ^ 16 → next < 2 ^ 16 → distance16 lowest ssn < 2 ^ 15 → distance16 lowest next < 2 ^ 15 → comes_before16 ssn next ≡ true → distance16 lowest ssn < distance16 lowest next
+between : (lowest ssn next : ℕ) → lowest < 2 ^ 16 → ssn < 2 ^ 16 → next < 2 ^ 16 → distance16 lowest ssn < 2 ^ 15 → distance16 lowest next < 2 ^ 15
+    → comes_before16 ssn next ≡ true → distance16 lowest ssn < distance16 lowest next
 unfolding comes_before16
 between l s n hl hs hn near next before =
     let some : 0 < distance16 s n = grind (arith, nat_tests, before) in
@@ -47,7 +48,8 @@ between l s n hl hs hn near next before =
       ]
     ]
 
-pub kept-or-passed : (ssn : ℕ) (q : Reassembly) → ssn < 2 ^ 16 → lowest_ssn q < 2 ^ 16 → q.next_ssn < 2 ^ 16 → is_ssn_too_far ssn q ≡ false → is_kept_or_passed ssn q ≡ true
+pub kept-or-passed : (ssn : ℕ) (q : Reassembly) → ssn < 2 ^ 16 → lowest_ssn q < 2 ^ 16 → q.next_ssn < 2 ^ 16 → is_ssn_too_far ssn q ≡ false
+    → is_kept_or_passed ssn q ≡ true
 kept-or-passed ssn q hs hl hn near = by (comes_before16 ssn q.next_ssn) refl
   where
     by : (b : Bool) → comes_before16 ssn q.next_ssn ≡ b → (not b || nat_lt (ssn_distance ssn q) (ssn_distance q.next_ssn q)) ≡ true

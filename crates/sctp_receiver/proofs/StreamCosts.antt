@@ -14,7 +14,8 @@ use Rattle.sctp_reassembly.specs.reassembly_queue.Counts.{set_chunks}
 use Rattle.sctp_reassembly.specs.reassembly_queue.ReassemblyQueue.{Reassembly, ReassemblyState, held_chunks, is_kept, count_up}
 use Rattle.sctp_serial.proofs.lemmas.ListEdits.{neither}
 use Rattle.sctp_receiver.specs.declared.receiver.inbound_streams.InboundStream.{InboundStream}
-use Rattle.sctp_receiver.specs.Inbound.{number, numbers_of, has_number, new_stream, with_queue, Pushes, PushesAs, stream_read, ssn_forwarded, named_forwarded, unassembled_forwarded}
+use Rattle.sctp_receiver.specs.Inbound.{number, numbers_of, has_number, new_stream, with_queue, Pushes, PushesAs, stream_read, ssn_forwarded, named_forwarded}
+use Rattle.sctp_receiver.specs.Inbound.{unassembled_forwarded}
 use Rattle.sctp_receiver.specs.Limits.{cost_of}
 use Rattle.sctp_receiver.specs.Resets.{stream_reset}
 use Rattle.sctp_receiver.specs.Skips.{incomplete_forwarded}
@@ -40,7 +41,8 @@ sets-ones (s ∷ sets) =
 chunks-weigh : (q : Reassembly) → weight (λ x. 1) q ≡ held_chunks q
 chunks-weigh q = let a = sets-ones q.ordered in let b = sets-ones q.unordered in let o = ones q.unassembled in omega arith
 
-pushed-chunks : (c : ChunkPayloadData) (complete : Bool) (old new : ReassemblyState) → Pushes c complete old new → held_chunks new.held ≤ held_chunks old.held + 1
+pushed-chunks : (c : ChunkPayloadData) (complete : Bool) (old new : ReassemblyState) → Pushes c complete old new
+    → held_chunks new.held ≤ held_chunks old.held + 1
 pushed-chunks c complete old new p =
     let h = weights.pushed (λ x. 1) c complete old new p in
     let a = chunks-weigh old.held in
@@ -63,7 +65,8 @@ pushed-bytes c complete old new p = by c.unordered p
 -- a cost of streams of which a chunk adds at most so much, and no other call adds any
 pub record IsCost (m : InboundStream → ℕ) (fits : ChunkPayloadData → Type 0) (most : ℕ) : Type 0 where
   pub fresh : (s max : ℕ) → m (new_stream s max) ≡ 0
-  pub pushed : (c : ChunkPayloadData) (complete : Bool) (l : InboundStream) (q : ReassemblyState) → fits c → Pushes c complete l.queue q → m (with_queue q l) ≤ m l + most
+  pub pushed : (c : ChunkPayloadData) (complete : Bool) (l : InboundStream) (q : ReassemblyState) → fits c → Pushes c complete l.queue q
+      → m (with_queue q l) ≤ m l + most
   pub read : (l : InboundStream) → m (stream_read l) ≤ m l
   pub named : (ssn : ℕ) (l : InboundStream) → m (ssn_forwarded ssn l) ≤ m l
   pub unassembled : (tsn : ℕ) (l : InboundStream) → m (unassembled_forwarded tsn l) ≤ m l
@@ -72,19 +75,24 @@ pub record IsCost (m : InboundStream → ℕ) (fits : ChunkPayloadData → Type 
   pub within : (l : InboundStream) → m l ≤ cost_of l
 
 read-chunks : (q : ReassemblyState) (l : InboundStream) → held_chunks (stream_read l).queue.held ≤ held_chunks l.queue.held
-read-chunks q l = let h = weights.read (λ x. 1) l.queue.held in let a = chunks-weigh l.queue.held in let b = chunks-weigh (stream_read l).queue.held in omega arith
+read-chunks q l = let h = weights.read (λ x. 1) l.queue.held in let a = chunks-weigh l.queue.held in let b = chunks-weigh (stream_read l).queue.held in
+    omega arith
 
 named-chunks : (ssn : ℕ) (l : InboundStream) → held_chunks (ssn_forwarded ssn l).queue.held ≤ held_chunks l.queue.held
-named-chunks ssn l = let h = weights.named (λ x. 1) ssn l.queue in let a = chunks-weigh l.queue.held in let b = chunks-weigh (ssn_forwarded ssn l).queue.held in omega arith
+named-chunks ssn l = let h = weights.named (λ x. 1) ssn l.queue in let a = chunks-weigh l.queue.held in let b = chunks-weigh (ssn_forwarded ssn l).queue.held in
+    omega arith
 
 unassembled-chunks : (tsn : ℕ) (l : InboundStream) → held_chunks (unassembled_forwarded tsn l).queue.held ≤ held_chunks l.queue.held
-unassembled-chunks tsn l = let h = weights.unassembled (λ x. 1) tsn l.queue in let a = chunks-weigh l.queue.held in let b = chunks-weigh (unassembled_forwarded tsn l).queue.held in omega arith
+unassembled-chunks tsn l = let h = weights.unassembled (λ x. 1) tsn l.queue in let a = chunks-weigh l.queue.held in
+    let b = chunks-weigh (unassembled_forwarded tsn l).queue.held in omega arith
 
 reset-chunks : (last : ℕ) (l : InboundStream) → held_chunks (stream_reset last l).queue.held ≤ held_chunks l.queue.held
-reset-chunks last l = let h = weights.reset (λ x. 1) last l.queue in let a = chunks-weigh l.queue.held in let b = chunks-weigh (stream_reset last l).queue.held in omega arith
+reset-chunks last l = let h = weights.reset (λ x. 1) last l.queue in let a = chunks-weigh l.queue.held in
+    let b = chunks-weigh (stream_reset last l).queue.held in omega arith
 
 incomplete-chunks : (tsn : ℕ) (l : InboundStream) → held_chunks (incomplete_forwarded tsn l).queue.held ≤ held_chunks l.queue.held
-incomplete-chunks tsn l = let h = weights.incomplete (λ x. 1) tsn l.queue in let a = chunks-weigh l.queue.held in let b = chunks-weigh (incomplete_forwarded tsn l).queue.held in omega arith
+incomplete-chunks tsn l = let h = weights.incomplete (λ x. 1) tsn l.queue in let a = chunks-weigh l.queue.held in
+    let b = chunks-weigh (incomplete_forwarded tsn l).queue.held in omega arith
 
 -- for its chunks alone
 abbrev pub chunk_cost : InboundStream → ℕ
@@ -129,7 +137,8 @@ apart-of : (n : ℕ) (ns : List ℕ) → are_apart (n ∷ ns) ≡ true → (list
 apart-of n ns h = let p = both (not (list_any (λ k. k == n) ns)) (are_apart ns) h in (turned (list_any (λ k. k == n) ns) p.0, p.1)
 
 module _ (m : InboundStream → ℕ) where
-  pub changed-cost : (p : InboundStream → Bool) (f : InboundStream → InboundStream) → ((l : InboundStream) → m (f l) ≤ m l) → (ls : List InboundStream) → sum_by m (change_where p f ls) ≤ sum_by m ls
+  pub changed-cost : (p : InboundStream → Bool) (f : InboundStream → InboundStream) → ((l : InboundStream) → m (f l) ≤ m l) → (ls : List InboundStream)
+      → sum_by m (change_where p f ls) ≤ sum_by m ls
   changed-cost p f less [] = omega arith
   changed-cost p f less (l ∷ ls) = by (p l) (changed-cost p f less ls)
     where
@@ -139,9 +148,11 @@ module _ (m : InboundStream → ℕ) where
 
   pub mapped-cost : (f : InboundStream → InboundStream) → ((l : InboundStream) → m (f l) ≤ m l) → (ls : List InboundStream) → sum_by m (map f ls) ≤ sum_by m ls
   mapped-cost f less [] = omega arith
-  mapped-cost f less (l ∷ ls) = let a = sum_by-cons m (f l) (map f ls) in let b = sum_by-cons m l ls in let h = less l in let ih = mapped-cost f less ls in omega arith
+  mapped-cost f less (l ∷ ls) = let a = sum_by-cons m (f l) (map f ls) in let b = sum_by-cons m l ls in let h = less l in let ih = mapped-cost f less ls in
+      omega arith
 
-  pub named-cost : ((ssn : ℕ) (l : InboundStream) → m (ssn_forwarded ssn l) ≤ m l) → (ns : List ChunkForwardTsnStream) (ls : List InboundStream) → sum_by m (named_forwarded ns ls) ≤ sum_by m ls
+  pub named-cost : ((ssn : ℕ) (l : InboundStream) → m (ssn_forwarded ssn l) ≤ m l) → (ns : List ChunkForwardTsnStream) (ls : List InboundStream)
+      → sum_by m (named_forwarded ns ls) ≤ sum_by m ls
   named-cost less [] ls = omega arith
   named-cost less (n ∷ ns) ls =
       let a = changed-cost (has_number n.identifier) (ssn_forwarded n.sequence) (less n.sequence) ls in
@@ -155,23 +166,29 @@ module _ (m : InboundStream → ℕ) where
   opened-cost ls l none = let a = sum_by-append m ls (l ∷ []) in let b = sum_by-cons m l [] in omega arith
 
   -- where no stream has the number, none is changed
-  none-changed : (s : ℕ) (f : InboundStream → InboundStream) (ls : List InboundStream) → list_any (λ k. k == s) (numbers_of ls) ≡ false → sum_by m (change_where (has_number s) f ls) ≡ sum_by m ls
+  none-changed : (s : ℕ) (f : InboundStream → InboundStream) (ls : List InboundStream) → list_any (λ k. k == s) (numbers_of ls) ≡ false
+      → sum_by m (change_where (has_number s) f ls) ≡ sum_by m ls
   none-changed s f [] gone = refl
   none-changed s f (l ∷ ls) gone = by (number l == s) gone (λ e. none-changed s f ls e)
     where
-      by : (b : Bool) → (b || list_any (λ k. k == s) (numbers_of ls)) ≡ false → (list_any (λ k. k == s) (numbers_of ls) ≡ false → sum_by m (change_where (has_number s) f ls) ≡ sum_by m ls) → sum_by m ((if b then f l else l) ∷ change_where (has_number s) f ls) ≡ sum_by m (l ∷ ls)
+      by : (b : Bool) → (b || list_any (λ k. k == s) (numbers_of ls)) ≡ false
+          → (list_any (λ k. k == s) (numbers_of ls) ≡ false → sum_by m (change_where (has_number s) f ls) ≡ sum_by m ls)
+          → sum_by m ((if b then f l else l) ∷ change_where (has_number s) f ls) ≡ sum_by m (l ∷ ls)
       by true e ih = absurd (not_both (sym e))
       by false e ih = let a = sum_by-cons m l (change_where (has_number s) f ls) in let b = sum_by-cons m l ls in let h = ih e in omega arith
 
   -- the one with the number costs at most so much more
-  pub one-changed : (s most : ℕ) (f : InboundStream → InboundStream) (x : InboundStream) (ls : List InboundStream) → are_apart (numbers_of ls) ≡ true → find (has_number s) ls ≡ Some x → m (f x) ≤ m x + most → sum_by m (change_where (has_number s) f ls) ≤ sum_by m ls + most
+  pub one-changed : (s most : ℕ) (f : InboundStream → InboundStream) (x : InboundStream) (ls : List InboundStream) → are_apart (numbers_of ls) ≡ true
+      → find (has_number s) ls ≡ Some x → m (f x) ≤ m x + most → sum_by m (change_where (has_number s) f ls) ≤ sum_by m ls + most
   one-changed s most f x [] apart e less = cc
   one-changed s most f x (l ∷ ls) apart e less = by (number l == s) refl e (λ h. one-changed s most f x ls rest.1 h less)
     where
       rest : (list_any (λ k. k == number l) (numbers_of ls) ≡ false) × (are_apart (numbers_of ls) ≡ true)
       rest = apart-of (number l) (numbers_of ls) apart
 
-      by : (b : Bool) → (number l == s) ≡ b → (if b then Some l else find (has_number s) ls) ≡ Some x → (find (has_number s) ls ≡ Some x → sum_by m (change_where (has_number s) f ls) ≤ sum_by m ls + most) → sum_by m ((if b then f l else l) ∷ change_where (has_number s) f ls) ≤ sum_by m (l ∷ ls) + most
+      by : (b : Bool) → (number l == s) ≡ b → (if b then Some l else find (has_number s) ls) ≡ Some x
+          → (find (has_number s) ls ≡ Some x → sum_by m (change_where (has_number s) f ls) ≤ sum_by m ls + most)
+          → sum_by m ((if b then f l else l) ∷ change_where (has_number s) f ls) ≤ sum_by m (l ∷ ls) + most
       by true is e more =
           let same : l ≡ x = cc in
           let here : m (f l) ≤ m l + most = subst (λ y. m (f y) ≤ m y + most) (sym same) less in
@@ -190,14 +207,16 @@ module _ (m : InboundStream → ℕ) where
 or_false : (a b : Bool) → a ≡ false → b ≡ false → (a || b) ≡ false
 or_false a b x y = rw (x, y) refl
 
-any-kept : (n : ℕ) (p : InboundStream → Bool) (ls : List InboundStream) → list_any (λ k. k == n) (numbers_of ls) ≡ false → list_any (λ k. k == n) (numbers_of (filter p ls)) ≡ false
+any-kept : (n : ℕ) (p : InboundStream → Bool) (ls : List InboundStream) → list_any (λ k. k == n) (numbers_of ls) ≡ false
+    → list_any (λ k. k == n) (numbers_of (filter p ls)) ≡ false
 any-kept n p [] h = refl
 any-kept n p (l ∷ ls) h = by (p l) (any-kept n p ls others.1)
   where
     others : (number l == n) ≡ false × (list_any (λ k. k == n) (numbers_of ls) ≡ false)
     others = neither (number l == n) (list_any (λ k. k == n) (numbers_of ls)) h
 
-    by : (b : Bool) → list_any (λ k. k == n) (numbers_of (filter p ls)) ≡ false → list_any (λ k. k == n) (numbers_of (if b then l ∷ filter p ls else filter p ls)) ≡ false
+    by : (b : Bool) → list_any (λ k. k == n) (numbers_of (filter p ls)) ≡ false
+        → list_any (λ k. k == n) (numbers_of (if b then l ∷ filter p ls else filter p ls)) ≡ false
     by true ih = or_false (number l == n) (list_any (λ k. k == n) (numbers_of (filter p ls))) others.0 ih
     by false ih = ih
 
@@ -212,22 +231,27 @@ kept-apart p (l ∷ ls) h = by (p l) (kept-apart p ls parts.1)
     by true ih = and _ _ (ap not (any-kept (number l) p ls parts.0)) ih
     by false ih = ih
 
-any-more : (n : ℕ) (ls : List InboundStream) (x : InboundStream) → list_any (λ k. k == n) (numbers_of ls) ≡ false → (number x == n) ≡ false → list_any (λ k. k == n) (numbers_of (ls ++ x ∷ [])) ≡ false
+any-more : (n : ℕ) (ls : List InboundStream) (x : InboundStream) → list_any (λ k. k == n) (numbers_of ls) ≡ false → (number x == n) ≡ false
+    → list_any (λ k. k == n) (numbers_of (ls ++ x ∷ [])) ≡ false
 any-more n [] x h e = or_false (number x == n) false e refl
 any-more n (l ∷ ls) x h e =
     let others = neither (number l == n) (list_any (λ k. k == n) (numbers_of ls)) h in
     or_false (number l == n) (list_any (λ k. k == n) (numbers_of (ls ++ x ∷ []))) others.0 (any-more n ls x others.1 e)
 
 -- one more, with a number that none has
-pub more-apart : (ls : List InboundStream) (x : InboundStream) → are_apart (numbers_of ls) ≡ true → is_some (find (has_number (number x)) ls) ≡ false → are_apart (numbers_of (ls ++ x ∷ [])) ≡ true
+pub more-apart : (ls : List InboundStream) (x : InboundStream) → are_apart (numbers_of ls) ≡ true → is_some (find (has_number (number x)) ls) ≡ false
+    → are_apart (numbers_of (ls ++ x ∷ [])) ≡ true
 more-apart [] x h none = refl
 more-apart (l ∷ ls) x h none = by (number l == number x) refl none (λ e. more-apart ls x parts.1 e)
   where
     parts : (list_any (λ k. k == number l) (numbers_of ls) ≡ false) × (are_apart (numbers_of ls) ≡ true)
     parts = apart-of (number l) (numbers_of ls) h
 
-    by : (b : Bool) → (number l == number x) ≡ b → is_some (if b then Some l else find (has_number (number x)) ls) ≡ false → (is_some (find (has_number (number x)) ls) ≡ false → are_apart (numbers_of (ls ++ x ∷ [])) ≡ true) → are_apart (number l ∷ numbers_of (ls ++ x ∷ [])) ≡ true
+    by : (b : Bool) → (number l == number x) ≡ b → is_some (if b then Some l else find (has_number (number x)) ls) ≡ false
+        → (is_some (find (has_number (number x)) ls) ≡ false → are_apart (numbers_of (ls ++ x ∷ [])) ≡ true)
+        → are_apart (number l ∷ numbers_of (ls ++ x ∷ [])) ≡ true
     by true e none more = absurd (not_both (sym none))
     by false e none more =
-        let other : (number x == number l) ≡ false = fails (number x == number l) (λ t. not_both (sym e ∙ eq-eqb (number l) (number x) (sym (same-is (number x) (number l) t)))) in
+        let other : (number x == number l) ≡ false = fails (number x == number l)
+        (λ t. not_both (sym e ∙ eq-eqb (number l) (number x) (sym (same-is (number x) (number l) t)))) in
         and _ _ (ap not (any-more (number l) ls x parts.0 other)) (more none)

@@ -48,7 +48,8 @@ nearer base far less (t ∷ ts) le h =
     of-step base less t ts (record { small = s.0.small; farther = omega (arith, le, s.0.farther); near = s.0.near }) s.1
 
 -- seen from a base that is not farther than they are
-pub rebased : (base b far : ℕ) (ts : List ℕ) → base < 2 ^ 32 → b < 2 ^ 32 → distance base b ≤ far → rise_beyond base far ts ≡ true → rise_beyond b (far - distance base b) ts ≡ true
+pub rebased : (base b far : ℕ) (ts : List ℕ) → base < 2 ^ 32 → b < 2 ^ 32 → distance base b ≤ far → rise_beyond base far ts ≡ true
+    → rise_beyond b (far - distance base b) ts ≡ true
 rebased base b far [] hc hb le h = refl
 rebased base b far (t ∷ ts) hc hb le h =
     let s = step-of base far t ts h in
@@ -68,7 +69,8 @@ absent-head x t ts h = step (t == x) (list_any (λ u. u == x) ts) h
     step true b e = cc
     step false b e = (refl, e)
 
-pub rise-inserted : (base far x : ℕ) (ts : List ℕ) → base < 2 ^ 32 → IsStep base far x → list_any (λ u. u == x) ts ≡ false → rise_beyond base far ts ≡ true → rise_beyond base far (insert_before comes_before x ts) ≡ true
+pub rise-inserted : (base far x : ℕ) (ts : List ℕ) → base < 2 ^ 32 → IsStep base far x → list_any (λ u. u == x) ts ≡ false → rise_beyond base far ts ≡ true
+    → rise_beyond base far (insert_before comes_before x ts) ≡ true
 rise-inserted base far x [] hc sx gone h = of-step base far x [] sx refl
 rise-inserted base far x (t ∷ ts) hc sx gone h =
     let s = step-of base far t ts h in
@@ -80,9 +82,11 @@ rise-inserted base far x (t ∷ ts) hc sx gone h =
           (of-step base far x (t ∷ ts) sx (of-step base (distance base x) t ts (record { small = s.0.small; farther = low; near = s.0.near }) s.1))
       | inr high ↦
           let nay : comes_before x t ≡ false = not_before_nearer base x t hc sx.small s.0.small high sx.near in
-          let ne : distance base t ≡ distance base x → ⊥ = λ e. not_both (sym apart.0 ∙ ap (λ u. u == x) (same_distance base t x hc s.0.small sx.small e) ∙ same-yes x) in
+          let ne : distance base t ≡ distance base x
+          → ⊥ = λ e. not_both (sym apart.0 ∙ ap (λ u. u == x) (same_distance base t x hc s.0.small sx.small e) ∙ same-yes x) in
           subst (λ b. rise_beyond base far (if b then x ∷ t ∷ ts else t ∷ insert_before comes_before x ts) ≡ true) (sym nay)
-          (of-step base far t (insert_before comes_before x ts) s.0 (rise-inserted base (distance base t) x ts hc (record { small = sx.small; farther = omega (arith, high, ne); near = sx.near }) apart.1 s.1))
+          (of-step base far t (insert_before comes_before x ts) s.0
+          (rise-inserted base (distance base t) x ts hc (record { small = sx.small; farther = omega (arith, high, ne); near = sx.near }) apart.1 s.1))
     ]
 
 -- ## The cumulative TSN moves
@@ -91,17 +95,22 @@ pub stays : (c : ℕ) (ts : List ℕ) → c < 2 ^ 32 → rise_beyond c 1 ts ≡ 
 stays c [] lt h = refl
 stays c (t ∷ ts) lt h =
     let s = step-of c 1 t ts h in
-    let nay : (t == following_tsn c) ≡ false = fails (t == following_tsn c) (λ e. omega (arith, s.0.farther, ap (distance c) (same-is t (following_tsn c) e), after_one c lt)) in
+    let nay : (t == following_tsn c) ≡ false = fails (t == following_tsn c)
+    (λ e. omega (arith, s.0.farther, ap (distance c) (same-is t (following_tsn c) e), after_one c lt)) in
     ap (λ b. if b then advance_over t ts else (let r : Seen = record { cum = c; held = t ∷ ts } in r)) nay
 
-pub moves : (c : ℕ) (ts : List ℕ) → c < 2 ^ 32 → rise_beyond c 1 ts ≡ true → advance_over c (insert_before comes_before (following_tsn c) ts) ≡ advance_over (following_tsn c) ts
-moves c [] lt h = ap (λ b. if b then (let r : Seen = record { cum = following_tsn c; held = [] } in r) else record { cum = c; held = following_tsn c ∷ [] }) (same-yes (following_tsn c))
+pub moves : (c : ℕ) (ts : List ℕ) → c < 2 ^ 32 → rise_beyond c 1 ts ≡ true
+    → advance_over c (insert_before comes_before (following_tsn c) ts) ≡ advance_over (following_tsn c) ts
+moves c [] lt h = ap (λ b. if b then (let r : Seen = record { cum = following_tsn c; held = [] } in r) else record { cum = c; held = following_tsn c ∷ [] })
+    (same-yes (following_tsn c))
 moves c (t ∷ ts) lt h =
     let s = step-of c 1 t ts h in
     let one = after_one c lt in
-    let yes : comes_before (following_tsn c) t ≡ true = before_farther c (following_tsn c) t lt (following-small c) s.0.small (omega (arith, one, s.0.farther)) s.0.near in
+    let yes : comes_before (following_tsn c) t ≡ true =
+    before_farther c (following_tsn c) t lt (following-small c) s.0.small (omega (arith, one, s.0.farther)) s.0.near in
     ap (λ b. advance_over c (if b then following_tsn c ∷ t ∷ ts else t ∷ insert_before comes_before (following_tsn c) ts)) yes
-    ∙ ap (λ b. if b then advance_over (following_tsn c) (t ∷ ts) else (let r : Seen = record { cum = c; held = following_tsn c ∷ t ∷ ts } in r)) (same-yes (following_tsn c))
+    ∙ ap (λ b. if b then advance_over (following_tsn c) (t ∷ ts) else (let r : Seen = record { cum = c; held = following_tsn c ∷ t ∷ ts } in r))
+    (same-yes (following_tsn c))
 
 -- what is left lies beyond the new one, and not next to it
 pub record IsMoved (s : Seen) : Type 0 where
@@ -112,15 +121,18 @@ pub moved : (c : ℕ) (ts : List ℕ) → c < 2 ^ 32 → rise_beyond c 0 ts ≡ 
 moved c [] lt h = record { small = lt; rise = refl }
 moved c (t ∷ ts) lt h =
     let zero-far : distance c t - distance c t ≡ 0 = omega arith in
-    by (t == following_tsn c) refl (moved t ts (step-of c 0 t ts h).0.small (subst (λ n. rise_beyond t n ts ≡ true) zero-far (rebased c t (distance c t) ts lt (step-of c 0 t ts h).0.small (omega arith) (step-of c 0 t ts h).1)))
+    by (t == following_tsn c) refl (moved t ts (step-of c 0 t ts h).0.small
+    (subst (λ n. rise_beyond t n ts ≡ true) zero-far (rebased c t (distance c t) ts lt (step-of c 0 t ts h).0.small (omega arith) (step-of c 0 t ts h).1)))
   where
     s : IsStep c 0 t × (rise_beyond c (distance c t) ts ≡ true)
     s = step-of c 0 t ts h
 
-    by : (b : Bool) → (t == following_tsn c) ≡ b → IsMoved (advance_over t ts) → IsMoved (if b then advance_over t ts else (let r : Seen = record { cum = c; held = t ∷ ts } in r))
+    by : (b : Bool) → (t == following_tsn c) ≡ b → IsMoved (advance_over t ts)
+        → IsMoved (if b then advance_over t ts else (let r : Seen = record { cum = c; held = t ∷ ts } in r))
     by true e ih = ih
     by false e ih =
-        let ne : distance c t ≡ 1 → ⊥ = λ one. not_both (sym e ∙ ap (λ u. u == following_tsn c) (same_distance c t (following_tsn c) lt s.0.small (following-small c) (one ∙ sym (after_one c lt))) ∙ same-yes (following_tsn c)) in
+        let ne : distance c t ≡ 1 → ⊥ = λ one. not_both (sym e ∙ ap (λ u. u == following_tsn c)
+        (same_distance c t (following_tsn c) lt s.0.small (following-small c) (one ∙ sym (after_one c lt))) ∙ same-yes (following_tsn c)) in
         record { small = lt; rise = of-step c 1 t ts (record { small = s.0.small; farther = omega (arith, ne, s.0.farther); near = s.0.near }) s.1 }
 
 -- ## A skip
@@ -134,7 +146,8 @@ pub behind-it : (c n t : ℕ) → c < 2 ^ 32 → n < 2 ^ 32 → t < 2 ^ 32 → d
 unfolding at_or_before
 behind-it c n t hc hn ht near lt = let e = distance_back c t n hc ht hn lt in grind (arith, nat_tests)
 
-pub rise-past : (c n far : ℕ) (ts : List ℕ) → c < 2 ^ 32 → n < 2 ^ 32 → distance c n < 2 ^ 31 → rise_beyond c far ts ≡ true → rise_beyond n (far - distance c n) (filter (λ t. not (at_or_before t n)) ts) ≡ true
+pub rise-past : (c n far : ℕ) (ts : List ℕ) → c < 2 ^ 32 → n < 2 ^ 32 → distance c n < 2 ^ 31 → rise_beyond c far ts ≡ true
+    → rise_beyond n (far - distance c n) (filter (λ t. not (at_or_before t n)) ts) ≡ true
 rise-past c n far [] hc hn near h = refl
 rise-past c n far (t ∷ ts) hc hn near h =
     let s = step-of c far t ts h in
@@ -142,12 +155,16 @@ rise-past c n far (t ∷ ts) hc hn near h =
       | inl later ↦
           let sum : distance c n + distance n t ≡ distance c t = distance_rest c n t hc hn s.0.small (omega (arith, later)) in
           let same : distance c t - distance c n ≡ distance n t = omega arith in
-          subst (λ b. rise_beyond n (far - distance c n) (if not b then t ∷ filter (λ u. not (at_or_before u n)) ts else filter (λ u. not (at_or_before u n)) ts) ≡ true) (sym (behind-it c n t hc hn s.0.small s.0.near later))
-          (of-step n (far - distance c n) t (filter (λ u. not (at_or_before u n)) ts) (record { small = s.0.small; farther = omega (arith, sum, later, s.0.farther); near = omega (arith, sum, s.0.near) })
+          subst (λ b. rise_beyond n (far - distance c n) (if not b then t ∷ filter (λ u. not (at_or_before u n)) ts
+          else filter (λ u. not (at_or_before u n)) ts) ≡ true) (sym (behind-it c n t hc hn s.0.small s.0.near later))
+          (of-step n (far - distance c n) t (filter (λ u. not (at_or_before u n)) ts)
+          (record { small = s.0.small; farther = omega (arith, sum, later, s.0.farther); near = omega (arith, sum, s.0.near) })
           (subst (λ d. rise_beyond n d (filter (λ u. not (at_or_before u n)) ts) ≡ true) same (rise-past c n (distance c t) ts hc hn near s.1)))
       | inr before ↦
-          subst (λ b. rise_beyond n (far - distance c n) (if not b then t ∷ filter (λ u. not (at_or_before u n)) ts else filter (λ u. not (at_or_before u n)) ts) ≡ true) (sym (before-it c n t hc hn s.0.small near before))
-          (nearer n (distance c t - distance c n) (far - distance c n) (filter (λ u. not (at_or_before u n)) ts) (omega (arith, s.0.farther)) (rise-past c n (distance c t) ts hc hn near s.1))
+          subst (λ b. rise_beyond n (far - distance c n) (if not b then t ∷ filter (λ u. not (at_or_before u n)) ts
+          else filter (λ u. not (at_or_before u n)) ts) ≡ true) (sym (before-it c n t hc hn s.0.small near before))
+          (nearer n (distance c t - distance c n) (far - distance c n) (filter (λ u. not (at_or_before u n)) ts) (omega (arith, s.0.farther))
+          (rise-past c n (distance c t) ts hc hn near s.1))
     ]
 
 -- ## The one that is expected next
@@ -156,7 +173,8 @@ pub expected-absent : (c : ℕ) (far : ℕ) (ts : List ℕ) → c < 2 ^ 32 → 0
 expected-absent c far [] lt pos h = refl
 expected-absent c far (t ∷ ts) lt pos h =
     let s = step-of c far t ts h in
-    let nay : (t == following_tsn c) ≡ false = fails (t == following_tsn c) (λ e. omega (arith, pos, s.0.farther, ap (distance c) (same-is t (following_tsn c) e), after_one c lt)) in
+    let nay : (t == following_tsn c) ≡ false = fails (t == following_tsn c)
+    (λ e. omega (arith, pos, s.0.farther, ap (distance c) (same-is t (following_tsn c) e), after_one c lt)) in
     ap (λ b. b || list_any (λ u. u == following_tsn c) ts) nay ∙ expected-absent c (distance c t) ts lt (omega (arith, pos, s.0.farther)) s.1
 
 pub expected-after : (c : ℕ) → c < 2 ^ 32 → at_or_before (following_tsn c) c ≡ false
@@ -169,8 +187,15 @@ unfolding at_or_before
 beyond c t hc ht after near differs =
     let apart : distance c t ≡ 2 ^ 31 → ⊥ = λ e. not_both (sym near ∙ ap (λ d. d == 2 ^ 31) e) in
     let far : 2 ^ 31 ≤ distance t c = grind (arith, nat_tests, after) in
-    let ne : distance c t ≡ 1 → ⊥ = λ one. not_both (sym differs ∙ ap (λ u. u == following_tsn c) (same_distance c t (following_tsn c) hc ht (following-small c) (one ∙ sym (after_one c hc))) ∙ same-yes (following_tsn c)) in
+    let ne : distance c t ≡ 1 → ⊥ = λ one. not_both (sym differs ∙ ap (λ u. u == following_tsn c)
+    (same_distance c t (following_tsn c) hc ht (following-small c) (one ∙ sym (after_one c hc))) ∙ same-yes (following_tsn c)) in
     elim (distance_cases c t hc ht) [
-      | inl p ↦ elim (distance_cases t c ht hc) [ inl q ↦ record { small = ht; farther = omega (arith, ne, apart, far); near = omega (arith, ne, apart, far) } | inr q ↦ record { small = ht; farther = omega (arith, ne, apart, far); near = omega (arith, ne, apart, far) } ]
-      | inr p ↦ elim (distance_cases t c ht hc) [ inl q ↦ record { small = ht; farther = omega (arith, ne, apart, far); near = omega (arith, ne, apart, far) } | inr q ↦ record { small = ht; farther = omega (arith, ne, apart, far); near = omega (arith, ne, apart, far) } ]
+      | inl p ↦ elim (distance_cases t c ht hc) [
+        | inl q ↦ record { small = ht; farther = omega (arith, ne, apart, far); near = omega (arith, ne, apart, far) }
+        | inr q ↦ record { small = ht; farther = omega (arith, ne, apart, far); near = omega (arith, ne, apart, far) }
+      ]
+      | inr p ↦ elim (distance_cases t c ht hc) [
+        | inl q ↦ record { small = ht; farther = omega (arith, ne, apart, far); near = omega (arith, ne, apart, far) }
+        | inr q ↦ record { small = ht; farther = omega (arith, ne, apart, far); near = omega (arith, ne, apart, far) }
+      ]
     ]

@@ -11,7 +11,9 @@ use Rattle.sctp_data.specs.declared.chunk.chunk_payload_data.ChunkPayloadData.{C
 use Rattle.sctp_data.specs.ChunkSet.{ChunkSet}
 use Rattle.sctp_serial.specs.DataChunks.{has_tsn, chunk_before}
 use Rattle.sctp_reassembly.specs.reassembly_queue.Fragments.{has_ssn, with_chunk, new_set, sets_with, set_before}
-use Rattle.sctp_reassembly.specs.reassembly_queue.ReassemblyQueue.{Reassembly, ReassemblyState, held_after_ordered_push, set_of_run, TakesRun, BecomesComplete, is_readable, front_readable, without_first, after_read, message_among, message_read, rest_among, rest_read, is_passed, after_ordered_skip, after_unordered_skip}
+use Rattle.sctp_reassembly.specs.reassembly_queue.ReassemblyQueue.{Reassembly, ReassemblyState, held_after_ordered_push, set_of_run, TakesRun, BecomesComplete}
+use Rattle.sctp_reassembly.specs.reassembly_queue.ReassemblyQueue.{is_readable, front_readable, without_first, after_read, message_among, message_read}
+use Rattle.sctp_reassembly.specs.reassembly_queue.ReassemblyQueue.{rest_among, rest_read, is_passed, after_ordered_skip, after_unordered_skip}
 use Rattle.sctp_reassembly.specs.reassembly_queue.Resets.{is_old_message, after_reset}
 use Rattle.sctp_reassembly.specs.reassembly_queue.Skips.{cannot_complete, after_incomplete_skip}
 use Rattle.sctp_reassembly.proofs.lemmas.reassembly_queue.Resets.{reset_weight}
@@ -39,11 +41,13 @@ module _ (w : ChunkPayloadData → ℕ) where
       by true = omega arith
       by false = let e = sum_by-inserted w chunk_before x set.chunks in omega arith
 
-  first-changed : (p : ChunkSet → Bool) (f : ChunkSet → ChunkSet) (n : ℕ) → ((set : ChunkSet) → set_weight (f set) ≤ set_weight set + n) → (sets : List ChunkSet) → sum_by set_weight (change_first p f sets) ≤ sum_by set_weight sets + n
+  first-changed : (p : ChunkSet → Bool) (f : ChunkSet → ChunkSet) (n : ℕ) → ((set : ChunkSet) → set_weight (f set) ≤ set_weight set + n)
+      → (sets : List ChunkSet) → sum_by set_weight (change_first p f sets) ≤ sum_by set_weight sets + n
   first-changed p f n more [] = omega arith
   first-changed p f n more (s ∷ sets) = by (p s) (first-changed p f n more sets)
     where
-      by : (b : Bool) → sum_by set_weight (change_first p f sets) ≤ sum_by set_weight sets + n → sum_by set_weight (if b then f s ∷ sets else s ∷ change_first p f sets) ≤ sum_by set_weight (s ∷ sets) + n
+      by : (b : Bool) → sum_by set_weight (change_first p f sets) ≤ sum_by set_weight sets + n
+          → sum_by set_weight (if b then f s ∷ sets else s ∷ change_first p f sets) ≤ sum_by set_weight (s ∷ sets) + n
       by true ih = let a = sum_by-cons set_weight (f s) sets in let b = sum_by-cons set_weight s sets in let m = more s in omega arith
       by false ih = let a = sum_by-cons set_weight s (change_first p f sets) in let b = sum_by-cons set_weight s sets in omega arith
 
@@ -53,7 +57,8 @@ module _ (w : ChunkPayloadData → ℕ) where
   put-ordered : (x : ChunkPayloadData) (sets : List ChunkSet) → sum_by set_weight (sets_with x sets) ≤ sum_by set_weight sets + w x
   put-ordered x sets = by (list_any (has_ssn x.stream_sequence_number) sets)
     where
-      by : (b : Bool) → sum_by set_weight (if b then change_first (has_ssn x.stream_sequence_number) (with_chunk x) sets else insert_before set_before (new_set x) sets) ≤ sum_by set_weight sets + w x
+      by : (b : Bool) → sum_by set_weight (if b then change_first (has_ssn x.stream_sequence_number) (with_chunk x) sets
+          else insert_before set_before (new_set x) sets) ≤ sum_by set_weight sets + w x
       by true = first-changed (has_ssn x.stream_sequence_number) (with_chunk x) (w x) (chunk-put x) sets
       by false = let e = sum_by-inserted set_weight set_before (new_set x) sets in let o = one-chunk x in omega arith
 
@@ -80,7 +85,8 @@ module _ (w : ChunkPayloadData → ℕ) where
       nothing (suc k) = refl
   dropped (suc m) n (x ∷ xs) = dropped m n xs ∙ ap (λ k. drop k (x ∷ xs)) {x = suc (m + n)} {y = suc m + n} (omega arith)
 
-  run-taken : (xs : List ChunkPayloadData) (old new : Reassembly) → TakesRun xs old new → weight new ≡ sum_by set_weight old.ordered + sum_by set_weight old.unordered + sum_by w xs
+  run-taken : (xs : List ChunkPayloadData) (old new : Reassembly) → TakesRun xs old new
+      → weight new ≡ sum_by set_weight old.ordered + sum_by set_weight old.unordered + sum_by w xs
   run-taken xs old new t =
       let run = take t.count (drop t.first xs) in
       let a = sum_by-append w (take t.first xs) (drop (t.first + t.count) xs) in
@@ -88,11 +94,13 @@ module _ (w : ChunkPayloadData → ℕ) where
       let d = sum_by-cons set_weight (set_of_run run) [] in
       let e = run-chunks run in
       let f = split w t.first xs in
-      let g : sum_by w (take t.count (drop t.first xs)) + sum_by w (drop t.count (drop t.first xs)) ≡ sum_by w (drop t.first xs) = split w t.count (drop t.first xs) in
+      let g : sum_by w (take t.count (drop t.first xs)) + sum_by w (drop t.count (drop t.first xs)) ≡ sum_by w (drop t.first xs) =
+      split w t.count (drop t.first xs) in
       let h = ap (sum_by w) (dropped t.first t.count xs) in
       ap weight t.moved ∙ omega arith
 
-  pub becomes : (xs : List ChunkPayloadData) (old new : Reassembly) (complete : Bool) → BecomesComplete xs old new complete → weight new ≡ sum_by set_weight old.ordered + sum_by set_weight old.unordered + sum_by w xs
+  pub becomes : (xs : List ChunkPayloadData) (old new : Reassembly) (complete : Bool) → BecomesComplete xs old new complete
+      → weight new ≡ sum_by set_weight old.ordered + sum_by set_weight old.unordered + sum_by w xs
   becomes xs old new true t = run-taken xs old new t
   becomes xs old new false t = ap weight t.1
 
@@ -101,7 +109,8 @@ module _ (w : ChunkPayloadData → ℕ) where
     where
       by : (b : Bool) → PushesAs b x complete old new → weight new.held ≤ weight old.held + w x
       by false e = let h = pushed-in-order x old.held in let is = ap (λ (q : ReassemblyState). weight q.held) e.0 in omega arith
-      by true e = let h = becomes (insert_before chunk_before x old.held.unassembled) old.held new.held complete e.0 in let more = sum_by-inserted w chunk_before x old.held.unassembled in omega arith
+      by true e = let h = becomes (insert_before chunk_before x old.held.unassembled) old.held new.held complete e.0 in
+          let more = sum_by-inserted w chunk_before x old.held.unassembled in omega arith
 
   -- ## A message is read
 
@@ -113,7 +122,8 @@ module _ (w : ChunkPayloadData → ℕ) where
       by (s ∷ sets) e = at (is_readable next s)
         where
           at : (b : Bool) → message_weight (if b then Some s else None) + weight (after_read (if b then Some s else None) q) ≡ weight q
-          at true = let a = sum_by-cons set_weight s sets in let was = ap (sum_by set_weight) e in let now = ap (λ o. sum_by set_weight (without_first o)) e in omega arith
+          at true = let a = sum_by-cons set_weight s sets in let was = ap (sum_by set_weight) e in let now = ap (λ o. sum_by set_weight (without_first o)) e in
+              omega arith
           at false = omega arith
 
   pub read : (q : Reassembly) → message_weight (message_read q) + weight (rest_read q) ≡ weight q

@@ -7,7 +7,8 @@ use Rattle.sctp_data.specs.declared.chunk.chunk_payload_data.ChunkPayloadData.{C
 use Rattle.sctp_data.specs.declared.chunk.chunk_forward_tsn.ChunkForwardTsnStream.{ChunkForwardTsnStream}
 use Rattle.sctp_data.specs.ChunkSet.{ChunkSet}
 use Rattle.sctp_serial.specs.DataChunks.{bytes_of}
-use Rattle.sctp_reassembly.specs.reassembly_queue.ReassemblyQueue.{ReassemblyState, PushesUnordered, after_ordered_push, is_complete_with, message_read, state_read, after_ordered_skip, after_unordered_skip}
+use Rattle.sctp_reassembly.specs.reassembly_queue.ReassemblyQueue.{ReassemblyState, PushesUnordered, after_ordered_push, is_complete_with, message_read}
+use Rattle.sctp_reassembly.specs.reassembly_queue.ReassemblyQueue.{state_read, after_ordered_skip, after_unordered_skip}
 use Rattle.sctp_receiver.specs.declared.receiver.inbound_streams.InboundStream.{InboundStream}
 use Rattle.sctp_stream.specs.declared.stream.DataChannelStats.{DataChannelStats}
 use Rattle.sctp_stream.specs.Stats.{with_received}

@@ -1,5 +1,6 @@
 -- Runs of calls of a receiver, and what they hand out.
-use Rattle.std.specs.Prelude.{◌≡◌, ⊤, ℕ, ◌+◌, ◌*◌, ◌^◌, ◌<◌, ◌≤◌, ◌==◌, Bool, true, false, not, ◌&&◌, if◌then◌else◌, List, [], ◌∷◌, ◌++◌, length, All, Option, Some, None}
+use Rattle.std.specs.Prelude.{◌≡◌, ⊤, ℕ, ◌+◌, ◌*◌, ◌^◌, ◌<◌, ◌≤◌, ◌==◌, Bool, true, false, not, ◌&&◌, if◌then◌else◌, List, [], ◌∷◌, ◌++◌, length, All, Option}
+use Rattle.std.specs.Prelude.{Some, None}
 use Rattle.std.specs.List.{list_all, sum_by, filter}
 use Rattle.sctp_data.specs.declared.chunk.chunk_payload_data.ChunkPayloadData.{ChunkPayloadData}
 use Rattle.sctp_data.specs.ChunkSet.{ChunkSet}
@@ -10,7 +11,9 @@ use Rattle.sctp_receiver.specs.declared.receiver.arrival.Arrival.{Arrival}
 use Rattle.sctp_receiver.specs.declared.receiver.arrival.Arrival.TheVariants.{New, Repeat}
 use Rattle.sctp_receiver.specs.declared.receiver.limits.Limits.{Limits}
 use Rattle.sctp_receiver.specs.Limits.{cost_of}
-use Rattle.sctp_receiver.specs.Receiver.{Reception, at_first, is_open, open_stream, close_stream, data_refusal, arrival_of, is_told_complete, Takes, discard_refusal, after_discard, forward_refusal, without_duplicates, max_sack_entries, after_sack_within, message_on, after_read, after_forward}
+use Rattle.sctp_receiver.specs.Receiver.{Reception, at_first, is_open, open_stream, close_stream, data_refusal, arrival_of, is_told_complete, Takes}
+use Rattle.sctp_receiver.specs.Receiver.{discard_refusal, after_discard, forward_refusal, without_duplicates, max_sack_entries, after_sack_within, message_on}
+use Rattle.sctp_receiver.specs.Receiver.{after_read, after_forward}
 use Rattle.sctp_receiver.specs.Resets.{reset_stream, reset_refusal}
 use Rattle.sctp_receiver.specs.Skips.{after_forward_tsn}
 use Rattle.sctp_serial.specs.DataChunks.{is_on}

@@ -10,7 +10,9 @@ use Rattle.sctp_outbound.proofs.lemmas.pending_queue.Waiting.{bytes_of-change_wh
 use Rattle.sctp_serial.specs.DataChunks.{bytes_of, has_tsn}
 use Rattle.sctp_sender.specs.Resending.{can_miss, missed, sent_again}
 use Rattle.sctp_sender.specs.Sender.{Transmission}
-use Rattle.sctp_sender.specs.SenderRuns.{AfterEachRun, Call, Follows, IsAccounted, Ledger, Makes, RunsTo, at_start, held_by_sender, abandons, abandons_late, closes, keeps_reported, marks, misses, opens, released_by, resends, resends_at, reserves, resets, sends, sets_low, sets_mode, sets_size, starts, taken_back_by, takes_back, takes_sack, writes, written_by}
+use Rattle.sctp_sender.specs.SenderRuns.{AfterEachRun, Call, Follows, IsAccounted, Ledger, Makes, RunsTo, at_start, held_by_sender, abandons, abandons_late}
+use Rattle.sctp_sender.specs.SenderRuns.{closes, keeps_reported, marks, misses, opens, released_by, resends, resends_at, reserves, resets, sends, sets_low}
+use Rattle.sctp_sender.specs.SenderRuns.{sets_mode, sets_size, starts, taken_back_by, takes_back, takes_sack, writes, written_by}
 use Rattle.sctp_sender.proofs.Amounts.{started-bytes}
 
 -- what a call makes of the bytes that wait and are in flight

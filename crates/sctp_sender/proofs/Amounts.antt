@@ -3,7 +3,8 @@ use Rattle.std.proofs.Common.{◌≡◌, ℕ, ◌+◌, true, false, Bool, List, 
 use Rattle.std.specs.Prelude.{if◌then◌else◌, ◌==◌}
 use Rattle.std.proofs.lemmas.List.Sums.{sum_by-cons, sum_by-append}
 use Rattle.sctp_data.specs.declared.chunk.chunk_payload_data.ChunkPayloadData.{ChunkPayloadData}
-use Rattle.sctp_outbound.specs.outbound_queue.OutboundQueue.{Outbound, all_started, append_chunks, as_sent, sent_next, sent_of, total_bytes, with_message, with_message_id}
+use Rattle.sctp_outbound.specs.outbound_queue.OutboundQueue.{Outbound, all_started, append_chunks, as_sent, sent_next, sent_of, total_bytes, with_message}
+use Rattle.sctp_outbound.specs.outbound_queue.OutboundQueue.{with_message_id}
 use Rattle.sctp_outbound.specs.pending_queue.PendingQueue as pending
 use Rattle.sctp_outbound.specs.pending_queue.PendingQueue.{Pending, is_to_start, next_pending, start_pending, with_deadline}
 use Rattle.sctp_outbound.specs.pending_queue.Whole.{IsSendable}
@@ -40,23 +41,27 @@ message-bytes (c ∷ cs) q =
 pub started-bytes : (now : ℕ) (q : Outbound) → total_bytes (all_started now q) ≡ total_bytes q
 started-bytes now q = by (q.next_unstarted == q.next_message_id)
   where
-    by : (b : Bool) → total_bytes (if b then q else record q { pending = start_pending q.next_unstarted now q.pending; next_unstarted = q.next_message_id }) ≡ total_bytes q
+    by : (b : Bool)
+        → total_bytes (if b then q else record q { pending = start_pending q.next_unstarted now q.pending; next_unstarted = q.next_message_id }) ≡ total_bytes q
     by true = refl
     by false =
         let ordered = bytes_of-change_where (is_to_start q.next_unstarted) (with_deadline now) (λ _. refl) q.pending.ordered in
         let unordered = bytes_of-change_where (is_to_start q.next_unstarted) (with_deadline now) (λ _. refl) q.pending.unordered in
         omega arith
 
-started-sendable : (now : ℕ) (q : Outbound) → IsSendable q.pending q.inflight.chunks q.next_message_id → IsSendable (all_started now q).pending (all_started now q).inflight.chunks (all_started now q).next_message_id
+started-sendable : (now : ℕ) (q : Outbound) → IsSendable q.pending q.inflight.chunks q.next_message_id
+    → IsSendable (all_started now q).pending (all_started now q).inflight.chunks (all_started now q).next_message_id
 started-sendable now q s = by (q.next_unstarted == q.next_message_id)
   where
-    by : (b : Bool) → let r = if b then q else record q { pending = start_pending q.next_unstarted now q.pending; next_unstarted = q.next_message_id } in IsSendable r.pending r.inflight.chunks r.next_message_id
+    by : (b : Bool) → let r = if b then q else record q { pending = start_pending q.next_unstarted now q.pending; next_unstarted = q.next_message_id } in
+        IsSendable r.pending r.inflight.chunks r.next_message_id
     by true = s
     by false =
         let keeps : KeepsMessage (with_deadline now) = record { number = λ _. refl; begins = λ _. refl; ends = λ _. refl; kind = λ _. refl } in
         sendable-changed _ _ _ _ _ _ _ _ _ (is_to_start q.next_unstarted) (is_to_start q.next_unstarted) (with_deadline now) (with_deadline now) keeps keeps s
 
-moved-bytes : (tsn now : ℕ) (q : Outbound) (o : Option ChunkPayloadData) → next_pending q.pending ≡ o → IsSendable q.pending q.inflight.chunks q.next_message_id → total_bytes (sent_of o q tsn now) ≡ total_bytes q
+moved-bytes : (tsn now : ℕ) (q : Outbound) (o : Option ChunkPayloadData) → next_pending q.pending ≡ o → IsSendable q.pending q.inflight.chunks q.next_message_id
+    → total_bytes (sent_of o q tsn now) ≡ total_bytes q
 moved-bytes tsn now q None e s = refl
 moved-bytes tsn now q (Some c) e s =
     let t = as_sent tsn now c in
@@ -65,4 +70,5 @@ moved-bytes tsn now q (Some c) e s =
     omega (arith, left, more)
 
 pub sent-bytes : (tsn now : ℕ) (q : Outbound) → IsSendable q.pending q.inflight.chunks q.next_message_id → total_bytes (sent_next q tsn now) ≡ total_bytes q
-sent-bytes tsn now q s = moved-bytes tsn now (all_started now q) (next_pending (all_started now q).pending) refl (started-sendable now q s) ∙ started-bytes now q
+sent-bytes tsn now q s = moved-bytes tsn now (all_started now q) (next_pending (all_started now q).pending) refl (started-sendable now q s)
+    ∙ started-bytes now q

@@ -1,5 +1,6 @@
 -- How far a FORWARD-TSN goes that ends with a message.
-use Rattle.std.proofs.Common.{◌≡◌, ℕ, zero, suc, ◌+◌, ◌-◌, ◌*◌, ◌/◌, ◌<◌, ◌≤◌, ◌%◌, ◌^◌, ◌⊎◌, Bool, true, false, List, [], ◌∷◌, ◌++◌, length, length-append, length-set, take, get_or, set, Option, Some, None, inl, inr, refl, ap, sym, subst, ◌∙◌, arith}
+use Rattle.std.proofs.Common.{◌≡◌, ℕ, zero, suc, ◌+◌, ◌-◌, ◌*◌, ◌/◌, ◌<◌, ◌≤◌, ◌%◌, ◌^◌, ◌⊎◌, Bool, true, false, List, [], ◌∷◌, ◌++◌, length, length-append}
+use Rattle.std.proofs.Common.{length-set, take, get_or, set, Option, Some, None, inl, inr, refl, ap, sym, subst, ◌∙◌, arith}
 use Rattle.std.specs.Prelude.{if◌then◌else◌, ◌&&◌, find, nat_le, nat_lt, option_map}
 use Rattle.std.specs.List.{filter}
 use Rattle.std.proofs.lemmas.Bool.{cases_lt, false≢true}
@@ -13,7 +14,8 @@ use Rattle.sctp_outbound.specs.pending_queue.PendingQueue.{last_of}
 use Rattle.sctp_outbound.specs.pending_queue.Whole.{ends}
 use Rattle.sctp_serial.specs.DataChunks.{following_tsn, has_tsn}
 use Rattle.sctp_sender.specs.Flight.{Flight, IsContiguous}
-use Rattle.sctp_sender.specs.Abandonment.{IsFirstPair, IsLastEnd, IsMore, IsNoPair, IsTooLong, Name, advanced_ack_point, ahead, can_skip_to, ends_in, is_end, is_named, is_pair_of, last_end, named_up_to, pair_of, skip_end}
+use Rattle.sctp_sender.specs.Abandonment.{IsFirstPair, IsLastEnd, IsMore, IsNoPair, IsTooLong, Name, advanced_ack_point, ahead, can_skip_to, ends_in, is_end}
+use Rattle.sctp_sender.specs.Abandonment.{is_named, is_pair_of, last_end, named_up_to, pair_of, skip_end}
 use Rattle.sctp_sender.proofs.Names.{added, last-push, renamed}
 use Rattle.sctp_sender.proofs.Places.{place-is}
 use Rattle.sctp_sender.proofs.Runs.{found-at, tsn-at}
@@ -25,29 +27,34 @@ both true b h = (refl, h)
 both false b h = absurd (false≢true h)
 
 module _ (cs : List ChunkPayloadData) where
-  one-more : (n : ℕ) (d : ChunkPayloadData) (b : Bool) → n < length cs → ends (get_or cs n d) ≡ b → filter ends (take (n + 1) cs) ≡ filter ends (take n cs) ++ (if b then get_or cs n d ∷ [] else [])
+  one-more : (n : ℕ) (d : ChunkPayloadData) (b : Bool) → n < length cs → ends (get_or cs n d) ≡ b
+      → filter ends (take (n + 1) cs) ≡ filter ends (take n cs) ++ (if b then get_or cs n d ∷ [] else [])
   one-more n d b lt e = those-more ends cs n d lt ∙ ap (λ k. filter ends (take n cs) ++ (if k then get_or cs n d ∷ [] else [])) e
 
-  same-ends : (j end : ℕ) (d : ChunkPayloadData) → end + j ≤ length cs → ((i : ℕ) → end ≤ i → i < end + j → ends (get_or cs i d) ≡ false) → filter ends (take (end + j) cs) ≡ filter ends (take end cs)
+  same-ends : (j end : ℕ) (d : ChunkPayloadData) → end + j ≤ length cs → ((i : ℕ) → end ≤ i → i < end + j → ends (get_or cs i d) ≡ false)
+      → filter ends (take (end + j) cs) ≡ filter ends (take end cs)
   same-ends zero end d in' none = let same : end + 0 ≡ end = omega arith in ap (λ n. filter ends (take n cs)) same
   same-ends (suc j) end d in' none =
       let next : end + suc j ≡ end + j + 1 = omega arith in
-      ap (λ n. filter ends (take n cs)) next ∙ one-more (end + j) d false (omega (arith, in')) (none (end + j) (omega arith) (omega arith)) ∙ append-nil (filter ends (take (end + j) cs))
-      ∙ same-ends j end d (omega (arith, in')) (λ i le lt. none i le (omega (arith, lt)))
+      ap (λ n. filter ends (take n cs)) next ∙ one-more (end + j) d false (omega (arith, in')) (none (end + j) (omega arith) (omega arith))
+      ∙ append-nil (filter ends (take (end + j) cs)) ∙ same-ends j end d (omega (arith, in')) (λ i le lt. none i le (omega (arith, lt)))
 
   up-to : (end count : ℕ) → IsLastEnd end count cs → count ≤ length cs → (d : ChunkPayloadData) → filter ends (take count cs) ≡ filter ends (take end cs)
   up-to end count is in' d =
       let sum : end + (count - end) ≡ count = omega (arith, is.within) in
       ap (λ n. filter ends (take n cs)) (sym sum)
-      ∙ same-ends (count - end) end d (omega (arith, is.within, in')) (λ i le lt. let at : i + 1 - 1 ≡ i = omega arith in ap (λ k. ends (get_or cs k d)) (sym at) ∙ is.last (i + 1) d (omega (arith, le)) (omega (arith, lt, is.within)))
+      ∙ same-ends (count - end) end d (omega (arith, is.within, in')) (λ i le lt. let at : i + 1 - 1 ≡ i = omega arith in
+      ap (λ k. ends (get_or cs k d)) (sym at) ∙ is.last (i + 1) d (omega (arith, le)) (omega (arith, lt, is.within)))
 
   pub last-none : (count : ℕ) → IsLastEnd 0 count cs → count ≤ length cs → (d : ChunkPayloadData) → last_of (filter ends (take count cs)) ≡ None
   last-none count is in' d = ap last_of (up-to 0 count is in' d)
 
-  pub last-some : (end count : ℕ) → IsLastEnd end count cs → 0 < end → count ≤ length cs → (d : ChunkPayloadData) → last_of (filter ends (take count cs)) ≡ Some (get_or cs (end - 1) d)
+  pub last-some : (end count : ℕ) → IsLastEnd end count cs → 0 < end → count ≤ length cs → (d : ChunkPayloadData)
+      → last_of (filter ends (take count cs)) ≡ Some (get_or cs (end - 1) d)
   last-some end count is some in' d =
       let at : end ≡ end - 1 + 1 = omega (arith, some) in
-      ap last_of (up-to end count is in' d ∙ ap (λ n. filter ends (take n cs)) at ∙ one-more (end - 1) d true (omega (arith, some, is.within, in')) (is.ended some d))
+      ap last_of (up-to end count is in' d ∙ ap (λ n. filter ends (take n cs)) at
+      ∙ one-more (end - 1) d true (omega (arith, some, is.within, in')) (is.ended some d))
       ∙ last-push (filter ends (take (end - 1) cs)) (get_or cs (end - 1) d)
 
 module _ (f : Flight) (inv : IsContiguous f) (tsn : ℕ) where
@@ -63,7 +70,8 @@ module _ (f : Flight) (inv : IsContiguous f) (tsn : ℕ) where
 
     pub ends-at : (end : ℕ) → IsLastEnd end (ahead f tsn) f.queue.inflight.chunks → 0 < end → Some ((f.acked_tsn + end) % 2 ^ 32) ≡ skip_end tsn f
     ends-at end is some =
-        let read = tsn-at f.queue.inflight.chunks (following_tsn f.acked_tsn) (end - 1) d (omega (arith, inv.in_range)) inv.run (omega (arith, some, is.within, within)) in
+        let read = tsn-at f.queue.inflight.chunks (following_tsn f.acked_tsn)
+        (end - 1) d (omega (arith, inv.in_range)) inv.run (omega (arith, some, is.within, within)) in
         let same : (f.acked_tsn + end) % 2 ^ 32 ≡ (following_tsn f.acked_tsn + (end - 1)) % 2 ^ 32 = omega (arith, some) in
         ap Some (same ∙ sym read) ∙ sym (ap goes can ∙ ap (option_map (λ c. c.tsn)) (last-some f.queue.inflight.chunks end (ahead f tsn) is some within d))
 
@@ -77,7 +85,8 @@ first-or-none s (p ∷ ps) = by (is_pair_of s p) refl (first-or-none s ps)
     later e n none zero d lt = e
     later e n none (suc k) d lt = none k d (omega (arith, lt))
 
-    by : (b : Bool) → is_pair_of s p ≡ b → ((k : ℕ) × IsFirstPair s ps k) ⊎ IsNoPair s ps (length ps) → ((k : ℕ) × IsFirstPair s (p ∷ ps) k) ⊎ IsNoPair s (p ∷ ps) (length (p ∷ ps))
+    by : (b : Bool) → is_pair_of s p ≡ b → ((k : ℕ) × IsFirstPair s ps k) ⊎ IsNoPair s ps (length ps)
+        → ((k : ℕ) × IsFirstPair s (p ∷ ps) k) ⊎ IsNoPair s (p ∷ ps) (length (p ∷ ps))
     by true e h = inl (0, record { inside = omega arith; here = λ d. e; before = λ k d lt. absurd (omega (arith, lt)) })
     by false e (inl h) = inl (suc h.0, record { inside = (let i = h.1.inside in omega (arith, i)); here = h.1.here; before = later e h.0 h.1.before })
     by false e (inr none) = inr (later e (length ps) none)
@@ -93,20 +102,23 @@ more-pairs least cs c h = by (first-or-none c.stream_identifier h.0)
     by (inr none) = (h.0 ++ pair_of c ∷ [], added h.0 cs c none h.1, (let n = length-append h.0 (pair_of c ∷ []) in omega (arith, n, h.2)))
 
 module _ (cs : List ChunkPayloadData) (least : ℕ) where
-  next-pairs : (n : ℕ) → n < length cs → (d : ChunkPayloadData) → MoreThan least (filter is_named (take n cs)) → MoreThan least (filter is_named (take (n + 1) cs))
+  next-pairs : (n : ℕ) → n < length cs → (d : ChunkPayloadData) → MoreThan least (filter is_named (take n cs))
+      → MoreThan least (filter is_named (take (n + 1) cs))
   next-pairs n lt d h = subst (MoreThan least) (sym (those-more is_named cs n d lt)) (by (is_named (get_or cs n d)))
     where
       by : (b : Bool) → MoreThan least (filter is_named (take n cs) ++ (if b then get_or cs n d ∷ [] else []))
       by true = more-pairs least (filter is_named (take n cs)) (get_or cs n d) h
       by false = subst (MoreThan least) (sym (append-nil (filter is_named (take n cs)))) h
 
-  later-pairs : (j n : ℕ) → n + j ≤ length cs → (d : ChunkPayloadData) → MoreThan least (filter is_named (take n cs)) → MoreThan least (filter is_named (take (n + j) cs))
+  later-pairs : (j n : ℕ) → n + j ≤ length cs → (d : ChunkPayloadData) → MoreThan least (filter is_named (take n cs))
+      → MoreThan least (filter is_named (take (n + j) cs))
   later-pairs zero n in' d h = let same : n + 0 ≡ n = omega arith in subst (λ k. MoreThan least (filter is_named (take k cs))) (sym same) h
   later-pairs (suc j) n in' d h =
       let next : n + j + 1 ≡ n + suc j = omega arith in
       subst (λ k. MoreThan least (filter is_named (take k cs))) next (next-pairs (n + j) (omega (arith, in')) d (later-pairs j n (omega (arith, in')) d h))
 
-pub is-more : (cs : List ChunkPayloadData) (room n k : ℕ) → n ≤ k → k ≤ length cs → (d : ChunkPayloadData) → IsMore room (filter is_named (take n cs)) → IsMore room (filter is_named (take k cs))
+pub is-more : (cs : List ChunkPayloadData) (room n k : ℕ) → n ≤ k → k ≤ length cs → (d : ChunkPayloadData) → IsMore room (filter is_named (take n cs))
+    → IsMore room (filter is_named (take k cs))
 is-more cs room n k le in' d h =
     let sum : n + (k - n) ≡ k = omega (arith, le) in
     let m = later-pairs cs (room + 1) (k - n) n (omega (arith, le, in')) d (h.0, h.1, omega (arith, h.2)) in
@@ -129,7 +141,8 @@ module _ (f : Flight) (inv : IsContiguous f) where
   cs = f.queue.inflight.chunks
 
   -- where a message ends, stands a chunk that ends it
-  end-place : (t : ℕ) → is_end t f ≡ true → (c : ChunkPayloadData) × (can_skip_to t f ≡ true) × (0 < ahead f t) × (ahead f t ≤ length cs) × (ends (get_or cs (ahead f t - 1) c) ≡ true)
+  end-place : (t : ℕ) → is_end t f ≡ true
+      → (c : ChunkPayloadData) × (can_skip_to t f ≡ true) × (0 < ahead f t) × (ahead f t ≤ length cs) × (ends (get_or cs (ahead f t - 1) c) ≡ true)
   end-place t is =
       let h = both (can_skip_to t f) (ends_in (find (has_tsn t) cs)) is in
       let e = found-end (find (has_tsn t) cs) h.1 in
@@ -145,7 +158,8 @@ module _ (f : Flight) (inv : IsContiguous f) where
       (m.0, m.1, omega (arith, short))
 
   module _ (bytes room count most : ℕ) (long : 8 ≤ bytes) (room-is : room ≡ (bytes - 8) / 4) (most-is : most ≡ ahead f (advanced_ack_point f)) where
-    pub later-long : ((k : ℕ) (d : ChunkPayloadData) → count < k → k ≤ most → ends (get_or cs (k - 1) d) ≡ true → IsMore room (filter is_named (take k cs))) → (t : ℕ) → is_end t f ≡ true → (ahead f t ≤ count) ⊎ IsTooLong bytes t f
+    pub later-long : ((k : ℕ) (d : ChunkPayloadData) → count < k → k ≤ most → ends (get_or cs (k - 1) d) ≡ true → IsMore room (filter is_named (take k cs)))
+        → (t : ℕ) → is_end t f ≡ true → (ahead f t ≤ count) ⊎ IsTooLong bytes t f
     later-long far t is =
         let h = end-place t is in
         elim (cases_lt count (ahead f t)) [
@@ -165,7 +179,8 @@ module _ (f : Flight) (inv : IsContiguous f) where
         by (inr l) = l
 
   -- a chunk there ends a message
-  pub is-end-at : (count : ℕ) (d : ChunkPayloadData) → can_skip_to ((f.acked_tsn + count) % 2 ^ 32) f ≡ true → 0 < count → count ≤ length cs → ends (get_or cs (count - 1) d) ≡ true → is_end ((f.acked_tsn + count) % 2 ^ 32) f ≡ true
+  pub is-end-at : (count : ℕ) (d : ChunkPayloadData) → can_skip_to ((f.acked_tsn + count) % 2 ^ 32) f ≡ true → 0 < count → count ≤ length cs
+      → ends (get_or cs (count - 1) d) ≡ true → is_end ((f.acked_tsn + count) % 2 ^ 32) f ≡ true
   is-end-at count d can some in' e =
       let at = found-at cs (following_tsn f.acked_tsn) (count - 1) d (omega (arith, inv.in_range)) inv.run inv.few (omega (arith, some, in')) in
       let same : (f.acked_tsn + count) % 2 ^ 32 ≡ (following_tsn f.acked_tsn + (count - 1)) % 2 ^ 32 = omega (arith, some) in

@@ -40,21 +40,25 @@ fragment tsn begins ends bytes = fresh (record {
 
 -- 103 and 104 are abandoned, 105 is outstanding, and 106 was reported: RFC 3758 3.5 C2 goes to 104
 abbrev in_flight : List ChunkPayloadData → Flight
-in_flight chunks = record (flight.at_first 103) { queue = record (flight.at_first 103).queue { inflight = record { chunks = chunks; duplicates = []; room = 0 } }; next_tsn = 107 }
+in_flight chunks = record (flight.at_first 103)
+    { queue = record (flight.at_first 103).queue { inflight = record { chunks = chunks; duplicates = []; room = 0 } }; next_tsn = 107 }
 
 abbrev chunk_abandoned_at : ℕ → ChunkPayloadData
 chunk_abandoned_at tsn = as_abandoned (fragment tsn true true (1 ∷ []))
 
-point : advanced_ack_point (in_flight (chunk_abandoned_at 103 ∷ chunk_abandoned_at 104 ∷ fragment 105 true true (1 ∷ []) ∷ as_acknowledged (fragment 106 true true (1 ∷ [])) ∷ [])) ≡ 104
+point : advanced_ack_point (in_flight
+    (chunk_abandoned_at 103 ∷ chunk_abandoned_at 104 ∷ fragment 105 true true (1 ∷ []) ∷ as_acknowledged (fragment 106 true true (1 ∷ [])) ∷ [])) ≡ 104
 point = refl
 
 -- where 105 is abandoned too, the point stops before what was only reported
-far_point : advanced_ack_point (in_flight (chunk_abandoned_at 103 ∷ chunk_abandoned_at 104 ∷ chunk_abandoned_at 105 ∷ as_acknowledged (fragment 106 true true (1 ∷ [])) ∷ [])) ≡ 105
+far_point : advanced_ack_point
+    (in_flight (chunk_abandoned_at 103 ∷ chunk_abandoned_at 104 ∷ chunk_abandoned_at 105 ∷ as_acknowledged (fragment 106 true true (1 ∷ [])) ∷ [])) ≡ 105
 far_point = refl
 
 -- a chunk past its deadline is abandoned with its message, whose two bytes leave
 abbrev past_deadline : Flight
-past_deadline = in_flight (record (fragment 103 true false (1 ∷ [])) { deadline = Some 5 } ∷ record (fragment 104 false true (2 ∷ [])) { deadline = Some 5 } ∷ [])
+past_deadline =
+    in_flight (record (fragment 103 true false (1 ∷ [])) { deadline = Some 5 } ∷ record (fragment 104 false true (2 ∷ [])) { deadline = Some 5 } ∷ [])
 
 order : late_order 5 past_deadline ≡ 103 ∷ 104 ∷ []
 order = refl
@@ -82,7 +86,8 @@ fourth = refl
 
 -- one sending after the first is allowed: a marked chunk that was sent twice is worn out, unless it is of a DCEP message
 abbrev marked_after : ℕ → PayloadProtocolIdentifier → Flight
-marked_after count ppi = in_flight (record (fragment 103 true true (1 ∷ [])) { payload_type = ppi; reliability = Some (Rexmit, 1); nsent = count; retransmit = true } ∷ [])
+marked_after count ppi =
+    in_flight (record (fragment 103 true true (1 ∷ [])) { payload_type = ppi; reliability = Some (Rexmit, 1); nsent = count; retransmit = true } ∷ [])
 
 worn : worn_tsns (marked_after 2 identifiers.Binary) ≡ 103 ∷ []
 worn = refl
@@ -97,14 +102,16 @@ never = refl
 
 -- a stream with ten bytes and a threshold of five, and one with ten bytes and none
 abbrev amounts : List StreamState
-amounts = record (new_stream 1 1200 100 identifiers.Unknown) { buffered_amount = 10; buffered_amount_low = 5 } ∷ record (new_stream 2 1200 100 identifiers.Unknown) { buffered_amount = 10 } ∷ []
+amounts = record (new_stream 1 1200 100 identifiers.Unknown) { buffered_amount = 10; buffered_amount_low = 5 }
+    ∷ record (new_stream 2 1200 100 identifiers.Unknown) { buffered_amount = 10 } ∷ []
 
 abbrev gone : ℕ → ℕ → Released
 gone stream bytes = record { tsn = 7; stream = stream; bytes = bytes; nsent = 1; since = Some 0; message = 0; is_message_acked = false; is_low = false }
 
 -- three bytes at a time: the second chunk of the first stream goes from seven to four, and the third tells nothing more; what has no bytes
 -- tells nothing; the other stream falls to 0 with its last byte, and one that isn't open never
-falls : map (λ (r : Released). r.is_low) (with_lows (gone 1 3 ∷ gone 2 9 ∷ gone 1 0 ∷ gone 1 3 ∷ gone 1 3 ∷ gone 2 1 ∷ gone 3 9 ∷ []) amounts) ≡ false ∷ false ∷ false ∷ true ∷ false ∷ true ∷ false ∷ []
+falls : map (λ (r : Released). r.is_low) (with_lows (gone 1 3 ∷ gone 2 9 ∷ gone 1 0 ∷ gone 1 3 ∷ gone 1 3 ∷ gone 2 1 ∷ gone 3 9 ∷ []) amounts)
+    ≡ false ∷ false ∷ false ∷ true ∷ false ∷ true ∷ false ∷ []
 falls = refl
 
 -- ## What a SACK reports
@@ -170,7 +177,8 @@ told : told_back back reported_two.queue.inflight.chunks ≡ record { tsn = 104;
 unfolding distance comes_before at_or_before
 told = refl
 
-outstanding : option_map (λ (c : ChunkPayloadData). c.user_data) (find (λ c. not c.acked && c.tsn == 104) (with_restored back reported_two).queue.inflight.chunks) ≡ Some (4 ∷ [])
+outstanding : option_map (λ (c : ChunkPayloadData). c.user_data)
+    (find (λ c. not c.acked && c.tsn == 104) (with_restored back reported_two).queue.inflight.chunks) ≡ Some (4 ∷ [])
 unfolding distance comes_before at_or_before
 outstanding = refl
 

@@ -1,5 +1,6 @@
 -- A number that is far past the first in flight has many chunks before it.
-use Rattle.std.proofs.Common.{◌≡◌, ℕ, ◌+◌, ◌-◌, ◌<◌, ◌≤◌, ◌%◌, ◌^◌, Bool, true, false, List, [], ◌∷◌, ◌++◌, length, length-append, Option, Some, None, inl, inr, refl, ap, sym, ◌∙◌, arith}
+use Rattle.std.proofs.Common.{◌≡◌, ℕ, ◌+◌, ◌-◌, ◌<◌, ◌≤◌, ◌%◌, ◌^◌, Bool, true, false, List, [], ◌∷◌, ◌++◌, length, length-append, Option, Some, None, inl, inr}
+use Rattle.std.proofs.Common.{refl, ap, sym, ◌∙◌, arith}
 use Rattle.std.specs.Prelude.{if◌then◌else◌, ◌&&◌, nat_le}
 use Rattle.std.specs.List.{filter, find}
 use Rattle.std.proofs.lemmas.Bool.Decides.{nat_tests}
@@ -11,7 +12,8 @@ step : (n m c far : ℕ) → n < 2 ^ 16 → m ≡ (n + 1) % 2 ^ 16 → (c + (2 ^
 step n m c far small is le = omega arith
 
 -- each chunk takes one step at most
-no-further : (n : ℕ) (cs : List ChunkPayloadData) (c : ChunkPayloadData) → n < 2 ^ 16 → StepFrom n (cs ++ c ∷ []) → (c.stream_sequence_number + (2 ^ 16 - n)) % 2 ^ 16 ≤ length cs + 1
+no-further : (n : ℕ) (cs : List ChunkPayloadData) (c : ChunkPayloadData) → n < 2 ^ 16 → StepFrom n (cs ++ c ∷ [])
+    → (c.stream_sequence_number + (2 ^ 16 - n)) % 2 ^ 16 ≤ length cs + 1
 no-further n [] c small (inl same, h) = omega (arith, same, small)
 no-further n [] c small (inr next, h) = omega (arith, next, small)
 no-further n (d ∷ ds) c small (inl same, h) = let l = no-further d.stream_sequence_number ds c (omega (arith, same, small)) h in omega (arith, l, same)

@@ -1,5 +1,6 @@
 -- What is kept place by place, and what comes back.
-use Rattle.std.proofs.Common.{◌≡◌, ℕ, zero, suc, ◌+◌, ◌-◌, ◌<◌, ◌≤◌, ◌%◌, ◌^◌, Bool, true, false, List, [], ◌∷◌, ◌++◌, length, length-append, map, take, drop, get_or, set, Option, Some, None, inl, inr, refl, ap, sym, subst, ◌∙◌, arith}
+use Rattle.std.proofs.Common.{◌≡◌, ℕ, zero, suc, ◌+◌, ◌-◌, ◌<◌, ◌≤◌, ◌%◌, ◌^◌, Bool, true, false, List, [], ◌∷◌, ◌++◌, length, length-append, map, take, drop}
+use Rattle.std.proofs.Common.{get_or, set, Option, Some, None, inl, inr, refl, ap, sym, subst, ◌∙◌, arith}
 use Rattle.std.specs.Prelude.{if◌then◌else◌, ◌&&◌, is_some, not, min, nat_lt}
 use Rattle.std.specs.List.{list_all, sum_by}
 use Rattle.std.proofs.lemmas.Bool.{cases_lt, false≢true}
@@ -17,7 +18,8 @@ use Rattle.sctp_sender.specs.declared.sender.flight.keeping.TakenBack.{TakenBack
 use Rattle.sctp_sender.specs.declared.sender.refusal.SenderRefusal.{SenderRefusal}
 use Rattle.sctp_sender.specs.declared.sender.refusal.SenderRefusal.TheVariants.{InflightQueueTsnPop, TsnRequestNotExist}
 use Rattle.sctp_sender.specs.Flight.{Flight, IsContiguous, count_acked, is_outdated, is_within, reports, sack_refusal, tsns_from}
-use Rattle.sctp_sender.specs.Keeping.{back_each, back_of, bytes_back, keep, keep_each, kept_after, kept_from, restored, restored_with, told_back, told_of, trimmed, with_restored}
+use Rattle.sctp_sender.specs.Keeping.{back_each, back_of, bytes_back, keep, keep_each, kept_after, kept_from, restored, restored_with, told_back, told_of}
+use Rattle.sctp_sender.specs.Keeping.{trimmed, with_restored}
 use Rattle.sctp_sender.specs.Reporting.{after_blocks}
 use Rattle.sctp_sender.specs.SideBySide.{StandSideBySide, number_of_half}
 use Rattle.sctp_sender.specs.Totals.{AreSettled, IsAllSettled}
@@ -55,7 +57,8 @@ pub record IsUsed (used : ℕ) (ks : List (Option (List ℕ))) : Type 0 where
   pub within : used ≤ length ks
 
 -- with one place more, of which something is kept, or nothing
-pub used-more : (used : ℕ) (ks : List (Option (List ℕ))) (k : Option (List ℕ)) → IsUsed used ks → IsUsed (if is_some k then length (ks ++ k ∷ []) else used) (ks ++ k ∷ [])
+pub used-more : (used : ℕ) (ks : List (Option (List ℕ))) (k : Option (List ℕ)) → IsUsed used ks
+    → IsUsed (if is_some k then length (ks ++ k ∷ []) else used) (ks ++ k ∷ [])
 used-more used ks None u = record {
   trims = trimmed-none ks ∙ u.trims ∙ sym (take-append-le used ks (None ∷ []) u.within);
   within = let n = length-append ks (None ∷ []) in omega (arith, n, u.within);
@@ -75,7 +78,8 @@ module _ (s : Sack) where
   length-keep_each (c ∷ cs) [] = ap suc (length-keep_each cs [])
   length-keep_each (c ∷ cs) (k ∷ ks) = ap suc (length-keep_each cs ks)
 
-  pub kept-at : (cs : List ChunkPayloadData) (ks : List (Option (List ℕ))) (i : ℕ) (d : ChunkPayloadData) → i < length cs → get_or (keep_each s cs ks) i None ≡ keep s (get_or cs i d) (get_or ks i None)
+  pub kept-at : (cs : List ChunkPayloadData) (ks : List (Option (List ℕ))) (i : ℕ) (d : ChunkPayloadData) → i < length cs
+      → get_or (keep_each s cs ks) i None ≡ keep s (get_or cs i d) (get_or ks i None)
   kept-at [] ks i d lt = absurd (omega (arith, lt))
   kept-at (c ∷ cs) [] zero d lt = refl
   kept-at (c ∷ cs) [] (suc i) d lt = kept-at cs [] i d (omega (arith, lt))
@@ -83,7 +87,9 @@ module _ (s : Sack) where
   kept-at (c ∷ cs) (k ∷ ks) (suc i) d lt = kept-at cs ks i d (omega (arith, lt))
 
   -- one place more
-  pub keep-more : (cs : List ChunkPayloadData) (ks : List (Option (List ℕ))) (start i : ℕ) (c : ChunkPayloadData) (k : Option (List ℕ)) → start ≤ i → i < length cs → c ≡ get_or cs i c → k ≡ keep s c (get_or ks i None) → drop start (take (i + 1) (keep_each s cs ks)) ≡ drop start (take i (keep_each s cs ks)) ++ k ∷ []
+  pub keep-more : (cs : List ChunkPayloadData) (ks : List (Option (List ℕ))) (start i : ℕ) (c : ChunkPayloadData) (k : Option (List ℕ)) → start ≤ i
+      → i < length cs → c ≡ get_or cs i c → k ≡ keep s c (get_or ks i None)
+      → drop start (take (i + 1) (keep_each s cs ks)) ≡ drop start (take i (keep_each s cs ks)) ++ k ∷ []
   keep-more cs ks start i c k le lt here is =
       let all : List (Option (List ℕ)) = keep_each s cs ks in
       let n = length-keep_each cs ks in
@@ -99,15 +105,18 @@ module _ (s : Sack) where
   length-back_each [] (k ∷ ks) = omega arith
   length-back_each (c ∷ cs) (k ∷ ks) = let h = length-back_each cs ks in omega arith
 
-  pub back-more : (cs : List ChunkPayloadData) (ks : List (Option (List ℕ))) (i : ℕ) (c : ChunkPayloadData) (b : Option (List ℕ)) → i < length cs → i < length ks → c ≡ get_or cs i c → b ≡ back_of s c (get_or ks i None) → back_each s cs (take (i + 1) ks) ≡ back_each s cs (take i ks) ++ b ∷ []
+  pub back-more : (cs : List ChunkPayloadData) (ks : List (Option (List ℕ))) (i : ℕ) (c : ChunkPayloadData) (b : Option (List ℕ)) → i < length cs
+      → i < length ks → c ≡ get_or cs i c → b ≡ back_of s c (get_or ks i None) → back_each s cs (take (i + 1) ks) ≡ back_each s cs (take i ks) ++ b ∷ []
   back-more cs [] i c b lt less here is = absurd (omega (arith, less))
   back-more [] (k ∷ ks) i c b lt less here is = absurd (omega (arith, lt))
   back-more (x ∷ cs) (k ∷ ks) zero c b lt less here is = ap (λ y. y ∷ []) (ap (λ y. back_of s y k) (sym here) ∙ sym is)
   back-more (x ∷ cs) (k ∷ ks) (suc i) c b lt less here is =
       let next : suc i + 1 ≡ suc (i + 1) = omega arith in
-      ap (λ n. back_each s (x ∷ cs) (take n (k ∷ ks))) next ∙ ap (λ ys. back_of s x k ∷ ys) (back-more cs ks i c b (omega (arith, lt)) (omega (arith, less)) here is)
+      ap (λ n. back_each s (x ∷ cs) (take n (k ∷ ks))) next
+      ∙ ap (λ ys. back_of s x k ∷ ys) (back-more cs ks i c b (omega (arith, lt)) (omega (arith, less)) here is)
 
-  pub back-all : (n : ℕ) (cs : List ChunkPayloadData) (ks : List (Option (List ℕ))) → min (length ks) (length cs) ≤ n → back_each s cs (take n ks) ≡ back_each s cs ks
+  pub back-all : (n : ℕ) (cs : List ChunkPayloadData) (ks : List (Option (List ℕ))) → min (length ks) (length cs) ≤ n
+      → back_each s cs (take n ks) ≡ back_each s cs ks
   back-all zero cs [] le = refl
   back-all (suc n) cs [] le = refl
   back-all zero [] (k ∷ ks) le = refl
@@ -122,7 +131,8 @@ reported-open reported acked abandoned e f = ap (λ b. (b && not abandoned) && n
 
 -- ## What is told
 
-pub told-more : (bs : List (Option (List ℕ))) (cs : List ChunkPayloadData) (i : ℕ) (c : ChunkPayloadData) (b : Option (List ℕ)) → i < length bs → i < length cs → c ≡ get_or cs i c → b ≡ get_or bs i None → told_back (take (i + 1) bs) cs ≡ told_back (take i bs) cs ++ told_of b c
+pub told-more : (bs : List (Option (List ℕ))) (cs : List ChunkPayloadData) (i : ℕ) (c : ChunkPayloadData) (b : Option (List ℕ)) → i < length bs → i < length cs
+    → c ≡ get_or cs i c → b ≡ get_or bs i None → told_back (take (i + 1) bs) cs ≡ told_back (take i bs) cs ++ told_of b c
 told-more [] cs i c b less lt here is = absurd (omega (arith, less))
 told-more (x ∷ bs) [] i c b less lt here is = absurd (omega (arith, lt))
 told-more (x ∷ bs) (y ∷ cs) zero c b less lt here is = ap (λ z. told_of z y ++ []) (sym is) ∙ ap (λ z. told_of b z ++ []) (sym here) ∙ nil (told_of b c)
@@ -166,7 +176,8 @@ length-restored [] cs = refl
 length-restored (b ∷ bs) [] = refl
 length-restored (b ∷ bs) (c ∷ cs) = ap suc (length-restored bs cs)
 
-pub map-restored : {B : Type 0} (f : ChunkPayloadData → B) → ((bytes : List ℕ) (c : ChunkPayloadData) → f (as_taken_back bytes c) ≡ f c) → (bs : List (Option (List ℕ))) (cs : List ChunkPayloadData) → map f (restored bs cs) ≡ map f cs
+pub map-restored : {B : Type 0} (f : ChunkPayloadData → B) → ((bytes : List ℕ) (c : ChunkPayloadData) → f (as_taken_back bytes c) ≡ f c)
+    → (bs : List (Option (List ℕ))) (cs : List ChunkPayloadData) → map f (restored bs cs) ≡ map f cs
 map-restored f same [] cs = refl
 map-restored f same (b ∷ bs) [] = refl
 map-restored f same (None ∷ bs) (c ∷ cs) = ap (λ ys. f c ∷ ys) (map-restored f same bs cs)
@@ -183,7 +194,8 @@ restored-none [] (c ∷ cs) = refl
 restored-none (b ∷ bs) [] = refl
 restored-none (b ∷ bs) (c ∷ cs) = ap (λ ys. restored_with b c ∷ ys) (restored-none bs cs)
 
-pub restored-last : (bs : List (Option (List ℕ))) (bytes : List ℕ) (cs : List ChunkPayloadData) (d : ChunkPayloadData) → length bs < length cs → restored (bs ++ Some bytes ∷ []) cs ≡ restored bs (set cs (length bs) (as_taken_back bytes (get_or cs (length bs) d)))
+pub restored-last : (bs : List (Option (List ℕ))) (bytes : List ℕ) (cs : List ChunkPayloadData) (d : ChunkPayloadData) → length bs < length cs
+    → restored (bs ++ Some bytes ∷ []) cs ≡ restored bs (set cs (length bs) (as_taken_back bytes (get_or cs (length bs) d)))
 restored-last bs bytes [] d lt = absurd (omega (arith, lt))
 restored-last [] bytes (c ∷ cs) d lt = refl
 restored-last (b ∷ bs) bytes (c ∷ cs) d lt = ap (λ ys. restored_with b c ∷ ys) (restored-last bs bytes cs d (omega (arith, lt)))
@@ -199,7 +211,8 @@ restored-contiguous bs f inv =
       run = map-restored (λ c. c.tsn) (λ bytes c. refl) bs cs ∙ inv.run ∙ ap (tsns_from (following_tsn f.acked_tsn)) (sym n);
       next = inv.next ∙ ap (λ k. (f.acked_tsn + 1 + k) % 2 ^ 32) (sym n);
       few = omega (arith, n, inv.few);
-      side_by_side = subst (λ ms. StandSideBySide (ms ++ number_of_half (partially_sent f.queue.pending))) (sym (map-restored (λ c. c.message_id) (λ bytes c. refl) bs cs)) inv.side_by_side;
+      side_by_side = subst (λ ms. StandSideBySide (ms ++ number_of_half (partially_sent f.queue.pending)))
+          (sym (map-restored (λ c. c.message_id) (λ bytes c. refl) bs cs)) inv.side_by_side;
     }
 
 -- a SACK that is taken reports no more cumulatively than is in flight
@@ -212,9 +225,11 @@ taken-within s f taken current = by (nat_lt (length f.queue.inflight.chunks) (co
 
     by : (b : Bool) → nat_lt (length f.queue.inflight.chunks) (count_acked s f) ≡ b → rest ≡ None → count_acked s f ≤ length f.queue.inflight.chunks
     by false e h = grind (arith, nat_tests, e)
-    by true e h = absurd (none-some InflightQueueTsnPop (sym h ∙ ap (λ b. if b then Some InflightQueueTsnPop else (if list_all (is_within (length f.queue.inflight.chunks - count_acked s f)) s.gap_ack_blocks then None else Some TsnRequestNotExist)) e))
+    by true e h = absurd (none-some InflightQueueTsnPop (sym h ∙ ap (λ b. if b then Some InflightQueueTsnPop
+        else (if list_all (is_within (length f.queue.inflight.chunks - count_acked s f)) s.gap_ack_blocks then None else Some TsnRequestNotExist)) e))
 
-module _ (f : Flight) (inv : IsContiguous f) (s : Sack) (fits : s.cumulative_tsn_ack < 2 ^ 32) (ks : List (Option (List ℕ))) (end : ℕ) (far : (k : ℕ) → end ≤ k → k < length f.queue.inflight.chunks → (length ks ≤ k) × (count_acked s f + after_blocks s.gap_ack_blocks ≤ k)) where
+module _ (f : Flight) (inv : IsContiguous f) (s : Sack) (fits : s.cumulative_tsn_ack < 2 ^ 32) (ks : List (Option (List ℕ))) (end : ℕ)
+    (far : (k : ℕ) → end ≤ k → k < length f.queue.inflight.chunks → (length ks ≤ k) × (count_acked s f + after_blocks s.gap_ack_blocks ≤ k)) where
   abbrev all : List (Option (List ℕ))
   all = keep_each s f.queue.inflight.chunks ks
 
@@ -248,7 +263,8 @@ restored-settled (Some bytes ∷ bs) (c ∷ cs) a = ((λ e. absurd (false≢true
 
 module _ (s : Sack) where
   -- what comes back of a chunk is all that it has then
-  pub back-bytes : (cs : List ChunkPayloadData) (ks : List (Option (List ℕ))) → AreSettled cs → bytes_of (restored (back_each s cs ks) cs) ≡ bytes_of cs + weight (back_each s cs ks)
+  pub back-bytes : (cs : List ChunkPayloadData) (ks : List (Option (List ℕ))) → AreSettled cs
+      → bytes_of (restored (back_each s cs ks) cs) ≡ bytes_of cs + weight (back_each s cs ks)
   back-bytes cs [] a = omega arith
   back-bytes [] (k ∷ ks) a = refl
   back-bytes (c ∷ cs) (k ∷ ks) a = by c.acked c.abandoned (reports s c) k a.0 (back-bytes cs ks a.1)
@@ -263,14 +279,17 @@ module _ (s : Sack) where
           let w = sum_by-cons size None more in
           omega (arith, a, b, w, h)
 
-      some : (bytes : List ℕ) → length c.user_data ≡ 0 → bytes_of (restored more cs) ≡ bytes_of cs + weight more → bytes_of (as_taken_back bytes c ∷ restored more cs) ≡ bytes_of (c ∷ cs) + weight (Some bytes ∷ more)
+      some : (bytes : List ℕ) → length c.user_data ≡ 0 → bytes_of (restored more cs) ≡ bytes_of cs + weight more
+          → bytes_of (as_taken_back bytes c ∷ restored more cs) ≡ bytes_of (c ∷ cs) + weight (Some bytes ∷ more)
       some bytes z h =
           let a = sum_by-cons (λ (x : ChunkPayloadData). length x.user_data) (as_taken_back bytes c) (restored more cs) in
           let b = sum_by-cons (λ (x : ChunkPayloadData). length x.user_data) c cs in
           let w = sum_by-cons size (Some bytes) more in
           omega (arith, a, b, w, z, h)
 
-      by : (acked abandoned reported : Bool) (k : Option (List ℕ)) → (acked ≡ true → length c.user_data ≡ 0) → bytes_of (restored more cs) ≡ bytes_of cs + weight more → (let b : Option (List ℕ) = if (acked && not abandoned) && not reported then k else None in bytes_of (restored_with b c ∷ restored more cs) ≡ bytes_of (c ∷ cs) + weight (b ∷ more))
+      by : (acked abandoned reported : Bool) (k : Option (List ℕ)) → (acked ≡ true → length c.user_data ≡ 0)
+          → bytes_of (restored more cs) ≡ bytes_of cs + weight more → (let b : Option (List ℕ) = if (acked && not abandoned) && not reported then k else None in
+          bytes_of (restored_with b c ∷ restored more cs) ≡ bytes_of (c ∷ cs) + weight (b ∷ more))
       by false abandoned reported k z h = none h
       by true true reported k z h = none h
       by true false true k z h = none h

@@ -1,5 +1,6 @@
 -- Messages that are abandoned one after another.
-use Rattle.std.proofs.Common.{◌≡◌, ℕ, zero, suc, ◌+◌, ◌<◌, ◌≤◌, Bool, true, false, List, [], ◌∷◌, length, drop, get_or, Option, Some, None, refl, ap, sym, subst, ◌∙◌, inl, inr, arith}
+use Rattle.std.proofs.Common.{◌≡◌, ℕ, zero, suc, ◌+◌, ◌<◌, ◌≤◌, Bool, true, false, List, [], ◌∷◌, length, drop, get_or, Option, Some, None, refl, ap, sym}
+use Rattle.std.proofs.Common.{subst, ◌∙◌, inl, inr, arith}
 use Rattle.std.specs.Prelude.{if◌then◌else◌, find, not, option_map, option_to_list}
 use Rattle.std.specs.List.{list_all, list_any}
 use Rattle.std.proofs.lemmas.Option.{none-some}
@@ -34,7 +35,8 @@ module _ {A : Type 0} (p : A → Bool) where
   none-passes [] e = refl
   none-passes (y ∷ ys) e = by (p y) refl (none-passes ys) e
     where
-      by : (b : Bool) → p y ≡ b → (find p ys ≡ None → list_all (λ x. not (p x)) ys ≡ true) → (if b then Some y else find p ys) ≡ None → list_all (λ x. not (p x)) (y ∷ ys) ≡ true
+      by : (b : Bool) → p y ≡ b → (find p ys ≡ None → list_all (λ x. not (p x)) ys ≡ true) → (if b then Some y else find p ys) ≡ None
+          → list_all (λ x. not (p x)) (y ∷ ys) ≡ true
       by true h ih f = absurd (none-some y (sym f))
       by false h ih f = and (not (p y)) (list_all (λ x. not (p x)) ys) (ap not h) (ih f)
 
@@ -62,21 +64,27 @@ waits-less m n q h = elim (or-split (list_any (is_of n) (without m q).unordered)
   | inr a ↦ or-right (list_any (is_of n) q.unordered) (list_any (is_of n) q.ordered) (list_any-those (is_of n) (λ c. not (is_of m c)) q.ordered a)
 ]
 
-find-changed : (t m : ℕ) (cs : List ChunkPayloadData) → find (has_tsn t) (change_where (is_of m) as_abandoned cs) ≡ option_map (λ c. if is_of m c then as_abandoned c else c) (find (has_tsn t) cs)
+find-changed : (t m : ℕ) (cs : List ChunkPayloadData)
+    → find (has_tsn t) (change_where (is_of m) as_abandoned cs) ≡ option_map (λ c. if is_of m c then as_abandoned c else c) (find (has_tsn t) cs)
 find-changed t m [] = refl
 find-changed t m (c ∷ cs) = by (is_of m c) refl (find-changed t m cs)
   where
-    here : (b k : Bool) → is_of m c ≡ b → find (has_tsn t) (change_where (is_of m) as_abandoned cs) ≡ option_map (λ d. if is_of m d then as_abandoned d else d) (find (has_tsn t) cs) → (if k then Some (if b then as_abandoned c else c) else find (has_tsn t) (change_where (is_of m) as_abandoned cs)) ≡ option_map (λ d. if is_of m d then as_abandoned d else d) (if k then Some c else find (has_tsn t) cs)
+    here : (b k : Bool) → is_of m c ≡ b → find (has_tsn t) (change_where (is_of m) as_abandoned cs) ≡ option_map (λ d. if is_of m d then as_abandoned d else d)
+        (find (has_tsn t) cs) → (if k then Some (if b then as_abandoned c else c) else find (has_tsn t) (change_where (is_of m) as_abandoned cs))
+        ≡ option_map (λ d. if is_of m d then as_abandoned d else d) (if k then Some c else find (has_tsn t) cs)
     here b true e ih = ap (λ a. Some (if a then as_abandoned c else c)) (sym e)
     here b false e ih = ih
 
-    by : (b : Bool) → is_of m c ≡ b → find (has_tsn t) (change_where (is_of m) as_abandoned cs) ≡ option_map (λ d. if is_of m d then as_abandoned d else d) (find (has_tsn t) cs) → find (has_tsn t) ((if b then as_abandoned c else c) ∷ change_where (is_of m) as_abandoned cs) ≡ option_map (λ d. if is_of m d then as_abandoned d else d) (find (has_tsn t) (c ∷ cs))
+    by : (b : Bool) → is_of m c ≡ b → find (has_tsn t) (change_where (is_of m) as_abandoned cs) ≡ option_map (λ d. if is_of m d then as_abandoned d else d)
+        (find (has_tsn t) cs) → find (has_tsn t) ((if b then as_abandoned c else c) ∷ change_where (is_of m) as_abandoned cs)
+        ≡ option_map (λ d. if is_of m d then as_abandoned d else d) (find (has_tsn t) (c ∷ cs))
     by true e ih = here true (has_tsn t c) e ih
     by false e ih = here false (has_tsn t c) e ih
 
 -- where a message with no tail is abandoned, no other gets one
 module _ (f : Flight) (t : ℕ) where
-  kept : (m : ℕ) (q : Outbound) → q.pending ≡ without m f.queue.pending → (o : Option ChunkPayloadData) → has_tail (to_abandon (option_map (λ c. if is_of m c then as_abandoned c else c) o)) q ≡ true → has_tail (to_abandon o) f.queue ≡ true
+  kept : (m : ℕ) (q : Outbound) → q.pending ≡ without m f.queue.pending → (o : Option ChunkPayloadData)
+      → has_tail (to_abandon (option_map (λ c. if is_of m c then as_abandoned c else c) o)) q ≡ true → has_tail (to_abandon o) f.queue ≡ true
   kept m q is None h = h
   kept m q is (Some c) h = by (is_of m c) h
     where
@@ -88,21 +96,25 @@ module _ (f : Flight) (t : ℕ) where
       by true e = absurd (not_both e)
       by false e = open-one c.abandoned e
 
-  after-one : (o : Option ℕ) → has_tail o f.queue ≡ false → has_tail (to_abandon (find (has_tsn t) (abandoned_of o f.next_tsn f.queue).inflight.chunks)) (abandoned_of o f.next_tsn f.queue) ≡ true → has_tail_at f t ≡ true
+  after-one : (o : Option ℕ) → has_tail o f.queue ≡ false → has_tail (to_abandon (find (has_tsn t) (abandoned_of o f.next_tsn f.queue).inflight.chunks))
+      (abandoned_of o f.next_tsn f.queue) ≡ true → has_tail_at f t ≡ true
   after-one None w h = h
   after-one (Some m) w h =
       let q = abandoned_of (Some m) f.next_tsn f.queue in
       let cs = f.queue.inflight.chunks in
-      let unmarked = ap (λ o. (with_terminal_chunk o f.next_tsn (payload.with_chunks f.queue.inflight (change_where (is_of m) as_abandoned cs))).chunks) (last_removed_none m f.queue.pending w) in
+      let unmarked = ap (λ o. (with_terminal_chunk o f.next_tsn (payload.with_chunks f.queue.inflight (change_where (is_of m) as_abandoned cs))).chunks)
+      (last_removed_none m f.queue.pending w) in
       kept m q refl (find (has_tsn t) cs) (subst (λ xs. has_tail (to_abandon xs) q ≡ true) (ap (find (has_tsn t)) unmarked ∙ find-changed t m cs) h)
 
 pub no-tail-after : (f : Flight) (s t : ℕ) → has_tail_at f s ≡ false → not (has_tail_at f t) ≡ true → not (has_tail_at (abandoned_at s f) t) ≡ true
-no-tail-after f s t w h = ap not (fails (has_tail_at (abandoned_at s f) t) (λ e. let was = after-one f t (message_to_abandon s f) w e in not_both (sym (ap not was) ∙ h)))
+no-tail-after f s t w h =
+    ap not (fails (has_tail_at (abandoned_at s f) t) (λ e. let was = after-one f t (message_to_abandon s f) w e in not_both (sym (ap not was) ∙ h)))
 
 -- ## The message that alone has a tail
 
 -- with none partially sent no message in flight waits
-pub none-waits : (q : Outbound) → IsSendable q.pending q.inflight.chunks q.next_message_id → partially_sent q.pending ≡ None → (t : ℕ) → has_tail (to_abandon (find (has_tsn t) q.inflight.chunks)) q ≡ false
+pub none-waits : (q : Outbound) → IsSendable q.pending q.inflight.chunks q.next_message_id → partially_sent q.pending ≡ None → (t : ℕ)
+    → has_tail (to_abandon (find (has_tsn t) q.inflight.chunks)) q ≡ false
 none-waits q s none t = by (find (has_tsn t) q.inflight.chunks) refl
   where
     by : (o : Option ChunkPayloadData) → find (has_tsn t) q.inflight.chunks ≡ o → has_tail (to_abandon o) q ≡ false
@@ -111,19 +123,24 @@ none-waits q s none t = by (find (has_tsn t) q.inflight.chunks) refl
       where
         open-one : (b : Bool) → has_tail (if b then None else Some c.message_id) q ≡ false
         open-one true = refl
-        open-one false = fails (waits c.message_id q.pending) (λ w. none-some c.message_id (sym none ∙ s.sent c.message_id (found-any (has_tsn t) (is_of c.message_id) q.inflight.chunks c e (same-yes c.message_id)) w))
+        open-one false = fails (waits c.message_id q.pending) (λ w. none-some c.message_id (sym none
+            ∙ s.sent c.message_id (found-any (has_tsn t) (is_of c.message_id) q.inflight.chunks c e (same-yes c.message_id)) w))
 
 -- once the message with a tail is abandoned, none is partially sent
-pub none-half : (f : Flight) (t : ℕ) → IsSendable f.queue.pending f.queue.inflight.chunks f.queue.next_message_id → has_tail_at f t ≡ true → partially_sent (abandoned_at t f).queue.pending ≡ None
+pub none-half : (f : Flight) (t : ℕ) → IsSendable f.queue.pending f.queue.inflight.chunks f.queue.next_message_id → has_tail_at f t ≡ true
+    → partially_sent (abandoned_at t f).queue.pending ≡ None
 none-half f t s h = by (find (has_tsn t) f.queue.inflight.chunks) refl h
   where
-    by : (o : Option ChunkPayloadData) → find (has_tsn t) f.queue.inflight.chunks ≡ o → has_tail (to_abandon o) f.queue ≡ true → partially_sent (abandoned_of (to_abandon o) f.next_tsn f.queue).pending ≡ None
+    by : (o : Option ChunkPayloadData) → find (has_tsn t) f.queue.inflight.chunks ≡ o → has_tail (to_abandon o) f.queue ≡ true
+        → partially_sent (abandoned_of (to_abandon o) f.next_tsn f.queue).pending ≡ None
     by None e w = absurd (not_both w)
     by (Some c) e w = open-one c.abandoned w
       where
-        open-one : (b : Bool) → has_tail (if b then None else Some c.message_id) f.queue ≡ true → partially_sent (abandoned_of (if b then None else Some c.message_id) f.next_tsn f.queue).pending ≡ None
+        open-one : (b : Bool) → has_tail (if b then None else Some c.message_id) f.queue ≡ true
+            → partially_sent (abandoned_of (if b then None else Some c.message_id) f.next_tsn f.queue).pending ≡ None
         open-one true v = absurd (not_both v)
-        open-one false v = half_gone c.message_id f.queue.pending.selected (s.sent c.message_id (found-any (has_tsn t) (is_of c.message_id) f.queue.inflight.chunks c e (same-yes c.message_id)) v)
+        open-one false v = half_gone c.message_id f.queue.pending.selected
+            (s.sent c.message_id (found-any (has_tsn t) (is_of c.message_id) f.queue.inflight.chunks c e (same-yes c.message_id)) v)
 
 -- ## One TSN more
 
@@ -138,13 +155,17 @@ pub at-most-one : {A : Type 0} (o : Option A) → length (option_to_list o) ≤ 
 at-most-one None = omega arith
 at-most-one (Some x) = omega arith
 
-pub rest-with-no-tail : (f g : Flight) (t : ℕ) (ts : List ℕ) → list_all (λ x. not (has_tail_at f x)) (t ∷ ts) ≡ true → g ≡ abandoned_at t f → list_all (λ x. not (has_tail_at g x)) ts ≡ true
+pub rest-with-no-tail : (f g : Flight) (t : ℕ) (ts : List ℕ) → list_all (λ x. not (has_tail_at f x)) (t ∷ ts) ≡ true → g ≡ abandoned_at t f
+    → list_all (λ x. not (has_tail_at g x)) ts ≡ true
 rest-with-no-tail f g t ts all is =
     let parts = both (not (has_tail_at f t)) (list_all (λ x. not (has_tail_at f x)) ts) all in
     subst (λ (h : Flight). list_all (λ x. not (has_tail_at h x)) ts ≡ true) (sym is)
-    (all-of (λ x. not (has_tail_at f x)) (λ x. not (has_tail_at (abandoned_at t f) x)) ts (λ x h. no-tail-after f t x (negated (has_tail_at f t) parts.0) h) parts.1)
+    (all-of (λ x. not (has_tail_at f x)) (λ x. not (has_tail_at (abandoned_at t f) x)) ts
+    (λ x h. no-tail-after f t x (negated (has_tail_at f t) parts.0) h) parts.1)
 
-pub none-left : (f g : Flight) (t : ℕ) (ts : List ℕ) → IsSendable f.queue.pending f.queue.inflight.chunks f.queue.next_message_id → IsSendable g.queue.pending g.queue.inflight.chunks g.queue.next_message_id → Some t ≡ with_tail ts f → g ≡ abandoned_at t f → list_all (λ x. not (has_tail_at g x)) ts ≡ true
+pub none-left : (f g : Flight) (t : ℕ) (ts : List ℕ) → IsSendable f.queue.pending f.queue.inflight.chunks f.queue.next_message_id
+    → IsSendable g.queue.pending g.queue.inflight.chunks g.queue.next_message_id → Some t ≡ with_tail ts f → g ≡ abandoned_at t f
+    → list_all (λ x. not (has_tail_at g x)) ts ≡ true
 none-left f g t ts before after first is =
     let half = ap (λ (h : Flight). partially_sent h.queue.pending) is ∙ none-half f t before (found-passes (has_tail_at f) ts t (sym first)) in
     all-each (λ x. not (has_tail_at g x)) ts (λ x. ap not (none-waits g.queue after half x))

@@ -1,5 +1,6 @@
 -- Streams whose buffered amount falls to its low threshold.
-use Rattle.std.proofs.Common.{◌≡◌, ℕ, zero, suc, ◌+◌, ◌-◌, ◌<◌, ◌≤◌, Bool, true, false, List, [], ◌∷◌, ◌++◌, length, set, take, drop, get_or, append_assoc, Option, Some, None, refl, ap, sym, subst, ◌∙◌, arith}
+use Rattle.std.proofs.Common.{◌≡◌, ℕ, zero, suc, ◌+◌, ◌-◌, ◌<◌, ◌≤◌, Bool, true, false, List, [], ◌∷◌, ◌++◌, length, set, take, drop, get_or, append_assoc}
+use Rattle.std.proofs.Common.{Option, Some, None, refl, ap, sym, subst, ◌∙◌, arith}
 use Rattle.std.specs.Prelude.{if◌then◌else◌, ◌==◌, ◌&&◌, ◌||◌, not, nat_lt, nat_le, option_map, find, slice_get}
 use Rattle.std.specs.List.{count_by, list_any, sum_by}
 use Rattle.std.proofs.lemmas.Bool.Decides.{nat_tests}
@@ -22,7 +23,8 @@ module _ (f : StreamState → StreamState) (keeps : (l : StreamState) → number
   found-same [] = refl
   found-same (l ∷ ls) = by (has_number s l) refl (found-same ls)
     where
-      by : (b : Bool) → has_number s l ≡ b → find (has_number s) (change_where (has_number s) f ls) ≡ option_map f (find (has_number s) ls) → find (has_number s) ((if b then f l else l) ∷ change_where (has_number s) f ls) ≡ option_map f (if b then Some l else find (has_number s) ls)
+      by : (b : Bool) → has_number s l ≡ b → find (has_number s) (change_where (has_number s) f ls) ≡ option_map f (find (has_number s) ls)
+          → find (has_number s) ((if b then f l else l) ∷ change_where (has_number s) f ls) ≡ option_map f (if b then Some l else find (has_number s) ls)
       by true e ih = ap (λ b. if b then Some (f l) else find (has_number s) (change_where (has_number s) f ls)) (ap (λ n. n == s) (keeps l) ∙ e)
       by false e ih = ap (λ b. if b then Some l else find (has_number s) (change_where (has_number s) f ls)) e ∙ ih
 
@@ -30,7 +32,8 @@ module _ (f : StreamState → StreamState) (keeps : (l : StreamState) → number
   found-other t ne [] = refl
   found-other t ne (l ∷ ls) = by (has_number t l) refl (found-other t ne ls)
     where
-      by : (b : Bool) → has_number t l ≡ b → find (has_number s) (change_where (has_number t) f ls) ≡ find (has_number s) ls → find (has_number s) ((if b then f l else l) ∷ change_where (has_number t) f ls) ≡ find (has_number s) (l ∷ ls)
+      by : (b : Bool) → has_number t l ≡ b → find (has_number s) (change_where (has_number t) f ls) ≡ find (has_number s) ls
+          → find (has_number s) ((if b then f l else l) ∷ change_where (has_number t) f ls) ≡ find (has_number s) (l ∷ ls)
       by true e ih =
           let no : has_number s l ≡ false = ap (λ n. n == s) (same-is l.stream_identifier t e) ∙ ne in
           ap (λ b. if b then Some (f l) else find (has_number s) (change_where (has_number t) f ls)) (ap (λ n. n == s) (keeps l) ∙ no) ∙ ih
@@ -63,12 +66,14 @@ expiry-number true n l = refl
 expiry-number false n l = refl
 
 -- what a release of one stream tells
-pub release-falls : (s n : ℕ) (ls : List StreamState) → falls_on s n ls ≡ (is_above (find (has_number s) ls) && not (is_above (find (has_number s) (change_where (has_number s) (less_by n) ls))))
+pub release-falls : (s n : ℕ) (ls : List StreamState)
+    → falls_on s n ls ≡ (is_above (find (has_number s) ls) && not (is_above (find (has_number s) (change_where (has_number s) (less_by n) ls))))
 release-falls s n ls =
     falls-above (find (has_number s) ls) n
     ∙ ap (λ o. is_above (find (has_number s) ls) && not (is_above o)) (sym (found-same (less_by n) (λ l. refl) s ls))
 
-pub expiry-falls : (s : ℕ) (b : Bool) (n : ℕ) (ls : List StreamState) → falls_on s n ls ≡ (is_above (find (has_number s) ls) && not (is_above (find (has_number s) (change_where (has_number s) (after_expiry b n) ls))))
+pub expiry-falls : (s : ℕ) (b : Bool) (n : ℕ) (ls : List StreamState)
+    → falls_on s n ls ≡ (is_above (find (has_number s) ls) && not (is_above (find (has_number s) (change_where (has_number s) (after_expiry b n) ls))))
 expiry-falls s b n ls =
     falls-above (find (has_number s) ls) n
     ∙ ap (λ a. is_above (find (has_number s) ls) && not a)
@@ -90,7 +95,8 @@ module _ (s : ℕ) where
   still-above t n ls = by (t == s) refl
     where
       by : (b : Bool) → (t == s) ≡ b → above (one_less t n ls) ≡ true → above ls ≡ true
-      by true e h = above-before (find (has_number s) ls) n (ap is_above (sym (found-same (less_by n) (λ l. refl) s ls)) ∙ ap (λ u. above (one_less u n ls)) (sym (same-is t s e)) ∙ h)
+      by true e h = above-before (find (has_number s) ls) n (ap is_above (sym (found-same (less_by n) (λ l. refl) s ls))
+          ∙ ap (λ u. above (one_less u n ls)) (sym (same-is t s e)) ∙ h)
       by false e h = ap is_above (sym (found-other (less_by n) (λ l. refl) s t e ls)) ∙ h
 
   none : (b : Bool) → 0 ≡ one_if (b && not b)
@@ -101,7 +107,8 @@ module _ (s : ℕ) where
   told t n ls = by (t == s) refl
     where
       by : (b : Bool) → (t == s) ≡ b → one_if (b && falls_on t n ls) ≡ one_if (above ls && not (above (one_less t n ls)))
-      by true e = subst (λ u. one_if (falls_on u n ls) ≡ one_if (above ls && not (above (one_less u n ls)))) (sym (same-is t s e)) (ap one_if (release-falls s n ls))
+      by true e =
+          subst (λ u. one_if (falls_on u n ls) ≡ one_if (above ls && not (above (one_less u n ls)))) (sym (same-is t s e)) (ap one_if (release-falls s n ls))
       by false e = none (above ls) ∙ ap (λ b. one_if (above ls && not b)) (ap is_above (sym (found-other (less_by n) (λ l. refl) s t e ls)))
 
   joined : (a b c : Bool) → (b ≡ true → a ≡ true) → (c ≡ true → b ≡ true) → one_if (a && not b) + one_if (b && not c) ≡ one_if (a && not c)
@@ -119,7 +126,8 @@ module _ (s : ℕ) where
   releases-above [] ls e = e
   releases-above (r ∷ rs) ls e = still-above r.stream r.bytes ls (releases-above rs (one_less r.stream r.bytes ls) e)
 
-  pub count-lows : (rs : List Released) (ls : List StreamState) → count_by (tells_low s) (with_lows rs ls) ≡ one_if (above ls && not (above (after_releases rs ls)))
+  pub count-lows : (rs : List Released) (ls : List StreamState)
+      → count_by (tells_low s) (with_lows rs ls) ≡ one_if (above ls && not (above (after_releases rs ls)))
   count-lows [] ls = none (above ls)
   count-lows (r ∷ rs) ls =
       let more = one_less r.stream r.bytes ls in
@@ -134,7 +142,8 @@ module _ (s : ℕ) where
   leaving-above [] ls e = e
   leaving-above (g ∷ gs) ls e = still-above g.stream g.bytes ls (leaving-above gs (one_less g.stream g.bytes ls) e)
 
-  pub count-message-lows : (gs : List AbandonedMessage) (ls : List StreamState) → count_by (tells_message_low s) (with_message_lows gs ls) ≡ one_if (above ls && not (above (after_leaving gs ls)))
+  pub count-message-lows : (gs : List AbandonedMessage) (ls : List StreamState)
+      → count_by (tells_message_low s) (with_message_lows gs ls) ≡ one_if (above ls && not (above (after_leaving gs ls)))
   count-message-lows [] ls = none (above ls)
   count-message-lows (g ∷ gs) ls =
       let more = one_less g.stream g.bytes ls in
@@ -204,7 +213,9 @@ module _ (s : ℕ) (ls ms : List StreamState) where
 
 module _ (i : ℕ) (ls : List StreamState) where
   -- what stands before a place, and what is told from there on
-  pub next-low : (rs : List Released) (r : Released) (b : Bool) → i < length rs → r ≡ get_or rs i r → b ≡ falls_on r.stream r.bytes ls → let x : Released = record r { is_low = b } in take i rs ++ with_lows (drop i rs) ls ≡ take (i + 1) (set rs i x) ++ with_lows (drop (i + 1) (set rs i x)) (one_less r.stream r.bytes ls)
+  pub next-low : (rs : List Released) (r : Released) (b : Bool) → i < length rs → r ≡ get_or rs i r → b ≡ falls_on r.stream r.bytes ls
+      → let x : Released = record r { is_low = b } in
+      take i rs ++ with_lows (drop i rs) ls ≡ take (i + 1) (set rs i x) ++ with_lows (drop (i + 1) (set rs i x)) (one_less r.stream r.bytes ls)
   next-low rs r b lt is low =
       let x : Released = record r { is_low = b } in
       let more = one_less r.stream r.bytes ls in
@@ -216,13 +227,16 @@ module _ (i : ℕ) (ls : List StreamState) where
       ∙ ap (λ ys. ys ++ with_lows (drop (i + 1) rs) more) (sym (take_more_set rs i x lt))
       ∙ ap (λ ys. take (i + 1) (set rs i x) ++ with_lows ys more) (sym rest)
 
-  pub next-less : (rs : List Released) (r : Released) (b : Bool) → i < length rs → r ≡ get_or rs i r → let x : Released = record r { is_low = b } in after_releases (drop i rs) ls ≡ after_releases (drop (i + 1) (set rs i x)) (one_less r.stream r.bytes ls)
+  pub next-less : (rs : List Released) (r : Released) (b : Bool) → i < length rs → r ≡ get_or rs i r → let x : Released = record r { is_low = b } in
+      after_releases (drop i rs) ls ≡ after_releases (drop (i + 1) (set rs i x)) (one_less r.stream r.bytes ls)
   next-less rs r b lt is =
       let x : Released = record r { is_low = b } in
       ap (λ ys. after_releases ys ls) (drop_more rs i r lt ∙ ap (λ y. y ∷ drop (i + 1) rs) (sym is))
       ∙ ap (λ ys. after_releases ys (one_less r.stream r.bytes ls)) (sym (drop-set-lt (i + 1) rs i x (omega arith)))
 
-  pub next-message-low : (gs : List AbandonedMessage) (g : AbandonedMessage) (b : Bool) → i < length gs → g ≡ get_or gs i g → b ≡ falls_on g.stream g.bytes ls → let x : AbandonedMessage = record g { is_low = b } in take i gs ++ with_message_lows (drop i gs) ls ≡ take (i + 1) (set gs i x) ++ with_message_lows (drop (i + 1) (set gs i x)) (one_less g.stream g.bytes ls)
+  pub next-message-low : (gs : List AbandonedMessage) (g : AbandonedMessage) (b : Bool) → i < length gs → g ≡ get_or gs i g → b ≡ falls_on g.stream g.bytes ls
+      → let x : AbandonedMessage = record g { is_low = b } in
+      take i gs ++ with_message_lows (drop i gs) ls ≡ take (i + 1) (set gs i x) ++ with_message_lows (drop (i + 1) (set gs i x)) (one_less g.stream g.bytes ls)
   next-message-low gs g b lt is low =
       let x : AbandonedMessage = record g { is_low = b } in
       let more = one_less g.stream g.bytes ls in
@@ -234,7 +248,8 @@ module _ (i : ℕ) (ls : List StreamState) where
       ∙ ap (λ ys. ys ++ with_message_lows (drop (i + 1) gs) more) (sym (take_more_set gs i x lt))
       ∙ ap (λ ys. take (i + 1) (set gs i x) ++ with_message_lows ys more) (sym rest)
 
-  pub next-message-less : (gs : List AbandonedMessage) (g : AbandonedMessage) (b : Bool) → i < length gs → g ≡ get_or gs i g → let x : AbandonedMessage = record g { is_low = b } in after_leaving (drop i gs) ls ≡ after_leaving (drop (i + 1) (set gs i x)) (one_less g.stream g.bytes ls)
+  pub next-message-less : (gs : List AbandonedMessage) (g : AbandonedMessage) (b : Bool) → i < length gs → g ≡ get_or gs i g → let x : AbandonedMessage =
+      record g { is_low = b } in after_leaving (drop i gs) ls ≡ after_leaving (drop (i + 1) (set gs i x)) (one_less g.stream g.bytes ls)
   next-message-less gs g b lt is =
       let x : AbandonedMessage = record g { is_low = b } in
       ap (λ ys. after_leaving ys ls) (drop_more gs i g lt ∙ ap (λ y. y ∷ drop (i + 1) gs) (sym is))
@@ -258,8 +273,10 @@ module _ (old new : ℕ) (ls : List StreamState) where
   pub released-same : (rs xs : List Released) → xs ≡ with_lows rs ls → new + sum_by (λ r. r.bytes) rs ≡ old → new + sum_by (λ r. r.bytes) xs ≡ old
   released-same rs xs lows e = ap (λ (ys : List Released). new + sum_by (λ r. r.bytes) ys) lows ∙ ap (λ n. new + n) (lows-bytes rs ls) ∙ e
 
-  pub messages-released-same : (gs xs : List AbandonedMessage) → xs ≡ with_message_lows gs ls → new + sum_by (λ g. g.bytes) gs ≡ old → new + sum_by (λ g. g.bytes) xs ≡ old
-  messages-released-same gs xs lows e = ap (λ (ys : List AbandonedMessage). new + sum_by (λ g. g.bytes) ys) lows ∙ ap (λ n. new + n) (message-lows-bytes gs ls) ∙ e
+  pub messages-released-same : (gs xs : List AbandonedMessage) → xs ≡ with_message_lows gs ls → new + sum_by (λ g. g.bytes) gs ≡ old
+      → new + sum_by (λ g. g.bytes) xs ≡ old
+  messages-released-same gs xs lows e = ap (λ (ys : List AbandonedMessage). new + sum_by (λ g. g.bytes) ys) lows ∙ ap (λ n. new + n) (message-lows-bytes gs ls)
+      ∙ e
 
 -- ## The TSNs stay
 
@@ -267,11 +284,13 @@ length-lows : (rs : List Released) (ls : List StreamState) → length (with_lows
 length-lows [] ls = refl
 length-lows (r ∷ rs) ls = ap (λ n. suc n) (length-lows rs (one_less r.stream r.bytes ls))
 
-tsn-at : (rs : List Released) (ls : List StreamState) (k : ℕ) → option_map (λ (r : Released). r.tsn) (slice_get (with_lows rs ls) k) ≡ option_map (λ (r : Released). r.tsn) (slice_get rs k)
+tsn-at : (rs : List Released) (ls : List StreamState) (k : ℕ)
+    → option_map (λ (r : Released). r.tsn) (slice_get (with_lows rs ls) k) ≡ option_map (λ (r : Released). r.tsn) (slice_get rs k)
 tsn-at [] ls k = refl
 tsn-at (r ∷ rs) ls zero = refl
 tsn-at (r ∷ rs) ls (suc k) = tsn-at rs (one_less r.stream r.bytes ls) k
 
 -- the last TSN of an answer
-pub last-tsn : (rs : List Released) (ls : List StreamState) → option_map (λ (r : Released). r.tsn) (slice_get (with_lows rs ls) (length (with_lows rs ls) - 1)) ≡ option_map (λ (r : Released). r.tsn) (slice_get rs (length rs - 1))
+pub last-tsn : (rs : List Released) (ls : List StreamState) → option_map (λ (r : Released). r.tsn)
+    (slice_get (with_lows rs ls) (length (with_lows rs ls) - 1)) ≡ option_map (λ (r : Released). r.tsn) (slice_get rs (length rs - 1))
 last-tsn rs ls = ap (λ n. option_map (λ (r : Released). r.tsn) (slice_get (with_lows rs ls) (n - 1))) (length-lows rs ls) ∙ tsn-at rs ls (length rs - 1)

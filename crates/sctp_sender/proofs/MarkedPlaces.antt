@@ -1,5 +1,6 @@
 -- A walk over the first places of a list that changes some of what stands there.
-use Rattle.std.proofs.Common.{◌≡◌, ℕ, suc, ◌+◌, ◌-◌, ◌<◌, ◌≤◌, Bool, true, false, List, [], ◌∷◌, ◌++◌, length, length-append, map, take, drop, get_or, slice_get, set, Some, refl, ap, sym, ◌∙◌, arith}
+use Rattle.std.proofs.Common.{◌≡◌, ℕ, suc, ◌+◌, ◌-◌, ◌<◌, ◌≤◌, Bool, true, false, List, [], ◌∷◌, ◌++◌, length, length-append, map, take, drop, get_or}
+use Rattle.std.proofs.Common.{slice_get, set, Some, refl, ap, sym, ◌∙◌, arith}
 use Rattle.std.specs.Prelude.{if◌then◌else◌}
 use Rattle.std.specs.List.{All, filter}
 use Rattle.std.proofs.lemmas.List.{append-nil, length-map, length-take-le, length-drop, take-append-drop, get_or-append_right, get_or-drop}
@@ -13,7 +14,8 @@ module _ {X : Type 0} (p : X → Bool) (f : X → X) (xs ys : List X) (i : ℕ) 
   first-part = length-change_where p f (take i xs) ∙ length-take-le i xs (omega (arith, lt))
 
   count : length ys ≡ length xs
-  count = let a = ap length so_far in let b = length-append (change_where p f (take i xs)) (drop i xs) in let d = length-drop i xs in omega (arith, first-part, a, b, d, lt)
+  count = let a = ap length so_far in let b = length-append (change_where p f (take i xs)) (drop i xs) in let d = length-drop i xs in
+      omega (arith, first-part, a, b, d, lt)
 
   pub there : (d : X) → slice_get ys i ≡ Some (get_or ys i d)
   there d = slice_get-get_or ys i d (omega (arith, count, lt))
@@ -26,7 +28,8 @@ module _ {X : Type 0} (p : X → Bool) (f : X → X) (xs ys : List X) (i : ℕ) 
     pub old : x ≡ get_or xs i x
     old =
         let none : i + (i - i) ≡ i = omega arith in
-        read ∙ ap (λ zs. get_or zs i x) so_far ∙ get_or-append_right (change_where p f (take i xs)) (drop i xs) i i x first-part (omega arith) ∙ get_or-drop i xs (i - i) x ∙ ap (λ k. get_or xs k x) none
+        read ∙ ap (λ zs. get_or zs i x) so_far ∙ get_or-append_right (change_where p f (take i xs)) (drop i xs) i i x first-part (omega arith)
+        ∙ get_or-drop i xs (i - i) x ∙ ap (λ k. get_or xs k x) none
 
     pub unmarked : p x ≡ false → ys ≡ change_where p f (take (i + 1) xs) ++ drop (i + 1) xs
     unmarked h = unchanged_step p f xs ys i x lt so_far read h
@@ -35,7 +38,8 @@ module _ {X : Type 0} (p : X → Bool) (f : X → X) (xs ys : List X) (i : ℕ) 
     marked h = ap (λ y. set ys i (f y)) (sym read) ∙ changed_step p f xs ys i x lt so_far read h
 
     pub told : (b : Bool) → p x ≡ b → filter p (take (i + 1) xs) ≡ filter p (take i xs) ++ (if b then x ∷ [] else [])
-    told b h = those-more p xs i x lt ∙ ap (λ y. filter p (take i xs) ++ (if p y then y ∷ [] else [])) (sym old) ∙ ap (λ k. filter p (take i xs) ++ (if k then x ∷ [] else [])) h
+    told b h = those-more p xs i x lt ∙ ap (λ y. filter p (take i xs) ++ (if p y then y ∷ [] else [])) (sym old)
+        ∙ ap (λ k. filter p (take i xs) ++ (if k then x ∷ [] else [])) h
 
 those-short : {X : Type 0} (p : X → Bool) (xs : List X) → length (filter p xs) ≤ length xs
 those-short p [] = omega arith
@@ -61,7 +65,8 @@ module _ {X : Type 0} (p : X → Bool) (xs : List X) (reach : ℕ) (beyond : (k 
 
   none-pass : (zs : List X) → All (λ x. p x ≡ false) zs → filter p zs ≡ []
   none-pass [] all = refl
-  none-pass (z ∷ zs) all = ap (λ b. if b then z ∷ filter p zs else filter p zs) (all 0 z (omega arith)) ∙ none-pass zs (λ k d lt. all (suc k) d (omega (arith, lt)))
+  none-pass (z ∷ zs) all = ap (λ b. if b then z ∷ filter p zs else filter p zs) (all 0 z (omega arith))
+      ∙ none-pass zs (λ k d lt. all (suc k) d (omega (arith, lt)))
 
   pub all-told : filter p (take reach xs) ≡ filter p xs
   all-told =

@@ -1,5 +1,6 @@
 -- A walk over a run of chunks that changes some of them.
-use Rattle.std.proofs.Common.{◌≡◌, ℕ, ◌+◌, ◌<◌, ◌%◌, ◌^◌, Bool, true, false, List, [], ◌∷◌, ◌++◌, length, length-append, take, drop, ◌-◌, get_or, set, slice_get, Some, refl, ap, sym, ◌∙◌, arith}
+use Rattle.std.proofs.Common.{◌≡◌, ℕ, ◌+◌, ◌<◌, ◌%◌, ◌^◌, Bool, true, false, List, [], ◌∷◌, ◌++◌, length, length-append, take, drop, ◌-◌, get_or, set}
+use Rattle.std.proofs.Common.{slice_get, Some, refl, ap, sym, ◌∙◌, arith}
 use Rattle.std.specs.Prelude.{if◌then◌else◌, find}
 use Rattle.std.proofs.lemmas.List.{length-map, length-take-le, take-append-drop, get_or-append_right, get_or-drop}
 use Rattle.std.specs.List.{filter}
@@ -19,13 +20,16 @@ tsns-length : (xs ys : List ChunkPayloadData) → tsns xs ≡ tsns ys → length
 tsns-length xs ys e = sym (length-map xs (λ c. c.tsn)) ∙ ap length e ∙ length-map ys (λ c. c.tsn)
 
 -- a change of the first so many that keeps TSNs
-pub part-run : (p : ChunkPayloadData → Bool) (f : ChunkPayloadData → ChunkPayloadData) → ((c : ChunkPayloadData) → (f c).tsn ≡ c.tsn) → (cs : List ChunkPayloadData) (i : ℕ) → tsns (change_where p f (take i cs) ++ drop i cs) ≡ tsns cs
+pub part-run : (p : ChunkPayloadData → Bool) (f : ChunkPayloadData → ChunkPayloadData) → ((c : ChunkPayloadData) → (f c).tsn ≡ c.tsn)
+    → (cs : List ChunkPayloadData) (i : ℕ) → tsns (change_where p f (take i cs) ++ drop i cs) ≡ tsns cs
 part-run p f keeps cs i =
     tsns-append (change_where p f (take i cs)) (drop i cs) ∙ ap (λ ts. ts ++ tsns (drop i cs)) (changed-run p f keeps (take i cs))
     ∙ sym (tsns-append (take i cs) (drop i cs)) ∙ ap tsns (take-append-drop i cs)
 
-module _ (p : ChunkPayloadData → Bool) (f : ChunkPayloadData → ChunkPayloadData) (keeps : (c : ChunkPayloadData) → (f c).tsn ≡ c.tsn) (cs ys : List ChunkPayloadData) (first i : ℕ)
-    (small : first < 2 ^ 32) (run : IsRunFrom first cs) (few : length cs < 2 ^ 31) (lt : i < length cs) (so_far : ys ≡ change_where p f (take i cs) ++ drop i cs) where
+module _ (p : ChunkPayloadData → Bool) (f : ChunkPayloadData → ChunkPayloadData) (keeps : (c : ChunkPayloadData) → (f c).tsn ≡ c.tsn)
+    (cs ys : List ChunkPayloadData) (first i : ℕ)
+    (small : first < 2 ^ 32) (run : IsRunFrom first cs) (few : length cs < 2 ^ 31) (lt : i < length cs)
+    (so_far : ys ≡ change_where p f (take i cs) ++ drop i cs) where
   same : tsns ys ≡ tsns cs
   same = ap tsns so_far ∙ part-run p f keeps cs i
 
@@ -53,7 +57,8 @@ module _ (p : ChunkPayloadData → Bool) (f : ChunkPayloadData → ChunkPayloadD
     unmarked h = unchanged_step p f cs ys i x lt so_far read h
 
     -- changed by a change that makes of the chunk what f makes
-    pub marked-as : (g : ChunkPayloadData → ChunkPayloadData) → g x ≡ f x → p x ≡ true → change_where (has_tsn ((first + i) % 2 ^ 32)) g ys ≡ change_where p f (take (i + 1) cs) ++ drop (i + 1) cs
+    pub marked-as : (g : ChunkPayloadData → ChunkPayloadData) → g x ≡ f x → p x ≡ true
+        → change_where (has_tsn ((first + i) % 2 ^ 32)) g ys ≡ change_where p f (take (i + 1) cs) ++ drop (i + 1) cs
     marked-as g e h =
         change_where-only (has_tsn ((first + i) % 2 ^ 32)) g ys i x (only-at ys first i small its-run (omega (arith, few, count)) (omega (arith, lt, count)))
         ∙ ap (λ c. set ys i (g c)) (sym read) ∙ ap (set ys i) e ∙ changed_step p f cs ys i x lt so_far read h
@@ -66,12 +71,14 @@ module _ (p : ChunkPayloadData → Bool) (f : ChunkPayloadData → ChunkPayloadD
     old =
         let short : length (change_where p f (take i cs)) ≡ i = length-change_where p f (take i cs) ∙ length-take-le i cs (omega (arith, lt)) in
         let none : i + (i - i) ≡ i = omega arith in
-        read ∙ ap (λ zs. get_or zs i x) so_far ∙ get_or-append_right (change_where p f (take i cs)) (drop i cs) i i x short (omega arith) ∙ get_or-drop i cs (i - i) x ∙ ap (λ k. get_or cs k x) none
+        read ∙ ap (λ zs. get_or zs i x) so_far ∙ get_or-append_right (change_where p f (take i cs)) (drop i cs) i i x short (omega arith)
+        ∙ get_or-drop i cs (i - i) x ∙ ap (λ k. get_or cs k x) none
 
     pub told-of : (r : ChunkPayloadData → Bool) → filter r (take (i + 1) cs) ≡ filter r (take i cs) ++ (if r x then x ∷ [] else [])
     told-of r = those-more r cs i x lt ∙ ap (λ y. filter r (take i cs) ++ (if r y then y ∷ [] else [])) (sym old)
 
-    pub counted-of : (r : ChunkPayloadData → Bool) (b : Bool) → r x ≡ b → length (filter r (take (i + 1) cs)) ≡ length (filter r (take i cs)) + (if b then 1 else 0)
+    pub counted-of : (r : ChunkPayloadData → Bool) (b : Bool) → r x ≡ b
+        → length (filter r (take (i + 1) cs)) ≡ length (filter r (take i cs)) + (if b then 1 else 0)
     counted-of r b e = ap length (told-of r ∙ ap (λ k. filter r (take i cs) ++ (if k then x ∷ [] else [])) e) ∙ by b
       where
         by : (k : Bool) → length (filter r (take i cs) ++ (if k then x ∷ [] else [])) ≡ length (filter r (take i cs)) + (if k then 1 else 0)

@@ -1,5 +1,6 @@
 -- The pairs of a FORWARD-TSN.
-use Rattle.std.proofs.Common.{◌≡◌, ℕ, zero, suc, ◌<◌, Bool, true, false, List, [], ◌∷◌, ◌++◌, length, set, get_or, Option, Some, None, refl, ap, sym, subst, ◌∙◌, arith}
+use Rattle.std.proofs.Common.{◌≡◌, ℕ, zero, suc, ◌<◌, Bool, true, false, List, [], ◌∷◌, ◌++◌, length, set, get_or, Option, Some, None, refl, ap, sym, subst}
+use Rattle.std.proofs.Common.{◌∙◌, arith}
 use Rattle.std.specs.Prelude.{if◌then◌else◌, ◌==◌}
 use Rattle.std.proofs.lemmas.List.{append-nil}
 use Rattle.std.specs.List.{filter}
@@ -24,7 +25,8 @@ none-left [] lt = refl
 none-left (x ∷ xs) lt = absurd (omega (arith, lt))
 
 module _ {A : Type 0} (p : A → Bool) (x : A) where
-  those-set-only : (ys : List A) (k : ℕ) → p x ≡ true → k < length ys → ((j : ℕ) (d : A) → j < k → p (get_or ys j d) ≡ false) → ((d : A) → p (get_or ys k d) ≡ true) → length (filter p ys) < 2 → filter p (set ys k x) ≡ x ∷ []
+  those-set-only : (ys : List A) (k : ℕ) → p x ≡ true → k < length ys → ((j : ℕ) (d : A) → j < k → p (get_or ys j d) ≡ false)
+      → ((d : A) → p (get_or ys k d) ≡ true) → length (filter p ys) < 2 → filter p (set ys k x) ≡ x ∷ []
   those-set-only [] k passes lt before here few = absurd (omega (arith, lt))
   those-set-only (y ∷ ys) zero passes lt before here few =
       let n = ap length (those-yes p y ys (here y)) in
@@ -32,14 +34,16 @@ module _ {A : Type 0} (p : A → Bool) (x : A) where
   those-set-only (y ∷ ys) (suc k) passes lt before here few =
       let fails = before zero y (omega arith) in
       let n = ap length (those-no p y ys fails) in
-      those-no p y (set ys k x) fails ∙ those-set-only ys k passes (omega (arith, lt)) (λ j d less. before (suc j) d (omega (arith, less))) here (omega (arith, n, few))
+      those-no p y (set ys k x) fails
+      ∙ those-set-only ys k passes (omega (arith, lt)) (λ j d less. before (suc j) d (omega (arith, less))) here (omega (arith, n, few))
 
   those-set-other : (ys : List A) (k : ℕ) → p x ≡ false → k < length ys → ((d : A) → p (get_or ys k d) ≡ false) → filter p (set ys k x) ≡ filter p ys
   those-set-other [] k fails lt here = absurd (omega (arith, lt))
   those-set-other (y ∷ ys) zero fails lt here = those-no p x ys fails ∙ sym (those-no p y ys (here y))
   those-set-other (y ∷ ys) (suc k) fails lt here = by (p y) (those-set-other ys k fails (omega (arith, lt)) here)
     where
-      by : (b : Bool) → filter p (set ys k x) ≡ filter p ys → (if b then y ∷ filter p (set ys k x) else filter p (set ys k x)) ≡ (if b then y ∷ filter p ys else filter p ys)
+      by : (b : Bool) → filter p (set ys k x) ≡ filter p ys
+          → (if b then y ∷ filter p (set ys k x) else filter p (set ys k x)) ≡ (if b then y ∷ filter p ys else filter p ys)
       by true e = ap (λ zs. y ∷ zs) e
       by false e = e
 
@@ -65,21 +69,25 @@ module _ (cs : List ChunkPayloadData) (c : ChunkPayloadData) (s : ℕ) where
       ∙ ap pairs_of (last-push (filter (is_on s) cs) c)
 
   other-stream : is_on s c ≡ false → pairs_of (last_of (filter (is_on s) (cs ++ c ∷ []))) ≡ pairs_of (last_of (filter (is_on s) cs))
-  other-stream e = ap (λ xs. pairs_of (last_of xs)) (those-append (is_on s) cs (c ∷ []) ∙ ap (λ xs. filter (is_on s) cs ++ xs) (those-no (is_on s) c [] e) ∙ append-nil (filter (is_on s) cs))
+  other-stream e = ap (λ xs. pairs_of (last_of xs))
+      (those-append (is_on s) cs (c ∷ []) ∙ ap (λ xs. filter (is_on s) cs ++ xs) (those-no (is_on s) c [] e) ∙ append-nil (filter (is_on s) cs))
 
-pub renamed : (ps : List ChunkForwardTsnStream) (cs : List ChunkPayloadData) (c : ChunkPayloadData) (k : ℕ) → IsFirstPair c.stream_identifier ps k → Name ps cs → Name (set ps k (pair_of c)) (cs ++ c ∷ [])
+pub renamed : (ps : List ChunkForwardTsnStream) (cs : List ChunkPayloadData) (c : ChunkPayloadData) (k : ℕ) → IsFirstPair c.stream_identifier ps k → Name ps cs
+    → Name (set ps k (pair_of c)) (cs ++ c ∷ [])
 renamed ps cs c k first names s = by (is_on s c) refl
   where
     by : (b : Bool) → is_on s c ≡ b → filter (is_pair_of s) (set ps k (pair_of c)) ≡ pairs_of (last_of (filter (is_on s) (cs ++ c ∷ [])))
     by true e =
         let same = same-is c.stream_identifier s e in
         let f = subst (λ t. IsFirstPair t ps k) same first in
-        those-set-only (is_pair_of s) (pair_of c) ps k e f.inside f.before f.here (subst (λ xs. length xs < 2) (sym (names s)) (at-most-one (last_of (filter (is_on s) cs)))) ∙ sym (same-stream cs c s e)
+        those-set-only (is_pair_of s) (pair_of c) ps k e f.inside f.before f.here
+        (subst (λ xs. length xs < 2) (sym (names s)) (at-most-one (last_of (filter (is_on s) cs)))) ∙ sym (same-stream cs c s e)
     by false e =
-        those-set-other (is_pair_of s) (pair_of c) ps k e first.inside (λ d. let h = same-is (get_or ps k d).identifier c.stream_identifier (first.here d) in ap (λ n. n == s) h ∙ e)
-        ∙ names s ∙ sym (other-stream cs c s e)
+        those-set-other (is_pair_of s) (pair_of c) ps k e first.inside (λ d. let h = same-is (get_or ps k d).identifier c.stream_identifier (first.here d) in
+        ap (λ n. n == s) h ∙ e) ∙ names s ∙ sym (other-stream cs c s e)
 
-pub added : (ps : List ChunkForwardTsnStream) (cs : List ChunkPayloadData) (c : ChunkPayloadData) → IsNoPair c.stream_identifier ps (length ps) → Name ps cs → Name (ps ++ pair_of c ∷ []) (cs ++ c ∷ [])
+pub added : (ps : List ChunkForwardTsnStream) (cs : List ChunkPayloadData) (c : ChunkPayloadData) → IsNoPair c.stream_identifier ps (length ps) → Name ps cs
+    → Name (ps ++ pair_of c ∷ []) (cs ++ c ∷ [])
 added ps cs c none names s = by (is_on s c) refl
   where
     by : (b : Bool) → is_on s c ≡ b → filter (is_pair_of s) (ps ++ pair_of c ∷ []) ≡ pairs_of (last_of (filter (is_on s) (cs ++ c ∷ [])))
@@ -89,8 +97,8 @@ added ps cs c none names s = by (is_on s c) refl
         those-append (is_pair_of s) ps (pair_of c ∷ []) ∙ ap (λ xs. xs ++ filter (is_pair_of s) (pair_of c ∷ [])) (those-absent (is_pair_of s) (pair_of c) ps f)
         ∙ those-yes (is_pair_of s) (pair_of c) [] e ∙ sym (same-stream cs c s e)
     by false e =
-        those-append (is_pair_of s) ps (pair_of c ∷ []) ∙ ap (λ xs. filter (is_pair_of s) ps ++ xs) (those-no (is_pair_of s) (pair_of c) [] e) ∙ append-nil (filter (is_pair_of s) ps)
-        ∙ names s ∙ sym (other-stream cs c s e)
+        those-append (is_pair_of s) ps (pair_of c ∷ []) ∙ ap (λ xs. filter (is_pair_of s) ps ++ xs) (those-no (is_pair_of s) (pair_of c) [] e)
+        ∙ append-nil (filter (is_pair_of s) ps) ∙ names s ∙ sym (other-stream cs c s e)
 
 -- inside a list the default does not matter
 pub any-default : {A : Type 0} (xs : List A) (k : ℕ) (d e : A) → k < length xs → get_or xs k d ≡ get_or xs k e

@@ -43,7 +43,8 @@ shuffle false true false d = refl
 shuffle false false c d = refl
 
 -- those that begin before a distance, and those that begin there
-pub one-farther : (i last : ℕ) (bs : List GapAckBlock) → list_any (goes_past (i + 1) last) bs ≡ (list_any (goes_past i last) bs || list_any (goes_from_to i last) bs)
+pub one-farther : (i last : ℕ) (bs : List GapAckBlock)
+    → list_any (goes_past (i + 1) last) bs ≡ (list_any (goes_past i last) bs || list_any (goes_from_to i last) bs)
 one-farther i last [] = refl
 one-farther i last (b ∷ bs) =
     let here : goes_past (i + 1) last b ≡ (goes_past i last b || goes_from_to i last b) = grind (arith, nat_tests) in
@@ -52,7 +53,8 @@ one-farther i last (b ∷ bs) =
 
 pub none-before : (last : ℕ) (bs : List GapAckBlock) → list_any (goes_past 0 last) bs ≡ false
 none-before last [] = refl
-none-before last (b ∷ bs) = let here : goes_past 0 last b ≡ false = grind (arith, nat_tests) in ap (λ k. k || list_any (goes_past 0 last) bs) here ∙ none-before last bs
+none-before last (b ∷ bs) = let here : goes_past 0 last b ≡ false = grind (arith, nat_tests) in
+    ap (λ k. k || list_any (goes_past 0 last) bs) here ∙ none-before last bs
 
 pub past-is-in : (i : ℕ) (bs : List GapAckBlock) → list_any (goes_past (i + 1) i) bs ≡ is_in_blocks bs i
 past-is-in i [] = refl
@@ -69,7 +71,9 @@ max-is a b m e = by (nat_lt b a) refl
     by false h = grind (arith, nat_tests, e, h)
 
 -- the furthest end, one distance on
-pub end-more : (ends : List ℕ) (bs : List GapAckBlock) (i last end here : ℕ) → HasEnds ends bs → i ≤ last → here ≡ get_or ends i 0 → nat_lt last end ≡ list_any (goes_past i last) bs → nat_lt last (max end here) ≡ list_any (goes_past (i + 1) last) bs
+pub end-more : (ends : List ℕ) (bs : List GapAckBlock) (i last end here : ℕ) → HasEnds ends bs → i ≤ last → here ≡ get_or ends i 0
+    → nat_lt last end ≡ list_any (goes_past i last) bs → nat_lt last (max end here) ≡ list_any (goes_past (i + 1) last) bs
 end-more ends bs i last end here has le is so_far =
     let most : nat_lt last (max end here) ≡ (nat_lt last end || nat_lt last here) = grind (arith, nat_tests) in
-    most ∙ ap (λ k. k || nat_lt last here) so_far ∙ ap (λ h. list_any (goes_past i last) bs || nat_lt last h) is ∙ ap (λ k. list_any (goes_past i last) bs || k) (has i last le) ∙ sym (one-farther i last bs)
+    most ∙ ap (λ k. k || nat_lt last here) so_far ∙ ap (λ h. list_any (goes_past i last) bs || nat_lt last h) is
+    ∙ ap (λ k. list_any (goes_past i last) bs || k) (has i last le) ∙ sym (one-farther i last bs)

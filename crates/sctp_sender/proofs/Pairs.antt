@@ -1,5 +1,6 @@
 -- Where the pair of a stream stands.
-use Rattle.std.proofs.Common.{◌≡◌, ℕ, zero, suc, ◌+◌, ◌<◌, Bool, true, false, List, [], ◌∷◌, length, set, get_or, slice_get, Option, Some, None, refl, ap, sym, subst, ◌∙◌, arith}
+use Rattle.std.proofs.Common.{◌≡◌, ℕ, zero, suc, ◌+◌, ◌<◌, Bool, true, false, List, [], ◌∷◌, length, set, get_or, slice_get, Option, Some, None, refl, ap, sym}
+use Rattle.std.proofs.Common.{subst, ◌∙◌, arith}
 use Rattle.std.specs.Prelude.{◌==◌, IfSome, MatchOption}
 use Rattle.std.proofs.lemmas.Bool.{eq-eqb, false≢true}
 use Rattle.std.proofs.lemmas.Option.{none-some}
@@ -14,12 +15,14 @@ any_pair = record { identifier = 0; sequence = 0 }
 
 -- ## The streams of pairs
 
-pair-there : (ps : List ChunkForwardTsnStream) (k s : ℕ) → slice_get (streams_of ps) k ≡ Some s → (k < length ps) × ((d : ChunkForwardTsnStream) → is_pair_of s (get_or ps k d) ≡ true)
+pair-there : (ps : List ChunkForwardTsnStream) (k s : ℕ) → slice_get (streams_of ps) k ≡ Some s
+    → (k < length ps) × ((d : ChunkForwardTsnStream) → is_pair_of s (get_or ps k d) ≡ true)
 pair-there [] k s e = absurd (none-some s e)
 pair-there (p ∷ ps) zero s e = let same : p.identifier ≡ s = cc in (omega arith, λ d. eq-eqb _ _ same)
 pair-there (p ∷ ps) (suc k) s e = let h = pair-there ps k s e in (omega (arith, h.0), h.1)
 
-stream-there : (ps : List ChunkForwardTsnStream) (k s : ℕ) (d : ChunkForwardTsnStream) → k < length ps → is_pair_of s (get_or ps k d) ≡ true → slice_get (streams_of ps) k ≡ Some s
+stream-there : (ps : List ChunkForwardTsnStream) (k s : ℕ) (d : ChunkForwardTsnStream) → k < length ps → is_pair_of s (get_or ps k d) ≡ true
+    → slice_get (streams_of ps) k ≡ Some s
 stream-there [] k s d lt e = absurd (omega (arith, lt))
 stream-there (p ∷ ps) zero s d lt e = ap Some (same-is p.identifier s e)
 stream-there (p ∷ ps) (suc k) s d lt e = stream-there ps k s d (omega (arith, lt)) e
@@ -29,7 +32,8 @@ module _ (s : ℕ) (ps : List ChunkForwardTsnStream) where
   first-of k h = let r = pair-there ps k s h.here in record {
     inside = r.0;
     here = r.1;
-    before = λ j d lt. fails (is_pair_of s (get_or ps j d)) (λ e. let at = h.only j (stream-there ps j s d (omega (arith, lt, r.0)) e) in omega (arith, at, lt));
+    before =
+        λ j d lt. fails (is_pair_of s (get_or ps j d)) (λ e. let at = h.only j (stream-there ps j s d (omega (arith, lt, r.0)) e) in omega (arith, at, lt));
   }
 
   none-of : IsAbsent s (streams_of ps) → IsNoPair s ps (length ps)
@@ -47,7 +51,9 @@ module _ (s : ℕ) (ps : List ChunkForwardTsnStream) where
   missing ns (Some k) e h none = absurd (none-some k (sym none))
 
 -- a pair in the place of one of its stream
-pub same-streams : (ps : List ChunkForwardTsnStream) (k : ℕ) (x : ChunkForwardTsnStream) → k < length ps → ((d : ChunkForwardTsnStream) → is_pair_of x.identifier (get_or ps k d) ≡ true) → streams_of (set ps k x) ≡ streams_of ps
+pub same-streams : (ps : List ChunkForwardTsnStream) (k : ℕ) (x : ChunkForwardTsnStream) → k < length ps
+    → ((d : ChunkForwardTsnStream) → is_pair_of x.identifier (get_or ps k d) ≡ true) → streams_of (set ps k x) ≡ streams_of ps
 same-streams [] k x lt here = absurd (omega (arith, lt))
-same-streams (p ∷ ps) zero x lt here = let same : p.identifier ≡ x.identifier = same-is p.identifier x.identifier (here p) in ap (λ n. n ∷ streams_of ps) (sym same)
+same-streams (p ∷ ps) zero x lt here = let same : p.identifier ≡ x.identifier = same-is p.identifier x.identifier (here p) in
+    ap (λ n. n ∷ streams_of ps) (sym same)
 same-streams (p ∷ ps) (suc k) x lt here = ap (λ ns. p.identifier ∷ ns) (same-streams ps k x (omega (arith, lt)) here)

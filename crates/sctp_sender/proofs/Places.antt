@@ -1,5 +1,6 @@
 -- Where the chunks of a message stand in flight.
-use Rattle.std.proofs.Common.{◌≡◌, ◌≢◌, ℕ, zero, suc, ◌+◌, ◌-◌, ◌<◌, ◌≤◌, ◌%◌, ◌^◌, Bool, true, false, List, [], ◌∷◌, length, take, drop, get_or, Some, refl, ap, sym, ◌∙◌, arith}
+use Rattle.std.proofs.Common.{◌≡◌, ◌≢◌, ℕ, zero, suc, ◌+◌, ◌-◌, ◌<◌, ◌≤◌, ◌%◌, ◌^◌, Bool, true, false, List, [], ◌∷◌, length, take, drop, get_or, Some, refl}
+use Rattle.std.proofs.Common.{ap, sym, ◌∙◌, arith}
 use Rattle.std.specs.Prelude.{◌||◌, find}
 use Rattle.std.specs.List.{list_any}
 use Rattle.std.proofs.lemmas.Bool.{ne_eqb}
@@ -20,28 +21,35 @@ unfolding distance
 away acked k small few = omega arith
 
 -- the place of a TSN in flight is how far it is past the acknowledged one, less one
-pub place-is : (f : Flight) → IsContiguous f → (tsn : ℕ) (c : ChunkPayloadData) → find (has_tsn tsn) f.queue.inflight.chunks ≡ Some c → (k : ℕ) × (k < length f.queue.inflight.chunks) × (distance f.acked_tsn tsn ≡ suc k) × (c ≡ get_or f.queue.inflight.chunks k c)
+pub place-is : (f : Flight) → IsContiguous f → (tsn : ℕ) (c : ChunkPayloadData) → find (has_tsn tsn) f.queue.inflight.chunks ≡ Some c
+    → (k : ℕ) × (k < length f.queue.inflight.chunks) × (distance f.acked_tsn tsn ≡ suc k) × (c ≡ get_or f.queue.inflight.chunks k c)
 place-is f inv tsn c found =
     let cs = f.queue.inflight.chunks in
     let h = found-place (has_tsn tsn) cs c found in
     let passes : has_tsn tsn c ≡ true = found-passes (has_tsn tsn) cs c found in
     let own : c.tsn ≡ tsn = grind (arith, nat_tests, passes) in
-    let at : c.tsn ≡ (following_tsn f.acked_tsn + h.0) % 2 ^ 32 = ap (λ (x : ChunkPayloadData). x.tsn) h.2 ∙ tsn-at cs (following_tsn f.acked_tsn) h.0 c (omega (arith, inv.in_range)) inv.run h.1 in
+    let at : c.tsn ≡ (following_tsn f.acked_tsn + h.0) % 2 ^ 32 = ap (λ (x : ChunkPayloadData). x.tsn) h.2
+    ∙ tsn-at cs (following_tsn f.acked_tsn) h.0 c (omega (arith, inv.in_range)) inv.run h.1 in
     (h.0, h.1, ap (distance f.acked_tsn) (sym own ∙ at) ∙ away f.acked_tsn h.0 inv.in_range (omega (arith, h.1, inv.few)), h.2)
 
-none-taken : (p : ChunkPayloadData → Bool) (cs : List ChunkPayloadData) (n : ℕ) → ((i : ℕ) (d : ChunkPayloadData) → i < n → i < length cs → p (get_or cs i d) ≡ false) → list_any p (take n cs) ≡ false
+none-taken : (p : ChunkPayloadData → Bool) (cs : List ChunkPayloadData) (n : ℕ)
+    → ((i : ℕ) (d : ChunkPayloadData) → i < n → i < length cs → p (get_or cs i d) ≡ false) → list_any p (take n cs) ≡ false
 none-taken p cs zero none = refl
 none-taken p [] (suc n) none = refl
-none-taken p (c ∷ cs) (suc n) none = ap (λ b. b || list_any p (take n cs)) (none 0 c (omega arith) (omega arith)) ∙ none-taken p cs n (λ i d lt in'. none (suc i) d (omega (arith, lt)) (omega (arith, in')))
+none-taken p (c ∷ cs) (suc n) none = ap (λ b. b || list_any p (take n cs)) (none 0 c (omega arith) (omega arith))
+    ∙ none-taken p cs n (λ i d lt in'. none (suc i) d (omega (arith, lt)) (omega (arith, in')))
 
-none-dropped : (p : ChunkPayloadData → Bool) (cs : List ChunkPayloadData) (n : ℕ) → ((j : ℕ) (d : ChunkPayloadData) → n ≤ j → j < length cs → p (get_or cs j d) ≡ false) → list_any p (drop n cs) ≡ false
+none-dropped : (p : ChunkPayloadData → Bool) (cs : List ChunkPayloadData) (n : ℕ)
+    → ((j : ℕ) (d : ChunkPayloadData) → n ≤ j → j < length cs → p (get_or cs j d) ≡ false) → list_any p (drop n cs) ≡ false
 none-dropped p [] zero none = refl
 none-dropped p [] (suc n) none = refl
-none-dropped p (c ∷ cs) zero none = ap (λ b. b || list_any p cs) (none 0 c (omega arith) (omega arith)) ∙ none-dropped p cs zero (λ j d le in'. none (suc j) d (omega arith) (omega (arith, in')))
+none-dropped p (c ∷ cs) zero none = ap (λ b. b || list_any p cs) (none 0 c (omega arith) (omega arith))
+    ∙ none-dropped p cs zero (λ j d le in'. none (suc j) d (omega arith) (omega (arith, in')))
 none-dropped p (c ∷ cs) (suc n) none = none-dropped p cs n (λ j d le in'. none (suc j) d (omega (arith, le)) (omega (arith, in')))
 
 -- between two places where messages part, on both sides of a chunk, stands its message
-pub between : (cs : List ChunkPayloadData) (start end k : ℕ) (c : ChunkPayloadData) → start ≤ k → k < end → end ≤ length cs → IsApartAt start cs → IsApartAt end cs → c ≡ get_or cs k c → IsBetween c.message_id start end cs
+pub between : (cs : List ChunkPayloadData) (start end k : ℕ) (c : ChunkPayloadData) → start ≤ k → k < end → end ≤ length cs → IsApartAt start cs
+    → IsApartAt end cs → c ≡ get_or cs k c → IsBetween c.message_id start end cs
 between cs start end k c low high in' before behind here = record {
   order = omega (arith, low, high);
   inside = in';

@@ -1,5 +1,6 @@
 -- Chunks whose TSNs follow one another.
-use Rattle.std.proofs.Common.{◌≡◌, ℕ, zero, suc, ◌+◌, ◌-◌, ◌<◌, ◌≤◌, ◌%◌, ◌^◌, Bool, true, false, List, [], ◌∷◌, length, drop, get_or, Some, refl, ap, sym, subst, ◌∙◌, arith}
+use Rattle.std.proofs.Common.{◌≡◌, ℕ, zero, suc, ◌+◌, ◌-◌, ◌<◌, ◌≤◌, ◌%◌, ◌^◌, Bool, true, false, List, [], ◌∷◌, length, drop, get_or, Some, refl, ap, sym}
+use Rattle.std.proofs.Common.{subst, ◌∙◌, arith}
 use Rattle.std.specs.Prelude.{if◌then◌else◌, ◌==◌, not, find}
 use Rattle.std.proofs.lemmas.Bool.{eq-eqb, ne_eqb}
 use Rattle.std.proofs.lemmas.Bool.Decides.{nat_tests}
@@ -38,7 +39,8 @@ tail-is : (first : ℕ) (c : ChunkPayloadData) (cs : List ChunkPayloadData) → 
 tail-is first c cs e = cc
 
 -- the chunk at a place
-pub tsn-at : (cs : List ChunkPayloadData) (first i : ℕ) (d : ChunkPayloadData) → first < 2 ^ 32 → IsRunFrom first cs → i < length cs → (get_or cs i d).tsn ≡ (first + i) % 2 ^ 32
+pub tsn-at : (cs : List ChunkPayloadData) (first i : ℕ) (d : ChunkPayloadData) → first < 2 ^ 32 → IsRunFrom first cs → i < length cs
+    → (get_or cs i d).tsn ≡ (first + i) % 2 ^ 32
 tsn-at [] first i d small e lt = absurd (omega (arith, lt))
 tsn-at (c ∷ cs) first zero d small e lt = let h = head-is first c cs e in omega arith
 tsn-at (c ∷ cs) first (suc i) d small e lt = let h = tsn-at cs (following_tsn first) i d (omega arith) (tail-is first c cs e) (omega (arith, lt)) in omega arith
@@ -51,7 +53,8 @@ dropped (c ∷ cs) first (suc i) small e le =
     subst (λ f. IsRunFrom f (drop i cs)) same (dropped cs (following_tsn first) i (omega arith) (tail-is first c cs e) (omega (arith, le)))
 
 -- the front of what is left at a place
-pub front-dropped : (cs : List ChunkPayloadData) (first i : ℕ) → first < 2 ^ 32 → IsRunFrom first cs → i < length cs → without_front ((first + i) % 2 ^ 32) (drop i cs) ≡ drop (i + 1) cs
+pub front-dropped : (cs : List ChunkPayloadData) (first i : ℕ) → first < 2 ^ 32 → IsRunFrom first cs → i < length cs
+    → without_front ((first + i) % 2 ^ 32) (drop i cs) ≡ drop (i + 1) cs
 front-dropped [] first i small e lt = absurd (omega (arith, lt))
 front-dropped (c ∷ cs) first zero small e lt =
     let here : (c.tsn == (first + 0) % 2 ^ 32) ≡ true = eq-eqb _ _ (let h = head-is first c cs e in omega arith) in
@@ -59,23 +62,27 @@ front-dropped (c ∷ cs) first zero small e lt =
 front-dropped (c ∷ cs) first (suc i) small e lt =
     let same : (following_tsn first + i) % 2 ^ 32 ≡ (first + suc i) % 2 ^ 32 = omega arith in
     let next : suc i + 1 ≡ suc (i + 1) = omega arith in
-    ap (λ t. without_front t (drop i cs)) (sym same) ∙ front-dropped cs (following_tsn first) i (omega arith) (tail-is first c cs e) (omega (arith, lt)) ∙ ap (λ k. drop k (c ∷ cs)) (sym next)
+    ap (λ t. without_front t (drop i cs)) (sym same) ∙ front-dropped cs (following_tsn first) i (omega arith) (tail-is first c cs e) (omega (arith, lt))
+    ∙ ap (λ k. drop k (c ∷ cs)) (sym next)
 
 -- no other chunk has its TSN
-pub only-at : (cs : List ChunkPayloadData) (first i : ℕ) → first < 2 ^ 32 → IsRunFrom first cs → length cs < 2 ^ 31 → i < length cs → OnlyAt (has_tsn ((first + i) % 2 ^ 32)) cs i
+pub only-at : (cs : List ChunkPayloadData) (first i : ℕ) → first < 2 ^ 32 → IsRunFrom first cs → length cs < 2 ^ 31 → i < length cs
+    → OnlyAt (has_tsn ((first + i) % 2 ^ 32)) cs i
 only-at cs first i small e few lt = record {
   in_range = lt;
   here = λ d. eq-eqb _ _ (tsn-at cs first i d small e lt);
   elsewhere = λ k d less differ. ne_eqb _ _ (λ same. let h = tsn-at cs first k d small e less in differ (omega (arith, few, lt, less, same, h)));
 }
 
-pub found-at : (cs : List ChunkPayloadData) (first i : ℕ) (d : ChunkPayloadData) → first < 2 ^ 32 → IsRunFrom first cs → length cs < 2 ^ 31 → i < length cs → find (has_tsn ((first + i) % 2 ^ 32)) cs ≡ Some (get_or cs i d)
+pub found-at : (cs : List ChunkPayloadData) (first i : ℕ) (d : ChunkPayloadData) → first < 2 ^ 32 → IsRunFrom first cs → length cs < 2 ^ 31 → i < length cs
+    → find (has_tsn ((first + i) % 2 ^ 32)) cs ≡ Some (get_or cs i d)
 found-at cs first i d small e few lt =
     let o = only-at cs first i small e few lt in
     find-first (has_tsn ((first + i) % 2 ^ 32)) cs i d lt (λ k x less. o.elsewhere k x (omega (arith, less, lt)) (λ z. omega (arith, less, z))) (o.here d)
 
 -- a change that keeps TSNs
-pub changed-run : (p : ChunkPayloadData → Bool) (f : ChunkPayloadData → ChunkPayloadData) → ((c : ChunkPayloadData) → (f c).tsn ≡ c.tsn) → (cs : List ChunkPayloadData) → tsns (change_where p f cs) ≡ tsns cs
+pub changed-run : (p : ChunkPayloadData → Bool) (f : ChunkPayloadData → ChunkPayloadData) → ((c : ChunkPayloadData) → (f c).tsn ≡ c.tsn)
+    → (cs : List ChunkPayloadData) → tsns (change_where p f cs) ≡ tsns cs
 changed-run p f same [] = refl
 changed-run p f same (c ∷ cs) = by (p c) (changed-run p f same cs)
   where
@@ -89,7 +96,8 @@ pub later : (t base far : ℕ) → base < 2 ^ 32 → far + 1 < 2 ^ 31 → t ≡ 
 unfolding at_or_before distance
 later t base far small few is = let e : (base + (2 ^ 32 - t)) % 2 ^ 32 ≡ 2 ^ 32 - far - 1 = omega arith in grind (arith, nat_tests, few, e)
 
-none-past : (cs : List ChunkPayloadData) (base far : ℕ) → base < 2 ^ 32 → far + length cs < 2 ^ 31 → IsRunFrom ((base + far + 1) % 2 ^ 32) cs → past base cs ≡ cs
+none-past : (cs : List ChunkPayloadData) (base far : ℕ) → base < 2 ^ 32 → far + length cs < 2 ^ 31 → IsRunFrom ((base + far + 1) % 2 ^ 32) cs
+    → past base cs ≡ cs
 none-past [] base far small few e = refl
 none-past (c ∷ cs) base far small few e =
     let after : at_or_before c.tsn base ≡ false = later c.tsn base far small (omega (arith, few)) (head-is _ c cs e) in
@@ -109,15 +117,18 @@ back : (base cum : ℕ) → base < 2 ^ 32 → cum < 2 ^ 32 → 0 < distance base
 unfolding at_or_before
 back base cum small fits pos near = let h = one-less base cum small fits pos in grind (arith, nat_tests, h, near)
 
-pub past-is : (cs : List ChunkPayloadData) (base cum : ℕ) → base < 2 ^ 32 → cum < 2 ^ 32 → length cs < 2 ^ 31 → distance base cum ≤ length cs → IsRunFrom (following_tsn base) cs → past cum cs ≡ drop (distance base cum) cs
+pub past-is : (cs : List ChunkPayloadData) (base cum : ℕ) → base < 2 ^ 32 → cum < 2 ^ 32 → length cs < 2 ^ 31 → distance base cum ≤ length cs
+    → IsRunFrom (following_tsn base) cs → past cum cs ≡ drop (distance base cum) cs
 past-is [] base cum small fits few le e = nothing (distance base cum)
   where
     nothing : (k : ℕ) → [] ≡ drop {A = ChunkPayloadData} k []
     nothing zero = refl
     nothing (suc k) = refl
-past-is (c ∷ cs) base cum small fits few le e = by (distance base cum) refl (λ pos. past-is cs (following_tsn base) cum (omega arith) fits (omega (arith, few)) (omega (arith, le, one-less base cum small fits pos)) (tail-is _ c cs e))
+past-is (c ∷ cs) base cum small fits few le e = by (distance base cum) refl (λ pos.
+    past-is cs (following_tsn base) cum (omega arith) fits (omega (arith, few)) (omega (arith, le, one-less base cum small fits pos)) (tail-is _ c cs e))
   where
-    by : (n : ℕ) → distance base cum ≡ n → (0 < distance base cum → past cum cs ≡ drop (distance (following_tsn base) cum) cs) → past cum (c ∷ cs) ≡ drop n (c ∷ cs)
+    by : (n : ℕ) → distance base cum ≡ n → (0 < distance base cum → past cum cs ≡ drop (distance (following_tsn base) cum) cs)
+        → past cum (c ∷ cs) ≡ drop n (c ∷ cs)
     by zero none ih =
         let same = same-tsn base cum small fits none in
         let first : following_tsn base ≡ (base + 0 + 1) % 2 ^ 32 = omega arith in
@@ -125,6 +136,7 @@ past-is (c ∷ cs) base cum small fits few le e = by (distance base cum) refl (�
     by (suc n) far ih =
         let h = one-less base cum small fits (omega arith) in
         let less : distance (following_tsn base) cum ≡ n = omega arith in
-        let upto : at_or_before c.tsn cum ≡ true = ap (λ t. at_or_before t cum) (head-is _ c cs e) ∙ back base cum small fits (omega (arith, far)) (omega (arith, le, far, few)) in
+        let upto : at_or_before c.tsn cum ≡ true = ap (λ t. at_or_before t cum) (head-is _ c cs e)
+        ∙ back base cum small fits (omega (arith, far)) (omega (arith, le, far, few)) in
         ap (λ b. if not b then c ∷ past cum cs else past cum cs) upto
         ∙ ih (omega arith) ∙ ap (λ k. drop k cs) less

@@ -27,7 +27,8 @@ apart t base far small near is = omega arith
 
 module _ (f : Flight) (inv : IsContiguous f) (s : Sack) (fits : s.cumulative_tsn_ack < 2 ^ 32) where
   -- it reports no chunk farther behind its cumulative TSN than its blocks go
-  pub beyond : (k : ℕ) (d : ChunkPayloadData) → distance f.acked_tsn s.cumulative_tsn_ack + after_blocks s.gap_ack_blocks ≤ k → k < length f.queue.inflight.chunks → reports_anew s (get_or f.queue.inflight.chunks k d) ≡ false
+  pub beyond : (k : ℕ) (d : ChunkPayloadData) → distance f.acked_tsn s.cumulative_tsn_ack + after_blocks s.gap_ack_blocks ≤ k
+      → k < length f.queue.inflight.chunks → reports_anew s (get_or f.queue.inflight.chunks k d) ≡ false
   beyond k d far lt =
       let c : ChunkPayloadData = get_or f.queue.inflight.chunks k d in
       let n : ℕ = k - distance f.acked_tsn s.cumulative_tsn_ack in
@@ -37,8 +38,10 @@ module _ (f : Flight) (inv : IsContiguous f) (s : Sack) (fits : s.cumulative_tsn
       let near : n + 1 < 2 ^ 31 = omega (arith, inv.few, lt) in
       let after : at_or_before c.tsn s.cumulative_tsn_ack ≡ false = later c.tsn s.cumulative_tsn_ack n fits near is in
       let away : distance s.cumulative_tsn_ack c.tsn ≡ n + 1 = apart c.tsn s.cumulative_tsn_ack n fits near is in
-      let none : is_in_blocks s.gap_ack_blocks (distance s.cumulative_tsn_ack c.tsn) ≡ false = none-behind s.gap_ack_blocks (distance s.cumulative_tsn_ack c.tsn) (omega (arith, away, far)) in
-      ap (λ b. not c.acked && (b || is_in_blocks s.gap_ack_blocks (distance s.cumulative_tsn_ack c.tsn))) after ∙ ap (λ b. not c.acked && b) none ∙ and-none (not c.acked)
+      let none : is_in_blocks s.gap_ack_blocks (distance s.cumulative_tsn_ack c.tsn) ≡ false =
+      none-behind s.gap_ack_blocks (distance s.cumulative_tsn_ack c.tsn) (omega (arith, away, far)) in
+      ap (λ b. not c.acked && (b || is_in_blocks s.gap_ack_blocks (distance s.cumulative_tsn_ack c.tsn))) after ∙ ap (λ b. not c.acked && b) none
+      ∙ and-none (not c.acked)
 
   abbrev marked-chunks : List ChunkPayloadData
   marked-chunks = change_where (reports_anew s) as_acknowledged f.queue.inflight.chunks
@@ -49,7 +52,8 @@ module _ (f : Flight) (inv : IsContiguous f) (s : Sack) (fits : s.cumulative_tsn
   pub run : IsRunFrom (following_tsn f.acked_tsn) marked-chunks
   run = changed-run (reports_anew s) as_acknowledged (λ c. refl) f.queue.inflight.chunks ∙ inv.run ∙ ap (tsns_from (following_tsn f.acked_tsn)) (sym count)
 
-  module _ (within : distance f.acked_tsn s.cumulative_tsn_ack ≤ length f.queue.inflight.chunks) (mid then' : Outbound) (is : mid ≡ with_inflight f.queue marked-chunks) (after : then' ≡ with_inflight mid (drop (distance f.acked_tsn s.cumulative_tsn_ack) mid.inflight.chunks)) where
+  module _ (within : distance f.acked_tsn s.cumulative_tsn_ack ≤ length f.queue.inflight.chunks) (mid then' : Outbound) (is : mid
+      ≡ with_inflight f.queue marked-chunks) (after : then' ≡ with_inflight mid (drop (distance f.acked_tsn s.cumulative_tsn_ack) mid.inflight.chunks)) where
     abbrev d : ℕ
     d = distance f.acked_tsn s.cumulative_tsn_ack
 
@@ -60,7 +64,8 @@ module _ (f : Flight) (inv : IsContiguous f) (s : Sack) (fits : s.cumulative_tsn
     rest =
         let cum = cum-is f.acked_tsn s.cumulative_tsn_ack inv.in_range fits in
         let same : (following_tsn f.acked_tsn + d) % 2 ^ 32 ≡ following_tsn s.cumulative_tsn_ack = omega arith in
-        subst (λ t. IsRunFrom t (drop d marked-chunks)) same (dropped marked-chunks (following_tsn f.acked_tsn) d (omega arith) run (omega (arith, within, count)))
+        subst (λ t. IsRunFrom t (drop d marked-chunks)) same
+        (dropped marked-chunks (following_tsn f.acked_tsn) d (omega arith) run (omega (arith, within, count)))
 
     remains : length (drop d marked-chunks) ≡ length f.queue.inflight.chunks - d
     remains = let n = length-drop d marked-chunks in omega (arith, n, count)
@@ -82,8 +87,10 @@ module _ (f : Flight) (inv : IsContiguous f) (s : Sack) (fits : s.cumulative_tsn
           side_by_side = subst IsInLine left in-line;
         })
 
-    pub taken-is : is_outdated s f ≡ false → (let g : Flight = record { queue = then'; next_tsn = f.next_tsn; acked_tsn = s.cumulative_tsn_ack } in g) ≡ after_sack s f
+    pub taken-is : is_outdated s f ≡ false
+        → (let g : Flight = record { queue = then'; next_tsn = f.next_tsn; acked_tsn = s.cumulative_tsn_ack } in g) ≡ after_sack s f
     taken-is fresh =
         ap (λ (o : Outbound). let g : Flight = record { queue = o; next_tsn = f.next_tsn; acked_tsn = s.cumulative_tsn_ack } in g)
-        (left ∙ ap (with_inflight f.queue) (sym (past-is marked-chunks f.acked_tsn s.cumulative_tsn_ack inv.in_range fits (omega (arith, inv.few, count)) (omega (arith, within, count)) run)))
+        (left ∙ ap (with_inflight f.queue)
+        (sym (past-is marked-chunks f.acked_tsn s.cumulative_tsn_ack inv.in_range fits (omega (arith, inv.few, count)) (omega (arith, within, count)) run)))
         ∙ ap (λ b. if b then f else take_sack s f) (sym fresh)

@@ -1,5 +1,6 @@
 -- Which streams of a sender are open, and the fragments of a write.
-use Rattle.std.proofs.Common.{◌≡◌, ℕ, zero, suc, ◌+◌, ◌<◌, ◌≤◌, Bool, true, false, List, [], ◌∷◌, length, length-append, map, drop, Option, Some, None, refl, ap, sym, ◌∙◌, arith, subst}
+use Rattle.std.proofs.Common.{◌≡◌, ℕ, zero, suc, ◌+◌, ◌<◌, ◌≤◌, Bool, true, false, List, [], ◌∷◌, length, length-append, map, drop, Option, Some, None, refl}
+use Rattle.std.proofs.Common.{ap, sym, ◌∙◌, arith, subst}
 use Rattle.std.specs.Prelude.{◌==◌, if◌then◌else◌, nat_lt, not, find, is_some, MatchOption, slice_index_or}
 use Rattle.std.proofs.lemmas.Bool.Decides.{nat_tests}
 use Rattle.std.proofs.lemmas.List.{get_or_default}
@@ -48,19 +49,22 @@ module _ (ls : List StreamState) (s : ℕ) where
 
 module _ (s len : ℕ) (t : Transmission) where
   pub unknown : find (has_number s) t.streams ≡ None → write_refusal s len t ≡ Some StreamUnknown
-  unknown e = ap (λ b. if not b then Some StreamUnknown else (if nat_lt t.max_message_size len then Some MessageTooLarge else (if is_full len t then Some QueueFull else None))) (ap is_some e)
+  unknown e = ap (λ b. if not b then Some StreamUnknown
+      else (if nat_lt t.max_message_size len then Some MessageTooLarge else (if is_full len t then Some QueueFull else None))) (ap is_some e)
 
   module _ (open' : is_open s t ≡ true) where
     pub too-large : t.max_message_size < len → write_refusal s len t ≡ Some MessageTooLarge
     too-large lt =
         let e : nat_lt t.max_message_size len ≡ true = grind (arith, nat_tests, lt) in
-        ap (λ b. if not b then Some StreamUnknown else (if nat_lt t.max_message_size len then Some MessageTooLarge else (if is_full len t then Some QueueFull else None))) open'
+        ap (λ b. if not b then Some StreamUnknown
+        else (if nat_lt t.max_message_size len then Some MessageTooLarge else (if is_full len t then Some QueueFull else None))) open'
         ∙ ap (λ b. if b then Some MessageTooLarge else (if is_full len t then Some QueueFull else None)) e
 
     pub by-room : len ≤ t.max_message_size → write_refusal s len t ≡ (if is_full len t then Some QueueFull else None)
     by-room le =
         let e : nat_lt t.max_message_size len ≡ false = grind (arith, nat_tests, le) in
-        ap (λ b. if not b then Some StreamUnknown else (if nat_lt t.max_message_size len then Some MessageTooLarge else (if is_full len t then Some QueueFull else None))) open'
+        ap (λ b. if not b then Some StreamUnknown
+        else (if nat_lt t.max_message_size len then Some MessageTooLarge else (if is_full len t then Some QueueFull else None))) open'
         ∙ ap (λ b. if b then Some MessageTooLarge else (if is_full len t then Some QueueFull else None)) e
 
     pub full : len ≤ t.max_message_size → is_full len t ≡ true → write_refusal s len t ≡ Some QueueFull
@@ -74,10 +78,14 @@ module _ (s len : ℕ) (t : Transmission) where
 abbrev pub made : StreamState → PayloadProtocolIdentifier → List ℕ → ℕ → ChunkPayloadData
 made s ppi bytes i = with_reliability s.reliability_type s.reliability_value (fragment_at s ppi bytes i)
 
-pub fragments-made : (s : StreamState) (ppi : PayloadProtocolIdentifier) (bytes : List ℕ) → fragments_with_mode s ppi bytes ≡ map (made s ppi bytes) (numbers_from 0 (length (pieces_of s bytes)))
-fragments-made s ppi bytes = map-twice (with_reliability s.reliability_type s.reliability_value) (fragment_at s ppi bytes) (numbers_from 0 (length (pieces_of s bytes)))
+pub fragments-made : (s : StreamState) (ppi : PayloadProtocolIdentifier) (bytes : List ℕ)
+    → fragments_with_mode s ppi bytes ≡ map (made s ppi bytes) (numbers_from 0 (length (pieces_of s bytes)))
+fragments-made s ppi bytes =
+    map-twice (with_reliability s.reliability_type s.reliability_value) (fragment_at s ppi bytes) (numbers_from 0 (length (pieces_of s bytes)))
 
-message-from : (h : ℕ → ChunkPayloadData) (kind goes : Bool) (i k total : ℕ) → i + suc k ≡ total → (i == 0) ≡ not goes → ((j : ℕ) → (h j).beginning_fragment ≡ (j == 0)) → ((j : ℕ) → (h j).ending_fragment ≡ (j + 1 == total)) → ((j : ℕ) → (h j).unordered ≡ kind) → IsMessage kind goes (map h (numbers_where always i (suc k)))
+message-from : (h : ℕ → ChunkPayloadData) (kind goes : Bool) (i k total : ℕ) → i + suc k ≡ total → (i == 0) ≡ not goes
+    → ((j : ℕ) → (h j).beginning_fragment ≡ (j == 0)) → ((j : ℕ) → (h j).ending_fragment ≡ (j + 1 == total)) → ((j : ℕ) → (h j).unordered ≡ kind)
+    → IsMessage kind goes (map h (numbers_where always i (suc k)))
 message-from h kind goes i zero total e first begins ends same =
     let last : (i + 1 == total) ≡ true = (let z : i + 1 ≡ total = omega (arith, e) in grind (arith, nat_tests)) in
     (begins i ∙ first, ends i ∙ last, same i)
@@ -105,7 +113,8 @@ one-message s ppi bytes some =
 
 -- ## Their bytes
 
-pub bytes-are : (reliability : ReliabilityType) (value : ℕ) (cs : List ChunkPayloadData) → bytes_of (map (with_reliability reliability value) cs) ≡ length (payload_of cs)
+pub bytes-are : (reliability : ReliabilityType) (value : ℕ) (cs : List ChunkPayloadData)
+    → bytes_of (map (with_reliability reliability value) cs) ≡ length (payload_of cs)
 bytes-are reliability value [] = refl
 bytes-are reliability value (c ∷ cs) =
     let a = sum_by-cons (λ (x : ChunkPayloadData). length x.user_data) (with_reliability reliability value c) (map (with_reliability reliability value) cs) in

@@ -1,5 +1,6 @@
 -- What was acknowledged has no bytes, and stays so.
-use Rattle.std.proofs.Common.{◌≡◌, ℕ, zero, suc, ◌+◌, Bool, true, false, List, [], ◌∷◌, ◌++◌, length, map, Option, Some, None, refl, ap, sym, subst, ◌∙◌, arith, Result, Ok, Err}
+use Rattle.std.proofs.Common.{◌≡◌, ℕ, zero, suc, ◌+◌, Bool, true, false, List, [], ◌∷◌, ◌++◌, length, map, Option, Some, None, refl, ap, sym, subst, ◌∙◌, arith}
+use Rattle.std.proofs.Common.{Result, Ok, Err}
 use Rattle.std.specs.Prelude.{IsOk, OnErr, OnOk, drop, take, if◌then◌else◌, ◌==◌, ◌&&◌, ◌||◌, not, find, slice_get}
 use Rattle.std.proofs.lemmas.List.Sums.{sum_by-cons}
 use Rattle.std.proofs.lemmas.Option.{none-some}
@@ -11,16 +12,19 @@ use Rattle.sctp_data.specs.declared.chunk.chunk_payload_data.ChunkPayloadData.{C
 use Rattle.sctp_data.specs.declared.chunk.chunk_payload_data.PayloadProtocolIdentifier.{PayloadProtocolIdentifier}
 use Rattle.sctp_data.specs.SelectiveAck.{Sack}
 use Rattle.sctp_outbound.specs.Marks.{as_acknowledged, as_abandoned, is_of, is_outstanding, with_retransmit}
-use Rattle.sctp_outbound.specs.outbound_queue.OutboundQueue.{Outbound, abandoned_of, all_started, append_chunks, terminal_chunk, expired_of, as_sent, sent_next, sent_of, total_bytes, with_terminal_chunk, with_message, with_message_id}
+use Rattle.sctp_outbound.specs.outbound_queue.OutboundQueue.{Outbound, abandoned_of, all_started, append_chunks, terminal_chunk, expired_of, as_sent, sent_next}
+use Rattle.sctp_outbound.specs.outbound_queue.OutboundQueue.{sent_of, total_bytes, with_terminal_chunk, with_message, with_message_id}
 use Rattle.sctp_outbound.specs.payload_queue.Blocks.{is_in_blocks}
 use Rattle.sctp_outbound.specs.payload_queue.PayloadQueue as payload
 use Rattle.sctp_outbound.specs.payload_queue.PayloadQueue.{past}
-use Rattle.sctp_outbound.specs.pending_queue.PendingQueue.{Pending, closed_up, front_of, is_to_start, last_removed, list_of, list_to_pop, one_lower, next_pending, next_pending_of, rest_from, rest_of, start_pending, with_deadline, without}
+use Rattle.sctp_outbound.specs.pending_queue.PendingQueue.{Pending, closed_up, front_of, is_to_start, last_removed, list_of, list_to_pop, one_lower}
+use Rattle.sctp_outbound.specs.pending_queue.PendingQueue.{next_pending, next_pending_of, rest_from, rest_of, start_pending, with_deadline, without}
 use Rattle.sctp_serial.specs.DataChunks.{bytes_of, chunk_before, has_tsn, is_on}
 use Rattle.sctp_sender.specs.declared.sender.flight.Released.{Released}
 use Rattle.sctp_sender.specs.declared.sender.refusal.SenderRefusal.{SenderRefusal}
 use Rattle.sctp_stream.specs.declared.stream.StreamState.{StreamState}
-use Rattle.sctp_sender.specs.Flight.{Flight, after_sack, can_resend, is_outdated, is_outstanding_in, is_whole, released_by, released_of, reports_anew, resent, take_sack, message_to_abandon}
+use Rattle.sctp_sender.specs.Flight.{Flight, after_sack, can_resend, is_outdated, is_outstanding_in, is_whole, released_by, released_of, reports_anew, resent}
+use Rattle.sctp_sender.specs.Flight.{take_sack, message_to_abandon}
 use Rattle.sctp_sender.specs.Late.{abandoned_at, abandoned_each}
 use Rattle.sctp_sender.specs.Outgoing.{fragments_with_mode, with_reliability}
 use Rattle.sctp_sender.specs.Resending.{after_misses, all_marked, can_miss, missed, resent_at}
@@ -29,7 +33,8 @@ use Rattle.sctp_sender.specs.Totals.{AreSettled, IsAllSettled, IsSettled, bytes_
 
 -- ## Lists
 
-inserted-settled : (before : ChunkPayloadData → ChunkPayloadData → Bool) (x : ChunkPayloadData) (cs : List ChunkPayloadData) → IsSettled x → AreSettled cs → AreSettled (insert_before before x cs)
+inserted-settled : (before : ChunkPayloadData → ChunkPayloadData → Bool) (x : ChunkPayloadData) (cs : List ChunkPayloadData) → IsSettled x → AreSettled cs
+    → AreSettled (insert_before before x cs)
 inserted-settled before x [] sx s = (sx, s)
 inserted-settled before x (c ∷ cs) sx s = by (before x c) (inserted-settled before x cs sx s.1)
   where
@@ -45,7 +50,8 @@ those-settled p (c ∷ cs) s = by (p c) (those-settled p cs s.1)
     by true ih = (s.0, ih)
     by false ih = ih
 
-changed-settled : (p : ChunkPayloadData → Bool) (f : ChunkPayloadData → ChunkPayloadData) → ((c : ChunkPayloadData) → IsSettled c → IsSettled (f c)) → (cs : List ChunkPayloadData) → AreSettled cs → AreSettled (change_where p f cs)
+changed-settled : (p : ChunkPayloadData → Bool) (f : ChunkPayloadData → ChunkPayloadData) → ((c : ChunkPayloadData) → IsSettled c → IsSettled (f c))
+    → (cs : List ChunkPayloadData) → AreSettled cs → AreSettled (change_where p f cs)
 changed-settled p f keep [] s = s
 changed-settled p f keep (c ∷ cs) s = (by (p c), changed-settled p f keep cs s.1)
   where
@@ -117,8 +123,16 @@ message-settled (c ∷ cs) q s a = by c.unordered
     renamed (x ∷ xs) t = (t.0, renamed xs t.1)
 
     by : (b : Bool) → IsAllSettled (record q { pending = append_chunks b (map (with_message_id n) (c ∷ cs)) q.pending; next_message_id = n + 1 })
-    by true = record { ordered = a.ordered; unordered = joined-settled q.pending.unordered (map (with_message_id n) (c ∷ cs)) a.unordered (renamed (c ∷ cs) s); inflight = a.inflight }
-    by false = record { ordered = joined-settled q.pending.ordered (map (with_message_id n) (c ∷ cs)) a.ordered (renamed (c ∷ cs) s); unordered = a.unordered; inflight = a.inflight }
+    by true = record {
+      ordered = a.ordered;
+      unordered = joined-settled q.pending.unordered (map (with_message_id n) (c ∷ cs)) a.unordered (renamed (c ∷ cs) s);
+      inflight = a.inflight;
+    }
+    by false = record {
+      ordered = joined-settled q.pending.ordered (map (with_message_id n) (c ∷ cs)) a.ordered (renamed (c ∷ cs) s);
+      unordered = a.unordered;
+      inflight = a.inflight;
+    }
 
 pub fragments-settled : (l : StreamState) (ppi : PayloadProtocolIdentifier) (bytes : List ℕ) → AreSettled (fragments_with_mode l ppi bytes)
 fragments-settled l ppi bytes = moded (fragments_of l ppi bytes) (mapped-settled (fragment_at l ppi bytes) (λ i e. absurd (not_both e)) _)
@@ -145,7 +159,8 @@ sent-of-settled (Some c) q tsn now e a =
     record {
       ordered = rest.0;
       unordered = rest.1;
-      inflight = inserted-settled chunk_before (as_sent tsn now c) q.inflight.chunks (peeked-settled q.pending.selected q.pending c e (a.ordered, a.unordered)) a.inflight;
+      inflight = inserted-settled chunk_before (as_sent tsn now c) q.inflight.chunks
+          (peeked-settled q.pending.selected q.pending c e (a.ordered, a.unordered)) a.inflight;
     }
 
 pub sent-settled : (q : Outbound) (tsn now : ℕ) → IsAllSettled q → IsAllSettled (sent_next q tsn now)
@@ -162,7 +177,8 @@ abandoned-settled (Some m) tsn q a = record {
     left : AreSettled (change_where (is_of m) as_abandoned q.inflight.chunks)
     left = changed-settled (is_of m) as_abandoned (λ c s e. refl) q.inflight.chunks a.inflight
 
-    by : (o : Option ChunkPayloadData) → AreSettled (with_terminal_chunk o tsn (payload.with_chunks q.inflight (change_where (is_of m) as_abandoned q.inflight.chunks))).chunks
+    by : (o : Option ChunkPayloadData)
+        → AreSettled (with_terminal_chunk o tsn (payload.with_chunks q.inflight (change_where (is_of m) as_abandoned q.inflight.chunks))).chunks
     by None = left
     by (Some c) = inserted-settled chunk_before (terminal_chunk tsn c) (change_where (is_of m) as_abandoned q.inflight.chunks) (λ e. refl) left
 
@@ -175,19 +191,31 @@ expired-settled None q a = a
 expired-settled (Some c) q a = by c.unordered
   where
     left : Waits (without c.message_id q.pending)
-    left = (those-settled (λ d. not (is_of c.message_id d)) q.pending.ordered a.ordered, those-settled (λ d. not (is_of c.message_id d)) q.pending.unordered a.unordered)
+    left = (
+      those-settled (λ d. not (is_of c.message_id d)) q.pending.ordered a.ordered,
+      those-settled (λ d. not (is_of c.message_id d)) q.pending.unordered a.unordered,
+    )
 
-    by : (b : Bool) → IsAllSettled (record q { pending = if b then without c.message_id q.pending else closed_up c.stream_identifier (without c.message_id q.pending) })
+    by : (b : Bool)
+        → IsAllSettled (record q { pending = if b then without c.message_id q.pending else closed_up c.stream_identifier (without c.message_id q.pending) })
     by true = record { ordered = left.0; unordered = left.1; inflight = a.inflight }
-    by false = record { ordered = changed-settled (is_on c.stream_identifier) one_lower (λ d s. s) (without c.message_id q.pending).ordered left.0; unordered = left.1; inflight = a.inflight }
+    by false = record {
+      ordered = changed-settled (is_on c.stream_identifier) one_lower (λ d s. s) (without c.message_id q.pending).ordered left.0;
+      unordered = left.1;
+      inflight = a.inflight;
+    }
 
 resent-at-settled : (tsn now : ℕ) (c : ChunkPayloadData) (f : Flight) → IsAllSettled f.queue → IsAllSettled (resent_at tsn now c f).queue
-resent-at-settled tsn now c f a = record { ordered = a.ordered; unordered = a.unordered; inflight = changed-settled (has_tsn tsn) _ (λ d s. s) f.queue.inflight.chunks a.inflight }
+resent-at-settled tsn now c f a =
+    record { ordered = a.ordered; unordered = a.unordered; inflight = changed-settled (has_tsn tsn) _ (λ d s. s) f.queue.inflight.chunks a.inflight }
 
 resent-settled : (tsn : ℕ) (c : ChunkPayloadData) (f : Flight) → IsAllSettled f.queue → IsAllSettled (resent tsn c f).queue
-resent-settled tsn c f a = record { ordered = a.ordered; unordered = a.unordered; inflight = changed-settled (has_tsn tsn) _ (λ d s. s) f.queue.inflight.chunks a.inflight }
+resent-settled tsn c f a =
+    record { ordered = a.ordered; unordered = a.unordered; inflight = changed-settled (has_tsn tsn) _ (λ d s. s) f.queue.inflight.chunks a.inflight }
 
-pub resend-settled : (tsn now : ℕ) (f g : Flight) (r : Result ChunkPayloadData SenderRefusal) → OnOk r ((c : ChunkPayloadData) → find (has_tsn tsn) f.queue.inflight.chunks ≡ Some c → g ≡ resent_at tsn now c f) → (IsOk r → can_resend tsn f ≡ true) → OnErr r (g ≡ f) → IsAllSettled f.queue → IsAllSettled g.queue
+pub resend-settled : (tsn now : ℕ) (f g : Flight) (r : Result ChunkPayloadData SenderRefusal)
+    → OnOk r ((c : ChunkPayloadData) → find (has_tsn tsn) f.queue.inflight.chunks ≡ Some c → g ≡ resent_at tsn now c f) → (IsOk r → can_resend tsn f ≡ true)
+    → OnErr r (g ≡ f) → IsAllSettled f.queue → IsAllSettled g.queue
 resend-settled tsn now f g (Ok x) ok may err a = by (find (has_tsn tsn) f.queue.inflight.chunks) refl (may refl)
   where
     by : (o : Option ChunkPayloadData) → find (has_tsn tsn) f.queue.inflight.chunks ≡ o → is_outstanding_in o ≡ true → IsAllSettled g.queue
@@ -196,7 +224,11 @@ resend-settled tsn now f g (Ok x) ok may err a = by (find (has_tsn tsn) f.queue.
 resend-settled tsn now f g (Err e) ok may err a = subst (λ (h : Flight). IsAllSettled h.queue) (sym err) a
 
 pub all-marked-settled : (f : Flight) → IsAllSettled f.queue → IsAllSettled (all_marked f).queue
-all-marked-settled f a = record { ordered = a.ordered; unordered = a.unordered; inflight = changed-settled is_outstanding (with_retransmit true) (λ c s. s) f.queue.inflight.chunks a.inflight }
+all-marked-settled f a = record {
+  ordered = a.ordered;
+  unordered = a.unordered;
+  inflight = changed-settled is_outstanding (with_retransmit true) (λ c s. s) f.queue.inflight.chunks a.inflight;
+}
 
 pub misses-settled : (count : ℕ) (f : Flight) → IsAllSettled f.queue → IsAllSettled (after_misses count f).queue
 misses-settled count f a = record {
@@ -204,10 +236,12 @@ misses-settled count f a = record {
   unordered = a.unordered;
   inflight =
       let cs = f.queue.inflight.chunks in
-      joined-settled (change_where can_miss missed (take count cs)) (drop count cs) (changed-settled can_miss missed (λ c s. s) (take count cs) (front-of-settled count cs a.inflight)) (rest-of-list-settled count cs a.inflight);
+      joined-settled (change_where can_miss missed (take count cs)) (drop count cs)
+      (changed-settled can_miss missed (λ c s. s) (take count cs) (front-of-settled count cs a.inflight)) (rest-of-list-settled count cs a.inflight);
 }
 
-pub count-settled : (tsn : ℕ) (f g : Flight) → ((c : ChunkPayloadData) → find (has_tsn tsn) f.queue.inflight.chunks ≡ Some c → g ≡ resent tsn c f) → (find (has_tsn tsn) f.queue.inflight.chunks ≡ None → g ≡ f) → IsAllSettled f.queue → IsAllSettled g.queue
+pub count-settled : (tsn : ℕ) (f g : Flight) → ((c : ChunkPayloadData) → find (has_tsn tsn) f.queue.inflight.chunks ≡ Some c → g ≡ resent tsn c f)
+    → (find (has_tsn tsn) f.queue.inflight.chunks ≡ None → g ≡ f) → IsAllSettled f.queue → IsAllSettled g.queue
 count-settled tsn f g some none a = by (find (has_tsn tsn) f.queue.inflight.chunks) refl
   where
     by : (o : Option ChunkPayloadData) → find (has_tsn tsn) f.queue.inflight.chunks ≡ o → IsAllSettled g.queue
@@ -263,23 +297,28 @@ module _ (s : Sack) where
       other true none = let z = none refl in omega (arith, z)
       other false none = sum_by-cons size c (after cs)
 
-      by : (b : Bool) → reports_anew s c ≡ b → bytes_of (after cs) + bytes_in (gone w cs) ≡ bytes_of cs → bytes_of (past s.cumulative_tsn_ack ((if b then as_acknowledged c else c) ∷ change_where (reports_anew s) as_acknowledged cs)) + bytes_in (map (released_of w) (if b then c ∷ filter (reports_anew s) cs else filter (reports_anew s) cs)) ≡ bytes_of (c ∷ cs)
+      by : (b : Bool) → reports_anew s c ≡ b → bytes_of (after cs) + bytes_in (gone w cs) ≡ bytes_of cs
+          → bytes_of (past s.cumulative_tsn_ack ((if b then as_acknowledged c else c) ∷ change_where (reports_anew s) as_acknowledged cs))
+          + bytes_in (map (released_of w) (if b then c ∷ filter (reports_anew s) cs else filter (reports_anew s) cs)) ≡ bytes_of (c ∷ cs)
       by true e ih =
           let a = anew (at_or_before c.tsn s.cumulative_tsn_ack) in
           let r = sum_by-cons told (released_of w c) (gone w cs) in
           omega (arith, a, r, ih, all)
       by false e ih =
-          let o = other (at_or_before c.tsn s.cumulative_tsn_ack) (λ h. t.0 (was-acked c.acked (at_or_before c.tsn s.cumulative_tsn_ack) (is_in_blocks s.gap_ack_blocks (distance s.cumulative_tsn_ack c.tsn)) e h)) in
+          let o = other (at_or_before c.tsn s.cumulative_tsn_ack) (λ h.
+          t.0 (was-acked c.acked (at_or_before c.tsn s.cumulative_tsn_ack) (is_in_blocks s.gap_ack_blocks (distance s.cumulative_tsn_ack c.tsn)) e h)) in
           omega (arith, o, ih, all)
 
   pub sack-bytes : (f : Flight) → AreSettled f.queue.inflight.chunks → total_bytes (after_sack s f).queue + bytes_in (released_by s f) ≡ total_bytes f.queue
   sack-bytes f t = by (is_outdated s f)
     where
-      by : (b : Bool) → total_bytes (if b then f else take_sack s f).queue + bytes_in (if b then [] else gone (is_whole s f) f.queue.inflight.chunks) ≡ total_bytes f.queue
+      by : (b : Bool)
+          → total_bytes (if b then f else take_sack s f).queue + bytes_in (if b then [] else gone (is_whole s f) f.queue.inflight.chunks) ≡ total_bytes f.queue
       by true = omega arith
       by false = let w = weigh (is_whole s f) f.queue.inflight.chunks t in omega (arith, w)
 
-  pub after-bytes : (f g : Flight) (items : List Released) → is_outdated s f ≡ false → g ≡ after_sack s f → items ≡ gone (is_whole s f) f.queue.inflight.chunks → AreSettled f.queue.inflight.chunks → total_bytes g.queue + bytes_in items ≡ total_bytes f.queue
+  pub after-bytes : (f g : Flight) (items : List Released) → is_outdated s f ≡ false → g ≡ after_sack s f → items ≡ gone (is_whole s f) f.queue.inflight.chunks
+      → AreSettled f.queue.inflight.chunks → total_bytes g.queue + bytes_in items ≡ total_bytes f.queue
   after-bytes f g items current is told-is t =
       let q = ap (λ (h : Flight). total_bytes h.queue) is in
       let r = ap bytes_in told-is ∙ ap (λ b. bytes_in (if b then [] else gone (is_whole s f) f.queue.inflight.chunks)) (sym current) in

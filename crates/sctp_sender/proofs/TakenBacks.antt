@@ -18,14 +18,16 @@ abbrev told_at : ChunkPayloadData → List ℕ → TakenBack
 told_at c bytes = record { tsn = c.tsn; stream = c.stream_identifier; bytes = length bytes; message = c.message_id }
 
 -- what holds of each place with which something comes back holds of all that is told
-told-all : (P : TakenBack → Type 0) (bs : List (Option (List ℕ))) (cs : List ChunkPayloadData) → ((i : ℕ) (d : ChunkPayloadData) (bytes : List ℕ) → i < length cs → get_or bs i None ≡ Some bytes → P (told_at (get_or cs i d) bytes)) → All P (told_back bs cs)
+told-all : (P : TakenBack → Type 0) (bs : List (Option (List ℕ))) (cs : List ChunkPayloadData) → ((i : ℕ) (d : ChunkPayloadData) (bytes : List ℕ)
+    → i < length cs → get_or bs i None ≡ Some bytes → P (told_at (get_or cs i d) bytes)) → All P (told_back bs cs)
 told-all P [] cs h k d lt = absurd (omega (arith, lt))
 told-all P (b ∷ bs) [] h k d lt = absurd (omega (arith, lt))
 told-all P (None ∷ bs) (c ∷ cs) h k d lt = told-all P bs cs (λ i x bytes less e. h (suc i) x bytes (omega (arith, less)) e) k d lt
 told-all P (Some bytes ∷ bs) (c ∷ cs) h zero d lt = h 0 c bytes (omega arith) refl
 told-all P (Some bytes ∷ bs) (c ∷ cs) h (suc k) d lt = told-all P bs cs (λ i x more less e. h (suc i) x more (omega (arith, less)) e) k d (omega (arith, lt))
 
-restored-at : (bs : List (Option (List ℕ))) (cs : List ChunkPayloadData) (i : ℕ) (d : ChunkPayloadData) (bytes : List ℕ) → i < length cs → get_or bs i None ≡ Some bytes → get_or (restored bs cs) i d ≡ as_taken_back bytes (get_or cs i d)
+restored-at : (bs : List (Option (List ℕ))) (cs : List ChunkPayloadData) (i : ℕ) (d : ChunkPayloadData) (bytes : List ℕ) → i < length cs
+    → get_or bs i None ≡ Some bytes → get_or (restored bs cs) i d ≡ as_taken_back bytes (get_or cs i d)
 restored-at [] cs i d bytes lt e = absurd (none-some bytes e)
 restored-at (b ∷ bs) [] i d bytes lt e = absurd (omega (arith, lt))
 restored-at (b ∷ bs) (c ∷ cs) zero d bytes lt e = ap (λ k. restored_with k c) e
@@ -36,7 +38,8 @@ module _ (s : Sack) where
   passes true k bytes e = refl
   passes false k bytes e = absurd (none-some bytes e)
 
-  back-at : (cs : List ChunkPayloadData) (ks : List (Option (List ℕ))) (i : ℕ) (d : ChunkPayloadData) (bytes : List ℕ) → get_or (back_each s cs ks) i None ≡ Some bytes → takes_back s (get_or cs i d) ≡ true
+  back-at : (cs : List ChunkPayloadData) (ks : List (Option (List ℕ))) (i : ℕ) (d : ChunkPayloadData) (bytes : List ℕ)
+      → get_or (back_each s cs ks) i None ≡ Some bytes → takes_back s (get_or cs i d) ≡ true
   back-at cs [] i d bytes e = absurd (none-some bytes e)
   back-at [] (k ∷ ks) i d bytes e = absurd (none-some bytes e)
   back-at (c ∷ cs) (k ∷ ks) zero d bytes e = passes (takes_back s c) k bytes e
@@ -47,13 +50,15 @@ module _ (s : Sack) where
   open' true false reported e = refl
   open' false abandoned reported e = absurd (false≢true e)
 
-  pub outstanding : (f : Flight) → IsContiguous f → (ks bs : List (Option (List ℕ))) → bs ≡ back_each s f.queue.inflight.chunks ks → All (λ r. can_resend r.tsn (with_restored bs f) ≡ true) (told_back bs f.queue.inflight.chunks)
+  pub outstanding : (f : Flight) → IsContiguous f → (ks bs : List (Option (List ℕ))) → bs ≡ back_each s f.queue.inflight.chunks ks
+      → All (λ r. can_resend r.tsn (with_restored bs f) ≡ true) (told_back bs f.queue.inflight.chunks)
   outstanding f inv ks bs is = told-all (λ r. can_resend r.tsn (with_restored bs f) ≡ true) bs cs here
     where
       cs : List ChunkPayloadData
       cs = f.queue.inflight.chunks
 
-      here : (i : ℕ) (d : ChunkPayloadData) (bytes : List ℕ) → i < length cs → get_or bs i None ≡ Some bytes → is_outstanding_in (find (has_tsn (get_or cs i d).tsn) (restored bs cs)) ≡ true
+      here : (i : ℕ) (d : ChunkPayloadData) (bytes : List ℕ) → i < length cs → get_or bs i None ≡ Some bytes
+          → is_outstanding_in (find (has_tsn (get_or cs i d).tsn) (restored bs cs)) ≡ true
       here i d bytes lt e =
           let after = restored-contiguous bs f inv in
           let n = length-restored bs cs in

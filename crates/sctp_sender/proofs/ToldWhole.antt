@@ -13,15 +13,19 @@ use Rattle.sctp_sender.specs.SideBySide.{IsApartAt}
 use Rattle.sctp_sender.proofs.Sacks.{beyond}
 use Rattle.sctp_sender.proofs.CompleteMessages.{open-before, same-told-where}
 
-pub told-whole : (f : Flight) → IsContiguous f → (s : Sack) → s.cumulative_tsn_ack < 2 ^ 32 → (has : ℕ → Bool) (half : Option ℕ) → half ≡ partially_sent f.queue.pending → (end : ℕ)
-    → min (length f.queue.inflight.chunks) (distance f.acked_tsn s.cumulative_tsn_ack + after_blocks s.gap_ack_blocks) ≤ end → IsApartAt end f.queue.inflight.chunks → ((m : ℕ) → has m ≡ list_any (nat_eq m) (open_messages s (take end f.queue.inflight.chunks)))
-    → map (released_of (λ m. not (is_half half m) && not (has m))) (filter (reports_anew s) f.queue.inflight.chunks) ≡ map (released_of (is_whole s f)) (filter (reports_anew s) f.queue.inflight.chunks)
+pub told-whole : (f : Flight) → IsContiguous f → (s : Sack) → s.cumulative_tsn_ack < 2 ^ 32 → (has : ℕ → Bool) (half : Option ℕ)
+    → half ≡ partially_sent f.queue.pending → (end : ℕ)
+    → min (length f.queue.inflight.chunks) (distance f.acked_tsn s.cumulative_tsn_ack + after_blocks s.gap_ack_blocks) ≤ end
+    → IsApartAt end f.queue.inflight.chunks → ((m : ℕ) → has m ≡ list_any (nat_eq m) (open_messages s (take end f.queue.inflight.chunks)))
+    → map (released_of (λ m. not (is_half half m) && not (has m))) (filter (reports_anew s) f.queue.inflight.chunks) ≡ map (released_of (is_whole s f))
+    (filter (reports_anew s) f.queue.inflight.chunks)
 told-whole f inv s fits has half is-half end far apart ok = same-told-where (λ m. not (is_half half m) && not (has m)) (is_whole s f) (reports_anew s) cs each
   where
     cs : List ChunkPayloadData
     cs = f.queue.inflight.chunks
 
-    each : (k : ℕ) (d : ChunkPayloadData) → k < length cs → reports_anew s (get_or cs k d) ≡ true → (not (is_half half (get_or cs k d).message_id) && not (has (get_or cs k d).message_id)) ≡ is_whole s f (get_or cs k d).message_id
+    each : (k : ℕ) (d : ChunkPayloadData) → k < length cs → reports_anew s (get_or cs k d) ≡ true
+        → (not (is_half half (get_or cs k d).message_id) && not (has (get_or cs k d).message_id)) ≡ is_whole s f (get_or cs k d).message_id
     each k d lt passes =
         let m : ℕ = (get_or cs k d).message_id in
         elim (cases_lt k end) [

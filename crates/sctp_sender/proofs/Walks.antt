@@ -1,5 +1,6 @@
 -- A list that is gone through from its front, and one that is changed where a test passes.
-use Rattle.std.proofs.Common.{◌≡◌, ℕ, zero, suc, ◌+◌, ◌<◌, Bool, true, false, List, [], ◌∷◌, ◌++◌, length, drop, get_or, slice_get, Option, Some, None, refl, ap, sym, ◌∙◌, arith}
+use Rattle.std.proofs.Common.{◌≡◌, ℕ, zero, suc, ◌+◌, ◌<◌, Bool, true, false, List, [], ◌∷◌, ◌++◌, length, drop, get_or, slice_get, Option, Some, None, refl}
+use Rattle.std.proofs.Common.{ap, sym, ◌∙◌, arith}
 use Rattle.std.specs.Prelude.{if◌then◌else◌, ◌||◌, find, is_some, map, nat_eq, take}
 use Rattle.std.specs.List.{filter, list_any}
 use Rattle.std.proofs.lemmas.List.{append-nil, map-append}
@@ -20,9 +21,11 @@ read-of (y ∷ ys) (suc i) x e = let h = read-of ys i x e in (omega (arith, h.0)
 
 module _ {X : Type 0} (p : X → Bool) where
   -- the first that passes, from a place on
-  pub find-step : (xs : List X) (i : ℕ) (x : X) (b : Bool) → slice_get xs i ≡ Some x → p x ≡ b → find p (drop i xs) ≡ (if b then Some x else find p (drop (i + 1) xs))
+  pub find-step : (xs : List X) (i : ℕ) (x : X) (b : Bool) → slice_get xs i ≡ Some x → p x ≡ b
+      → find p (drop i xs) ≡ (if b then Some x else find p (drop (i + 1) xs))
   find-step [] i x b e h = absurd (none-some x e)
-  find-step (y ∷ ys) zero x b e h = let same : y ≡ x = cc in ap (λ k. if k then Some y else find p ys) (ap p same ∙ h) ∙ ap (λ z. if b then Some z else find p ys) same
+  find-step (y ∷ ys) zero x b e h = let same : y ≡ x = cc in
+      ap (λ k. if k then Some y else find p ys) (ap p same ∙ h) ∙ ap (λ z. if b then Some z else find p ys) same
   find-step (y ∷ ys) (suc i) x b e h =
       let next : suc i + 1 ≡ suc (i + 1) = omega arith in
       find-step ys i x b e h ∙ ap (λ k. if b then Some x else find p (drop k (y ∷ ys))) (sym next)
@@ -33,7 +36,8 @@ module _ {X : Type 0} (p : X → Bool) where
     found-changed [] x e = absurd (none-some x e)
     found-changed (y ∷ ys) x e = by (p y) refl e (found-changed ys x)
       where
-        by : (b : Bool) → p y ≡ b → (if b then Some y else find p ys) ≡ Some x → (find p ys ≡ Some x → find p (change_where p g ys) ≡ Some (g x)) → (if p (if b then g y else y) then Some (if b then g y else y) else find p (change_where p g ys)) ≡ Some (g x)
+        by : (b : Bool) → p y ≡ b → (if b then Some y else find p ys) ≡ Some x → (find p ys ≡ Some x → find p (change_where p g ys) ≡ Some (g x))
+            → (if p (if b then g y else y) then Some (if b then g y else y) else find p (change_where p g ys)) ≡ Some (g x)
         by true h f ih = let same : y ≡ x = cc in ap (λ k. if k then Some (g y) else find p (change_where p g ys)) (keeps y ∙ h) ∙ ap (λ z. Some (g z)) same
         by false h f ih = ap (λ k. if k then Some y else find p (change_where p g ys)) h ∙ ih f
 
@@ -42,7 +46,9 @@ module _ {X : Type 0} (p : X → Bool) where
     changed-twice h [] = refl
     changed-twice h (y ∷ ys) = by (p y) refl (changed-twice h ys)
       where
-        by : (b : Bool) → p y ≡ b → change_where p h (change_where p g ys) ≡ change_where p (λ x. h (g x)) ys → (if p (if b then g y else y) then h (if b then g y else y) else (if b then g y else y)) ∷ change_where p h (change_where p g ys) ≡ (if b then h (g y) else y) ∷ change_where p (λ x. h (g x)) ys
+        by : (b : Bool) → p y ≡ b → change_where p h (change_where p g ys) ≡ change_where p (λ x. h (g x)) ys
+            → (if p (if b then g y else y) then h (if b then g y else y) else (if b then g y else y)) ∷ change_where p h (change_where p g ys)
+            ≡ (if b then h (g y) else y) ∷ change_where p (λ x. h (g x)) ys
         by true e ih = ap (λ k. (if k then h (g y) else g y) ∷ change_where p h (change_where p g ys)) (keeps y ∙ e) ∙ ap (λ zs. h (g y) ∷ zs) ih
         by false e ih = ap (λ k. (if k then h y else y) ∷ change_where p h (change_where p g ys)) e ∙ ap (λ zs. y ∷ zs) ih
 
@@ -51,11 +57,13 @@ module _ {X : Type 0} (p : X → Bool) where
   find-inserted before x [] e h = ap (λ k. if k then Some x else None) h
   find-inserted before x (y ∷ ys) e h = by (before x y) (p y) refl e (λ none. find-inserted before x ys none h)
     where
-      later : (k : Bool) → p y ≡ k → (if k then Some y else find p ys) ≡ None → (find p ys ≡ None → find p (insert_before before x ys) ≡ Some x) → (if p y then Some y else find p (insert_before before x ys)) ≡ Some x
+      later : (k : Bool) → p y ≡ k → (if k then Some y else find p ys) ≡ None → (find p ys ≡ None → find p (insert_before before x ys) ≡ Some x)
+          → (if p y then Some y else find p (insert_before before x ys)) ≡ Some x
       later true f none ih = absurd (none-some y (sym none))
       later false f none ih = ap (λ k. if k then Some y else find p (insert_before before x ys)) f ∙ ih none
 
-      by : (b k : Bool) → p y ≡ k → (if k then Some y else find p ys) ≡ None → (find p ys ≡ None → find p (insert_before before x ys) ≡ Some x) → find p (if b then x ∷ y ∷ ys else y ∷ insert_before before x ys) ≡ Some x
+      by : (b k : Bool) → p y ≡ k → (if k then Some y else find p ys) ≡ None → (find p ys ≡ None → find p (insert_before before x ys) ≡ Some x)
+          → find p (if b then x ∷ y ∷ ys else y ∷ insert_before before x ys) ≡ Some x
       by true k f none ih = ap (λ j. if j then Some x else find p (y ∷ ys)) h
       by false k f none ih = later k f none ih
 
@@ -72,15 +80,17 @@ module _ (p : ChunkPayloadData → Bool) (cs : List ChunkPayloadData) (i : ℕ) 
   abbrev before : List ChunkPayloadData
   before = filter p (take i cs)
 
-  one-more : (b : Bool) → p x ≡ b → list_any (nat_eq m) (map message_of (filter p (take (i + 1) cs))) ≡ list_any (nat_eq m) (map message_of (before ++ (if b then x ∷ [] else [])))
+  one-more : (b : Bool) → p x ≡ b
+      → list_any (nat_eq m) (map message_of (filter p (take (i + 1) cs))) ≡ list_any (nat_eq m) (map message_of (before ++ (if b then x ∷ [] else [])))
   one-more b e =
       ap (λ ys. list_any (nat_eq m) (map message_of ys))
       (those-more p cs i x lt ∙ ap (λ (y : ChunkPayloadData). before ++ (if p y then y ∷ [] else [])) here ∙ ap (λ k. before ++ (if k then x ∷ [] else [])) e)
 
-  pub message-more : p x ≡ true → list_any (nat_eq m) (map message_of (filter p (take (i + 1) cs))) ≡ (list_any (nat_eq m) (map message_of before) || nat_eq m x.message_id)
+  pub message-more : p x ≡ true
+      → list_any (nat_eq m) (map message_of (filter p (take (i + 1) cs))) ≡ (list_any (nat_eq m) (map message_of before) || nat_eq m x.message_id)
   message-more e =
-      one-more true e ∙ ap (list_any (nat_eq m)) (map-append message_of before (x ∷ [])) ∙ list_any-append (nat_eq m) (map message_of before) (x.message_id ∷ [])
-      ∙ ap (λ b. list_any (nat_eq m) (map message_of before) || b) (or-none (nat_eq m x.message_id))
+      one-more true e ∙ ap (list_any (nat_eq m)) (map-append message_of before (x ∷ [])) ∙ list_any-append (nat_eq m) (map message_of before)
+      (x.message_id ∷ []) ∙ ap (λ b. list_any (nat_eq m) (map message_of before) || b) (or-none (nat_eq m x.message_id))
 
   pub message-same : p x ≡ false → list_any (nat_eq m) (map message_of (filter p (take (i + 1) cs))) ≡ list_any (nat_eq m) (map message_of before)
   message-same e = one-more false e ∙ ap (λ ys. list_any (nat_eq m) (map message_of ys)) (append-nil before)

@@ -1,5 +1,6 @@
 -- Once the messages of what is worn out are abandoned, no chunk in flight is worn out.
-use Rattle.std.proofs.Common.{◌≡◌, ℕ, zero, suc, ◌+◌, ◌<◌, ◌%◌, ◌^◌, Bool, true, false, List, [], ◌∷◌, length, map, get_or, Option, Some, None, Result, Ok, Err, refl, ap, sym, subst, ◌∙◌, arith}
+use Rattle.std.proofs.Common.{◌≡◌, ℕ, zero, suc, ◌+◌, ◌<◌, ◌%◌, ◌^◌, Bool, true, false, List, [], ◌∷◌, length, map, get_or, Option, Some, None, Result, Ok, Err}
+use Rattle.std.proofs.Common.{refl, ap, sym, subst, ◌∙◌, arith}
 use Rattle.std.specs.Prelude.{OnOk, if◌then◌else◌, ◌==◌, ◌&&◌, ◌||◌, not, find}
 use Rattle.std.specs.List.{filter, list_all, list_any}
 use Rattle.std.proofs.lemmas.Bool.{eq-eqb}
@@ -49,21 +50,24 @@ not-worn c e = gone c.retransmit c.acked c.abandoned _ e
 -- ## Lists
 
 module _ {A : Type 0} where
-  pair-all : (p q r : A → Bool) (xs : List A) → ((x : A) → p x ≡ true → q x ≡ true → r x ≡ true) → list_all p xs ≡ true → list_all q xs ≡ true → list_all r xs ≡ true
+  pair-all : (p q r : A → Bool) (xs : List A) → ((x : A) → p x ≡ true → q x ≡ true → r x ≡ true) → list_all p xs ≡ true → list_all q xs ≡ true
+      → list_all r xs ≡ true
   pair-all p q r [] h a b = refl
   pair-all p q r (x ∷ xs) h a b =
       let i = both (p x) (list_all p xs) a in
       let j = both (q x) (list_all q xs) b in
       and (r x) (list_all r xs) (h x i.0 j.0) (pair-all p q r xs h i.1 j.1)
 
-  changed-all : (p : A → Bool) (g : A → A) (q r s : A → Bool) (xs : List A) → ((x : A) → q x ≡ true → r x ≡ true → s (if p x then g x else x) ≡ true) → list_all q xs ≡ true → list_all r xs ≡ true → list_all s (change_where p g xs) ≡ true
+  changed-all : (p : A → Bool) (g : A → A) (q r s : A → Bool) (xs : List A) → ((x : A) → q x ≡ true → r x ≡ true → s (if p x then g x else x) ≡ true)
+      → list_all q xs ≡ true → list_all r xs ≡ true → list_all s (change_where p g xs) ≡ true
   changed-all p g q r s [] h a b = refl
   changed-all p g q r s (x ∷ xs) h a b =
       let i = both (q x) (list_all q xs) a in
       let j = both (r x) (list_all r xs) b in
       and (s (if p x then g x else x)) (list_all s (change_where p g xs)) (h x i.0 j.0) (changed-all p g q r s xs h i.1 j.1)
 
-  inserted-all : (q : A → Bool) (before : A → A → Bool) (x : A) (xs : List A) → q x ≡ true → list_all q xs ≡ true → list_all q (insert_before before x xs) ≡ true
+  inserted-all : (q : A → Bool) (before : A → A → Bool) (x : A) (xs : List A) → q x ≡ true → list_all q xs ≡ true
+      → list_all q (insert_before before x xs) ≡ true
   inserted-all q before x [] e h = and (q x) true e refl
   inserted-all q before x (y ∷ ys) e h = let i = both (q y) (list_all q ys) h in by (before x y) i.0 (inserted-all q before x ys e i.1)
     where
@@ -77,7 +81,8 @@ module _ {A : Type 0} where
 
 -- ## A TSN is that of one chunk
 
-same-tsn : (cs : List ChunkPayloadData) (first t : ℕ) (y : ChunkPayloadData) (r : ChunkPayloadData → Bool) → first < 2 ^ 32 → IsRunFrom first cs → length cs < 2 ^ 31 → find (has_tsn t) cs ≡ Some y → r y ≡ true → list_all (λ c. not (has_tsn t c) || r c) cs ≡ true
+same-tsn : (cs : List ChunkPayloadData) (first t : ℕ) (y : ChunkPayloadData) (r : ChunkPayloadData → Bool) → first < 2 ^ 32 → IsRunFrom first cs
+    → length cs < 2 ^ 31 → find (has_tsn t) cs ≡ Some y → r y ≡ true → list_all (λ c. not (has_tsn t c) || r c) cs ≡ true
 same-tsn cs first t y r small run few e ry = all-from (λ c. not (has_tsn t c) || r c) cs (λ k d lt. by k d lt (has_tsn t (get_or cs k d)) (k == i) refl refl)
   where
     h : (k : ℕ) × (k < length cs) × (y ≡ get_or cs k y)
@@ -116,24 +121,30 @@ listed-after f inv t us h = by (find (has_tsn t) cs) refl
         changed-all (is_of m) as_abandoned (is_listed (t ∷ us)) (λ c. not (has_tsn t c) || is_of m c) (is_listed us) cs
         (λ c a b. one c (is_of m c) a b) h of
       where
-        one : (c : ChunkPayloadData) (b : Bool) → is_listed (t ∷ us) c ≡ true → (not (has_tsn t c) || b) ≡ true → is_listed us (if b then as_abandoned c else c) ≡ true
+        one : (c : ChunkPayloadData) (b : Bool) → is_listed (t ∷ us) c ≡ true → (not (has_tsn t c) || b) ≡ true
+            → is_listed us (if b then as_abandoned c else c) ≡ true
         one c true a e = refl
         one c false a e = less (is_worn c) (has_tsn t c) (list_any (λ u. has_tsn u c) us) a (λ has. absurd (not_both (implied (has_tsn t c) false e has)))
 
-    ended : (m : ℕ) (o : Option ChunkPayloadData) → list_all (is_listed us) (change_where (is_of m) as_abandoned cs) ≡ true → list_all (is_listed us) (with_terminal_chunk o f.next_tsn (payload.with_chunks f.queue.inflight (change_where (is_of m) as_abandoned cs))).chunks ≡ true
+    ended : (m : ℕ) (o : Option ChunkPayloadData) → list_all (is_listed us) (change_where (is_of m) as_abandoned cs) ≡ true → list_all (is_listed us)
+        (with_terminal_chunk o f.next_tsn (payload.with_chunks f.queue.inflight (change_where (is_of m) as_abandoned cs))).chunks ≡ true
     ended m None e = e
     ended m (Some d) e = inserted-all (is_listed us) chunk_before (terminal_chunk f.next_tsn d) (change_where (is_of m) as_abandoned cs) refl e
 
-    open-one : (y : ChunkPayloadData) → find (has_tsn t) cs ≡ Some y → (b : Bool) → y.abandoned ≡ b → are_listed us (after_abandonment (if b then None else Some y.message_id) f) ≡ true
+    open-one : (y : ChunkPayloadData) → find (has_tsn t) cs ≡ Some y → (b : Bool) → y.abandoned ≡ b
+        → are_listed us (after_abandonment (if b then None else Some y.message_id) f) ≡ true
     open-one y e true a =
         pair-all (is_listed (t ∷ us)) (λ c. not (has_tsn t c) || c.abandoned) (is_listed us) cs
-        (λ c l r. less (is_worn c) (has_tsn t c) (list_any (λ u. has_tsn u c) us) l (λ has. not-worn c (implied (has_tsn t c) c.abandoned r has))) h (told y (λ c. c.abandoned) e a)
-    open-one y e false a = ended y.message_id (last_removed y.message_id f.queue.pending) (marked y.message_id (told y (is_of y.message_id) e (same-yes y.message_id)))
+        (λ c l r. less (is_worn c) (has_tsn t c) (list_any (λ u. has_tsn u c) us) l (λ has. not-worn c (implied (has_tsn t c) c.abandoned r has))) h
+        (told y (λ c. c.abandoned) e a)
+    open-one y e false a =
+        ended y.message_id (last_removed y.message_id f.queue.pending) (marked y.message_id (told y (is_of y.message_id) e (same-yes y.message_id)))
 
     by : (o : Option ChunkPayloadData) → find (has_tsn t) cs ≡ o → are_listed us (after_abandonment (to_abandon o) f) ≡ true
     by None e =
         pair-all (is_listed (t ∷ us)) (λ c. not (has_tsn t c)) (is_listed us) cs
-        (λ c l r. less (is_worn c) (has_tsn t c) (list_any (λ u. has_tsn u c) us) l (λ has. absurd (not_both (sym (ap not has) ∙ r)))) h (none-passes (has_tsn t) cs e)
+        (λ c l r. less (is_worn c) (has_tsn t c) (list_any (λ u. has_tsn u c) us) l (λ has. absurd (not_both (sym (ap not has) ∙ r)))) h
+        (none-passes (has_tsn t) cs e)
     by (Some y) e = open-one y e y.abandoned refl
 
 pub listed-same : (f g : Flight) → IsContiguous f → (t : ℕ) → g ≡ abandoned_at t f → (us : List ℕ) → are_listed (t ∷ us) f ≡ true → are_listed us g ≡ true
@@ -142,7 +153,8 @@ listed-same f g inv t is us h = subst (λ (k : Flight). are_listed us k ≡ true
 -- ## All of them
 
 pub listed-more : (t : ℕ) (us : List ℕ) (f : Flight) → are_listed us f ≡ true → are_listed (t ∷ us) f ≡ true
-listed-more t us f h = all-of (is_listed us) (is_listed (t ∷ us)) f.queue.inflight.chunks (λ c e. more (is_worn c) (has_tsn t c) (list_any (λ u. has_tsn u c) us) e) h
+listed-more t us f h =
+    all-of (is_listed us) (is_listed (t ∷ us)) f.queue.inflight.chunks (λ c e. more (is_worn c) (has_tsn t c) (list_any (λ u. has_tsn u c) us) e) h
 
 own : (cs : List ChunkPayloadData) → list_all (is_listed (map (λ (c : ChunkPayloadData). c.tsn) (filter is_worn cs))) cs ≡ true
 own [] = refl
@@ -151,10 +163,13 @@ own (c ∷ cs) = by (is_worn c) refl (own cs)
     us : List ℕ
     us = map (λ (d : ChunkPayloadData). d.tsn) (filter is_worn cs)
 
-    by : (b : Bool) → is_worn c ≡ b → list_all (is_listed us) cs ≡ true → list_all (is_listed (map (λ (d : ChunkPayloadData). d.tsn) (if b then c ∷ filter is_worn cs else filter is_worn cs))) (c ∷ cs) ≡ true
+    by : (b : Bool) → is_worn c ≡ b → list_all (is_listed us) cs ≡ true
+        → list_all (is_listed (map (λ (d : ChunkPayloadData). d.tsn) (if b then c ∷ filter is_worn cs else filter is_worn cs))) (c ∷ cs) ≡ true
     by true e ih =
-        let here : (not (is_worn c) || ((c.tsn == c.tsn) || list_any (λ u. has_tsn u c) us)) ≡ true = ap (λ b. not (is_worn c) || (b || list_any (λ u. has_tsn u c) us)) (same-yes c.tsn) ∙ anyway (is_worn c) in
-        and (is_listed (c.tsn ∷ us) c) (list_all (is_listed (c.tsn ∷ us)) cs) here (all-of (is_listed us) (is_listed (c.tsn ∷ us)) cs (λ d h. more (is_worn d) (has_tsn c.tsn d) (list_any (λ u. has_tsn u d) us) h) ih)
+        let here : (not (is_worn c) || ((c.tsn == c.tsn) || list_any (λ u. has_tsn u c) us)) ≡ true =
+        ap (λ b. not (is_worn c) || (b || list_any (λ u. has_tsn u c) us)) (same-yes c.tsn) ∙ anyway (is_worn c) in
+        and (is_listed (c.tsn ∷ us) c) (list_all (is_listed (c.tsn ∷ us)) cs) here
+        (all-of (is_listed us) (is_listed (c.tsn ∷ us)) cs (λ d h. more (is_worn d) (has_tsn c.tsn d) (list_any (λ u. has_tsn u d) us) h) ih)
       where
         anyway : (w : Bool) → (not w || true) ≡ true
         anyway true = refl
@@ -175,6 +190,7 @@ none (c ∷ cs) h = let i = both (is_listed [] c) (list_all (is_listed []) cs) h
 pub none-worn : (f : Flight) → are_listed [] f ≡ true → worn_tsns f ≡ []
 none-worn f h = ap (map (λ (c : ChunkPayloadData). c.tsn)) (none f.queue.inflight.chunks h)
 
-pub none-left-on : {T E : Type 0} (r : Result T E) (f g : Flight) (ts : List ℕ) → ts ≡ worn_tsns f → OnOk r (are_listed ts f ≡ true → are_listed [] g ≡ true) → OnOk r (worn_tsns g ≡ [])
+pub none-left-on : {T E : Type 0} (r : Result T E) (f g : Flight) (ts : List ℕ) → ts ≡ worn_tsns f → OnOk r (are_listed ts f ≡ true → are_listed [] g ≡ true)
+    → OnOk r (worn_tsns g ≡ [])
 none-left-on (Ok v) f g ts e h = none-worn g (h (subst (λ us. are_listed us f ≡ true) (sym e) (all-listed f)))
 none-left-on (Err v) f g ts e h = tt

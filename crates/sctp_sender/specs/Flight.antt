@@ -1,5 +1,6 @@
 -- What is in flight, and what a SACK makes of it (RFC 4960 6.2.1).
-use Rattle.std.specs.Prelude.{◌≡◌, ℕ, zero, suc, ◌+◌, ◌-◌, ◌%◌, ◌^◌, ◌<◌, Bool, false, not, ◌&&◌, ◌||◌, ◌==◌, nat_eq, nat_lt, nat_le, if◌then◌else◌, List, [], ◌∷◌, length, map, min, max, Option, Some, None, is_some}
+use Rattle.std.specs.Prelude.{◌≡◌, ℕ, zero, suc, ◌+◌, ◌-◌, ◌%◌, ◌^◌, ◌<◌, Bool, false, not, ◌&&◌, ◌||◌, ◌==◌, nat_eq, nat_lt, nat_le, if◌then◌else◌, List, []}
+use Rattle.std.specs.Prelude.{◌∷◌, length, map, min, max, Option, Some, None, is_some}
 use Rattle.std.specs.List.{list_all, list_any, find, filter}
 use Rattle.sctp_list_lemmas.specs.Lists.{change_where}
 use Rattle.sctp_list_lemmas.specs.Serial.{distance, comes_before, at_or_before}

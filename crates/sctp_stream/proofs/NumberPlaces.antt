@@ -1,5 +1,6 @@
 -- An index that has the place of each number.
-use Rattle.std.proofs.Common.{◌≡◌, ℕ, ◌+◌, ◌<◌, Bool, true, false, List, [], ◌∷◌, ◌++◌, length, length-append, Option, Some, None, refl, ap, sym, ◌∙◌, arith, inl, inr, cond, is_eq}
+use Rattle.std.proofs.Common.{◌≡◌, ℕ, ◌+◌, ◌<◌, Bool, true, false, List, [], ◌∷◌, ◌++◌, length, length-append, Option, Some, None, refl, ap, sym, ◌∙◌, arith}
+use Rattle.std.proofs.Common.{inl, inr, cond, is_eq}
 use Rattle.std.specs.BTreeMap.{BTreeMap, get, Updates}
 use Rattle.std.specs.Ordering.{nat_cmp}
 use Rattle.std.specs.declared.cmp.Ordering.TheVariants.{Less, Equal, Greater}
@@ -15,7 +16,8 @@ pub missing : {a : ℕ} → None ≡ Some a → ⊥
 missing e = cc
 
 -- what a look-up answers
-pub place-of : (places : BTreeMap ℕ ℕ) (ns : List ℕ) → IsIndexed places ns → (s : ℕ) (o : Option ℕ) → o ≡ get nat_cmp places s → MatchOption o (IsAbsent s ns) (IsOnlyPlace s ns)
+pub place-of : (places : BTreeMap ℕ ℕ) (ns : List ℕ) → IsIndexed places ns → (s : ℕ) (o : Option ℕ) → o ≡ get nat_cmp places s
+    → MatchOption o (IsAbsent s ns) (IsOnlyPlace s ns)
 place-of places ns indexed s None e = λ k here. missing (e ∙ (indexed s k).1 here)
 place-of places ns indexed s (Some k) e = record {
   here = (indexed s k).0 (sym e);
@@ -31,7 +33,8 @@ apart k q ne = by (nat_lt k q) (k == q) (ne_eqb k q ne)
     by false false e = refl
 
 -- one number more, at the end
-pub more : (places then' : BTreeMap ℕ ℕ) (ns now : List ℕ) (n : ℕ) → IsIndexed places ns → IsAbsent n ns → Updates nat_cmp places then' n (Some (length ns)) → now ≡ ns ++ n ∷ [] → IsIndexed then' now
+pub more : (places then' : BTreeMap ℕ ℕ) (ns now : List ℕ) (n : ℕ) → IsIndexed places ns → IsAbsent n ns → Updates nat_cmp places then' n (Some (length ns))
+    → now ≡ ns ++ n ∷ [] → IsIndexed then' now
 more places then' ns now n i new u is = subst (IsIndexed then') (sym is) (λ s k. at s k)
   where
     within : (k t : ℕ) → slice_get (ns ++ n ∷ []) k ≡ Some t → k < length ns + 1

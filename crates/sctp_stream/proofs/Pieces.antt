@@ -1,5 +1,6 @@
 -- A list cut into pieces of one size.
-use Rattle.std.proofs.Common.{◌≡◌, ℕ, zero, suc, ◌+◌, ◌-◌, ◌*◌, ◌/◌, ◌%◌, ◌<◌, ◌≤◌, ◌==◌, min, List, [], ◌∷◌, length, get_or, take, drop, length-drop, refl, sym, ap, ◌∙◌, inl, inr, arith}
+use Rattle.std.proofs.Common.{◌≡◌, ℕ, zero, suc, ◌+◌, ◌-◌, ◌*◌, ◌/◌, ◌%◌, ◌<◌, ◌≤◌, ◌==◌, min, List, [], ◌∷◌, length, get_or, take, drop, length-drop, refl}
+use Rattle.std.proofs.Common.{sym, ap, ◌∙◌, inl, inr, arith}
 use Rattle.std.proofs.Math.Nat.{suc-mul}
 use Rattle.std.proofs.lemmas.Nat.{div-add-mod', mod_below}
 use Rattle.std.proofs.lemmas.Bool.{cases_lt}
@@ -31,7 +32,8 @@ piece_none (suc most) size (x ∷ xs) (suc i) le pos end =
     omega arith
 
 -- the piece itself
-pub piece_at : (most size : ℕ) (xs : List ℕ) (i : ℕ) → length xs ≤ most → 0 < size → i * size < length xs → get_or (pieces most size xs) i [] ≡ take size (drop (i * size) xs)
+pub piece_at : (most size : ℕ) (xs : List ℕ) (i : ℕ) → length xs ≤ most → 0 < size → i * size < length xs
+    → get_or (pieces most size xs) i [] ≡ take size (drop (i * size) xs)
 piece_at zero size xs i le pos lt = absurd (omega arith)
 piece_at (suc most) size [] i le pos lt = absurd (omega arith)
 piece_at (suc most) size (x ∷ xs) zero le pos lt = ap (λ k. take size (drop k (x ∷ xs))) {x = 0} {y = zero * size} (omega arith)
@@ -66,7 +68,8 @@ module _ (size : ℕ) (xs : List ℕ) (k at : ℕ) (pos : 0 < size) (place : at 
       let none = piece_none (length xs) size xs (suc k) (omega arith) pos (omega arith) in
       grind (arith, nat_tests))
       (λ t. let same : k + 1 ≡ length (pieces (length xs) size xs) = grind (arith, nat_tests) in
-      let over : length xs ≤ suc k * size = elim (cases_lt (suc k * size) (length xs)) [ inl more ↦ absurd (beyond (piece_below (length xs) size xs (suc k) (omega arith) pos more) same) | inr le ↦ le ] in
+      let over : length xs ≤ suc k * size = elim (cases_lt (suc k * size)
+      (length xs)) [ inl more ↦ absurd (beyond (piece_below (length xs) size xs (suc k) (omega arith) pos more) same) | inr le ↦ le ] in
       grind (arith, nat_tests))
 
   -- the bytes up to the next place
@@ -81,7 +84,8 @@ module _ (size : ℕ) (xs : List ℕ) (k at : ℕ) (pos : 0 < size) (place : at 
       ∙ sym (piece_at (length xs) size xs k (omega arith) pos (omega arith))
 
 -- the count of pieces, from the size of the list
-count_is : (size : ℕ) (xs : List ℕ) (k : ℕ) → 0 < size → length xs ≤ k * size → ((j : ℕ) → k ≡ suc j → j * size < length xs) → k ≡ length (pieces (length xs) size xs)
+count_is : (size : ℕ) (xs : List ℕ) (k : ℕ) → 0 < size → length xs ≤ k * size → ((j : ℕ) → k ≡ suc j → j * size < length xs)
+    → k ≡ length (pieces (length xs) size xs)
 count_is size xs zero pos end more = let none = piece_none (length xs) size xs 0 (omega arith) pos end in omega arith
 count_is size xs (suc j) pos end more =
     let none = piece_none (length xs) size xs (suc j) (omega arith) pos end in
@@ -91,7 +95,8 @@ count_is size xs (suc j) pos end more =
 pub count_whole : (len size : ℕ) (xs : List ℕ) → 0 < size → len ≡ length xs → len % size ≡ 0 → len / size ≡ length (pieces (length xs) size xs)
 count_whole len size xs pos e even =
     let whole = div-add-mod' len size in
-    count_is size xs (len / size) pos (omega arith) (λ j is. let next = suc-mul j size in let last : len / size * size ≡ suc j * size = ap (λ k. k * size) is in omega arith)
+    count_is size xs (len / size) pos (omega arith)
+    (λ j is. let next = suc-mul j size in let last : len / size * size ≡ suc j * size = ap (λ k. k * size) is in omega arith)
 
 pub count_more : (len size : ℕ) (xs : List ℕ) → 0 < size → len ≡ length xs → (len % size ≡ 0 → ⊥) → len / size + 1 ≡ length (pieces (length xs) size xs)
 count_more len size xs pos e odd =
@@ -99,4 +104,5 @@ count_more len size xs pos e odd =
     let short = mod_below len size pos in
     let next = suc-mul (len / size) size in
     let one : len / size + 1 ≡ suc (len / size) = omega arith in
-    one ∙ count_is size xs (suc (len / size)) pos (omega arith) (λ j is. let same : len / size ≡ j = omega arith in let last : len / size * size ≡ j * size = ap (λ k. k * size) same in omega arith)
+    one ∙ count_is size xs (suc (len / size)) pos (omega arith)
+    (λ j is. let same : len / size ≡ j = omega arith in let last : len / size * size ≡ j * size = ap (λ k. k * size) same in omega arith)

@@ -93,7 +93,8 @@ module _ (m then' : BTreeMap ℕ ℕ) (ns : List ℕ) (t p : ℕ) (indexed : IsI
 
 -- where it does not stand, none is taken out
 pub without-none : (m : BTreeMap ℕ ℕ) (ns : List ℕ) (t : ℕ) → IsIndexed m ns → get nat_cmp m t ≡ None → ns ≡ filter (is_other t) ns
-without-none m ns t indexed none = sym (those-none (λ n. n == t) ns (λ k d lt. ne_eqb (get_or ns k d) t (λ e. missing (sym none ∙ (indexed t k).1 (stands ns k d lt ∙ ap (λ j. Some j) e)))))
+without-none m ns t indexed none =
+    sym (those-none (λ n. n == t) ns (λ k d lt. ne_eqb (get_or ns k d) t (λ e. missing (sym none ∙ (indexed t k).1 (stands ns k d lt ∙ ap (λ j. Some j) e)))))
 
 module _ (m then' : BTreeMap ℕ ℕ) (ns : List ℕ) (i n : ℕ) (low : IsLowered m ns i) (here : slice_get ns i ≡ Some n) where
   too-high : get nat_cmp m n ≡ Some (i + 1)
@@ -102,7 +103,8 @@ module _ (m then' : BTreeMap ℕ ℕ) (ns : List ℕ) (i n : ℕ) (low : IsLower
       (low n (i + 1)).1 (inr (omega arith, ap (slice_get ns) down ∙ here))
 
   -- the number is there, so that its place is written with no memory
-  pub written : {E : Type 0} (r : Result (Option ℕ) E) → OnOk r (Updates nat_cmp m then' n (Some i)) → OnErr r (get nat_cmp m n ≡ None) → Updates nat_cmp m then' n (Some i)
+  pub written : {E : Type 0} (r : Result (Option ℕ) E) → OnOk r (Updates nat_cmp m then' n (Some i)) → OnErr r (get nat_cmp m n ≡ None)
+      → Updates nat_cmp m then' n (Some i)
   written (Ok old) u none = u
   written (Err e) u none = absurd (missing (sym none ∙ too-high))
 

@@ -12,10 +12,12 @@ use Rattle.sctp_stream.specs.Numbers.{IsOnlyPlace, IsAbsent, is_other}
 use Rattle.sctp_list_lemmas.proofs.Cases.{some-same}
 
 module _ {X : Type 0} (p : X → Bool) where
-  pub find-first : (xs : List X) (i : ℕ) (d : X) → i < length xs → ((k : ℕ) (d : X) → k < i → p (get_or xs k d) ≡ false) → p (get_or xs i d) ≡ true → find p xs ≡ Some (get_or xs i d)
+  pub find-first : (xs : List X) (i : ℕ) (d : X) → i < length xs → ((k : ℕ) (d : X) → k < i → p (get_or xs k d) ≡ false) → p (get_or xs i d) ≡ true
+      → find p xs ≡ Some (get_or xs i d)
   find-first [] i d lt before here = absurd (omega (arith, lt))
   find-first (x ∷ xs) zero d lt before here = rw here refl
-  find-first (x ∷ xs) (suc i) d lt before here = rw (before 0 x (omega arith)) (find-first xs i d (omega (arith, lt)) (λ k d lt. before (suc k) d (omega arith)) here)
+  find-first (x ∷ xs) (suc i) d lt before here =
+      rw (before 0 x (omega arith)) (find-first xs i d (omega (arith, lt)) (λ k d lt. before (suc k) d (omega arith)) here)
 
 pub map-set_same : {A B : Type 0} (f : A → B) (xs : List A) (i : ℕ) (y d : A) → f y ≡ f (slice_index_or xs i d) → map f (slice_set xs i y) ≡ map f xs
 map-set_same f [] i y d e = refl
@@ -66,7 +68,8 @@ module _ {X : Type 0} (num : X → ℕ) where
       number-is x e = ap num e ∙ some-same (sym (number-at ls k x inside) ∙ ap (λ ms. slice_get ms k) (sym is) ∙ p.here)
 
       pub found : (x : X) → x ≡ slice_index_or ls k x → find (λ l. num l == s) ls ≡ Some x
-      found x e = find-first (λ l. num l == s) ls k x inside (λ j d lt. only.elsewhere j d (omega (arith, lt, inside)) (λ z. omega (arith, lt, z))) (only.here x) ∙ ap Some (sym e)
+      found x e = find-first (λ l. num l == s) ls k x inside (λ j d lt. only.elsewhere j d (omega (arith, lt, inside)) (λ z. omega (arith, lt, z)))
+          (only.here x) ∙ ap Some (sym e)
 
       -- the one at the place is changed, and no other
       pub changed : (f : X → X) (x y : X) → x ≡ slice_index_or ls k x → y ≡ f x → slice_set ls k y ≡ change_where (λ l. num l == s) f ls
@@ -90,10 +93,12 @@ module _ {X : Type 0} (p : X → Bool) where
   none-found [] e = refl
   none-found (x ∷ xs) e = by (p x) e (none-found xs)
     where
-      by : (b : Bool) → (if b then Some x else find p xs) ≡ None → (find p xs ≡ None → filter (λ y. not (p y)) xs ≡ xs) → (if not b then x ∷ filter (λ y. not (p y)) xs else filter (λ y. not (p y)) xs) ≡ x ∷ xs
+      by : (b : Bool) → (if b then Some x else find p xs) ≡ None → (find p xs ≡ None → filter (λ y. not (p y)) xs ≡ xs)
+          → (if not b then x ∷ filter (λ y. not (p y)) xs else filter (λ y. not (p y)) xs) ≡ x ∷ xs
       by true e rest = absurd (cc)
       by false e rest = ap (λ ys. x ∷ ys) (rest e)
 
   -- one more that passes is taken out again
   pub taken-back : (xs : List X) (y : X) → p y ≡ true → find p xs ≡ None → filter (λ x. not (p x)) (xs ++ y ∷ []) ≡ xs
-  taken-back xs y passes none = those-append (λ x. not (p x)) xs (y ∷ []) ∙ ap (λ b. filter (λ x. not (p x)) xs ++ (if not b then y ∷ [] else [])) passes ∙ append-nil (filter (λ x. not (p x)) xs) ∙ none-found xs none
+  taken-back xs y passes none = those-append (λ x. not (p x)) xs (y ∷ []) ∙ ap (λ b. filter (λ x. not (p x)) xs ++ (if not b then y ∷ [] else [])) passes
+      ∙ append-nil (filter (λ x. not (p x)) xs) ∙ none-found xs none

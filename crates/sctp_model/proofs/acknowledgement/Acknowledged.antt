@@ -1,4 +1,5 @@
-use Rattle.std.proofs.Common.{◌≡◌, ℕ, zero, suc, ◌+◌, ◌-◌, ◌<◌, ◌≤◌, Bool, true, false, List, [], ◌∷◌, ◌++◌, length, map, Option, Some, None, refl, ap, sym, ◌∙◌, inl, inr, arith, zero-add}
+use Rattle.std.proofs.Common.{◌≡◌, ℕ, zero, suc, ◌+◌, ◌-◌, ◌<◌, ◌≤◌, Bool, true, false, List, [], ◌∷◌, ◌++◌, length, map, Option, Some, None, refl, ap, sym}
+use Rattle.std.proofs.Common.{◌∙◌, inl, inr, arith, zero-add}
 use Rattle.std.specs.Prelude.{◌⊎◌, if◌then◌else◌, ◌==◌, ◌&&◌, ◌||◌, nat_lt, nat_le, min, max, slice_get, take}
 use Rattle.std.specs.List.{list_any}
 use Rattle.std.proofs.Math.Path.{subst}
@@ -18,7 +19,8 @@ use Rattle.sctp_model.specs.Receiver.{arrived_at, cumulative, is_new, next_read}
 use Rattle.sctp_model.specs.Changes
 use Rattle.sctp_model.specs.Reports.{report_of, reports, distances, gap_blocks}
 use Rattle.sctp_model.specs.Log
-use Rattle.sctp_model.specs.Log.{LogEntry, SlotReceived, SkipReceived, SackMade, is_seen, arrived_new, is_skipped, seen_count, duplicates_in, log_of, made_in, Made, MadeData, MadeForward, MadeSack, is_acknowledged_in, taken_in, reported_by}
+use Rattle.sctp_model.specs.Log.{LogEntry, SlotReceived, SkipReceived, SackMade, is_seen, arrived_new, is_skipped, seen_count, duplicates_in, log_of, made_in}
+use Rattle.sctp_model.specs.Log.{Made, MadeData, MadeForward, MadeSack, is_acknowledged_in, taken_in, reported_by}
 use Rattle.sctp_model.specs.Steps.{History, record_of, IsRun, after}
 use Rattle.sctp_model.specs.Contents.{SackContents, cumulative_tsn, contents_in}
 use Rattle.sctp_model.specs.Laws.{IsSetup, OnEveryRun, AcknowledgedArrived, AcknowledgedIsReported, SacksSay, blocks_by}
@@ -66,16 +68,20 @@ in-runs c p (d ∷ ds) e = by_rest (runs_of ds) refl e (λ h. in-runs c p ds h)
         step false b e = e
 
     exact : covers c p (d, d) ≡ true → Hit c p (d ∷ ds)
-    exact e = let a = both (nat_le (c + d) (p + 1)) (nat_le (p + 1) (c + d)) e in let x = a.0 in let y = a.1 in let l : c + d ≤ p + 1 = grind (arith, nat_tests) in let g : p + 1 ≤ c + d = grind (arith, nat_tests) in here (omega arith)
+    exact e = let a = both (nat_le (c + d) (p + 1)) (nat_le (p + 1) (c + d)) e in let x = a.0 in let y = a.1 in
+        let l : c + d ≤ p + 1 = grind (arith, nat_tests) in let g : p + 1 ≤ c + d = grind (arith, nat_tests) in here (omega arith)
 
     wider : (b : ℕ × ℕ) → b.0 ≡ d + 1 → covers c p (d, b.1) ≡ true → (covers c p b ≡ true → Hit c p ds) → Hit c p (d ∷ ds)
-    wider b s e ih = let a = both (nat_le (c + d) (p + 1)) (nat_le (p + 1) (c + b.1)) e in let x = a.0 in let y = a.1 in let l : c + d ≤ p + 1 = grind (arith, nat_tests) in side l y (eq-or-lt_of_le l)
+    wider b s e ih = let a = both (nat_le (c + d) (p + 1)) (nat_le (p + 1) (c + b.1)) e in let x = a.0 in let y = a.1 in
+        let l : c + d ≤ p + 1 = grind (arith, nat_tests) in side l y (eq-or-lt_of_le l)
       where
         side : c + d ≤ p + 1 → nat_le (p + 1) (c + b.1) ≡ true → (c + d ≡ p + 1) ⊎ (c + d < p + 1) → Hit c p (d ∷ ds)
         side l y (inl z) = here z
-        side l y (inr z) = let q : c + b.0 ≤ p + 1 = omega (arith, s) in later (ih (and (nat_le (c + b.0) (p + 1)) (nat_le (p + 1) (c + b.1)) (grind (arith, nat_tests)) y))
+        side l y (inr z) = let q : c + b.0 ≤ p + 1 = omega (arith, s) in
+            later (ih (and (nat_le (c + b.0) (p + 1)) (nat_le (p + 1) (c + b.1)) (grind (arith, nat_tests)) y))
 
-    by_rest : (bs : List (ℕ × ℕ)) → runs_of ds ≡ bs → list_any (covers c p) (put_before_runs d bs) ≡ true → (list_any (covers c p) bs ≡ true → Hit c p ds) → Hit c p (d ∷ ds)
+    by_rest : (bs : List (ℕ × ℕ)) → runs_of ds ≡ bs → list_any (covers c p) (put_before_runs d bs) ≡ true → (list_any (covers c p) bs ≡ true → Hit c p ds)
+        → Hit c p (d ∷ ds)
     by_rest [] f e ih = side (or-split (covers c p (d, d)) false e)
       where
         side : (covers c p (d, d) ≡ true) ⊎ (false ≡ true) → Hit c p (d ∷ ds)
@@ -109,7 +115,8 @@ any-kept : (q : ℕ → Bool) (d from count : ℕ) → list_any (λ k. k == d) (
 any-kept q d from zero e = cc
 any-kept q d from (suc count) e = step (q from) refl e (λ h. any-kept q d (from + 1) count h)
   where
-    step : (b : Bool) → q from ≡ b → list_any (λ k. k == d) (if b then from ∷ numbers_where q (from + 1) count else numbers_where q (from + 1) count) ≡ true → (list_any (λ k. k == d) (numbers_where q (from + 1) count) ≡ true → q d ≡ true) → q d ≡ true
+    step : (b : Bool) → q from ≡ b → list_any (λ k. k == d) (if b then from ∷ numbers_where q (from + 1) count else numbers_where q (from + 1) count) ≡ true
+        → (list_any (λ k. k == d) (numbers_where q (from + 1) count) ≡ true → q d ≡ true) → q d ≡ true
     step true f e ih = side (or-split (from == d) (list_any (λ k. k == d) (numbers_where q (from + 1) count)) e)
       where
         side : ((from == d) ≡ true) ⊎ (list_any (λ k. k == d) (numbers_where q (from + 1) count) ≡ true) → q d ≡ true
@@ -125,7 +132,8 @@ report-seen w credit p e = step (or-split (nat_lt p (cumulative w)) (list_any (c
     step (inl h) = seen-below w p (grind (arith, nat_tests))
     step (inr h) =
         let r = in-runs (cumulative w) p (distances w) (any-take (covers (cumulative w) p) 16379 (runs_of (distances w)) h) in
-        let a : arrived_at w (cumulative w + r.0 - 1) ≡ true = any-kept (λ d. arrived_at w (cumulative w + d - 1)) r.0 1 (min 65535 (length w.slots - cumulative w)) r.2 in
+        let a : arrived_at w (cumulative w + r.0 - 1) ≡ true =
+        any-kept (λ d. arrived_at w (cumulative w + d - 1)) r.0 1 (min 65535 (length w.slots - cumulative w)) r.2 in
         let same : cumulative w + r.0 - 1 ≡ p = omega (arith, r.1) in
         or-right (nat_lt p w.skipped) (arrived_at w p) (ap (arrived_at w) (sym same) ∙ a)
 
@@ -149,7 +157,8 @@ seen-received (Some (MadeForward upto names)) log p e = ors (nat_le p upto) (is_
     ors false y h = h
 seen-received (Some MadeSack) log p e = e
 
-pub seen-stays : (setup : Setup) (older : History) (event : Event) (r : Reply) (p : ℕ) → is_seen (log_of setup older) p ≡ true → is_seen (log_of setup ((event, r) ∷ older)) p ≡ true
+pub seen-stays : (setup : Setup) (older : History) (event : Event) (r : Reply) (p : ℕ) → is_seen (log_of setup older) p ≡ true
+    → is_seen (log_of setup ((event, r) ∷ older)) p ≡ true
 seen-stays setup older (E.Arrive k) r p e = seen-received (slice_get (made_in setup older) k) (log_of setup older) p e
 seen-stays setup older (E.Open s) r p e = e
 seen-stays setup older (E.Mode s u v x) r p e = e
@@ -194,42 +203,58 @@ sack-at log [] k d f e = cc
 sack-at log (c ∷ ds) zero d f e = let z : c ≡ d = cc in subst (SackFits log) z f.0
 sack-at log (c ∷ ds) (suc k) d f e = sack-at log ds k d f.1 e
 
-sacks-sent : (log : List LogEntry) (w : LinkRecord) (now : ℕ) (o : Option ℕ) → SacksFit log w.network → SacksFit log (Changes.send_from (Changes.after_start w now) o).network
+sacks-sent : (log : List LogEntry) (w : LinkRecord) (now : ℕ) (o : Option ℕ) → SacksFit log w.network
+    → SacksFit log (Changes.send_from (Changes.after_start w now) o).network
 sacks-sent log w now None f = f
 sacks-sent log w now (Some n) f =
     let u = Changes.after_start w now in
     let v = Changes.send_fragments u in
-    sacks-append log v.network (Data (numbers_from (length u.slots) (length v.slots - length u.slots)) ∷ []) (subst (SacksFit log) (sym (Network.same-network u)) f) (tt, tt)
+    sacks-append log v.network (Data (numbers_from (length u.slots) (length v.slots - length u.slots)) ∷ [])
+    (subst (SacksFit log) (sym (Network.same-network u)) f) (tt, tt)
 
-sacks-after : (setup : Setup) (older : History) (e : Event) (log : List LogEntry) → ((p : ℕ) → seen_by (record_of setup older) p ≡ true → is_seen log p ≡ true) → SacksFit log (record_of setup older).network → SacksFit log (after (record_of setup older) e).network
+sacks-after : (setup : Setup) (older : History) (e : Event) (log : List LogEntry) → ((p : ℕ) → seen_by (record_of setup older) p ≡ true → is_seen log p ≡ true)
+    → SacksFit log (record_of setup older).network → SacksFit log (after (record_of setup older) e).network
 sacks-after setup older (E.Open s) log h f = f
 sacks-after setup older (E.Mode s u v x) log h f = f
 sacks-after setup older (E.Write s x y) log h f = subst (SacksFit log) (sym (Network.network-written (record_of setup older) s x y)) f
 sacks-after setup older (E.Start x) log h f = f
 sacks-after setup older (E.Send now) log h f = sacks-sent log (record_of setup older) now (Messages.front (record_of setup older)) f
-sacks-after setup older (E.Resend tsn) log h f = sacks-append log (record_of setup older).network (Data (Messages.place_of (record_of setup older) tsn ∷ []) ∷ []) f (tt, tt)
-sacks-after setup older (E.Expire now) log h f = subst (SacksFit log) (sym (Network.network-expired (record_of setup older) (Changes.expiring (record_of setup older) now))) f
-sacks-after setup older (E.Tail now) log h f = subst (SacksFit log) (sym (Network.network-tail (record_of setup older) (Changes.tailing (record_of setup older) now))) f
-sacks-after setup older (E.Late now) log h f = subst (SacksFit log) (sym (Network.network-late (Changes.late_messages (record_of setup older) now) (record_of setup older))) f
-sacks-after setup older (E.Abandon tsn) log h f = subst (SacksFit log) (sym (Network.network-abandoned (record_of setup older) (Messages.message_of (record_of setup older) (Messages.place_of (record_of setup older) tsn)))) f
-sacks-after setup older (E.Skip upto names) log h f = sacks-append log (record_of setup older).network (Forward (Messages.place_of (record_of setup older) upto) names.items ∷ []) f (tt, tt)
-sacks-after setup older (E.Ack credit) log h f = sacks-append log (record_of setup older).network (Sack (report_of (record_of setup older) credit) ∷ []) f (λ p e. h p (report-seen (record_of setup older) credit p e), tt)
-sacks-after setup older (E.Arrive k) log h f = subst (SacksFit log) (sym (Network.same-received (record_of setup older) (slice_get (record_of setup older).network k)).network) f
-sacks-after setup older (E.Acked k) log h f = subst (SacksFit log) (sym (Network.same-taken (record_of setup older) (slice_get (record_of setup older).network k)).network) f
-sacks-after setup older (E.Read s) log h f = subst (SacksFit log) (sym (Network.same-read (record_of setup older) s (next_read (record_of setup older) s)).network) f
+sacks-after setup older (E.Resend tsn) log h f =
+    sacks-append log (record_of setup older).network (Data (Messages.place_of (record_of setup older) tsn ∷ []) ∷ []) f (tt, tt)
+sacks-after setup older (E.Expire now) log h f =
+    subst (SacksFit log) (sym (Network.network-expired (record_of setup older) (Changes.expiring (record_of setup older) now))) f
+sacks-after setup older (E.Tail now) log h f =
+    subst (SacksFit log) (sym (Network.network-tail (record_of setup older) (Changes.tailing (record_of setup older) now))) f
+sacks-after setup older (E.Late now) log h f =
+    subst (SacksFit log) (sym (Network.network-late (Changes.late_messages (record_of setup older) now) (record_of setup older))) f
+sacks-after setup older (E.Abandon tsn) log h f = subst (SacksFit log)
+    (sym (Network.network-abandoned (record_of setup older) (Messages.message_of (record_of setup older) (Messages.place_of (record_of setup older) tsn)))) f
+sacks-after setup older (E.Skip upto names) log h f =
+    sacks-append log (record_of setup older).network (Forward (Messages.place_of (record_of setup older) upto) names.items ∷ []) f (tt, tt)
+sacks-after setup older (E.Ack credit) log h f = sacks-append log (record_of setup older).network (Sack (report_of (record_of setup older) credit) ∷ []) f
+    (λ p e. h p (report-seen (record_of setup older) credit p e), tt)
+sacks-after setup older (E.Arrive k) log h f =
+    subst (SacksFit log) (sym (Network.same-received (record_of setup older) (slice_get (record_of setup older).network k)).network) f
+sacks-after setup older (E.Acked k) log h f =
+    subst (SacksFit log) (sym (Network.same-taken (record_of setup older) (slice_get (record_of setup older).network k)).network) f
+sacks-after setup older (E.Read s) log h f =
+    subst (SacksFit log) (sym (Network.same-read (record_of setup older) s (next_read (record_of setup older) s)).network) f
 
 pub sacks-run : (setup : Setup) (h : History) → IsSetup setup → IsRun setup h → SacksFit (log_of setup h) (record_of setup h).network
 sacks-run setup [] is run = tt
 sacks-run setup (entry ∷ older) is run =
     let g = heard-run setup older is run.1.1 in
     sacks-after setup older entry.0 (log_of setup (entry ∷ older)) (λ p e. seen-stays setup older entry.0 entry.1 p (g.seen p ∙ e))
-    (sacks-more (log_of setup older) (log_of setup (entry ∷ older)) (λ p e. seen-stays setup older entry.0 entry.1 p e) (record_of setup older).network (sacks-run setup older is run.1.1))
+    (sacks-more (log_of setup older) (log_of setup (entry ∷ older)) (λ p e. seen-stays setup older entry.0 entry.1 p e) (record_of setup older).network
+    (sacks-run setup older is run.1.1))
 
 -- ## What is acknowledged was seen
 
-seen-acknowledged : (setup : Setup) (h : History) (p : ℕ) → IsSetup setup → IsRun setup h → is_acknowledged_in setup h p ≡ true → is_seen (log_of setup h) p ≡ true
+seen-acknowledged : (setup : Setup) (h : History) (p : ℕ) → IsSetup setup → IsRun setup h → is_acknowledged_in setup h p ≡ true
+    → is_seen (log_of setup h) p ≡ true
 seen-acknowledged setup [] p is run e = cc
-seen-acknowledged setup ((E.Acked k, r) ∷ older) p is run e = step (slice_get (record_of setup older).network k) refl (or-split (is_acknowledged_in setup older p) (reported_by (slice_get (record_of setup older).network k) p) e) (λ h. seen-acknowledged setup older p is run.1.1 h)
+seen-acknowledged setup ((E.Acked k, r) ∷ older) p is run e = step (slice_get (record_of setup older).network k) refl (or-split
+    (is_acknowledged_in setup older p) (reported_by (slice_get (record_of setup older).network k) p) e) (λ h. seen-acknowledged setup older p is run.1.1 h)
   where
     new : (o : Option Datagram) → slice_get (record_of setup older).network k ≡ o → reported_by o p ≡ true → is_seen (log_of setup older) p ≡ true
     new None f e = cc
@@ -237,7 +262,9 @@ seen-acknowledged setup ((E.Acked k, r) ∷ older) p is run e = step (slice_get 
     new (Some (Forward upto names)) f e = cc
     new (Some (Sack r)) f e = sack-at (log_of setup older) (record_of setup older).network k (Sack r) (sacks-run setup older is run.1.1) f p e
 
-    step : (o : Option Datagram) → slice_get (record_of setup older).network k ≡ o → (is_acknowledged_in setup older p ≡ true) ⊎ (reported_by (slice_get (record_of setup older).network k) p ≡ true) → (is_acknowledged_in setup older p ≡ true → is_seen (log_of setup older) p ≡ true) → is_seen (log_of setup older) p ≡ true
+    step : (o : Option Datagram) → slice_get (record_of setup older).network k ≡ o
+        → (is_acknowledged_in setup older p ≡ true) ⊎ (reported_by (slice_get (record_of setup older).network k) p ≡ true)
+        → (is_acknowledged_in setup older p ≡ true → is_seen (log_of setup older) p ≡ true) → is_seen (log_of setup older) p ≡ true
     step o f (inl h) ih = ih h
     step o f (inr h) ih = new (slice_get (record_of setup older).network k) refl h
 seen-acknowledged setup ((E.Arrive k, r) ∷ older) p is run e = seen-stays setup older (E.Arrive k) r p (seen-acknowledged setup older p is run.1.1 e)
@@ -284,7 +311,8 @@ record Acks (setup : Setup) (h : History) (w : LinkRecord) : Type 0 where
   slots : (p : ℕ) → p < length w.slots → (Messages.slot_at w p).acknowledged ≡ is_acknowledged_in setup h p
   taken : w.taken ≡ taken_in setup h
 
-acks-quiet : (setup : Setup) (h : History) (w v : LinkRecord) → Moves.Quiet w v → ((p : ℕ) → is_acknowledged_in setup h p ≡ true → p < length w.slots) → Acks setup h w → Acks setup h v
+acks-quiet : (setup : Setup) (h : History) (w v : LinkRecord) → Moves.Quiet w v → ((p : ℕ) → is_acknowledged_in setup h p ≡ true → p < length w.slots)
+    → Acks setup h w → Acks setup h v
 acks-quiet setup h w v q made a = record { slots = λ p lt. step p lt (cases_lt p (length w.slots)); taken = q.taken ∙ a.taken }
   where
     step : (p : ℕ) → p < length v.slots → (p < length w.slots) ⊎ (length w.slots ≤ p) → (Messages.slot_at v p).acknowledged ≡ is_acknowledged_in setup h p
@@ -310,8 +338,14 @@ as-received w p = step (is_new w p)
         by_complete true = record { slots = a.slots; count = a.count; taken = a.taken }
         by_complete false = a
 
-    step : (b : Bool) → AsAcknowledged w (if b then Changes.note_completion (record w { slots = change_at Changes.mark_arrived p w.slots }) (Messages.message_of w p) else record w { duplicates = w.duplicates ++ p ∷ [] })
-    step true = noted (record w { slots = change_at Changes.mark_arrived p w.slots }) (Messages.message_of w p) (record { slots = λ k. changed-keeps Changes.mark_arrived (λ x. x.acknowledged) (λ x. refl) p k w.slots Messages.no_slot; count = length-changed Changes.mark_arrived p w.slots; taken = refl })
+    step : (b : Bool)
+        → AsAcknowledged w (if b then Changes.note_completion (record w { slots = change_at Changes.mark_arrived p w.slots }) (Messages.message_of w p)
+        else record w { duplicates = w.duplicates ++ p ∷ [] })
+    step true = noted (record w { slots = change_at Changes.mark_arrived p w.slots }) (Messages.message_of w p) (record {
+      slots = λ k. changed-keeps Changes.mark_arrived (λ x. x.acknowledged) (λ x. refl) p k w.slots Messages.no_slot;
+      count = length-changed Changes.mark_arrived p w.slots;
+      taken = refl;
+    })
     step false = record { slots = λ k. refl; count = refl; taken = refl }
 
 as-then : (w v u : LinkRecord) → AsAcknowledged w v → AsAcknowledged v u → AsAcknowledged w u
@@ -319,7 +353,8 @@ as-then w v u f g = record { slots = λ p. g.slots p ∙ f.slots p; count = g.co
 
 pub as-datagram : (w : LinkRecord) (o : Option Datagram) → AsAcknowledged w (Changes.after_arrive w o)
 as-datagram w None = record { slots = λ k. refl; count = refl; taken = refl }
-as-datagram w (Some (Data ps)) = fold-keeps (AsAcknowledged w) Changes.receive_slot (λ v p a. as-then w v (Changes.receive_slot v p) a (as-received v p)) ps w (record { slots = λ k. refl; count = refl; taken = refl })
+as-datagram w (Some (Data ps)) = fold-keeps (AsAcknowledged w) Changes.receive_slot (λ v p a. as-then w v (Changes.receive_slot v p) a (as-received v p)) ps w
+    (record { slots = λ k. refl; count = refl; taken = refl })
 as-datagram w (Some (Forward upto names)) = step (Changes.skip_counts w upto)
   where
     step : (b : Bool) → AsAcknowledged w (if b then record w { skipped = upto + 1; streams = map (Changes.named_by w names) w.streams } else w)
@@ -331,7 +366,8 @@ pub as-read : (w : LinkRecord) (s : ℕ) (o : Option ℕ) → AsAcknowledged w (
 as-read w s None = record { slots = λ k. refl; count = refl; taken = refl }
 as-read w s (Some n) = record { slots = λ k. refl; count = refl; taken = refl }
 
-acks-taken : (setup : Setup) (older : History) (w : LinkRecord) (k : ℕ) (r : Reply) → w ≡ record_of setup older → Acks setup older w → Acks setup ((E.Acked k, r) ∷ older) (Changes.after_acked w (slice_get w.network k))
+acks-taken : (setup : Setup) (older : History) (w : LinkRecord) (k : ℕ) (r : Reply) → w ≡ record_of setup older → Acks setup older w
+    → Acks setup ((E.Acked k, r) ∷ older) (Changes.after_acked w (slice_get w.network k))
 acks-taken setup older w k r same a = step (slice_get w.network k) (ap (λ v. slice_get v.network k) same)
   where
     ors : (b : Bool) → (b || false) ≡ b
@@ -342,9 +378,18 @@ acks-taken setup older w k r same a = step (slice_get w.network k) (ap (λ v. sl
     zeros n = omega arith
 
     step : (o : Option Datagram) → o ≡ slice_get (record_of setup older).network k → Acks setup ((E.Acked k, r) ∷ older) (Changes.after_acked w o)
-    step None e = record { slots = λ p lt. a.slots p lt ∙ sym (ap (λ o. is_acknowledged_in setup older p || reported_by o p) (sym e) ∙ ors (is_acknowledged_in setup older p)); taken = a.taken ∙ sym (ap (λ o. max (taken_in setup older) (Log.cumulative_in o)) (sym e) ∙ zeros (taken_in setup older)) }
-    step (Some (Data ps)) e = record { slots = λ p lt. a.slots p lt ∙ sym (ap (λ o. is_acknowledged_in setup older p || reported_by o p) (sym e) ∙ ors (is_acknowledged_in setup older p)); taken = a.taken ∙ sym (ap (λ o. max (taken_in setup older) (Log.cumulative_in o)) (sym e) ∙ zeros (taken_in setup older)) }
-    step (Some (Forward upto names)) e = record { slots = λ p lt. a.slots p lt ∙ sym (ap (λ o. is_acknowledged_in setup older p || reported_by o p) (sym e) ∙ ors (is_acknowledged_in setup older p)); taken = a.taken ∙ sym (ap (λ o. max (taken_in setup older) (Log.cumulative_in o)) (sym e) ∙ zeros (taken_in setup older)) }
+    step None e = record {
+      slots = λ p lt. a.slots p lt ∙ sym (ap (λ o. is_acknowledged_in setup older p || reported_by o p) (sym e) ∙ ors (is_acknowledged_in setup older p));
+      taken = a.taken ∙ sym (ap (λ o. max (taken_in setup older) (Log.cumulative_in o)) (sym e) ∙ zeros (taken_in setup older));
+    }
+    step (Some (Data ps)) e = record {
+      slots = λ p lt. a.slots p lt ∙ sym (ap (λ o. is_acknowledged_in setup older p || reported_by o p) (sym e) ∙ ors (is_acknowledged_in setup older p));
+      taken = a.taken ∙ sym (ap (λ o. max (taken_in setup older) (Log.cumulative_in o)) (sym e) ∙ zeros (taken_in setup older));
+    }
+    step (Some (Forward upto names)) e = record {
+      slots = λ p lt. a.slots p lt ∙ sym (ap (λ o. is_acknowledged_in setup older p || reported_by o p) (sym e) ∙ ors (is_acknowledged_in setup older p));
+      taken = a.taken ∙ sym (ap (λ o. max (taken_in setup older) (Log.cumulative_in o)) (sym e) ∙ zeros (taken_in setup older));
+    }
     step (Some (Sack x)) e = record {
       slots = λ p lt.
           let lt' : p < length w.slots = omega (arith, lt, length-numbered (Changes.acknowledged_by x) 0 w.slots) in
@@ -355,7 +400,8 @@ acks-taken setup older w k r same a = step (slice_get w.network k) (ap (λ v. sl
       taken = ap (λ c. max c x.cumulative) a.taken ∙ ap (λ o. max (taken_in setup older) (Log.cumulative_in o)) e;
     }
 
-acks-step : (setup : Setup) (older : History) (e : Event) (r : Reply) → IsSetup setup → IsRun setup older → Acks setup older (record_of setup older) → Acks setup ((e, r) ∷ older) (after (record_of setup older) e)
+acks-step : (setup : Setup) (older : History) (e : Event) (r : Reply) → IsSetup setup → IsRun setup older → Acks setup older (record_of setup older)
+    → Acks setup ((e, r) ∷ older) (after (record_of setup older) e)
 acks-step setup older e r is run a = by_event e
   where
     made : (p : ℕ) → is_acknowledged_in setup older p ≡ true → p < length (record_of setup older).slots
@@ -370,19 +416,32 @@ acks-step setup older e r is run a = by_event e
     by_event : (e : Event) → Acks setup ((e, r) ∷ older) (after (record_of setup older) e)
     by_event (E.Open s) = record { slots = a.slots; taken = a.taken }
     by_event (E.Mode s u v x) = record { slots = a.slots; taken = a.taken }
-    by_event (E.Write s x y) = let b = quiet (after (record_of setup older) (E.Write s x y)) (Moves.quiet-written setup (record_of setup older) s x y (sane-run setup older run)) in record { slots = b.slots; taken = b.taken }
-    by_event (E.Start now) = let b = quiet (after (record_of setup older) (E.Start now)) (Moves.quiet-started (record_of setup older) now) in record { slots = b.slots; taken = b.taken }
-    by_event (E.Send now) = let b = quiet (after (record_of setup older) (E.Send now)) (Moves.quiet-sent setup (record_of setup older) now (Messages.front (record_of setup older)) (sane-run setup older run)) in record { slots = b.slots; taken = b.taken }
+    by_event (E.Write s x y) = let b = quiet (after (record_of setup older) (E.Write s x y))
+        (Moves.quiet-written setup (record_of setup older) s x y (sane-run setup older run)) in record { slots = b.slots; taken = b.taken }
+    by_event (E.Start now) = let b = quiet (after (record_of setup older) (E.Start now)) (Moves.quiet-started (record_of setup older) now) in
+        record { slots = b.slots; taken = b.taken }
+    by_event (E.Send now) = let b = quiet (after (record_of setup older) (E.Send now))
+        (Moves.quiet-sent setup (record_of setup older) now (Messages.front (record_of setup older)) (sane-run setup older run)) in
+        record { slots = b.slots; taken = b.taken }
     by_event (E.Resend x) = record { slots = a.slots; taken = a.taken }
-    by_event (E.Expire now) = let b = quiet (after (record_of setup older) (E.Expire now)) (Moves.quiet-expire setup (record_of setup older) now (Messages.front (record_of setup older)) (sane-run setup older run)) in record { slots = b.slots; taken = b.taken }
-    by_event (E.Tail now) = let b = quiet (after (record_of setup older) (E.Tail now)) (Moves.quiet-tail setup (record_of setup older) (Changes.tailing (record_of setup older) now) (sane-run setup older run)) in record { slots = b.slots; taken = b.taken }
-    by_event (E.Late now) = let b = quiet (after (record_of setup older) (E.Late now)) (Moves.quiet-lates setup (record_of setup older) now (sane-run setup older run)) in record { slots = b.slots; taken = b.taken }
-    by_event (E.Abandon tsn) = let b = quiet (after (record_of setup older) (E.Abandon tsn)) (Moves.quiet-abandoned setup (record_of setup older) (Messages.message_of (record_of setup older) (Messages.place_of (record_of setup older) tsn)) (sane-run setup older run)) in record { slots = b.slots; taken = b.taken }
+    by_event (E.Expire now) = let b = quiet (after (record_of setup older) (E.Expire now))
+        (Moves.quiet-expire setup (record_of setup older) now (Messages.front (record_of setup older)) (sane-run setup older run)) in
+        record { slots = b.slots; taken = b.taken }
+    by_event (E.Tail now) = let b = quiet (after (record_of setup older) (E.Tail now))
+        (Moves.quiet-tail setup (record_of setup older) (Changes.tailing (record_of setup older) now) (sane-run setup older run)) in
+        record { slots = b.slots; taken = b.taken }
+    by_event (E.Late now) = let b = quiet (after (record_of setup older) (E.Late now))
+        (Moves.quiet-lates setup (record_of setup older) now (sane-run setup older run)) in record { slots = b.slots; taken = b.taken }
+    by_event (E.Abandon tsn) = let b = quiet (after (record_of setup older) (E.Abandon tsn)) (Moves.quiet-abandoned setup (record_of setup older)
+        (Messages.message_of (record_of setup older) (Messages.place_of (record_of setup older) tsn)) (sane-run setup older run)) in
+        record { slots = b.slots; taken = b.taken }
     by_event (E.Skip upto names) = record { slots = a.slots; taken = a.taken }
     by_event (E.Ack credit) = record { slots = a.slots; taken = a.taken }
-    by_event (E.Arrive k) = let b = same (after (record_of setup older) (E.Arrive k)) (as-datagram (record_of setup older) (slice_get (record_of setup older).network k)) in record { slots = b.slots; taken = b.taken }
+    by_event (E.Arrive k) = let b = same (after (record_of setup older) (E.Arrive k))
+        (as-datagram (record_of setup older) (slice_get (record_of setup older).network k)) in record { slots = b.slots; taken = b.taken }
     by_event (E.Acked k) = acks-taken setup older (record_of setup older) k r refl a
-    by_event (E.Read s) = let b = same (after (record_of setup older) (E.Read s)) (as-read (record_of setup older) s (next_read (record_of setup older) s)) in record { slots = b.slots; taken = b.taken }
+    by_event (E.Read s) = let b = same (after (record_of setup older) (E.Read s)) (as-read (record_of setup older) s (next_read (record_of setup older) s)) in
+        record { slots = b.slots; taken = b.taken }
 
 acks-run : (setup : Setup) (h : History) → IsSetup setup → IsRun setup h → Acks setup h (record_of setup h)
 acks-run setup [] is run = record { slots = λ p lt. absurd (omega arith); taken = refl }
@@ -413,5 +472,7 @@ sacks_say setup h is run credit =
     let c : cumulative w ≡ seen_count log (length w.slots) = cumulative_is_seen setup h is run in
     ap (contents_in (after w (E.Ack credit))) (get-last w.network (Sack (report_of w credit)))
     ∙ ap (λ q. Some (SackContents (cumulative_tsn w q) credit (gap_blocks w) (map (Messages.tsn_of w) (take (16379 - length (gap_blocks w)) w.duplicates)))) c
-    ∙ ap (λ b. Some (SackContents (cumulative_tsn w (seen_count log (length w.slots))) credit b (map (Messages.tsn_of w) (take (16379 - length b) w.duplicates)))) (blocks-are setup h is run)
-    ∙ ap (λ d. Some (SackContents (cumulative_tsn w (seen_count log (length w.slots))) credit (blocks_by w log) (map (Messages.tsn_of w) (take (16379 - length (blocks_by w log)) d)))) g.duplicates
+    ∙ ap (λ b.
+    Some (SackContents (cumulative_tsn w (seen_count log (length w.slots))) credit b (map (Messages.tsn_of w) (take (16379 - length b) w.duplicates))))
+    (blocks-are setup h is run) ∙ ap (λ d. Some (SackContents (cumulative_tsn w (seen_count log (length w.slots))) credit (blocks_by w log)
+    (map (Messages.tsn_of w) (take (16379 - length (blocks_by w log)) d)))) g.duplicates

@@ -21,15 +21,20 @@ use Rattle.sctp_list_lemmas.proofs.Totals.{total-plus, total-append, total-split
 -- ## A message
 
 -- the bytes in its slots are those of its first fragments
-pub slots-bytes : (w : LinkRecord) (n : ℕ) → Sender (shape w) → total_over (Amounts.slot_bytes w n) (Messages.slots_of w n) ≡ total_over (λ i. length (Messages.fragment_at w n i)) (numbers_from 0 (Messages.sent_of w n))
+pub slots-bytes : (w : LinkRecord) (n : ℕ) → Sender (shape w) → total_over (Amounts.slot_bytes w n)
+    (Messages.slots_of w n) ≡ total_over (λ i. length (Messages.fragment_at w n i)) (numbers_from 0 (Messages.sent_of w n))
 slots-bytes w n s =
     total-map (λ i. length (Messages.fragment_at w n i)) (λ p. (Messages.slot_at w p).fragment) (Messages.slots_of w n)
-    ∙ ap (total_over (λ i. length (Messages.fragment_at w n i))) (numbered (λ p. (Messages.slot_at w p).fragment) (has (shape w) n) (length w.slots) (λ k l e. s.number k l ∙ ap (λ m. length (numbers_where (has (shape w) m) 0 k)) (of-has (shape w) n k e).0))
+    ∙ ap (total_over (λ i. length (Messages.fragment_at w n i))) (numbered (λ p. (Messages.slot_at w p).fragment) (has (shape w) n) (length w.slots)
+    (λ k l e. s.number k l ∙ ap (λ m. length (numbers_where (has (shape w) m) 0 k)) (of-has (shape w) n k e).0))
 
-pub fragments-bytes : (w : LinkRecord) (n : ℕ) → 0 < w.setup.size → total_over (λ i. length (Messages.fragment_at w n i)) (numbers_from 0 (Messages.fragment_count w n)) ≡ Amounts.written_bytes w n
-fragments-bytes w n pos = total-lengths (Messages.fragments_of w n) ∙ lengths-pieces (length (Messages.message_at w n).bytes) w.setup.size (Messages.message_at w n).bytes pos (omega arith)
+pub fragments-bytes : (w : LinkRecord) (n : ℕ) → 0 < w.setup.size
+    → total_over (λ i. length (Messages.fragment_at w n i)) (numbers_from 0 (Messages.fragment_count w n)) ≡ Amounts.written_bytes w n
+fragments-bytes w n pos = total-lengths (Messages.fragments_of w n)
+    ∙ lengths-pieces (length (Messages.message_at w n).bytes) w.setup.size (Messages.message_at w n).bytes pos (omega arith)
 
-pub balance : (w : LinkRecord) (n : ℕ) → Sender (shape w) → 0 < w.setup.size → n < length w.messages → Amounts.pending_bytes w n + Amounts.in_flight_bytes w n + Amounts.released_bytes w n ≡ Amounts.written_bytes w n
+pub balance : (w : LinkRecord) (n : ℕ) → Sender (shape w) → 0 < w.setup.size → n < length w.messages
+    → Amounts.pending_bytes w n + Amounts.in_flight_bytes w n + Amounts.released_bytes w n ≡ Amounts.written_bytes w n
 balance w n s pos lt = step (Amounts.is_expired_or_abandoned w n)
   where
     alive : Amounts.unsent_bytes w n + Amounts.unacknowledged_bytes w n + Amounts.acknowledged_bytes w n ≡ Amounts.written_bytes w n
@@ -42,7 +47,8 @@ balance w n s pos lt = step (Amounts.is_expired_or_abandoned w n)
         let complete = ap (total_over f) (numbers-append a (Messages.fragment_count w n - a) ∙ ap (numbers_where always 0) all) in
         omega (arith, split, rows, complete, slots-bytes w n s, fragments-bytes w n pos)
 
-    step : (b : Bool) → (if b then 0 else Amounts.unsent_bytes w n) + (if b then 0 else Amounts.unacknowledged_bytes w n) + (if b then Amounts.written_bytes w n else Amounts.acknowledged_bytes w n) ≡ Amounts.written_bytes w n
+    step : (b : Bool) → (if b then 0 else Amounts.unsent_bytes w n) + (if b then 0 else Amounts.unacknowledged_bytes w n)
+        + (if b then Amounts.written_bytes w n else Amounts.acknowledged_bytes w n) ≡ Amounts.written_bytes w n
     step true = omega arith
     step false = alive
 
@@ -51,7 +57,9 @@ balance w n s pos lt = step (Amounts.is_expired_or_abandoned w n)
 pub size-some : (setup : Rattle.sctp_model.specs.LinkRecord.Setup) (w : LinkRecord) → IsSetup setup → Sane setup w → 0 < w.setup.size
 size-some setup w is g = omega (arith, is.some, ap (λ t. t.size) g.setup_is)
 
-sums : (w : LinkRecord) (p : ℕ → Bool) → Sender (shape w) → 0 < w.setup.size → total_over (Amounts.written_bytes w) (numbers_where p 0 (length w.messages)) ≡ total_over (Amounts.pending_bytes w) (numbers_where p 0 (length w.messages)) + total_over (Amounts.in_flight_bytes w) (numbers_where p 0 (length w.messages)) + total_over (Amounts.released_bytes w) (numbers_where p 0 (length w.messages))
+sums : (w : LinkRecord) (p : ℕ → Bool) → Sender (shape w) → 0 < w.setup.size → total_over (Amounts.written_bytes w) (numbers_where p 0 (length w.messages))
+    ≡ total_over (Amounts.pending_bytes w) (numbers_where p 0 (length w.messages)) + total_over (Amounts.in_flight_bytes w)
+    (numbers_where p 0 (length w.messages)) + total_over (Amounts.released_bytes w) (numbers_where p 0 (length w.messages))
 sums w p s pos =
     let both : ℕ → ℕ = λ n. Amounts.pending_bytes w n + Amounts.in_flight_bytes w n in
     let a = total-plus (Amounts.pending_bytes w) (Amounts.in_flight_bytes w) both p 0 (length w.messages) (λ k x y. refl) in

@@ -1,4 +1,5 @@
-use Rattle.std.proofs.Common.{◌≡◌, ℕ, ◌+◌, ◌-◌, ◌<◌, ◌≤◌, Bool, true, false, List, [], ◌∷◌, length, map, get_or, Option, Some, None, refl, ap, sym, ◌∙◌, arith, add-one}
+use Rattle.std.proofs.Common.{◌≡◌, ℕ, ◌+◌, ◌-◌, ◌<◌, ◌≤◌, Bool, true, false, List, [], ◌∷◌, length, map, get_or, Option, Some, None, refl, ap, sym, ◌∙◌, arith}
+use Rattle.std.proofs.Common.{add-one}
 use Rattle.std.proofs.Math.Path.{fun_ext}
 use Rattle.std.specs.Prelude.{if◌then◌else◌, ◌==◌, ◌&&◌, ◌||◌, not, fold, slice_get, slice_index_or, max}
 use Rattle.std.specs.List.{list_any}
@@ -50,7 +51,8 @@ released w = Amounts.in_all w (Amounts.released_bytes w)
 abbrev released_with : Shape → (ℕ → Bool) → ℕ → ℕ
 released_with x a n =
     if (x.message n).expired || (x.message n).abandoned then length (x.message n).bytes
-    else total_over (λ p. length (get_or (pieces (length (x.message n).bytes) x.size (x.message n).bytes) (x.slot p).fragment [])) (numbers_where (λ p. has x n p && a p) 0 x.slots)
+    else total_over (λ p. length (get_or (pieces (length (x.message n).bytes) x.size (x.message n).bytes) (x.slot p).fragment []))
+    (numbers_where (λ p. has x n p && a p) 0 x.slots)
 
 abbrev acknowledged_at : LinkRecord → ℕ → Bool
 acknowledged_at w p = (Messages.slot_at w p).acknowledged
@@ -66,19 +68,28 @@ acknowledged-quiet w v q n lt =
     let g = q.grows in
     let t : ℕ → Bool = λ p. has (shape v) n p && acknowledged_at v p in
     let more : length v.slots ≡ length w.slots + (length v.slots - length w.slots) = omega (arith, g.slots) in
-    ap (total_over (Amounts.slot_bytes v n)) (kept-short t 0 (length w.slots) (length v.slots - length w.slots) (length v.slots) more (λ k a b. fails (t k) (λ e. not_both (sym (q.fresh k (omega arith) (omega arith)) ∙ (both (has (shape v) n k) (acknowledged_at v k) e).1))))
+    ap (total_over (Amounts.slot_bytes v n)) (kept-short t 0 (length w.slots) (length v.slots - length w.slots) (length v.slots) more
+    (λ k a b. fails (t k) (λ e. not_both (sym (q.fresh k (omega arith) (omega arith)) ∙ (both (has (shape v) n k) (acknowledged_at v k) e).1))))
     ∙ total-kept_same (Amounts.slot_bytes v n) (Amounts.slot_bytes w n) t 0 (length w.slots) (λ k a b. same-bytes k (omega arith))
-    ∙ ap (total_over (Amounts.slot_bytes w n)) (kept-same t (λ p. has (shape w) n p && acknowledged_at w p) 0 (length w.slots) (λ k a b. ap (λ s. ((s.message == n) && not s.is_terminal_chunk) && acknowledged_at v k) (g.slot k (omega arith)) ∙ ap (λ c. has (shape w) n k && c) (q.acknowledged k (omega arith))))
+    ∙ ap (total_over (Amounts.slot_bytes w n))
+    (kept-same t (λ p. has (shape w) n p && acknowledged_at w p) 0 (length w.slots) (λ k a b. ap (λ s. ((s.message == n) && not s.is_terminal_chunk)
+    && acknowledged_at v k) (g.slot k (omega arith)) ∙ ap (λ c. has (shape w) n k && c) (q.acknowledged k (omega arith))))
   where
     same-bytes : (k : ℕ) → k < length w.slots → Amounts.slot_bytes v n k ≡ Amounts.slot_bytes w n k
     same-bytes k l =
         ap (λ s. length (Messages.fragment_at v n s.fragment)) (q.grows.slot k l)
         ∙ ap (λ m. length (slice_index_or (pieces (length m.bytes) v.setup.size m.bytes) (Messages.slot_at w k).fragment [])) (q.grows.message n lt)
-        ∙ ap (λ z. length (slice_index_or (pieces (length (Messages.message_at w n).bytes) z (Messages.message_at w n).bytes) (Messages.slot_at w k).fragment [])) q.grows.size
+        ∙ ap (λ z. length (slice_index_or (pieces (length (Messages.message_at w n).bytes) z (Messages.message_at w n).bytes)
+        (Messages.slot_at w k).fragment [])) q.grows.size
 
 -- it never takes back what was released
 released-grows : (setup : Setup) (w v : LinkRecord) → IsSetup setup → Sane setup w → Quiet w v → length v.messages ≡ length w.messages → released w ≤ released v
-released-grows setup w v is g q count = omega (arith, total-le (Amounts.released_bytes w) (Amounts.released_bytes v) 0 (length w.messages) (λ n a b. each n (omega arith) (Amounts.is_expired_or_abandoned v n) refl (Amounts.is_expired_or_abandoned w n) refl), ap (λ c. total_over (Amounts.released_bytes v) (numbers_from 0 c)) count)
+released-grows setup w v is g q count = omega (
+  arith,
+  total-le (Amounts.released_bytes w) (Amounts.released_bytes v) 0 (length w.messages)
+      (λ n a b. each n (omega arith) (Amounts.is_expired_or_abandoned v n) refl (Amounts.is_expired_or_abandoned w n) refl),
+  ap (λ c. total_over (Amounts.released_bytes v) (numbers_from 0 c)) count,
+)
   where
     bytes : (n : ℕ) → n < length w.messages → (Messages.message_at v n).bytes ≡ (Messages.message_at w n).bytes
     bytes n lt = ap (λ m. m.bytes) (q.grows.message n lt)
@@ -90,23 +101,29 @@ released-grows setup w v is g q count = omega (arith, total-le (Amounts.released
         ors true b h = refl
         ors false b h = h
 
-        step : (b : Bool) → (Messages.message_at w n).expired ≡ b → (b || (Messages.message_at w n).abandoned) ≡ true → Amounts.is_expired_or_abandoned v n ≡ true
+        step : (b : Bool) → (Messages.message_at w n).expired ≡ b → (b || (Messages.message_at w n).abandoned) ≡ true
+            → Amounts.is_expired_or_abandoned v n ≡ true
         step true h e = ap (λ b. b || (Messages.message_at v n).abandoned) (q.grows.expired n lt h)
         step false h e = ors (Messages.message_at v n).expired (Messages.message_at v n).abandoned (q.grows.abandoned n lt e)
 
     within : (n : ℕ) → n < length w.messages → Amounts.released_bytes w n ≤ Amounts.written_bytes w n
     within n lt = omega (arith, balance w n g.sender (size-some setup w is g) lt)
 
-    each : (n : ℕ) → n < length w.messages → (b : Bool) → Amounts.is_expired_or_abandoned v n ≡ b → (c : Bool) → Amounts.is_expired_or_abandoned w n ≡ c → Amounts.released_bytes w n ≤ Amounts.released_bytes v n
-    each n lt true e c f = let z : Amounts.released_bytes v n ≡ Amounts.written_bytes v n = ap (λ b. if b then Amounts.written_bytes v n else Amounts.acknowledged_bytes v n) e in omega (arith, z, within n lt, ap length (bytes n lt))
+    each : (n : ℕ) → n < length w.messages → (b : Bool) → Amounts.is_expired_or_abandoned v n ≡ b → (c : Bool) → Amounts.is_expired_or_abandoned w n ≡ c
+        → Amounts.released_bytes w n ≤ Amounts.released_bytes v n
+    each n lt true e c f = let z : Amounts.released_bytes v n ≡ Amounts.written_bytes v n =
+        ap (λ b. if b then Amounts.written_bytes v n else Amounts.acknowledged_bytes v n) e in omega (arith, z, within n lt, ap length (bytes n lt))
     each n lt false e true f = absurd (not_both (sym e ∙ given n lt f))
     each n lt false e false f =
-        let y : Amounts.released_bytes v n ≡ Amounts.acknowledged_bytes v n = ap (λ b. if b then Amounts.written_bytes v n else Amounts.acknowledged_bytes v n) e in
-        let z : Amounts.released_bytes w n ≡ Amounts.acknowledged_bytes w n = ap (λ b. if b then Amounts.written_bytes w n else Amounts.acknowledged_bytes w n) f in
+        let y : Amounts.released_bytes v n ≡ Amounts.acknowledged_bytes v n =
+        ap (λ b. if b then Amounts.written_bytes v n else Amounts.acknowledged_bytes v n) e in
+        let z : Amounts.released_bytes w n ≡ Amounts.acknowledged_bytes w n =
+        ap (λ b. if b then Amounts.written_bytes w n else Amounts.acknowledged_bytes w n) f in
         omega (arith, y, z, acknowledged-quiet w v q n lt)
 
 -- where no message expires or is abandoned, nothing is released
-released-kept : (w v : LinkRecord) → Quiet w v → length v.messages ≡ length w.messages → ((n : ℕ) → Amounts.is_expired_or_abandoned v n ≡ Amounts.is_expired_or_abandoned w n) → released v ≡ released w
+released-kept : (w v : LinkRecord) → Quiet w v → length v.messages ≡ length w.messages
+    → ((n : ℕ) → Amounts.is_expired_or_abandoned v n ≡ Amounts.is_expired_or_abandoned w n) → released v ≡ released w
 released-kept w v q count given =
     ap (λ c. total_over (Amounts.released_bytes v) (numbers_from 0 c)) count
     ∙ total-kept_same (Amounts.released_bytes v) (Amounts.released_bytes w) always 0 (length w.messages) (λ n a b. each n (omega arith))
@@ -123,22 +140,28 @@ abbrev released_all : Shape → (ℕ → Bool) → ℕ
 released_all x a = total_over (released_with x a) (numbers_from 0 x.count)
 
 -- a new message has no slots yet
-released-written : (x : Shape) (a : ℕ → Bool) (m : MessagePart) → Sender x → m.expired ≡ false → m.abandoned ≡ false → released_all (written x m) a ≡ released_all x a
+released-written : (x : Shape) (a : ℕ → Bool) (m : MessagePart) → Sender x → m.expired ≡ false → m.abandoned ≡ false
+    → released_all (written x m) a ≡ released_all x a
 released-written x a m s e b =
     ap (λ c. total_over (released_with (written x m) a) (numbers_where always 0 c)) (add-one x.count)
     ∙ ap (total_over (released_with (written x m) a)) (kept-snoc_in always 0 x.count x.count (omega arith) refl)
     ∙ total-append (released_with (written x m) a) (numbers_where always 0 x.count) (x.count ∷ [])
-    ∙ (let old = total-kept_same (released_with (written x m) a) (released_with x a) always 0 x.count (λ k i j. ap (released_of k) (message-old x m k (omega arith))) in omega (arith, old, new))
+    ∙ (let old = total-kept_same (released_with (written x m) a) (released_with x a) always 0 x.count
+    (λ k i j. ap (released_of k) (message-old x m k (omega arith))) in omega (arith, old, new))
   where
     released_of : ℕ → MessagePart → ℕ
-    released_of k y = if y.expired || y.abandoned then length y.bytes else total_over (λ p. length (get_or (pieces (length y.bytes) x.size y.bytes) (x.slot p).fragment [])) (numbers_where (λ p. has x k p && a p) 0 x.slots)
+    released_of k y = if y.expired || y.abandoned then length y.bytes
+        else total_over (λ p. length (get_or (pieces (length y.bytes) x.size y.bytes) (x.slot p).fragment [])) (numbers_where (λ p. has x k p && a p) 0 x.slots)
 
     none : numbers_where (λ p. has x x.count p && a p) 0 x.slots ≡ []
-    none = kept-none (λ p. has x x.count p && a p) 0 x.slots (λ p i j. fails (has x x.count p && a p) (λ h. absurd (omega (arith, (of-has x x.count p (both (has x x.count p) (a p) h).0).0, s.made p (omega arith)))))
+    none = kept-none (λ p. has x x.count p && a p) 0 x.slots (λ p i j.
+        fails (has x x.count p && a p) (λ h. absurd (omega (arith, (of-has x x.count p (both (has x x.count p) (a p) h).0).0, s.made p (omega arith)))))
 
     new : released_with (written x m) a x.count ≡ 0
-    new = ap (released_of x.count) (message-new x m) ∙ ap (λ c. if c || m.abandoned then length m.bytes else total_over (λ p. length (get_or (pieces (length m.bytes) x.size m.bytes) (x.slot p).fragment [])) (numbers_where (λ p. has x x.count p && a p) 0 x.slots)) e
-        ∙ ap (λ c. if c then length m.bytes else total_over (λ p. length (get_or (pieces (length m.bytes) x.size m.bytes) (x.slot p).fragment [])) (numbers_where (λ p. has x x.count p && a p) 0 x.slots)) b
+    new = ap (released_of x.count) (message-new x m) ∙ ap (λ c. if c || m.abandoned then length m.bytes else total_over
+        (λ p. length (get_or (pieces (length m.bytes) x.size m.bytes) (x.slot p).fragment [])) (numbers_where (λ p. has x x.count p && a p) 0 x.slots)) e
+        ∙ ap (λ c. if c then length m.bytes else total_over (λ p. length (get_or (pieces (length m.bytes) x.size m.bytes) (x.slot p).fragment []))
+        (numbers_where (λ p. has x x.count p && a p) 0 x.slots)) b
         ∙ ap (total_over (λ p. length (get_or (pieces (length m.bytes) x.size m.bytes) (x.slot p).fragment []))) none
 
 pub messages-sent : (u : LinkRecord) → (Changes.send_fragments u).messages ≡ u.messages
@@ -148,13 +171,16 @@ messages-sent u = sends-keep (λ v. v.messages ≡ u.messages) (λ v e. more v (
     more v None = refl
     more v (Some n) = refl
 
-released-sent : (setup : Setup) (w : LinkRecord) (now : ℕ) (o : Option ℕ) → Sane setup w → released (Changes.send_from (Changes.after_start w now) o) ≡ released w
+released-sent : (setup : Setup) (w : LinkRecord) (now : ℕ) (o : Option ℕ) → Sane setup w
+    → released (Changes.send_from (Changes.after_start w now) o) ≡ released w
 released-sent setup w now None g = released-same w (Changes.after_start w now) (Shapes.shape-started w now) (λ p. refl)
 released-sent setup w now (Some n) g =
     let u = Changes.after_start w now in
     let e = messages-sent u in
-    released-kept w (Changes.send_from u (Some n)) (Moves.quiet-sent setup w now (Some n) g) (ap length e ∙ length-mapped (Changes.start_lifetime now) w.messages)
-    (λ k. ap (λ ms. (slice_index_or ms k Messages.no_message).expired || (slice_index_or ms k Messages.no_message).abandoned) e ∙ ap (λ x. (x.message k).expired || (x.message k).abandoned) (Shapes.shape-started w now))
+    released-kept w (Changes.send_from u (Some n)) (Moves.quiet-sent setup w now (Some n) g)
+    (ap length e ∙ length-mapped (Changes.start_lifetime now) w.messages)
+    (λ k. ap (λ ms. (slice_index_or ms k Messages.no_message).expired || (slice_index_or ms k Messages.no_message).abandoned) e
+    ∙ ap (λ x. (x.message k).expired || (x.message k).abandoned) (Shapes.shape-started w now))
 
 pub count-abandoned : (w : LinkRecord) (n : ℕ) → length (Changes.after_abandon w n).messages ≡ length w.messages
 count-abandoned w n = step (Messages.is_partially_sent w n)
@@ -167,14 +193,17 @@ pub count-late : (ns : List ℕ) (w : LinkRecord) → length (fold Changes.after
 count-late [] w = refl
 count-late (n ∷ ns) w = count-late ns (Changes.after_abandon w n) ∙ count-abandoned w n
 
-grown : (setup : Setup) (w v : LinkRecord) → IsSetup setup → Sane setup w → Quiet w v → length v.messages ≡ length w.messages → released v ≡ released w + Amounts.growth w v
+grown : (setup : Setup) (w v : LinkRecord) → IsSetup setup → Sane setup w → Quiet w v → length v.messages ≡ length w.messages
+    → released v ≡ released w + Amounts.growth w v
 grown setup w v is g q c = omega (arith, released-grows setup w v is g q c)
 
-released-expired : (setup : Setup) (w : LinkRecord) (o : Option ℕ) → IsSetup setup → Sane setup w → Quiet w (Changes.after_expire w o) → released (Changes.after_expire w o) ≡ released w + released_by (expired_reply w (Changes.after_expire w o) o)
+released-expired : (setup : Setup) (w : LinkRecord) (o : Option ℕ) → IsSetup setup → Sane setup w → Quiet w (Changes.after_expire w o)
+    → released (Changes.after_expire w o) ≡ released w + released_by (expired_reply w (Changes.after_expire w o) o)
 released-expired setup w None is g q = omega arith
 released-expired setup w (Some n) is g q = grown setup w (Changes.after_expire w (Some n)) is g q (length-changed Changes.mark_expired n w.messages)
 
-released-tail : (setup : Setup) (w : LinkRecord) (o : Option ℕ) → IsSetup setup → Sane setup w → released (Changes.after_tail w o) ≡ released w + released_by (tail_reply w (Changes.after_tail w o) o)
+released-tail : (setup : Setup) (w : LinkRecord) (o : Option ℕ) → IsSetup setup → Sane setup w
+    → released (Changes.after_tail w o) ≡ released w + released_by (tail_reply w (Changes.after_tail w o) o)
 released-tail setup w None is g = omega arith
 released-tail setup w (Some n) is g = grown setup w (Changes.after_abandon w n) is g (Moves.quiet-abandoned setup w n g) (count-abandoned w n)
 
@@ -190,12 +219,23 @@ released-acked w (Some (Sack r)) = omega (arith, less)
     each : (n : ℕ) → released_with (shape w) (acknowledged_at w) n ≤ released_with (shape w) (acknowledged_at (Changes.after_acked w (Some (Sack r)))) n
     each n = step ((Messages.message_at w n).expired || (Messages.message_at w n).abandoned)
       where
-        step : (b : Bool) → (if b then length (Messages.message_at w n).bytes else total_over (Amounts.slot_bytes w n) (numbers_where (λ p. has (shape w) n p && acknowledged_at w p) 0 (length w.slots))) ≤ (if b then length (Messages.message_at w n).bytes else total_over (Amounts.slot_bytes w n) (numbers_where (λ p. has (shape w) n p && acknowledged_at (Changes.after_acked w (Some (Sack r))) p) 0 (length w.slots)))
+        step : (b : Bool) → (if b then length (Messages.message_at w n).bytes
+            else total_over (Amounts.slot_bytes w n) (numbers_where (λ p. has (shape w) n p && acknowledged_at w p) 0 (length w.slots)))
+            ≤ (if b then length (Messages.message_at w n).bytes else total_over (Amounts.slot_bytes w n)
+            (numbers_where (λ p. has (shape w) n p && acknowledged_at (Changes.after_acked w (Some (Sack r))) p) 0 (length w.slots)))
         step true = omega arith
-        step false = total-wider (Amounts.slot_bytes w n) (λ p. has (shape w) n p && acknowledged_at w p) (λ p. has (shape w) n p && acknowledged_at (Changes.after_acked w (Some (Sack r))) p) 0 (length w.slots) (λ k a b e. let h = both (has (shape w) n k) (acknowledged_at w k) e in and (has (shape w) n k) (acknowledged_at (Changes.after_acked w (Some (Sack r))) k) h.0 (acked k (omega arith) h.1))
+        step false = total-wider (Amounts.slot_bytes w n) (λ p. has (shape w) n p && acknowledged_at w p)
+            (λ p. has (shape w) n p && acknowledged_at (Changes.after_acked w (Some (Sack r))) p) 0 (length w.slots)
+            (λ k a b e. let h = both (has (shape w) n k) (acknowledged_at w k) e in
+            and (has (shape w) n k) (acknowledged_at (Changes.after_acked w (Some (Sack r))) k) h.0 (acked k (omega arith) h.1))
 
     less : released w ≤ released (Changes.after_acked w (Some (Sack r)))
-    less = omega (arith, total-le (released_with (shape w) (acknowledged_at w)) (released_with (shape w) (acknowledged_at (Changes.after_acked w (Some (Sack r))))) 0 (length w.messages) (λ n a b. each n), ap (λ x. released_all x (acknowledged_at (Changes.after_acked w (Some (Sack r))))) (Shapes.shape-acknowledged w r (max w.taken r.cumulative)))
+    less = omega (
+      arith,
+      total-le (released_with (shape w) (acknowledged_at w))
+          (released_with (shape w) (acknowledged_at (Changes.after_acked w (Some (Sack r))))) 0 (length w.messages) (λ n a b. each n),
+      ap (λ x. released_all x (acknowledged_at (Changes.after_acked w (Some (Sack r))))) (Shapes.shape-acknowledged w r (max w.taken r.cumulative)),
+    )
 
 none-sent : (w v : LinkRecord) (o : Option ℕ) → released_by (sent_reply w v o) ≡ 0
 none-sent w v None = refl
@@ -233,13 +273,24 @@ released-after setup w (E.Send now) is g = omega (arith, released-sent setup w n
 released-after setup w (E.Resend x) is g = omega arith
 released-after setup w (E.Expire now) is g = released-expired setup w (Changes.expiring w now) is g (Moves.quiet-expire setup w now (Messages.front w) g)
 released-after setup w (E.Tail now) is g = released-tail setup w (Changes.tailing w now) is g
-released-after setup w (E.Late now) is g = grown setup w (Changes.after_late w now) is g (Moves.quiet-lates setup w now g) (count-late (Changes.late_messages w now) w)
-released-after setup w (E.Abandon tsn) is g = let n = Messages.message_of w (Messages.place_of w tsn) in grown setup w (Changes.after_abandon w n) is g (Moves.quiet-abandoned setup w n g) (count-abandoned w n)
+released-after setup w (E.Late now) is g =
+    grown setup w (Changes.after_late w now) is g (Moves.quiet-lates setup w now g) (count-late (Changes.late_messages w now) w)
+released-after setup w (E.Abandon tsn) is g = let n = Messages.message_of w (Messages.place_of w tsn) in
+    grown setup w (Changes.after_abandon w n) is g (Moves.quiet-abandoned setup w n g) (count-abandoned w n)
 released-after setup w (E.Skip upto names) is g = omega arith
 released-after setup w (E.Ack credit) is g = omega arith
-released-after setup w (E.Arrive k) is g = omega (arith, released-same w (Changes.after_arrive w (slice_get w.network k)) (Network.same-received w (slice_get w.network k)).shape_is (as-datagram w (slice_get w.network k)).slots, none-received w (slice_get w.network k))
+released-after setup w (E.Arrive k) is g = omega (
+  arith,
+  released-same w (Changes.after_arrive w (slice_get w.network k))
+      (Network.same-received w (slice_get w.network k)).shape_is (as-datagram w (slice_get w.network k)).slots,
+  none-received w (slice_get w.network k),
+)
 released-after setup w (E.Acked k) is g = released-acked w (slice_get w.network k)
-released-after setup w (E.Read s) is g = omega (arith, released-same w (Changes.after_reading w s) (Network.same-read w s (next_read w s)).shape_is (as-read w s (next_read w s)).slots, none-read w (next_read w s))
+released-after setup w (E.Read s) is g = omega (
+  arith,
+  released-same w (Changes.after_reading w s) (Network.same-read w s (next_read w s)).shape_is (as-read w s (next_read w s)).slots,
+  none-read w (next_read w s),
+)
 
 pub released-run : (setup : Setup) (h : History) → IsSetup setup → IsRun setup h → released (record_of setup h) ≡ released_in h
 released-run setup [] is run = refl
@@ -250,6 +301,7 @@ released-run setup (entry ∷ older) is run =
 
 pub sums_agree : OnEveryRun SumsAgree
 sums_agree setup h is run = (
-  total-told length_shown (λ n. shown_part ((shape (record_of setup h)).message n)) (numbers_where always 0 (length (record_of setup h).messages)) ∙ ap (total_shown length_shown) (messages_are_writes setup h is run),
+  total-told length_shown (λ n. shown_part ((shape (record_of setup h)).message n)) (numbers_where always 0 (length (record_of setup h).messages))
+      ∙ ap (total_shown length_shown) (messages_are_writes setup h is run),
   released-run setup h is run,
 )

@@ -1,4 +1,5 @@
-use Rattle.std.proofs.Common.{◌≡◌, ℕ, zero, suc, ◌+◌, ◌-◌, ◌<◌, ◌≤◌, Bool, true, false, List, [], ◌∷◌, ◌++◌, length, map, Some, refl, ap, sym, ◌∙◌, inl, inr, arith, append-nil}
+use Rattle.std.proofs.Common.{◌≡◌, ℕ, zero, suc, ◌+◌, ◌-◌, ◌<◌, ◌≤◌, Bool, true, false, List, [], ◌∷◌, ◌++◌, length, map, Some, refl, ap, sym, ◌∙◌, inl, inr}
+use Rattle.std.proofs.Common.{arith, append-nil}
 use Rattle.std.specs.Prelude.{◌⊎◌, if◌then◌else◌, ◌==◌, ◌&&◌, ◌||◌, not, nat_lt, nat_le}
 use Rattle.std.specs.List.{list_any}
 use Rattle.std.proofs.Math.Nat.{eq-or-lt_of_le}
@@ -53,9 +54,11 @@ seen-below w p lt = step (cases_lt p w.skipped)
 pub seen-at : (w : LinkRecord) → w.skipped ≤ length w.slots → seen_by w (cumulative w) ≡ false
 seen-at w short =
     let low : nat_lt (cumulative w) w.skipped ≡ false = (let l = skipped-le w in grind (arith, nat_tests)) in
-    ap (λ b. b || arrived_at w (cumulative w)) low ∙ step (cases_lt (unbroken (arrived_at w) w.skipped (length w.slots - w.skipped)) (length w.slots - w.skipped))
+    ap (λ b. b || arrived_at w (cumulative w)) low
+    ∙ step (cases_lt (unbroken (arrived_at w) w.skipped (length w.slots - w.skipped)) (length w.slots - w.skipped))
   where
-    step : (unbroken (arrived_at w) w.skipped (length w.slots - w.skipped) < length w.slots - w.skipped) ⊎ (length w.slots - w.skipped ≤ unbroken (arrived_at w) w.skipped (length w.slots - w.skipped)) → arrived_at w (cumulative w) ≡ false
+    step : (unbroken (arrived_at w) w.skipped (length w.slots - w.skipped) < length w.slots - w.skipped)
+        ⊎ (length w.slots - w.skipped ≤ unbroken (arrived_at w) w.skipped (length w.slots - w.skipped)) → arrived_at w (cumulative w) ≡ false
     step (inl l) = unbroken-stops (arrived_at w) w.skipped (length w.slots - w.skipped) l
     step (inr g) = arrived-beyond w (cumulative w) (omega (arith, g, short))
 
@@ -67,29 +70,37 @@ new-unseen w p = step (arrived_at w p) refl (cases_lt p w.skipped) (cases_lt p (
     ands true = refl
     ands false = refl
 
-    step : (a : Bool) → arrived_at w p ≡ a → (p < w.skipped) ⊎ (w.skipped ≤ p) → (p < cumulative w) ⊎ (cumulative w ≤ p) → (nat_le (cumulative w) p && not a) ≡ not (nat_lt p w.skipped || a)
+    step : (a : Bool) → arrived_at w p ≡ a → (p < w.skipped) ⊎ (w.skipped ≤ p) → (p < cumulative w) ⊎ (cumulative w ≤ p)
+        → (nat_le (cumulative w) p && not a) ≡ not (nat_lt p w.skipped || a)
     step true e s c = ands (nat_le (cumulative w) p) ∙ ap not (sym (or-right (nat_lt p w.skipped) true refl))
-    step false e (inl l) c = let x : nat_lt p w.skipped ≡ true = grind (arith, nat_tests) in let y : nat_le (cumulative w) p ≡ false = (let z = skipped-le w in grind (arith, nat_tests)) in rw (x, y) refl
-    step false e (inr g) (inr c) = let x : nat_lt p w.skipped ≡ false = grind (arith, nat_tests) in let y : nat_le (cumulative w) p ≡ true = grind (arith, nat_tests) in rw (x, y) refl
+    step false e (inl l) c = let x : nat_lt p w.skipped ≡ true = grind (arith, nat_tests) in
+        let y : nat_le (cumulative w) p ≡ false = (let z = skipped-le w in grind (arith, nat_tests)) in rw (x, y) refl
+    step false e (inr g) (inr c) = let x : nat_lt p w.skipped ≡ false = grind (arith, nat_tests) in
+        let y : nat_le (cumulative w) p ≡ true = grind (arith, nat_tests) in rw (x, y) refl
     step false e (inr g) (inl c) = absurd (not_both (sym e ∙ unbroken-passes (arrived_at w) w.skipped (length w.slots - w.skipped) p g c))
 
 -- the cumulative count is how many were seen from the first on
 pub cumulative-seen : (w : LinkRecord) → w.skipped ≤ length w.slots → cumulative w ≡ unbroken (seen_by w) 0 (length w.slots)
 cumulative-seen w short =
-    ap (λ c. w.skipped + c) (unbroken-same (arrived_at w) (seen_by w) w.skipped (length w.slots - w.skipped) (λ k a b. let e : nat_lt k w.skipped ≡ false = grind (arith, nat_tests) in sym (ap (λ x. x || arrived_at w k) e)))
-    ∙ sym (unbroken-on (seen_by w) 0 w.skipped (length w.slots - w.skipped) (length w.slots) w.skipped (omega (arith, short)) (omega arith) (λ k a b. let e : nat_lt k w.skipped ≡ true = grind (arith, nat_tests) in ap (λ x. x || arrived_at w k) e))
+    ap (λ c. w.skipped + c) (unbroken-same (arrived_at w) (seen_by w) w.skipped (length w.slots - w.skipped) (λ k a b. let e : nat_lt k w.skipped ≡ false =
+    grind (arith, nat_tests) in sym (ap (λ x. x || arrived_at w k) e)))
+    ∙ sym (unbroken-on (seen_by w) 0 w.skipped (length w.slots - w.skipped) (length w.slots) w.skipped (omega (arith, short)) (omega arith)
+    (λ k a b. let e : nat_lt k w.skipped ≡ true = grind (arith, nat_tests) in ap (λ x. x || arrived_at w k) e))
 
 pub any-hit : (q : ℕ → Bool) (k from count : ℕ) → from ≤ k → k < from + count → q k ≡ true → list_any q (numbers_where always from count) ≡ true
 any-hit q k from zero a b e = absurd (omega arith)
 any-hit q k from (suc count) a b e = step (eq-or-lt_of_le a) (λ l. any-hit q k (from + 1) count l (omega arith) e)
   where
-    step : (from ≡ k) ⊎ (from < k) → (from + 1 ≤ k → list_any q (numbers_where always (from + 1) count) ≡ true) → (q from || list_any q (numbers_where always (from + 1) count)) ≡ true
-    step (inl z) ih = ap (λ j. q j || list_any q (numbers_where always (from + 1) count)) z ∙ ap (λ b. b || list_any q (numbers_where always (from + 1) count)) e
+    step : (from ≡ k) ⊎ (from < k) → (from + 1 ≤ k → list_any q (numbers_where always (from + 1) count) ≡ true)
+        → (q from || list_any q (numbers_where always (from + 1) count)) ≡ true
+    step (inl z) ih = ap (λ j. q j || list_any q (numbers_where always (from + 1) count)) z
+        ∙ ap (λ b. b || list_any q (numbers_where always (from + 1) count)) e
     step (inr l) ih = or-right (q from) (list_any q (numbers_where always (from + 1) count)) (ih (omega arith))
 
 pub any-none : (q : ℕ → Bool) (from count : ℕ) → ((k : ℕ) → from ≤ k → k < from + count → q k ≡ false) → list_any q (numbers_where always from count) ≡ false
 any-none q from zero none = refl
-any-none q from (suc count) none = ap (λ b. b || list_any q (numbers_where always (from + 1) count)) (none from (omega arith) (omega arith)) ∙ any-none q (from + 1) count (λ k a b. none k (omega arith) (omega arith))
+any-none q from (suc count) none = ap (λ b. b || list_any q (numbers_where always (from + 1) count)) (none from (omega arith) (omega arith))
+    ∙ any-none q (from + 1) count (λ k a b. none k (omega arith) (omega arith))
 
 -- ## By what came
 
@@ -108,11 +119,13 @@ counts-heard w log upto h = step (cases_lt upto (cumulative w))
     step (inl l) = let e : nat_le (cumulative w) upto ≡ false = grind (arith, nat_tests) in
         any-none (λ p. not (Log.is_seen log p)) 0 (upto + 1) (λ k a b. ap not (h.seen k ∙ seen-below w k (omega arith))) ∙ sym e
     step (inr g) = let e : nat_le (cumulative w) upto ≡ true = grind (arith, nat_tests) in
-        any-hit (λ p. not (Log.is_seen log p)) (cumulative w) 0 (upto + 1) (omega arith) (omega arith) (ap not (h.seen (cumulative w) ∙ seen-at w h.short)) ∙ sym e
+        any-hit (λ p. not (Log.is_seen log p)) (cumulative w) 0 (upto + 1) (omega arith) (omega arith) (ap not (h.seen (cumulative w) ∙ seen-at w h.short))
+        ∙ sym e
 
 -- ## Each change
 
-heard-as : (w v : LinkRecord) (log : List LogEntry) → ((p : ℕ) → arrived_at v p ≡ arrived_at w p) → v.skipped ≡ w.skipped → v.duplicates ≡ w.duplicates → length w.slots ≤ length v.slots → Heard w log → Heard v log
+heard-as : (w v : LinkRecord) (log : List LogEntry) → ((p : ℕ) → arrived_at v p ≡ arrived_at w p) → v.skipped ≡ w.skipped → v.duplicates ≡ w.duplicates
+    → length w.slots ≤ length v.slots → Heard w log → Heard v log
 heard-as w v log a s d l h = record {
   arrived = λ p. a p ∙ h.arrived p;
   seen = λ p. h.seen p ∙ ap (λ k. nat_lt p k || arrived_at w p) (sym s) ∙ ap (λ b. nat_lt p v.skipped || b) (sym (a p));
@@ -128,13 +141,16 @@ heard-noted v n log h = step (Changes.becomes_complete v n)
     step true = heard-as v (Changes.stream_changed v (Messages.message_at v n).stream (Changes.with_complete n)) log (λ p. refl) refl refl (omega arith) h
     step false = h
 
-pub heard-new : (w : LinkRecord) (log : List LogEntry) (p : ℕ) → p < length w.slots → is_new w p ≡ true → Heard w log → Heard (with_arrived w p) (SlotReceived p ∷ log)
+pub heard-new : (w : LinkRecord) (log : List LogEntry) (p : ℕ) → p < length w.slots → is_new w p ≡ true → Heard w log
+    → Heard (with_arrived w p) (SlotReceived p ∷ log)
 heard-new w log p lt new h = record {
   arrived = λ k. by_same {P = arrived_at (with_arrived w p) k ≡ (Log.arrived_new log k || ((p == k) && not (Log.is_seen log k)))} p k
-      (λ e. ap (arrived_at (with_arrived w p)) (sym e) ∙ here ∙ sym (ap (λ j. Log.arrived_new log j || ((p == j) && not (Log.is_seen log j))) (sym e) ∙ or-right (Log.arrived_new log p) ((p == p) && not (Log.is_seen log p)) (ap (λ b. b && not (Log.is_seen log p)) (same-yes p) ∙ ap not unseen)))
+      (λ e. ap (arrived_at (with_arrived w p)) (sym e) ∙ here ∙ sym (ap (λ j. Log.arrived_new log j || ((p == j) && not (Log.is_seen log j))) (sym e)
+      ∙ or-right (Log.arrived_new log p) ((p == p) && not (Log.is_seen log p)) (ap (λ b. b && not (Log.is_seen log p)) (same-yes p) ∙ ap not unseen)))
       (λ ne f. other k ne ∙ h.arrived k ∙ sym (ap (λ b. Log.arrived_new log k || (b && not (Log.is_seen log k))) f ∙ or-none (Log.arrived_new log k)));
   seen = λ k. by_same {P = ((p == k) || Log.is_seen log k) ≡ (nat_lt k w.skipped || arrived_at (with_arrived w p) k)} p k
-      (λ e. ap (λ j. (p == j) || Log.is_seen log j) (sym e) ∙ ap (λ b. b || Log.is_seen log p) (same-yes p) ∙ sym (or-right (nat_lt k w.skipped) (arrived_at (with_arrived w p) k) (ap (arrived_at (with_arrived w p)) (sym e) ∙ here)))
+      (λ e. ap (λ j. (p == j) || Log.is_seen log j) (sym e) ∙ ap (λ b. b || Log.is_seen log p) (same-yes p)
+      ∙ sym (or-right (nat_lt k w.skipped) (arrived_at (with_arrived w p) k) (ap (arrived_at (with_arrived w p)) (sym e) ∙ here)))
       (λ ne f. ap (λ b. b || Log.is_seen log k) f ∙ h.seen k ∙ ap (λ b. nat_lt k w.skipped || b) (sym (other k ne)));
   covered = h.covered;
   short = omega (arith, h.short, length-changed Changes.mark_arrived p w.slots);
@@ -154,10 +170,12 @@ heard-new w log p lt new h = record {
     unseen : Log.is_seen log p ≡ false
     unseen = h.seen p ∙ negated (seen_by w p) (sym (new-unseen w p) ∙ new)
 
-heard-again : (w : LinkRecord) (log : List LogEntry) (p : ℕ) → is_new w p ≡ false → Heard w log → Heard (record w { duplicates = w.duplicates ++ p ∷ [] }) (SlotReceived p ∷ log)
+heard-again : (w : LinkRecord) (log : List LogEntry) (p : ℕ) → is_new w p ≡ false → Heard w log
+    → Heard (record w { duplicates = w.duplicates ++ p ∷ [] }) (SlotReceived p ∷ log)
 heard-again w log p old h = record {
   arrived = λ k. h.arrived k ∙ by_same {P = Log.arrived_new log k ≡ (Log.arrived_new log k || ((p == k) && not (Log.is_seen log k)))} p k
-      (λ e. sym (ap (λ b. Log.arrived_new log k || ((p == k) && not b)) (ap (Log.is_seen log) (sym e) ∙ seen) ∙ ap (λ b. Log.arrived_new log k || b) (ands (p == k)) ∙ or-none (Log.arrived_new log k)))
+      (λ e. sym (ap (λ b. Log.arrived_new log k || ((p == k) && not b)) (ap (Log.is_seen log) (sym e) ∙ seen)
+      ∙ ap (λ b. Log.arrived_new log k || b) (ands (p == k)) ∙ or-none (Log.arrived_new log k)))
       (λ ne f. sym (ap (λ b. Log.arrived_new log k || (b && not (Log.is_seen log k))) f ∙ or-none (Log.arrived_new log k)));
   seen = λ k. by_same {P = ((p == k) || Log.is_seen log k) ≡ seen_by w k} p k
       (λ e. or-right (p == k) (Log.is_seen log k) (ap (Log.is_seen log) (sym e) ∙ seen) ∙ sym (sym (h.seen k) ∙ ap (Log.is_seen log) (sym e) ∙ seen))
@@ -181,20 +199,24 @@ heard-again w log p old h = record {
 heard-slot : (w : LinkRecord) (log : List LogEntry) (p : ℕ) → p < length w.slots → Heard w log → Heard (Changes.receive_slot w p) (SlotReceived p ∷ log)
 heard-slot w log p lt h = step (is_new w p) refl
   where
-    step : (b : Bool) → is_new w p ≡ b → Heard (if b then Changes.note_completion (with_arrived w p) (Messages.message_of w p) else record w { duplicates = w.duplicates ++ p ∷ [] }) (SlotReceived p ∷ log)
+    step : (b : Bool) → is_new w p ≡ b → Heard (if b then Changes.note_completion (with_arrived w p) (Messages.message_of w p)
+        else record w { duplicates = w.duplicates ++ p ∷ [] }) (SlotReceived p ∷ log)
     step true e = heard-noted (with_arrived w p) (Messages.message_of w p) (SlotReceived p ∷ log) (heard-new w log p lt e h)
     step false e = heard-again w log p e h
 
-heard-skip : (w : LinkRecord) (log : List LogEntry) (upto : ℕ) (names : List ℕ) → upto < length w.slots → Heard w log → Heard (Changes.receive_skip w upto names) (SkipReceived upto names ∷ log)
+heard-skip : (w : LinkRecord) (log : List LogEntry) (upto : ℕ) (names : List ℕ) → upto < length w.slots → Heard w log
+    → Heard (Changes.receive_skip w upto names) (SkipReceived upto names ∷ log)
 heard-skip w log upto names lt h = step (Changes.skip_counts w upto) refl
   where
-    step : (b : Bool) → Changes.skip_counts w upto ≡ b → Heard (if b then record w { skipped = upto + 1; streams = map (Changes.named_by w names) w.streams } else w) (SkipReceived upto names ∷ log)
+    step : (b : Bool) → Changes.skip_counts w upto ≡ b
+        → Heard (if b then record w { skipped = upto + 1; streams = map (Changes.named_by w names) w.streams } else w) (SkipReceived upto names ∷ log)
     step true e =
         let c : cumulative w ≤ upto = grind (arith, nat_tests) in
         record {
           arrived = h.arrived;
           seen = λ k. by k c (cases_lt upto k);
-          covered = λ k. ap (λ b. Log.is_skipped log k || (b && nat_le k upto)) (counts-heard w log upto h ∙ e) ∙ ap (λ b. b || nat_le k upto) (h.covered k) ∙ under k c (cases_lt upto k);
+          covered = λ k. ap (λ b. Log.is_skipped log k || (b && nat_le k upto)) (counts-heard w log upto h ∙ e) ∙ ap (λ b. b || nat_le k upto) (h.covered k)
+              ∙ under k c (cases_lt upto k);
           short = omega arith;
           duplicates = h.duplicates;
         }
@@ -243,7 +265,8 @@ heard-keeps setup = record {
   slot = λ w log p g lt m h. heard-slot w log p lt h;
   skip = λ w log upto names g lt f h. heard-skip w log upto names lt h;
   reported = λ w log credit g h. record { arrived = h.arrived; seen = h.seen; covered = h.covered; short = h.short; duplicates = refl };
-  taken = λ w log r g h. heard-as w (Changes.after_acked w (Some (Sack r))) log (λ p. get-numbered (Changes.acknowledged_by r) (λ x. x.arrived) (λ i x. refl) 0 p w.slots Messages.no_slot) refl refl (omega (arith, length-numbered (Changes.acknowledged_by r) 0 w.slots)) h;
+  taken = λ w log r g h. heard-as w (Changes.after_acked w (Some (Sack r))) log (λ p. get-numbered (Changes.acknowledged_by r) (λ x. x.arrived)
+      (λ i x. refl) 0 p w.slots Messages.no_slot) refl refl (omega (arith, length-numbered (Changes.acknowledged_by r) 0 w.slots)) h;
   read = λ w log s n g o e h. heard-as w (Changes.read_of w s (Some n)) log (λ p. refl) refl refl (omega arith) h;
 }
   where
@@ -264,7 +287,8 @@ arrived_is_new setup h is run place lt = (heard-run setup h is run).arrived plac
 pub cumulative_is_seen : OnEveryRun CumulativeIsSeen
 cumulative_is_seen setup h is run =
     let g = heard-run setup h is run in
-    cumulative-seen (record_of setup h) g.short ∙ unbroken-same (seen_by (record_of setup h)) (Log.is_seen (Log.log_of setup h)) 0 (length (record_of setup h).slots) (λ k a b. sym (g.seen k))
+    cumulative-seen (record_of setup h) g.short
+    ∙ unbroken-same (seen_by (record_of setup h)) (Log.is_seen (Log.log_of setup h)) 0 (length (record_of setup h).slots) (λ k a b. sym (g.seen k))
 
 any-same : (p q : ℕ → Bool) (xs : List ℕ) → ((k : ℕ) → p k ≡ q k) → list_any p xs ≡ list_any q xs
 any-same p q [] same = refl
@@ -275,6 +299,7 @@ arrivals_answered setup h is run =
     let g = heard-run setup h is run in
     let w = record_of setup h in
     let log = Log.log_of setup h in (
-      λ k slots e. ap (arrive_reply w) e ∙ ap (λ b. if b then R.New else R.Repeat) (any-same (is_new w) (λ p. not (Log.is_seen log p)) slots (λ p. new-unseen w p ∙ ap not (sym (g.seen p)))),
+      λ k slots e. ap (arrive_reply w) e
+          ∙ ap (λ b. if b then R.New else R.Repeat) (any-same (is_new w) (λ p. not (Log.is_seen log p)) slots (λ p. new-unseen w p ∙ ap not (sym (g.seen p)))),
       λ k upto names e. ap (arrive_reply w) e ∙ ap (λ b. if b then R.Skipped else R.Stale) (sym (counts-heard w log upto g)),
     )

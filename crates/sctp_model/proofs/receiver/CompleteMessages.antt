@@ -1,4 +1,5 @@
-use Rattle.std.proofs.Common.{◌≡◌, ℕ, zero, suc, ◌+◌, ◌-◌, ◌<◌, ◌≤◌, Bool, true, false, List, [], ◌∷◌, ◌++◌, length, refl, ap, sym, ◌∙◌, inl, inr, arith, append-nil, length-append}
+use Rattle.std.proofs.Common.{◌≡◌, ℕ, zero, suc, ◌+◌, ◌-◌, ◌<◌, ◌≤◌, Bool, true, false, List, [], ◌∷◌, ◌++◌, length, refl, ap, sym, ◌∙◌, inl, inr, arith}
+use Rattle.std.proofs.Common.{append-nil, length-append}
 use Rattle.std.specs.Prelude.{◌⊎◌, if◌then◌else◌, ◌==◌, ◌&&◌, ◌||◌, not, nat_le, nat_lt}
 use Rattle.std.specs.List.{list_any, list_all}
 use Rattle.std.proofs.lemmas.Bool.{cases_lt}
@@ -25,7 +26,8 @@ abbrev pub slots_in : Shape → ℕ → List ℕ
 slots_in x n = numbers_where (has x n) 0 x.slots
 
 abbrev pub complete_in : Shape → List LogEntry → ℕ → Bool
-complete_in x log n = (sent x n == parts x n) && (if (x.message n).ordered then list_all (Log.arrived_new log) (slots_in x n) else Log.were_complete (slots_in x n) log)
+complete_in x log n =
+    (sent x n == parts x n) && (if (x.message n).ordered then list_all (Log.arrived_new log) (slots_in x n) else Log.were_complete (slots_in x n) log)
 
 -- all of these slots have arrived, and no skip covered one
 abbrev pub all_now : List LogEntry → List ℕ → Bool
@@ -49,7 +51,8 @@ pub new-received : (x : Shape) (log : List LogEntry) (p : ℕ) → SlotsReceived
 new-received x [] p f e = cc
 new-received x (SlotReceived q ∷ log) p f e = by (Log.arrived_new log p) refl e (λ h. new-received x log p f.1 h)
   where
-    by : (b : Bool) → Log.arrived_new log p ≡ b → (b || ((q == p) && not (Log.is_seen log p))) ≡ true → (Log.arrived_new log p ≡ true → p < x.slots) → p < x.slots
+    by : (b : Bool) → Log.arrived_new log p ≡ b → (b || ((q == p) && not (Log.is_seen log p))) ≡ true → (Log.arrived_new log p ≡ true → p < x.slots)
+        → p < x.slots
     by true h g ih = ih h
     by false h g ih = let z = same-is q p (both (q == p) (not (Log.is_seen log p)) g).0 in omega (arith, f.0, z)
 new-received x (SkipReceived upto names ∷ log) p f e = new-received x log p f e
@@ -66,9 +69,11 @@ pub were-new : (places : List ℕ) (log : List LogEntry) → Log.were_complete p
 were-new places [] e = cc
 were-new places (coming ∷ log) e = step (or-split (Log.were_complete places log) (all_now (coming ∷ log) places) e) (λ h. were-new places log h)
   where
-    step : (Log.were_complete places log ≡ true) ⊎ (all_now (coming ∷ log) places ≡ true) → (Log.were_complete places log ≡ true → list_all (Log.arrived_new log) places ≡ true) → list_all (Log.arrived_new (coming ∷ log)) places ≡ true
+    step : (Log.were_complete places log ≡ true) ⊎ (all_now (coming ∷ log) places ≡ true)
+        → (Log.were_complete places log ≡ true → list_all (Log.arrived_new log) places ≡ true) → list_all (Log.arrived_new (coming ∷ log)) places ≡ true
     step (inl h) ih = all-more (Log.arrived_new log) (Log.arrived_new (coming ∷ log)) places (λ k f. new-stays coming log k f) (ih h)
-    step (inr h) ih = all-more (λ p. Log.arrived_new (coming ∷ log) p && not (Log.is_skipped (coming ∷ log) p)) (Log.arrived_new (coming ∷ log)) places (λ k f. (both (Log.arrived_new (coming ∷ log) k) (not (Log.is_skipped (coming ∷ log) k)) f).0) h
+    step (inr h) ih = all-more (λ p. Log.arrived_new (coming ∷ log) p && not (Log.is_skipped (coming ∷ log) p))
+        (Log.arrived_new (coming ∷ log)) places (λ k f. (both (Log.arrived_new (coming ∷ log) k) (not (Log.is_skipped (coming ∷ log) k)) f).0) h
 
 -- what is complete now, was
 pub now-were : (p : ℕ) (places : List ℕ) (log : List LogEntry) → all_now log (p ∷ places) ≡ true → Log.were_complete (p ∷ places) log ≡ true
@@ -86,9 +91,12 @@ slots-same : (x y : Shape) → Grows x y → (n : ℕ) → sent y n ≡ sent x n
 slots-same x y g n e =
     let more = y.slots - x.slots in
     let total : y.slots ≡ x.slots + more = omega (arith, g.slots) in
-    let front : numbers_where (has y n) 0 x.slots ≡ slots_in x n = kept-same (has y n) (has x n) 0 x.slots (λ k a b. ap (λ s. (s.message == n) && not s.is_terminal_chunk) (g.slot k (omega arith))) in
-    let split : slots_in y n ≡ slots_in x n ++ numbers_where (has y n) (0 + x.slots) more = ap (numbers_where (has y n) 0) total ∙ Alls.kept-split (has y n) 0 x.slots more ∙ ap (λ l. l ++ numbers_where (has y n) (0 + x.slots) more) front in
-    split ∙ ap (λ l. slots_in x n ++ l) (nothing (numbers_where (has y n) (0 + x.slots) more) (let l = ap length split in omega (arith, e, l, length-append (slots_in x n) (numbers_where (has y n) (0 + x.slots) more)))) ∙ append-nil (slots_in x n)
+    let front : numbers_where (has y n) 0 x.slots ≡ slots_in x n = kept-same (has y n)
+    (has x n) 0 x.slots (λ k a b. ap (λ s. (s.message == n) && not s.is_terminal_chunk) (g.slot k (omega arith))) in
+    let split : slots_in y n ≡ slots_in x n ++ numbers_where (has y n) (0 + x.slots) more = ap (numbers_where (has y n) 0) total
+    ∙ Alls.kept-split (has y n) 0 x.slots more ∙ ap (λ l. l ++ numbers_where (has y n) (0 + x.slots) more) front in
+    split ∙ ap (λ l. slots_in x n ++ l) (nothing (numbers_where (has y n) (0 + x.slots) more) (let l = ap length split in
+    omega (arith, e, l, length-append (slots_in x n) (numbers_where (has y n) (0 + x.slots) more)))) ∙ append-nil (slots_in x n)
   where
     nothing : (l : List ℕ) → length l ≡ 0 → l ≡ []
     nothing [] e = refl
@@ -99,7 +107,9 @@ pub some-kept : (t : ℕ → Bool) (from count : ℕ) → 0 < length (numbers_wh
 some-kept t from zero pos = absurd (omega arith)
 some-kept t from (suc count) pos = step (t from) refl pos (λ h. some-kept t (from + 1) count h)
   where
-    step : (b : Bool) → t from ≡ b → 0 < length (if b then from ∷ numbers_where t (from + 1) count else numbers_where t (from + 1) count) → (0 < length (numbers_where t (from + 1) count) → (q : ℕ) × (from + 1 ≤ q) × (q < from + 1 + count) × (t q ≡ true)) → (q : ℕ) × (from ≤ q) × (q < from + suc count) × (t q ≡ true)
+    step : (b : Bool) → t from ≡ b → 0 < length (if b then from ∷ numbers_where t (from + 1) count else numbers_where t (from + 1) count)
+        → (0 < length (numbers_where t (from + 1) count) → (q : ℕ) × (from + 1 ≤ q) × (q < from + 1 + count) × (t q ≡ true))
+        → (q : ℕ) × (from ≤ q) × (q < from + suc count) × (t q ≡ true)
     step true e h ih = (from, omega arith, omega arith, e)
     step false e h ih = let r = ih h in (r.0, omega (arith, r.1), omega (arith, r.2), r.3)
 
@@ -108,12 +118,16 @@ slots-new : (x y : Shape) → Grows x y → (n : ℕ) → sent x n < sent y n �
 slots-new x y g n lt =
     let more = y.slots - x.slots in
     let total : y.slots ≡ x.slots + more = omega (arith, g.slots) in
-    let front : numbers_where (has y n) 0 x.slots ≡ slots_in x n = kept-same (has y n) (has x n) 0 x.slots (λ k a b. ap (λ s. (s.message == n) && not s.is_terminal_chunk) (g.slot k (omega arith))) in
-    let split : slots_in y n ≡ slots_in x n ++ numbers_where (has y n) (0 + x.slots) more = ap (numbers_where (has y n) 0) total ∙ Alls.kept-split (has y n) 0 x.slots more ∙ ap (λ l. l ++ numbers_where (has y n) (0 + x.slots) more) front in
-    let r = some-kept (has y n) (0 + x.slots) more (let l = ap length split in omega (arith, lt, l, length-append (slots_in x n) (numbers_where (has y n) (0 + x.slots) more))) in
+    let front : numbers_where (has y n) 0 x.slots ≡ slots_in x n = kept-same (has y n)
+    (has x n) 0 x.slots (λ k a b. ap (λ s. (s.message == n) && not s.is_terminal_chunk) (g.slot k (omega arith))) in
+    let split : slots_in y n ≡ slots_in x n ++ numbers_where (has y n) (0 + x.slots) more = ap (numbers_where (has y n) 0) total
+    ∙ Alls.kept-split (has y n) 0 x.slots more ∙ ap (λ l. l ++ numbers_where (has y n) (0 + x.slots) more) front in
+    let r = some-kept (has y n)
+    (0 + x.slots) more (let l = ap length split in omega (arith, lt, l, length-append (slots_in x n) (numbers_where (has y n) (0 + x.slots) more))) in
     (r.0, omega (arith, r.1), omega (arith, r.2, g.slots), r.3)
 
-pub complete-later : (x y : Shape) → Sender x → Sender y → Grows x y → (log : List LogEntry) → SlotsReceived x log → (n : ℕ) → n < x.count → complete_in y log n ≡ complete_in x log n
+pub complete-later : (x y : Shape) → Sender x → Sender y → Grows x y → (log : List LogEntry) → SlotsReceived x log → (n : ℕ) → n < x.count
+    → complete_in y log n ≡ complete_in x log n
 complete-later x y a b g log f n lt = step (cases_lt (sent x n) (sent y n))
   where
     both-ways : Shape → List ℕ → ℕ → Bool → Bool
@@ -126,17 +140,22 @@ complete-later x y a b g log f n lt = step (cases_lt (sent x n) (sent y n))
     new-none o more e =
         let q = slots-new x y g n more in
         let all : list_all (Log.arrived_new log) (slots_in y n) ≡ true = either o e in
-        absurd (omega (arith, q.1, new-received x log q.0 f (Alls.all-at (Log.arrived_new log) (has y n) q.0 0 y.slots (omega arith) (omega (arith, q.2)) q.3 all)))
+        absurd (omega
+        (arith, q.1, new-received x log q.0 f (Alls.all-at (Log.arrived_new log) (has y n) q.0 0 y.slots (omega arith) (omega (arith, q.2)) q.3 all)))
       where
-        either : (o : Bool) → (if o then list_all (Log.arrived_new log) (slots_in y n) else Log.were_complete (slots_in y n) log) ≡ true → list_all (Log.arrived_new log) (slots_in y n) ≡ true
+        either : (o : Bool) → (if o then list_all (Log.arrived_new log) (slots_in y n) else Log.were_complete (slots_in y n) log) ≡ true
+            → list_all (Log.arrived_new log) (slots_in y n) ≡ true
         either true e = e
         either false e = were-new (slots_in y n) log e
 
     step : (sent x n < sent y n) ⊎ (sent y n ≤ sent x n) → complete_in y log n ≡ complete_in x log n
     step (inl more) =
-        let out : complete_in y log n ≡ false = fails (complete_in y log n) (λ e. new-none (y.message n).ordered more (both (sent y n == parts y n) (if (y.message n).ordered then list_all (Log.arrived_new log) (slots_in y n) else Log.were_complete (slots_in y n) log) e).1) in
-        let not-all : (sent x n == parts x n) ≡ false = fails (sent x n == parts x n) (λ e. let z = same-is (sent x n) (parts x n) e in absurd (omega (arith, more, g.ended n (omega (arith, z, a.some n lt)) (inl z)))) in
-        out ∙ sym (ap (λ c. c && (if (x.message n).ordered then list_all (Log.arrived_new log) (slots_in x n) else Log.were_complete (slots_in x n) log)) not-all)
+        let out : complete_in y log n ≡ false = fails (complete_in y log n) (λ e. new-none (y.message n).ordered more (both (sent y n == parts y n)
+        (if (y.message n).ordered then list_all (Log.arrived_new log) (slots_in y n) else Log.were_complete (slots_in y n) log) e).1) in
+        let not-all : (sent x n == parts x n) ≡ false = fails (sent x n == parts x n)
+        (λ e. let z = same-is (sent x n) (parts x n) e in absurd (omega (arith, more, g.ended n (omega (arith, z, a.some n lt)) (inl z)))) in
+        out ∙ sym
+        (ap (λ c. c && (if (x.message n).ordered then list_all (Log.arrived_new log) (slots_in x n) else Log.were_complete (slots_in x n) log)) not-all)
     step (inr le) =
         let same : slots_in y n ≡ slots_in x n = slots-same x y g n (omega (arith, le, g.sent_more n)) in
         ap (λ l. both-ways y l (parts y n) (y.message n).ordered) same
@@ -154,7 +173,8 @@ pub record Hears (v : View) (log : List LogEntry) : Type 0 where
   pub covered : (p : ℕ) → Log.is_skipped log p ≡ nat_lt p v.skipped
 
 pub all-come : (v : View) (n : ℕ) → sent v.x n ≤ parts v.x n → all_come v n ≡ ((sent v.x n == parts v.x n) && list_all v.arrived (slots_in v.x n))
-all-come v n le = ands (cases_lt (come_count v n) (sent v.x n)) ∙ ap (λ b. (sent v.x n == parts v.x n) && b) (sym (Alls.all-count (has v.x n) v.arrived 0 v.x.slots))
+all-come v n le = ands (cases_lt (come_count v n) (sent v.x n))
+    ∙ ap (λ b. (sent v.x n == parts v.x n) && b) (sym (Alls.all-count (has v.x n) v.arrived 0 v.x.slots))
   where
     most : come_count v n ≤ sent v.x n
     most = less 0 v.x.slots
@@ -163,7 +183,11 @@ all-come v n le = ands (cases_lt (come_count v n) (sent v.x n)) ∙ ap (λ b. (s
         less from zero = omega arith
         less from (suc count) = step (has v.x n from) (v.arrived from) (less (from + 1) count)
           where
-            step : (c d : Bool) → length (numbers_where (λ k. has v.x n k && v.arrived k) (from + 1) count) ≤ length (numbers_where (has v.x n) (from + 1) count) → length (if c && d then from ∷ numbers_where (λ k. has v.x n k && v.arrived k) (from + 1) count else numbers_where (λ k. has v.x n k && v.arrived k) (from + 1) count) ≤ length (if c then from ∷ numbers_where (has v.x n) (from + 1) count else numbers_where (has v.x n) (from + 1) count)
+            step : (c d : Bool)
+                → length (numbers_where (λ k. has v.x n k && v.arrived k) (from + 1) count) ≤ length (numbers_where (has v.x n) (from + 1) count)
+                → length (if c && d then from ∷ numbers_where (λ k. has v.x n k && v.arrived k) (from + 1) count
+                else numbers_where (λ k. has v.x n k && v.arrived k) (from + 1) count)
+                ≤ length (if c then from ∷ numbers_where (has v.x n) (from + 1) count else numbers_where (has v.x n) (from + 1) count)
             step true true ih = omega (arith, ih)
             step true false ih = omega (arith, ih)
             step false d ih = ih
@@ -179,19 +203,22 @@ all-come v n le = ands (cases_lt (come_count v n) (sent v.x n)) ∙ ap (λ b. (s
         none false = refl
     ands (inr g) =
         let z : come_count v n ≡ sent v.x n = omega (arith, g, most) in
-        ap (λ k. k == parts v.x n) z ∙ sym (ap (λ k. (sent v.x n == parts v.x n) && (k == sent v.x n)) z ∙ ap (λ c. (sent v.x n == parts v.x n) && c) (same-yes (sent v.x n)) ∙ id (sent v.x n == parts v.x n))
+        ap (λ k. k == parts v.x n) z ∙ sym (ap (λ k. (sent v.x n == parts v.x n) && (k == sent v.x n)) z
+        ∙ ap (λ c. (sent v.x n == parts v.x n) && c) (same-yes (sent v.x n)) ∙ id (sent v.x n == parts v.x n))
       where
         id : (b : Bool) → (b && true) ≡ b
         id true = refl
         id false = refl
 
 -- what is due is what is complete now
-pub due-now : (v : View) (log : List LogEntry) (n : ℕ) → Hears v log → sent v.x n ≤ parts v.x n → due v n ≡ ((sent v.x n == parts v.x n) && all_now log (slots_in v.x n))
+pub due-now : (v : View) (log : List LogEntry) (n : ℕ) → Hears v log → sent v.x n ≤ parts v.x n
+    → due v n ≡ ((sent v.x n == parts v.x n) && all_now log (slots_in v.x n))
 due-now v log n h le =
     ap (λ b. b && list_all (λ p. nat_le v.skipped p) (slots_in v.x n)) (all-come v n le)
     ∙ assoc (sent v.x n == parts v.x n) (list_all v.arrived (slots_in v.x n)) (list_all (λ p. nat_le v.skipped p) (slots_in v.x n))
     ∙ ap (λ b. (sent v.x n == parts v.x n) && b) (sym (Alls.all-both v.arrived (λ p. nat_le v.skipped p) (slots_in v.x n))
-    ∙ Alls.all-same (λ p. v.arrived p && nat_le v.skipped p) (λ p. Log.arrived_new log p && not (Log.is_skipped log p)) (has v.x n) 0 v.x.slots (λ k a b e. ap (λ b. b && nat_le v.skipped k) (h.arrived k) ∙ ap (λ b. Log.arrived_new log k && b) (past k (cases_lt k v.skipped) ∙ ap not (sym (h.covered k)))))
+    ∙ Alls.all-same (λ p. v.arrived p && nat_le v.skipped p) (λ p. Log.arrived_new log p && not (Log.is_skipped log p)) (has v.x n) 0 v.x.slots (λ k a b e.
+    ap (λ b. b && nat_le v.skipped k) (h.arrived k) ∙ ap (λ b. Log.arrived_new log k && b) (past k (cases_lt k v.skipped) ∙ ap not (sym (h.covered k)))))
   where
     assoc : (a b c : Bool) → ((a && b) && c) ≡ (a && (b && c))
     assoc true b c = refl
@@ -202,11 +229,13 @@ due-now v log n h le =
     past k (inr g) = grind (arith, nat_tests)
 
 -- an unordered message after one thing more came
-pub one-more : (v : View) (coming : LogEntry) (log : List LogEntry) (n : ℕ) → Hears v (coming ∷ log) → sent v.x n ≤ parts v.x n → (v.x.message n).ordered ≡ false → complete_in v.x (coming ∷ log) n ≡ (complete_in v.x log n || due v n)
+pub one-more : (v : View) (coming : LogEntry) (log : List LogEntry) (n : ℕ) → Hears v (coming ∷ log) → sent v.x n ≤ parts v.x n
+    → (v.x.message n).ordered ≡ false → complete_in v.x (coming ∷ log) n ≡ (complete_in v.x log n || due v n)
 one-more v coming log n h le o =
-    ap (λ b. (sent v.x n == parts v.x n) && (if b then list_all (Log.arrived_new (coming ∷ log)) (slots_in v.x n) else Log.were_complete (slots_in v.x n) (coming ∷ log))) o
-    ∙ dist (sent v.x n == parts v.x n) (Log.were_complete (slots_in v.x n) log) (all_now (coming ∷ log) (slots_in v.x n))
-    ∙ ap (λ b. b || ((sent v.x n == parts v.x n) && all_now (coming ∷ log) (slots_in v.x n))) (sym (ap (λ b. (sent v.x n == parts v.x n) && (if b then list_all (Log.arrived_new log) (slots_in v.x n) else Log.were_complete (slots_in v.x n) log)) o))
+    ap (λ b. (sent v.x n == parts v.x n) && (if b then list_all (Log.arrived_new (coming ∷ log)) (slots_in v.x n)
+    else Log.were_complete (slots_in v.x n) (coming ∷ log))) o ∙ dist (sent v.x n == parts v.x n) (Log.were_complete (slots_in v.x n) log)
+    (all_now (coming ∷ log) (slots_in v.x n)) ∙ ap (λ b. b || ((sent v.x n == parts v.x n) && all_now (coming ∷ log) (slots_in v.x n))) (sym
+    (ap (λ b. (sent v.x n == parts v.x n) && (if b then list_all (Log.arrived_new log) (slots_in v.x n) else Log.were_complete (slots_in v.x n) log)) o))
     ∙ ap (λ b. complete_in v.x log n || b) (sym (due-now v (coming ∷ log) n h le))
   where
     dist : (a b c : Bool) → (a && (b || c)) ≡ ((a && b) || (a && c))
@@ -214,25 +243,33 @@ one-more v coming log n h le o =
     dist false b c = refl
 
 -- what is due was complete
-pub due-complete : (v : View) (log : List LogEntry) (n : ℕ) → Hears v log → sent v.x n ≤ parts v.x n → 0 < parts v.x n → (v.x.message n).ordered ≡ false → due v n ≡ true → complete_in v.x log n ≡ true
+pub due-complete : (v : View) (log : List LogEntry) (n : ℕ) → Hears v log → sent v.x n ≤ parts v.x n → 0 < parts v.x n → (v.x.message n).ordered ≡ false
+    → due v n ≡ true → complete_in v.x log n ≡ true
 due-complete v log n h le some o e =
     let a = both (sent v.x n == parts v.x n) (all_now log (slots_in v.x n)) (sym (due-now v log n h le) ∙ e) in
     let z = same-is (sent v.x n) (parts v.x n) a.0 in
-    and (sent v.x n == parts v.x n) (if (v.x.message n).ordered then list_all (Log.arrived_new log) (slots_in v.x n) else Log.were_complete (slots_in v.x n) log) a.0
-    (ap (λ b. if b then list_all (Log.arrived_new log) (slots_in v.x n) else Log.were_complete (slots_in v.x n) log) o ∙ now-were_some (slots_in v.x n) log (omega (arith, z, some)) a.1)
+    and (sent v.x n == parts v.x n)
+    (if (v.x.message n).ordered then list_all (Log.arrived_new log) (slots_in v.x n) else Log.were_complete (slots_in v.x n) log) a.0
+    (ap (λ b. if b then list_all (Log.arrived_new log) (slots_in v.x n) else Log.were_complete (slots_in v.x n) log) o
+    ∙ now-were_some (slots_in v.x n) log (omega (arith, z, some)) a.1)
 
 -- an unordered message that is complete by the order of arrivals has arrived
-pub complete-come : (v : View) (log : List LogEntry) (n : ℕ) → ((p : ℕ) → v.arrived p ≡ Log.arrived_new log p) → sent v.x n ≤ parts v.x n → complete_in v.x log n ≡ true → all_come v n ≡ true
+pub complete-come : (v : View) (log : List LogEntry) (n : ℕ) → ((p : ℕ) → v.arrived p ≡ Log.arrived_new log p) → sent v.x n ≤ parts v.x n
+    → complete_in v.x log n ≡ true → all_come v n ≡ true
 complete-come v log n arrived le e =
-    let a = both (sent v.x n == parts v.x n) (if (v.x.message n).ordered then list_all (Log.arrived_new log) (slots_in v.x n) else Log.were_complete (slots_in v.x n) log) e in
-    all-come v n le ∙ and (sent v.x n == parts v.x n) (list_all v.arrived (slots_in v.x n)) a.0 (Alls.all-same v.arrived (Log.arrived_new log) (has v.x n) 0 v.x.slots (λ k x y z. arrived k) ∙ by (v.x.message n).ordered a.1)
+    let a = both (sent v.x n == parts v.x n)
+    (if (v.x.message n).ordered then list_all (Log.arrived_new log) (slots_in v.x n) else Log.were_complete (slots_in v.x n) log) e in
+    all-come v n le ∙ and (sent v.x n == parts v.x n) (list_all v.arrived (slots_in v.x n)) a.0
+    (Alls.all-same v.arrived (Log.arrived_new log) (has v.x n) 0 v.x.slots (λ k x y z. arrived k) ∙ by (v.x.message n).ordered a.1)
   where
-    by : (o : Bool) → (if o then list_all (Log.arrived_new log) (slots_in v.x n) else Log.were_complete (slots_in v.x n) log) ≡ true → list_all (Log.arrived_new log) (slots_in v.x n) ≡ true
+    by : (o : Bool) → (if o then list_all (Log.arrived_new log) (slots_in v.x n) else Log.were_complete (slots_in v.x n) log) ≡ true
+        → list_all (Log.arrived_new log) (slots_in v.x n) ≡ true
     by true e = e
     by false e = were-new (slots_in v.x n) log e
 
 -- an ordered one is complete exactly where it has arrived
-pub ordered-complete : (v : View) (log : List LogEntry) (n : ℕ) → ((p : ℕ) → v.arrived p ≡ Log.arrived_new log p) → sent v.x n ≤ parts v.x n → (v.x.message n).ordered ≡ true → complete_at v n ≡ complete_in v.x log n
+pub ordered-complete : (v : View) (log : List LogEntry) (n : ℕ) → ((p : ℕ) → v.arrived p ≡ Log.arrived_new log p) → sent v.x n ≤ parts v.x n
+    → (v.x.message n).ordered ≡ true → complete_at v n ≡ complete_in v.x log n
 ordered-complete v log n arrived le o =
     ap (λ b. if b then all_come v n else v.read n || list_any (λ k. k == n) (v.complete (v.x.message n).stream)) o
     ∙ all-come v n le

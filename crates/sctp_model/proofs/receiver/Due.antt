@@ -1,5 +1,6 @@
 -- The next message of the run is the first one that is due.
-use Rattle.std.proofs.Common.{◌≡◌, ℕ, zero, suc, ◌+◌, ◌-◌, ◌<◌, ◌≤◌, Bool, true, false, List, [], ◌∷◌, ◌++◌, length, take, drop, Some, refl, ap, sym, ◌∙◌, arith}
+use Rattle.std.proofs.Common.{◌≡◌, ℕ, zero, suc, ◌+◌, ◌-◌, ◌<◌, ◌≤◌, Bool, true, false, List, [], ◌∷◌, ◌++◌, length, take, drop, Some, refl, ap, sym, ◌∙◌}
+use Rattle.std.proofs.Common.{arith}
 use Rattle.std.specs.Prelude.{if◌then◌else◌, ◌&&◌, not, nat_lt, nat_le}
 use Rattle.std.proofs.lemmas.Bool.Decides.{nat_tests}
 use Rattle.std.specs.List.{filter}
@@ -19,13 +20,15 @@ abbrev pub ReadComplete : (ℕ → Bool) → (ℕ → Bool) → List ℕ → Typ
 ReadComplete wh r [] = Unit {0}
 ReadComplete wh r (x ∷ xs) = (r x ≡ true → wh x ≡ true) × ReadComplete wh r xs
 
-pub run-tail : (wh r : ℕ → Bool) (line : List ℕ) → ReadComplete wh r line → first_of (filter (λ x. not (r x)) (leading wh line)) ≡ first_of (filter (wanted wh r) (take (length (leading r line) + 1) line))
+pub run-tail : (wh r : ℕ → Bool) (line : List ℕ) → ReadComplete wh r line
+    → first_of (filter (λ x. not (r x)) (leading wh line)) ≡ first_of (filter (wanted wh r) (take (length (leading r line) + 1) line))
 run-tail wh r [] all = refl
 run-tail wh r (x ∷ xs) all = step (r x) (wh x) refl refl (run-tail wh r xs all.1)
   where
     step : (b c : Bool) → r x ≡ b → wh x ≡ c
         → first_of (filter (λ x. not (r x)) (leading wh xs)) ≡ first_of (filter (wanted wh r) (take (length (leading r xs) + 1) xs))
-        → first_of (filter (λ x. not (r x)) (if c then x ∷ leading wh xs else [])) ≡ first_of (filter (wanted wh r) (take (length (if b then x ∷ leading r xs else []) + 1) (x ∷ xs)))
+        → first_of (filter (λ x. not (r x)) (if c then x ∷ leading wh xs else []))
+        ≡ first_of (filter (wanted wh r) (take (length (if b then x ∷ leading r xs else []) + 1) (x ∷ xs)))
     step true true e h ih =
         let count : length (x ∷ leading r xs) + 1 ≡ suc (length (leading r xs) + 1) = omega arith in
         rw (count, e) ih
@@ -37,7 +40,9 @@ pub take-none : (i : ℕ) (q : ℕ → Bool) → filter q (take i []) ≡ []
 take-none zero q = refl
 take-none (suc i) q = refl
 
-pub run-first : (wh r : ℕ → Bool) (i : ℕ) (line : List ℕ) → ReadComplete wh r line → first_of (filter (λ x. not (r x)) (filter wh (take i line) ++ leading wh (drop i line))) ≡ first_of (filter (wanted wh r) (take (i + length (leading r (drop i line)) + 1) line))
+pub run-first : (wh r : ℕ → Bool) (i : ℕ) (line : List ℕ) → ReadComplete wh r line
+    → first_of (filter (λ x. not (r x)) (filter wh (take i line) ++ leading wh (drop i line)))
+    ≡ first_of (filter (wanted wh r) (take (i + length (leading r (drop i line)) + 1) line))
 run-first wh r zero [] all = refl
 run-first wh r zero (x ∷ xs) all =
     let count : 0 + length (leading r (x ∷ xs)) + 1 ≡ length (leading r (x ∷ xs)) + 1 = omega arith in
@@ -49,15 +54,19 @@ run-first wh r (suc i) (x ∷ xs) all =
     ∙ ap (λ k. first_of (filter (wanted wh r) (take k (x ∷ xs)))) (sym more)
   where
     step : (b c : Bool) → r x ≡ b → wh x ≡ c
-        → first_of (filter (λ x. not (r x)) (filter wh (take i xs) ++ leading wh (drop i xs))) ≡ first_of (filter (wanted wh r) (take (i + length (leading r (drop i xs)) + 1) xs))
-        → first_of (filter (λ x. not (r x)) ((if c then x ∷ filter wh (take i xs) else filter wh (take i xs)) ++ leading wh (drop i xs))) ≡ first_of (filter (wanted wh r) (x ∷ take (i + length (leading r (drop i xs)) + 1) xs))
+        → first_of (filter (λ x. not (r x)) (filter wh (take i xs) ++ leading wh (drop i xs)))
+        ≡ first_of (filter (wanted wh r) (take (i + length (leading r (drop i xs)) + 1) xs))
+        → first_of (filter (λ x. not (r x)) ((if c then x ∷ filter wh (take i xs) else filter wh (take i xs)) ++ leading wh (drop i xs)))
+        ≡ first_of (filter (wanted wh r) (x ∷ take (i + length (leading r (drop i xs)) + 1) xs))
     step true true e h ih = rw e ih
     step true false e h ih = rw e ih
     step false true e h ih = rw (e, h) refl
     step false false e h ih = rw (e, h) ih
 
 -- the first ones of a line, by their places
-pub take-kept : (p q : ℕ → Bool) (idx : ℕ → ℕ) (from count i b top : ℕ) → top ≡ b + i → ((k : ℕ) → from ≤ k → k < from + count → p k ≡ true → idx k ≡ b + length (numbers_where p from (k - from))) → filter q (take i (numbers_where p from count)) ≡ numbers_where (λ k. p k && (q k && nat_lt (idx k) top)) from count
+pub take-kept : (p q : ℕ → Bool) (idx : ℕ → ℕ) (from count i b top : ℕ) → top ≡ b + i
+    → ((k : ℕ) → from ≤ k → k < from + count → p k ≡ true → idx k ≡ b + length (numbers_where p from (k - from)))
+    → filter q (take i (numbers_where p from count)) ≡ numbers_where (λ k. p k && (q k && nat_lt (idx k) top)) from count
 take-kept p q idx from zero i b top t places = take-none i q
 take-kept p q idx from (suc count) i b top t places = step (p from) refl i t
     (λ j c e same. take-kept p q idx (from + 1) count j c top e (λ k x y z. same k x y z))
@@ -66,18 +75,28 @@ take-kept p q idx from (suc count) i b top t places = step (p from) refl i t
     later k le = omega arith
 
     step : (c : Bool) → p from ≡ c → (i : ℕ) → top ≡ b + i
-        → ((j c : ℕ) → top ≡ c + j → ((k : ℕ) → from + 1 ≤ k → k < from + 1 + count → p k ≡ true → idx k ≡ c + length (numbers_where p (from + 1) (k - (from + 1)))) → filter q (take j (numbers_where p (from + 1) count)) ≡ numbers_where (λ k. p k && (q k && nat_lt (idx k) top)) (from + 1) count)
-        → filter q (take i (if c then from ∷ numbers_where p (from + 1) count else numbers_where p (from + 1) count)) ≡ numbers_where (λ k. p k && (q k && nat_lt (idx k) top)) from (suc count)
-    step false e i t ih = rw e (ih i b t (λ k x y z. places k (omega arith) (omega arith) z ∙ ap (λ n. b + length (numbers_where p from n)) (later k x) ∙ rw e refl))
-    step true e zero t ih = sym (kept-none (λ k. p k && (q k && nat_lt (idx k) top)) from (suc count) (λ k x y. fails (p k && (q k && nat_lt (idx k) top)) (λ z. let a = both (p k) (q k && nat_lt (idx k) top) z in let c : nat_lt (idx k) top ≡ true = (both (q k) (nat_lt (idx k) top) a.1).1 in let at = places k x y a.0 in let lt : idx k < top = grind (arith, nat_tests) in absurd (omega (arith, at)))))
+        → ((j c : ℕ) → top ≡ c + j
+        → ((k : ℕ) → from + 1 ≤ k → k < from + 1 + count → p k ≡ true → idx k ≡ c + length (numbers_where p (from + 1) (k - (from + 1))))
+        → filter q (take j (numbers_where p (from + 1) count)) ≡ numbers_where (λ k. p k && (q k && nat_lt (idx k) top)) (from + 1) count)
+        → filter q (take i (if c then from ∷ numbers_where p (from + 1) count else numbers_where p (from + 1) count))
+        ≡ numbers_where (λ k. p k && (q k && nat_lt (idx k) top)) from (suc count)
+    step false e i t ih =
+        rw e (ih i b t (λ k x y z. places k (omega arith) (omega arith) z ∙ ap (λ n. b + length (numbers_where p from n)) (later k x) ∙ rw e refl))
+    step true e zero t ih = sym (kept-none (λ k. p k && (q k && nat_lt (idx k) top)) from (suc count)
+        (λ k x y. fails (p k && (q k && nat_lt (idx k) top)) (λ z. let a = both (p k) (q k && nat_lt (idx k) top) z in let c : nat_lt (idx k) top ≡ true =
+        (both (q k) (nat_lt (idx k) top) a.1).1 in let at = places k x y a.0 in let lt : idx k < top = grind (arith, nat_tests) in absurd (omega (arith, at)))))
     step true e (suc i) t ih =
         let zero' : from - from ≡ 0 = omega arith in
         let at : idx from ≡ b + length (numbers_where p from (from - from)) = places from (omega arith) (omega arith) e in
         let first : idx from ≡ b = at ∙ ap (λ n. b + length (numbers_where p from n)) zero' ∙ omega arith in
         let hit : nat_lt (idx from) top ≡ true = (let l : idx from < top = omega (arith, first) in grind (arith, nat_tests)) in
-        rw (e, hit) (on (q from) (ih i (b + 1) (omega arith) (λ k x y z. places k (omega arith) (omega arith) z ∙ ap (λ n. b + length (numbers_where p from n)) (later k x) ∙ rw e (omega arith))))
+        rw (e, hit) (on (q from) (ih i (b + 1) (omega arith) (λ k x y z. places k (omega arith) (omega arith) z
+        ∙ ap (λ n. b + length (numbers_where p from n)) (later k x) ∙ rw e (omega arith))))
       where
-        on : (c : Bool) → filter q (take i (numbers_where p (from + 1) count)) ≡ numbers_where (λ k. p k && (q k && nat_lt (idx k) top)) (from + 1) count → (if c then from ∷ filter q (take i (numbers_where p (from + 1) count)) else filter q (take i (numbers_where p (from + 1) count))) ≡ (if true && (c && true) then from ∷ numbers_where (λ k. p k && (q k && nat_lt (idx k) top)) (from + 1) count else numbers_where (λ k. p k && (q k && nat_lt (idx k) top)) (from + 1) count)
+        on : (c : Bool) → filter q (take i (numbers_where p (from + 1) count)) ≡ numbers_where (λ k. p k && (q k && nat_lt (idx k) top)) (from + 1) count
+            → (if c then from ∷ filter q (take i (numbers_where p (from + 1) count)) else filter q (take i (numbers_where p (from + 1) count)))
+            ≡ (if true && (c && true) then from ∷ numbers_where (λ k. p k && (q k && nat_lt (idx k) top)) (from + 1) count
+            else numbers_where (λ k. p k && (q k && nat_lt (idx k) top)) (from + 1) count)
         on true h = ap (λ l. from ∷ l) h
         on false h = h
 
@@ -86,20 +105,24 @@ abbrev pub is_due : View → ℕ → ℕ → Bool
 is_due v s n = on v.x s n && (not (v.read n) && (complete_at v n && nat_le (index v.x n) (next v s)))
 
 -- the next one of the run
-pub run-due : (v : View) (s : ℕ) → ((k : ℕ) → k < v.x.count → on v.x s k ≡ true → v.read k ≡ true → complete_at v k ≡ true) → first_of (filter (λ n. not (v.read n)) (run v s)) ≡ first_of (numbers_where (is_due v s) 0 v.x.count)
+pub run-due : (v : View) (s : ℕ) → ((k : ℕ) → k < v.x.count → on v.x s k ≡ true → v.read k ≡ true → complete_at v k ≡ true)
+    → first_of (filter (λ n. not (v.read n)) (run v s)) ≡ first_of (numbers_where (is_due v s) 0 v.x.count)
 run-due v s reads =
     run-first (complete_at v) v.read (v.named s) (line v s) (all (on v.x s) 0 v.x.count (λ k a b e r. reads k (omega arith) e r))
-    ∙ ap first_of (take-kept (on v.x s) (wanted (complete_at v) v.read) (index v.x) 0 v.x.count (next v s + 1) 0 (next v s + 1) (omega arith) (λ k a b e. index_on v.x s k e ∙ place k)
-    ∙ kept-same (λ k. on v.x s k && (wanted (complete_at v) v.read k && nat_lt (index v.x k) (next v s + 1))) (is_due v s) 0 v.x.count (λ k a b. same (on v.x s k) (not (v.read k)) (complete_at v k) (index v.x k) (next v s)))
+    ∙ ap first_of (take-kept (on v.x s) (wanted (complete_at v) v.read) (index v.x) 0 v.x.count (next v s + 1) 0 (next v s + 1) (omega arith)
+    (λ k a b e. index_on v.x s k e ∙ place k) ∙ kept-same (λ k. on v.x s k && (wanted (complete_at v) v.read k && nat_lt (index v.x k) (next v s + 1)))
+    (is_due v s) 0 v.x.count (λ k a b. same (on v.x s k) (not (v.read k)) (complete_at v k) (index v.x k) (next v s)))
   where
     place : (k : ℕ) → length (numbers_where (on v.x s) 0 k) ≡ 0 + length (numbers_where (on v.x s) 0 (k - 0))
     place k = let e : k - 0 ≡ k = omega arith in rw e (omega arith)
 
-    all : (p : ℕ → Bool) (from count : ℕ) → ((k : ℕ) → from ≤ k → k < from + count → p k ≡ true → v.read k ≡ true → complete_at v k ≡ true) → ReadComplete (complete_at v) v.read (numbers_where p from count)
+    all : (p : ℕ → Bool) (from count : ℕ) → ((k : ℕ) → from ≤ k → k < from + count → p k ≡ true → v.read k ≡ true → complete_at v k ≡ true)
+        → ReadComplete (complete_at v) v.read (numbers_where p from count)
     all p from zero h = tt
     all p from (suc count) h = step (p from) refl (all p (from + 1) count (λ k a b e r. h k (omega arith) (omega arith) e r))
       where
-        step : (b : Bool) → p from ≡ b → ReadComplete (complete_at v) v.read (numbers_where p (from + 1) count) → ReadComplete (complete_at v) v.read (if b then from ∷ numbers_where p (from + 1) count else numbers_where p (from + 1) count)
+        step : (b : Bool) → p from ≡ b → ReadComplete (complete_at v) v.read (numbers_where p (from + 1) count)
+            → ReadComplete (complete_at v) v.read (if b then from ∷ numbers_where p (from + 1) count else numbers_where p (from + 1) count)
         step true e ih = (h from (omega arith) (omega arith) e, ih)
         step false e ih = ih
 
@@ -133,4 +156,11 @@ due-first v s n e = by (numbers_where (is_due v s) 0 v.x.count) e (front-kept (i
             let b = both (not (v.read n)) (complete_at v n && nat_le (index v.x n) (next v s)) a.1 in
             let c = both (complete_at v n) (nat_le (index v.x n) (next v s)) b.1 in
             let d = c.1 in
-            record { made = omega (arith, g.high, z); on_it = a.0; unread = negated (v.read n) b.0; complete_now = c.0; near = grind (arith, nat_tests); first = λ j lt. g.first j (omega arith) (omega (arith, lt, z)) }
+            record {
+              made = omega (arith, g.high, z);
+              on_it = a.0;
+              unread = negated (v.read n) b.0;
+              complete_now = c.0;
+              near = grind (arith, nat_tests);
+              first = λ j lt. g.first j (omega arith) (omega (arith, lt, z));
+            }

@@ -17,7 +17,8 @@ use Rattle.sctp_model.specs.Log.{LogEntry, SlotReceived, SkipReceived, SackMade,
 use Rattle.sctp_model.specs.Laws.{IsSetup, kind_of}
 use Rattle.sctp_model.proofs.sender.Shape.{shape}
 use Rattle.sctp_model.proofs.sender.SenderRun.{Sane, sane-run, sane-after, sane-received, unless-holds}
-use Rattle.sctp_model.proofs.sender.Moves.{Quiet, quiet-none, quiet-datagram, quiet-written, quiet-started, quiet-sent, quiet-expire, quiet-tail, quiet-lates, quiet-abandoned}
+use Rattle.sctp_model.proofs.sender.Moves.{Quiet, quiet-none, quiet-datagram, quiet-written, quiet-started, quiet-sent, quiet-expire, quiet-tail, quiet-lates}
+use Rattle.sctp_model.proofs.sender.Moves.{quiet-abandoned}
 use Rattle.sctp_model.proofs.sender.Network.{SlotsFit, NamesFit, Fits, fit-at, fit-run, same-slot}
 use Rattle.sctp_model.proofs.sender.Made.{made-run}
 use Rattle.sctp_list_lemmas.proofs.Cases.{negated}
@@ -27,20 +28,27 @@ pub record Keeps (setup : Setup) (P : LinkRecord → List LogEntry → Type 0) :
   pub begins : P (start setup) []
   pub quiet : (w v : LinkRecord) (log : List LogEntry) → Sane setup w → Sane setup v → Quiet w v → P w log → P v log
   pub opened : (w : LinkRecord) (log : List LogEntry) (s : ℕ) → Sane setup w → Messages.is_open w s ≡ false → P w log → P (Changes.after_open w s) log
-  pub moded : (w : LinkRecord) (log : List LogEntry) (s : ℕ) (unordered : Bool) (reliability : ReliabilityType) (value : ℕ) → Sane setup w → P w log → P (Changes.after_mode w s unordered reliability value) log
-  pub slot : (w : LinkRecord) (log : List LogEntry) (p : ℕ) → Sane setup w → p < length w.slots → (Messages.slot_at w p).is_terminal_chunk ≡ false → P w log → P (Changes.receive_slot w p) (SlotReceived p ∷ log)
-  pub skip : (w : LinkRecord) (log : List LogEntry) (upto : ℕ) (names : List ℕ) → Sane setup w → upto < length w.slots → NamesFit (shape w) upto names → P w log → P (Changes.receive_skip w upto names) (SkipReceived upto names ∷ log)
+  pub moded : (w : LinkRecord) (log : List LogEntry) (s : ℕ) (unordered : Bool) (reliability : ReliabilityType) (value : ℕ) → Sane setup w → P w log
+      → P (Changes.after_mode w s unordered reliability value) log
+  pub slot : (w : LinkRecord) (log : List LogEntry) (p : ℕ) → Sane setup w → p < length w.slots → (Messages.slot_at w p).is_terminal_chunk ≡ false → P w log
+      → P (Changes.receive_slot w p) (SlotReceived p ∷ log)
+  pub skip : (w : LinkRecord) (log : List LogEntry) (upto : ℕ) (names : List ℕ) → Sane setup w → upto < length w.slots → NamesFit (shape w) upto names → P w log
+      → P (Changes.receive_skip w upto names) (SkipReceived upto names ∷ log)
   pub reported : (w : LinkRecord) (log : List LogEntry) (credit : ℕ) → Sane setup w → P w log → P (Changes.after_ack w credit) (SackMade ∷ log)
   pub taken : (w : LinkRecord) (log : List LogEntry) (r : Report) → Sane setup w → P w log → P (Changes.after_acked w (Some (Sack r))) log
-  pub read : (w : LinkRecord) (log : List LogEntry) (s n : ℕ) → Sane setup w → Messages.is_open w s ≡ true → Receiver.next_read w s ≡ Some n → P w log → P (Changes.read_of w s (Some n)) log
+  pub read : (w : LinkRecord) (log : List LogEntry) (s n : ℕ) → Sane setup w → Messages.is_open w s ≡ true → Receiver.next_read w s ≡ Some n → P w log
+      → P (Changes.read_of w s (Some n)) log
 
 -- what each change but a read keeps
 pub record Moving (setup : Setup) (P : LinkRecord → List LogEntry → Type 0) : Type 0 where
   pub quiet : (w v : LinkRecord) (log : List LogEntry) → Sane setup w → Sane setup v → Quiet w v → P w log → P v log
   pub opened : (w : LinkRecord) (log : List LogEntry) (s : ℕ) → Sane setup w → Messages.is_open w s ≡ false → P w log → P (Changes.after_open w s) log
-  pub moded : (w : LinkRecord) (log : List LogEntry) (s : ℕ) (unordered : Bool) (reliability : ReliabilityType) (value : ℕ) → Sane setup w → P w log → P (Changes.after_mode w s unordered reliability value) log
-  pub slot : (w : LinkRecord) (log : List LogEntry) (p : ℕ) → Sane setup w → p < length w.slots → (Messages.slot_at w p).is_terminal_chunk ≡ false → P w log → P (Changes.receive_slot w p) (SlotReceived p ∷ log)
-  pub skip : (w : LinkRecord) (log : List LogEntry) (upto : ℕ) (names : List ℕ) → Sane setup w → upto < length w.slots → NamesFit (shape w) upto names → P w log → P (Changes.receive_skip w upto names) (SkipReceived upto names ∷ log)
+  pub moded : (w : LinkRecord) (log : List LogEntry) (s : ℕ) (unordered : Bool) (reliability : ReliabilityType) (value : ℕ) → Sane setup w → P w log
+      → P (Changes.after_mode w s unordered reliability value) log
+  pub slot : (w : LinkRecord) (log : List LogEntry) (p : ℕ) → Sane setup w → p < length w.slots → (Messages.slot_at w p).is_terminal_chunk ≡ false → P w log
+      → P (Changes.receive_slot w p) (SlotReceived p ∷ log)
+  pub skip : (w : LinkRecord) (log : List LogEntry) (upto : ℕ) (names : List ℕ) → Sane setup w → upto < length w.slots → NamesFit (shape w) upto names → P w log
+      → P (Changes.receive_skip w upto names) (SkipReceived upto names ∷ log)
   pub reported : (w : LinkRecord) (log : List LogEntry) (credit : ℕ) → Sane setup w → P w log → P (Changes.after_ack w credit) (SackMade ∷ log)
   pub taken : (w : LinkRecord) (log : List LogEntry) (r : Report) → Sane setup w → P w log → P (Changes.after_acked w (Some (Sack r))) log
 
@@ -48,16 +56,21 @@ pub moving-of : (setup : Setup) (P : LinkRecord → List LogEntry → Type 0) �
 moving-of setup P k = record { quiet = k.quiet; opened = k.opened; moded = k.moded; slot = k.slot; skip = k.skip; reported = k.reported; taken = k.taken }
 
 module _ (setup : Setup) (P : LinkRecord → List LogEntry → Type 0) (keeps : Moving setup P) where
-  slots-keep : (ps : List ℕ) (w : LinkRecord) (log : List LogEntry) → Sane setup w → SlotsFit (shape w) ps → P w log → P (fold Changes.receive_slot w ps) (slots_come ps log)
+  slots-keep : (ps : List ℕ) (w : LinkRecord) (log : List LogEntry) → Sane setup w → SlotsFit (shape w) ps → P w log
+      → P (fold Changes.receive_slot w ps) (slots_come ps log)
   slots-keep [] w log g f p = p
   slots-keep (q ∷ ps) w log g f p =
-      slots-keep ps (Changes.receive_slot w q) (SlotReceived q ∷ log) (sane-received setup w q g) (subst (λ x. SlotsFit x ps) (sym (same-slot w q).shape_is) f.2)
+      slots-keep ps (Changes.receive_slot w q) (SlotReceived q ∷ log) (sane-received setup w q g)
+      (subst (λ x. SlotsFit x ps) (sym (same-slot w q).shape_is) f.2)
       (keeps.slot w log q g f.0 f.1 p)
 
-  arrive-keeps : (w : LinkRecord) (log : List LogEntry) (o : Option Datagram) (m : Option Made) → Sane setup w → ((d : Datagram) → o ≡ Some d → (Fits (shape w) d) × (m ≡ Some (kind_of d))) → (o ≡ None → m ≡ None) → P w log → P (Changes.after_arrive w o) (datagram_comes m log)
+  arrive-keeps : (w : LinkRecord) (log : List LogEntry) (o : Option Datagram) (m : Option Made) → Sane setup w → ((d : Datagram) → o ≡ Some d
+      → (Fits (shape w) d) × (m ≡ Some (kind_of d))) → (o ≡ None → m ≡ None) → P w log → P (Changes.after_arrive w o) (datagram_comes m log)
   arrive-keeps w log None m g f none p = subst (λ x. P w (datagram_comes x log)) (sym (none refl)) p
-  arrive-keeps w log (Some (W.Data ps)) m g f none p = let a = f (W.Data ps) refl in subst (λ x. P (fold Changes.receive_slot w ps) (datagram_comes x log)) (sym a.1) (slots-keep ps w log g a.0 p)
-  arrive-keeps w log (Some (Forward upto names)) m g f none p = let a = f (Forward upto names) refl in subst (λ x. P (Changes.receive_skip w upto names) (datagram_comes x log)) (sym a.1) (keeps.skip w log upto names g a.0.0 a.0.1 p)
+  arrive-keeps w log (Some (W.Data ps)) m g f none p = let a = f (W.Data ps) refl in
+      subst (λ x. P (fold Changes.receive_slot w ps) (datagram_comes x log)) (sym a.1) (slots-keep ps w log g a.0 p)
+  arrive-keeps w log (Some (Forward upto names)) m g f none p = let a = f (Forward upto names) refl in
+      subst (λ x. P (Changes.receive_skip w upto names) (datagram_comes x log)) (sym a.1) (keeps.skip w log upto names g a.0.0 a.0.1 p)
   arrive-keeps w log (Some (Sack r)) m g f none p = let a = f (Sack r) refl in subst (λ x. P w (datagram_comes x log)) (sym a.1) p
 
   taken-keeps : (w : LinkRecord) (log : List LogEntry) (o : Option Datagram) → Sane setup w → P w log → P (Changes.after_acked w o) log
@@ -82,50 +95,88 @@ is_read (E.Read s) = true
 is_read event = false
 
 -- an event that is no read
-pub step-moves : (setup : Setup) (P : LinkRecord → List LogEntry → Type 0) → Moving setup P → (older : History) → IsSetup setup → IsRun setup older → (e : Event) (r : Reply) → is_read e ≡ false → refusal_of (record_of setup older) e ≡ None → P (record_of setup older) (log_of setup older) → P (after (record_of setup older) e) (log_of setup ((e, r) ∷ older))
-step-moves setup P keeps older is run e r no' ok p = by e r no' (sane-run setup older run) ok (sane-after setup (record_of setup older) e ok (sane-run setup older run)) p
+pub step-moves : (setup : Setup) (P : LinkRecord → List LogEntry → Type 0) → Moving setup P → (older : History) → IsSetup setup → IsRun setup older
+    → (e : Event) (r : Reply) → is_read e ≡ false → refusal_of (record_of setup older) e ≡ None → P (record_of setup older) (log_of setup older)
+    → P (after (record_of setup older) e) (log_of setup ((e, r) ∷ older))
+step-moves setup P keeps older is run e r no' ok p =
+    by e r no' (sane-run setup older run) ok (sane-after setup (record_of setup older) e ok (sane-run setup older run)) p
   where
-    by : (e : Event) (r : Reply) → is_read e ≡ false → Sane setup (record_of setup older) → refusal_of (record_of setup older) e ≡ None → Sane setup (after (record_of setup older) e) → P (record_of setup older) (log_of setup older) → P (after (record_of setup older) e) (log_of setup ((e, r) ∷ older))
-    by (E.Open s) r no' g ok a p = keeps.opened (record_of setup older) (log_of setup older) s g (negated (Messages.is_open (record_of setup older) s) (unless-holds (not (Messages.is_open (record_of setup older) s)) StreamOpen None ok).0) p
+    by : (e : Event) (r : Reply) → is_read e ≡ false → Sane setup (record_of setup older) → refusal_of (record_of setup older) e ≡ None
+        → Sane setup (after (record_of setup older) e) → P (record_of setup older) (log_of setup older)
+        → P (after (record_of setup older) e) (log_of setup ((e, r) ∷ older))
+    by (E.Open s) r no' g ok a p = keeps.opened (record_of setup older) (log_of setup older) s g
+        (negated (Messages.is_open (record_of setup older) s) (unless-holds (not (Messages.is_open (record_of setup older) s)) StreamOpen None ok).0) p
     by (E.Mode s unordered reliability value) r no' g ok a p = keeps.moded (record_of setup older) (log_of setup older) s unordered reliability value g p
-    by (E.Write s ppi bytes) r no' g ok a p = keeps.quiet (record_of setup older) (after (record_of setup older) (E.Write s ppi bytes)) (log_of setup older) g a (quiet-written setup (record_of setup older) s ppi bytes g) p
-    by (E.Start now) r no' g ok a p = keeps.quiet (record_of setup older) (after (record_of setup older) (E.Start now)) (log_of setup older) g a (quiet-started (record_of setup older) now) p
-    by (E.Send now) r no' g ok a p = keeps.quiet (record_of setup older) (after (record_of setup older) (E.Send now)) (log_of setup older) g a (quiet-sent setup (record_of setup older) now (Messages.front (record_of setup older)) g) p
-    by (E.Resend tsn) r no' g ok a p = keeps.quiet (record_of setup older) (after (record_of setup older) (E.Resend tsn)) (log_of setup older) g a (quiet-datagram (record_of setup older) (record_of setup older) (W.Data (Messages.place_of (record_of setup older) tsn ∷ [])) (quiet-none (record_of setup older))) p
-    by (E.Expire now) r no' g ok a p = keeps.quiet (record_of setup older) (after (record_of setup older) (E.Expire now)) (log_of setup older) g a (quiet-expire setup (record_of setup older) now (Messages.front (record_of setup older)) g) p
-    by (E.Tail now) r no' g ok a p = keeps.quiet (record_of setup older) (after (record_of setup older) (E.Tail now)) (log_of setup older) g a (quiet-tail setup (record_of setup older) (Changes.tailing (record_of setup older) now) g) p
-    by (E.Late now) r no' g ok a p = keeps.quiet (record_of setup older) (after (record_of setup older) (E.Late now)) (log_of setup older) g a (quiet-lates setup (record_of setup older) now g) p
-    by (E.Abandon tsn) r no' g ok a p = keeps.quiet (record_of setup older) (after (record_of setup older) (E.Abandon tsn)) (log_of setup older) g a (quiet-abandoned setup (record_of setup older) (Messages.message_of (record_of setup older) (Messages.place_of (record_of setup older) tsn)) g) p
-    by (E.Skip upto names) r no' g ok a p = keeps.quiet (record_of setup older) (after (record_of setup older) (E.Skip upto names)) (log_of setup older) g a (quiet-datagram (record_of setup older) (record_of setup older) (Forward (Messages.place_of (record_of setup older) upto) names.items) (quiet-none (record_of setup older))) p
+    by (E.Write s ppi bytes) r no' g ok a p = keeps.quiet (record_of setup older) (after (record_of setup older) (E.Write s ppi bytes))
+        (log_of setup older) g a (quiet-written setup (record_of setup older) s ppi bytes g) p
+    by (E.Start now) r no' g ok a p =
+        keeps.quiet (record_of setup older) (after (record_of setup older) (E.Start now)) (log_of setup older) g a (quiet-started (record_of setup older) now) p
+    by (E.Send now) r no' g ok a p = keeps.quiet (record_of setup older) (after (record_of setup older) (E.Send now))
+        (log_of setup older) g a (quiet-sent setup (record_of setup older) now (Messages.front (record_of setup older)) g) p
+    by (E.Resend tsn) r no' g ok a p =
+        keeps.quiet (record_of setup older) (after (record_of setup older) (E.Resend tsn)) (log_of setup older) g a (quiet-datagram (record_of setup older)
+        (record_of setup older) (W.Data (Messages.place_of (record_of setup older) tsn ∷ [])) (quiet-none (record_of setup older))) p
+    by (E.Expire now) r no' g ok a p = keeps.quiet (record_of setup older) (after (record_of setup older) (E.Expire now))
+        (log_of setup older) g a (quiet-expire setup (record_of setup older) now (Messages.front (record_of setup older)) g) p
+    by (E.Tail now) r no' g ok a p = keeps.quiet (record_of setup older) (after (record_of setup older) (E.Tail now))
+        (log_of setup older) g a (quiet-tail setup (record_of setup older) (Changes.tailing (record_of setup older) now) g) p
+    by (E.Late now) r no' g ok a p = keeps.quiet (record_of setup older) (after (record_of setup older) (E.Late now))
+        (log_of setup older) g a (quiet-lates setup (record_of setup older) now g) p
+    by (E.Abandon tsn) r no' g ok a p = keeps.quiet (record_of setup older) (after (record_of setup older) (E.Abandon tsn)) (log_of setup older) g a
+        (quiet-abandoned setup (record_of setup older) (Messages.message_of (record_of setup older) (Messages.place_of (record_of setup older) tsn)) g) p
+    by (E.Skip upto names) r no' g ok a p =
+        keeps.quiet (record_of setup older) (after (record_of setup older) (E.Skip upto names)) (log_of setup older) g a (quiet-datagram (record_of setup older)
+        (record_of setup older) (Forward (Messages.place_of (record_of setup older) upto) names.items) (quiet-none (record_of setup older))) p
     by (E.Ack credit) r no' g ok a p = keeps.reported (record_of setup older) (log_of setup older) credit g p
     by (E.Arrive k) r no' g ok a p =
         let made = made-run setup older is run in
-        arrive-keeps setup P keeps (record_of setup older) (log_of setup older) (slice_get (record_of setup older).network k) (slice_get (made_in setup older) k) g
-        (λ d e. (fit-at (shape (record_of setup older)) (record_of setup older).network k d (fit-run setup older run) e, ap (λ l. slice_get l k) (sym made) ∙ get-map_some kind_of (record_of setup older).network k d e))
+        arrive-keeps setup P keeps (record_of setup older) (log_of setup older) (slice_get (record_of setup older).network k)
+        (slice_get (made_in setup older) k) g
+        (λ d e. (
+          fit-at (shape (record_of setup older)) (record_of setup older).network k d (fit-run setup older run) e,
+          ap (λ l. slice_get l k) (sym made) ∙ get-map_some kind_of (record_of setup older).network k d e,
+        ))
         (λ e. ap (λ l. slice_get l k) (sym made) ∙ get-map_none kind_of (record_of setup older).network k e) p
     by (E.Acked k) r no' g ok a p = taken-keeps setup P keeps (record_of setup older) (log_of setup older) (slice_get (record_of setup older).network k) g p
     by (E.Read s) r no' g ok a p = cc
 
 -- in every history
-pub run-keeps : (setup : Setup) (P : LinkRecord → List LogEntry → Type 0) → Keeps setup P → (h : History) → IsSetup setup → IsRun setup h → P (record_of setup h) (log_of setup h)
+pub run-keeps : (setup : Setup) (P : LinkRecord → List LogEntry → Type 0) → Keeps setup P → (h : History) → IsSetup setup → IsRun setup h
+    → P (record_of setup h) (log_of setup h)
 run-keeps setup P keeps [] is run = keeps.begins
 run-keeps setup P keeps ((E.Read s, r) ∷ older) is run =
     reads (Receiver.next_read (record_of setup older) s) refl (run-keeps setup P keeps older is run.1.1)
   where
-    reads : (o : Option ℕ) → Receiver.next_read (record_of setup older) s ≡ o → P (record_of setup older) (log_of setup older) → P (Changes.read_of (record_of setup older) s o) (log_of setup older)
+    reads : (o : Option ℕ) → Receiver.next_read (record_of setup older) s ≡ o → P (record_of setup older) (log_of setup older)
+        → P (Changes.read_of (record_of setup older) s o) (log_of setup older)
     reads None e p = p
-    reads (Some n) e p = keeps.read (record_of setup older) (log_of setup older) s n (sane-run setup older run.1.1) (unless-holds (Messages.is_open (record_of setup older) s) StreamUnknown None run.0).0 e p
-run-keeps setup P keeps ((E.Open s, r) ∷ older) is run = step-moves setup P (moving-of setup P keeps) older is run.1.1 (E.Open s) r refl run.0 (run-keeps setup P keeps older is run.1.1)
-run-keeps setup P keeps ((E.Mode s a b c, r) ∷ older) is run = step-moves setup P (moving-of setup P keeps) older is run.1.1 (E.Mode s a b c) r refl run.0 (run-keeps setup P keeps older is run.1.1)
-run-keeps setup P keeps ((E.Write s a b, r) ∷ older) is run = step-moves setup P (moving-of setup P keeps) older is run.1.1 (E.Write s a b) r refl run.0 (run-keeps setup P keeps older is run.1.1)
-run-keeps setup P keeps ((E.Start a, r) ∷ older) is run = step-moves setup P (moving-of setup P keeps) older is run.1.1 (E.Start a) r refl run.0 (run-keeps setup P keeps older is run.1.1)
-run-keeps setup P keeps ((E.Send a, r) ∷ older) is run = step-moves setup P (moving-of setup P keeps) older is run.1.1 (E.Send a) r refl run.0 (run-keeps setup P keeps older is run.1.1)
-run-keeps setup P keeps ((E.Resend a, r) ∷ older) is run = step-moves setup P (moving-of setup P keeps) older is run.1.1 (E.Resend a) r refl run.0 (run-keeps setup P keeps older is run.1.1)
-run-keeps setup P keeps ((E.Expire a, r) ∷ older) is run = step-moves setup P (moving-of setup P keeps) older is run.1.1 (E.Expire a) r refl run.0 (run-keeps setup P keeps older is run.1.1)
-run-keeps setup P keeps ((E.Tail a, r) ∷ older) is run = step-moves setup P (moving-of setup P keeps) older is run.1.1 (E.Tail a) r refl run.0 (run-keeps setup P keeps older is run.1.1)
-run-keeps setup P keeps ((E.Late a, r) ∷ older) is run = step-moves setup P (moving-of setup P keeps) older is run.1.1 (E.Late a) r refl run.0 (run-keeps setup P keeps older is run.1.1)
-run-keeps setup P keeps ((E.Abandon a, r) ∷ older) is run = step-moves setup P (moving-of setup P keeps) older is run.1.1 (E.Abandon a) r refl run.0 (run-keeps setup P keeps older is run.1.1)
-run-keeps setup P keeps ((E.Skip a b, r) ∷ older) is run = step-moves setup P (moving-of setup P keeps) older is run.1.1 (E.Skip a b) r refl run.0 (run-keeps setup P keeps older is run.1.1)
-run-keeps setup P keeps ((E.Ack a, r) ∷ older) is run = step-moves setup P (moving-of setup P keeps) older is run.1.1 (E.Ack a) r refl run.0 (run-keeps setup P keeps older is run.1.1)
-run-keeps setup P keeps ((E.Arrive a, r) ∷ older) is run = step-moves setup P (moving-of setup P keeps) older is run.1.1 (E.Arrive a) r refl run.0 (run-keeps setup P keeps older is run.1.1)
-run-keeps setup P keeps ((E.Acked a, r) ∷ older) is run = step-moves setup P (moving-of setup P keeps) older is run.1.1 (E.Acked a) r refl run.0 (run-keeps setup P keeps older is run.1.1)
+    reads (Some n) e p = keeps.read (record_of setup older) (log_of setup older) s n (sane-run setup older run.1.1)
+        (unless-holds (Messages.is_open (record_of setup older) s) StreamUnknown None run.0).0 e p
+run-keeps setup P keeps ((E.Open s, r) ∷ older) is run =
+    step-moves setup P (moving-of setup P keeps) older is run.1.1 (E.Open s) r refl run.0 (run-keeps setup P keeps older is run.1.1)
+run-keeps setup P keeps ((E.Mode s a b c, r) ∷ older) is run =
+    step-moves setup P (moving-of setup P keeps) older is run.1.1 (E.Mode s a b c) r refl run.0 (run-keeps setup P keeps older is run.1.1)
+run-keeps setup P keeps ((E.Write s a b, r) ∷ older) is run =
+    step-moves setup P (moving-of setup P keeps) older is run.1.1 (E.Write s a b) r refl run.0 (run-keeps setup P keeps older is run.1.1)
+run-keeps setup P keeps ((E.Start a, r) ∷ older) is run =
+    step-moves setup P (moving-of setup P keeps) older is run.1.1 (E.Start a) r refl run.0 (run-keeps setup P keeps older is run.1.1)
+run-keeps setup P keeps ((E.Send a, r) ∷ older) is run =
+    step-moves setup P (moving-of setup P keeps) older is run.1.1 (E.Send a) r refl run.0 (run-keeps setup P keeps older is run.1.1)
+run-keeps setup P keeps ((E.Resend a, r) ∷ older) is run =
+    step-moves setup P (moving-of setup P keeps) older is run.1.1 (E.Resend a) r refl run.0 (run-keeps setup P keeps older is run.1.1)
+run-keeps setup P keeps ((E.Expire a, r) ∷ older) is run =
+    step-moves setup P (moving-of setup P keeps) older is run.1.1 (E.Expire a) r refl run.0 (run-keeps setup P keeps older is run.1.1)
+run-keeps setup P keeps ((E.Tail a, r) ∷ older) is run =
+    step-moves setup P (moving-of setup P keeps) older is run.1.1 (E.Tail a) r refl run.0 (run-keeps setup P keeps older is run.1.1)
+run-keeps setup P keeps ((E.Late a, r) ∷ older) is run =
+    step-moves setup P (moving-of setup P keeps) older is run.1.1 (E.Late a) r refl run.0 (run-keeps setup P keeps older is run.1.1)
+run-keeps setup P keeps ((E.Abandon a, r) ∷ older) is run =
+    step-moves setup P (moving-of setup P keeps) older is run.1.1 (E.Abandon a) r refl run.0 (run-keeps setup P keeps older is run.1.1)
+run-keeps setup P keeps ((E.Skip a b, r) ∷ older) is run =
+    step-moves setup P (moving-of setup P keeps) older is run.1.1 (E.Skip a b) r refl run.0 (run-keeps setup P keeps older is run.1.1)
+run-keeps setup P keeps ((E.Ack a, r) ∷ older) is run =
+    step-moves setup P (moving-of setup P keeps) older is run.1.1 (E.Ack a) r refl run.0 (run-keeps setup P keeps older is run.1.1)
+run-keeps setup P keeps ((E.Arrive a, r) ∷ older) is run =
+    step-moves setup P (moving-of setup P keeps) older is run.1.1 (E.Arrive a) r refl run.0 (run-keeps setup P keeps older is run.1.1)
+run-keeps setup P keeps ((E.Acked a, r) ∷ older) is run =
+    step-moves setup P (moving-of setup P keeps) older is run.1.1 (E.Acked a) r refl run.0 (run-keeps setup P keeps older is run.1.1)

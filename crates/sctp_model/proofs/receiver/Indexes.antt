@@ -16,7 +16,8 @@ pub on-stream : (x : Shape) (s n : ℕ) → on x s n ≡ true → (x.message n).
 on-stream x s n h = same-is (x.message n).stream s (both ((x.message n).stream == s) ((x.message n).ordered && not (x.message n).expired) h).0
 
 pub on-ordered : (x : Shape) (s n : ℕ) → on x s n ≡ true → (x.message n).ordered ≡ true
-on-ordered x s n h = (both (x.message n).ordered (not (x.message n).expired) (both ((x.message n).stream == s) ((x.message n).ordered && not (x.message n).expired) h).1).0
+on-ordered x s n h =
+    (both (x.message n).ordered (not (x.message n).expired) (both ((x.message n).stream == s) ((x.message n).ordered && not (x.message n).expired) h).1).0
 
 pub index_on : (x : Shape) (s n : ℕ) → on x s n ≡ true → index x n ≡ length (numbers_where (on x s) 0 n)
 index_on x s n h = ap (λ r. length (numbers_where (on x r) 0 n)) (on-stream x s n h)
@@ -48,14 +49,19 @@ pub index-at : (v : View) (s j : ℕ) → j < length (line v s) → IsPlaced v s
 index-at v s j lt =
     let r = kept-place (on v.x s) 0 v.x.count j 0 lt in
     let k : get_or (line v s) j 0 ≡ r.k = omega (arith, r.is) in
-    record { made = omega (arith, r.is, r.low); on_it = r.passes; at = index_on v.x s (get_or (line v s) j 0) r.passes ∙ ap (λ n. length (numbers_where (on v.x s) 0 n)) k ∙ r.place_is }
+    record {
+      made = omega (arith, r.is, r.low);
+      on_it = r.passes;
+      at = index_on v.x s (get_or (line v s) j 0) r.passes ∙ ap (λ n. length (numbers_where (on v.x s) 0 n)) k ∙ r.place_is;
+    }
 
 -- ## The one expected next
 
 pub next_reads : (v : View) (s k : ℕ) → k < v.x.count → on v.x s k ≡ true → v.named s ≤ index v.x k → index v.x k < next v s → v.read k ≡ true
 next_reads v s k lt h low high =
     let named = v.named s in
-    let at : get_or (drop named (line v s)) (index v.x k - named) 0 ≡ k = get-drop named (line v s) (index v.x k - named) (index v.x k) 0 (omega arith) ∙ line-at v s k 0 lt h in
+    let at : get_or (drop named (line v s)) (index v.x k - named) 0 ≡ k = get-drop named (line v s) (index v.x k - named) (index v.x k) 0 (omega arith)
+    ∙ line-at v s k 0 lt h in
     ap v.read (sym at) ∙ leading-passes v.read (drop named (line v s)) (index v.x k - named) 0 (omega arith)
 
 pub next_unread : (v : View) (s k : ℕ) → k < v.x.count → on v.x s k ≡ true → index v.x k ≡ next v s → v.read k ≡ false
@@ -66,7 +72,8 @@ next_unread v s k lt h e =
     ap v.read (sym at) ∙ leading-stops v.read (drop named (line v s)) 0 (omega (arith, length-dropped named (line v s), index-short v s k lt h, e))
 
 -- the next one is settled by what is read before it and what is not at it
-pub next_is : (v : View) (s i : ℕ) → v.named s ≤ i → i ≤ length (line v s) → ((k : ℕ) → v.named s ≤ k → k < i → v.read (get_or (line v s) k 0) ≡ true) → (i < length (line v s) → v.read (get_or (line v s) i 0) ≡ false) → next v s ≡ i
+pub next_is : (v : View) (s i : ℕ) → v.named s ≤ i → i ≤ length (line v s) → ((k : ℕ) → v.named s ≤ k → k < i → v.read (get_or (line v s) k 0) ≡ true)
+    → (i < length (line v s) → v.read (get_or (line v s) i 0) ≡ false) → next v s ≡ i
 next_is v s i low high pass stop =
     let named = v.named s in
     let count : length (leading v.read (drop named (line v s))) ≡ i - named =
@@ -85,7 +92,8 @@ next_passes v s j low high =
     ap v.read (sym at) ∙ leading-passes v.read (drop named (line v s)) (j - named) 0 (omega arith)
 
 -- the same, by messages
-pub next_by : (v : View) (s i : ℕ) → v.named s ≤ i → i ≤ length (line v s) → ((k : ℕ) → k < v.x.count → on v.x s k ≡ true → v.named s ≤ index v.x k → index v.x k < i → v.read k ≡ true) → ((k : ℕ) → k < v.x.count → on v.x s k ≡ true → index v.x k ≡ i → v.read k ≡ false) → next v s ≡ i
+pub next_by : (v : View) (s i : ℕ) → v.named s ≤ i → i ≤ length (line v s) → ((k : ℕ) → k < v.x.count → on v.x s k ≡ true → v.named s ≤ index v.x k
+    → index v.x k < i → v.read k ≡ true) → ((k : ℕ) → k < v.x.count → on v.x s k ≡ true → index v.x k ≡ i → v.read k ≡ false) → next v s ≡ i
 next_by v s i low high pass stop = next_is v s i low high
     (λ j a b. let r = index-at v s j (omega arith) in pass (get_or (line v s) j 0) r.made r.on_it (omega (arith, r.at)) (omega (arith, r.at)))
     (λ lt. let r = index-at v s i lt in stop (get_or (line v s) i 0) r.made r.on_it r.at)

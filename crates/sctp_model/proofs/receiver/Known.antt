@@ -1,4 +1,5 @@
-use Rattle.std.proofs.Common.{◌≡◌, ℕ, zero, suc, ◌+◌, ◌-◌, ◌<◌, ◌≤◌, Bool, true, false, List, [], ◌∷◌, ◌++◌, length, take, drop, Some, refl, ap, sym, ◌∙◌, inl, inr, arith}
+use Rattle.std.proofs.Common.{◌≡◌, ℕ, zero, suc, ◌+◌, ◌-◌, ◌<◌, ◌≤◌, Bool, true, false, List, [], ◌∷◌, ◌++◌, length, take, drop, Some, refl, ap, sym, ◌∙◌, inl}
+use Rattle.std.proofs.Common.{inr, arith}
 use Rattle.std.specs.Prelude.{◌⊎◌, if◌then◌else◌, ◌==◌, ◌&&◌, ◌||◌, not, nat_le, nat_lt}
 use Rattle.std.specs.List.{list_any, list_all, filter}
 use Rattle.std.proofs.Math.Path.{subst}
@@ -24,7 +25,8 @@ use Rattle.sctp_model.proofs.sender.Grows.{Grows, parts-grown}
 use Rattle.sctp_model.proofs.sender.Moves.{Quiet}
 use Rattle.sctp_model.proofs.receiver.Arrivals.{Heard, with_arrived, arrived-beyond}
 use Rattle.sctp_model.proofs.receiver.View
-use Rattle.sctp_model.proofs.receiver.View.{View, view, has_come, come_count, all_come, complete_at, arrived_in, noted_in, skipped_in, read_in, run, line, next_read}
+use Rattle.sctp_model.proofs.receiver.View.{View, view, has_come, come_count, all_come, complete_at, arrived_in, noted_in, skipped_in, read_in, run, line}
+use Rattle.sctp_model.proofs.receiver.View.{next_read}
 use Rattle.sctp_model.proofs.receiver.CompleteMessages
 use Rattle.sctp_list_lemmas.proofs.Cases.{by_same, same-yes, same-is, negated}
 use Rattle.sctp_list_lemmas.proofs.Cases.{or-right, or-split, or-none, and-none}
@@ -62,8 +64,9 @@ still-of setup w v g a q = record {
 
 pub come-still : (u v : View) → Still u v → (n : ℕ) → come_count v n ≡ come_count u n
 come-still u v s n = ap length
-    (kept-short (has_come v n) 0 u.x.slots (v.x.slots - u.x.slots) v.x.slots (omega (arith, s.grows.slots)) (λ k a b. ap (λ c. has v.x n k && c) (s.arrived k ∙ s.beyond k (omega arith)) ∙ and-none (has v.x n k))
-    ∙ kept-same (has_come v n) (has_come u n) 0 u.x.slots (λ k a b. ap (λ c. has v.x n k && c) (s.arrived k) ∙ ap (λ y. ((y.message == n) && not y.is_terminal_chunk) && u.arrived k) (s.grows.slot k (omega arith))))
+    (kept-short (has_come v n) 0 u.x.slots (v.x.slots - u.x.slots) v.x.slots (omega (arith, s.grows.slots)) (λ k a b. ap (λ c. has v.x n k && c) (s.arrived k
+    ∙ s.beyond k (omega arith)) ∙ and-none (has v.x n k)) ∙ kept-same (has_come v n) (has_come u n) 0 u.x.slots (λ k a b.
+    ap (λ c. has v.x n k && c) (s.arrived k) ∙ ap (λ y. ((y.message == n) && not y.is_terminal_chunk) && u.arrived k) (s.grows.slot k (omega arith))))
 
 pub all-still : (u v : View) → Still u v → (n : ℕ) → n < u.x.count → all_come v n ≡ all_come u n
 all-still u v s n lt = ap (λ c. c == parts v.x n) (come-still u v s n) ∙ ap (λ k. come_count u n == k) (parts-grown u.x v.x s.grows n lt)
@@ -83,7 +86,10 @@ come-sent v n = less 0 v.x.slots
     less from zero = omega arith
     less from (suc count) = step (has v.x n from) (v.arrived from) (less (from + 1) count)
       where
-        step : (c d : Bool) → length (numbers_where (λ k. has v.x n k && v.arrived k) (from + 1) count) ≤ length (numbers_where (has v.x n) (from + 1) count) → length (if c && d then from ∷ numbers_where (λ k. has v.x n k && v.arrived k) (from + 1) count else numbers_where (λ k. has v.x n k && v.arrived k) (from + 1) count) ≤ length (if c then from ∷ numbers_where (has v.x n) (from + 1) count else numbers_where (has v.x n) (from + 1) count)
+        step : (c d : Bool) → length (numbers_where (λ k. has v.x n k && v.arrived k) (from + 1) count) ≤ length (numbers_where (has v.x n) (from + 1) count)
+            → length (if c && d then from ∷ numbers_where (λ k. has v.x n k && v.arrived k) (from + 1) count
+            else numbers_where (λ k. has v.x n k && v.arrived k) (from + 1) count)
+            ≤ length (if c then from ∷ numbers_where (has v.x n) (from + 1) count else numbers_where (has v.x n) (from + 1) count)
         step true true ih = omega (arith, ih)
         step true false ih = omega (arith, ih)
         step false d ih = ih
@@ -122,7 +128,12 @@ pub complete-quiet : (u v : View) (log : List LogEntry) → ((p : ℕ) → u.arr
 complete-quiet u v log heard s h = record {
   datagram_received = CompleteMessages.received-later u.x v.x s.grows.slots log h.datagram_received;
   ready = λ t n e. let r = h.ready t n (ap (list_any (λ k. k == n)) (sym (s.complete t)) ∙ e) in
-      record { made = omega (arith, r.made, s.grows.count); stream = ap (λ m. m.stream) (s.grows.message n r.made) ∙ r.stream; kind = ap (λ m. m.ordered) (s.grows.message n r.made) ∙ r.kind; unread = s.read n r.made ∙ r.unread };
+      record {
+        made = omega (arith, r.made, s.grows.count);
+        stream = ap (λ m. m.stream) (s.grows.message n r.made) ∙ r.stream;
+        kind = ap (λ m. m.ordered) (s.grows.message n r.made) ∙ r.kind;
+        unread = s.read n r.made ∙ r.unread;
+      };
   differ = λ t. different-same (u.complete t) (v.complete t) (s.complete t) (h.differ t);
   agrees = λ n lt. by n lt (cases_lt n u.x.count);
 }
@@ -133,18 +144,23 @@ complete-quiet u v log heard s h = record {
         none : come_count v n ≡ 0
         none = omega (arith, come-still u v s n, come-sent u n, sent-none u.x n s.sender ge)
 
-        kind : (b : Bool) → (v.x.message n).ordered ≡ b → (if b then all_come v n else v.read n || list_any (λ k. k == n) (v.complete (v.x.message n).stream)) ≡ false
+        kind : (b : Bool) → (v.x.message n).ordered ≡ b
+            → (if b then all_come v n else v.read n || list_any (λ k. k == n) (v.complete (v.x.message n).stream)) ≡ false
         kind true e = let z : come_count v n < parts v.x n = omega (arith, none, s.sender'.some n lt) in grind (arith, nat_tests)
         kind false e =
             ap (λ b. b || list_any (λ k. k == n) (v.complete (v.x.message n).stream)) (s.unread n ge lt)
-            ∙ fails (list_any (λ k. k == n) (v.complete (v.x.message n).stream)) (λ i. absurd (omega (arith, (h.ready (v.x.message n).stream n (ap (list_any (λ k. k == n)) (sym (s.complete (v.x.message n).stream)) ∙ i)).made)))
+            ∙ fails (list_any (λ k. k == n) (v.complete (v.x.message n).stream)) (λ i.
+            absurd (omega (arith, (h.ready (v.x.message n).stream n (ap (list_any (λ k. k == n)) (sym (s.complete (v.x.message n).stream)) ∙ i)).made)))
 
     new-in : (n : ℕ) → n < v.x.count → u.x.count ≤ n → CompleteMessages.complete_in v.x log n ≡ false
-    new-in n lt ge = fails (CompleteMessages.complete_in v.x log n) (λ e. let y = CompleteMessages.complete-come v log n (λ p. s.arrived p ∙ heard p) (s.sender'.within n lt) e in
-        let z = same-is (come_count v n) (parts v.x n) y in absurd (omega (arith, z, come-still u v s n, come-sent u n, sent-none u.x n s.sender ge, s.sender'.some n lt)))
+    new-in n lt ge = fails (CompleteMessages.complete_in v.x log n)
+        (λ e. let y = CompleteMessages.complete-come v log n (λ p. s.arrived p ∙ heard p) (s.sender'.within n lt) e in
+        let z = same-is (come_count v n) (parts v.x n) y in
+        absurd (omega (arith, z, come-still u v s n, come-sent u n, sent-none u.x n s.sender ge, s.sender'.some n lt)))
 
     by : (n : ℕ) → n < v.x.count → (n < u.x.count) ⊎ (u.x.count ≤ n) → complete_at v n ≡ CompleteMessages.complete_in v.x log n
-    by n lt (inl l) = complete-still u v s n l ∙ h.agrees n l ∙ sym (CompleteMessages.complete-later u.x v.x s.sender s.sender' s.grows log h.datagram_received n l)
+    by n lt (inl l) = complete-still u v s n l ∙ h.agrees n l
+        ∙ sym (CompleteMessages.complete-later u.x v.x s.sender s.sender' s.grows log h.datagram_received n l)
     by n lt (inr ge) = new-at n lt ge ∙ sym (new-in n lt ge)
 
 -- ## A slot comes
@@ -152,18 +168,26 @@ complete-quiet u v log heard s h = record {
 abbrev pub noting : View → ℕ → View
 noting v n = if not (v.x.message n).ordered && CompleteMessages.due v n then noted_in v (v.x.message n).stream n else v
 
-pub view-received : (setup : Setup) (w : LinkRecord) (p : ℕ) → Sane setup w → p < length w.slots → is_new w p ≡ true → view (Changes.receive_slot w p) ≡ noting (arrived_in (view w) p) (Messages.message_of w p)
-view-received setup w p g lt new = ap (λ b. view (if b then Changes.note_completion (with_arrived w p) (Messages.message_of w p) else record w { duplicates = w.duplicates ++ p ∷ [] })) new
-    ∙ step (Changes.becomes_complete (with_arrived w p) (Messages.message_of w p))
-    ∙ ap (λ v. noting v (Messages.message_of w p)) (View.view-arrived w p lt)
+pub view-received : (setup : Setup) (w : LinkRecord) (p : ℕ) → Sane setup w → p < length w.slots → is_new w p ≡ true
+    → view (Changes.receive_slot w p) ≡ noting (arrived_in (view w) p) (Messages.message_of w p)
+view-received setup w p g lt new =
+    ap (λ b. view (if b then Changes.note_completion (with_arrived w p) (Messages.message_of w p) else record w { duplicates = w.duplicates ++ p ∷ [] })) new
+    ∙ step (Changes.becomes_complete (with_arrived w p) (Messages.message_of w p)) ∙ ap (λ v. noting v (Messages.message_of w p)) (View.view-arrived w p lt)
   where
-    step : (b : Bool) → view (if b then Changes.stream_changed (with_arrived w p) (Messages.message_at w (Messages.message_of w p)).stream (Changes.with_complete (Messages.message_of w p)) else with_arrived w p) ≡ (if b then noted_in (view (with_arrived w p)) (Messages.message_at w (Messages.message_of w p)).stream (Messages.message_of w p) else view (with_arrived w p))
-    step true = View.view-noted (with_arrived w p) (Messages.message_at w (Messages.message_of w p)).stream (Messages.message_of w p) (g.known (Messages.message_of w p) (g.sender.made p lt))
+    step : (b : Bool) → view (if b then Changes.stream_changed (with_arrived w p) (Messages.message_at w (Messages.message_of w p)).stream
+        (Changes.with_complete (Messages.message_of w p)) else with_arrived w p) ≡ (if b
+        then noted_in (view (with_arrived w p)) (Messages.message_at w (Messages.message_of w p)).stream (Messages.message_of w p) else view (with_arrived w p))
+    step true = View.view-noted (with_arrived w p) (Messages.message_at w (Messages.message_of w p)).stream (Messages.message_of w p)
+        (g.known (Messages.message_of w p) (g.sender.made p lt))
     step false = refl
 
 pub differ-more : (xs : List ℕ) (n : ℕ) → list_any (λ k. k == n) xs ≡ false → AllDifferent xs → AllDifferent (xs ++ n ∷ [])
 differ-more [] n e a = (refl, tt)
-differ-more (x ∷ xs) n e a = (any-append (λ y. y == x) xs (n ∷ []) ∙ ap (λ b. b || ((n == x) || false)) a.0 ∙ or-none (n == x) ∙ fails (n == x) (λ h. not_both (sym (left (x == n) (list_any (λ k. k == n) xs) e) ∙ flip (same-is n x h))), differ-more xs n (right (x == n) (list_any (λ k. k == n) xs) e) a.1)
+differ-more (x ∷ xs) n e a = (
+  any-append (λ y. y == x) xs (n ∷ []) ∙ ap (λ b. b || ((n == x) || false)) a.0 ∙ or-none (n == x)
+      ∙ fails (n == x) (λ h. not_both (sym (left (x == n) (list_any (λ k. k == n) xs) e) ∙ flip (same-is n x h))),
+  differ-more xs n (right (x == n) (list_any (λ k. k == n) xs) e) a.1,
+)
   where
     left : (a b : Bool) → (a || b) ≡ false → a ≡ false
     left true b e = e
@@ -178,15 +202,19 @@ differ-more (x ∷ xs) n e a = (any-append (λ y. y == x) xs (n ∷ []) ∙ ap (
 
 -- a message with a slot that has not arrived
 pub not-all : (v : View) (n p : ℕ) → sent v.x n ≤ parts v.x n → p < v.x.slots → has v.x n p ≡ true → v.arrived p ≡ false → all_come v n ≡ false
-not-all v n p le lt h e = fails (all_come v n) (λ a. not_both (sym e ∙ Alls.all-at v.arrived (has v.x n) p 0 v.x.slots (omega arith) (omega arith) h (both (sent v.x n == parts v.x n) (list_all v.arrived (CompleteMessages.slots_in v.x n)) (sym (CompleteMessages.all-come v n le) ∙ a)).1))
+not-all v n p le lt h e = fails (all_come v n) (λ a. not_both (sym e ∙ Alls.all-at v.arrived (has v.x n) p 0 v.x.slots (omega arith) (omega arith) h
+    (both (sent v.x n == parts v.x n) (list_all v.arrived (CompleteMessages.slots_in v.x n)) (sym (CompleteMessages.all-come v n le) ∙ a)).1))
 
 -- another message has arrived as it had
 pub come-other : (v : View) (p n : ℕ) → ((v.x.slot p).message ≡ n → ⊥) → come_count (arrived_in v p) n ≡ come_count v n
-come-other v p n ne = ap length (kept-same (has_come (arrived_in v p) n) (has_come v n) 0 v.x.slots (λ k a b. by_same {P = has_come (arrived_in v p) n k ≡ has_come v n k} k p
+come-other v p n ne =
+    ap length (kept-same (has_come (arrived_in v p) n) (has_come v n) 0 v.x.slots (λ k a b. by_same {P = has_come (arrived_in v p) n k ≡ has_come v n k} k p
     (λ e. let off : has v.x n k ≡ false = fails (has v.x n k) (λ i. ne (sym (ap (λ q. (v.x.slot q).message) e) ∙ (of-has v.x n k i).0)) in rw off refl)
     (λ nk f. ap (λ b. has v.x n k && (if b then true else v.arrived k)) f)))
 
-module _ (v : View) (log : List LogEntry) (p : ℕ) (s : Sender v.x) (h : Complete v log) (heard : CompleteMessages.Hears v log) (heard' : CompleteMessages.Hears (arrived_in v p) (SlotReceived p ∷ log)) (lt : p < v.x.slots) (mark : (v.x.slot p).is_terminal_chunk ≡ false) (new : v.arrived p ≡ false) where
+module _ (v : View) (log : List LogEntry) (p : ℕ) (s : Sender v.x) (h : Complete v log) (heard : CompleteMessages.Hears v log)
+    (heard' : CompleteMessages.Hears (arrived_in v p) (SlotReceived p ∷ log)) (lt : p < v.x.slots) (mark : (v.x.slot p).is_terminal_chunk ≡ false)
+    (new : v.arrived p ≡ false) where
   abbrev m : ℕ
   m = (v.x.slot p).message
 
@@ -204,7 +232,8 @@ module _ (v : View) (log : List LogEntry) (p : ℕ) (s : Sender v.x) (h : Comple
 
   -- it was not complete before
   pub not-complete : (v.x.message m).ordered ≡ false → complete_at v m ≡ false
-  not-complete o = fails (complete_at v m) (λ e. not_both (sym (not-all v m p (s.within m made) lt here new) ∙ CompleteMessages.complete-come v log m heard.arrived (s.within m made) (sym (h.agrees m made) ∙ e)))
+  not-complete o = fails (complete_at v m) (λ e. not_both (sym (not-all v m p (s.within m made) lt here new)
+      ∙ CompleteMessages.complete-come v log m heard.arrived (s.within m made) (sym (h.agrees m made) ∙ e)))
 
   pub due-other : (n : ℕ) → (m ≡ n → ⊥) → CompleteMessages.due v1 n ≡ CompleteMessages.due v n
   due-other n ne = ap (λ c. (c == parts v.x n) && list_all (λ q. nat_le v.skipped q) (CompleteMessages.slots_in v.x n)) (come-other v p n ne)
@@ -222,27 +251,36 @@ module _ (v : View) (log : List LogEntry) (p : ℕ) (s : Sender v.x) (h : Comple
       same e true f =
           let un : not (v.x.message m).ordered ≡ true = ap (λ k. not (v.x.message k).ordered) e ∙ ap not o in
           ap (λ b. complete_at (if b then noted_in v1 (v.x.message m).stream m else v1) n) (and (not (v.x.message m).ordered) (CompleteMessages.due v1 m) un f)
-          ∙ ap (λ b. if b then all_come (noted_in v1 (v.x.message m).stream m) n else v.read n || list_any (λ k. k == n) (if (v.x.message n).stream == (v.x.message m).stream then v.complete (v.x.message n).stream ++ m ∷ [] else v.complete (v.x.message n).stream)) o
-          ∙ or-right (v.read n) (list_any (λ k. k == n) (if (v.x.message n).stream == (v.x.message m).stream then v.complete (v.x.message n).stream ++ m ∷ [] else v.complete (v.x.message n).stream))
-          (ap (λ b. list_any (λ k. k == n) (if b then v.complete (v.x.message n).stream ++ m ∷ [] else v.complete (v.x.message n).stream)) (ap (λ k. (v.x.message n).stream == (v.x.message k).stream) e ∙ same-yes (v.x.message n).stream)
-          ∙ any-append (λ k. k == n) (v.complete (v.x.message n).stream) (m ∷ []) ∙ or-right (list_any (λ k. k == n) (v.complete (v.x.message n).stream)) ((m == n) || false) (or-left' (m == n) (ap (λ k. k == n) e ∙ same-yes n)))
+          ∙ ap (λ b. if b then all_come (noted_in v1 (v.x.message m).stream m) n else v.read n || list_any (λ k. k == n)
+          (if (v.x.message n).stream == (v.x.message m).stream then v.complete (v.x.message n).stream ++ m ∷ [] else v.complete (v.x.message n).stream)) o
+          ∙ or-right (v.read n) (list_any (λ k. k == n) (if (v.x.message n).stream == (v.x.message m).stream
+          then v.complete (v.x.message n).stream ++ m ∷ [] else v.complete (v.x.message n).stream))
+          (ap (λ b. list_any (λ k. k == n) (if b then v.complete (v.x.message n).stream ++ m ∷ [] else v.complete (v.x.message n).stream))
+          (ap (λ k. (v.x.message n).stream == (v.x.message k).stream) e ∙ same-yes (v.x.message n).stream)
+          ∙ any-append (λ k. k == n) (v.complete (v.x.message n).stream) (m ∷ [])
+          ∙ or-right (list_any (λ k. k == n) (v.complete (v.x.message n).stream)) ((m == n) || false) (or-left' (m == n) (ap (λ k. k == n) e ∙ same-yes n)))
           ∙ sym (or-right (complete_at v n) (CompleteMessages.due v1 n) (ap (CompleteMessages.due v1) (sym e) ∙ f))
         where
           or-left' : (b : Bool) → b ≡ true → (b || false) ≡ true
           or-left' true e = refl
           or-left' false e = cc
       same e false f =
-          ap (λ b. complete_at (if b then noted_in v1 (v.x.message m).stream m else v1) n) (ap (λ b. not (v.x.message m).ordered && b) f ∙ and-none (not (v.x.message m).ordered))
-          ∙ ap (λ b. if b then all_come v1 n else v.read n || list_any (λ k. k == n) (v.complete (v.x.message n).stream)) o
-          ∙ sym plain ∙ sym (or-none (complete_at v n)) ∙ ap (λ b. complete_at v n || b) (sym (ap (CompleteMessages.due v1) (sym e) ∙ f))
+          ap (λ b. complete_at (if b then noted_in v1 (v.x.message m).stream m else v1) n)
+          (ap (λ b. not (v.x.message m).ordered && b) f ∙ and-none (not (v.x.message m).ordered))
+          ∙ ap (λ b. if b then all_come v1 n else v.read n || list_any (λ k. k == n) (v.complete (v.x.message n).stream)) o ∙ sym plain
+          ∙ sym (or-none (complete_at v n)) ∙ ap (λ b. complete_at v n || b) (sym (ap (CompleteMessages.due v1) (sym e) ∙ f))
 
       other : (m ≡ n → ⊥) → (m == n) ≡ false → (b : Bool) → complete_at (if b then noted_in v1 (v.x.message m).stream m else v1) n ≡ complete_at v n
       other ne f true =
-          ap (λ b. if b then all_come (noted_in v1 (v.x.message m).stream m) n else v.read n || list_any (λ k. k == n) (if (v.x.message n).stream == (v.x.message m).stream then v.complete (v.x.message n).stream ++ m ∷ [] else v.complete (v.x.message n).stream)) o
+          ap (λ b. if b then all_come (noted_in v1 (v.x.message m).stream m) n else v.read n || list_any (λ k. k == n)
+          (if (v.x.message n).stream == (v.x.message m).stream then v.complete (v.x.message n).stream ++ m ∷ [] else v.complete (v.x.message n).stream)) o
           ∙ ap (λ b. v.read n || b) (either ((v.x.message n).stream == (v.x.message m).stream)) ∙ sym plain
         where
-          either : (b : Bool) → list_any (λ k. k == n) (if b then v.complete (v.x.message n).stream ++ m ∷ [] else v.complete (v.x.message n).stream) ≡ list_any (λ k. k == n) (v.complete (v.x.message n).stream)
-          either true = any-append (λ k. k == n) (v.complete (v.x.message n).stream) (m ∷ []) ∙ ap (λ b. list_any (λ k. k == n) (v.complete (v.x.message n).stream) || (b || false)) f ∙ or-none (list_any (λ k. k == n) (v.complete (v.x.message n).stream))
+          either : (b : Bool) → list_any (λ k. k == n) (if b then v.complete (v.x.message n).stream ++ m ∷ [] else v.complete (v.x.message n).stream)
+              ≡ list_any (λ k. k == n) (v.complete (v.x.message n).stream)
+          either true = any-append (λ k. k == n) (v.complete (v.x.message n).stream) (m ∷ [])
+              ∙ ap (λ b. list_any (λ k. k == n) (v.complete (v.x.message n).stream) || (b || false)) f
+              ∙ or-none (list_any (λ k. k == n) (v.complete (v.x.message n).stream))
           either false = refl
       other ne f false = ap (λ b. if b then all_come v1 n else v.read n || list_any (λ k. k == n) (v.complete (v.x.message n).stream)) o ∙ sym plain
 
@@ -252,18 +290,23 @@ module _ (v : View) (log : List LogEntry) (p : ℕ) (s : Sender v.x) (h : Comple
         where
           by : (b : Bool) → CompleteMessages.due v n ≡ b → (complete_at v n || CompleteMessages.due v1 n) ≡ (complete_at v n || false)
           by false e = ap (λ b. complete_at v n || b) (due-other n ne ∙ e)
-          by true e = let y : complete_at v n ≡ true = h.agrees n l ∙ CompleteMessages.due-complete v log n heard (s.within n l) (s.some n l) o e in ap (λ b. b || CompleteMessages.due v1 n) y ∙ sym (ap (λ b. b || false) y)
+          by true e = let y : complete_at v n ≡ true = h.agrees n l ∙ CompleteMessages.due-complete v log n heard (s.within n l) (s.some n l) o e in
+              ap (λ b. b || CompleteMessages.due v1 n) y ∙ sym (ap (λ b. b || false) y)
 
   agrees-then : (n : ℕ) → n < v.x.count → complete_at v2 n ≡ CompleteMessages.complete_in v.x (SlotReceived p ∷ log) n
   agrees-then n l = by (v.x.message n).ordered refl
     where
       kind : (b : Bool) → (v.x.message n).ordered ≡ true → complete_at (if b then noted_in v1 (v.x.message m).stream m else v1) n ≡ complete_at v1 n
-      kind true o = ap (λ b. if b then all_come v1 n else v.read n || list_any (λ k. k == n) (if (v.x.message n).stream == (v.x.message m).stream then v.complete (v.x.message n).stream ++ m ∷ [] else v.complete (v.x.message n).stream)) o ∙ sym (ap (λ b. if b then all_come v1 n else v.read n || list_any (λ k. k == n) (v.complete (v.x.message n).stream)) o)
+      kind true o = ap (λ b. if b then all_come v1 n else v.read n || list_any (λ k. k == n) (if (v.x.message n).stream == (v.x.message m).stream
+          then v.complete (v.x.message n).stream ++ m ∷ [] else v.complete (v.x.message n).stream)) o
+          ∙ sym (ap (λ b. if b then all_come v1 n else v.read n || list_any (λ k. k == n) (v.complete (v.x.message n).stream)) o)
       kind false o = refl
 
       by : (b : Bool) → (v.x.message n).ordered ≡ b → complete_at v2 n ≡ CompleteMessages.complete_in v.x (SlotReceived p ∷ log) n
-      by true o = kind (not (v.x.message m).ordered && CompleteMessages.due v1 m) o ∙ CompleteMessages.ordered-complete v1 (SlotReceived p ∷ log) n heard'.arrived (s.within n l) o
-      by false o = complete-then n l o ∙ ap (λ b. b || CompleteMessages.due v1 n) (h.agrees n l) ∙ sym (CompleteMessages.one-more v1 (SlotReceived p) log n heard' (s.within n l) o)
+      by true o = kind (not (v.x.message m).ordered && CompleteMessages.due v1 m) o
+          ∙ CompleteMessages.ordered-complete v1 (SlotReceived p ∷ log) n heard'.arrived (s.within n l) o
+      by false o = complete-then n l o ∙ ap (λ b. b || CompleteMessages.due v1 n) (h.agrees n l)
+          ∙ sym (CompleteMessages.one-more v1 (SlotReceived p) log n heard' (s.within n l) o)
 
   pub complete-slot : Complete v2 (SlotReceived p ∷ log)
   complete-slot = by (not (v.x.message m).ordered && CompleteMessages.due v1 m) refl
@@ -288,32 +331,42 @@ module _ (v : View) (log : List LogEntry) (p : ℕ) (s : Sender v.x) (h : Comple
           })
         where
           unread : (v.x.message m).ordered ≡ false → v.read m ≡ false
-          unread kind = fails (v.read m) (λ r. not_both (sym (not-complete kind) ∙ ap (λ b. if b then all_come v m else v.read m || list_any (λ k. k == m) (v.complete (v.x.message m).stream)) kind ∙ ap (λ b. b || list_any (λ k. k == m) (v.complete (v.x.message m).stream)) r))
+          unread kind = fails (v.read m) (λ r. not_both (sym (not-complete kind) ∙ ap (λ b. if b then all_come v m else v.read m || list_any (λ k. k == m)
+              (v.complete (v.x.message m).stream)) kind ∙ ap (λ b. b || list_any (λ k. k == m) (v.complete (v.x.message m).stream)) r))
 
           absent : (v.x.message m).ordered ≡ false → list_any (λ k. k == m) (v.complete (v.x.message m).stream) ≡ false
-          absent kind = fails (list_any (λ k. k == m) (v.complete (v.x.message m).stream)) (λ r. not_both (sym (not-complete kind) ∙ ap (λ b. if b then all_come v m else v.read m || list_any (λ k. k == m) (v.complete (v.x.message m).stream)) kind ∙ or-right (v.read m) (list_any (λ k. k == m) (v.complete (v.x.message m).stream)) r))
+          absent kind = fails (list_any (λ k. k == m) (v.complete (v.x.message m).stream)) (λ r. not_both (sym (not-complete kind)
+              ∙ ap (λ b. if b then all_come v m else v.read m || list_any (λ k. k == m) (v.complete (v.x.message m).stream)) kind
+              ∙ or-right (v.read m) (list_any (λ k. k == m) (v.complete (v.x.message m).stream)) r))
 
           old : (t n : ℕ) → list_any (λ k. k == n) (v.complete t) ≡ true → IsReady (noted_in v1 (v.x.message m).stream m) t n
           old t n i = let r = h.ready t n i in record { made = r.made; stream = r.stream; kind = r.kind; unread = r.unread }
 
-          waits : (v.x.message m).ordered ≡ false → (t n : ℕ) → (b : Bool) → (t == (v.x.message m).stream) ≡ b → list_any (λ k. k == n) (if b then v.complete t ++ m ∷ [] else v.complete t) ≡ true → IsReady (noted_in v1 (v.x.message m).stream m) t n
+          waits : (v.x.message m).ordered ≡ false → (t n : ℕ) → (b : Bool) → (t == (v.x.message m).stream) ≡ b
+              → list_any (λ k. k == n) (if b then v.complete t ++ m ∷ [] else v.complete t) ≡ true → IsReady (noted_in v1 (v.x.message m).stream m) t n
           waits kind t n false f i = old t n i
-          waits kind t n true f i = side (or-split (list_any (λ k. k == n) (v.complete t)) ((m == n) || false) (sym (any-append (λ k. k == n) (v.complete t) (m ∷ [])) ∙ i))
+          waits kind t n true f i =
+              side (or-split (list_any (λ k. k == n) (v.complete t)) ((m == n) || false) (sym (any-append (λ k. k == n) (v.complete t) (m ∷ [])) ∙ i))
             where
               side : (list_any (λ k. k == n) (v.complete t) ≡ true) ⊎ (((m == n) || false) ≡ true) → IsReady (noted_in v1 (v.x.message m).stream m) t n
               side (inl j) = old t n j
               side (inr j) =
                   let z : m ≡ n = same-is m n (sym (or-none (m == n)) ∙ j) in
-                  subst (λ k. IsReady (noted_in v1 (v.x.message m).stream m) t k) z (record { made = made; stream = sym (same-is t (v.x.message m).stream f); kind = kind; unread = unread kind })
+                  subst (λ k. IsReady (noted_in v1 (v.x.message m).stream m) t k) z
+                  (record { made = made; stream = sym (same-is t (v.x.message m).stream f); kind = kind; unread = unread kind })
 
-          apart : (v.x.message m).ordered ≡ false → (t : ℕ) → (b : Bool) → (t == (v.x.message m).stream) ≡ b → AllDifferent (if b then v.complete t ++ m ∷ [] else v.complete t)
+          apart : (v.x.message m).ordered ≡ false → (t : ℕ) → (b : Bool) → (t == (v.x.message m).stream) ≡ b
+              → AllDifferent (if b then v.complete t ++ m ∷ [] else v.complete t)
           apart kind t false f = h.differ t
-          apart kind t true f = differ-more (v.complete t) m (ap (λ k. list_any (λ k. k == m) (v.complete k)) (same-is t (v.x.message m).stream f) ∙ absent kind) (h.differ t)
+          apart kind t true f =
+              differ-more (v.complete t) m (ap (λ k. list_any (λ k. k == m) (v.complete k)) (same-is t (v.x.message m).stream f) ∙ absent kind) (h.differ t)
 
 -- ## Other things come
 
 -- nothing becomes complete
-agrees-still : (u v : View) (coming : LogEntry) (log : List LogEntry) → CompleteMessages.Hears u log → CompleteMessages.Hears v (coming ∷ log) → v.x ≡ u.x → Sender u.x → Complete u log → ((n : ℕ) → n < u.x.count → complete_at v n ≡ complete_at u n) → ((n : ℕ) → CompleteMessages.due v n ≡ true → CompleteMessages.due u n ≡ true) → (n : ℕ) → n < u.x.count → complete_at v n ≡ CompleteMessages.complete_in u.x (coming ∷ log) n
+agrees-still : (u v : View) (coming : LogEntry) (log : List LogEntry) → CompleteMessages.Hears u log → CompleteMessages.Hears v (coming ∷ log) → v.x ≡ u.x
+    → Sender u.x → Complete u log → ((n : ℕ) → n < u.x.count → complete_at v n ≡ complete_at u n) → ((n : ℕ) → CompleteMessages.due v n ≡ true
+    → CompleteMessages.due u n ≡ true) → (n : ℕ) → n < u.x.count → complete_at v n ≡ CompleteMessages.complete_in u.x (coming ∷ log) n
 agrees-still u v coming log heard heard' e s h same less n lt = by (u.x.message n).ordered refl
   where
     le : sent v.x n ≤ parts v.x n
@@ -323,19 +376,32 @@ agrees-still u v coming log heard heard' e s h same less n lt = by (u.x.message 
     kind = ap (λ y. (y.message n).ordered) (sym e)
 
     by : (b : Bool) → (u.x.message n).ordered ≡ b → complete_at v n ≡ CompleteMessages.complete_in u.x (coming ∷ log) n
-    by true o = CompleteMessages.ordered-complete v (coming ∷ log) n heard'.arrived le (sym kind ∙ o) ∙ ap (λ y. CompleteMessages.complete_in y (coming ∷ log) n) e
+    by true o = CompleteMessages.ordered-complete v (coming ∷ log) n heard'.arrived le (sym kind ∙ o)
+        ∙ ap (λ y. CompleteMessages.complete_in y (coming ∷ log) n) e
     by false o =
-        same n lt ∙ h.agrees n lt ∙ sym (ap (λ y. CompleteMessages.complete_in y (coming ∷ log) n) (sym e) ∙ CompleteMessages.one-more v coming log n heard' le (sym kind ∙ o) ∙ ap (λ y. CompleteMessages.complete_in y log n || CompleteMessages.due v n) e ∙ gone (CompleteMessages.due v n) refl)
+        same n lt ∙ h.agrees n lt
+        ∙ sym (ap (λ y. CompleteMessages.complete_in y (coming ∷ log) n) (sym e) ∙ CompleteMessages.one-more v coming log n heard' le (sym kind ∙ o)
+        ∙ ap (λ y. CompleteMessages.complete_in y log n || CompleteMessages.due v n) e ∙ gone (CompleteMessages.due v n) refl)
       where
-        gone : (b : Bool) → CompleteMessages.due v n ≡ b → (CompleteMessages.complete_in u.x log n || CompleteMessages.due v n) ≡ CompleteMessages.complete_in u.x log n
-        gone true f = let y = CompleteMessages.due-complete u log n heard (s.within n lt) (s.some n lt) o (less n f) in ap (λ b. b || CompleteMessages.due v n) y ∙ sym y
+        gone : (b : Bool) → CompleteMessages.due v n ≡ b
+            → (CompleteMessages.complete_in u.x log n || CompleteMessages.due v n) ≡ CompleteMessages.complete_in u.x log n
+        gone true f = let y = CompleteMessages.due-complete u log n heard (s.within n lt) (s.some n lt) o (less n f) in
+            ap (λ b. b || CompleteMessages.due v n) y ∙ sym y
         gone false f = ap (λ b. CompleteMessages.complete_in u.x log n || b) f ∙ or-none (CompleteMessages.complete_in u.x log n)
 
 -- a slot comes again, or a SACK is made
-pub complete-again : (v : View) (coming : LogEntry) (log : List LogEntry) → CompleteMessages.Hears v log → CompleteMessages.Hears v (coming ∷ log) → Sender v.x → CompleteMessages.SlotsReceived v.x (coming ∷ log) → Complete v log → Complete v (coming ∷ log)
-complete-again v coming log heard heard' s datagram_received h = record { datagram_received = datagram_received; ready = h.ready; differ = h.differ; agrees = agrees-still v v coming log heard heard' refl s h (λ n lt. refl) (λ n e. e) }
+pub complete-again : (v : View) (coming : LogEntry) (log : List LogEntry) → CompleteMessages.Hears v log → CompleteMessages.Hears v (coming ∷ log) → Sender v.x
+    → CompleteMessages.SlotsReceived v.x (coming ∷ log) → Complete v log → Complete v (coming ∷ log)
+complete-again v coming log heard heard' s datagram_received h = record {
+  datagram_received = datagram_received;
+  ready = h.ready;
+  differ = h.differ;
+  agrees = agrees-still v v coming log heard heard' refl s h (λ n lt. refl) (λ n e. e);
+}
 
-pub complete-skip : (v : View) (log : List LogEntry) (upto : ℕ) (names : List ℕ) → CompleteMessages.Hears v log → CompleteMessages.Hears (skipped_in v upto names) (SkipReceived upto names ∷ log) → Sender v.x → v.skipped ≤ upto → Complete v log → Complete (skipped_in v upto names) (SkipReceived upto names ∷ log)
+pub complete-skip : (v : View) (log : List LogEntry) (upto : ℕ) (names : List ℕ) → CompleteMessages.Hears v log
+    → CompleteMessages.Hears (skipped_in v upto names) (SkipReceived upto names ∷ log) → Sender v.x → v.skipped ≤ upto → Complete v log
+    → Complete (skipped_in v upto names) (SkipReceived upto names ∷ log)
 complete-skip v log upto names heard heard' s le h = record {
   datagram_received = h.datagram_received;
   ready = λ t n i. let r = h.ready t n i in record { made = r.made; stream = r.stream; kind = r.kind; unread = r.unread };
@@ -346,7 +412,9 @@ complete-skip v log upto names heard heard' s le h = record {
     less : (n : ℕ) → CompleteMessages.due (skipped_in v upto names) n ≡ true → CompleteMessages.due v n ≡ true
     less n e =
         let a = both (all_come v n) (list_all (λ p. nat_le (upto + 1) p) (CompleteMessages.slots_in v.x n)) e in
-        and (all_come v n) (list_all (λ p. nat_le v.skipped p) (CompleteMessages.slots_in v.x n)) a.0 (all-more (λ p. nat_le (upto + 1) p) (λ p. nat_le v.skipped p) (CompleteMessages.slots_in v.x n) (λ k f. let z : upto + 1 ≤ k = grind (arith, nat_tests) in let y : v.skipped ≤ k = omega (arith, z, le) in grind (arith, nat_tests)) a.1)
+        and (all_come v n) (list_all (λ p. nat_le v.skipped p) (CompleteMessages.slots_in v.x n)) a.0
+        (all-more (λ p. nat_le (upto + 1) p) (λ p. nat_le v.skipped p) (CompleteMessages.slots_in v.x n) (λ k f. let z : upto + 1 ≤ k =
+        grind (arith, nat_tests) in let y : v.skipped ≤ k = omega (arith, z, le) in grind (arith, nat_tests)) a.1)
 
 -- ## A read
 
@@ -362,7 +430,8 @@ pub record ReadsRun (v : View) (s n : ℕ) : Type 0 where
 pub reads : (v : View) (s n : ℕ) → next_read v s ≡ Some n → ReadsComplete v s n ⊎ ReadsRun v s n
 reads v s n e = by (v.complete s) refl e
   where
-    by : (l : List ℕ) → v.complete s ≡ l → or_else (first_of l) (first_of (filter (λ n. not (v.read n)) (run v s))) ≡ Some n → ReadsComplete v s n ⊎ ReadsRun v s n
+    by : (l : List ℕ) → v.complete s ≡ l → or_else (first_of l) (first_of (filter (λ n. not (v.read n)) (run v s))) ≡ Some n
+        → ReadsComplete v s n ⊎ ReadsRun v s n
     by [] f g = inr (record { none = f; first = g })
     by (k ∷ rest) f g = let z : k ≡ n = cc in inl (record { rest = rest; is = f ∙ ap (λ j. j ∷ rest) z })
 
@@ -377,14 +446,18 @@ pub run-is : (v : View) (s n : ℕ) → ReadsRun v s n → IsNext v s n
 run-is v s n r = record {
   made = let t = all (λ k. nat_lt k v.x.count) (λ k a b e. let l : k < v.x.count = omega (arith, b) in grind (arith, nat_tests)) in grind (arith, nat_tests);
   on_it = all (on v.x s) (λ k a b e. e);
-  complete_now = Alls.all-first (complete_at v) (filter (λ n. not (v.read n)) (run v s)) n (Alls.all-passing (complete_at v) (λ n. not (v.read n)) (run v s) (Alls.all-append (complete_at v) (filter (complete_at v) (take (v.named s) (line v s))) (leading (complete_at v) (drop (v.named s) (line v s))) (Alls.all-passed (complete_at v) (take (v.named s) (line v s))) (all-led (complete_at v) (drop (v.named s) (line v s))))) r.first;
-  unread = negated (v.read n) (Alls.all-first (λ n. not (v.read n)) (filter (λ n. not (v.read n)) (run v s)) n (Alls.all-passed (λ n. not (v.read n)) (run v s)) r.first);
+  complete_now = Alls.all-first (complete_at v) (filter (λ n. not (v.read n)) (run v s)) n (Alls.all-passing (complete_at v) (λ n. not (v.read n)) (run v s)
+      (Alls.all-append (complete_at v) (filter (complete_at v) (take (v.named s) (line v s))) (leading (complete_at v) (drop (v.named s) (line v s)))
+      (Alls.all-passed (complete_at v) (take (v.named s) (line v s))) (all-led (complete_at v) (drop (v.named s) (line v s))))) r.first;
+  unread = negated (v.read n)
+      (Alls.all-first (λ n. not (v.read n)) (filter (λ n. not (v.read n)) (run v s)) n (Alls.all-passed (λ n. not (v.read n)) (run v s)) r.first);
 }
   where
     all : (t : ℕ → Bool) → ((k : ℕ) → 0 ≤ k → k < 0 + v.x.count → on v.x s k ≡ true → t k ≡ true) → t n ≡ true
     all t h =
         let base = Alls.all-kept t (on v.x s) 0 v.x.count h in
-        Alls.all-first t (filter (λ n. not (v.read n)) (run v s)) n (Alls.all-passing t (λ n. not (v.read n)) (run v s) (Alls.all-append t (filter (complete_at v) (take (v.named s) (line v s))) (leading (complete_at v) (drop (v.named s) (line v s)))
+        Alls.all-first t (filter (λ n. not (v.read n)) (run v s)) n (Alls.all-passing t (λ n. not (v.read n)) (run v s)
+        (Alls.all-append t (filter (complete_at v) (take (v.named s) (line v s))) (leading (complete_at v) (drop (v.named s) (line v s)))
         (Alls.all-passing t (complete_at v) (take (v.named s) (line v s)) (Alls.all-take t (v.named s) (line v s) base))
         (Alls.all-leading t (complete_at v) (drop (v.named s) (line v s)) (Alls.all-drop t (v.named s) (line v s) base)))) r.first
 
@@ -413,18 +486,22 @@ pub ready-complete : (v : View) (log : List LogEntry) (s n : ℕ) → Complete v
 ready-complete v log s n h r =
     let i = ready-first v log s n h r in
     ap (λ b. if b then all_come v n else v.read n || list_any (λ k. k == n) (v.complete (v.x.message n).stream)) i.kind
-    ∙ or-right (v.read n) (list_any (λ k. k == n) (v.complete (v.x.message n).stream)) (ap (λ t. list_any (λ k. k == n) (v.complete t)) i.stream ∙ ap (list_any (λ k. k == n)) r.is ∙ any-here n r.rest)
+    ∙ or-right (v.read n) (list_any (λ k. k == n) (v.complete (v.x.message n).stream))
+    (ap (λ t. list_any (λ k. k == n) (v.complete t)) i.stream ∙ ap (list_any (λ k. k == n)) r.is ∙ any-here n r.rest)
 
 -- other messages are complete as they were, and so is this one
-pub complete-read : (v : View) (log : List LogEntry) (s n : ℕ) → Complete v log → ReadsComplete v s n ⊎ ReadsRun v s n → (k : ℕ) → complete_at (read_in v s n) k ≡ complete_at v k
+pub complete-read : (v : View) (log : List LogEntry) (s n : ℕ) → Complete v log → ReadsComplete v s n ⊎ ReadsRun v s n → (k : ℕ)
+    → complete_at (read_in v s n) k ≡ complete_at v k
 complete-read v log s n h r k = by (v.x.message k).ordered refl
   where
-    flat : (b : Bool) → ((v.x.message k).ordered ≡ b) → complete_at v k ≡ (if b then all_come v k else v.read k || list_any (λ j. j == k) (v.complete (v.x.message k).stream))
+    flat : (b : Bool) → ((v.x.message k).ordered ≡ b)
+        → complete_at v k ≡ (if b then all_come v k else v.read k || list_any (λ j. j == k) (v.complete (v.x.message k).stream))
     flat b o = ap (λ b. if b then all_come v k else v.read k || list_any (λ j. j == k) (v.complete (v.x.message k).stream)) o
 
     miss : (xs : List ℕ) → (k ≡ n → ⊥) → xs ≡ [] ⊎ ((rest : List ℕ) × (xs ≡ n ∷ rest)) → list_any (λ j. j == k) (drop 1 xs) ≡ list_any (λ j. j == k) xs
     miss xs ne (inl e) = ap (λ l. list_any (λ j. j == k) (drop 1 l)) e ∙ sym (ap (list_any (λ j. j == k)) e)
-    miss xs ne (inr r) = ap (λ l. list_any (λ j. j == k) (drop 1 l)) r.1 ∙ dropped r.0 ∙ sym (ap (list_any (λ j. j == k)) r.1 ∙ ap (λ b. b || list_any (λ j. j == k) r.0) (fails (n == k) (λ z. ne (sym (same-is n k z)))))
+    miss xs ne (inr r) = ap (λ l. list_any (λ j. j == k) (drop 1 l)) r.1 ∙ dropped r.0
+        ∙ sym (ap (list_any (λ j. j == k)) r.1 ∙ ap (λ b. b || list_any (λ j. j == k) r.0) (fails (n == k) (λ z. ne (sym (same-is n k z)))))
       where
         dropped : (l : List ℕ) → list_any (λ j. j == k) (drop 1 (n ∷ l)) ≡ list_any (λ j. j == k) l
         dropped [] = refl
@@ -434,17 +511,25 @@ complete-read v log s n h r k = by (v.x.message k).ordered refl
     shape-of (inl a) = inr (a.rest, a.is)
     shape-of (inr a) = inl a.none
 
-    same : (k ≡ n → ⊥) → (b : Bool) → ((v.x.message k).stream == s) ≡ b → list_any (λ j. j == k) (if b then drop 1 (v.complete (v.x.message k).stream) else v.complete (v.x.message k).stream) ≡ list_any (λ j. j == k) (v.complete (v.x.message k).stream)
-    same ne true e = let z = same-is (v.x.message k).stream s e in ap (λ t. list_any (λ j. j == k) (drop 1 (v.complete t))) z ∙ miss (v.complete s) ne (shape-of r) ∙ sym (ap (λ t. list_any (λ j. j == k) (v.complete t)) z)
+    same : (k ≡ n → ⊥) → (b : Bool) → ((v.x.message k).stream == s) ≡ b → list_any (λ j. j == k) (if b then drop 1 (v.complete (v.x.message k).stream)
+        else v.complete (v.x.message k).stream) ≡ list_any (λ j. j == k) (v.complete (v.x.message k).stream)
+    same ne true e = let z = same-is (v.x.message k).stream s e in ap (λ t. list_any (λ j. j == k) (drop 1 (v.complete t))) z
+        ∙ miss (v.complete s) ne (shape-of r) ∙ sym (ap (λ t. list_any (λ j. j == k) (v.complete t)) z)
     same ne false e = refl
 
     by : (b : Bool) → (v.x.message k).ordered ≡ b → complete_at (read_in v s n) k ≡ complete_at v k
-    by true o = ap (λ b. if b then all_come v k else (if k == n then true else v.read k) || list_any (λ j. j == k) (if (v.x.message k).stream == s then drop 1 (v.complete (v.x.message k).stream) else v.complete (v.x.message k).stream)) o ∙ sym (flat true o)
+    by true o = ap (λ b. if b then all_come v k else (if k == n then true else v.read k) || list_any (λ j. j == k) (if (v.x.message k).stream == s
+        then drop 1 (v.complete (v.x.message k).stream) else v.complete (v.x.message k).stream)) o ∙ sym (flat true o)
     by false o =
-        ap (λ b. if b then all_come v k else (if k == n then true else v.read k) || list_any (λ j. j == k) (if (v.x.message k).stream == s then drop 1 (v.complete (v.x.message k).stream) else v.complete (v.x.message k).stream)) o
-        ∙ by_same {P = ((if k == n then true else v.read k) || list_any (λ j. j == k) (if (v.x.message k).stream == s then drop 1 (v.complete (v.x.message k).stream) else v.complete (v.x.message k).stream)) ≡ complete_at v k} k n
-        (λ e. let yes' : (k == n) ≡ true = ap (λ j. k == j) (sym e) ∙ same-yes k in ap (λ b. (if b then true else v.read k) || list_any (λ j. j == k) (if (v.x.message k).stream == s then drop 1 (v.complete (v.x.message k).stream) else v.complete (v.x.message k).stream)) yes' ∙ sym (was e r))
-        (λ ne f. ap (λ b. (if b then true else v.read k) || list_any (λ j. j == k) (if (v.x.message k).stream == s then drop 1 (v.complete (v.x.message k).stream) else v.complete (v.x.message k).stream)) f ∙ ap (λ b. v.read k || b) (same ne ((v.x.message k).stream == s) refl) ∙ sym (flat false o))
+        ap (λ b. if b then all_come v k else (if k == n then true else v.read k) || list_any (λ j. j == k) (if (v.x.message k).stream == s
+        then drop 1 (v.complete (v.x.message k).stream) else v.complete (v.x.message k).stream)) o ∙ by_same {
+        P = ((if k == n then true else v.read k) || list_any (λ j. j == k) (if (v.x.message k).stream == s then drop 1 (v.complete (v.x.message k).stream)
+        else v.complete (v.x.message k).stream)) ≡ complete_at v k} k n
+        (λ e. let yes' : (k == n) ≡ true = ap (λ j. k == j) (sym e) ∙ same-yes k in ap (λ b. (if b then true else v.read k) || list_any (λ j. j == k)
+        (if (v.x.message k).stream == s then drop 1 (v.complete (v.x.message k).stream) else v.complete (v.x.message k).stream)) yes' ∙ sym (was e r))
+        (λ ne f. ap (λ b. (if b then true else v.read k)
+        || list_any (λ j. j == k) (if (v.x.message k).stream == s then drop 1 (v.complete (v.x.message k).stream) else v.complete (v.x.message k).stream)) f
+        ∙ ap (λ b. v.read k || b) (same ne ((v.x.message k).stream == s) refl) ∙ sym (flat false o))
       where
         was : k ≡ n → ReadsComplete v s n ⊎ ReadsRun v s n → complete_at v k ≡ true
         was e (inl a) = ap (complete_at v) e ∙ ready-complete v log s n h a
@@ -467,7 +552,12 @@ complete-reading v log s n h r = record {
         after (z ∷ l) e = e
 
     kept-on : (t k : ℕ) → (k ≡ n → ⊥) → IsReady v t k → IsReady (read_in v s n) t k
-    kept-on t k ne i = record { made = i.made; stream = i.stream; kind = i.kind; unread = ap (λ b. if b then true else v.read k) (fails (k == n) (λ z. ne (same-is k n z))) ∙ i.unread }
+    kept-on t k ne i = record {
+      made = i.made;
+      stream = i.stream;
+      kind = i.kind;
+      unread = ap (λ b. if b then true else v.read k) (fails (k == n) (λ z. ne (same-is k n z))) ∙ i.unread;
+    }
 
     tail-differs : (l : List ℕ) → AllDifferent l → AllDifferent (drop 1 l)
     tail-differs [] a = tt
@@ -478,7 +568,8 @@ complete-reading v log s n h r = record {
     not-first : (k : ℕ) → list_any (λ j. j == k) (drop 1 (v.complete s)) ≡ true → k ≡ n → ReadsComplete v s n ⊎ ReadsRun v s n → ⊥
     not-first k i e (inl a) =
         let d = subst AllDifferent a.is (h.differ s) in
-        not_both (sym d.0 ∙ sym (dropped' a.rest) ∙ ap (λ l. list_any (λ j. j == n) (drop 1 l)) (sym a.is) ∙ ap (λ z. list_any (λ j. j == z) (drop 1 (v.complete s))) (sym e) ∙ i)
+        not_both (sym d.0 ∙ sym (dropped' a.rest) ∙ ap (λ l. list_any (λ j. j == n) (drop 1 l)) (sym a.is)
+        ∙ ap (λ z. list_any (λ j. j == z) (drop 1 (v.complete s))) (sym e) ∙ i)
       where
         dropped' : (l : List ℕ) → list_any (λ j. j == n) (drop 1 (n ∷ l)) ≡ list_any (λ j. j == n) l
         dropped' [] = refl
@@ -486,14 +577,18 @@ complete-reading v log s n h r = record {
     not-first k i e (inr a) = not_both (ap (λ l. list_any (λ j. j == k) (drop 1 l)) (sym a.none) ∙ i)
 
     other-stream : (t k : ℕ) → (t == s) ≡ false → IsReady v t k → k ≡ n → ReadsComplete v s n ⊎ ReadsRun v s n → ⊥
-    other-stream t k f i e (inl a) = not_both (sym f ∙ (let z : t ≡ s = sym i.stream ∙ ap (λ j. (v.x.message j).stream) e ∙ (ready-first v log s n h a).stream in ap (λ j. j == s) z ∙ same-yes s))
+    other-stream t k f i e (inl a) = not_both (sym f
+        ∙ (let z : t ≡ s = sym i.stream ∙ ap (λ j. (v.x.message j).stream) e ∙ (ready-first v log s n h a).stream in ap (λ j. j == s) z ∙ same-yes s))
     other-stream t k f i e (inr a) =
         let b = run-is v s n a in
-        let o = both (v.x.message n).ordered (not (v.x.message n).expired) (both ((v.x.message n).stream == s) ((v.x.message n).ordered && not (v.x.message n).expired) b.on_it).1 in
+        let o = both (v.x.message n).ordered (not (v.x.message n).expired)
+        (both ((v.x.message n).stream == s) ((v.x.message n).ordered && not (v.x.message n).expired) b.on_it).1 in
         not_both (sym i.kind ∙ ap (λ j. (v.x.message j).ordered) e ∙ o.0)
 
-    waits : (t k : ℕ) (b : Bool) → (t == s) ≡ b → list_any (λ j. j == k) (if b then drop 1 (v.complete t) else v.complete t) ≡ true → IsReady (read_in v s n) t k
-    waits t k true f i = let z = same-is t s f in kept-on t k (λ e. not-first k (ap (λ u. list_any (λ j. j == k) (drop 1 (v.complete u))) (sym z) ∙ i) e r) (h.ready t k (dropped t k (v.complete t) i))
+    waits : (t k : ℕ) (b : Bool) → (t == s) ≡ b → list_any (λ j. j == k) (if b then drop 1 (v.complete t) else v.complete t) ≡ true
+        → IsReady (read_in v s n) t k
+    waits t k true f i = let z = same-is t s f in
+        kept-on t k (λ e. not-first k (ap (λ u. list_any (λ j. j == k) (drop 1 (v.complete u))) (sym z) ∙ i) e r) (h.ready t k (dropped t k (v.complete t) i))
     waits t k false f i = kept-on t k (λ e. other-stream t k f (h.ready t k i) e r) (h.ready t k i)
 
     apart : (t : ℕ) (b : Bool) → AllDifferent (if b then drop 1 (v.complete t) else v.complete t)

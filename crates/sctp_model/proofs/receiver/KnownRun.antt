@@ -43,47 +43,87 @@ new-past w p e = let z : nat_lt p w.skipped ≡ false = by (nat_lt p w.skipped) 
 pub hears-as : (u v : View) (log : List LogEntry) → v ≡ u → CompleteMessages.Hears u log → CompleteMessages.Hears v log
 hears-as u v log e h = subst (λ y. CompleteMessages.Hears y log) (sym e) h
 
-pub hears-new : (w : LinkRecord) (log : List LogEntry) (p : ℕ) → p < length w.slots → is_new w p ≡ true → Heard w log → CompleteMessages.Hears (arrived_in (view w) p) (SlotReceived p ∷ log)
-hears-new w log p lt new h = hears-as (view (with_arrived w p)) (arrived_in (view w) p) (SlotReceived p ∷ log) (sym (View.view-arrived w p lt)) (hears (with_arrived w p) (SlotReceived p ∷ log) (heard-new w log p lt new h))
+pub hears-new : (w : LinkRecord) (log : List LogEntry) (p : ℕ) → p < length w.slots → is_new w p ≡ true → Heard w log
+    → CompleteMessages.Hears (arrived_in (view w) p) (SlotReceived p ∷ log)
+hears-new w log p lt new h = hears-as (view (with_arrived w p)) (arrived_in (view w) p) (SlotReceived p ∷ log) (sym (View.view-arrived w p lt))
+    (hears (with_arrived w p) (SlotReceived p ∷ log) (heard-new w log p lt new h))
 
-complete-received : (setup : Setup) (w : LinkRecord) (log : List LogEntry) (p : ℕ) → Sane setup w → p < length w.slots → (Messages.slot_at w p).is_terminal_chunk ≡ false → Heard w log → Heard (Changes.receive_slot w p) (SlotReceived p ∷ log) → Complete (view w) log → Complete (view (Changes.receive_slot w p)) (SlotReceived p ∷ log)
+complete-received : (setup : Setup) (w : LinkRecord) (log : List LogEntry) (p : ℕ) → Sane setup w → p < length w.slots
+    → (Messages.slot_at w p).is_terminal_chunk ≡ false → Heard w log → Heard (Changes.receive_slot w p) (SlotReceived p ∷ log) → Complete (view w) log
+    → Complete (view (Changes.receive_slot w p)) (SlotReceived p ∷ log)
 complete-received setup w log p g lt mark heard heard' h = by (is_new w p) refl
   where
     by : (b : Bool) → is_new w p ≡ b → Complete (view (Changes.receive_slot w p)) (SlotReceived p ∷ log)
-    by true e = complete-as (Known.noting (arrived_in (view w) p) (Messages.message_of w p)) (view (Changes.receive_slot w p)) (SlotReceived p ∷ log) (Known.view-received setup w p g lt e)
+    by true e = complete-as (Known.noting (arrived_in (view w) p) (Messages.message_of w p)) (view (Changes.receive_slot w p)) (SlotReceived p ∷ log)
+        (Known.view-received setup w p g lt e)
         (Known.complete-slot (view w) log p g.sender h (hears w log heard) (hears-new w log p lt e heard) lt mark (new-not w p e))
     by false e =
-        let same : view (Changes.receive_slot w p) ≡ view w = ap (λ b. view (if b then Changes.note_completion (with_arrived w p) (Messages.message_of w p) else record w { duplicates = w.duplicates ++ p ∷ [] })) e in
+        let same : view (Changes.receive_slot w p) ≡ view w = ap (λ b.
+        view (if b then Changes.note_completion (with_arrived w p) (Messages.message_of w p) else record w { duplicates = w.duplicates ++ p ∷ [] })) e in
         complete-as (view w) (view (Changes.receive_slot w p)) (SlotReceived p ∷ log) same
-        (Known.complete-again (view w) (SlotReceived p) log (hears w log heard) (hears-as (view (Changes.receive_slot w p)) (view w) (SlotReceived p ∷ log) (sym same) (hears (Changes.receive_slot w p) (SlotReceived p ∷ log) heard')) g.sender (lt, h.datagram_received) h)
+        (Known.complete-again (view w) (SlotReceived p) log (hears w log heard) (hears-as (view (Changes.receive_slot w p)) (view w) (SlotReceived p ∷ log)
+        (sym same) (hears (Changes.receive_slot w p) (SlotReceived p ∷ log) heard')) g.sender (lt, h.datagram_received) h)
 
-complete-skipped : (setup : Setup) (w : LinkRecord) (log : List LogEntry) (upto : ℕ) (names : List ℕ) → Sane setup w → NamesFit (shape w) upto names → Heard w log → Heard (Changes.receive_skip w upto names) (SkipReceived upto names ∷ log) → Complete (view w) log → Complete (view (Changes.receive_skip w upto names)) (SkipReceived upto names ∷ log)
+complete-skipped : (setup : Setup) (w : LinkRecord) (log : List LogEntry) (upto : ℕ) (names : List ℕ) → Sane setup w → NamesFit (shape w) upto names
+    → Heard w log → Heard (Changes.receive_skip w upto names) (SkipReceived upto names ∷ log) → Complete (view w) log
+    → Complete (view (Changes.receive_skip w upto names)) (SkipReceived upto names ∷ log)
 complete-skipped setup w log upto names g f heard heard' h = by (Changes.skip_counts w upto) refl
   where
     by : (b : Bool) → Changes.skip_counts w upto ≡ b → Complete (view (Changes.receive_skip w upto names)) (SkipReceived upto names ∷ log)
     by true e =
-        let same : view (Changes.receive_skip w upto names) ≡ skipped_in (view w) upto names = ap (λ b. view (if b then record w { skipped = upto + 1; streams = map (Changes.named_by w names) w.streams } else w)) e ∙ view-skip setup w upto names g f in
+        let same : view (Changes.receive_skip w upto names) ≡ skipped_in (view w) upto names = ap (λ b.
+        view (if b then record w { skipped = upto + 1; streams = map (Changes.named_by w names) w.streams } else w)) e ∙ view-skip setup w upto names g f in
         let c : cumulative w ≤ upto = grind (arith, nat_tests) in
         complete-as (skipped_in (view w) upto names) (view (Changes.receive_skip w upto names)) (SkipReceived upto names ∷ log) same
-        (Known.complete-skip (view w) log upto names (hears w log heard) (hears-as (view (Changes.receive_skip w upto names)) (skipped_in (view w) upto names) (SkipReceived upto names ∷ log) (sym same) (hears (Changes.receive_skip w upto names) (SkipReceived upto names ∷ log) heard')) g.sender (omega (arith, c, skipped-le w)) h)
+        (Known.complete-skip (view w) log upto names (hears w log heard) (hears-as (view (Changes.receive_skip w upto names)) (skipped_in (view w) upto names)
+        (SkipReceived upto names ∷ log) (sym same) (hears (Changes.receive_skip w upto names) (SkipReceived upto names ∷ log) heard')) g.sender
+        (omega (arith, c, skipped-le w)) h)
     by false e =
-        let same : view (Changes.receive_skip w upto names) ≡ view w = ap (λ b. view (if b then record w { skipped = upto + 1; streams = map (Changes.named_by w names) w.streams } else w)) e in
+        let same : view (Changes.receive_skip w upto names) ≡ view w =
+        ap (λ b. view (if b then record w { skipped = upto + 1; streams = map (Changes.named_by w names) w.streams } else w)) e in
         complete-as (view w) (view (Changes.receive_skip w upto names)) (SkipReceived upto names ∷ log) same
-        (Known.complete-again (view w) (SkipReceived upto names) log (hears w log heard) (hears-as (view (Changes.receive_skip w upto names)) (view w) (SkipReceived upto names ∷ log) (sym same) (hears (Changes.receive_skip w upto names) (SkipReceived upto names ∷ log) heard')) g.sender h.datagram_received h)
+        (Known.complete-again (view w) (SkipReceived upto names) log (hears w log heard)
+        (hears-as (view (Changes.receive_skip w upto names)) (view w) (SkipReceived upto names ∷ log) (sym same)
+        (hears (Changes.receive_skip w upto names) (SkipReceived upto names ∷ log) heard')) g.sender h.datagram_received h)
 
 pub known-keeps : (setup : Setup) → Keeps setup Known
 known-keeps setup =
     let k = heard-keeps setup in
     record {
-      begins = record { heard = k.begins; complete = record { datagram_received = tt; ready = λ s n e. cc; differ = λ s. tt; agrees = λ n lt. absurd (omega arith) } };
-      quiet = λ w v log g a q b. record { heard = k.quiet w v log g a q b.heard; complete = Known.complete-quiet (view w) (view v) log b.heard.arrived (still-of setup w v g a q) b.complete };
-      opened = λ w log s g o b. record { heard = k.opened w log s g o b.heard; complete = complete-as (view w) (view (Changes.after_open w s)) log (View.view-opened w s o) b.complete };
-      moded = λ w log s u r n g b. record { heard = k.moded w log s u r n g b.heard; complete = complete-as (view w) (view (Changes.after_mode w s u r n)) log (View.view-moded w s u r n) b.complete };
-      slot = λ w log p g lt m b. let h = k.slot w log p g lt m b.heard in record { heard = h; complete = complete-received setup w log p g lt m b.heard h b.complete };
-      skip = λ w log upto names g lt f b. let h = k.skip w log upto names g lt f b.heard in record { heard = h; complete = complete-skipped setup w log upto names g f b.heard h b.complete };
-      reported = λ w log credit g b. let h = k.reported w log credit g b.heard in record { heard = h; complete = Known.complete-again (view w) SackMade log (hears w log b.heard) (record { arrived = h.arrived; covered = h.covered }) g.sender b.complete.datagram_received b.complete };
-      taken = λ w log r g b. record { heard = k.taken w log r g b.heard; complete = complete-as (view w) (view (Changes.after_acked w (Some (Sack r)))) log (View.view-taken w r) b.complete };
-      read = λ w log s n g o e b. record { heard = k.read w log s n g o e b.heard; complete = complete-as (read_in (view w) s n) (view (Changes.read_of w s (Some n))) log (View.view-read w s n o) (Known.complete-reading (view w) log s n b.complete (Known.reads (view w) s n e)) };
+      begins = record {
+        heard = k.begins;
+        complete = record { datagram_received = tt; ready = λ s n e. cc; differ = λ s. tt; agrees = λ n lt. absurd (omega arith) };
+      };
+      quiet = λ w v log g a q b. record {
+        heard = k.quiet w v log g a q b.heard;
+        complete = Known.complete-quiet (view w) (view v) log b.heard.arrived (still-of setup w v g a q) b.complete;
+      };
+      opened = λ w log s g o b. record {
+        heard = k.opened w log s g o b.heard;
+        complete = complete-as (view w) (view (Changes.after_open w s)) log (View.view-opened w s o) b.complete;
+      };
+      moded = λ w log s u r n g b. record {
+        heard = k.moded w log s u r n g b.heard;
+        complete = complete-as (view w) (view (Changes.after_mode w s u r n)) log (View.view-moded w s u r n) b.complete;
+      };
+      slot = λ w log p g lt m b. let h = k.slot w log p g lt m b.heard in
+          record { heard = h; complete = complete-received setup w log p g lt m b.heard h b.complete };
+      skip = λ w log upto names g lt f b. let h = k.skip w log upto names g lt f b.heard in
+          record { heard = h; complete = complete-skipped setup w log upto names g f b.heard h b.complete };
+      reported = λ w log credit g b. let h = k.reported w log credit g b.heard in record {
+        heard = h;
+        complete = Known.complete-again (view w) SackMade log (hears w log b.heard)
+            (record { arrived = h.arrived; covered = h.covered }) g.sender b.complete.datagram_received b.complete;
+      };
+      taken = λ w log r g b. record {
+        heard = k.taken w log r g b.heard;
+        complete = complete-as (view w) (view (Changes.after_acked w (Some (Sack r)))) log (View.view-taken w r) b.complete;
+      };
+      read = λ w log s n g o e b. record {
+        heard = k.read w log s n g o e b.heard;
+        complete = complete-as (read_in (view w) s n) (view (Changes.read_of w s (Some n))) log (View.view-read w s n o)
+            (Known.complete-reading (view w) log s n b.complete (Known.reads (view w) s n e));
+      };
     }
 
 pub known-run : (setup : Setup) (h : History) → IsSetup setup → IsRun setup h → Known (record_of setup h) (Log.log_of setup h)

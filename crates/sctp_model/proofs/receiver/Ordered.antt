@@ -14,7 +14,8 @@ use Rattle.sctp_list_lemmas.proofs.Cases.{by_same, same-yes, same-is}
 use Rattle.sctp_model.proofs.sender.Network.{IsNamable, NamesFit, namable-grown}
 use Rattle.sctp_model.proofs.sender.Slots.{sent-made}
 use Rattle.sctp_model.proofs.receiver.View.{View, come_count, all_come, complete_at, arrived_in, noted_in, skipped_in, read_in, line, next, named_more}
-use Rattle.sctp_model.proofs.receiver.Indexes.{on-stream, on-ordered, index-lt, index-same, index-short, index-at, next_reads, next_unread, next_passes, next_le, next_by}
+use Rattle.sctp_model.proofs.receiver.Indexes.{on-stream, on-ordered, index-lt, index-same, index-short, index-at, next_reads, next_unread, next_passes}
+use Rattle.sctp_model.proofs.receiver.Indexes.{next_le, next_by}
 use Rattle.sctp_model.proofs.receiver.Names.{on-grown}
 use Rattle.sctp_model.proofs.receiver.CompleteMessages.{some-kept}
 use Rattle.sctp_model.proofs.receiver.Known.{Still, ReadsRun, all-still, come-sent, come-other, not-all, noting}
@@ -48,7 +49,8 @@ pub record Ordered (v : View) : Type 0 where
 
 -- ## The slots of what comes before the named ones are skipped
 
-pub named-skipped : (v : View) → Sender v.x → Ordered v → (s n p : ℕ) → on v.x s n ≡ true → index v.x n < v.named s → p < v.x.slots → has v.x n p ≡ true → p < v.skipped
+pub named-skipped : (v : View) → Sender v.x → Ordered v → (s n p : ℕ) → on v.x s n ≡ true → index v.x n < v.named s → p < v.x.slots → has v.x n p ≡ true
+    → p < v.skipped
 named-skipped v a o s n p h lt l f = by (o.named_is s)
   where
     by : NamedIs v s (v.named s) → p < v.skipped
@@ -124,7 +126,8 @@ module _ (u v : View) (t : Still u v) (o : Ordered u) where
     where
       named : NamedIs u s (u.named s) → next u s ≤ u.named s → next u s ≤ length (line v s)
       named (inl z) le = omega (arith, z)
-      named (inr d) le = let l = at-place s (index u.x d.n) d.n (sent-made u.x d.n t.sender d.namable.some) d.on_it d.namable.some refl in omega (arith, d.is, l)
+      named (inr d) le = let l = at-place s (index u.x d.n) d.n (sent-made u.x d.n t.sender d.namable.some) d.on_it d.namable.some refl in
+          omega (arith, d.is, l)
 
       by : (u.named s < next u s) ⊎ (next u s ≤ u.named s) → next u s ≤ length (line v s)
       by (inr le) = named (o.named_is s) le
@@ -155,7 +158,8 @@ module _ (u v : View) (t : Still u v) (o : Ordered u) where
   pub ordered-still : ((p : ℕ) → u.arrived p ≡ true → p < u.x.slots) → Ordered v
   ordered-still inside = record {
     marks = λ p e. let f : u.arrived p ≡ true = sym (t.arrived p) ∙ e in ap (λ y. y.is_terminal_chunk) (t.grows.slot p (inside p f)) ∙ o.marks p f;
-    read_complete = λ n lt h r. let l = was-made n lt r in all-still u v t n l ∙ o.read_complete n l (sym (ap (λ m. m.ordered) (t.grows.message n l)) ∙ h) (was-read n lt r);
+    read_complete = λ n lt h r. let l = was-made n lt r in
+        all-still u v t n l ∙ o.read_complete n l (sym (ap (λ m. m.ordered) (t.grows.message n l)) ∙ h) (was-read n lt r);
     read_past = λ s n lt h r. let d = read-old s n lt h r in omega (arith, d.same, next-still s, o.read_past s n d.made d.on_it (was-read n lt r));
     downward = λ s m n mn lt hm hn r c.
         let d = read-old s n lt hn r in
@@ -179,15 +183,18 @@ module _ (u v : View) (t : Still u v) (o : Ordered u) where
 
 -- ## A slot comes
 
-pub ordered-arrived : (v : View) (p : ℕ) → Sender v.x → p < v.x.slots → (v.x.slot p).is_terminal_chunk ≡ false → v.arrived p ≡ false → v.skipped ≤ p → Ordered v → Ordered (arrived_in v p)
+pub ordered-arrived : (v : View) (p : ℕ) → Sender v.x → p < v.x.slots → (v.x.slot p).is_terminal_chunk ≡ false → v.arrived p ≡ false → v.skipped ≤ p → Ordered v
+    → Ordered (arrived_in v p)
 ordered-arrived v p a lt mark new past o = record {
-  marks = λ k e. by_same {P = (v.x.slot k).is_terminal_chunk ≡ false} k p (λ z. ap (λ j. (v.x.slot j).is_terminal_chunk) z ∙ mark) (λ ne f. o.marks k (ap (λ b. if b then true else v.arrived k) (sym f) ∙ e));
+  marks = λ k e. by_same {P = (v.x.slot k).is_terminal_chunk ≡ false} k p (λ z. ap (λ j. (v.x.slot j).is_terminal_chunk) z ∙ mark)
+      (λ ne f. o.marks k (ap (λ b. if b then true else v.arrived k) (sym f) ∙ e));
   read_complete = λ n l h r.
       let all = o.read_complete n l h r in
       ap (λ c. c == parts v.x n) (come-other v p n (λ e. not_both (sym (not-all v n p (a.within n l) lt (slot-of n e) new) ∙ all))) ∙ all;
   read_past = o.read_past;
   downward = λ s m n mn l hm hn r c. by_same {P = v.read m ≡ true} (v.x.slot p).message m
-      (λ e. next_reads v s m (omega (arith, mn, l)) hm (above s m hm e (cases_lt (index v.x m) (v.named s))) (omega (arith, index-lt v.x s m n hm hn mn, o.read_past s n l hn r)))
+      (λ e. next_reads v s m (omega (arith, mn, l)) hm (above s m hm e (cases_lt (index v.x m) (v.named s)))
+      (omega (arith, index-lt v.x s m n hm hn mn, o.read_past s n l hn r)))
       (λ ne f. o.downward s m n mn l hm hn r (sym (ap (λ k. k == parts v.x m) (come-other v p m ne)) ∙ c));
   named_is = λ s. by s (o.named_is s);
 }
@@ -216,7 +223,8 @@ ordered-noting v n o = step (not (v.x.message n).ordered && _)
 
 -- ## A skip
 
-pub ordered-skipped : (v : View) (upto : ℕ) (names : List ℕ) → Sender v.x → NamesFit v.x upto names → v.skipped ≤ upto → Ordered v → Ordered (skipped_in v upto names)
+pub ordered-skipped : (v : View) (upto : ℕ) (names : List ℕ) → Sender v.x → NamesFit v.x upto names → v.skipped ≤ upto → Ordered v
+    → Ordered (skipped_in v upto names)
 ordered-skipped v upto names a f le o = record {
   marks = o.marks;
   read_complete = o.read_complete;
@@ -229,25 +237,29 @@ ordered-skipped v upto names a f le o = record {
     grown s x [] = omega arith
     grown s x (n ∷ ns) = let g = grown s (max x (index v.x n + 1)) ns in omega (arith, g)
 
-    past : (s n : ℕ) → n < v.x.count → on v.x s n ≡ true → v.read n ≡ true → (index v.x n < named_more v names s) ⊎ (named_more v names s ≤ index v.x n) → index v.x n < next (skipped_in v upto names) s
+    past : (s n : ℕ) → n < v.x.count → on v.x s n ≡ true → v.read n ≡ true → (index v.x n < named_more v names s) ⊎ (named_more v names s ≤ index v.x n)
+        → index v.x n < next (skipped_in v upto names) s
     past s n lt h r (inl l) = omega arith
     past s n lt h r (inr g) = by (cases_lt (index v.x n) (next (skipped_in v upto names) s))
       where
-        by : (index v.x n < next (skipped_in v upto names) s) ⊎ (next (skipped_in v upto names) s ≤ index v.x n) → index v.x n < next (skipped_in v upto names) s
+        by : (index v.x n < next (skipped_in v upto names) s) ⊎ (next (skipped_in v upto names) s ≤ index v.x n)
+            → index v.x n < next (skipped_in v upto names) s
         by (inl l) = l
         by (inr e) =
             let j = next (skipped_in v upto names) s in
             let k = get_or (line v s) j 0 in
             let q = index-at v s j (omega (arith, e, index-short v s n lt h)) in
             let un : v.read k ≡ false = next_unread (skipped_in v upto names) s k q.made q.on_it q.at in
-            let red : v.read k ≡ true = next_reads v s k q.made q.on_it (let m = grown s (v.named s) (filter (on v.x s) names) in omega (arith, q.at, m)) (omega (arith, q.at, e, o.read_past s n lt h r)) in
+            let red : v.read k ≡ true = next_reads v s k q.made q.on_it (let m = grown s (v.named s) (filter (on v.x s) names) in omega (arith, q.at, m))
+            (omega (arith, q.at, e, o.read_past s n lt h r)) in
             absurd (not_both (sym un ∙ red))
 
     old : (s : ℕ) → NamedIs v s (v.named s) → NamedIs (skipped_in v upto names) s (v.named s)
     old s (inl z) = inl z
     old s (inr d) = inr (record { n = d.n; on_it = d.on_it; upto = d.upto; namable = d.namable; covered = omega (arith, d.covered, le); is = d.is })
 
-    all : (s : ℕ) (ns : List ℕ) → NamesFit v.x upto ns → (x : ℕ) → NamedIs (skipped_in v upto names) s x → NamedIs (skipped_in v upto names) s (greatest x (map (λ n. index v.x n + 1) (filter (on v.x s) ns)))
+    all : (s : ℕ) (ns : List ℕ) → NamesFit v.x upto ns → (x : ℕ) → NamedIs (skipped_in v upto names) s x
+        → NamedIs (skipped_in v upto names) s (greatest x (map (λ n. index v.x n + 1) (filter (on v.x s) ns)))
     all s [] f x h = h
     all s (n ∷ ns) f x h = step (on v.x s n) refl (λ y g. all s ns f.1 y g)
       where
@@ -258,7 +270,9 @@ ordered-skipped v upto names a f le o = record {
         larger e (inl l) = let z : index v.x n + 1 ≡ max x (index v.x n + 1) = omega arith in subst (NamedIs (skipped_in v upto names) s) z (one e)
         larger e (inr g) = let z : x ≡ max x (index v.x n + 1) = omega arith in subst (NamedIs (skipped_in v upto names) s) z h
 
-        step : (b : Bool) → on v.x s n ≡ b → ((y : ℕ) → NamedIs (skipped_in v upto names) s y → NamedIs (skipped_in v upto names) s (greatest y (map (λ n. index v.x n + 1) (filter (on v.x s) ns)))) → NamedIs (skipped_in v upto names) s (greatest x (map (λ n. index v.x n + 1) (if b then n ∷ filter (on v.x s) ns else filter (on v.x s) ns)))
+        step : (b : Bool) → on v.x s n ≡ b → ((y : ℕ) → NamedIs (skipped_in v upto names) s y
+            → NamedIs (skipped_in v upto names) s (greatest y (map (λ n. index v.x n + 1) (filter (on v.x s) ns))))
+            → NamedIs (skipped_in v upto names) s (greatest x (map (λ n. index v.x n + 1) (if b then n ∷ filter (on v.x s) ns else filter (on v.x s) ns)))
         step true e ih = ih (max x (index v.x n + 1)) (larger e (cases_lt x (index v.x n + 1)))
         step false e ih = ih x h
 
@@ -301,7 +315,8 @@ ordered-read_unordered v s n a kind o = record {
 
 -- the first one due
 pub due-of : (v : View) (s n : ℕ) → Ordered v → ReadsRun v s n → IsDue v s n
-due-of v s n o r = due-first v s n (sym (run-due v s (λ k lt h e. ordered-at v k (on-ordered v.x s k h) ∙ o.read_complete k lt (on-ordered v.x s k h) e)) ∙ r.first)
+due-of v s n o r =
+    due-first v s n (sym (run-due v s (λ k lt h e. ordered-at v k (on-ordered v.x s k h) ∙ o.read_complete k lt (on-ordered v.x s k h) e)) ∙ r.first)
 
 module _ (v : View) (s n : ℕ) (a : Sender v.x) (o : Ordered v) (d : IsDue v s n) where
   all-of : all_come v n ≡ true
@@ -310,12 +325,14 @@ module _ (v : View) (s n : ℕ) (a : Sender v.x) (o : Ordered v) (d : IsDue v s 
   pub next-moves : index v.x n ≡ next v s → next (read_in v s n) s ≡ next v s + 1
   next-moves e = next_by (read_in v s n) s (next v s + 1) (omega arith) (omega (arith, e, index-short v s n d.made d.on_it))
       (λ k lt h low high. pass k lt h low (eq-or-lt_of_le (upto (index v.x k) high)))
-      (λ k lt h z. read-other v s n k (λ y. absurd (omega (arith, ap (index v.x) y, z, e))) ∙ fails (v.read k) (λ r. absurd (omega (arith, z, o.read_past s k lt h r))))
+      (λ k lt h z. read-other v s n k (λ y. absurd (omega (arith, ap (index v.x) y, z, e)))
+      ∙ fails (v.read k) (λ r. absurd (omega (arith, z, o.read_past s k lt h r))))
     where
       upto : (j : ℕ) → j < next v s + 1 → j ≤ next v s
       upto j lt = omega arith
 
-      pass : (k : ℕ) → k < v.x.count → on v.x s k ≡ true → v.named s ≤ index v.x k → (index v.x k ≡ next v s) ⊎ (index v.x k < next v s) → (read_in v s n).read k ≡ true
+      pass : (k : ℕ) → k < v.x.count → on v.x s k ≡ true → v.named s ≤ index v.x k → (index v.x k ≡ next v s) ⊎ (index v.x k < next v s)
+          → (read_in v s n).read k ≡ true
       pass k lt h low (inl z) = ap (read_in v s n).read (index-same v.x s k n h d.on_it (z ∙ sym e)) ∙ read-here v s n
       pass k lt h low (inr l) = stays-read v s n k (next_reads v s k lt h low l)
 
@@ -336,7 +353,8 @@ module _ (v : View) (s n : ℕ) (a : Sender v.x) (o : Ordered v) (d : IsDue v s 
   next-elsewhere t ne = next-read_other v s n t a o (λ k h e. ne (sym (on-stream v.x t k h) ∙ ap (λ j. (v.x.message j).stream) e ∙ on-stream v.x s n d.on_it))
 
   next-up : (t : ℕ) → next v t ≤ next (read_in v s n) t
-  next-up t = by_same {P = next v t ≤ next (read_in v s n) t} t s (λ e. subst (λ y. next v y ≤ next (read_in v s n) y) (sym e) next-grows.0) (λ ne f. omega (arith, next-elsewhere t ne))
+  next-up t = by_same {P = next v t ≤ next (read_in v s n) t} t s (λ e. subst (λ y. next v y ≤ next (read_in v s n) y) (sym e) next-grows.0)
+      (λ ne f. omega (arith, next-elsewhere t ne))
 
   -- a complete one before it was read
   before : (k : ℕ) → k < n → on v.x s k ≡ true → all_come v k ≡ true → v.read k ≡ true
@@ -346,18 +364,23 @@ module _ (v : View) (s n : ℕ) (a : Sender v.x) (o : Ordered v) (d : IsDue v s 
       by true e = e
       by false e =
           let wh : complete_at v k ≡ true = ordered-at v k (on-ordered v.x s k h) ∙ c in
-          let near : nat_le (index v.x k) (next v s) ≡ true = (let l : index v.x k ≤ next v s = omega (arith, index-lt v.x s k n h d.on_it lt, d.near) in grind (arith, nat_tests)) in
-          absurd (not_both (sym (d.first k lt) ∙ and (on v.x s k) (not (v.read k) && (complete_at v k && nat_le (index v.x k) (next v s))) h (and (not (v.read k)) (complete_at v k && nat_le (index v.x k) (next v s)) (ap not e) (and (complete_at v k) (nat_le (index v.x k) (next v s)) wh near))))
+          let near : nat_le (index v.x k)
+          (next v s) ≡ true = (let l : index v.x k ≤ next v s = omega (arith, index-lt v.x s k n h d.on_it lt, d.near) in grind (arith, nat_tests)) in
+          absurd (not_both (sym (d.first k lt) ∙ and (on v.x s k) (not (v.read k) && (complete_at v k && nat_le (index v.x k) (next v s))) h (and (not
+          (v.read k)) (complete_at v k && nat_le (index v.x k) (next v s)) (ap not e) (and (complete_at v k) (nat_le (index v.x k) (next v s)) wh near))))
 
   pub ordered-read : Ordered (read_in v s n)
   ordered-read = record {
     marks = o.marks;
-    read_complete = λ k lt h r. by_same {P = all_come v k ≡ true} k n (λ e. ap (all_come v) e ∙ all-of) (λ ne f. o.read_complete k lt h (sym (read-other v s n k ne) ∙ r));
+    read_complete =
+        λ k lt h r. by_same {P = all_come v k ≡ true} k n (λ e. ap (all_come v) e ∙ all-of) (λ ne f. o.read_complete k lt h (sym (read-other v s n k ne) ∙ r));
     read_past = λ t k lt h r. by_same {P = index v.x k < next (read_in v s n) t} k n
-        (λ e. let z : t ≡ s = sym (on-stream v.x t k h) ∙ ap (λ j. (v.x.message j).stream) e ∙ on-stream v.x s n d.on_it in subst (λ y. index v.x k < next (read_in v s n) y) (sym z) (subst (λ j. index v.x j < next (read_in v s n) s) (sym e) next-grows.1))
+        (λ e. let z : t ≡ s = sym (on-stream v.x t k h) ∙ ap (λ j. (v.x.message j).stream) e ∙ on-stream v.x s n d.on_it in
+        subst (λ y. index v.x k < next (read_in v s n) y) (sym z) (subst (λ j. index v.x j < next (read_in v s n) s) (sym e) next-grows.1))
         (λ ne f. let u = next-up t in omega (arith, u, o.read_past t k lt h (sym (read-other v s n k ne) ∙ r)));
     downward = λ t j k jk lt hj hk r c. stays-read v s n j (by_same {P = v.read j ≡ true} k n
-        (λ e. let z : t ≡ s = sym (on-stream v.x t k hk) ∙ ap (λ j. (v.x.message j).stream) e ∙ on-stream v.x s n d.on_it in before j (omega (arith, jk, e)) (ap (λ y. on v.x y j) (sym z) ∙ hj) c)
+        (λ e. let z : t ≡ s = sym (on-stream v.x t k hk) ∙ ap (λ j. (v.x.message j).stream) e ∙ on-stream v.x s n d.on_it in
+        before j (omega (arith, jk, e)) (ap (λ y. on v.x y j) (sym z) ∙ hj) c)
         (λ ne f. o.downward t j k jk lt hj hk (sym (read-other v s n k ne) ∙ r) c));
     named_is = λ t. named-read v s n t (o.named_is t);
   }

@@ -1,5 +1,6 @@
 -- The reads of a stream: ordered messages in order, unordered ones as they became complete, Nothing where all is read.
-use Rattle.std.proofs.Common.{◌≡◌, ℕ, zero, suc, ◌+◌, ◌-◌, ◌<◌, ◌≤◌, Bool, true, false, List, [], ◌∷◌, ◌++◌, length, take, drop, Option, Some, None, refl, ap, sym, ◌∙◌, inl, inr, arith, append-nil, length-append}
+use Rattle.std.proofs.Common.{◌≡◌, ℕ, zero, suc, ◌+◌, ◌-◌, ◌<◌, ◌≤◌, Bool, true, false, List, [], ◌∷◌, ◌++◌, length, take, drop, Option, Some, None, refl, ap}
+use Rattle.std.proofs.Common.{sym, ◌∙◌, inl, inr, arith, append-nil, length-append}
 use Rattle.std.specs.Prelude.{◌⊎◌, if◌then◌else◌, ◌==◌, ◌&&◌, ◌||◌, not, nat_lt, slice_get, option_to_list}
 use Rattle.std.specs.List.{list_all, filter}
 use Rattle.std.proofs.Math.Path.{subst}
@@ -20,7 +21,8 @@ use Rattle.sctp_model.specs.Changes
 use Rattle.sctp_model.specs.Log
 use Rattle.sctp_model.specs.Log.{LogEntry, number_read, numbers_read}
 use Rattle.sctp_model.specs.Steps.{History, record_of, IsRun, read_reply}
-use Rattle.sctp_model.specs.Laws.{IsSetup, OnEveryRun, ordered_reads, unordered_reads, ReadsBeginRun, ReadsBeginCompleteRun, ReadsBeginComplete, UnorderedFirst, NothingWhereRead}
+use Rattle.sctp_model.specs.Laws.{IsSetup, OnEveryRun, ordered_reads, unordered_reads, ReadsBeginRun, ReadsBeginCompleteRun, ReadsBeginComplete, UnorderedFirst}
+use Rattle.sctp_model.specs.Laws.{NothingWhereRead}
 use Rattle.sctp_model.proofs.sender.Shape.{shape, on, index}
 use Rattle.sctp_model.proofs.sender.SenderRun.{Sane, sane-run, unless-holds}
 use Rattle.sctp_model.proofs.receiver.Events.{step-moves}
@@ -42,14 +44,17 @@ use Rattle.sctp_model.proofs.receiver.SoFarSteps.{Told, told-moving, so_far-else
 
 -- ## What was read, in every history
 
-told-read : (setup : Setup) (older : History) (t s : ℕ) (o : Option ℕ) → Sane setup (record_of setup older) → Messages.is_open (record_of setup older) t ≡ true → Receiver.next_read (record_of setup older) t ≡ o → Told s (numbers_read setup older s) (record_of setup older) (Log.log_of setup older)
-    → SoFar s (numbers_read setup older s ++ (if t == s then number_read (record_of setup older) s (read_reply (record_of setup older) o) else [])) (view (Changes.read_of (record_of setup older) t o)) (Log.log_of setup older)
+told-read : (setup : Setup) (older : History) (t s : ℕ) (o : Option ℕ) → Sane setup (record_of setup older) → Messages.is_open (record_of setup older) t ≡ true
+    → Receiver.next_read (record_of setup older) t ≡ o → Told s (numbers_read setup older s) (record_of setup older) (Log.log_of setup older)
+    → SoFar s (numbers_read setup older s ++ (if t == s then number_read (record_of setup older) s (read_reply (record_of setup older) o) else []))
+    (view (Changes.read_of (record_of setup older) t o)) (Log.log_of setup older)
 told-read setup older t s None g a e b = subst (λ l. SoFar s l (view (record_of setup older)) (Log.log_of setup older)) (sym (either (t == s))) b.so_far
   where
     either : (c : Bool) → numbers_read setup older s ++ (if c then [] else []) ≡ numbers_read setup older s
     either true = append-nil (numbers_read setup older s)
     either false = append-nil (numbers_read setup older s)
-told-read setup older t s (Some n) g a e b = so_far-as s list' (read_in (view w) t n) (view (Changes.read_of w t (Some n))) log (View.view-read w t n a) (by (t == s) refl)
+told-read setup older t s (Some n) g a e b =
+    so_far-as s list' (read_in (view w) t n) (view (Changes.read_of w t (Some n))) log (View.view-read w t n a) (by (t == s) refl)
   where
     w : LinkRecord
     w = record_of setup older
@@ -67,42 +72,70 @@ told-read setup older t s (Some n) g a e b = so_far-as s list' (read_in (view w)
     stream-of (inl q) = (Known.ready-first (view w) log t n b.received.known.complete q).stream
     stream-of (inr q) = on-stream (shape w) t n (Known.run-is (view w) t n q).on_it
 
-    here : (u : ℕ) → t ≡ u → ReadsComplete (view w) t n ⊎ ReadsRun (view w) t n → SoFar u (numbers_read setup older u) (view w) log → SoFar u (numbers_read setup older u ++ n ∷ []) (read_in (view w) t n) log
-    here u z (inl q) f = subst (λ y. SoFar u (numbers_read setup older u ++ n ∷ []) (read_in (view w) y n) log) (sym z) (so_far-unordered (view w) log u n (numbers_read setup older u) b.received.known.complete (subst (λ y. ReadsComplete (view w) y n) z q) f)
+    here : (u : ℕ) → t ≡ u → ReadsComplete (view w) t n ⊎ ReadsRun (view w) t n → SoFar u (numbers_read setup older u) (view w) log
+        → SoFar u (numbers_read setup older u ++ n ∷ []) (read_in (view w) t n) log
+    here u z (inl q) f = subst (λ y. SoFar u (numbers_read setup older u ++ n ∷ []) (read_in (view w) y n) log) (sym z)
+        (so_far-unordered (view w) log u n (numbers_read setup older u) b.received.known.complete (subst (λ y. ReadsComplete (view w) y n) z q) f)
     here u z (inr q) f =
         let q' = subst (λ y. ReadsRun (view w) y n) z q in
-        subst (λ y. SoFar u (numbers_read setup older u ++ n ∷ []) (read_in (view w) y n) log) (sym z) (so_far-ordered (view w) log u n (numbers_read setup older u) b.received.ordered q' (Ordered.due-of (view w) u n b.received.ordered q') f)
+        subst (λ y. SoFar u (numbers_read setup older u ++ n ∷ []) (read_in (view w) y n) log) (sym z)
+        (so_far-ordered (view w) log u n (numbers_read setup older u) b.received.ordered q' (Ordered.due-of (view w) u n b.received.ordered q') f)
 
-    by : (c : Bool) → (t == s) ≡ c → SoFar s (numbers_read setup older s ++ (if c then number_read w s (read_reply w (Some n)) else [])) (read_in (view w) t n) log
+    by : (c : Bool) → (t == s) ≡ c
+        → SoFar s (numbers_read setup older s ++ (if c then number_read w s (read_reply w (Some n)) else [])) (read_in (view w) t n) log
     by true z =
         let y = same-is t s z in
-        subst (λ l. SoFar s (numbers_read setup older s ++ l) (read_in (view w) t n) log) (sym (ap (λ u. option_to_list (Receiver.next_read w u)) (sym y) ∙ ap option_to_list e)) (here s y r b.so_far)
-    by false z = subst (λ l. SoFar s l (read_in (view w) t n) log) (sym (append-nil (numbers_read setup older s))) (so_far-elsewhere (view w) log s t n (numbers_read setup older s) (stream-of r) z b.so_far)
+        subst (λ l. SoFar s (numbers_read setup older s ++ l) (read_in (view w) t n) log)
+        (sym (ap (λ u. option_to_list (Receiver.next_read w u)) (sym y) ∙ ap option_to_list e)) (here s y r b.so_far)
+    by false z = subst (λ l. SoFar s l (read_in (view w) t n) log) (sym (append-nil (numbers_read setup older s)))
+        (so_far-elsewhere (view w) log s t n (numbers_read setup older s) (stream-of r) z b.so_far)
 
-pub so_far-run : (setup : Setup) (h : History) → IsSetup setup → IsRun setup h → (s : ℕ) → SoFar s (numbers_read setup h s) (view (record_of setup h)) (Log.log_of setup h)
+pub so_far-run : (setup : Setup) (h : History) → IsSetup setup → IsRun setup h → (s : ℕ)
+    → SoFar s (numbers_read setup h s) (view (record_of setup h)) (Log.log_of setup h)
 so_far-run setup [] is run s = record { all = refl; ordered = refl; unordered = refl }
 so_far-run setup ((E.Read t, r) ∷ older) is run s =
-    let b : Told s (numbers_read setup older s) (record_of setup older) (Log.log_of setup older) = record { received = received-run setup older is run.1.1; so_far = so_far-run setup older is run.1.1 s } in
-    subst (λ y. SoFar s (numbers_read setup older s ++ (if t == s then number_read (record_of setup older) s y else [])) (view (Changes.after_reading (record_of setup older) t)) (Log.log_of setup older)) (sym run.1.0)
-    (told-read setup older t s (Receiver.next_read (record_of setup older) t) (sane-run setup older run.1.1) (unless-holds (Messages.is_open (record_of setup older) t) StreamUnknown None run.0).0 refl b)
-so_far-run setup ((E.Open a, r) ∷ older) is run s = (step-moves setup (Told s (numbers_read setup older s)) (told-moving setup s (numbers_read setup older s)) older is run.1.1 (E.Open a) r refl run.0 (record { received = received-run setup older is run.1.1; so_far = so_far-run setup older is run.1.1 s })).so_far
-so_far-run setup ((E.Mode a b c d, r) ∷ older) is run s = (step-moves setup (Told s (numbers_read setup older s)) (told-moving setup s (numbers_read setup older s)) older is run.1.1 (E.Mode a b c d) r refl run.0 (record { received = received-run setup older is run.1.1; so_far = so_far-run setup older is run.1.1 s })).so_far
-so_far-run setup ((E.Write a b c, r) ∷ older) is run s = (step-moves setup (Told s (numbers_read setup older s)) (told-moving setup s (numbers_read setup older s)) older is run.1.1 (E.Write a b c) r refl run.0 (record { received = received-run setup older is run.1.1; so_far = so_far-run setup older is run.1.1 s })).so_far
-so_far-run setup ((E.Start a, r) ∷ older) is run s = (step-moves setup (Told s (numbers_read setup older s)) (told-moving setup s (numbers_read setup older s)) older is run.1.1 (E.Start a) r refl run.0 (record { received = received-run setup older is run.1.1; so_far = so_far-run setup older is run.1.1 s })).so_far
-so_far-run setup ((E.Send a, r) ∷ older) is run s = (step-moves setup (Told s (numbers_read setup older s)) (told-moving setup s (numbers_read setup older s)) older is run.1.1 (E.Send a) r refl run.0 (record { received = received-run setup older is run.1.1; so_far = so_far-run setup older is run.1.1 s })).so_far
-so_far-run setup ((E.Resend a, r) ∷ older) is run s = (step-moves setup (Told s (numbers_read setup older s)) (told-moving setup s (numbers_read setup older s)) older is run.1.1 (E.Resend a) r refl run.0 (record { received = received-run setup older is run.1.1; so_far = so_far-run setup older is run.1.1 s })).so_far
-so_far-run setup ((E.Expire a, r) ∷ older) is run s = (step-moves setup (Told s (numbers_read setup older s)) (told-moving setup s (numbers_read setup older s)) older is run.1.1 (E.Expire a) r refl run.0 (record { received = received-run setup older is run.1.1; so_far = so_far-run setup older is run.1.1 s })).so_far
-so_far-run setup ((E.Tail a, r) ∷ older) is run s = (step-moves setup (Told s (numbers_read setup older s)) (told-moving setup s (numbers_read setup older s)) older is run.1.1 (E.Tail a) r refl run.0 (record { received = received-run setup older is run.1.1; so_far = so_far-run setup older is run.1.1 s })).so_far
-so_far-run setup ((E.Late a, r) ∷ older) is run s = (step-moves setup (Told s (numbers_read setup older s)) (told-moving setup s (numbers_read setup older s)) older is run.1.1 (E.Late a) r refl run.0 (record { received = received-run setup older is run.1.1; so_far = so_far-run setup older is run.1.1 s })).so_far
-so_far-run setup ((E.Abandon a, r) ∷ older) is run s = (step-moves setup (Told s (numbers_read setup older s)) (told-moving setup s (numbers_read setup older s)) older is run.1.1 (E.Abandon a) r refl run.0 (record { received = received-run setup older is run.1.1; so_far = so_far-run setup older is run.1.1 s })).so_far
-so_far-run setup ((E.Skip a b, r) ∷ older) is run s = (step-moves setup (Told s (numbers_read setup older s)) (told-moving setup s (numbers_read setup older s)) older is run.1.1 (E.Skip a b) r refl run.0 (record { received = received-run setup older is run.1.1; so_far = so_far-run setup older is run.1.1 s })).so_far
-so_far-run setup ((E.Ack a, r) ∷ older) is run s = (step-moves setup (Told s (numbers_read setup older s)) (told-moving setup s (numbers_read setup older s)) older is run.1.1 (E.Ack a) r refl run.0 (record { received = received-run setup older is run.1.1; so_far = so_far-run setup older is run.1.1 s })).so_far
-so_far-run setup ((E.Arrive a, r) ∷ older) is run s = (step-moves setup (Told s (numbers_read setup older s)) (told-moving setup s (numbers_read setup older s)) older is run.1.1 (E.Arrive a) r refl run.0 (record { received = received-run setup older is run.1.1; so_far = so_far-run setup older is run.1.1 s })).so_far
-so_far-run setup ((E.Acked a, r) ∷ older) is run s = (step-moves setup (Told s (numbers_read setup older s)) (told-moving setup s (numbers_read setup older s)) older is run.1.1 (E.Acked a) r refl run.0 (record { received = received-run setup older is run.1.1; so_far = so_far-run setup older is run.1.1 s })).so_far
+    let b : Told s (numbers_read setup older s) (record_of setup older)
+    (Log.log_of setup older) = record { received = received-run setup older is run.1.1; so_far = so_far-run setup older is run.1.1 s } in
+    subst (λ y. SoFar s (numbers_read setup older s ++ (if t == s then number_read (record_of setup older) s y else []))
+    (view (Changes.after_reading (record_of setup older) t)) (Log.log_of setup older)) (sym run.1.0)
+    (told-read setup older t s (Receiver.next_read (record_of setup older) t) (sane-run setup older run.1.1)
+    (unless-holds (Messages.is_open (record_of setup older) t) StreamUnknown None run.0).0 refl b)
+so_far-run setup ((E.Open a, r) ∷ older) is run s = (step-moves setup (Told s (numbers_read setup older s)) (told-moving setup s (numbers_read setup older s))
+    older is run.1.1 (E.Open a) r refl run.0 (record { received = received-run setup older is run.1.1; so_far = so_far-run setup older is run.1.1 s })).so_far
+so_far-run setup ((E.Mode a b c d, r) ∷ older) is run s =
+    (step-moves setup (Told s (numbers_read setup older s)) (told-moving setup s (numbers_read setup older s)) older is run.1.1 (E.Mode a b c d) r refl run.0
+    (record { received = received-run setup older is run.1.1; so_far = so_far-run setup older is run.1.1 s })).so_far
+so_far-run setup ((E.Write a b c, r) ∷ older) is run s =
+    (step-moves setup (Told s (numbers_read setup older s)) (told-moving setup s (numbers_read setup older s)) older is run.1.1 (E.Write a b c) r refl run.0
+    (record { received = received-run setup older is run.1.1; so_far = so_far-run setup older is run.1.1 s })).so_far
+so_far-run setup ((E.Start a, r) ∷ older) is run s = (step-moves setup (Told s (numbers_read setup older s)) (told-moving setup s (numbers_read setup older s))
+    older is run.1.1 (E.Start a) r refl run.0 (record { received = received-run setup older is run.1.1; so_far = so_far-run setup older is run.1.1 s })).so_far
+so_far-run setup ((E.Send a, r) ∷ older) is run s = (step-moves setup (Told s (numbers_read setup older s)) (told-moving setup s (numbers_read setup older s))
+    older is run.1.1 (E.Send a) r refl run.0 (record { received = received-run setup older is run.1.1; so_far = so_far-run setup older is run.1.1 s })).so_far
+so_far-run setup ((E.Resend a, r) ∷ older) is run s = (step-moves setup (Told s (numbers_read setup older s)) (told-moving setup s (numbers_read setup older s))
+    older is run.1.1 (E.Resend a) r refl run.0 (record { received = received-run setup older is run.1.1; so_far = so_far-run setup older is run.1.1 s })).so_far
+so_far-run setup ((E.Expire a, r) ∷ older) is run s = (step-moves setup (Told s (numbers_read setup older s)) (told-moving setup s (numbers_read setup older s))
+    older is run.1.1 (E.Expire a) r refl run.0 (record { received = received-run setup older is run.1.1; so_far = so_far-run setup older is run.1.1 s })).so_far
+so_far-run setup ((E.Tail a, r) ∷ older) is run s = (step-moves setup (Told s (numbers_read setup older s)) (told-moving setup s (numbers_read setup older s))
+    older is run.1.1 (E.Tail a) r refl run.0 (record { received = received-run setup older is run.1.1; so_far = so_far-run setup older is run.1.1 s })).so_far
+so_far-run setup ((E.Late a, r) ∷ older) is run s = (step-moves setup (Told s (numbers_read setup older s)) (told-moving setup s (numbers_read setup older s))
+    older is run.1.1 (E.Late a) r refl run.0 (record { received = received-run setup older is run.1.1; so_far = so_far-run setup older is run.1.1 s })).so_far
+so_far-run setup ((E.Abandon a, r) ∷ older) is run s =
+    (step-moves setup (Told s (numbers_read setup older s)) (told-moving setup s (numbers_read setup older s)) older is run.1.1 (E.Abandon a) r refl run.0
+    (record { received = received-run setup older is run.1.1; so_far = so_far-run setup older is run.1.1 s })).so_far
+so_far-run setup ((E.Skip a b, r) ∷ older) is run s = (step-moves setup (Told s (numbers_read setup older s)) (told-moving setup s (numbers_read setup older s))
+    older is run.1.1 (E.Skip a b) r refl run.0 (record { received = received-run setup older is run.1.1; so_far = so_far-run setup older is run.1.1 s })).so_far
+so_far-run setup ((E.Ack a, r) ∷ older) is run s = (step-moves setup (Told s (numbers_read setup older s)) (told-moving setup s (numbers_read setup older s))
+    older is run.1.1 (E.Ack a) r refl run.0 (record { received = received-run setup older is run.1.1; so_far = so_far-run setup older is run.1.1 s })).so_far
+so_far-run setup ((E.Arrive a, r) ∷ older) is run s = (step-moves setup (Told s (numbers_read setup older s)) (told-moving setup s (numbers_read setup older s))
+    older is run.1.1 (E.Arrive a) r refl run.0 (record { received = received-run setup older is run.1.1; so_far = so_far-run setup older is run.1.1 s })).so_far
+so_far-run setup ((E.Acked a, r) ∷ older) is run s = (step-moves setup (Told s (numbers_read setup older s)) (told-moving setup s (numbers_read setup older s))
+    older is run.1.1 (E.Acked a) r refl run.0 (record { received = received-run setup older is run.1.1; so_far = so_far-run setup older is run.1.1 s })).so_far
 
 -- ## The run: what was read, then what was not
 
-kept-halves : (t r : ℕ → Bool) (from count : ℕ) → ((j k : ℕ) → j < k → t j ≡ true → t k ≡ true → r k ≡ true → r j ≡ true) → numbers_where t from count ≡ numbers_where (λ k. t k && r k) from count ++ numbers_where (λ k. t k && not (r k)) from count
+kept-halves : (t r : ℕ → Bool) (from count : ℕ) → ((j k : ℕ) → j < k → t j ≡ true → t k ≡ true → r k ≡ true → r j ≡ true)
+    → numbers_where t from count ≡ numbers_where (λ k. t k && r k) from count ++ numbers_where (λ k. t k && not (r k)) from count
 kept-halves t r from zero down = refl
 kept-halves t r from (suc count) down = step (t from) (r from) refl refl (kept-halves t r (from + 1) count down)
   where
@@ -112,40 +145,50 @@ kept-halves t r from (suc count) down = step (t from) (r from) refl refl (kept-h
     others : List ℕ
     others = numbers_where (λ k. t k && not (r k)) (from + 1) count
 
-    step : (a b : Bool) → t from ≡ a → r from ≡ b → numbers_where t (from + 1) count ≡ reads' ++ others → (if a then from ∷ numbers_where t (from + 1) count else numbers_where t (from + 1) count) ≡ (if a && b then from ∷ reads' else reads') ++ (if a && not b then from ∷ others else others)
+    step : (a b : Bool) → t from ≡ a → r from ≡ b → numbers_where t (from + 1) count ≡ reads' ++ others → (if a then from ∷ numbers_where t (from + 1) count
+        else numbers_where t (from + 1) count) ≡ (if a && b then from ∷ reads' else reads') ++ (if a && not b then from ∷ others else others)
     step false b e f ih = ih
     step true true e f ih = ap (λ l. from ∷ l) ih
     step true false e f ih =
-        let none : reads' ≡ [] = kept-none (λ k. t k && r k) (from + 1) count (λ k a b. fails (t k && r k) (λ g. let c = both (t k) (r k) g in not_both (sym f ∙ down from k (omega arith) e c.0 c.1))) in
+        let none : reads' ≡ [] = kept-none (λ k. t k && r k)
+        (from + 1) count (λ k a b. fails (t k && r k) (λ g. let c = both (t k) (r k) g in not_both (sym f ∙ down from k (omega arith) e c.0 c.1))) in
         ap (λ l. from ∷ l) (ih ∙ ap (λ l. l ++ others) none) ∙ sym (ap (λ l. l ++ from ∷ others) none)
 
 pub passing-kept : (q p : ℕ → Bool) (from count : ℕ) → filter q (numbers_where p from count) ≡ numbers_where (λ k. p k && q k) from count
 passing-kept q p from zero = refl
 passing-kept q p from (suc count) = step (p from) (q from) refl (passing-kept q p (from + 1) count)
   where
-    step : (a b : Bool) → q from ≡ b → filter q (numbers_where p (from + 1) count) ≡ numbers_where (λ k. p k && q k) (from + 1) count → filter q (if a then from ∷ numbers_where p (from + 1) count else numbers_where p (from + 1) count) ≡ (if a && b then from ∷ numbers_where (λ k. p k && q k) (from + 1) count else numbers_where (λ k. p k && q k) (from + 1) count)
-    step true true e ih = ap (λ c. if c then from ∷ filter q (numbers_where p (from + 1) count) else filter q (numbers_where p (from + 1) count)) e ∙ ap (λ l. from ∷ l) ih
+    step : (a b : Bool) → q from ≡ b → filter q (numbers_where p (from + 1) count) ≡ numbers_where (λ k. p k && q k) (from + 1) count
+        → filter q (if a then from ∷ numbers_where p (from + 1) count else numbers_where p (from + 1) count)
+        ≡ (if a && b then from ∷ numbers_where (λ k. p k && q k) (from + 1) count else numbers_where (λ k. p k && q k) (from + 1) count)
+    step true true e ih = ap (λ c. if c then from ∷ filter q (numbers_where p (from + 1) count) else filter q (numbers_where p (from + 1) count)) e
+        ∙ ap (λ l. from ∷ l) ih
     step true false e ih = ap (λ c. if c then from ∷ filter q (numbers_where p (from + 1) count) else filter q (numbers_where p (from + 1) count)) e ∙ ih
     step false b e ih = ih
 
 -- the first so many, and the leading of the others, are those that pass among more of the first
 passing-leading : (q : ℕ → Bool) (i : ℕ) (xs : List ℕ) → filter q (take i xs) ++ leading q (drop i xs) ≡ filter q (take (i + length (leading q (drop i xs))) xs)
 passing-leading q zero [] = refl
-passing-leading q zero (x ∷ xs) = front (x ∷ xs) ∙ ap (λ k. filter q (take k (x ∷ xs))) (let z : length (leading q (x ∷ xs)) ≡ 0 + length (leading q (x ∷ xs)) = omega arith in z)
+passing-leading q zero (x ∷ xs) = front (x ∷ xs)
+    ∙ ap (λ k. filter q (take k (x ∷ xs))) (let z : length (leading q (x ∷ xs)) ≡ 0 + length (leading q (x ∷ xs)) = omega arith in z)
   where
     front : (xs : List ℕ) → leading q xs ≡ filter q (take (length (leading q xs)) xs)
     front [] = refl
     front (y ∷ ys) = step (q y) refl (front ys)
       where
-        step : (b : Bool) → q y ≡ b → leading q ys ≡ filter q (take (length (leading q ys)) ys) → (if b then y ∷ leading q ys else []) ≡ filter q (take (length (if b then y ∷ leading q ys else [])) (y ∷ ys))
-        step true e ih = ap (λ l. y ∷ l) ih ∙ sym (ap (λ c. if c then y ∷ filter q (take (length (leading q ys)) ys) else filter q (take (length (leading q ys)) ys)) e)
+        step : (b : Bool) → q y ≡ b → leading q ys ≡ filter q (take (length (leading q ys)) ys)
+            → (if b then y ∷ leading q ys else []) ≡ filter q (take (length (if b then y ∷ leading q ys else [])) (y ∷ ys))
+        step true e ih = ap (λ l. y ∷ l) ih
+            ∙ sym (ap (λ c. if c then y ∷ filter q (take (length (leading q ys)) ys) else filter q (take (length (leading q ys)) ys)) e)
         step false e ih = refl
 passing-leading q (suc i) [] = sym (take-none (suc i + 0) q)
 passing-leading q (suc i) (x ∷ xs) =
     let z : suc (i + length (leading q (drop i xs))) ≡ suc i + length (leading q (drop i xs)) = omega arith in
     step (q x) (passing-leading q i xs) ∙ ap (λ k. filter q (take k (x ∷ xs))) z
   where
-    step : (b : Bool) → filter q (take i xs) ++ leading q (drop i xs) ≡ filter q (take (i + length (leading q (drop i xs))) xs) → (if b then x ∷ filter q (take i xs) else filter q (take i xs)) ++ leading q (drop i xs) ≡ (if b then x ∷ filter q (take (i + length (leading q (drop i xs))) xs) else filter q (take (i + length (leading q (drop i xs))) xs))
+    step : (b : Bool) → filter q (take i xs) ++ leading q (drop i xs) ≡ filter q (take (i + length (leading q (drop i xs))) xs)
+        → (if b then x ∷ filter q (take i xs) else filter q (take i xs)) ++ leading q (drop i xs)
+        ≡ (if b then x ∷ filter q (take (i + length (leading q (drop i xs))) xs) else filter q (take (i + length (leading q (drop i xs))) xs))
     step true ih = ap (λ l. x ∷ l) ih
     step false ih = ih
 
@@ -153,7 +196,8 @@ leading-more : (q r : ℕ → Bool) (xs : List ℕ) → list_all (λ k. not (q k
 leading-more q r [] e = omega arith
 leading-more q r (x ∷ xs) e = let c = both (not (q x) || r x) (list_all (λ k. not (q k) || r k) xs) e in step (q x) (r x) c.0 (leading-more q r xs c.1)
   where
-    step : (a b : Bool) → (not a || b) ≡ true → length (leading q xs) ≤ length (leading r xs) → length (if a then x ∷ leading q xs else []) ≤ length (if b then x ∷ leading r xs else [])
+    step : (a b : Bool) → (not a || b) ≡ true → length (leading q xs) ≤ length (leading r xs)
+        → length (if a then x ∷ leading q xs else []) ≤ length (if b then x ∷ leading r xs else [])
     step true true e ih = omega (arith, ih)
     step true false e ih = cc
     step false b e ih = omega arith
@@ -179,9 +223,11 @@ read-in_run v s k o lt e =
     let a = both (on v.x s k) (v.read k) e in
     let wh : complete_at v k ≡ true = ordered-at v k (on-ordered v.x s k a.0) ∙ o.read_complete k lt (on-ordered v.x s k a.0) a.1 in
     let all = Alls.all-kept (λ k. not (v.read k) || complete_at v k) (on v.x s) 0 v.x.count (λ j x y h. implied j (omega arith) h (v.read j) refl) in
-    let more = leading-more v.read (complete_at v) (drop (v.named s) (line v s)) (Alls.all-drop (λ k. not (v.read k) || complete_at v k) (v.named s) (line v s) all) in
+    let more = leading-more v.read (complete_at v) (drop (v.named s) (line v s))
+    (Alls.all-drop (λ k. not (v.read k) || complete_at v k) (v.named s) (line v s) all) in
     let low : index v.x k < edge v s = omega (arith, o.read_past s k lt a.0 a.1, more) in
-    and (on v.x s k) (complete_at v k && nat_lt (index v.x k) (edge v s)) a.0 (and (complete_at v k) (nat_lt (index v.x k) (edge v s)) wh (grind (arith, nat_tests)))
+    and (on v.x s k)
+    (complete_at v k && nat_lt (index v.x k) (edge v s)) a.0 (and (complete_at v k) (nat_lt (index v.x k) (edge v s)) wh (grind (arith, nat_tests)))
   where
     implied : (j : ℕ) → j < v.x.count → on v.x s j ≡ true → (b : Bool) → v.read j ≡ b → (not b || complete_at v j) ≡ true
     implied j l h true r = ordered-at v j (on-ordered v.x s j h) ∙ o.read_complete j l (on-ordered v.x s j h) r
@@ -191,8 +237,10 @@ pub run-halves : (v : View) (s : ℕ) → Ordered v → run v s ≡ numbers_wher
 run-halves v s o =
     run-kept v s
     ∙ short (in_run v s) v.read
-    ∙ ap (λ l. l ++ numbers_where (λ k. in_run v s k && not (v.read k)) 0 v.x.count) (kept-same (λ k. in_run v s k && v.read k) (read_on v s) 0 v.x.count (λ k a b. same k (omega arith) (v.read k) refl (on v.x s k) refl))
-    ∙ ap (λ l. numbers_where (read_on v s) 0 v.x.count ++ l) (sym (ap (filter (λ n. not (v.read n))) (run-kept v s) ∙ passing-kept (λ n. not (v.read n)) (in_run v s) 0 v.x.count))
+    ∙ ap (λ l. l ++ numbers_where (λ k. in_run v s k && not (v.read k)) 0 v.x.count)
+    (kept-same (λ k. in_run v s k && v.read k) (read_on v s) 0 v.x.count (λ k a b. same k (omega arith) (v.read k) refl (on v.x s k) refl))
+    ∙ ap (λ l. numbers_where (read_on v s) 0 v.x.count ++ l)
+    (sym (ap (filter (λ n. not (v.read n))) (run-kept v s) ∙ passing-kept (λ n. not (v.read n)) (in_run v s) 0 v.x.count))
   where
     same : (k : ℕ) → k < v.x.count → (r : Bool) → v.read k ≡ r → (c : Bool) → on v.x s k ≡ c → (in_run v s k && r) ≡ (on v.x s k && r)
     same k lt false r c e = none (in_run v s k) ∙ sym (none (on v.x s k))
@@ -204,12 +252,15 @@ run-halves v s o =
     same k lt true r false e = ap (λ b. (b && (complete_at v k && nat_lt (index v.x k) (edge v s))) && true) e ∙ sym (ap (λ b. b && true) e)
 
     -- only the numbers of messages matter
-    short : (t r : ℕ → Bool) → numbers_where (in_run v s) 0 v.x.count ≡ numbers_where (λ k. in_run v s k && v.read k) 0 v.x.count ++ numbers_where (λ k. in_run v s k && not (v.read k)) 0 v.x.count
+    short : (t r : ℕ → Bool) → numbers_where (in_run v s) 0 v.x.count
+        ≡ numbers_where (λ k. in_run v s k && v.read k) 0 v.x.count ++ numbers_where (λ k. in_run v s k && not (v.read k)) 0 v.x.count
     short t r =
         kept-same (in_run v s) made 0 v.x.count (λ k a b. sym (at k (omega arith)))
-        ∙ kept-halves made v.read 0 v.x.count (λ j k l a b e. down j k l (both (nat_lt j v.x.count) (in_run v s j) a) (both (nat_lt k v.x.count) (in_run v s k) b) e)
-        ∙ ap (λ l. l ++ numbers_where (λ k. made k && not (v.read k)) 0 v.x.count) (kept-same (λ k. made k && v.read k) (λ k. in_run v s k && v.read k) 0 v.x.count (λ k a b. ap (λ c. c && v.read k) (at k (omega arith))))
-        ∙ ap (λ l. numbers_where (λ k. in_run v s k && v.read k) 0 v.x.count ++ l) (kept-same (λ k. made k && not (v.read k)) (λ k. in_run v s k && not (v.read k)) 0 v.x.count (λ k a b. ap (λ c. c && not (v.read k)) (at k (omega arith))))
+        ∙ kept-halves made v.read 0 v.x.count (λ j k l a b e. down j k l (both (nat_lt j v.x.count) (in_run v s j) a)
+        (both (nat_lt k v.x.count) (in_run v s k) b) e) ∙ ap (λ l. l ++ numbers_where (λ k. made k && not (v.read k)) 0 v.x.count)
+        (kept-same (λ k. made k && v.read k) (λ k. in_run v s k && v.read k) 0 v.x.count (λ k a b. ap (λ c. c && v.read k) (at k (omega arith))))
+        ∙ ap (λ l. numbers_where (λ k. in_run v s k && v.read k) 0 v.x.count ++ l) (kept-same (λ k. made k && not (v.read k))
+        (λ k. in_run v s k && not (v.read k)) 0 v.x.count (λ k a b. ap (λ c. c && not (v.read k)) (at k (omega arith))))
       where
         made : ℕ → Bool
         made k = nat_lt k v.x.count && in_run v s k
@@ -217,7 +268,8 @@ run-halves v s o =
         at : (k : ℕ) → k < v.x.count → (nat_lt k v.x.count && in_run v s k) ≡ in_run v s k
         at k lt = let e : nat_lt k v.x.count ≡ true = grind (arith, nat_tests) in ap (λ b. b && in_run v s k) e
 
-        down : (j k : ℕ) → j < k → (nat_lt j v.x.count ≡ true) × (in_run v s j ≡ true) → (nat_lt k v.x.count ≡ true) × (in_run v s k ≡ true) → v.read k ≡ true → v.read j ≡ true
+        down : (j k : ℕ) → j < k → (nat_lt j v.x.count ≡ true) × (in_run v s j ≡ true) → (nat_lt k v.x.count ≡ true) × (in_run v s k ≡ true) → v.read k ≡ true
+            → v.read j ≡ true
         down j k l a b e =
             let x = both (on v.x s j) (complete_at v j && nat_lt (index v.x j) (edge v s)) a.1 in
             let y = both (on v.x s k) (complete_at v k && nat_lt (index v.x k) (edge v s)) b.1 in
@@ -228,11 +280,14 @@ run-halves v s o =
 -- ## The laws
 
 -- the run of the record is the one that the order of arrivals gives
-pub run-is : (setup : Setup) (h : History) → IsSetup setup → IsRun setup h → (s : ℕ) → Log.run_by (record_of setup h) (Log.log_of setup h) s ≡ run (view (record_of setup h)) s
+pub run-is : (setup : Setup) (h : History) → IsSetup setup → IsRun setup h → (s : ℕ)
+    → Log.run_by (record_of setup h) (Log.log_of setup h) s ≡ run (view (record_of setup h)) s
 run-is setup h is go s =
     ap (λ k. filter (Log.is_complete_by w log) (take k line') ++ leading (Log.is_complete_by w log) (drop k line')) (sym (named_is_named setup h is go s))
-    ∙ ap (λ l. l ++ leading (Log.is_complete_by w log) (drop (v.named s) line')) (passing-all (Log.is_complete_by w log) (complete_at v) (take (v.named s) line') (Alls.all-take agree (v.named s) line' all))
-    ∙ ap (λ l. filter (complete_at v) (take (v.named s) line') ++ l) (leading-all (Log.is_complete_by w log) (complete_at v) (drop (v.named s) line') (Alls.all-drop agree (v.named s) line' all))
+    ∙ ap (λ l. l ++ leading (Log.is_complete_by w log) (drop (v.named s) line'))
+    (passing-all (Log.is_complete_by w log) (complete_at v) (take (v.named s) line') (Alls.all-take agree (v.named s) line' all))
+    ∙ ap (λ l. filter (complete_at v) (take (v.named s) line') ++ l)
+    (leading-all (Log.is_complete_by w log) (complete_at v) (drop (v.named s) line') (Alls.all-drop agree (v.named s) line' all))
   where
     w : LinkRecord
     w = record_of setup h
@@ -260,10 +315,12 @@ run-is setup h is go s =
 
     leading-all : (q r : ℕ → Bool) (xs : List ℕ) → list_all agree xs ≡ true → leading (Log.is_complete_by w log) xs ≡ leading (complete_at v) xs
     leading-all q r [] a = refl
-    leading-all q r (x ∷ xs) a = let c = both (agree x) (list_all agree xs) a in ap (λ b. if b then x ∷ leading (Log.is_complete_by w log) xs else []) (equal x c.0) ∙ ap (λ l. if complete_at v x then x ∷ l else []) (leading-all q r xs c.1)
+    leading-all q r (x ∷ xs) a = let c = both (agree x) (list_all agree xs) a in ap (λ b. if b then x ∷ leading (Log.is_complete_by w log) xs else [])
+        (equal x c.0) ∙ ap (λ l. if complete_at v x then x ∷ l else []) (leading-all q r xs c.1)
 
 -- the ordered reads, then what of the run was not read
-pub reads-then : (setup : Setup) (h : History) → IsSetup setup → IsRun setup h → (s : ℕ) → Log.run_by (record_of setup h) (Log.log_of setup h) s ≡ ordered_reads setup h s ++ filter (λ n. not ((view (record_of setup h)).read n)) (run (view (record_of setup h)) s)
+pub reads-then : (setup : Setup) (h : History) → IsSetup setup → IsRun setup h → (s : ℕ) → Log.run_by (record_of setup h)
+    (Log.log_of setup h) s ≡ ordered_reads setup h s ++ filter (λ n. not ((view (record_of setup h)).read n)) (run (view (record_of setup h)) s)
 reads-then setup h is go s =
     run-is setup h is go s ∙ run-halves (view (record_of setup h)) s (received-run setup h is go).ordered
     ∙ ap (λ l. l ++ filter (λ n. not ((view (record_of setup h)).read n)) (run (view (record_of setup h)) s)) (sym (so_far-run setup h is go s).ordered)
@@ -276,15 +333,19 @@ reads_begin_complete_run setup h is go s lossless =
     let w = record_of setup h in
     let log = Log.log_of setup h in
     let p = reads_begin_run setup h is go s in
-    let z : Log.named_by w s log ≡ 0 = none-named w s log (no-skips setup h lossless) in
-    (p.0, p.1 ∙ ap (λ k. filter (Log.is_complete_by w log) (take k (Messages.ordered_on w s)) ++ leading (Log.is_complete_by w log) (drop k (Messages.ordered_on w s))) z ∙ complete-line (Log.is_complete_by w log) (Messages.ordered_on w s))
+    let z : Log.named_by w s log ≡ 0 = none-named w s log (no-skips setup h lossless) in (
+      p.0,
+      p.1 ∙ ap (λ k. filter (Log.is_complete_by w log) (take k (Messages.ordered_on w s))
+          ++ leading (Log.is_complete_by w log) (drop k (Messages.ordered_on w s))) z ∙ complete-line (Log.is_complete_by w log) (Messages.ordered_on w s),
+    )
   where
     complete-line : (q : ℕ → Bool) (xs : List ℕ) → filter q (take 0 xs) ++ leading q (drop 0 xs) ≡ leading q xs
     complete-line q [] = refl
     complete-line q (x ∷ xs) = refl
 
 -- the unordered reads, then those that wait
-pub unordered-then : (setup : Setup) (h : History) → IsSetup setup → IsRun setup h → (s : ℕ) → Log.complete_by (record_of setup h) (Log.log_of setup h) s ≡ unordered_reads setup h s ++ (view (record_of setup h)).complete s
+pub unordered-then : (setup : Setup) (h : History) → IsSetup setup → IsRun setup h → (s : ℕ)
+    → Log.complete_by (record_of setup h) (Log.log_of setup h) s ≡ unordered_reads setup h s ++ (view (record_of setup h)).complete s
 unordered-then setup h is go s = complete_list-is (record_of setup h) (Log.log_of setup h) s ∙ (so_far-run setup h is go s).unordered
 
 pub reads_begin_complete : OnEveryRun ReadsBeginComplete
@@ -292,14 +353,16 @@ reads_begin_complete setup h is go s = ((view (record_of setup h)).complete s, s
 
 pub unordered_first : OnEveryRun UnorderedFirst
 unordered_first setup h is go s n e =
-    first ((view (record_of setup h)).complete s) (sym (at (unordered_reads setup h s) ((view (record_of setup h)).complete s)) ∙ ap (λ l. slice_get l (length (unordered_reads setup h s))) (sym (unordered-then setup h is go s)) ∙ e)
+    first ((view (record_of setup h)).complete s) (sym (at (unordered_reads setup h s) ((view (record_of setup h)).complete s))
+    ∙ ap (λ l. slice_get l (length (unordered_reads setup h s))) (sym (unordered-then setup h is go s)) ∙ e)
   where
     at : (xs ys : List ℕ) → slice_get (xs ++ ys) (length xs) ≡ first_of ys
     at [] [] = refl
     at [] (y ∷ ys) = refl
     at (x ∷ xs) ys = at xs ys
 
-    first : (l : List ℕ) → first_of l ≡ Some n → or_else (first_of l) (first_of (filter (λ n. not ((view (record_of setup h)).read n)) (run (view (record_of setup h)) s))) ≡ Some n
+    first : (l : List ℕ) → first_of l ≡ Some n
+        → or_else (first_of l) (first_of (filter (λ n. not ((view (record_of setup h)).read n)) (run (view (record_of setup h)) s))) ≡ Some n
     first [] f = cc
     first (x ∷ xs) f = f
 
@@ -324,7 +387,9 @@ nothing_where_read setup h is go s = (λ e. exhausted (next_read v s) refl e, λ
     parted [] f = (refl, none-first unread f)
     parted (x ∷ xs) f = cc
 
-    exhausted : (o : Option ℕ) → next_read v s ≡ o → read_reply (record_of setup h) o ≡ R.Nothing → (ordered_reads setup h s ≡ Log.run_by (record_of setup h) (Log.log_of setup h) s) × (unordered_reads setup h s ≡ Log.complete_by (record_of setup h) (Log.log_of setup h) s)
+    exhausted : (o : Option ℕ) → next_read v s ≡ o → read_reply (record_of setup h) o ≡ R.Nothing
+        → (ordered_reads setup h s ≡ Log.run_by (record_of setup h) (Log.log_of setup h) s)
+        × (unordered_reads setup h s ≡ Log.complete_by (record_of setup h) (Log.log_of setup h) s)
     exhausted (Some n) f e = cc
     exhausted None f e =
         let p = parted (v.complete s) f in (
@@ -332,7 +397,8 @@ nothing_where_read setup h is go s = (λ e. exhausted (next_read v s) refl e, λ
           sym (unordered-then setup h is go s ∙ ap (λ l. unordered_reads setup h s ++ l) p.0 ∙ append-nil (unordered_reads setup h s)),
         )
 
-    nothing : ordered_reads setup h s ≡ Log.run_by (record_of setup h) (Log.log_of setup h) s → unordered_reads setup h s ≡ Log.complete_by (record_of setup h) (Log.log_of setup h) s → read_reply (record_of setup h) (next_read v s) ≡ R.Nothing
+    nothing : ordered_reads setup h s ≡ Log.run_by (record_of setup h) (Log.log_of setup h) s
+        → unordered_reads setup h s ≡ Log.complete_by (record_of setup h) (Log.log_of setup h) s → read_reply (record_of setup h) (next_read v s) ≡ R.Nothing
     nothing a b =
         let p = nothing-left (ordered_reads setup h s) unread (a ∙ reads-then setup h is go s) in
         let q = nothing-left (unordered_reads setup h s) (v.complete s) (b ∙ unordered-then setup h is go s) in

@@ -1,4 +1,5 @@
-use Rattle.std.proofs.Common.{◌≡◌, ℕ, zero, suc, ◌+◌, ◌<◌, ◌≤◌, Bool, true, false, List, [], ◌∷◌, ◌++◌, length, map, get_or, take, drop, Option, Some, None, refl, ap, sym, ◌∙◌, inl, inr, arith, append-nil, add-one}
+use Rattle.std.proofs.Common.{◌≡◌, ℕ, zero, suc, ◌+◌, ◌<◌, ◌≤◌, Bool, true, false, List, [], ◌∷◌, ◌++◌, length, map, get_or, take, drop, Option, Some, None}
+use Rattle.std.proofs.Common.{refl, ap, sym, ◌∙◌, inl, inr, arith, append-nil, add-one}
 use Rattle.std.specs.Prelude.{◌⊎◌, if◌then◌else◌, ◌==◌, ◌&&◌, not, nat_lt, option_to_list}
 use Rattle.std.specs.List.{list_all}
 use Rattle.std.proofs.lemmas.Bool.Decides.{nat_tests}
@@ -51,7 +52,8 @@ flat-pieces zero size (x ∷ xs) s le = absurd (omega arith)
 flat-pieces (suc most) size [] s le = refl
 flat-pieces (suc most) zero (x ∷ xs) s le = absurd (omega arith)
 flat-pieces (suc most) (suc size) (x ∷ xs) s le =
-    ap (λ l. take (suc size) (x ∷ xs) ++ l) (flat-pieces most (suc size) (drop (suc size) (x ∷ xs)) s (shorter size xs most (omega arith))) ∙ take-drop (suc size) (x ∷ xs)
+    ap (λ l. take (suc size) (x ∷ xs) ++ l) (flat-pieces most (suc size) (drop (suc size) (x ∷ xs)) s (shorter size xs most (omega arith)))
+    ∙ take-drop (suc size) (x ∷ xs)
   where
     shorter : (i : ℕ) (xs : List ℕ) (most : ℕ) → length xs ≤ most → length (drop i xs) ≤ most
     shorter zero [] most le = le
@@ -70,32 +72,41 @@ map-same f g (x ∷ xs) h = ap (λ y. y ∷ map f xs) (h x) ∙ ap (λ l. g x �
 
 elements : (xs : List (List ℕ)) → map (λ i. get_or xs i []) (numbers_where always 0 (length xs)) ≡ xs
 elements [] = refl
-elements (x ∷ xs) = ap (λ l. x ∷ l) (map-shift (λ i. get_or (x ∷ xs) i []) 0 (length xs) ∙ map-same (λ i. get_or (x ∷ xs) (i + 1) []) (λ i. get_or xs i []) (numbers_where always 0 (length xs)) (λ i. ap (λ j. get_or (x ∷ xs) j []) (add-one i)) ∙ elements xs)
+elements (x ∷ xs) = ap (λ l. x ∷ l) (map-shift (λ i. get_or (x ∷ xs) i []) 0 (length xs) ∙ map-same (λ i. get_or (x ∷ xs) (i + 1) []) (λ i. get_or xs i [])
+    (numbers_where always 0 (length xs)) (λ i. ap (λ j. get_or (x ∷ xs) j []) (add-one i)) ∙ elements xs)
 
 -- ## The bytes of the slots of a message
 
 -- the chunks of slots of message n carry its fragments
-joined-slots : (w : LinkRecord) (n from count : ℕ) → joined_bytes (map (chunk_at w) (numbers_where (has (shape w) n) from count)) ≡ flat (map (Messages.fragment_at w n) (map (λ p. (Messages.slot_at w p).fragment) (numbers_where (has (shape w) n) from count)))
+joined-slots : (w : LinkRecord) (n from count : ℕ) → joined_bytes (map (chunk_at w) (numbers_where (has (shape w) n) from count))
+    ≡ flat (map (Messages.fragment_at w n) (map (λ p. (Messages.slot_at w p).fragment) (numbers_where (has (shape w) n) from count)))
 joined-slots w n from zero = refl
 joined-slots w n from (suc count) = step (has (shape w) n from) refl (joined-slots w n (from + 1) count)
   where
-    step : (b : Bool) → has (shape w) n from ≡ b → joined_bytes (map (chunk_at w) (numbers_where (has (shape w) n) (from + 1) count)) ≡ flat (map (Messages.fragment_at w n) (map (λ p. (Messages.slot_at w p).fragment) (numbers_where (has (shape w) n) (from + 1) count)))
-        → joined_bytes (map (chunk_at w) (if b then from ∷ numbers_where (has (shape w) n) (from + 1) count else numbers_where (has (shape w) n) (from + 1) count)) ≡ flat (map (Messages.fragment_at w n) (map (λ p. (Messages.slot_at w p).fragment) (if b then from ∷ numbers_where (has (shape w) n) (from + 1) count else numbers_where (has (shape w) n) (from + 1) count)))
+    step : (b : Bool) → has (shape w) n from ≡ b → joined_bytes (map (chunk_at w) (numbers_where (has (shape w) n) (from + 1) count))
+        ≡ flat (map (Messages.fragment_at w n) (map (λ p. (Messages.slot_at w p).fragment) (numbers_where (has (shape w) n) (from + 1) count)))
+        → joined_bytes (map (chunk_at w) (if b then from ∷ numbers_where (has (shape w) n) (from + 1) count
+        else numbers_where (has (shape w) n) (from + 1) count)) ≡ flat (map (Messages.fragment_at w n) (map (λ p. (Messages.slot_at w p).fragment) (if b
+        then from ∷ numbers_where (has (shape w) n) (from + 1) count else numbers_where (has (shape w) n) (from + 1) count)))
     step false e ih = ih
     step true e ih =
-        ap (λ m. Messages.fragment_at w m (Messages.slot_at w from).fragment ++ joined_bytes (map (chunk_at w) (numbers_where (has (shape w) n) (from + 1) count))) (of-has (shape w) n from e).0
+        ap (λ m. Messages.fragment_at w m (Messages.slot_at w from).fragment
+        ++ joined_bytes (map (chunk_at w) (numbers_where (has (shape w) n) (from + 1) count))) (of-has (shape w) n from e).0
         ∙ ap (λ l. Messages.fragment_at w n (Messages.slot_at w from).fragment ++ l) ih
 
-pub slots-joined : (w : LinkRecord) (n : ℕ) → Sender (shape w) → 0 < w.setup.size → sent (shape w) n ≡ parts (shape w) n → joined_bytes (map (chunk_at w) (Messages.slots_of w n)) ≡ (Messages.message_at w n).bytes
+pub slots-joined : (w : LinkRecord) (n : ℕ) → Sender (shape w) → 0 < w.setup.size → sent (shape w) n ≡ parts (shape w) n
+    → joined_bytes (map (chunk_at w) (Messages.slots_of w n)) ≡ (Messages.message_at w n).bytes
 slots-joined w n s pos all =
     joined-slots w n 0 (length w.slots)
-    ∙ ap (λ l. flat (map (Messages.fragment_at w n) l)) (numbered (λ p. (Messages.slot_at w p).fragment) (has (shape w) n) (length w.slots) (λ k l e. s.number k l ∙ ap (λ m. length (numbers_where (has (shape w) m) 0 k)) (of-has (shape w) n k e).0))
-    ∙ ap (λ c. flat (map (Messages.fragment_at w n) (numbers_where always 0 c))) all
-    ∙ ap flat (elements (Messages.fragments_of w n))
+    ∙ ap (λ l. flat (map (Messages.fragment_at w n) l)) (numbered (λ p. (Messages.slot_at w p).fragment) (has (shape w) n) (length w.slots)
+    (λ k l e. s.number k l ∙ ap (λ m. length (numbers_where (has (shape w) m) 0 k)) (of-has (shape w) n k e).0))
+    ∙ ap (λ c. flat (map (Messages.fragment_at w n) (numbers_where always 0 c))) all ∙ ap flat (elements (Messages.fragments_of w n))
     ∙ flat-pieces (length (Messages.message_at w n).bytes) w.setup.size (Messages.message_at w n).bytes pos (omega arith)
 
 -- what is handed out joins to what was written
-handed-joined : (w : LinkRecord) (n : ℕ) → Sender (shape w) → 0 < w.setup.size → sent (shape w) n ≡ parts (shape w) n → ((Messages.message_at w n).ordered ≡ true → list_all (Receiver.arrived_at w) (Messages.slots_of w n) ≡ true) → joined_bytes (handed_out w n).chunks ≡ (Messages.message_at w n).bytes
+handed-joined : (w : LinkRecord) (n : ℕ) → Sender (shape w) → 0 < w.setup.size → sent (shape w) n ≡ parts (shape w) n
+    → ((Messages.message_at w n).ordered ≡ true → list_all (Receiver.arrived_at w) (Messages.slots_of w n) ≡ true)
+    → joined_bytes (handed_out w n).chunks ≡ (Messages.message_at w n).bytes
 handed-joined w n s pos all datagram_received = step (Messages.message_at w n).ordered refl
   where
     ands : (a b : Bool) → (a ≡ true → b ≡ true) → (a && b) ≡ a
@@ -105,13 +116,16 @@ handed-joined w n s pos all datagram_received = step (Messages.message_at w n).o
     step : (b : Bool) → (Messages.message_at w n).ordered ≡ b → joined_bytes (handed_out w n).chunks ≡ (Messages.message_at w n).bytes
     step true o =
         ap (λ b. joined_bytes (if b then set_of w n else complete_set_of w n).chunks) o
-        ∙ ap (λ l. joined_bytes (map (chunk_at w) l)) (kept-same (λ p. has (shape w) n p && Receiver.arrived_at w p) (has (shape w) n) 0 (length w.slots) (λ k a b. ands (has (shape w) n k) (Receiver.arrived_at w k) (λ h. all-out (Receiver.arrived_at w) (has (shape w) n) k 0 (length w.slots) (datagram_received o) a b h)))
+        ∙ ap (λ l. joined_bytes (map (chunk_at w) l))
+        (kept-same (λ p. has (shape w) n p && Receiver.arrived_at w p) (has (shape w) n) 0 (length w.slots) (λ k a b. ands (has (shape w) n k)
+        (Receiver.arrived_at w k) (λ h. all-out (Receiver.arrived_at w) (has (shape w) n) k 0 (length w.slots) (datagram_received o) a b h)))
         ∙ slots-joined w n s pos all
     step false o = ap (λ b. joined_bytes (if b then set_of w n else complete_set_of w n).chunks) o ∙ slots-joined w n s pos all
 
 -- ## What is read next
 
-pub has-read : (setup : Setup) (h : History) → IsSetup setup → IsRun setup h → (s n : ℕ) → next_read (record_of setup h) s ≡ Some n → HasRead (view (record_of setup h)) s n
+pub has-read : (setup : Setup) (h : History) → IsSetup setup → IsRun setup h → (s n : ℕ) → next_read (record_of setup h) s ≡ Some n
+    → HasRead (view (record_of setup h)) s n
 has-read setup h is run s n e = step (reads (view (record_of setup h)) s n e)
   where
     step : ReadsComplete (view (record_of setup h)) s n ⊎ ReadsRun (view (record_of setup h)) s n → HasRead (view (record_of setup h)) s n
@@ -121,18 +135,27 @@ has-read setup h is run s n e = step (reads (view (record_of setup h)) s n e)
         record { made = i.made; stream = i.stream; unread = i.unread; complete_now = ready-complete (view (record_of setup h)) (log_of setup h) s n k a }
     step (inr a) =
         let i = run-is (view (record_of setup h)) s n a in
-        record { made = i.made; stream = same-is (Messages.message_at (record_of setup h) n).stream s (both ((Messages.message_at (record_of setup h) n).stream == s) ((Messages.message_at (record_of setup h) n).ordered && not (Messages.message_at (record_of setup h) n).expired) i.on_it).0; unread = i.unread; complete_now = i.complete_now }
+        record {
+          made = i.made;
+          stream = same-is (Messages.message_at (record_of setup h) n).stream s (both ((Messages.message_at (record_of setup h) n).stream == s)
+              ((Messages.message_at (record_of setup h) n).ordered && not (Messages.message_at (record_of setup h) n).expired) i.on_it).0;
+          unread = i.unread;
+          complete_now = i.complete_now;
+        }
 
-pub read-joined : (setup : Setup) (h : History) → IsSetup setup → IsRun setup h → (s n : ℕ) → next_read (record_of setup h) s ≡ Some n → joined_bytes (handed_out (record_of setup h) n).chunks ≡ (Messages.message_at (record_of setup h) n).bytes
+pub read-joined : (setup : Setup) (h : History) → IsSetup setup → IsRun setup h → (s n : ℕ) → next_read (record_of setup h) s ≡ Some n
+    → joined_bytes (handed_out (record_of setup h) n).chunks ≡ (Messages.message_at (record_of setup h) n).bytes
 read-joined setup h is run s n e =
     let w = record_of setup h in
     let g = sane-run setup h run in
     let r = has-read setup h is run s n e in
     let complete = sym (completeness_agrees setup h is run n r.made) ∙ r.complete_now in
-    let a = both (Messages.sent_of w n == Messages.fragment_count w n) (if (Messages.message_at w n).ordered then list_all (Log.arrived_new (log_of setup h)) (Messages.slots_of w n) else Log.were_complete (Messages.slots_of w n) (log_of setup h)) complete in
+    let a = both (Messages.sent_of w n == Messages.fragment_count w n) (if (Messages.message_at w n).ordered
+    then list_all (Log.arrived_new (log_of setup h)) (Messages.slots_of w n) else Log.were_complete (Messages.slots_of w n) (log_of setup h)) complete in
     handed-joined w n g.sender (size-some setup w is g) (same-is (Messages.sent_of w n) (Messages.fragment_count w n) a.0)
     (λ o. all-more (Log.arrived_new (log_of setup h)) (Receiver.arrived_at w) (Messages.slots_of w n) (λ k f. (heard-run setup h is run).arrived k ∙ f)
-    (ap (λ b. if b then list_all (Log.arrived_new (log_of setup h)) (Messages.slots_of w n) else Log.were_complete (Messages.slots_of w n) (log_of setup h)) (sym o) ∙ a.1))
+    (ap (λ b. if b then list_all (Log.arrived_new (log_of setup h)) (Messages.slots_of w n)
+    else Log.were_complete (Messages.slots_of w n) (log_of setup h)) (sym o) ∙ a.1))
 
 -- ## The law
 
@@ -146,14 +169,17 @@ shown-stays w v x n lt = ap (λ m. let y : Shown = (m.stream, m.ppi, m.bytes) in
 all-shown : (w v : LinkRecord) → Extends w v → (s : ℕ) (xs : List ℕ) → Fits w s xs → (map (shown_of w) xs ≡ map (shown_of v) xs) × Fits v s xs
 all-shown w v x s [] f = (refl, refl)
 all-shown w v x s (n ∷ xs) f =
-    let a = both (nat_lt n (length w.messages) && ((Messages.message_at w n).stream == s)) (list_all (λ n. nat_lt n (length w.messages) && ((Messages.message_at w n).stream == s)) xs) f in
+    let a = both (nat_lt n (length w.messages) && ((Messages.message_at w n).stream == s))
+    (list_all (λ n. nat_lt n (length w.messages) && ((Messages.message_at w n).stream == s)) xs) f in
     let b = both (nat_lt n (length w.messages)) ((Messages.message_at w n).stream == s) a.0 in
     let low = b.0 in
     let lt : n < length w.messages = grind (arith, nat_tests) in
     let lt' : n < length v.messages = omega (arith, lt, x.grows.count) in
     let ih = all-shown w v x s xs a.1 in (
       ap (λ y. y ∷ map (shown_of w) xs) (sym (shown-stays w v x n lt)) ∙ ap (λ l. shown_of v n ∷ l) ih.0,
-      and (nat_lt n (length v.messages) && ((Messages.message_at v n).stream == s)) (list_all (λ n. nat_lt n (length v.messages) && ((Messages.message_at v n).stream == s)) xs) (and (nat_lt n (length v.messages)) ((Messages.message_at v n).stream == s) (grind (arith, nat_tests)) (ap (λ m. m.stream == s) (x.grows.message n lt) ∙ b.1)) ih.1,
+      and (nat_lt n (length v.messages) && ((Messages.message_at v n).stream == s))
+          (list_all (λ n. nat_lt n (length v.messages) && ((Messages.message_at v n).stream == s)) xs) (and (nat_lt n (length v.messages))
+          ((Messages.message_at v n).stream == s) (grind (arith, nat_tests)) (ap (λ m. m.stream == s) (x.grows.message n lt) ∙ b.1)) ih.1,
     )
 
 abbrev Says : Setup → History → LinkRecord → ℕ → Type 0
@@ -163,10 +189,13 @@ stays : (w v : LinkRecord) → Extends w v → (setup : Setup) (h : History) (s 
 stays w v x setup h s a = let r = all-shown w v x s (numbers_read setup h s) a.1 in (a.0 ∙ r.0, r.1)
 
 -- a read
-says-read : (setup : Setup) (older : History) (t s : ℕ) (r : Reply) (v : LinkRecord) → IsSetup setup → IsRun setup older → Extends (record_of setup older) v → (o : Option ℕ) → next_read (record_of setup older) t ≡ o → r ≡ read_reply (record_of setup older) o → Says setup older (record_of setup older) s → Says setup ((E.Read t, r) ∷ older) v s
+says-read : (setup : Setup) (older : History) (t s : ℕ) (r : Reply) (v : LinkRecord) → IsSetup setup → IsRun setup older → Extends (record_of setup older) v
+    → (o : Option ℕ) → next_read (record_of setup older) t ≡ o → r ≡ read_reply (record_of setup older) o → Says setup older (record_of setup older) s
+    → Says setup ((E.Read t, r) ∷ older) v s
 says-read setup older t s r v is run x None e f a =
     let b = stays (record_of setup older) v x setup older s a in
-    let same : numbers_read setup ((E.Read t, r) ∷ older) s ≡ numbers_read setup older s = ap (λ y. numbers_read setup older s ++ (if t == s then number_read (record_of setup older) s y else [])) f ∙ none (t == s) (numbers_read setup older s) in (
+    let same : numbers_read setup ((E.Read t, r) ∷ older) s ≡ numbers_read setup older s = ap (λ y.
+    numbers_read setup older s ++ (if t == s then number_read (record_of setup older) s y else [])) f ∙ none (t == s) (numbers_read setup older s) in (
       ap (λ y. reads_in older s ++ (if t == s then shown_by y else [])) f ∙ none' (t == s) (reads_in older s) ∙ b.0 ∙ ap (map (shown_of v)) (sym same),
       ap (list_all (λ n. nat_lt n (length v.messages) && ((Messages.message_at v n).stream == s))) same ∙ b.1,
     )
@@ -187,35 +216,43 @@ says-read setup older t s r v is run x (Some n) e f a = by (t == s) refl
     one q =
         let lt = hit.made in
         let lt' : n < length v.messages = omega (arith, lt, x.grows.count) in
-        and (nat_lt n (length v.messages) && ((Messages.message_at v n).stream == s)) true (and (nat_lt n (length v.messages)) ((Messages.message_at v n).stream == s) (grind (arith, nat_tests)) (ap (λ m. m.stream == s) (x.grows.message n lt) ∙ ap (λ k. k == s) (hit.stream ∙ q) ∙ same-yes s)) refl
+        and (nat_lt n (length v.messages) && ((Messages.message_at v n).stream == s)) true (and (nat_lt n (length v.messages)) ((Messages.message_at v n).stream
+        == s) (grind (arith, nat_tests)) (ap (λ m. m.stream == s) (x.grows.message n lt) ∙ ap (λ k. k == s) (hit.stream ∙ q) ∙ same-yes s)) refl
 
     shown : shown_by (read_reply (record_of setup older) (Some n)) ≡ shown_of v n ∷ []
     shown =
-        ap (λ b. let y : List Shown = ((Messages.message_at (record_of setup older) n).stream, (Messages.message_at (record_of setup older) n).ppi, b) ∷ [] in y) (read-joined setup older is run t n e)
-        ∙ ap (λ y. y ∷ []) (sym (shown-stays (record_of setup older) v x n hit.made))
+        ap (λ b. let y : List Shown = ((Messages.message_at (record_of setup older) n).stream, (Messages.message_at (record_of setup older) n).ppi, b) ∷ [] in
+        y) (read-joined setup older is run t n e) ∙ ap (λ y. y ∷ []) (sym (shown-stays (record_of setup older) v x n hit.made))
 
     by : (b : Bool) → (t == s) ≡ b → Says setup ((E.Read t, r) ∷ older) v s
     by false q =
         let b = stays (record_of setup older) v x setup older s a in
-        let numbers : numbers_read setup ((E.Read t, r) ∷ older) s ≡ numbers_read setup older s = ap (λ c. numbers_read setup older s ++ (if c then number_read (record_of setup older) s r else [])) q ∙ append-nil (numbers_read setup older s) in (
+        let numbers : numbers_read setup ((E.Read t, r) ∷ older) s ≡ numbers_read setup older s =
+        ap (λ c. numbers_read setup older s ++ (if c then number_read (record_of setup older) s r else [])) q ∙ append-nil (numbers_read setup older s) in (
           ap (λ c. reads_in older s ++ (if c then shown_by r else [])) q ∙ append-nil (reads_in older s) ∙ b.0 ∙ ap (map (shown_of v)) (sym numbers),
           ap (list_all (λ k. nat_lt k (length v.messages) && ((Messages.message_at v k).stream == s))) numbers ∙ b.1,
         )
     by true q =
         let b = stays (record_of setup older) v x setup older s a in
-        let here : option_to_list (next_read (record_of setup older) s) ≡ n ∷ [] = ap option_to_list (ap (next_read (record_of setup older)) (sym (same-is t s q)) ∙ e) in
+        let here : option_to_list (next_read (record_of setup older) s) ≡ n ∷ [] =
+        ap option_to_list (ap (next_read (record_of setup older)) (sym (same-is t s q)) ∙ e) in
         let numbers : numbers_read setup ((E.Read t, r) ∷ older) s ≡ numbers_read setup older s ++ n ∷ [] =
-        ap (λ c. numbers_read setup older s ++ (if c then number_read (record_of setup older) s r else [])) q ∙ ap (λ y. numbers_read setup older s ++ number_read (record_of setup older) s y) f ∙ ap (λ l. numbers_read setup older s ++ l) here in (
-          ap (λ c. reads_in older s ++ (if c then shown_by r else [])) q ∙ ap (λ y. reads_in older s ++ shown_by y) f ∙ ap (λ l. reads_in older s ++ l) shown ∙ ap (λ l. l ++ shown_of v n ∷ []) b.0
-              ∙ sym (map-append (shown_of v) (numbers_read setup older s) (n ∷ [])) ∙ ap (map (shown_of v)) (sym numbers),
-          ap (list_all (λ k. nat_lt k (length v.messages) && ((Messages.message_at v k).stream == s))) numbers ∙ all-append (λ k. nat_lt k (length v.messages) && ((Messages.message_at v k).stream == s)) (numbers_read setup older s) (n ∷ []) b.1 (one (same-is t s q)),
+        ap (λ c. numbers_read setup older s ++ (if c then number_read (record_of setup older) s r else [])) q
+        ∙ ap (λ y. numbers_read setup older s ++ number_read (record_of setup older) s y) f ∙ ap (λ l. numbers_read setup older s ++ l) here in (
+          ap (λ c. reads_in older s ++ (if c then shown_by r else [])) q ∙ ap (λ y. reads_in older s ++ shown_by y) f ∙ ap (λ l. reads_in older s ++ l) shown
+              ∙ ap (λ l. l ++ shown_of v n ∷ []) b.0 ∙ sym (map-append (shown_of v) (numbers_read setup older s) (n ∷ []))
+              ∙ ap (map (shown_of v)) (sym numbers),
+          ap (list_all (λ k. nat_lt k (length v.messages) && ((Messages.message_at v k).stream == s))) numbers ∙ all-append
+              (λ k. nat_lt k (length v.messages) && ((Messages.message_at v k).stream == s)) (numbers_read setup older s) (n ∷ []) b.1 (one (same-is t s q)),
         )
 
 pub reads_show_messages : OnEveryRun ReadsShowMessages
 reads_show_messages setup [] is run s = (refl, refl)
-reads_show_messages setup ((event, r) ∷ older) is run s = by event r run.1.0 (extends-after setup (record_of setup older) event run.0 (sane-run setup older run.1.1)) (reads_show_messages setup older is run.1.1 s)
+reads_show_messages setup ((event, r) ∷ older) is run s =
+    by event r run.1.0 (extends-after setup (record_of setup older) event run.0 (sane-run setup older run.1.1)) (reads_show_messages setup older is run.1.1 s)
   where
-    by : (event : Event) (r : Reply) → r ≡ reply_to (record_of setup older) event → Extends (record_of setup older) (after (record_of setup older) event) → Says setup older (record_of setup older) s → Says setup ((event, r) ∷ older) (after (record_of setup older) event) s
+    by : (event : Event) (r : Reply) → r ≡ reply_to (record_of setup older) event → Extends (record_of setup older) (after (record_of setup older) event)
+        → Says setup older (record_of setup older) s → Says setup ((event, r) ∷ older) (after (record_of setup older) event) s
     by (E.Read t) r f x a = says-read setup older t s r (after (record_of setup older) (E.Read t)) is run.1.1 x (next_read (record_of setup older) t) refl f a
     by (E.Open a) r f x says = stays (record_of setup older) (after (record_of setup older) (E.Open a)) x setup older s says
     by (E.Mode a b c d) r f x says = stays (record_of setup older) (after (record_of setup older) (E.Mode a b c d)) x setup older s says

@@ -28,38 +28,43 @@ use Rattle.sctp_list_lemmas.proofs.Tests.{all-more}
 
 -- ## Lists
 
-pub kept-one : (t : ℕ → Bool) (m from count : ℕ) → from ≤ m → m < from + count → ((k : ℕ) → from ≤ k → k < from + count → (k ≡ m → ⊥) → t k ≡ false) → numbers_where t from count ≡ (if t m then m ∷ [] else [])
+pub kept-one : (t : ℕ → Bool) (m from count : ℕ) → from ≤ m → m < from + count → ((k : ℕ) → from ≤ k → k < from + count → (k ≡ m → ⊥) → t k ≡ false)
+    → numbers_where t from count ≡ (if t m then m ∷ [] else [])
 kept-one t m from count a b none =
     let before = m - from in
     let total : count ≡ before + (1 + (from + count - (m + 1))) = omega arith in
     let at : from + before ≡ m = omega arith in
     ap (numbers_where t from) total
     ∙ Alls.kept-split t from before (1 + (from + count - (m + 1)))
-    ∙ ap (λ l. l ++ numbers_where t (from + before) (1 + (from + count - (m + 1)))) (kept-none t from before (λ k c d. none k c (omega arith) (λ e. absurd (omega arith))))
-    ∙ ap (λ k. numbers_where t k (1 + (from + count - (m + 1)))) at
-    ∙ Alls.kept-split t m 1 (from + count - (m + 1))
-    ∙ ap (λ l. numbers_where t m 1 ++ l) (kept-none t (m + 1) (from + count - (m + 1)) (λ k c d. none k (omega arith) (omega arith) (λ e. absurd (omega arith))))
+    ∙ ap (λ l. l ++ numbers_where t (from + before) (1 + (from + count - (m + 1))))
+    (kept-none t from before (λ k c d. none k c (omega arith) (λ e. absurd (omega arith)))) ∙ ap (λ k. numbers_where t k (1 + (from + count - (m + 1)))) at
+    ∙ Alls.kept-split t m 1 (from + count - (m + 1)) ∙ ap (λ l. numbers_where t m 1 ++ l)
+    (kept-none t (m + 1) (from + count - (m + 1)) (λ k c d. none k (omega arith) (omega arith) (λ e. absurd (omega arith))))
     ∙ append-nil (numbers_where t m 1)
 
 -- the last one of them
-pub kept-last : (t u : ℕ → Bool) (n count : ℕ) → n < count → t n ≡ false → u n ≡ true → ((k : ℕ) → k < count → (k ≡ n → ⊥) → u k ≡ t k) → ((k : ℕ) → k < count → t k ≡ true → k < n) → numbers_where u 0 count ≡ numbers_where t 0 count ++ n ∷ []
+pub kept-last : (t u : ℕ → Bool) (n count : ℕ) → n < count → t n ≡ false → u n ≡ true → ((k : ℕ) → k < count → (k ≡ n → ⊥) → u k ≡ t k)
+    → ((k : ℕ) → k < count → t k ≡ true → k < n) → numbers_where u 0 count ≡ numbers_where t 0 count ++ n ∷ []
 kept-last t u n count lt out in' same below =
-    kept-short u 0 (suc n) (count - suc n) count (omega arith) (λ k a b. same k (omega arith) (λ e. absurd (omega arith)) ∙ fails (t k) (λ e. absurd (omega (arith, below k (omega arith) e))))
-    ∙ kept-snoc_in u 0 n n (omega arith) in'
-    ∙ ap (λ l. l ++ n ∷ []) (kept-same u t 0 n (λ k a b. same k (omega arith) (λ e. absurd (omega arith))) ∙ sym (kept-short t 0 n (count - n) count (omega arith) (λ k a b. fails (t k) (λ e. absurd (omega (arith, below k (omega arith) e))))))
+    kept-short u 0 (suc n) (count - suc n) count (omega arith)
+    (λ k a b. same k (omega arith) (λ e. absurd (omega arith)) ∙ fails (t k) (λ e. absurd (omega (arith, below k (omega arith) e))))
+    ∙ kept-snoc_in u 0 n n (omega arith) in' ∙ ap (λ l. l ++ n ∷ []) (kept-same u t 0 n (λ k a b. same k (omega arith) (λ e. absurd (omega arith)))
+    ∙ sym (kept-short t 0 n (count - n) count (omega arith) (λ k a b. fails (t k) (λ e. absurd (omega (arith, below k (omega arith) e))))))
 
 pub passing-append : (q : ℕ → Bool) (xs ys : List ℕ) → filter q (xs ++ ys) ≡ filter q xs ++ filter q ys
 passing-append q [] ys = refl
 passing-append q (x ∷ xs) ys = step (q x) (passing-append q xs ys)
   where
-    step : (b : Bool) → filter q (xs ++ ys) ≡ filter q xs ++ filter q ys → (if b then x ∷ filter q (xs ++ ys) else filter q (xs ++ ys)) ≡ (if b then x ∷ filter q xs else filter q xs) ++ filter q ys
+    step : (b : Bool) → filter q (xs ++ ys) ≡ filter q xs ++ filter q ys
+        → (if b then x ∷ filter q (xs ++ ys) else filter q (xs ++ ys)) ≡ (if b then x ∷ filter q xs else filter q xs) ++ filter q ys
     step true ih = ap (λ l. x ∷ l) ih
     step false ih = ih
 
 -- tests that agree on each of a list
 pub passing-same : (t q r : ℕ → Bool) (xs : List ℕ) → ((k : ℕ) → t k ≡ true → q k ≡ r k) → list_all t xs ≡ true → filter q xs ≡ filter r xs
 passing-same t q r [] same a = refl
-passing-same t q r (x ∷ xs) same a = let c = both (t x) (list_all t xs) a in ap (λ b. if b then x ∷ filter q xs else filter q xs) (same x c.0) ∙ ap (λ l. if r x then x ∷ l else l) (passing-same t q r xs same c.1)
+passing-same t q r (x ∷ xs) same a = let c = both (t x) (list_all t xs) a in
+    ap (λ b. if b then x ∷ filter q xs else filter q xs) (same x c.0) ∙ ap (λ l. if r x then x ∷ l else l) (passing-same t q r xs same c.1)
 
 -- ## The unordered messages, in the order in which they became complete
 
@@ -78,9 +83,11 @@ complete_list-is w [] s = refl
 complete_list-is w (coming ∷ log) s = ap (λ l. l ++ numbers_where (became (shape w) coming log s) 0 (length w.messages)) (complete_list-is w log s)
 
 -- a new message is not complete by what came before it
-complete-fresh : (x y : Shape) → Sender x → Sender y → Grows x y → (log : List LogEntry) → SlotsReceived x log → (n : ℕ) → x.count ≤ n → n < y.count → complete_in y log n ≡ false
+complete-fresh : (x y : Shape) → Sender x → Sender y → Grows x y → (log : List LogEntry) → SlotsReceived x log → (n : ℕ) → x.count ≤ n → n < y.count
+    → complete_in y log n ≡ false
 complete-fresh x y a b g log f n ge lt = fails (complete_in y log n) (λ e.
-    let c = both (sent y n == parts y n) (if (y.message n).ordered then list_all (Log.arrived_new log) (slots_in y n) else Log.were_complete (slots_in y n) log) e in
+    let c = both (sent y n == parts y n)
+    (if (y.message n).ordered then list_all (Log.arrived_new log) (slots_in y n) else Log.were_complete (slots_in y n) log) e in
     let z = same-is (sent y n) (parts y n) c.0 in
     let q = some-kept (has y n) 0 y.slots (omega (arith, z, b.some n lt)) in
     let new = Alls.all-at (Log.arrived_new log) (has y n) q.0 0 y.slots (omega arith) (omega (arith, q.2)) q.3 (either (y.message n).ordered c.1) in
@@ -88,7 +95,8 @@ complete-fresh x y a b g log f n ge lt = fails (complete_in y log n) (λ e.
     let m : (x.slot q.0).message ≡ n = ap (λ s. s.message) (sym (g.slot q.0 old)) ∙ (of-has y n q.0 q.3).0 in
     absurd (omega (arith, a.made q.0 old, m, ge)))
   where
-    either : (o : Bool) → (if o then list_all (Log.arrived_new log) (slots_in y n) else Log.were_complete (slots_in y n) log) ≡ true → list_all (Log.arrived_new log) (slots_in y n) ≡ true
+    either : (o : Bool) → (if o then list_all (Log.arrived_new log) (slots_in y n) else Log.were_complete (slots_in y n) log) ≡ true
+        → list_all (Log.arrived_new log) (slots_in y n) ≡ true
     either true e = e
     either false e = were-new (slots_in y n) log e
 
@@ -97,12 +105,14 @@ received-tail x (SlotReceived p) log f = f.1
 received-tail x (SkipReceived upto names) log f = f
 received-tail x SackMade log f = f
 
-pub complete_list-later : (x y : Shape) → Sender x → Sender y → Grows x y → (log : List LogEntry) → SlotsReceived x log → (s : ℕ) → complete_list y log s ≡ complete_list x log s
+pub complete_list-later : (x y : Shape) → Sender x → Sender y → Grows x y → (log : List LogEntry) → SlotsReceived x log → (s : ℕ)
+    → complete_list y log s ≡ complete_list x log s
 complete_list-later x y a b g [] f s = refl
 complete_list-later x y a b g (coming ∷ log) f s =
     ap (λ l. l ++ numbers_where (became y coming log s) 0 y.count) (complete_list-later x y a b g log (received-tail x coming log f) s)
     ∙ ap (λ l. complete_list x log s ++ l)
-    (kept-short (became y coming log s) 0 x.count (y.count - x.count) y.count (omega (arith, g.count)) (λ k c d. ap (λ e. off y s k && (e && not (complete_in y log k))) (complete-fresh x y a b g (coming ∷ log) f k (omega arith) (omega arith)) ∙ none (off y s k))
+    (kept-short (became y coming log s) 0 x.count (y.count - x.count) y.count (omega (arith, g.count)) (λ k c d.
+    ap (λ e. off y s k && (e && not (complete_in y log k))) (complete-fresh x y a b g (coming ∷ log) f k (omega arith) (omega arith)) ∙ none (off y s k))
     ∙ kept-same (became y coming log s) (became x coming log s) 0 x.count (λ k c d.
     ap (λ e. off y s k && (e && not (complete_in y log k))) (complete-later x y a b g (coming ∷ log) f k (omega arith))
     ∙ ap (λ e. off y s k && (complete_in x (coming ∷ log) k && not e)) (complete-later x y a b g log (received-tail x coming log f) k (omega arith))
@@ -113,10 +123,11 @@ complete_list-later x y a b g (coming ∷ log) f s =
     none false = refl
 
 -- nothing becomes complete
-pub complete_list-same : (x : Shape) (coming : LogEntry) (log : List LogEntry) (s : ℕ) → ((n : ℕ) → n < x.count → complete_in x (coming ∷ log) n ≡ complete_in x log n) → complete_list x (coming ∷ log) s ≡ complete_list x log s
+pub complete_list-same : (x : Shape) (coming : LogEntry) (log : List LogEntry) (s : ℕ)
+    → ((n : ℕ) → n < x.count → complete_in x (coming ∷ log) n ≡ complete_in x log n) → complete_list x (coming ∷ log) s ≡ complete_list x log s
 complete_list-same x coming log s same =
-    ap (λ l. complete_list x log s ++ l) (kept-none (became x coming log s) 0 x.count (λ k a b. ap (λ e. off x s k && (e && not (complete_in x log k))) (same k (omega arith)) ∙ none (off x s k) (complete_in x log k)))
-    ∙ append-nil (complete_list x log s)
+    ap (λ l. complete_list x log s ++ l) (kept-none (became x coming log s) 0 x.count (λ k a b. ap (λ e. off x s k && (e && not (complete_in x log k)))
+    (same k (omega arith)) ∙ none (off x s k) (complete_in x log k))) ∙ append-nil (complete_list x log s)
   where
     none : (a b : Bool) → (a && (b && not b)) ≡ false
     none true true = refl
@@ -137,7 +148,9 @@ pub record SoFar (s : ℕ) (list : List ℕ) (v : View) (log : List LogEntry) : 
   pub unordered : complete_list v.x log s ≡ filter (λ n. not (v.x.message n).ordered) list ++ v.complete s
 
 pub was-made : (v : View) (s n : ℕ) → was_read v s n ≡ true → n < v.x.count
-was-made v s n e = let a = (both (nat_lt n v.x.count) ((v.x.message n).stream == s) (both (nat_lt n v.x.count && ((v.x.message n).stream == s)) (v.read n) e).0).0 in grind (arith, nat_tests)
+was-made v s n e =
+    let a = (both (nat_lt n v.x.count) ((v.x.message n).stream == s) (both (nat_lt n v.x.count && ((v.x.message n).stream == s)) (v.read n) e).0).0 in
+    grind (arith, nat_tests)
 
 pub so_far-as : (s : ℕ) (list : List ℕ) (u v : View) (log : List LogEntry) → v ≡ u → SoFar s list u log → SoFar s list v log
 so_far-as s list u v log e f = subst (λ y. SoFar s list y log) (sym e) f
@@ -145,9 +158,11 @@ so_far-as s list u v log e f = subst (λ y. SoFar s list y log) (sym e) f
 pub so_far-still : (s : ℕ) (list : List ℕ) (u v : View) (log : List LogEntry) → Still u v → Complete u log → Ordered u → SoFar s list u log → SoFar s list v log
 so_far-still s list u v log t h o f = record {
   all = all-more (was_read u s) (was_read v s) list (λ n e. stays n e) f.all;
-  ordered = passing-same (was_read u s) (λ n. (v.x.message n).ordered) (λ n. (u.x.message n).ordered) list (λ n e. ap (λ m. m.ordered) (t.grows.message n (was-made u s n e))) f.all ∙ f.ordered ∙ sym lines;
+  ordered = passing-same (was_read u s) (λ n. (v.x.message n).ordered)
+      (λ n. (u.x.message n).ordered) list (λ n e. ap (λ m. m.ordered) (t.grows.message n (was-made u s n e))) f.all ∙ f.ordered ∙ sym lines;
   unordered = complete_list-later u.x v.x t.sender t.sender' t.grows log h.datagram_received s ∙ f.unordered
-      ∙ ap (λ l. l ++ u.complete s) (sym (passing-same (was_read u s) (λ n. not (v.x.message n).ordered) (λ n. not (u.x.message n).ordered) list (λ n e. ap (λ m. not m.ordered) (t.grows.message n (was-made u s n e))) f.all))
+      ∙ ap (λ l. l ++ u.complete s) (sym (passing-same (was_read u s) (λ n. not (v.x.message n).ordered) (λ n. not (u.x.message n).ordered) list
+      (λ n e. ap (λ m. not m.ordered) (t.grows.message n (was-made u s n e))) f.all))
       ∙ ap (λ l. filter (λ n. not (v.x.message n).ordered) list ++ l) (sym (t.complete s));
 }
   where
@@ -157,7 +172,9 @@ so_far-still s list u v log t h o f = record {
         let a = both (nat_lt n u.x.count && ((u.x.message n).stream == s)) (u.read n) e in
         let b = both (nat_lt n u.x.count) ((u.x.message n).stream == s) a.0 in
         let l : n < v.x.count = omega (arith, lt, t.grows.count) in
-        and (nat_lt n v.x.count && ((v.x.message n).stream == s)) (v.read n) (and (nat_lt n v.x.count) ((v.x.message n).stream == s) (grind (arith, nat_tests)) (ap (λ m. m.stream == s) (t.grows.message n lt) ∙ b.1)) (t.read n lt ∙ a.1)
+        and (nat_lt n v.x.count && ((v.x.message n).stream == s)) (v.read n)
+        (and (nat_lt n v.x.count) ((v.x.message n).stream == s) (grind (arith, nat_tests)) (ap (λ m. m.stream == s) (t.grows.message n lt) ∙ b.1))
+        (t.read n lt ∙ a.1)
 
     none : (b : Bool) → (b && false) ≡ false
     none true = refl
@@ -165,11 +182,14 @@ so_far-still s list u v log t h o f = record {
 
     lines : numbers_where (read_on v s) 0 v.x.count ≡ numbers_where (read_on u s) 0 u.x.count
     lines =
-        kept-short (read_on v s) 0 u.x.count (v.x.count - u.x.count) v.x.count (omega (arith, t.grows.count)) (λ k a b. ap (λ c. on v.x s k && c) (t.unread k (omega arith) (omega arith)) ∙ none (on v.x s k))
-        ∙ kept-same (read_on v s) (read_on u s) 0 u.x.count (λ k a b. ap (λ c. on v.x s k && c) (t.read k (omega arith)) ∙ same k (omega arith) (u.read k) refl (u.x.message k).ordered refl)
+        kept-short (read_on v s) 0 u.x.count (v.x.count - u.x.count) v.x.count (omega (arith, t.grows.count))
+        (λ k a b. ap (λ c. on v.x s k && c) (t.unread k (omega arith) (omega arith)) ∙ none (on v.x s k))
+        ∙ kept-same (read_on v s) (read_on u s) 0 u.x.count (λ k a b. ap (λ c. on v.x s k && c) (t.read k (omega arith))
+        ∙ same k (omega arith) (u.read k) refl (u.x.message k).ordered refl)
       where
         plain : (k : ℕ) → k < u.x.count → (u.x.message k).ordered ≡ false → on v.x s k ≡ on u.x s k
-        plain k lt e = fails (on v.x s k) (λ h. not_both (sym e ∙ sym (ap (λ m. m.ordered) (t.grows.message k lt)) ∙ on-ordered v.x s k h)) ∙ sym (fails (on u.x s k) (λ h. not_both (sym e ∙ on-ordered u.x s k h)))
+        plain k lt e = fails (on v.x s k) (λ h. not_both (sym e ∙ sym (ap (λ m. m.ordered) (t.grows.message k lt)) ∙ on-ordered v.x s k h))
+            ∙ sym (fails (on u.x s k) (λ h. not_both (sym e ∙ on-ordered u.x s k h)))
 
         same : (k : ℕ) → k < u.x.count → (r : Bool) → u.read k ≡ r → (b : Bool) → (u.x.message k).ordered ≡ b → (on v.x s k && r) ≡ (on u.x s k && r)
         same k lt false r b e = none (on v.x s k) ∙ sym (none (on u.x s k))

@@ -1,5 +1,6 @@
 -- In every state the indexes that 16-bit numbers must tell apart lie within half a circle.
-use Rattle.std.proofs.Common.{◌≡◌, ℕ, zero, suc, ◌+◌, ◌<◌, ◌≤◌, ◌^◌, Bool, true, false, List, [], ◌∷◌, ◌++◌, length, map, Option, Some, None, refl, ap, sym, ◌∙◌, inl, inr, arith, append-nil, drop}
+use Rattle.std.proofs.Common.{◌≡◌, ℕ, zero, suc, ◌+◌, ◌<◌, ◌≤◌, ◌^◌, Bool, true, false, List, [], ◌∷◌, ◌++◌, length, map, Option, Some, None, refl, ap, sym}
+use Rattle.std.proofs.Common.{◌∙◌, inl, inr, arith, append-nil, drop}
 use Rattle.std.specs.Prelude.{◌⊎◌, if◌then◌else◌, ◌==◌, ◌&&◌, ◌||◌, not, min, max, nat_lt, nat_le, find, is_some, unwrap_or, slice_get}
 use Rattle.std.specs.List.{list_any, list_all, filter}
 use Rattle.std.proofs.Math.Path.{subst}
@@ -58,7 +59,8 @@ greatest-in : (x y : ℕ) (xs : List ℕ) → list_any (λ z. z == y) xs ≡ tru
 greatest-in x y [] e = cc
 greatest-in x y (z ∷ xs) e = step (z == y) refl e (λ h. greatest-in (max x z) y xs h)
   where
-    step : (b : Bool) → (z == y) ≡ b → (b || list_any (λ z. z == y) xs) ≡ true → (list_any (λ z. z == y) xs ≡ true → y ≤ greatest (max x z) xs) → y ≤ greatest (max x z) xs
+    step : (b : Bool) → (z == y) ≡ b → (b || list_any (λ z. z == y) xs) ≡ true → (list_any (λ z. z == y) xs ≡ true → y ≤ greatest (max x z) xs)
+        → y ≤ greatest (max x z) xs
     step true h e ih = let same : z ≡ y = grind (arith, nat_tests) in omega (arith, greatest-ge (max x z) xs)
     step false h e ih = ih e
 
@@ -66,15 +68,18 @@ least-in : (x y : ℕ) (xs : List ℕ) → list_any (λ z. z == y) xs ≡ true �
 least-in x y [] e = cc
 least-in x y (z ∷ xs) e = step (z == y) refl e (λ h. least-in (min x z) y xs h)
   where
-    step : (b : Bool) → (z == y) ≡ b → (b || list_any (λ z. z == y) xs) ≡ true → (list_any (λ z. z == y) xs ≡ true → least (min x z) xs ≤ y) → least (min x z) xs ≤ y
+    step : (b : Bool) → (z == y) ≡ b → (b || list_any (λ z. z == y) xs) ≡ true → (list_any (λ z. z == y) xs ≡ true → least (min x z) xs ≤ y)
+        → least (min x z) xs ≤ y
     step true h e ih = let same : z ≡ y = grind (arith, nat_tests) in omega (arith, least-le (min x z) xs)
     step false h e ih = ih e
 
-in-kept : (f : ℕ → ℕ) (p : ℕ → Bool) (k from count : ℕ) → from ≤ k → k < from + count → p k ≡ true → list_any (λ z. z == f k) (map f (numbers_where p from count)) ≡ true
+in-kept : (f : ℕ → ℕ) (p : ℕ → Bool) (k from count : ℕ) → from ≤ k → k < from + count → p k ≡ true
+    → list_any (λ z. z == f k) (map f (numbers_where p from count)) ≡ true
 in-kept f p k from zero low high e = absurd (omega arith)
 in-kept f p k from (suc count) low high e = step (p from) refl (eq-or-lt_of_le low) (λ l. in-kept f p k (from + 1) count l (omega arith) e)
   where
-    step : (b : Bool) → p from ≡ b → (from ≡ k) ⊎ (from < k) → (from + 1 ≤ k → list_any (λ z. z == f k) (map f (numbers_where p (from + 1) count)) ≡ true) → list_any (λ z. z == f k) (map f (if b then from ∷ numbers_where p (from + 1) count else numbers_where p (from + 1) count)) ≡ true
+    step : (b : Bool) → p from ≡ b → (from ≡ k) ⊎ (from < k) → (from + 1 ≤ k → list_any (λ z. z == f k) (map f (numbers_where p (from + 1) count)) ≡ true)
+        → list_any (λ z. z == f k) (map f (if b then from ∷ numbers_where p (from + 1) count else numbers_where p (from + 1) count)) ≡ true
     step true h (inl x) ih = let same : (f from == f k) ≡ true = (let z : f from ≡ f k = ap f x in grind (arith, nat_tests)) in rw same refl
     step true h (inr l) ih = or-right (f from == f k) (list_any (λ z. z == f k) (map f (numbers_where p (from + 1) count))) (ih (omega arith))
       where
@@ -84,19 +89,23 @@ in-kept f p k from (suc count) low high e = step (p from) refl (eq-or-lt_of_le l
     step false h (inl x) ih = let no : true ≡ false = sym e ∙ ap p (sym x) ∙ h in cc
     step false h (inr l) ih = ih (omega arith)
 
-all-below : (x y : ℕ) (f : ℕ → ℕ) (p : ℕ → Bool) (from count : ℕ) → x ≤ y → ((k : ℕ) → from ≤ k → k < from + count → p k ≡ true → f k ≤ y) → greatest x (map f (numbers_where p from count)) ≤ y
+all-below : (x y : ℕ) (f : ℕ → ℕ) (p : ℕ → Bool) (from count : ℕ) → x ≤ y → ((k : ℕ) → from ≤ k → k < from + count → p k ≡ true → f k ≤ y)
+    → greatest x (map f (numbers_where p from count)) ≤ y
 all-below x y f p from zero le h = le
 all-below x y f p from (suc count) le h = step (p from) refl (λ z g. all-below z y f p (from + 1) count g (λ k a b e. h k (omega arith) (omega arith) e))
   where
-    step : (b : Bool) → p from ≡ b → ((z : ℕ) → z ≤ y → greatest z (map f (numbers_where p (from + 1) count)) ≤ y) → greatest x (map f (if b then from ∷ numbers_where p (from + 1) count else numbers_where p (from + 1) count)) ≤ y
+    step : (b : Bool) → p from ≡ b → ((z : ℕ) → z ≤ y → greatest z (map f (numbers_where p (from + 1) count)) ≤ y)
+        → greatest x (map f (if b then from ∷ numbers_where p (from + 1) count else numbers_where p (from + 1) count)) ≤ y
     step true e ih = ih (max x (f from)) (let z = h from (omega arith) (omega arith) e in omega (arith, z, le))
     step false e ih = ih x le
 
-all-above : (x y : ℕ) (f : ℕ → ℕ) (p : ℕ → Bool) (from count : ℕ) → y ≤ x → ((k : ℕ) → from ≤ k → k < from + count → p k ≡ true → y ≤ f k) → y ≤ least x (map f (numbers_where p from count))
+all-above : (x y : ℕ) (f : ℕ → ℕ) (p : ℕ → Bool) (from count : ℕ) → y ≤ x → ((k : ℕ) → from ≤ k → k < from + count → p k ≡ true → y ≤ f k)
+    → y ≤ least x (map f (numbers_where p from count))
 all-above x y f p from zero le h = le
 all-above x y f p from (suc count) le h = step (p from) refl (λ z g. all-above z y f p (from + 1) count g (λ k a b e. h k (omega arith) (omega arith) e))
   where
-    step : (b : Bool) → p from ≡ b → ((z : ℕ) → y ≤ z → y ≤ least z (map f (numbers_where p (from + 1) count))) → y ≤ least x (map f (if b then from ∷ numbers_where p (from + 1) count else numbers_where p (from + 1) count))
+    step : (b : Bool) → p from ≡ b → ((z : ℕ) → y ≤ z → y ≤ least z (map f (numbers_where p (from + 1) count)))
+        → y ≤ least x (map f (if b then from ∷ numbers_where p (from + 1) count else numbers_where p (from + 1) count))
     step true e ih = ih (min x (f from)) (let z = h from (omega arith) (omega arith) e in omega (arith, z, le))
     step false e ih = ih x le
 
@@ -125,12 +134,15 @@ near-fits w s more e =
       short = grind (arith, nat_tests);
       above = least-le n (held' ++ more);
       below = greatest-ge n (held' ++ more);
-      held_above = λ k lt h. let i = in-kept (Messages.index_of w) (Receiver.is_held w s) k 0 (length w.messages) (omega arith) (omega arith) h in omega (arith, l, least-le (least n held') more, least-in n (Messages.index_of w k) held' i);
-      held_below = λ k lt h. let i = in-kept (Messages.index_of w) (Receiver.is_held w s) k 0 (length w.messages) (omega arith) (omega arith) h in omega (arith, g, greatest-ge (greatest n held') more, greatest-in n (Messages.index_of w k) held' i);
+      held_above = λ k lt h. let i = in-kept (Messages.index_of w) (Receiver.is_held w s) k 0 (length w.messages) (omega arith) (omega arith) h in
+          omega (arith, l, least-le (least n held') more, least-in n (Messages.index_of w k) held' i);
+      held_below = λ k lt h. let i = in-kept (Messages.index_of w) (Receiver.is_held w s) k 0 (length w.messages) (omega arith) (omega arith) h in
+          omega (arith, g, greatest-ge (greatest n held') more, greatest-in n (Messages.index_of w k) held' i);
     }
 
 -- so do the indexes of these messages
-pub near-others : (w : LinkRecord) (s : ℕ) (more : List ℕ) (e : fits w more s ≡ true) (y : ℕ) → list_any (λ z. z == y) more ≡ true → ((near-fits w s more e).low ≤ y) × (y ≤ (near-fits w s more e).high)
+pub near-others : (w : LinkRecord) (s : ℕ) (more : List ℕ) (e : fits w more s ≡ true) (y : ℕ) → list_any (λ z. z == y) more ≡ true
+    → ((near-fits w s more e).low ≤ y) × (y ≤ (near-fits w s more e).high)
 unfolding near-fits
 near-others w s more e y i =
     let n = Receiver.next_of w s in
@@ -143,7 +155,8 @@ fits-near : (w : LinkRecord) (s : ℕ) → IsNear (view w) s → fits w [] s ≡
 fits-near w s near =
     let n = Receiver.next_of w s in
     let xs = map (Messages.index_of w) (Receiver.held_on w s) in
-    let a = all-below n near.high (Messages.index_of w) (Receiver.is_held w s) 0 (length w.messages) near.below (λ k a b e. near.held_below k (omega arith) e) in
+    let a = all-below n near.high (Messages.index_of w)
+    (Receiver.is_held w s) 0 (length w.messages) near.below (λ k a b e. near.held_below k (omega arith) e) in
     let b = all-above n near.low (Messages.index_of w) (Receiver.is_held w s) 0 (length w.messages) near.above (λ k a b e. near.held_above k (omega arith) e) in
     let lt : greatest n xs < least n xs + 2 ^ 15 = omega (arith, a, b, near.short) in
     ap (λ l. nat_lt (greatest n l) (least n l + 2 ^ 15)) (append-nil xs) ∙ grind (arith, nat_tests)
@@ -190,7 +203,8 @@ held-still u v t o s n e =
         on_it = old.on_it;
         unread = sym (t.read n old.made) ∙ h.unread;
         some = come;
-        kept_for = ap (λ b. b || nat_le (u.named s) (index u.x n)) (sym (complete-still u v t n old.made)) ∙ ap (λ k. complete_at v n || nat_le k (index u.x n)) (sym (t.named s)) ∙ ap (λ i. complete_at v n || nat_le (v.named s) i) (sym old.same) ∙ h.kept_for;
+        kept_for = ap (λ b. b || nat_le (u.named s) (index u.x n)) (sym (complete-still u v t n old.made)) ∙ ap (λ k. complete_at v n || nat_le k (index u.x n))
+            (sym (t.named s)) ∙ ap (λ i. complete_at v n || nat_le (v.named s) i) (sym old.same) ∙ h.kept_for;
       });
       same = old.same;
     }
@@ -210,13 +224,22 @@ near-still u v t o near s =
 
 -- ## A read
 
-held-read : (v : View) (log : List LogEntry) (s n t k : ℕ) → Complete v log → ReadsComplete v s n ⊎ ReadsRun v s n → held (read_in v s n) t k ≡ true → (k ≡ n → ⊥) × (held v t k ≡ true)
+held-read : (v : View) (log : List LogEntry) (s n t k : ℕ) → Complete v log → ReadsComplete v s n ⊎ ReadsRun v s n → held (read_in v s n) t k ≡ true
+    → (k ≡ n → ⊥) × (held v t k ≡ true)
 held-read v log s n t k h r e =
     let i = held-of (read_in v s n) t k e in
-    let ne : k ≡ n → ⊥ = λ z. not_both (sym i.unread ∙ ap (read_in v s n).read z ∙ Ordered.read-here v s n) in
-    (ne, is-held v t k (record { on_it = i.on_it; unread = sym (read-other v s n k ne) ∙ i.unread; some = i.some; kept_for = ap (λ b. b || nat_le (v.named t) (index v.x k)) (sym (complete-read v log s n h r k)) ∙ i.kept_for }))
+    let ne : k ≡ n → ⊥ = λ z. not_both (sym i.unread ∙ ap (read_in v s n).read z ∙ Ordered.read-here v s n) in (
+      ne,
+      is-held v t k (record {
+        on_it = i.on_it;
+        unread = sym (read-other v s n k ne) ∙ i.unread;
+        some = i.some;
+        kept_for = ap (λ b. b || nat_le (v.named t) (index v.x k)) (sym (complete-read v log s n h r k)) ∙ i.kept_for;
+      }),
+    )
 
-near-read_other : (v : View) (log : List LogEntry) (s n t : ℕ) → Complete v log → ReadsComplete v s n ⊎ ReadsRun v s n → next (read_in v s n) t ≡ next v t → IsNear v t → IsNear (read_in v s n) t
+near-read_other : (v : View) (log : List LogEntry) (s n t : ℕ) → Complete v log → ReadsComplete v s n ⊎ ReadsRun v s n → next (read_in v s n) t ≡ next v t
+    → IsNear v t → IsNear (read_in v s n) t
 near-read_other v log s n t h r e near = record {
   low = near.low;
   high = near.high;
@@ -241,13 +264,16 @@ first-held v s n k d lt e = by (cases_lt k n)
         kind : IsHeld v s k → index v.x k < index v.x n → k < n → (b : Bool) → complete_at v k ≡ b → n ≤ k
         kind h less l true f =
             let near : nat_le (index v.x k) (next v s) ≡ true = (let z : index v.x k ≤ next v s = omega (arith, less, d.near) in grind (arith, nat_tests)) in
-            absurd (not_both (sym (d.first k l) ∙ and (on v.x s k) (not (v.read k) && (complete_at v k && nat_le (index v.x k) (next v s))) h.on_it (and (not (v.read k)) (complete_at v k && nat_le (index v.x k) (next v s)) (ap not h.unread) (and (complete_at v k) (nat_le (index v.x k) (next v s)) f near))))
+            absurd (not_both (sym (d.first k l)
+            ∙ and (on v.x s k) (not (v.read k) && (complete_at v k && nat_le (index v.x k) (next v s))) h.on_it (and (not (v.read k))
+            (complete_at v k && nat_le (index v.x k) (next v s)) (ap not h.unread) (and (complete_at v k) (nat_le (index v.x k) (next v s)) f near))))
         kind h less l false f =
             let t : nat_le (v.named s) (index v.x k) ≡ true = sym (ap (λ b. b || nat_le (v.named s) (index v.x k)) f) ∙ h.kept_for in
             let low : v.named s ≤ index v.x k = grind (arith, nat_tests) in
             absurd (not_both (sym h.unread ∙ next_reads v s k lt h.on_it low (omega (arith, less, d.near))))
 
-near-due : (v : View) (log : List LogEntry) (s n : ℕ) → Sender v.x → Complete v log → Ordered v → ReadsRun v s n → IsDue v s n → IsNear v s → IsNear (read_in v s n) s
+near-due : (v : View) (log : List LogEntry) (s n : ℕ) → Sender v.x → Complete v log → Ordered v → ReadsRun v s n → IsDue v s n → IsNear v s
+    → IsNear (read_in v s n) s
 near-due v log s n a h o r d near = by (eq-or-lt_of_le d.near)
   where
     past : (k : ℕ) → k < v.x.count → held (read_in v s n) s k ≡ true → index v.x n < index v.x k
@@ -274,10 +300,12 @@ near-due v log s n a h o r d near = by (eq-or-lt_of_le d.near)
           held_below = λ k lt i. omega (arith, near.held_below k lt (held-read v log s n s k h (inr r) i).1);
         }
 
-near-reading : (v : View) (log : List LogEntry) (s n : ℕ) → Sender v.x → Complete v log → Ordered v → ReadsComplete v s n ⊎ ReadsRun v s n → AllNear v → AllNear (read_in v s n)
+near-reading : (v : View) (log : List LogEntry) (s n : ℕ) → Sender v.x → Complete v log → Ordered v → ReadsComplete v s n ⊎ ReadsRun v s n → AllNear v
+    → AllNear (read_in v s n)
 near-reading v log s n a h o (inl r) near t =
     let kind = (Known.ready-first v log s n h r).kind in
-    near-read_other v log s n t h (inl r) (Ordered.next-read_other v s n t a o (λ k i e. not_both (sym kind ∙ ap (λ j. (v.x.message j).ordered) (sym e) ∙ on-ordered v.x t k i))) (near t)
+    near-read_other v log s n t h (inl r)
+    (Ordered.next-read_other v s n t a o (λ k i e. not_both (sym kind ∙ ap (λ j. (v.x.message j).ordered) (sym e) ∙ on-ordered v.x t k i))) (near t)
 near-reading v log s n a h o (inr r) near t =
     let d = Ordered.due-of v s n o r in
     by_same {P = IsNear (read_in v s n) t} t s
@@ -315,13 +343,16 @@ near-closed setup w s g e = record {
         omega (arith, n, l)
       where
         next-none : (v : View) (s : ℕ) → line v s ≡ [] → next v s ≤ v.named s
-        next-none v s e = let z = leading-le v.read (drop (v.named s) (line v s)) in let y = length-dropped (v.named s) (line v s) in omega (arith, z, y, ap length e)
+        next-none v s e = let z = leading-le v.read (drop (v.named s) (line v s)) in let y = length-dropped (v.named s) (line v s) in
+            omega (arith, z, y, ap length e)
 
-pub all-streams : (t : ℕ → Bool) (rs : List StreamRecord) (s : ℕ) (r : StreamRecord) → list_all (λ r. t r.stream) rs ≡ true → find (λ r. r.stream == s) rs ≡ Some r → t r.stream ≡ true
+pub all-streams : (t : ℕ → Bool) (rs : List StreamRecord) (s : ℕ) (r : StreamRecord) → list_all (λ r. t r.stream) rs ≡ true
+    → find (λ r. r.stream == s) rs ≡ Some r → t r.stream ≡ true
 all-streams t [] s r a e = cc
 all-streams t (q ∷ rs) s r a e = let c = both (t q.stream) (list_all (λ r. t r.stream) rs) a in step (q.stream == s) e c.0 (λ h. all-streams t rs s r c.1 h)
   where
-    step : (b : Bool) → (if b then Some q else find (λ r. r.stream == s) rs) ≡ Some r → t q.stream ≡ true → (find (λ r. r.stream == s) rs ≡ Some r → t r.stream ≡ true) → t r.stream ≡ true
+    step : (b : Bool) → (if b then Some q else find (λ r. r.stream == s) rs) ≡ Some r → t q.stream ≡ true
+        → (find (λ r. r.stream == s) rs ≡ Some r → t r.stream ≡ true) → t r.stream ≡ true
     step true h x ih = let z : q ≡ r = cc in ap (λ y. t y.stream) (sym z) ∙ x
     step false h x ih = ih h
 
@@ -332,12 +363,14 @@ near-spans setup w messages g e s = by (Messages.stream_at w s) refl
     by None f = near-closed setup w s g (ap is_some f)
     by (Some r) f =
         let x = all-streams (λ t. fits w (map (Messages.index_of w) (filter (Messages.is_ordered_on w t) messages)) t) w.streams s r e f in
-        subst (IsNear (view w)) (found s w.streams r f) (near-fits w r.stream (map (Messages.index_of w) (filter (Messages.is_ordered_on w r.stream) messages)) x)
+        subst (IsNear (view w)) (found s w.streams r f)
+        (near-fits w r.stream (map (Messages.index_of w) (filter (Messages.is_ordered_on w r.stream) messages)) x)
 
 pub near-as : (u v : View) → v ≡ u → AllNear u → AllNear v
 near-as u v e n = subst AllNear (sym e) n
 
-near-quiet : (setup : Setup) (w v : LinkRecord) (log : List LogEntry) → Sane setup w → Sane setup v → Quiet w v → Received w log → AllNear (view w) → AllNear (view v)
+near-quiet : (setup : Setup) (w v : LinkRecord) (log : List LogEntry) → Sane setup w → Sane setup v → Quiet w v → Received w log → AllNear (view w)
+    → AllNear (view v)
 near-quiet setup w v log g a q r n = near-still (view w) (view v) (still-of setup w v g a q) r.ordered n
 
 near-taken : (w : LinkRecord) (o : Option Datagram) → AllNear (view w) → AllNear (view (Changes.after_acked w o))
@@ -346,12 +379,16 @@ near-taken w (Some (W.Data ps)) n = n
 near-taken w (Some (Forward upto names)) n = n
 near-taken w (Some (Sack r)) n = near-as (view w) (view (Changes.after_acked w (Some (Sack r)))) (View.view-taken w r) n
 
-near-reads : (setup : Setup) (w : LinkRecord) (log : List LogEntry) (s : ℕ) (o : Option ℕ) → Sane setup w → Messages.is_open w s ≡ true → Receiver.next_read w s ≡ o → Received w log → AllNear (view w) → AllNear (view (Changes.read_of w s o))
+near-reads : (setup : Setup) (w : LinkRecord) (log : List LogEntry) (s : ℕ) (o : Option ℕ) → Sane setup w → Messages.is_open w s ≡ true
+    → Receiver.next_read w s ≡ o → Received w log → AllNear (view w) → AllNear (view (Changes.read_of w s o))
 near-reads setup w log s None g a e r n = n
-near-reads setup w log s (Some k) g a e r n = near-as (read_in (view w) s k) (view (Changes.read_of w s (Some k))) (View.view-read w s k a) (near-reading (view w) log s k g.sender r.known.complete r.ordered (reads (view w) s k e) n)
+near-reads setup w log s (Some k) g a e r n = near-as (read_in (view w) s k) (view (Changes.read_of w s (Some k))) (View.view-read w s k a)
+    (near-reading (view w) log s k g.sender r.known.complete r.ordered (reads (view w) s k e) n)
 
-near-after : (setup : Setup) (w : LinkRecord) (log : List LogEntry) (e : Event) → Sane setup w → refusal_of w e ≡ None → Sane setup (after w e) → Received w log → AllNear (view w) → AllNear (view (after w e))
-near-after setup w log (E.Open s) g ok a r n = near-as (view w) (view (Changes.after_open w s)) (View.view-opened w s (negated (Messages.is_open w s) (unless-holds (not (Messages.is_open w s)) StreamOpen None ok).0)) n
+near-after : (setup : Setup) (w : LinkRecord) (log : List LogEntry) (e : Event) → Sane setup w → refusal_of w e ≡ None → Sane setup (after w e) → Received w log
+    → AllNear (view w) → AllNear (view (after w e))
+near-after setup w log (E.Open s) g ok a r n = near-as (view w) (view (Changes.after_open w s))
+    (View.view-opened w s (negated (Messages.is_open w s) (unless-holds (not (Messages.is_open w s)) StreamOpen None ok).0)) n
 near-after setup w log (E.Mode s u y v) g ok a r n = near-as (view w) (view (Changes.after_mode w s u y v)) (View.view-moded w s u y v) n
 near-after setup w log (E.Write s ppi bytes) g ok a r n = near-quiet setup w (after w (E.Write s ppi bytes)) log g a (quiet-written setup w s ppi bytes g) r n
 near-after setup w log (E.Start now) g ok a r n = near-quiet setup w (after w (E.Start now)) log g a (quiet-started w now) r n
@@ -360,26 +397,41 @@ near-after setup w log (E.Resend tsn) g ok a r n = near-as (view w) (view (after
 near-after setup w log (E.Expire now) g ok a r n = near-quiet setup w (after w (E.Expire now)) log g a (quiet-expire setup w now (Messages.front w) g) r n
 near-after setup w log (E.Tail now) g ok a r n = near-quiet setup w (after w (E.Tail now)) log g a (quiet-tail setup w (Changes.tailing w now) g) r n
 near-after setup w log (E.Late now) g ok a r n = near-quiet setup w (after w (E.Late now)) log g a (quiet-lates setup w now g) r n
-near-after setup w log (E.Abandon tsn) g ok a r n = near-quiet setup w (after w (E.Abandon tsn)) log g a (quiet-abandoned setup w (Messages.message_of w (Messages.place_of w tsn)) g) r n
+near-after setup w log (E.Abandon tsn) g ok a r n =
+    near-quiet setup w (after w (E.Abandon tsn)) log g a (quiet-abandoned setup w (Messages.message_of w (Messages.place_of w tsn)) g) r n
 near-after setup w log (E.Skip upto names) g ok a r n = near-as (view w) (view (after w (E.Skip upto names))) refl n
 near-after setup w log (E.Ack credit) g ok a r n = near-as (view w) (view (after w (E.Ack credit))) refl n
 near-after setup w log (E.Arrive k) g ok a r n =
     let d = slice_get w.network k in
     let first = unless-holds (is_for_receiver d) NoSuchDatagram (unless (arrival_fits w d) SpanTooWide None) ok in
     let second = unless-holds (arrival_fits w d) SpanTooWide None first.1 in
-    near-spans setup (Changes.after_arrive w d) (adds_to_span w d) a (both (spans_fit w (adds_to_span w d)) (spans_fit (Changes.after_arrive w d) (adds_to_span w d)) second.0).1
+    near-spans setup (Changes.after_arrive w d)
+    (adds_to_span w d) a (both (spans_fit w (adds_to_span w d)) (spans_fit (Changes.after_arrive w d) (adds_to_span w d)) second.0).1
 near-after setup w log (E.Acked k) g ok a r n = near-taken w (slice_get w.network k) n
-near-after setup w log (E.Read s) g ok a r n = near-reads setup w log s (Receiver.next_read w s) g (unless-holds (Messages.is_open w s) StreamUnknown None ok).0 refl r n
+near-after setup w log (E.Read s) g ok a r n =
+    near-reads setup w log s (Receiver.next_read w s) g (unless-holds (Messages.is_open w s) StreamUnknown None ok).0 refl r n
 
 pub near-run : (setup : Setup) (h : History) → IsSetup setup → IsRun setup h → AllNear (view (record_of setup h))
-near-run setup [] is run = λ s. record { low = 0; high = 0; short = omega arith; above = omega arith; below = omega arith; held_above = λ k lt. absurd (omega arith); held_below = λ k lt. absurd (omega arith) }
+near-run setup [] is run = λ s. record {
+  low = 0;
+  high = 0;
+  short = omega arith;
+  above = omega arith;
+  below = omega arith;
+  held_above = λ k lt. absurd (omega arith);
+  held_below = λ k lt. absurd (omega arith);
+}
 near-run setup (entry ∷ older) is run =
     let g = sane-run setup older run.1.1 in
-    near-after setup (record_of setup older) (Log.log_of setup older) entry.0 g run.0 (sane-after setup (record_of setup older) entry.0 run.0 g) (received-run setup older is run.1.1) (near-run setup older is run.1.1)
+    near-after setup (record_of setup older) (Log.log_of setup older) entry.0 g run.0 (sane-after setup (record_of setup older) entry.0 run.0 g)
+    (received-run setup older is run.1.1) (near-run setup older is run.1.1)
 
 pub spans_fit_always : OnEveryRun SpansFit
 spans_fit_always setup h is run = all (record_of setup h).streams
   where
-    all : (rs : List StreamRecord) → list_all (λ r. fits (record_of setup h) (map (Messages.index_of (record_of setup h)) (filter (Messages.is_ordered_on (record_of setup h) r.stream) [])) r.stream) rs ≡ true
+    all : (rs : List StreamRecord) → list_all (λ r. fits (record_of setup h)
+        (map (Messages.index_of (record_of setup h)) (filter (Messages.is_ordered_on (record_of setup h) r.stream) [])) r.stream) rs ≡ true
     all [] = refl
-    all (r ∷ rs) = and (fits (record_of setup h) [] r.stream) (list_all (λ r. fits (record_of setup h) (map (Messages.index_of (record_of setup h)) (filter (Messages.is_ordered_on (record_of setup h) r.stream) [])) r.stream) rs) (fits-near (record_of setup h) r.stream (near-run setup h is run r.stream)) (all rs)
+    all (r ∷ rs) = and (fits (record_of setup h) [] r.stream) (list_all (λ r.
+        fits (record_of setup h) (map (Messages.index_of (record_of setup h)) (filter (Messages.is_ordered_on (record_of setup h) r.stream) [])) r.stream) rs)
+        (fits-near (record_of setup h) r.stream (near-run setup h is run r.stream)) (all rs)

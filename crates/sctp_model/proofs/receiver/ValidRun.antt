@@ -1,5 +1,6 @@
 -- The record of every history is valid.
-use Rattle.std.proofs.Common.{◌≡◌, ℕ, zero, suc, ◌+◌, ◌-◌, ◌<◌, ◌≤◌, Bool, true, false, List, [], ◌∷◌, ◌++◌, length, map, drop, get_or, Option, Some, None, refl, ap, sym, ◌∙◌, inl, inr, arith, zero-add}
+use Rattle.std.proofs.Common.{◌≡◌, ℕ, zero, suc, ◌+◌, ◌-◌, ◌<◌, ◌≤◌, Bool, true, false, List, [], ◌∷◌, ◌++◌, length, map, drop, get_or, Option, Some, None}
+use Rattle.std.proofs.Common.{refl, ap, sym, ◌∙◌, inl, inr, arith, zero-add}
 use Rattle.std.specs.Prelude.{◌⊎◌, if◌then◌else◌, ◌==◌, ◌&&◌, ◌||◌, not, nat_le, nat_lt, fold, slice_get, find, is_some}
 use Rattle.std.specs.List.{list_any, filter}
 use Rattle.std.proofs.Math.Path.{subst}
@@ -81,8 +82,10 @@ laid-of w n s =
     at r p h =
         let lt = slot-made w n p h in
         let j = length (numbers_where (has (shape w) n) 0 p) in
-        let here : get_or (numbers_where (has (shape w) n) 0 (length w.slots)) j 0 ≡ p = kept-get (has (shape w) n) 0 (length w.slots) p p 0 (omega arith) lt h in
-        let low : j < length (numbers_where (has (shape w) n) 0 (length w.slots)) = length-kept-lt (has (shape w) n) 0 p (length w.slots) (ap (has (shape w) n) (zero-add p) ∙ h) lt in
+        let here : get_or (numbers_where (has (shape w) n) 0 (length w.slots)) j 0 ≡ p =
+        kept-get (has (shape w) n) 0 (length w.slots) p p 0 (omega arith) lt h in
+        let low : j < length (numbers_where (has (shape w) n) 0 (length w.slots)) = length-kept-lt (has (shape w) n) 0 p (length w.slots)
+        (ap (has (shape w) n) (zero-add p) ∙ h) lt in
         let many : length (numbers_where (has (shape w) n) 0 (length w.slots)) ≡ r.many = ap length r.is ∙ length-numbers r.from r.many in
         sym here ∙ ap (λ l. get_or l j 0) r.is ∙ nth r.from r.many j (omega (arith, low, many)) ∙ ap (λ i. r.from + i) (sym (count p h))
 
@@ -117,7 +120,8 @@ unassembled-of setup w log g r =
     let s = g.sender in
     let h = r.known.complete in
     record {
-      prefix = λ n p j f e. let o = of-has (shape w) n p f in let b = s.beside p (slot-made w n p f) o.1 (omega (arith, e)) in let q : b.0 ≡ p - 1 = omega (arith, b.1) in ap (Messages.has_fragment w n) (sym q) ∙ ap (λ m. Messages.has_fragment w m b.0) (sym o.0) ∙ b.2;
+      prefix = λ n p j f e. let o = of-has (shape w) n p f in let b = s.beside p (slot-made w n p f) o.1 (omega (arith, e)) in
+          let q : b.0 ≡ p - 1 = omega (arith, b.1) in ap (Messages.has_fragment w n) (sym q) ∙ ap (λ m. Messages.has_fragment w m b.0) (sym o.0) ∙ b.2;
       marks = r.ordered.marks;
       complete_arrived = λ n kind e. complete n kind e (cases_lt n (length w.messages));
       arrived_complete = λ n e. arrived n e (cases_lt n (length w.messages));
@@ -130,15 +134,20 @@ unassembled-of setup w log g r =
     none : (n : ℕ) → length w.messages ≤ n → come_count (view w) n ≡ 0
     none n ge = omega (arith, Known.come-sent (view w) n, sent-none (shape w) n g.sender ge)
 
-    complete : (n : ℕ) → (Messages.message_at w n).ordered ≡ false → Receiver.is_complete_message w n ≡ true → (n < length w.messages) ⊎ (length w.messages ≤ n) → Receiver.has_arrived w n ≡ true
-    complete n kind e (inl lt) = CompleteMessages.complete-come (view w) log n r.known.heard.arrived (g.sender.within n lt) (sym (r.known.complete.agrees n lt) ∙ e)
-    complete n kind e (inr ge) = ap (λ c. c == Messages.fragment_count w n) (none n ge) ∙ ap (λ m. 0 == length (pieces (length m.bytes) w.setup.size m.bytes)) (beyond n ge)
+    complete : (n : ℕ) → (Messages.message_at w n).ordered ≡ false → Receiver.is_complete_message w n ≡ true → (n < length w.messages) ⊎ (length w.messages ≤ n)
+        → Receiver.has_arrived w n ≡ true
+    complete n kind e (inl lt) =
+        CompleteMessages.complete-come (view w) log n r.known.heard.arrived (g.sender.within n lt) (sym (r.known.complete.agrees n lt) ∙ e)
+    complete n kind e (inr ge) = ap (λ c. c == Messages.fragment_count w n) (none n ge)
+        ∙ ap (λ m. 0 == length (pieces (length m.bytes) w.setup.size m.bytes)) (beyond n ge)
 
     arrived : (n : ℕ) → Changes.becomes_complete w n ≡ true → (n < length w.messages) ⊎ (length w.messages ≤ n) → Receiver.is_complete_message w n ≡ true
     arrived n e (inl lt) =
         let a = both (not (Messages.message_at w n).ordered) (CompleteMessages.due (view w) n) e in
-        r.known.complete.agrees n lt ∙ CompleteMessages.due-complete (view w) log n (Known.hears w log r.known.heard) (g.sender.within n lt) (g.sender.some n lt) (negated (Messages.message_at w n).ordered a.0) a.1
-    arrived n e (inr ge) = ap (λ m. if m.ordered then Receiver.has_arrived w n else m.read || list_any (λ k. k == n) (Messages.stream_of w m.stream).complete) (beyond n ge)
+        r.known.complete.agrees n lt ∙ CompleteMessages.due-complete (view w) log n (Known.hears w log r.known.heard) (g.sender.within n lt)
+        (g.sender.some n lt) (negated (Messages.message_at w n).ordered a.0) a.1
+    arrived n e (inr ge) =
+        ap (λ m. if m.ordered then Receiver.has_arrived w n else m.read || list_any (λ k. k == n) (Messages.stream_of w m.stream).complete) (beyond n ge)
 
 pub order-of : (setup : Setup) (w : LinkRecord) → Sane setup w → InOrder w
 order-of setup w g = record {
@@ -146,7 +155,8 @@ order-of setup w g = record {
   known = λ n lt. at n (find (λ r. r.stream == (Messages.message_at w n).stream) w.streams) refl (g.known n lt);
 }
   where
-    at : (n : ℕ) (o : Option StreamRecord) → find (λ r. r.stream == (Messages.message_at w n).stream) w.streams ≡ o → is_some o ≡ true → (r : StreamRecord) × (find (λ r. r.stream == (Messages.message_at w n).stream) w.streams ≡ Some r)
+    at : (n : ℕ) (o : Option StreamRecord) → find (λ r. r.stream == (Messages.message_at w n).stream) w.streams ≡ o → is_some o ≡ true
+        → (r : StreamRecord) × (find (λ r. r.stream == (Messages.message_at w n).stream) w.streams ≡ Some r)
     at n None e f = cc
     at n (Some r) e f = (r, e)
 
@@ -163,7 +173,14 @@ all-namable w upto (n ∷ ns) f =
 near-span : (w : LinkRecord) → AllNear (view w) → (s : ℕ) → IsSpan w s []
 near-span w near s =
     let n = near s in
-    record { low = n.low; high = n.high; short = n.short; next = (n.above, n.below); held = λ k lt h. (n.held_above k lt h, n.held_below k lt h); others = λ y e. cc }
+    record {
+      low = n.low;
+      high = n.high;
+      short = n.short;
+      next = (n.above, n.below);
+      held = λ k lt h. (n.held_above k lt h, n.held_below k lt h);
+      others = λ y e. cc;
+    }
 
 pub record_is_valid : OnEveryRun RecordIsValid
 record_is_valid setup h is run =
@@ -200,24 +217,30 @@ span-fits w s more e =
     }
 
 -- one message more than those that fit
-pub span-open : (w : LinkRecord) (s : ℕ) (messages : List ℕ) → Receiver.spans_fit w messages ≡ true → Messages.is_open w s ≡ true → IsSpan w s (map (Messages.index_of w) (filter (Messages.is_ordered_on w s) messages))
+pub span-open : (w : LinkRecord) (s : ℕ) (messages : List ℕ) → Receiver.spans_fit w messages ≡ true → Messages.is_open w s ≡ true
+    → IsSpan w s (map (Messages.index_of w) (filter (Messages.is_ordered_on w s) messages))
 span-open w s messages e o = by (Messages.stream_at w s) refl o
   where
-    by : (f : Option StreamRecord) → Messages.stream_at w s ≡ f → is_some f ≡ true → IsSpan w s (map (Messages.index_of w) (filter (Messages.is_ordered_on w s) messages))
+    by : (f : Option StreamRecord) → Messages.stream_at w s ≡ f → is_some f ≡ true
+        → IsSpan w s (map (Messages.index_of w) (filter (Messages.is_ordered_on w s) messages))
     by None f g = cc
     by (Some r) f g =
         let x = Spans.all-streams (λ t. Receiver.fits w (map (Messages.index_of w) (filter (Messages.is_ordered_on w t) messages)) t) w.streams s r e f in
         let z = found s w.streams r f in
-        span-fits w s (map (Messages.index_of w) (filter (Messages.is_ordered_on w s) messages)) (ap (λ t. Receiver.fits w (map (Messages.index_of w) (filter (Messages.is_ordered_on w t) messages)) t) (sym z) ∙ x)
+        span-fits w s (map (Messages.index_of w) (filter (Messages.is_ordered_on w s) messages))
+        (ap (λ t. Receiver.fits w (map (Messages.index_of w) (filter (Messages.is_ordered_on w t) messages)) t) (sym z) ∙ x)
 
 -- the span of a later state serves an earlier one whose held messages are among the later ones
-span-among : (w v : LinkRecord) (s : ℕ) (more fewer : List ℕ) → length w.messages ≤ length v.messages → Receiver.next_of w s ≡ Receiver.next_of v s → ((k : ℕ) → Messages.index_of w k ≡ Messages.index_of v k) → ((k : ℕ) → k < length w.messages → Receiver.is_held w s k ≡ true → Receiver.is_held v s k ≡ true) → ((y : ℕ) → list_any (λ z. z == y) fewer ≡ true → list_any (λ z. z == y) more ≡ true) → IsSpan v s more → IsSpan w s fewer
+span-among : (w v : LinkRecord) (s : ℕ) (more fewer : List ℕ) → length w.messages ≤ length v.messages → Receiver.next_of w s ≡ Receiver.next_of v s → ((k : ℕ)
+    → Messages.index_of w k ≡ Messages.index_of v k) → ((k : ℕ) → k < length w.messages → Receiver.is_held w s k ≡ true → Receiver.is_held v s k ≡ true)
+    → ((y : ℕ) → list_any (λ z. z == y) fewer ≡ true → list_any (λ z. z == y) more ≡ true) → IsSpan v s more → IsSpan w s fewer
 span-among w v s more fewer le next' index' held' others sp = record {
   low = sp.low;
   high = sp.high;
   short = sp.short;
   next = (omega (arith, next', sp.next), omega (arith, next', sp.next));
-  held = λ k lt h. (omega (arith, sp.held k (omega (arith, le, lt)) (held' k lt h), index' k), omega (arith, sp.held k (omega (arith, le, lt)) (held' k lt h), index' k));
+  held = λ k lt h.
+      (omega (arith, sp.held k (omega (arith, le, lt)) (held' k lt h), index' k), omega (arith, sp.held k (omega (arith, le, lt)) (held' k lt h), index' k));
   others = λ y h. sp.others y (others y h);
 }
 
@@ -234,7 +257,14 @@ later-none : (v : View) → Later v v
 later-none v = record { shapes = refl; reads = refl; names = refl; skips = refl; come = λ n. omega arith; arrived = λ p e. e }
 
 later-then : (u v z : View) → Later u v → Later v z → Later u z
-later-then u v z f g = record { shapes = g.shapes ∙ f.shapes; reads = g.reads ∙ f.reads; names = g.names ∙ f.names; skips = g.skips ∙ f.skips; come = λ n. omega (arith, f.come n, g.come n); arrived = λ p e. g.arrived p (f.arrived p e) }
+later-then u v z f g = record {
+  shapes = g.shapes ∙ f.shapes;
+  reads = g.reads ∙ f.reads;
+  names = g.names ∙ f.names;
+  skips = g.skips ∙ f.skips;
+  come = λ n. omega (arith, f.come n, g.come n);
+  arrived = λ p e. g.arrived p (f.arrived p e);
+}
 
 later-as : (u v z : View) → z ≡ v → Later u v → Later u z
 later-as u v z e l = subst (Later u) (sym e) l
@@ -243,7 +273,9 @@ kept-more : (p q : ℕ → Bool) (from count : ℕ) → ((k : ℕ) → p k ≡ t
 kept-more p q from zero h = omega arith
 kept-more p q from (suc count) h = step (p from) (q from) refl refl (kept-more p q (from + 1) count h)
   where
-    step : (a b : Bool) → p from ≡ a → q from ≡ b → length (numbers_where p (from + 1) count) ≤ length (numbers_where q (from + 1) count) → length (if a then from ∷ numbers_where p (from + 1) count else numbers_where p (from + 1) count) ≤ length (if b then from ∷ numbers_where q (from + 1) count else numbers_where q (from + 1) count)
+    step : (a b : Bool) → p from ≡ a → q from ≡ b → length (numbers_where p (from + 1) count) ≤ length (numbers_where q (from + 1) count)
+        → length (if a then from ∷ numbers_where p (from + 1) count else numbers_where p (from + 1) count)
+        ≤ length (if b then from ∷ numbers_where q (from + 1) count else numbers_where q (from + 1) count)
     step true true e f ih = omega (arith, ih)
     step true false e f ih = absurd (not_both (sym f ∙ h from e))
     step false true e f ih = omega (arith, ih)
@@ -262,18 +294,25 @@ later-slot setup w p g lt = by (Receiver.is_new w p) refl
       reads = refl;
       names = refl;
       skips = refl;
-      come = λ n. kept-more (View.has_come (view w) n) (View.has_come (View.arrived_in (view w) p) n) 0 (length w.slots) (λ k e. let c = both (has (shape w) n k) (Receiver.arrived_at w k) e in and (has (shape w) n k) (if k == p then true else Receiver.arrived_at w k) c.0 (arrives k (k == p) c.1));
+      come = λ n. kept-more (View.has_come (view w) n) (View.has_come (View.arrived_in (view w) p) n) 0 (length w.slots)
+          (λ k e. let c = both (has (shape w) n k) (Receiver.arrived_at w k) e in
+          and (has (shape w) n k) (if k == p then true else Receiver.arrived_at w k) c.0 (arrives k (k == p) c.1));
       arrived = λ k e. arrives k (k == p) e;
     }
 
-    noted : (b : Bool) → Later (View.arrived_in (view w) p) (if b then View.noted_in (View.arrived_in (view w) p) (Messages.message_at w (Messages.message_of w p)).stream (Messages.message_of w p) else View.arrived_in (view w) p)
+    noted : (b : Bool) → Later (View.arrived_in (view w) p) (if b then View.noted_in (View.arrived_in (view w) p)
+        (Messages.message_at w (Messages.message_of w p)).stream (Messages.message_of w p) else View.arrived_in (view w) p)
     noted true = record { shapes = refl; reads = refl; names = refl; skips = refl; come = λ n. omega arith; arrived = λ k e. e }
     noted false = later-none (View.arrived_in (view w) p)
 
     by : (b : Bool) → Receiver.is_new w p ≡ b → Later (view w) (view (Changes.receive_slot w p))
-    by true e = later-as (view w) (Known.noting (View.arrived_in (view w) p) (Messages.message_of w p)) (view (Changes.receive_slot w p)) (Known.view-received setup w p g lt e)
-        (later-then (view w) (View.arrived_in (view w) p) (Known.noting (View.arrived_in (view w) p) (Messages.message_of w p)) first (noted (not (Messages.message_at w (Messages.message_of w p)).ordered && CompleteMessages.due (View.arrived_in (view w) p) (Messages.message_of w p))))
-    by false e = later-as (view w) (view w) (view (Changes.receive_slot w p)) (ap (λ b. view (if b then Changes.note_completion (with_arrived w p) (Messages.message_of w p) else record w { duplicates = w.duplicates ++ p ∷ [] })) e) (later-none (view w))
+    by true e = later-as (view w) (Known.noting (View.arrived_in (view w) p) (Messages.message_of w p)) (view (Changes.receive_slot w p))
+        (Known.view-received setup w p g lt e)
+        (later-then (view w) (View.arrived_in (view w) p) (Known.noting (View.arrived_in (view w) p) (Messages.message_of w p)) first (noted
+        (not (Messages.message_at w (Messages.message_of w p)).ordered && CompleteMessages.due (View.arrived_in (view w) p) (Messages.message_of w p))))
+    by false e = later-as (view w) (view w) (view (Changes.receive_slot w p)) (ap
+        (λ b. view (if b then Changes.note_completion (with_arrived w p) (Messages.message_of w p) else record w { duplicates = w.duplicates ++ p ∷ [] })) e)
+        (later-none (view w))
 
 -- a state on the way
 record Between (setup : Setup) (w : LinkRecord) : Type 0 where
@@ -281,15 +320,25 @@ record Between (setup : Setup) (w : LinkRecord) : Type 0 where
   log : List LogEntry
   received : Received w log
 
-between-slot : (setup : Setup) (w : LinkRecord) (p : ℕ) → p < length w.slots → (Messages.slot_at w p).is_terminal_chunk ≡ false → Between setup w → Between setup (Changes.receive_slot w p)
-between-slot setup w p lt mark b = record { sane = sane-received setup w p b.sane; log = Log.SlotReceived p ∷ b.log; received = (received-keeps setup).slot w b.log p b.sane lt mark b.received }
+between-slot : (setup : Setup) (w : LinkRecord) (p : ℕ) → p < length w.slots → (Messages.slot_at w p).is_terminal_chunk ≡ false → Between setup w
+    → Between setup (Changes.receive_slot w p)
+between-slot setup w p lt mark b = record {
+  sane = sane-received setup w p b.sane;
+  log = Log.SlotReceived p ∷ b.log;
+  received = (received-keeps setup).slot w b.log p b.sane lt mark b.received;
+}
 
 -- after these slots
-between-slots : (setup : Setup) (ps : List ℕ) (w : LinkRecord) → SlotsFit (shape w) ps → Between setup w → Between setup (fold Changes.receive_slot w ps) × Later (view w) (view (fold Changes.receive_slot w ps))
+between-slots : (setup : Setup) (ps : List ℕ) (w : LinkRecord) → SlotsFit (shape w) ps → Between setup w
+    → Between setup (fold Changes.receive_slot w ps) × Later (view w) (view (fold Changes.receive_slot w ps))
 between-slots setup [] w f b = (b, later-none (view w))
 between-slots setup (p ∷ ps) w f b =
-    let r = between-slots setup ps (Changes.receive_slot w p) (subst (λ x. SlotsFit x ps) (sym (Network.same-slot w p).shape_is) f.2) (between-slot setup w p f.0 f.1 b) in
-    (r.0, later-then (view w) (view (Changes.receive_slot w p)) (view (fold Changes.receive_slot (Changes.receive_slot w p) ps)) (later-slot setup w p b.sane f.0) r.1)
+    let r = between-slots setup ps (Changes.receive_slot w p) (subst (λ x. SlotsFit x ps) (sym (Network.same-slot w p).shape_is) f.2)
+    (between-slot setup w p f.0 f.1 b) in (
+      r.0,
+      later-then (view w) (view (Changes.receive_slot w p)) (view (fold Changes.receive_slot (Changes.receive_slot w p) ps))
+          (later-slot setup w p b.sane f.0) r.1,
+    )
 
 fold-append : {A B : Type 0} (f : B → A → B) (x : B) (xs ys : List A) → fold f x (xs ++ ys) ≡ fold f (fold f x xs) ys
 fold-append f x [] ys = refl
@@ -321,11 +370,13 @@ held-later u v a l s k lt e =
         let y : come_count v k ≡ parts v.x k = omega (arith, z, c, Known.come-sent v k, le, ap (λ x. parts x k) l.shapes) in
         ap (λ i. i == parts v.x k) y ∙ same-yes (parts v.x k)
 
-    either : (complete_at u k ≡ true) ⊎ (nat_le (u.named s) (index u.x k) ≡ true) → (u.x.message k).ordered ≡ true → (complete_at v k || nat_le (v.named s) (index v.x k)) ≡ true
+    either : (complete_at u k ≡ true) ⊎ (nat_le (u.named s) (index u.x k) ≡ true) → (u.x.message k).ordered ≡ true
+        → (complete_at v k || nat_le (v.named s) (index v.x k)) ≡ true
     either (inl w) o =
         let y : complete_at v k ≡ true = Ordered.ordered-at v k (ap (λ x. (x.message k).ordered) l.shapes ∙ o) ∙ all (sym (Ordered.ordered-at u k o) ∙ w) in
         ap (λ b. b || nat_le (v.named s) (index v.x k)) y
-    either (inr n) o = or-right (complete_at v k) (nat_le (v.named s) (index v.x k)) (ap (λ f. nat_le (f s) (index v.x k)) l.names ∙ ap (λ x. nat_le (u.named s) (index x k)) l.shapes ∙ n)
+    either (inr n) o = or-right (complete_at v k) (nat_le (v.named s) (index v.x k))
+        (ap (λ f. nat_le (f s) (index v.x k)) l.names ∙ ap (λ x. nat_le (u.named s) (index x k)) l.shapes ∙ n)
 
 next-later : (u v : View) → Later u v → (s : ℕ) → next v s ≡ next u s
 next-later u v l s =
@@ -335,7 +386,8 @@ next-later u v l s =
 
 -- what is new later was new before
 new-later : (w v : LinkRecord) (p : ℕ) → Later (view w) (view v) → Receiver.is_new v p ≡ true → Receiver.is_new w p ≡ true
-new-later w v p l e = new-unseen w p ∙ by (nat_lt p w.skipped) (Receiver.arrived_at w p) refl (ap (λ k. not (nat_lt p k || Receiver.arrived_at v p)) (sym l.skips) ∙ sym (new-unseen v p) ∙ e)
+new-later w v p l e = new-unseen w p
+    ∙ by (nat_lt p w.skipped) (Receiver.arrived_at w p) refl (ap (λ k. not (nat_lt p k || Receiver.arrived_at v p)) (sym l.skips) ∙ sym (new-unseen v p) ∙ e)
   where
     by : (a b : Bool) → Receiver.arrived_at w p ≡ b → not (a || Receiver.arrived_at v p) ≡ true → not (a || b) ≡ true
     by true b f g = cc
@@ -343,11 +395,16 @@ new-later w v p l e = new-unseen w p ∙ by (nat_lt p w.skipped) (Receiver.arriv
     by false true f g = absurd (not_both (sym (negated (Receiver.arrived_at v p) g) ∙ l.arrived p f))
 
 -- the index of a new slot's message is among those that the datagram adds
-adds-it : (w : LinkRecord) (t : ℕ → Bool) (ps : List ℕ) (p : ℕ) (qs : List ℕ) → Receiver.is_new w p ≡ true → t (Messages.message_of w p) ≡ true → list_any (λ z. z == Messages.index_of w (Messages.message_of w p)) (map (Messages.index_of w) (filter t (map (Messages.message_of w) (filter (Receiver.is_new w) (ps ++ p ∷ qs))))) ≡ true
+adds-it : (w : LinkRecord) (t : ℕ → Bool) (ps : List ℕ) (p : ℕ) (qs : List ℕ) → Receiver.is_new w p ≡ true → t (Messages.message_of w p) ≡ true
+    → list_any (λ z. z == Messages.index_of w (Messages.message_of w p))
+    (map (Messages.index_of w) (filter t (map (Messages.message_of w) (filter (Receiver.is_new w) (ps ++ p ∷ qs))))) ≡ true
 adds-it w t [] p qs new on' =
-    ap (λ b. list_any (λ z. z == Messages.index_of w (Messages.message_of w p)) (map (Messages.index_of w) (filter t (map (Messages.message_of w) (if b then p ∷ filter (Receiver.is_new w) qs else filter (Receiver.is_new w) qs))))) new
-    ∙ ap (λ b. list_any (λ z. z == Messages.index_of w (Messages.message_of w p)) (map (Messages.index_of w) (if b then Messages.message_of w p ∷ filter t (map (Messages.message_of w) (filter (Receiver.is_new w) qs)) else filter t (map (Messages.message_of w) (filter (Receiver.is_new w) qs))))) on'
-    ∙ ap (λ b. b || list_any (λ z. z == Messages.index_of w (Messages.message_of w p)) (map (Messages.index_of w) (filter t (map (Messages.message_of w) (filter (Receiver.is_new w) qs))))) (same-yes (Messages.index_of w (Messages.message_of w p)))
+    ap (λ b. list_any (λ z. z == Messages.index_of w (Messages.message_of w p)) (map (Messages.index_of w)
+    (filter t (map (Messages.message_of w) (if b then p ∷ filter (Receiver.is_new w) qs else filter (Receiver.is_new w) qs))))) new
+    ∙ ap (λ b. list_any (λ z. z == Messages.index_of w (Messages.message_of w p)) (map (Messages.index_of w) (if b then Messages.message_of w p ∷ filter t
+    (map (Messages.message_of w) (filter (Receiver.is_new w) qs)) else filter t (map (Messages.message_of w) (filter (Receiver.is_new w) qs))))) on'
+    ∙ ap (λ b. b || list_any (λ z. z == Messages.index_of w (Messages.message_of w p)) (map (Messages.index_of w)
+    (filter t (map (Messages.message_of w) (filter (Receiver.is_new w) qs))))) (same-yes (Messages.index_of w (Messages.message_of w p)))
 adds-it w t (q ∷ ps) p qs new on' = step (Receiver.is_new w q) (t (Messages.message_of w q)) refl (adds-it w t ps p qs new on')
   where
     rest : List ℕ
@@ -356,21 +413,36 @@ adds-it w t (q ∷ ps) p qs new on' = step (Receiver.is_new w q) (t (Messages.me
     among : List ℕ → Bool
     among l = list_any (λ z. z == Messages.index_of w (Messages.message_of w p)) (map (Messages.index_of w) l)
 
-    step : (a b : Bool) → t (Messages.message_of w q) ≡ b → among (filter t (map (Messages.message_of w) rest)) ≡ true → among (filter t (map (Messages.message_of w) (if a then q ∷ rest else rest))) ≡ true
+    step : (a b : Bool) → t (Messages.message_of w q) ≡ b → among (filter t (map (Messages.message_of w) rest)) ≡ true
+        → among (filter t (map (Messages.message_of w) (if a then q ∷ rest else rest))) ≡ true
     step false b e ih = ih
-    step true true e ih = ap (λ c. among (if c then Messages.message_of w q ∷ filter t (map (Messages.message_of w) rest) else filter t (map (Messages.message_of w) rest))) e ∙ or-right (Messages.index_of w (Messages.message_of w q) == Messages.index_of w (Messages.message_of w p)) (among (filter t (map (Messages.message_of w) rest))) ih
-    step true false e ih = ap (λ c. among (if c then Messages.message_of w q ∷ filter t (map (Messages.message_of w) rest) else filter t (map (Messages.message_of w) rest))) e ∙ ih
+    step true true e ih =
+        ap (λ c. among (if c then Messages.message_of w q ∷ filter t (map (Messages.message_of w) rest) else filter t (map (Messages.message_of w) rest))) e
+        ∙ or-right (Messages.index_of w (Messages.message_of w q) == Messages.index_of w (Messages.message_of w p))
+        (among (filter t (map (Messages.message_of w) rest))) ih
+    step true false e ih =
+        ap (λ c. among (if c then Messages.message_of w q ∷ filter t (map (Messages.message_of w) rest) else filter t (map (Messages.message_of w) rest))) e
+        ∙ ih
 
-fits-after : (w : LinkRecord) (k : ℕ) (d : Datagram) → refusal_of w (E.Arrive k) ≡ None → slice_get w.network k ≡ Some d → (Receiver.spans_fit w (adds_to_span w (Some d)) ≡ true) × (Receiver.spans_fit (Changes.after_arrive w (Some d)) (adds_to_span w (Some d)) ≡ true)
+fits-after : (w : LinkRecord) (k : ℕ) (d : Datagram) → refusal_of w (E.Arrive k) ≡ None → slice_get w.network k ≡ Some d
+    → (Receiver.spans_fit w (adds_to_span w (Some d)) ≡ true) × (Receiver.spans_fit (Changes.after_arrive w (Some d)) (adds_to_span w (Some d)) ≡ true)
 fits-after w k d ok e =
-    let o : unless (is_for_receiver (Some d)) NoSuchDatagram (unless (arrival_fits w (Some d)) SpanTooWide None) ≡ None = ap (λ x. unless (is_for_receiver x) NoSuchDatagram (unless (arrival_fits w x) SpanTooWide None)) (sym e) ∙ ok in
+    let o : unless (is_for_receiver (Some d)) NoSuchDatagram (unless (arrival_fits w (Some d)) SpanTooWide None) ≡ None =
+    ap (λ x. unless (is_for_receiver x) NoSuchDatagram (unless (arrival_fits w x) SpanTooWide None)) (sym e) ∙ ok in
     let first = unless-holds (is_for_receiver (Some d)) NoSuchDatagram (unless (arrival_fits w (Some d)) SpanTooWide None) o in
     let second = unless-holds (arrival_fits w (Some d)) SpanTooWide None first.1 in
     both (Receiver.spans_fit w (adds_to_span w (Some d))) (Receiver.spans_fit (Changes.after_arrive w (Some d)) (adds_to_span w (Some d))) second.0
 
 pub slots_come_valid : OnEveryRun SlotsComeValid
 slots_come_valid setup h is run k ps p qs ok e =
-    record { made = there.0; fragment = there.1; valid = valid-of setup v b.log b.sane b.received; unassembled = unassembled-of setup v b.log b.sane b.received; order = order-of setup v b.sane; near = λ s on' new. near s on' new }
+    record {
+      made = there.0;
+      fragment = there.1;
+      valid = valid-of setup v b.log b.sane b.received;
+      unassembled = unassembled-of setup v b.log b.sane b.received;
+      order = order-of setup v b.sane;
+      near = λ s on' new. near s on' new;
+    }
   where
     w : LinkRecord
     w = record_of setup h
@@ -405,7 +477,8 @@ slots_come_valid setup h is run k ps p qs ok e =
     complete-fold : z ≡ fold Changes.receive_slot v (p ∷ qs)
     complete-fold = fold-append Changes.receive_slot w ps (p ∷ qs)
 
-    near : (s : ℕ) → Messages.is_ordered_on v s (Messages.message_of v p) ≡ true → Receiver.is_new v p ≡ true → IsSpan v s (Messages.index_of v (Messages.message_of v p) ∷ [])
+    near : (s : ℕ) → Messages.is_ordered_on v s (Messages.message_of v p) ≡ true → Receiver.is_new v p ≡ true
+        → IsSpan v s (Messages.index_of v (Messages.message_of v p) ∷ [])
     near s on' new =
         let l : Later (view v) (view z) = subst (λ y. Later (view v) (view y)) (sym complete-fold) second.1 in
         let all = later-then (view w) (view v) (view z) first.1 l in
@@ -415,9 +488,13 @@ slots_come_valid setup h is run k ps p qs ok e =
         let index-v : (k : ℕ) → Messages.index_of v k ≡ Messages.index_of w k = λ k. ap (λ x. index x k) first.1.shapes in
         let index-z : (k : ℕ) → Messages.index_of z k ≡ Messages.index_of w k = λ k. ap (λ x. index x k) all.shapes in
         let after' = (fits-after w k (W.Data (ps ++ p ∷ qs)) ok e).1 in
-        let opens : Messages.is_open z s ≡ true = subst (λ y. Messages.is_open y s ≡ true) (sym complete-fold) (ap (Messages.is_open (fold Changes.receive_slot v (p ∷ qs))) (sym (on-stream (shape w) s m on-w) ∙ ap (λ x. (x.message m).stream) (sym (second.1.shapes ∙ first.1.shapes))) ∙ second.0.sane.known m (subst (λ x. m < x.count) (sym (second.1.shapes ∙ first.1.shapes)) ((sane-run setup h run).sender.made p parts'.1.0))) in
+        let opens : Messages.is_open z s ≡ true = subst (λ y. Messages.is_open y s ≡ true) (sym complete-fold)
+        (ap (Messages.is_open (fold Changes.receive_slot v (p ∷ qs))) (sym (on-stream (shape w) s m on-w)
+        ∙ ap (λ x. (x.message m).stream) (sym (second.1.shapes ∙ first.1.shapes)))
+        ∙ second.0.sane.known m (subst (λ x. m < x.count) (sym (second.1.shapes ∙ first.1.shapes)) ((sane-run setup h run).sender.made p parts'.1.0))) in
         let span = span-open z s (adds_to_span w (Some (W.Data (ps ++ p ∷ qs)))) after' opens in
-        span-among v z s (map (Messages.index_of z) (filter (Messages.is_ordered_on z s) (adds_to_span w (Some (W.Data (ps ++ p ∷ qs)))))) (Messages.index_of v (Messages.message_of v p) ∷ [])
+        span-among v z s (map (Messages.index_of z) (filter (Messages.is_ordered_on z s) (adds_to_span w (Some (W.Data (ps ++ p ∷ qs))))))
+        (Messages.index_of v (Messages.message_of v p) ∷ [])
         (omega (arith, ap (λ x. x.count) l.shapes)) (sym (next-later (view v) (view z) l s)) (λ k. index-v k ∙ sym (index-z k))
         (λ k lt g. held-later (view v) (view z) b.sane.sender l s k lt g)
         (λ y g. one y m same index-v index-z all.shapes (adds-it w (Messages.is_ordered_on w s) ps p qs (new-later w v p first.1 new) on-w) g) span
@@ -426,21 +503,25 @@ slots_come_valid setup h is run k ps p qs ok e =
         or-none true = refl
         or-none false = refl
 
-        one : (y m : ℕ) → Messages.message_of v p ≡ m → ((k : ℕ) → Messages.index_of v k ≡ Messages.index_of w k) → ((k : ℕ) → Messages.index_of z k ≡ Messages.index_of w k) → shape z ≡ shape w
-            → list_any (λ z. z == Messages.index_of w (Messages.message_of w p)) (map (Messages.index_of w) (filter (Messages.is_ordered_on w s) (map (Messages.message_of w) (filter (Receiver.is_new w) (ps ++ p ∷ qs))))) ≡ true
-            → ((Messages.index_of v (Messages.message_of v p) == y) || false) ≡ true
-            → list_any (λ z. z == y) (map (Messages.index_of z) (filter (Messages.is_ordered_on z s) (map (Messages.message_of w) (filter (Receiver.is_new w) (ps ++ p ∷ qs))))) ≡ true
+        one : (y m : ℕ) → Messages.message_of v p ≡ m → ((k : ℕ) → Messages.index_of v k ≡ Messages.index_of w k)
+            → ((k : ℕ) → Messages.index_of z k ≡ Messages.index_of w k) → shape z ≡ shape w → list_any (λ z. z == Messages.index_of w (Messages.message_of w p))
+            (map (Messages.index_of w) (filter (Messages.is_ordered_on w s) (map (Messages.message_of w) (filter (Receiver.is_new w) (ps ++ p ∷ qs))))) ≡ true
+            → ((Messages.index_of v (Messages.message_of v p) == y) || false) ≡ true → list_any (λ z. z == y)
+            (map (Messages.index_of z) (filter (Messages.is_ordered_on z s) (map (Messages.message_of w) (filter (Receiver.is_new w) (ps ++ p ∷ qs))))) ≡ true
         one y m same iv iz shapes a g =
-            let e' : Messages.index_of v (Messages.message_of v p) ≡ y = same-is (Messages.index_of v (Messages.message_of v p)) y (sym (or-none (Messages.index_of v (Messages.message_of v p) == y)) ∙ g) in
-            let y' : Messages.index_of w (Messages.message_of w p) ≡ y = sym (iv (Messages.message_of v p) ∙ ap (Messages.index_of w) (ap (λ x. (x.slot p).message) first.1.shapes)) ∙ e' in
+            let e' : Messages.index_of v (Messages.message_of v p) ≡ y =
+            same-is (Messages.index_of v (Messages.message_of v p)) y (sym (or-none (Messages.index_of v (Messages.message_of v p) == y)) ∙ g) in
+            let y' : Messages.index_of w (Messages.message_of w p) ≡ y =
+            sym (iv (Messages.message_of v p) ∙ ap (Messages.index_of w) (ap (λ x. (x.slot p).message) first.1.shapes)) ∙ e' in
             ap (λ x. list_any (λ z. z == y) (map (index x) (filter (on x s) (map (Messages.message_of w) (filter (Receiver.is_new w) (ps ++ p ∷ qs)))))) shapes
-            ∙ ap (λ i. list_any (λ z. z == i) (map (Messages.index_of w) (filter (Messages.is_ordered_on w s) (map (Messages.message_of w) (filter (Receiver.is_new w) (ps ++ p ∷ qs)))))) (sym y')
-            ∙ a
+            ∙ ap (λ i. list_any (λ z. z == i) (map (Messages.index_of w)
+            (filter (Messages.is_ordered_on w s) (map (Messages.message_of w) (filter (Receiver.is_new w) (ps ++ p ∷ qs)))))) (sym y') ∙ a
 
 pub skips_come_valid : OnEveryRun SkipsComeValid
 skips_come_valid setup h is run k upto names ok e counts s opens = (
   span-open w s names (ap (Receiver.spans_fit w) (sym adds) ∙ two.0) opens,
-  subst (λ x. IsSpan v s (map (index x) (filter (on x s) names))) (Network.same-received w (Some (Forward upto names))).shape_is (span-open v s names (ap (Receiver.spans_fit v) (sym adds) ∙ two.1) still-open),
+  subst (λ x. IsSpan v s (map (index x) (filter (on x s) names)))
+      (Network.same-received w (Some (Forward upto names))).shape_is (span-open v s names (ap (Receiver.spans_fit v) (sym adds) ∙ two.1) still-open),
 )
   where
     w : LinkRecord
@@ -449,7 +530,8 @@ skips_come_valid setup h is run k upto names ok e counts s opens = (
     v : LinkRecord
     v = Changes.after_arrive w (Some (Forward upto names))
 
-    two : (Receiver.spans_fit w (adds_to_span w (Some (Forward upto names))) ≡ true) × (Receiver.spans_fit v (adds_to_span w (Some (Forward upto names))) ≡ true)
+    two : (Receiver.spans_fit w (adds_to_span w (Some (Forward upto names))) ≡ true)
+        × (Receiver.spans_fit v (adds_to_span w (Some (Forward upto names))) ≡ true)
     two = fits-after w k (Forward upto names) ok e
 
     counted : Changes.skip_counts w upto ≡ true

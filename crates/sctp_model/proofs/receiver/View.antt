@@ -28,7 +28,14 @@ pub record View : Type 0 where
   pub skipped : ℕ
 
 abbrev pub view : LinkRecord → View
-view w = record { x = shape w; arrived = arrived_at w; read = λ n. (Messages.message_at w n).read; named = λ s. (stream_of w s).named; complete = λ s. (stream_of w s).complete; skipped = w.skipped }
+view w = record {
+  x = shape w;
+  arrived = arrived_at w;
+  read = λ n. (Messages.message_at w n).read;
+  named = λ s. (stream_of w s).named;
+  complete = λ s. (stream_of w s).complete;
+  skipped = w.skipped;
+}
 
 -- ## The words of the record
 
@@ -88,25 +95,29 @@ Changed f None = None
 Changed f (Some r) = Some (f r)
 
 -- what a change of each stream makes of the record found
-pub find-mapped : (f : StreamRecord → StreamRecord) → ((r : StreamRecord) → (f r).stream ≡ r.stream) → (t : ℕ) (rs : List StreamRecord) → find (λ r. r.stream == t) (map f rs) ≡ (Changed f (find (λ r. r.stream == t) rs))
+pub find-mapped : (f : StreamRecord → StreamRecord) → ((r : StreamRecord) → (f r).stream ≡ r.stream) → (t : ℕ) (rs : List StreamRecord)
+    → find (λ r. r.stream == t) (map f rs) ≡ (Changed f (find (λ r. r.stream == t) rs))
 find-mapped f keeps t [] = refl
 find-mapped f keeps t (r ∷ rs) = step ((f r).stream == t) (r.stream == t) (ap (λ a. a == t) (keeps r)) (find-mapped f keeps t rs)
   where
-    step : (a b : Bool) → a ≡ b → find (λ r. r.stream == t) (map f rs) ≡ Changed f (find (λ r. r.stream == t) rs) → (if a then Some (f r) else find (λ r. r.stream == t) (map f rs)) ≡ Changed f (if b then Some r else find (λ r. r.stream == t) rs)
+    step : (a b : Bool) → a ≡ b → find (λ r. r.stream == t) (map f rs) ≡ Changed f (find (λ r. r.stream == t) rs)
+        → (if a then Some (f r) else find (λ r. r.stream == t) (map f rs)) ≡ Changed f (if b then Some r else find (λ r. r.stream == t) rs)
     step true true e ih = refl
     step false false e ih = ih
     step true false e ih = cc
     step false true e ih = cc
 
 -- a field of the record of a stream, where the change leaves it
-pub field-kept : {A : Type 0} (g : StreamRecord → A) (f : StreamRecord → StreamRecord) → ((r : StreamRecord) → (f r).stream ≡ r.stream) → ((r : StreamRecord) → g (f r) ≡ g r) → (w : LinkRecord) (t : ℕ) → g (stream_of (record w { streams = map f w.streams }) t) ≡ g (stream_of w t)
+pub field-kept : {A : Type 0} (g : StreamRecord → A) (f : StreamRecord → StreamRecord) → ((r : StreamRecord) → (f r).stream ≡ r.stream)
+    → ((r : StreamRecord) → g (f r) ≡ g r) → (w : LinkRecord) (t : ℕ) → g (stream_of (record w { streams = map f w.streams }) t) ≡ g (stream_of w t)
 field-kept {A} g f keeps same w t = ap (λ o. g (unwrap_or o (no_stream t))) (find-mapped f keeps t w.streams) ∙ by (stream_at w t)
   where
     by : (o : Option StreamRecord) → g (unwrap_or (Changed f o) (no_stream t)) ≡ g (unwrap_or o (no_stream t))
     by None = refl
     by (Some r) = same r
 
-pub find-more : (s t : ℕ) (rs : List StreamRecord) → is_some (find (λ r. r.stream == s) rs) ≡ false → unwrap_or (find (λ r. r.stream == t) (rs ++ no_stream s ∷ [])) (no_stream t) ≡ unwrap_or (find (λ r. r.stream == t) rs) (no_stream t)
+pub find-more : (s t : ℕ) (rs : List StreamRecord) → is_some (find (λ r. r.stream == s) rs) ≡ false
+    → unwrap_or (find (λ r. r.stream == t) (rs ++ no_stream s ∷ [])) (no_stream t) ≡ unwrap_or (find (λ r. r.stream == t) rs) (no_stream t)
 find-more s t [] e = step (s == t) refl
   where
     step : (b : Bool) → (s == t) ≡ b → unwrap_or (if b then Some (no_stream s) else None) (no_stream t) ≡ no_stream t
@@ -114,7 +125,10 @@ find-more s t [] e = step (s == t) refl
     step false e = refl
 find-more s t (r ∷ rs) e = step (r.stream == s) e (λ h. find-more s t rs h) (r.stream == t)
   where
-    step : (a : Bool) → is_some (if a then Some r else find (λ r. r.stream == s) rs) ≡ false → (is_some (find (λ r. r.stream == s) rs) ≡ false → unwrap_or (find (λ r. r.stream == t) (rs ++ no_stream s ∷ [])) (no_stream t) ≡ unwrap_or (find (λ r. r.stream == t) rs) (no_stream t)) → (b : Bool) → unwrap_or (if b then Some r else find (λ r. r.stream == t) (rs ++ no_stream s ∷ [])) (no_stream t) ≡ unwrap_or (if b then Some r else find (λ r. r.stream == t) rs) (no_stream t)
+    step : (a : Bool) → is_some (if a then Some r else find (λ r. r.stream == s) rs) ≡ false → (is_some (find (λ r. r.stream == s) rs) ≡ false
+        → unwrap_or (find (λ r. r.stream == t) (rs ++ no_stream s ∷ [])) (no_stream t) ≡ unwrap_or (find (λ r. r.stream == t) rs) (no_stream t)) → (b : Bool)
+        → unwrap_or (if b then Some r else find (λ r. r.stream == t) (rs ++ no_stream s ∷ []))
+        (no_stream t) ≡ unwrap_or (if b then Some r else find (λ r. r.stream == t) rs) (no_stream t)
     step true h ih b = cc
     step false h ih true = refl
     step false h ih false = ih h
@@ -124,22 +138,27 @@ find-more s t (r ∷ rs) e = step (r.stream == s) e (λ h. find-more s t rs h) (
 abbrev view_by : Shape → (ℕ → Bool) → (ℕ → Bool) → (ℕ → ℕ) → (ℕ → List ℕ) → ℕ → View
 view_by x arrived read named complete skipped = record { x = x; arrived = arrived; read = read; named = named; complete = complete; skipped = skipped }
 
-view-streams : (w : LinkRecord) (rs : List StreamRecord) (named : ℕ → ℕ) (complete : ℕ → List ℕ) → ((t : ℕ) → (stream_of (record w { streams = rs }) t).named ≡ named t) → ((t : ℕ) → (stream_of (record w { streams = rs }) t).complete ≡ complete t) → view (record w { streams = rs }) ≡ record (view w) { named = named; complete = complete }
+view-streams : (w : LinkRecord) (rs : List StreamRecord) (named : ℕ → ℕ) (complete : ℕ → List ℕ)
+    → ((t : ℕ) → (stream_of (record w { streams = rs }) t).named ≡ named t) → ((t : ℕ) → (stream_of (record w { streams = rs }) t).complete ≡ complete t)
+    → view (record w { streams = rs }) ≡ record (view w) { named = named; complete = complete }
 view-streams w rs named complete a b =
     ap (λ f. view_by (shape w) (arrived_at w) (view w).read f (λ t. (stream_of (record w { streams = rs }) t).complete) w.skipped) (fun_ext a)
     ∙ ap (λ f. view_by (shape w) (arrived_at w) (view w).read named f w.skipped) (fun_ext b)
 
 pub view-opened : (w : LinkRecord) (s : ℕ) → Messages.is_open w s ≡ false → view (Changes.after_open w s) ≡ view w
-view-opened w s e = view-streams w (w.streams ++ no_stream s ∷ []) (view w).named (view w).complete (λ t. ap (λ r. r.named) (find-more s t w.streams e)) (λ t. ap (λ r. r.complete) (find-more s t w.streams e))
+view-opened w s e = view-streams w (w.streams ++ no_stream s ∷ []) (view w).named (view w).complete (λ t. ap (λ r. r.named) (find-more s t w.streams e))
+    (λ t. ap (λ r. r.complete) (find-more s t w.streams e))
 
-pub either-keeps : {A : Type 0} (g : StreamRecord → A) (f : StreamRecord → StreamRecord) → ((r : StreamRecord) → g (f r) ≡ g r) → (s : ℕ) (r : StreamRecord) → g (if r.stream == s then f r else r) ≡ g r
+pub either-keeps : {A : Type 0} (g : StreamRecord → A) (f : StreamRecord → StreamRecord) → ((r : StreamRecord) → g (f r) ≡ g r) → (s : ℕ) (r : StreamRecord)
+    → g (if r.stream == s then f r else r) ≡ g r
 either-keeps g f same s r = step (r.stream == s)
   where
     step : (b : Bool) → g (if b then f r else r) ≡ g r
     step true = same r
     step false = refl
 
-pub view-moded : (w : LinkRecord) (s : ℕ) (unordered : Bool) (reliability : ReliabilityType) (value : ℕ) → view (Changes.after_mode w s unordered reliability value) ≡ view w
+pub view-moded : (w : LinkRecord) (s : ℕ) (unordered : Bool) (reliability : ReliabilityType) (value : ℕ)
+    → view (Changes.after_mode w s unordered reliability value) ≡ view w
 view-moded w s u r n =
     let f = Changes.with_mode u r n in
     let g : StreamRecord → StreamRecord = λ r. if r.stream == s then f r else r in
@@ -149,8 +168,9 @@ view-moded w s u r n =
 
 pub view-taken : (w : LinkRecord) (r : Report) → view (Changes.after_acked w (Some (Sack r))) ≡ view w
 view-taken w r =
-    ap (λ y. view_by y (arrived_at (Changes.after_acked w (Some (Sack r)))) (view w).read (view w).named (view w).complete w.skipped) (Shapes.shape-acknowledged w r (max w.taken r.cumulative))
-    ∙ ap (λ f. view_by (shape w) f (view w).read (view w).named (view w).complete w.skipped) (fun_ext (λ p. get-numbered (Changes.acknowledged_by r) (λ x. x.arrived) (λ i x. refl) 0 p w.slots no_slot))
+    ap (λ y. view_by y (arrived_at (Changes.after_acked w (Some (Sack r)))) (view w).read (view w).named (view w).complete w.skipped)
+    (Shapes.shape-acknowledged w r (max w.taken r.cumulative)) ∙ ap (λ f. view_by (shape w) f (view w).read (view w).named (view w).complete w.skipped)
+    (fun_ext (λ p. get-numbered (Changes.acknowledged_by r) (λ x. x.arrived) (λ i x. refl) 0 p w.slots no_slot))
 
 pub view-arrived : (w : LinkRecord) (p : ℕ) → p < length w.slots → view (with_arrived w p) ≡ arrived_in (view w) p
 view-arrived w p lt =
@@ -159,11 +179,14 @@ view-arrived w p lt =
   where
     same : (k : ℕ) → arrived_at (with_arrived w p) k ≡ (if k == p then true else arrived_at w k)
     same k = by_same {P = arrived_at (with_arrived w p) k ≡ (if k == p then true else arrived_at w k)} k p
-        (λ e. ap (arrived_at (with_arrived w p)) e ∙ ap (λ x. x.arrived) (changed-same Changes.mark_arrived p w.slots no_slot lt) ∙ sym (ap (λ b. if b then true else arrived_at w k) (ap (λ j. j == p) e ∙ same-yes p)))
+        (λ e. ap (arrived_at (with_arrived w p)) e ∙ ap (λ x. x.arrived) (changed-same Changes.mark_arrived p w.slots no_slot lt)
+        ∙ sym (ap (λ b. if b then true else arrived_at w k) (ap (λ j. j == p) e ∙ same-yes p)))
         (λ ne f. ap (λ x. x.arrived) (changed-other Changes.mark_arrived p k w.slots no_slot ne) ∙ sym (ap (λ b. if b then true else arrived_at w k) f))
 
 -- a change of one stream that is open
-pub field-changed : {A : Type 0} (g : StreamRecord → A) (h : A → A) (f : StreamRecord → StreamRecord) → ((r : StreamRecord) → (f r).stream ≡ r.stream) → ((r : StreamRecord) → g (f r) ≡ h (g r)) → (w : LinkRecord) (s t : ℕ) → Messages.is_open w s ≡ true → g (stream_of (Changes.stream_changed w s f) t) ≡ (if t == s then h (g (stream_of w t)) else g (stream_of w t))
+pub field-changed : {A : Type 0} (g : StreamRecord → A) (h : A → A) (f : StreamRecord → StreamRecord) → ((r : StreamRecord) → (f r).stream ≡ r.stream)
+    → ((r : StreamRecord) → g (f r) ≡ h (g r)) → (w : LinkRecord) (s t : ℕ) → Messages.is_open w s ≡ true
+    → g (stream_of (Changes.stream_changed w s f) t) ≡ (if t == s then h (g (stream_of w t)) else g (stream_of w t))
 field-changed {A} g h f keeps same w s t open' =
     ap (λ o. g (unwrap_or o (no_stream t))) (find-mapped c (either-keeps (λ r. r.stream) f keeps s) t w.streams) ∙ by (stream_at w t) refl
   where
@@ -178,7 +201,8 @@ field-changed {A} g h f keeps same w s t open' =
     none true e z = absurd (not_both (sym (ap is_some z) ∙ ap (Messages.is_open w) (same-is t s e) ∙ open'))
     none false e z = refl
 
-    by : (o : Option StreamRecord) → stream_at w t ≡ o → g (unwrap_or (Changed c o) (no_stream t)) ≡ (if t == s then h (g (unwrap_or o (no_stream t))) else g (unwrap_or o (no_stream t)))
+    by : (o : Option StreamRecord) → stream_at w t ≡ o
+        → g (unwrap_or (Changed c o) (no_stream t)) ≡ (if t == s then h (g (unwrap_or o (no_stream t))) else g (unwrap_or o (no_stream t)))
     by None e = none (t == s) refl e
     by (Some r) e = at r (found t w.streams r e) (t == s) refl
 
@@ -186,7 +210,8 @@ pub view-noted : (w : LinkRecord) (s n : ℕ) → Messages.is_open w s ≡ true 
 view-noted w s n o =
     let f = Changes.with_complete n in
     view-streams w (map (λ r. if r.stream == s then f r else r) w.streams) (view w).named (noted_in (view w) s n).complete
-    (λ t. field-kept (λ r. r.named) (λ r. if r.stream == s then f r else r) (either-keeps (λ r. r.stream) f (λ r. refl) s) (either-keeps (λ r. r.named) f (λ r. refl) s) w t)
+    (λ t. field-kept (λ r. r.named) (λ r. if r.stream == s then f r
+    else r) (either-keeps (λ r. r.stream) f (λ r. refl) s) (either-keeps (λ r. r.named) f (λ r. refl) s) w t)
     (λ t. field-changed (λ r. r.complete) (λ l. l ++ n ∷ []) f (λ r. refl) (λ r. refl) w s t o)
 
 pub view-read : (w : LinkRecord) (s n : ℕ) → Messages.is_open w s ≡ true → view (Changes.read_of w s (Some n)) ≡ read_in (view w) s n
@@ -194,18 +219,22 @@ view-read w s n o =
     let u = Changes.message_changed w n Changes.mark_read in
     let f = Changes.without_first in
     view-streams u (map (λ r. if r.stream == s then f r else r) w.streams) (view w).named (read_in (view w) s n).complete
-    (λ t. field-kept (λ r. r.named) (λ r. if r.stream == s then f r else r) (either-keeps (λ r. r.stream) f (λ r. refl) s) (either-keeps (λ r. r.named) f (λ r. refl) s) u t)
+    (λ t. field-kept (λ r. r.named) (λ r. if r.stream == s then f r
+    else r) (either-keeps (λ r. r.stream) f (λ r. refl) s) (either-keeps (λ r. r.named) f (λ r. refl) s) u t)
     (λ t. field-changed (λ r. r.complete) (λ l. drop 1 l) f (λ r. refl) (λ r. refl) u s t o)
     ∙ ap (λ y. view_by y (arrived_at w) (view u).read (view w).named (read_in (view w) s n).complete w.skipped) (Shapes.shape-read w n)
-    ∙ ap (λ g. view_by (shape w) (arrived_at w) g (view w).named (read_in (view w) s n).complete w.skipped) (fun_ext (λ k. get-changed Changes.mark_read (λ m. m.read) n k w.messages no_message refl))
+    ∙ ap (λ g. view_by (shape w) (arrived_at w) g (view w).named (read_in (view w) s n).complete w.skipped)
+    (fun_ext (λ k. get-changed Changes.mark_read (λ m. m.read) n k w.messages no_message refl))
 
 -- the messages that a skip names are of open streams
-pub view-skipped : (w : LinkRecord) (upto : ℕ) (names : List ℕ) → ((t : ℕ) → Messages.is_open w t ≡ false → filter (on (shape w) t) names ≡ []) → view (record w { skipped = upto + 1; streams = map (Changes.named_by w names) w.streams }) ≡ skipped_in (view w) upto names
+pub view-skipped : (w : LinkRecord) (upto : ℕ) (names : List ℕ) → ((t : ℕ) → Messages.is_open w t ≡ false → filter (on (shape w) t) names ≡ [])
+    → view (record w { skipped = upto + 1; streams = map (Changes.named_by w names) w.streams }) ≡ skipped_in (view w) upto names
 view-skipped w upto names known =
     view-streams (record w { skipped = upto + 1 }) (map (Changes.named_by w names) w.streams) (named_more (view w) names) (view w).complete
     (λ t. ap (λ o. (unwrap_or o (no_stream t)).named) (find-mapped (Changes.named_by w names) (λ r. refl) t w.streams) ∙ by t (stream_at w t) refl)
     (λ t. field-kept (λ r. r.complete) (Changes.named_by w names) (λ r. refl) (λ r. refl) w t)
   where
-    by : (t : ℕ) (o : Option StreamRecord) → stream_at w t ≡ o → (unwrap_or (Changed (Changes.named_by w names) o) (no_stream t)).named ≡ greatest (unwrap_or o (no_stream t)).named (map (λ n. index (shape w) n + 1) (filter (on (shape w) t) names))
+    by : (t : ℕ) (o : Option StreamRecord) → stream_at w t ≡ o → (unwrap_or (Changed (Changes.named_by w names) o) (no_stream t)).named
+        ≡ greatest (unwrap_or o (no_stream t)).named (map (λ n. index (shape w) n + 1) (filter (on (shape w) t) names))
     by t None e = sym (ap (λ l. greatest 0 (map (λ n. index (shape w) n + 1) l)) (known t (ap is_some e)))
     by t (Some r) e = ap (λ s. greatest r.named (map (λ n. index (shape w) n + 1) (filter (on (shape w) s) names))) (found t w.streams r e)

@@ -8,7 +8,8 @@ use Rattle.sctp_model.specs.declared.event.LinkRefusal.TheVariants as F
 use Rattle.sctp_model.specs.LinkRecord.{LinkRecord, start}
 use Rattle.sctp_model.specs.Amounts.{ledger}
 use Rattle.sctp_model.specs.Contents.{DataContents, ForwardContents, SackContents}
-use Rattle.sctp_model.proofs.scripts.Play.{chunk, Handed, Asked, Ask, AskSkip, Refused, Replied, play, played, contents, streams_shown, queues_shown, reassembly_shown}
+use Rattle.sctp_model.proofs.scripts.Play.{chunk, Handed, Asked, Ask, AskSkip, Refused, Replied, play, played, contents, streams_shown, queues_shown}
+use Rattle.sctp_model.proofs.scripts.Play.{reassembly_shown}
 
 -- long script
 abbrev start_long_script : LinkRecord
@@ -190,12 +191,14 @@ answers_long_script_with_limit : play start_long_script_with_limit events_long_s
     []
 answers_long_script_with_limit = refl
 
-ledger_long_script_with_limit : ledger (played start_long_script_with_limit events_long_script_with_limit) ≡ record { written = 13; pending = 0; in_flight = 5; released = 8 }
+ledger_long_script_with_limit : ledger (played start_long_script_with_limit events_long_script_with_limit)
+    ≡ record { written = 13; pending = 0; in_flight = 5; released = 8 }
 ledger_long_script_with_limit = refl
 
 contents_long_script_with_limit : contents (played start_long_script_with_limit events_long_script_with_limit) ≡
     DataContents (chunk 4294967290 1 1 P.String (120 ∷ 120 ∷ 120 ∷ []) true false true ∷ chunk 4294967291 1 1 P.String (121 ∷ 121 ∷ []) false true true ∷ []) ∷
-    DataContents (chunk 4294967292 1 0 P.Binary (97 ∷ 98 ∷ 99 ∷ []) true false false ∷ chunk 4294967293 1 0 P.Binary (100 ∷ 101 ∷ 102 ∷ []) false true false ∷ []) ∷
+    DataContents
+    (chunk 4294967292 1 0 P.Binary (97 ∷ 98 ∷ 99 ∷ []) true false false ∷ chunk 4294967293 1 0 P.Binary (100 ∷ 101 ∷ 102 ∷ []) false true false ∷ []) ∷
     DataContents (chunk 4294967290 1 1 P.String (120 ∷ 120 ∷ 120 ∷ []) true false true ∷ []) ∷
     SackContents 4294967293 0 ([]) ([]) ∷
     DataContents (chunk 4294967294 1 1 P.Binary (98 ∷ []) true true false ∷ []) ∷
@@ -209,7 +212,13 @@ streams_long_script_with_limit : streams_shown (played start_long_script_with_li
     []
 streams_long_script_with_limit = refl
 
-queues_long_script_with_limit : queues_shown (played start_long_script_with_limit events_long_script_with_limit) ≡ (([]), ([]), ((4294967290, (120 ∷ 120 ∷ 120 ∷ [])) ∷ (4294967291, (121 ∷ 121 ∷ [])) ∷ (4294967292, ([])) ∷ (4294967293, ([])) ∷ (4294967294, ([])) ∷ []), ([]), ([]))
+queues_long_script_with_limit : queues_shown (played start_long_script_with_limit events_long_script_with_limit) ≡ (
+  ([]),
+  ([]),
+  ((4294967290, (120 ∷ 120 ∷ 120 ∷ [])) ∷ (4294967291, (121 ∷ 121 ∷ [])) ∷ (4294967292, ([])) ∷ (4294967293, ([])) ∷ (4294967294, ([])) ∷ []),
+  ([]),
+  ([]),
+)
 queues_long_script_with_limit = refl
 
 reassembly_long_script_with_limit : reassembly_shown (played start_long_script_with_limit events_long_script_with_limit) ≡

@@ -65,7 +65,8 @@ answer_to w (AskSkip upto messages) = answer (Steps.skip_refusal w (Messages.pla
 
 abbrev pub next : LinkRecord → Asked → LinkRecord
 next w (Ask e) = moved (Steps.refusal_of w e) w (Steps.after w e)
-next w (AskSkip upto messages) = moved (Steps.skip_refusal w (Messages.place_of w upto) messages) w (Changes.with_datagram w (Forward (Messages.place_of w upto) messages))
+next w (AskSkip upto messages) =
+    moved (Steps.skip_refusal w (Messages.place_of w upto) messages) w (Changes.with_datagram w (Forward (Messages.place_of w upto) messages))
 
 abbrev pub play : LinkRecord → List Asked → List Answer
 play w [] = []
@@ -125,8 +126,13 @@ abbrev pub flight_shown : InFlightChunk → ℕ × List ℕ
 flight_shown c = (c.tsn, c.payload)
 
 abbrev pub queues_shown : LinkRecord → List (ℕ × List ℕ) × List (ℕ × List ℕ) × List (ℕ × List ℕ) × List ℕ × List ℕ
-queues_shown w =
-    (map pending_shown (pending_of w).ordered, map pending_shown (pending_of w).unordered, map flight_shown (in_flight_of w), (filter_of w).held, (filter_of w).duplicates)
+queues_shown w = (
+  map pending_shown (pending_of w).ordered,
+  map pending_shown (pending_of w).unordered,
+  map flight_shown (in_flight_of w),
+  (filter_of w).held,
+  (filter_of w).duplicates,
+)
 
 abbrev pub tsn_shown : ChunkPayloadData → ℕ
 tsn_shown c = c.tsn
@@ -135,8 +141,12 @@ abbrev pub set_shown : ChunkSet → List ℕ
 set_shown x = map tsn_shown x.chunks
 
 abbrev pub stream_reassembly : LinkRecord → StreamRecord → ℕ × List (List ℕ) × List (List ℕ) × List ℕ
-stream_reassembly w r =
-    ((reassembly_of w r.stream).next_ssn, map set_shown (reassembly_of w r.stream).ordered, map set_shown (reassembly_of w r.stream).unordered, map tsn_shown (reassembly_of w r.stream).unassembled)
+stream_reassembly w r = (
+  (reassembly_of w r.stream).next_ssn,
+  map set_shown (reassembly_of w r.stream).ordered,
+  map set_shown (reassembly_of w r.stream).unordered,
+  map tsn_shown (reassembly_of w r.stream).unassembled,
+)
 
 abbrev pub reassembly_shown : LinkRecord → List (ℕ × List (List ℕ) × List (List ℕ) × List ℕ)
 reassembly_shown w = map (stream_reassembly w) w.streams

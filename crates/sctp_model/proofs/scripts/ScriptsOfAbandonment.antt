@@ -38,7 +38,8 @@ answers_abandonment_after_acknowledgement : play start_abandonment_after_acknowl
     []
 answers_abandonment_after_acknowledgement = refl
 
-ledger_abandonment_after_acknowledgement : ledger (played start_abandonment_after_acknowledgement events_abandonment_after_acknowledgement) ≡ record { written = 6; pending = 0; in_flight = 0; released = 6 }
+ledger_abandonment_after_acknowledgement : ledger (played start_abandonment_after_acknowledgement events_abandonment_after_acknowledgement)
+    ≡ record { written = 6; pending = 0; in_flight = 0; released = 6 }
 ledger_abandonment_after_acknowledgement = refl
 
 contents_abandonment_after_acknowledgement : contents (played start_abandonment_after_acknowledgement events_abandonment_after_acknowledgement) ≡
@@ -53,7 +54,8 @@ streams_abandonment_after_acknowledgement : streams_shown (played start_abandonm
     []
 streams_abandonment_after_acknowledgement = refl
 
-queues_abandonment_after_acknowledgement : queues_shown (played start_abandonment_after_acknowledgement events_abandonment_after_acknowledgement) ≡ (([]), ([]), ((10, ([])) ∷ (11, ([])) ∷ []), (11 ∷ []), ([]))
+queues_abandonment_after_acknowledgement : queues_shown (played start_abandonment_after_acknowledgement events_abandonment_after_acknowledgement)
+    ≡ (([]), ([]), ((10, ([])) ∷ (11, ([])) ∷ []), (11 ∷ []), ([]))
 queues_abandonment_after_acknowledgement = refl
 
 reassembly_abandonment_after_acknowledgement : reassembly_shown (played start_abandonment_after_acknowledgement events_abandonment_after_acknowledgement) ≡
@@ -89,7 +91,8 @@ answers_terminal_chunk_after_abandonment : play start_terminal_chunk_after_aband
     []
 answers_terminal_chunk_after_abandonment = refl
 
-ledger_terminal_chunk_after_abandonment : ledger (played start_terminal_chunk_after_abandonment events_terminal_chunk_after_abandonment) ≡ record { written = 8; pending = 0; in_flight = 1; released = 7 }
+ledger_terminal_chunk_after_abandonment : ledger (played start_terminal_chunk_after_abandonment events_terminal_chunk_after_abandonment)
+    ≡ record { written = 8; pending = 0; in_flight = 1; released = 7 }
 ledger_terminal_chunk_after_abandonment = refl
 
 contents_terminal_chunk_after_abandonment : contents (played start_terminal_chunk_after_abandonment events_terminal_chunk_after_abandonment) ≡
@@ -103,7 +106,8 @@ streams_terminal_chunk_after_abandonment : streams_shown (played start_terminal_
     []
 streams_terminal_chunk_after_abandonment = refl
 
-queues_terminal_chunk_after_abandonment : queues_shown (played start_terminal_chunk_after_abandonment events_terminal_chunk_after_abandonment) ≡ (([]), ([]), ((10, ([])) ∷ (11, ([])) ∷ (12, (120 ∷ [])) ∷ []), ([]), ([]))
+queues_terminal_chunk_after_abandonment : queues_shown (played start_terminal_chunk_after_abandonment events_terminal_chunk_after_abandonment)
+    ≡ (([]), ([]), ((10, ([])) ∷ (11, ([])) ∷ (12, (120 ∷ [])) ∷ []), ([]), ([]))
 queues_terminal_chunk_after_abandonment = refl
 
 reassembly_terminal_chunk_after_abandonment : reassembly_shown (played start_terminal_chunk_after_abandonment events_terminal_chunk_after_abandonment) ≡
@@ -135,7 +139,8 @@ answers_no_terminal_chunk_where_all_was_sent : play start_no_terminal_chunk_wher
     []
 answers_no_terminal_chunk_where_all_was_sent = refl
 
-ledger_no_terminal_chunk_where_all_was_sent : ledger (played start_no_terminal_chunk_where_all_was_sent events_no_terminal_chunk_where_all_was_sent) ≡ record { written = 4; pending = 0; in_flight = 1; released = 3 }
+ledger_no_terminal_chunk_where_all_was_sent : ledger (played start_no_terminal_chunk_where_all_was_sent events_no_terminal_chunk_where_all_was_sent)
+    ≡ record { written = 4; pending = 0; in_flight = 1; released = 3 }
 ledger_no_terminal_chunk_where_all_was_sent = refl
 
 contents_no_terminal_chunk_where_all_was_sent : contents (played start_no_terminal_chunk_where_all_was_sent events_no_terminal_chunk_where_all_was_sent) ≡
@@ -149,10 +154,12 @@ streams_no_terminal_chunk_where_all_was_sent : streams_shown (played start_no_te
     []
 streams_no_terminal_chunk_where_all_was_sent = refl
 
-queues_no_terminal_chunk_where_all_was_sent : queues_shown (played start_no_terminal_chunk_where_all_was_sent events_no_terminal_chunk_where_all_was_sent) ≡ (([]), ([]), ((10, ([])) ∷ (11, (98 ∷ [])) ∷ []), ([]), ([]))
+queues_no_terminal_chunk_where_all_was_sent : queues_shown (played start_no_terminal_chunk_where_all_was_sent events_no_terminal_chunk_where_all_was_sent)
+    ≡ (([]), ([]), ((10, ([])) ∷ (11, (98 ∷ [])) ∷ []), ([]), ([]))
 queues_no_terminal_chunk_where_all_was_sent = refl
 
-reassembly_no_terminal_chunk_where_all_was_sent : reassembly_shown (played start_no_terminal_chunk_where_all_was_sent events_no_terminal_chunk_where_all_was_sent) ≡
+reassembly_no_terminal_chunk_where_all_was_sent : reassembly_shown
+    (played start_no_terminal_chunk_where_all_was_sent events_no_terminal_chunk_where_all_was_sent) ≡
     (0, ([]), ([]), ([])) ∷
     []
 reassembly_no_terminal_chunk_where_all_was_sent = refl
@@ -181,7 +188,8 @@ answers_no_resend_of_an_abandoned_chunk : play start_no_resend_of_an_abandoned_c
     []
 answers_no_resend_of_an_abandoned_chunk = refl
 
-ledger_no_resend_of_an_abandoned_chunk : ledger (played start_no_resend_of_an_abandoned_chunk events_no_resend_of_an_abandoned_chunk) ≡ record { written = 7; pending = 0; in_flight = 0; released = 7 }
+ledger_no_resend_of_an_abandoned_chunk : ledger (played start_no_resend_of_an_abandoned_chunk events_no_resend_of_an_abandoned_chunk)
+    ≡ record { written = 7; pending = 0; in_flight = 0; released = 7 }
 ledger_no_resend_of_an_abandoned_chunk = refl
 
 contents_no_resend_of_an_abandoned_chunk : contents (played start_no_resend_of_an_abandoned_chunk events_no_resend_of_an_abandoned_chunk) ≡
@@ -194,7 +202,8 @@ streams_no_resend_of_an_abandoned_chunk : streams_shown (played start_no_resend_
     []
 streams_no_resend_of_an_abandoned_chunk = refl
 
-queues_no_resend_of_an_abandoned_chunk : queues_shown (played start_no_resend_of_an_abandoned_chunk events_no_resend_of_an_abandoned_chunk) ≡ (([]), ([]), ((10, ([])) ∷ (11, ([])) ∷ []), ([]), ([]))
+queues_no_resend_of_an_abandoned_chunk : queues_shown (played start_no_resend_of_an_abandoned_chunk events_no_resend_of_an_abandoned_chunk)
+    ≡ (([]), ([]), ((10, ([])) ∷ (11, ([])) ∷ []), ([]), ([]))
 queues_no_resend_of_an_abandoned_chunk = refl
 
 reassembly_no_resend_of_an_abandoned_chunk : reassembly_shown (played start_no_resend_of_an_abandoned_chunk events_no_resend_of_an_abandoned_chunk) ≡
@@ -230,7 +239,8 @@ answers_tail_after_acknowledgement : play start_tail_after_acknowledgement event
     []
 answers_tail_after_acknowledgement = refl
 
-ledger_tail_after_acknowledgement : ledger (played start_tail_after_acknowledgement events_tail_after_acknowledgement) ≡ record { written = 7; pending = 0; in_flight = 0; released = 7 }
+ledger_tail_after_acknowledgement : ledger (played start_tail_after_acknowledgement events_tail_after_acknowledgement)
+    ≡ record { written = 7; pending = 0; in_flight = 0; released = 7 }
 ledger_tail_after_acknowledgement = refl
 
 contents_tail_after_acknowledgement : contents (played start_tail_after_acknowledgement events_tail_after_acknowledgement) ≡
@@ -244,7 +254,8 @@ streams_tail_after_acknowledgement : streams_shown (played start_tail_after_ackn
     []
 streams_tail_after_acknowledgement = refl
 
-queues_tail_after_acknowledgement : queues_shown (played start_tail_after_acknowledgement events_tail_after_acknowledgement) ≡ (([]), ([]), ((11, ([])) ∷ []), ([]), ([]))
+queues_tail_after_acknowledgement : queues_shown (played start_tail_after_acknowledgement events_tail_after_acknowledgement)
+    ≡ (([]), ([]), ((11, ([])) ∷ []), ([]), ([]))
 queues_tail_after_acknowledgement = refl
 
 reassembly_tail_after_acknowledgement : reassembly_shown (played start_tail_after_acknowledgement events_tail_after_acknowledgement) ≡

@@ -53,7 +53,8 @@ answers_acknowledgement_and_resend : play start_acknowledgement_and_resend event
     []
 answers_acknowledgement_and_resend = refl
 
-ledger_acknowledgement_and_resend : ledger (played start_acknowledgement_and_resend events_acknowledgement_and_resend) ≡ record { written = 7; pending = 0; in_flight = 3; released = 4 }
+ledger_acknowledgement_and_resend : ledger (played start_acknowledgement_and_resend events_acknowledgement_and_resend)
+    ≡ record { written = 7; pending = 0; in_flight = 3; released = 4 }
 ledger_acknowledgement_and_resend = refl
 
 contents_acknowledgement_and_resend : contents (played start_acknowledgement_and_resend events_acknowledgement_and_resend) ≡
@@ -70,7 +71,8 @@ streams_acknowledgement_and_resend : streams_shown (played start_acknowledgement
     []
 streams_acknowledgement_and_resend = refl
 
-queues_acknowledgement_and_resend : queues_shown (played start_acknowledgement_and_resend events_acknowledgement_and_resend) ≡ (([]), ([]), ((11, (100 ∷ 101 ∷ 102 ∷ [])) ∷ (12, ([])) ∷ []), ([]), ([]))
+queues_acknowledgement_and_resend : queues_shown (played start_acknowledgement_and_resend events_acknowledgement_and_resend)
+    ≡ (([]), ([]), ((11, (100 ∷ 101 ∷ 102 ∷ [])) ∷ (12, ([])) ∷ []), ([]), ([]))
 queues_acknowledgement_and_resend = refl
 
 reassembly_acknowledgement_and_resend : reassembly_shown (played start_acknowledgement_and_resend events_acknowledgement_and_resend) ≡
@@ -108,7 +110,8 @@ answers_duplicate_and_credit : play start_duplicate_and_credit events_duplicate_
     []
 answers_duplicate_and_credit = refl
 
-ledger_duplicate_and_credit : ledger (played start_duplicate_and_credit events_duplicate_and_credit) ≡ record { written = 7; pending = 0; in_flight = 7; released = 0 }
+ledger_duplicate_and_credit : ledger (played start_duplicate_and_credit events_duplicate_and_credit)
+    ≡ record { written = 7; pending = 0; in_flight = 7; released = 0 }
 ledger_duplicate_and_credit = refl
 
 contents_duplicate_and_credit : contents (played start_duplicate_and_credit events_duplicate_and_credit) ≡
@@ -124,7 +127,8 @@ streams_duplicate_and_credit : streams_shown (played start_duplicate_and_credit 
     []
 streams_duplicate_and_credit = refl
 
-queues_duplicate_and_credit : queues_shown (played start_duplicate_and_credit events_duplicate_and_credit) ≡ (([]), ([]), ((4294967294, (97 ∷ 98 ∷ 99 ∷ [])) ∷ (4294967295, (100 ∷ 101 ∷ 102 ∷ [])) ∷ (0, (103 ∷ [])) ∷ []), ([]), ([]))
+queues_duplicate_and_credit : queues_shown (played start_duplicate_and_credit events_duplicate_and_credit)
+    ≡ (([]), ([]), ((4294967294, (97 ∷ 98 ∷ 99 ∷ [])) ∷ (4294967295, (100 ∷ 101 ∷ 102 ∷ [])) ∷ (0, (103 ∷ [])) ∷ []), ([]), ([]))
 queues_duplicate_and_credit = refl
 
 reassembly_duplicate_and_credit : reassembly_shown (played start_duplicate_and_credit events_duplicate_and_credit) ≡
@@ -168,7 +172,8 @@ answers_fragments_past_the_last_tsn : play start_fragments_past_the_last_tsn eve
     []
 answers_fragments_past_the_last_tsn = refl
 
-ledger_fragments_past_the_last_tsn : ledger (played start_fragments_past_the_last_tsn events_fragments_past_the_last_tsn) ≡ record { written = 7; pending = 0; in_flight = 7; released = 0 }
+ledger_fragments_past_the_last_tsn : ledger (played start_fragments_past_the_last_tsn events_fragments_past_the_last_tsn)
+    ≡ record { written = 7; pending = 0; in_flight = 7; released = 0 }
 ledger_fragments_past_the_last_tsn = refl
 
 contents_fragments_past_the_last_tsn : contents (played start_fragments_past_the_last_tsn events_fragments_past_the_last_tsn) ≡
@@ -183,7 +188,8 @@ streams_fragments_past_the_last_tsn : streams_shown (played start_fragments_past
     []
 streams_fragments_past_the_last_tsn = refl
 
-queues_fragments_past_the_last_tsn : queues_shown (played start_fragments_past_the_last_tsn events_fragments_past_the_last_tsn) ≡ (([]), ([]), ((4294967294, (97 ∷ 98 ∷ 99 ∷ [])) ∷ (4294967295, (100 ∷ 101 ∷ 102 ∷ [])) ∷ (0, (103 ∷ [])) ∷ []), ([]), ([]))
+queues_fragments_past_the_last_tsn : queues_shown (played start_fragments_past_the_last_tsn events_fragments_past_the_last_tsn)
+    ≡ (([]), ([]), ((4294967294, (97 ∷ 98 ∷ 99 ∷ [])) ∷ (4294967295, (100 ∷ 101 ∷ 102 ∷ [])) ∷ (0, (103 ∷ [])) ∷ []), ([]), ([]))
 queues_fragments_past_the_last_tsn = refl
 
 reassembly_fragments_past_the_last_tsn : reassembly_shown (played start_fragments_past_the_last_tsn events_fragments_past_the_last_tsn) ≡
@@ -221,7 +227,8 @@ answers_gap_block_past_the_last_tsn : play start_gap_block_past_the_last_tsn eve
     []
 answers_gap_block_past_the_last_tsn = refl
 
-ledger_gap_block_past_the_last_tsn : ledger (played start_gap_block_past_the_last_tsn events_gap_block_past_the_last_tsn) ≡ record { written = 7; pending = 0; in_flight = 7; released = 0 }
+ledger_gap_block_past_the_last_tsn : ledger (played start_gap_block_past_the_last_tsn events_gap_block_past_the_last_tsn)
+    ≡ record { written = 7; pending = 0; in_flight = 7; released = 0 }
 ledger_gap_block_past_the_last_tsn = refl
 
 contents_gap_block_past_the_last_tsn : contents (played start_gap_block_past_the_last_tsn events_gap_block_past_the_last_tsn) ≡
@@ -237,7 +244,8 @@ streams_gap_block_past_the_last_tsn : streams_shown (played start_gap_block_past
     []
 streams_gap_block_past_the_last_tsn = refl
 
-queues_gap_block_past_the_last_tsn : queues_shown (played start_gap_block_past_the_last_tsn events_gap_block_past_the_last_tsn) ≡ (([]), ([]), ((4294967294, (97 ∷ 98 ∷ 99 ∷ [])) ∷ (4294967295, (100 ∷ 101 ∷ 102 ∷ [])) ∷ (0, (103 ∷ [])) ∷ []), (0 ∷ []), ([]))
+queues_gap_block_past_the_last_tsn : queues_shown (played start_gap_block_past_the_last_tsn events_gap_block_past_the_last_tsn)
+    ≡ (([]), ([]), ((4294967294, (97 ∷ 98 ∷ 99 ∷ [])) ∷ (4294967295, (100 ∷ 101 ∷ 102 ∷ [])) ∷ (0, (103 ∷ [])) ∷ []), (0 ∷ []), ([]))
 queues_gap_block_past_the_last_tsn = refl
 
 reassembly_gap_block_past_the_last_tsn : reassembly_shown (played start_gap_block_past_the_last_tsn events_gap_block_past_the_last_tsn) ≡
@@ -295,7 +303,8 @@ answers_two_streams_out_of_order : play start_two_streams_out_of_order events_tw
     []
 answers_two_streams_out_of_order = refl
 
-ledger_two_streams_out_of_order : ledger (played start_two_streams_out_of_order events_two_streams_out_of_order) ≡ record { written = 6; pending = 0; in_flight = 6; released = 0 }
+ledger_two_streams_out_of_order : ledger (played start_two_streams_out_of_order events_two_streams_out_of_order)
+    ≡ record { written = 6; pending = 0; in_flight = 6; released = 0 }
 ledger_two_streams_out_of_order = refl
 
 contents_two_streams_out_of_order : contents (played start_two_streams_out_of_order events_two_streams_out_of_order) ≡
@@ -312,7 +321,8 @@ streams_two_streams_out_of_order : streams_shown (played start_two_streams_out_o
     []
 streams_two_streams_out_of_order = refl
 
-queues_two_streams_out_of_order : queues_shown (played start_two_streams_out_of_order events_two_streams_out_of_order) ≡ (([]), ([]), ((4294967295, (97 ∷ 98 ∷ [])) ∷ (0, (99 ∷ [])) ∷ (1, (100 ∷ 101 ∷ [])) ∷ (2, (102 ∷ [])) ∷ []), ([]), ([]))
+queues_two_streams_out_of_order : queues_shown (played start_two_streams_out_of_order events_two_streams_out_of_order)
+    ≡ (([]), ([]), ((4294967295, (97 ∷ 98 ∷ [])) ∷ (0, (99 ∷ [])) ∷ (1, (100 ∷ 101 ∷ [])) ∷ (2, (102 ∷ [])) ∷ []), ([]), ([]))
 queues_two_streams_out_of_order = refl
 
 reassembly_two_streams_out_of_order : reassembly_shown (played start_two_streams_out_of_order events_two_streams_out_of_order) ≡
@@ -359,7 +369,8 @@ answers_unordered_before_ordered : play start_unordered_before_ordered events_un
     []
 answers_unordered_before_ordered = refl
 
-ledger_unordered_before_ordered : ledger (played start_unordered_before_ordered events_unordered_before_ordered) ≡ record { written = 9; pending = 0; in_flight = 9; released = 0 }
+ledger_unordered_before_ordered : ledger (played start_unordered_before_ordered events_unordered_before_ordered)
+    ≡ record { written = 9; pending = 0; in_flight = 9; released = 0 }
 ledger_unordered_before_ordered = refl
 
 contents_unordered_before_ordered : contents (played start_unordered_before_ordered events_unordered_before_ordered) ≡
@@ -374,7 +385,8 @@ streams_unordered_before_ordered : streams_shown (played start_unordered_before_
     []
 streams_unordered_before_ordered = refl
 
-queues_unordered_before_ordered : queues_shown (played start_unordered_before_ordered events_unordered_before_ordered) ≡ (([]), ([]), ((10, (98 ∷ 98 ∷ 98 ∷ [])) ∷ (11, (99 ∷ 99 ∷ 99 ∷ [])) ∷ (12, (97 ∷ 97 ∷ 97 ∷ [])) ∷ []), ([]), ([]))
+queues_unordered_before_ordered : queues_shown (played start_unordered_before_ordered events_unordered_before_ordered)
+    ≡ (([]), ([]), ((10, (98 ∷ 98 ∷ 98 ∷ [])) ∷ (11, (99 ∷ 99 ∷ 99 ∷ [])) ∷ (12, (97 ∷ 97 ∷ 97 ∷ [])) ∷ []), ([]), ([]))
 queues_unordered_before_ordered = refl
 
 reassembly_unordered_before_ordered : reassembly_shown (played start_unordered_before_ordered events_unordered_before_ordered) ≡
@@ -393,6 +405,7 @@ events_set_of_an_unordered_message =
     Ask (E.Arrive 0) ∷
     []
 
-set_of_an_unordered_message : reply_to (played (start (record { first = 10; size = 3; largest = 100; limit = 0 })) events_set_of_an_unordered_message) (E.Read 1) ≡
+set_of_an_unordered_message : reply_to (played (start (record { first = 10; size = 3; largest = 100; limit = 0 })) events_set_of_an_unordered_message)
+    (E.Read 1) ≡
     R.Message 1 P.Binary (record { ssn = 0; ppi = P.Binary; chunks = chunk 10 1 1 P.Binary (98 ∷ []) true true true ∷ [] })
 set_of_an_unordered_message = refl

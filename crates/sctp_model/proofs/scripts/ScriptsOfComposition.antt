@@ -8,7 +8,8 @@ use Rattle.sctp_model.specs.declared.event.Event.TheVariants as E
 use Rattle.sctp_model.specs.LinkRecord.{Setup, LinkRecord}
 use Rattle.sctp_model.specs.Log.{LogEntry, SlotReceived, SkipReceived, Shown, modes_in, writes_on, started_in, log_of}
 use Rattle.sctp_model.specs.Steps.{History, record_of}
-use Rattle.sctp_model.specs.Laws.{IsReadWholly, arrivals_on, fragment_arrived, was_lost, has_loss_on, loses_nothing, ordered_run, complete_unordered, ordered_shown, unordered_shown}
+use Rattle.sctp_model.specs.Laws.{IsReadWholly, arrivals_on, fragment_arrived, was_lost, has_loss_on, loses_nothing, ordered_run, complete_unordered}
+use Rattle.sctp_model.specs.Laws.{ordered_shown, unordered_shown}
 use Rattle.sctp_model.proofs.scripts.Play.{told, told-run}
 use Rattle.sctp_model.proofs.Composed.{reads_are_settled}
 
@@ -17,7 +18,8 @@ use Rattle.sctp_model.proofs.Composed.{reads_are_settled}
 abbrev setup : Setup
 setup = record { first = 10; size = 3; largest = 100; limit = 0 }
 
--- stream 1: an ordered message of two fragments, an unordered one, an ordered one of which only the first fragment arrives, and one behind it; stream 2: a message that arrives
+-- stream 1: an ordered message of two fragments, an unordered one, an ordered one of which only the first fragment arrives, and one behind it; stream 2: a
+-- message that arrives
 abbrev base_events : List Event
 base_events =
     E.Open 1 ∷
@@ -84,12 +86,14 @@ base_by_arrivals : map (ordered_run writes_1) ((true ∷ true ∷ false ∷ true
     []
 base_by_arrivals = refl
 
-complete_ones_by_arrivals : map (complete_unordered writes_1) ((true ∷ true ∷ false ∷ true ∷ []) ∷ (true ∷ false ∷ true ∷ true ∷ []) ∷ []) ≡ (false ∷ true ∷ false ∷ false ∷ []) ∷ (false ∷ false ∷ false ∷ false ∷ []) ∷ []
+complete_ones_by_arrivals : map (complete_unordered writes_1) ((true ∷ true ∷ false ∷ true ∷ []) ∷ (true ∷ false ∷ true ∷ true ∷ []) ∷ [])
+    ≡ (false ∷ true ∷ false ∷ false ∷ []) ∷ (false ∷ false ∷ false ∷ false ∷ []) ∷ []
 complete_ones_by_arrivals = refl
 
 -- ## Other lifetimes, and other arrivals on stream 2
 
--- the same writes, but all of stream 1 have lifetimes, which start at another moment; the message of stream 2 does not arrive, nor does the first fragment of the third one of stream 1
+-- the same writes, but all of stream 1 have lifetimes, which start at another moment; the message of stream 2 does not arrive, nor does the first fragment of
+-- the third one of stream 1
 abbrev timed_events : List Event
 timed_events =
     E.Open 1 ∷
@@ -157,7 +161,8 @@ timed_reads = reads_are_settled setup setup base timed 1 base_is_read timed_is_r
 abbrev other : Setup
 other = record { first = 4294967295; size = 2; largest = 50; limit = 72 }
 
--- another first TSN, fragment size and limit; a message of stream 2 expires, one datagram carries three fragments and comes twice, a SACK is taken, and the message that did not arrive, of the stream itself, is abandoned
+-- another first TSN, fragment size and limit; a message of stream 2 expires, one datagram carries three fragments and comes twice, a SACK is taken, and the
+-- message that did not arrive, of the stream itself, is abandoned
 abbrev link_events : List Event
 link_events =
     E.Open 2 ∷

@@ -33,7 +33,8 @@ answers_dcep_never_expires : play start_dcep_never_expires events_dcep_never_exp
     []
 answers_dcep_never_expires = refl
 
-ledger_dcep_never_expires : ledger (played start_dcep_never_expires events_dcep_never_expires) ≡ record { written = 1; pending = 0; in_flight = 1; released = 0 }
+ledger_dcep_never_expires : ledger (played start_dcep_never_expires events_dcep_never_expires)
+    ≡ record { written = 1; pending = 0; in_flight = 1; released = 0 }
 ledger_dcep_never_expires = refl
 
 contents_dcep_never_expires : contents (played start_dcep_never_expires events_dcep_never_expires) ≡
@@ -78,7 +79,8 @@ answers_deadline_at_the_greatest_moment : play start_deadline_at_the_greatest_mo
     []
 answers_deadline_at_the_greatest_moment = refl
 
-ledger_deadline_at_the_greatest_moment : ledger (played start_deadline_at_the_greatest_moment events_deadline_at_the_greatest_moment) ≡ record { written = 1; pending = 0; in_flight = 0; released = 1 }
+ledger_deadline_at_the_greatest_moment : ledger (played start_deadline_at_the_greatest_moment events_deadline_at_the_greatest_moment)
+    ≡ record { written = 1; pending = 0; in_flight = 0; released = 1 }
 ledger_deadline_at_the_greatest_moment = refl
 
 contents_deadline_at_the_greatest_moment : contents (played start_deadline_at_the_greatest_moment events_deadline_at_the_greatest_moment) ≡
@@ -90,7 +92,8 @@ streams_deadline_at_the_greatest_moment : streams_shown (played start_deadline_a
     []
 streams_deadline_at_the_greatest_moment = refl
 
-queues_deadline_at_the_greatest_moment : queues_shown (played start_deadline_at_the_greatest_moment events_deadline_at_the_greatest_moment) ≡ (([]), ([]), ([]), ([]), ([]))
+queues_deadline_at_the_greatest_moment : queues_shown (played start_deadline_at_the_greatest_moment events_deadline_at_the_greatest_moment)
+    ≡ (([]), ([]), ([]), ([]), ([]))
 queues_deadline_at_the_greatest_moment = refl
 
 reassembly_deadline_at_the_greatest_moment : reassembly_shown (played start_deadline_at_the_greatest_moment events_deadline_at_the_greatest_moment) ≡
@@ -128,7 +131,8 @@ answers_expiry_closes_the_numbers_up : play start_expiry_closes_the_numbers_up e
     []
 answers_expiry_closes_the_numbers_up = refl
 
-ledger_expiry_closes_the_numbers_up : ledger (played start_expiry_closes_the_numbers_up events_expiry_closes_the_numbers_up) ≡ record { written = 6; pending = 0; in_flight = 3; released = 3 }
+ledger_expiry_closes_the_numbers_up : ledger (played start_expiry_closes_the_numbers_up events_expiry_closes_the_numbers_up)
+    ≡ record { written = 6; pending = 0; in_flight = 3; released = 3 }
 ledger_expiry_closes_the_numbers_up = refl
 
 contents_expiry_closes_the_numbers_up : contents (played start_expiry_closes_the_numbers_up events_expiry_closes_the_numbers_up) ≡
@@ -141,7 +145,8 @@ streams_expiry_closes_the_numbers_up : streams_shown (played start_expiry_closes
     []
 streams_expiry_closes_the_numbers_up = refl
 
-queues_expiry_closes_the_numbers_up : queues_shown (played start_expiry_closes_the_numbers_up events_expiry_closes_the_numbers_up) ≡ (([]), ([]), ((10, (98 ∷ 98 ∷ 98 ∷ [])) ∷ []), ([]), ([]))
+queues_expiry_closes_the_numbers_up : queues_shown (played start_expiry_closes_the_numbers_up events_expiry_closes_the_numbers_up)
+    ≡ (([]), ([]), ((10, (98 ∷ 98 ∷ 98 ∷ [])) ∷ []), ([]), ([]))
 queues_expiry_closes_the_numbers_up = refl
 
 reassembly_expiry_closes_the_numbers_up : reassembly_shown (played start_expiry_closes_the_numbers_up events_expiry_closes_the_numbers_up) ≡
@@ -187,7 +192,8 @@ answers_expiry_on_one_of_two_streams : play start_expiry_on_one_of_two_streams e
     []
 answers_expiry_on_one_of_two_streams = refl
 
-ledger_expiry_on_one_of_two_streams : ledger (played start_expiry_on_one_of_two_streams events_expiry_on_one_of_two_streams) ≡ record { written = 4; pending = 0; in_flight = 3; released = 1 }
+ledger_expiry_on_one_of_two_streams : ledger (played start_expiry_on_one_of_two_streams events_expiry_on_one_of_two_streams)
+    ≡ record { written = 4; pending = 0; in_flight = 3; released = 1 }
 ledger_expiry_on_one_of_two_streams = refl
 
 contents_expiry_on_one_of_two_streams : contents (played start_expiry_on_one_of_two_streams events_expiry_on_one_of_two_streams) ≡
@@ -203,7 +209,8 @@ streams_expiry_on_one_of_two_streams : streams_shown (played start_expiry_on_one
     []
 streams_expiry_on_one_of_two_streams = refl
 
-queues_expiry_on_one_of_two_streams : queues_shown (played start_expiry_on_one_of_two_streams events_expiry_on_one_of_two_streams) ≡ (([]), ([]), ((10, (98 ∷ [])) ∷ (11, (99 ∷ [])) ∷ (12, (100 ∷ [])) ∷ []), ([]), ([]))
+queues_expiry_on_one_of_two_streams : queues_shown (played start_expiry_on_one_of_two_streams events_expiry_on_one_of_two_streams)
+    ≡ (([]), ([]), ((10, (98 ∷ [])) ∷ (11, (99 ∷ [])) ∷ (12, (100 ∷ [])) ∷ []), ([]), ([]))
 queues_expiry_on_one_of_two_streams = refl
 
 reassembly_expiry_on_one_of_two_streams : reassembly_shown (played start_expiry_on_one_of_two_streams events_expiry_on_one_of_two_streams) ≡
@@ -291,10 +298,12 @@ answers_late_lists_all_of_a_partially_sent_message : play start_late_lists_all_o
     []
 answers_late_lists_all_of_a_partially_sent_message = refl
 
-ledger_late_lists_all_of_a_partially_sent_message : ledger (played start_late_lists_all_of_a_partially_sent_message events_late_lists_all_of_a_partially_sent_message) ≡ record { written = 8; pending = 0; in_flight = 1; released = 7 }
+ledger_late_lists_all_of_a_partially_sent_message : ledger (played start_late_lists_all_of_a_partially_sent_message
+    events_late_lists_all_of_a_partially_sent_message) ≡ record { written = 8; pending = 0; in_flight = 1; released = 7 }
 ledger_late_lists_all_of_a_partially_sent_message = refl
 
-contents_late_lists_all_of_a_partially_sent_message : contents (played start_late_lists_all_of_a_partially_sent_message events_late_lists_all_of_a_partially_sent_message) ≡
+contents_late_lists_all_of_a_partially_sent_message : contents
+    (played start_late_lists_all_of_a_partially_sent_message events_late_lists_all_of_a_partially_sent_message) ≡
     DataContents (chunk 10 1 0 P.Binary (97 ∷ 98 ∷ 99 ∷ []) true false false ∷ []) ∷
     DataContents (chunk 11 1 0 P.Binary (100 ∷ 101 ∷ 102 ∷ []) false false false ∷ []) ∷
     SackContents 9 0 ((2, 2) ∷ []) ([]) ∷
@@ -302,15 +311,18 @@ contents_late_lists_all_of_a_partially_sent_message : contents (played start_lat
     []
 contents_late_lists_all_of_a_partially_sent_message = refl
 
-streams_late_lists_all_of_a_partially_sent_message : streams_shown (played start_late_lists_all_of_a_partially_sent_message events_late_lists_all_of_a_partially_sent_message) ≡
+streams_late_lists_all_of_a_partially_sent_message : streams_shown
+    (played start_late_lists_all_of_a_partially_sent_message events_late_lists_all_of_a_partially_sent_message) ≡
     (1, 1, (2 ∷ 8 ∷ 0 ∷ 0 ∷ [])) ∷
     []
 streams_late_lists_all_of_a_partially_sent_message = refl
 
-queues_late_lists_all_of_a_partially_sent_message : queues_shown (played start_late_lists_all_of_a_partially_sent_message events_late_lists_all_of_a_partially_sent_message) ≡ (([]), ([]), ((10, ([])) ∷ (11, ([])) ∷ (12, ([])) ∷ (13, (120 ∷ [])) ∷ []), (11 ∷ []), ([]))
+queues_late_lists_all_of_a_partially_sent_message : queues_shown (played start_late_lists_all_of_a_partially_sent_message
+    events_late_lists_all_of_a_partially_sent_message) ≡ (([]), ([]), ((10, ([])) ∷ (11, ([])) ∷ (12, ([])) ∷ (13, (120 ∷ [])) ∷ []), (11 ∷ []), ([]))
 queues_late_lists_all_of_a_partially_sent_message = refl
 
-reassembly_late_lists_all_of_a_partially_sent_message : reassembly_shown (played start_late_lists_all_of_a_partially_sent_message events_late_lists_all_of_a_partially_sent_message) ≡
+reassembly_late_lists_all_of_a_partially_sent_message : reassembly_shown
+    (played start_late_lists_all_of_a_partially_sent_message events_late_lists_all_of_a_partially_sent_message) ≡
     (0, ((11 ∷ []) ∷ []), ([]), ([])) ∷
     []
 reassembly_late_lists_all_of_a_partially_sent_message = refl
@@ -343,7 +355,8 @@ answers_late_message_wholly_sent : play start_late_message_wholly_sent events_la
     []
 answers_late_message_wholly_sent = refl
 
-ledger_late_message_wholly_sent : ledger (played start_late_message_wholly_sent events_late_message_wholly_sent) ≡ record { written = 7; pending = 0; in_flight = 1; released = 6 }
+ledger_late_message_wholly_sent : ledger (played start_late_message_wholly_sent events_late_message_wholly_sent)
+    ≡ record { written = 7; pending = 0; in_flight = 1; released = 6 }
 ledger_late_message_wholly_sent = refl
 
 contents_late_message_wholly_sent : contents (played start_late_message_wholly_sent events_late_message_wholly_sent) ≡
@@ -358,7 +371,8 @@ streams_late_message_wholly_sent : streams_shown (played start_late_message_whol
     []
 streams_late_message_wholly_sent = refl
 
-queues_late_message_wholly_sent : queues_shown (played start_late_message_wholly_sent events_late_message_wholly_sent) ≡ (([]), ([]), ((10, ([])) ∷ (11, ([])) ∷ (12, (120 ∷ [])) ∷ []), ([]), ([]))
+queues_late_message_wholly_sent : queues_shown (played start_late_message_wholly_sent events_late_message_wholly_sent)
+    ≡ (([]), ([]), ((10, ([])) ∷ (11, ([])) ∷ (12, (120 ∷ [])) ∷ []), ([]), ([]))
 queues_late_message_wholly_sent = refl
 
 reassembly_late_message_wholly_sent : reassembly_shown (played start_late_message_wholly_sent events_late_message_wholly_sent) ≡
@@ -396,7 +410,8 @@ answers_late_skips_what_is_acknowledged : play start_late_skips_what_is_acknowle
     []
 answers_late_skips_what_is_acknowledged = refl
 
-ledger_late_skips_what_is_acknowledged : ledger (played start_late_skips_what_is_acknowledged events_late_skips_what_is_acknowledged) ≡ record { written = 6; pending = 0; in_flight = 0; released = 6 }
+ledger_late_skips_what_is_acknowledged : ledger (played start_late_skips_what_is_acknowledged events_late_skips_what_is_acknowledged)
+    ≡ record { written = 6; pending = 0; in_flight = 0; released = 6 }
 ledger_late_skips_what_is_acknowledged = refl
 
 contents_late_skips_what_is_acknowledged : contents (played start_late_skips_what_is_acknowledged events_late_skips_what_is_acknowledged) ≡
@@ -411,7 +426,8 @@ streams_late_skips_what_is_acknowledged : streams_shown (played start_late_skips
     []
 streams_late_skips_what_is_acknowledged = refl
 
-queues_late_skips_what_is_acknowledged : queues_shown (played start_late_skips_what_is_acknowledged events_late_skips_what_is_acknowledged) ≡ (([]), ([]), ((10, ([])) ∷ (11, ([])) ∷ []), (11 ∷ []), ([]))
+queues_late_skips_what_is_acknowledged : queues_shown (played start_late_skips_what_is_acknowledged events_late_skips_what_is_acknowledged)
+    ≡ (([]), ([]), ((10, ([])) ∷ (11, ([])) ∷ []), (11 ∷ []), ([]))
 queues_late_skips_what_is_acknowledged = refl
 
 reassembly_late_skips_what_is_acknowledged : reassembly_shown (played start_late_skips_what_is_acknowledged events_late_skips_what_is_acknowledged) ≡
@@ -445,7 +461,8 @@ answers_no_deadline_past_the_greatest_moment : play start_no_deadline_past_the_g
     []
 answers_no_deadline_past_the_greatest_moment = refl
 
-ledger_no_deadline_past_the_greatest_moment : ledger (played start_no_deadline_past_the_greatest_moment events_no_deadline_past_the_greatest_moment) ≡ record { written = 1; pending = 1; in_flight = 0; released = 0 }
+ledger_no_deadline_past_the_greatest_moment : ledger (played start_no_deadline_past_the_greatest_moment events_no_deadline_past_the_greatest_moment)
+    ≡ record { written = 1; pending = 1; in_flight = 0; released = 0 }
 ledger_no_deadline_past_the_greatest_moment = refl
 
 contents_no_deadline_past_the_greatest_moment : contents (played start_no_deadline_past_the_greatest_moment events_no_deadline_past_the_greatest_moment) ≡
@@ -457,10 +474,12 @@ streams_no_deadline_past_the_greatest_moment : streams_shown (played start_no_de
     []
 streams_no_deadline_past_the_greatest_moment = refl
 
-queues_no_deadline_past_the_greatest_moment : queues_shown (played start_no_deadline_past_the_greatest_moment events_no_deadline_past_the_greatest_moment) ≡ (((0, (97 ∷ [])) ∷ []), ([]), ([]), ([]), ([]))
+queues_no_deadline_past_the_greatest_moment : queues_shown (played start_no_deadline_past_the_greatest_moment events_no_deadline_past_the_greatest_moment)
+    ≡ (((0, (97 ∷ [])) ∷ []), ([]), ([]), ([]), ([]))
 queues_no_deadline_past_the_greatest_moment = refl
 
-reassembly_no_deadline_past_the_greatest_moment : reassembly_shown (played start_no_deadline_past_the_greatest_moment events_no_deadline_past_the_greatest_moment) ≡
+reassembly_no_deadline_past_the_greatest_moment : reassembly_shown
+    (played start_no_deadline_past_the_greatest_moment events_no_deadline_past_the_greatest_moment) ≡
     (0, ([]), ([]), ([])) ∷
     []
 reassembly_no_deadline_past_the_greatest_moment = refl

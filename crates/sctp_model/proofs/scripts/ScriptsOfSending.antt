@@ -7,7 +7,8 @@ use Rattle.sctp_model.specs.declared.event.LinkRefusal.TheVariants as F
 use Rattle.sctp_model.specs.LinkRecord.{LinkRecord, start}
 use Rattle.sctp_model.specs.Amounts.{ledger}
 use Rattle.sctp_model.specs.Contents.{DataContents, SackContents}
-use Rattle.sctp_model.proofs.scripts.Play.{chunk, Handed, Asked, Ask, AskSkip, Refused, Replied, play, played, contents, streams_shown, queues_shown, reassembly_shown}
+use Rattle.sctp_model.proofs.scripts.Play.{chunk, Handed, Asked, Ask, AskSkip, Refused, Replied, play, played, contents, streams_shown, queues_shown}
+use Rattle.sctp_model.proofs.scripts.Play.{reassembly_shown}
 
 -- both fragments fit with padding
 abbrev start_both_fragments_fit_with_padding : LinkRecord
@@ -29,7 +30,8 @@ answers_both_fragments_fit_with_padding : play start_both_fragments_fit_with_pad
     []
 answers_both_fragments_fit_with_padding = refl
 
-ledger_both_fragments_fit_with_padding : ledger (played start_both_fragments_fit_with_padding events_both_fragments_fit_with_padding) ≡ record { written = 4; pending = 0; in_flight = 4; released = 0 }
+ledger_both_fragments_fit_with_padding : ledger (played start_both_fragments_fit_with_padding events_both_fragments_fit_with_padding)
+    ≡ record { written = 4; pending = 0; in_flight = 4; released = 0 }
 ledger_both_fragments_fit_with_padding = refl
 
 contents_both_fragments_fit_with_padding : contents (played start_both_fragments_fit_with_padding events_both_fragments_fit_with_padding) ≡
@@ -42,7 +44,8 @@ streams_both_fragments_fit_with_padding : streams_shown (played start_both_fragm
     []
 streams_both_fragments_fit_with_padding = refl
 
-queues_both_fragments_fit_with_padding : queues_shown (played start_both_fragments_fit_with_padding events_both_fragments_fit_with_padding) ≡ (([]), ([]), ((10, (97 ∷ 98 ∷ 99 ∷ [])) ∷ (11, (100 ∷ [])) ∷ []), ([]), ([]))
+queues_both_fragments_fit_with_padding : queues_shown (played start_both_fragments_fit_with_padding events_both_fragments_fit_with_padding)
+    ≡ (([]), ([]), ((10, (97 ∷ 98 ∷ 99 ∷ [])) ∷ (11, (100 ∷ [])) ∷ []), ([]), ([]))
 queues_both_fragments_fit_with_padding = refl
 
 reassembly_both_fragments_fit_with_padding : reassembly_shown (played start_both_fragments_fit_with_padding events_both_fragments_fit_with_padding) ≡
@@ -84,7 +87,8 @@ answers_counters_by_payload_type : play start_counters_by_payload_type events_co
     []
 answers_counters_by_payload_type = refl
 
-ledger_counters_by_payload_type : ledger (played start_counters_by_payload_type events_counters_by_payload_type) ≡ record { written = 4; pending = 3; in_flight = 0; released = 1 }
+ledger_counters_by_payload_type : ledger (played start_counters_by_payload_type events_counters_by_payload_type)
+    ≡ record { written = 4; pending = 3; in_flight = 0; released = 1 }
 ledger_counters_by_payload_type = refl
 
 contents_counters_by_payload_type : contents (played start_counters_by_payload_type events_counters_by_payload_type) ≡
@@ -99,7 +103,8 @@ streams_counters_by_payload_type : streams_shown (played start_counters_by_paylo
     []
 streams_counters_by_payload_type = refl
 
-queues_counters_by_payload_type : queues_shown (played start_counters_by_payload_type events_counters_by_payload_type) ≡ (((1, (195 ∷ 169 ∷ [])) ∷ (2, (3 ∷ [])) ∷ []), ([]), ([]), ([]), ([]))
+queues_counters_by_payload_type : queues_shown (played start_counters_by_payload_type events_counters_by_payload_type)
+    ≡ (((1, (195 ∷ 169 ∷ [])) ∷ (2, (3 ∷ [])) ∷ []), ([]), ([]), ([]), ([]))
 queues_counters_by_payload_type = refl
 
 reassembly_counters_by_payload_type : reassembly_shown (played start_counters_by_payload_type events_counters_by_payload_type) ≡
@@ -154,7 +159,8 @@ streams_each_refusal : streams_shown (played start_each_refusal events_each_refu
     []
 streams_each_refusal = refl
 
-queues_each_refusal : queues_shown (played start_each_refusal events_each_refusal) ≡ (((1, (98 ∷ 98 ∷ 98 ∷ [])) ∷ []), ([]), ((10, (97 ∷ 97 ∷ 97 ∷ [])) ∷ []), ([]), ([]))
+queues_each_refusal : queues_shown (played start_each_refusal events_each_refusal)
+    ≡ (((1, (98 ∷ 98 ∷ 98 ∷ [])) ∷ []), ([]), ((10, (97 ∷ 97 ∷ 97 ∷ [])) ∷ []), ([]), ([]))
 queues_each_refusal = refl
 
 reassembly_each_refusal : reassembly_shown (played start_each_refusal events_each_refusal) ≡
@@ -182,7 +188,8 @@ answers_empty_write_takes_no_number : play start_empty_write_takes_no_number eve
     []
 answers_empty_write_takes_no_number = refl
 
-ledger_empty_write_takes_no_number : ledger (played start_empty_write_takes_no_number events_empty_write_takes_no_number) ≡ record { written = 3; pending = 0; in_flight = 3; released = 0 }
+ledger_empty_write_takes_no_number : ledger (played start_empty_write_takes_no_number events_empty_write_takes_no_number)
+    ≡ record { written = 3; pending = 0; in_flight = 3; released = 0 }
 ledger_empty_write_takes_no_number = refl
 
 contents_empty_write_takes_no_number : contents (played start_empty_write_takes_no_number events_empty_write_takes_no_number) ≡
@@ -195,7 +202,8 @@ streams_empty_write_takes_no_number : streams_shown (played start_empty_write_ta
     []
 streams_empty_write_takes_no_number = refl
 
-queues_empty_write_takes_no_number : queues_shown (played start_empty_write_takes_no_number events_empty_write_takes_no_number) ≡ (([]), ([]), ((10, (97 ∷ 97 ∷ 97 ∷ [])) ∷ []), ([]), ([]))
+queues_empty_write_takes_no_number : queues_shown (played start_empty_write_takes_no_number events_empty_write_takes_no_number)
+    ≡ (([]), ([]), ((10, (97 ∷ 97 ∷ 97 ∷ [])) ∷ []), ([]), ([]))
 queues_empty_write_takes_no_number = refl
 
 reassembly_empty_write_takes_no_number : reassembly_shown (played start_empty_write_takes_no_number events_empty_write_takes_no_number) ≡
@@ -317,7 +325,8 @@ answers_one_chunk_again_then_both : play start_one_chunk_again_then_both events_
     []
 answers_one_chunk_again_then_both = refl
 
-ledger_one_chunk_again_then_both : ledger (played start_one_chunk_again_then_both events_one_chunk_again_then_both) ≡ record { written = 7; pending = 0; in_flight = 7; released = 0 }
+ledger_one_chunk_again_then_both : ledger (played start_one_chunk_again_then_both events_one_chunk_again_then_both)
+    ≡ record { written = 7; pending = 0; in_flight = 7; released = 0 }
 ledger_one_chunk_again_then_both = refl
 
 contents_one_chunk_again_then_both : contents (played start_one_chunk_again_then_both events_one_chunk_again_then_both) ≡
@@ -333,7 +342,8 @@ streams_one_chunk_again_then_both : streams_shown (played start_one_chunk_again_
     []
 streams_one_chunk_again_then_both = refl
 
-queues_one_chunk_again_then_both : queues_shown (played start_one_chunk_again_then_both events_one_chunk_again_then_both) ≡ (([]), ([]), ((10, (97 ∷ 98 ∷ 99 ∷ [])) ∷ (11, (100 ∷ 101 ∷ 102 ∷ [])) ∷ (12, (103 ∷ [])) ∷ []), ([]), ([]))
+queues_one_chunk_again_then_both : queues_shown (played start_one_chunk_again_then_both events_one_chunk_again_then_both)
+    ≡ (([]), ([]), ((10, (97 ∷ 98 ∷ 99 ∷ [])) ∷ (11, (100 ∷ 101 ∷ 102 ∷ [])) ∷ (12, (103 ∷ [])) ∷ []), ([]), ([]))
 queues_one_chunk_again_then_both = refl
 
 reassembly_one_chunk_again_then_both : reassembly_shown (played start_one_chunk_again_then_both events_one_chunk_again_then_both) ≡
@@ -363,7 +373,8 @@ answers_padding_counts_against_the_limit : play start_padding_counts_against_the
     []
 answers_padding_counts_against_the_limit = refl
 
-ledger_padding_counts_against_the_limit : ledger (played start_padding_counts_against_the_limit events_padding_counts_against_the_limit) ≡ record { written = 4; pending = 0; in_flight = 4; released = 0 }
+ledger_padding_counts_against_the_limit : ledger (played start_padding_counts_against_the_limit events_padding_counts_against_the_limit)
+    ≡ record { written = 4; pending = 0; in_flight = 4; released = 0 }
 ledger_padding_counts_against_the_limit = refl
 
 contents_padding_counts_against_the_limit : contents (played start_padding_counts_against_the_limit events_padding_counts_against_the_limit) ≡
@@ -377,7 +388,8 @@ streams_padding_counts_against_the_limit : streams_shown (played start_padding_c
     []
 streams_padding_counts_against_the_limit = refl
 
-queues_padding_counts_against_the_limit : queues_shown (played start_padding_counts_against_the_limit events_padding_counts_against_the_limit) ≡ (([]), ([]), ((10, (97 ∷ 98 ∷ 99 ∷ [])) ∷ (11, (100 ∷ [])) ∷ []), ([]), ([]))
+queues_padding_counts_against_the_limit : queues_shown (played start_padding_counts_against_the_limit events_padding_counts_against_the_limit)
+    ≡ (([]), ([]), ((10, (97 ∷ 98 ∷ 99 ∷ [])) ∷ (11, (100 ∷ [])) ∷ []), ([]), ([]))
 queues_padding_counts_against_the_limit = refl
 
 reassembly_padding_counts_against_the_limit : reassembly_shown (played start_padding_counts_against_the_limit events_padding_counts_against_the_limit) ≡
@@ -417,7 +429,8 @@ answers_two_chunks_in_a_datagram : play start_two_chunks_in_a_datagram events_tw
     []
 answers_two_chunks_in_a_datagram = refl
 
-ledger_two_chunks_in_a_datagram : ledger (played start_two_chunks_in_a_datagram events_two_chunks_in_a_datagram) ≡ record { written = 7; pending = 0; in_flight = 7; released = 0 }
+ledger_two_chunks_in_a_datagram : ledger (played start_two_chunks_in_a_datagram events_two_chunks_in_a_datagram)
+    ≡ record { written = 7; pending = 0; in_flight = 7; released = 0 }
 ledger_two_chunks_in_a_datagram = refl
 
 contents_two_chunks_in_a_datagram : contents (played start_two_chunks_in_a_datagram events_two_chunks_in_a_datagram) ≡
@@ -432,7 +445,8 @@ streams_two_chunks_in_a_datagram : streams_shown (played start_two_chunks_in_a_d
     []
 streams_two_chunks_in_a_datagram = refl
 
-queues_two_chunks_in_a_datagram : queues_shown (played start_two_chunks_in_a_datagram events_two_chunks_in_a_datagram) ≡ (([]), ([]), ((10, (97 ∷ 98 ∷ 99 ∷ [])) ∷ (11, (100 ∷ 101 ∷ 102 ∷ [])) ∷ (12, (103 ∷ [])) ∷ []), ([]), ([]))
+queues_two_chunks_in_a_datagram : queues_shown (played start_two_chunks_in_a_datagram events_two_chunks_in_a_datagram)
+    ≡ (([]), ([]), ((10, (97 ∷ 98 ∷ 99 ∷ [])) ∷ (11, (100 ∷ 101 ∷ 102 ∷ [])) ∷ (12, (103 ∷ [])) ∷ []), ([]), ([]))
 queues_two_chunks_in_a_datagram = refl
 
 reassembly_two_chunks_in_a_datagram : reassembly_shown (played start_two_chunks_in_a_datagram events_two_chunks_in_a_datagram) ≡

@@ -68,7 +68,8 @@ streams_later_skip_first : streams_shown (played start_later_skip_first events_l
     []
 streams_later_skip_first = refl
 
-queues_later_skip_first : queues_shown (played start_later_skip_first events_later_skip_first) ≡ (([]), ([]), ((10, ([])) ∷ (11, ([])) ∷ (12, (99 ∷ 99 ∷ 99 ∷ [])) ∷ []), ([]), ([]))
+queues_later_skip_first : queues_shown (played start_later_skip_first events_later_skip_first)
+    ≡ (([]), ([]), ((10, ([])) ∷ (11, ([])) ∷ (12, (99 ∷ 99 ∷ 99 ∷ [])) ∷ []), ([]), ([]))
 queues_later_skip_first = refl
 
 reassembly_later_skip_first : reassembly_shown (played start_later_skip_first events_later_skip_first) ≡
@@ -120,7 +121,8 @@ answers_later_skip_names_an_earlier_message : play start_later_skip_names_an_ear
     []
 answers_later_skip_names_an_earlier_message = refl
 
-ledger_later_skip_names_an_earlier_message : ledger (played start_later_skip_names_an_earlier_message events_later_skip_names_an_earlier_message) ≡ record { written = 10; pending = 0; in_flight = 10; released = 0 }
+ledger_later_skip_names_an_earlier_message : ledger (played start_later_skip_names_an_earlier_message events_later_skip_names_an_earlier_message)
+    ≡ record { written = 10; pending = 0; in_flight = 10; released = 0 }
 ledger_later_skip_names_an_earlier_message = refl
 
 contents_later_skip_names_an_earlier_message : contents (played start_later_skip_names_an_earlier_message events_later_skip_names_an_earlier_message) ≡
@@ -139,10 +141,12 @@ streams_later_skip_names_an_earlier_message : streams_shown (played start_later_
     []
 streams_later_skip_names_an_earlier_message = refl
 
-queues_later_skip_names_an_earlier_message : queues_shown (played start_later_skip_names_an_earlier_message events_later_skip_names_an_earlier_message) ≡ (([]), ([]), ((10, (97 ∷ 97 ∷ 97 ∷ [])) ∷ (11, (98 ∷ 98 ∷ 98 ∷ [])) ∷ (12, (99 ∷ 99 ∷ 99 ∷ [])) ∷ (13, (100 ∷ [])) ∷ []), ([]), ([]))
+queues_later_skip_names_an_earlier_message : queues_shown (played start_later_skip_names_an_earlier_message events_later_skip_names_an_earlier_message)
+    ≡ (([]), ([]), ((10, (97 ∷ 97 ∷ 97 ∷ [])) ∷ (11, (98 ∷ 98 ∷ 98 ∷ [])) ∷ (12, (99 ∷ 99 ∷ 99 ∷ [])) ∷ (13, (100 ∷ [])) ∷ []), ([]), ([]))
 queues_later_skip_names_an_earlier_message = refl
 
-reassembly_later_skip_names_an_earlier_message : reassembly_shown (played start_later_skip_names_an_earlier_message events_later_skip_names_an_earlier_message) ≡
+reassembly_later_skip_names_an_earlier_message : reassembly_shown (played start_later_skip_names_an_earlier_message events_later_skip_names_an_earlier_message)
+    ≡
     (2, ((13 ∷ []) ∷ []), ([]), ([])) ∷
     []
 reassembly_later_skip_names_an_earlier_message = refl
@@ -183,7 +187,8 @@ answers_skip_into_an_unordered_message : play start_skip_into_an_unordered_messa
     []
 answers_skip_into_an_unordered_message = refl
 
-ledger_skip_into_an_unordered_message : ledger (played start_skip_into_an_unordered_message events_skip_into_an_unordered_message) ≡ record { written = 9; pending = 0; in_flight = 9; released = 0 }
+ledger_skip_into_an_unordered_message : ledger (played start_skip_into_an_unordered_message events_skip_into_an_unordered_message)
+    ≡ record { written = 9; pending = 0; in_flight = 9; released = 0 }
 ledger_skip_into_an_unordered_message = refl
 
 contents_skip_into_an_unordered_message : contents (played start_skip_into_an_unordered_message events_skip_into_an_unordered_message) ≡
@@ -199,7 +204,8 @@ streams_skip_into_an_unordered_message : streams_shown (played start_skip_into_a
     []
 streams_skip_into_an_unordered_message = refl
 
-queues_skip_into_an_unordered_message : queues_shown (played start_skip_into_an_unordered_message events_skip_into_an_unordered_message) ≡ (([]), ([]), ((10, (97 ∷ 97 ∷ 97 ∷ [])) ∷ (11, (98 ∷ 98 ∷ 98 ∷ [])) ∷ (12, (99 ∷ 99 ∷ 99 ∷ [])) ∷ []), ([]), ([]))
+queues_skip_into_an_unordered_message : queues_shown (played start_skip_into_an_unordered_message events_skip_into_an_unordered_message)
+    ≡ (([]), ([]), ((10, (97 ∷ 97 ∷ 97 ∷ [])) ∷ (11, (98 ∷ 98 ∷ 98 ∷ [])) ∷ (12, (99 ∷ 99 ∷ 99 ∷ [])) ∷ []), ([]), ([]))
 queues_skip_into_an_unordered_message = refl
 
 reassembly_skip_into_an_unordered_message : reassembly_shown (played start_skip_into_an_unordered_message events_skip_into_an_unordered_message) ≡
@@ -243,7 +249,8 @@ answers_skip_keeps_a_complete_message : play start_skip_keeps_a_complete_message
     []
 answers_skip_keeps_a_complete_message = refl
 
-ledger_skip_keeps_a_complete_message : ledger (played start_skip_keeps_a_complete_message events_skip_keeps_a_complete_message) ≡ record { written = 9; pending = 0; in_flight = 9; released = 0 }
+ledger_skip_keeps_a_complete_message : ledger (played start_skip_keeps_a_complete_message events_skip_keeps_a_complete_message)
+    ≡ record { written = 9; pending = 0; in_flight = 9; released = 0 }
 ledger_skip_keeps_a_complete_message = refl
 
 contents_skip_keeps_a_complete_message : contents (played start_skip_keeps_a_complete_message events_skip_keeps_a_complete_message) ≡
@@ -259,7 +266,8 @@ streams_skip_keeps_a_complete_message : streams_shown (played start_skip_keeps_a
     []
 streams_skip_keeps_a_complete_message = refl
 
-queues_skip_keeps_a_complete_message : queues_shown (played start_skip_keeps_a_complete_message events_skip_keeps_a_complete_message) ≡ (([]), ([]), ((10, (97 ∷ 97 ∷ 97 ∷ [])) ∷ (11, (98 ∷ 98 ∷ 98 ∷ [])) ∷ (12, (99 ∷ 99 ∷ 99 ∷ [])) ∷ []), ([]), ([]))
+queues_skip_keeps_a_complete_message : queues_shown (played start_skip_keeps_a_complete_message events_skip_keeps_a_complete_message)
+    ≡ (([]), ([]), ((10, (97 ∷ 97 ∷ 97 ∷ [])) ∷ (11, (98 ∷ 98 ∷ 98 ∷ [])) ∷ (12, (99 ∷ 99 ∷ 99 ∷ [])) ∷ []), ([]), ([]))
 queues_skip_keeps_a_complete_message = refl
 
 reassembly_skip_keeps_a_complete_message : reassembly_shown (played start_skip_keeps_a_complete_message events_skip_keeps_a_complete_message) ≡
@@ -309,7 +317,8 @@ answers_skip_of_a_lost_message : play start_skip_of_a_lost_message events_skip_o
     []
 answers_skip_of_a_lost_message = refl
 
-ledger_skip_of_a_lost_message : ledger (played start_skip_of_a_lost_message events_skip_of_a_lost_message) ≡ record { written = 9; pending = 0; in_flight = 6; released = 3 }
+ledger_skip_of_a_lost_message : ledger (played start_skip_of_a_lost_message events_skip_of_a_lost_message)
+    ≡ record { written = 9; pending = 0; in_flight = 6; released = 3 }
 ledger_skip_of_a_lost_message = refl
 
 contents_skip_of_a_lost_message : contents (played start_skip_of_a_lost_message events_skip_of_a_lost_message) ≡
@@ -325,7 +334,8 @@ streams_skip_of_a_lost_message : streams_shown (played start_skip_of_a_lost_mess
     []
 streams_skip_of_a_lost_message = refl
 
-queues_skip_of_a_lost_message : queues_shown (played start_skip_of_a_lost_message events_skip_of_a_lost_message) ≡ (([]), ([]), ((10, ([])) ∷ (11, (98 ∷ 98 ∷ 98 ∷ [])) ∷ (12, (99 ∷ 99 ∷ 99 ∷ [])) ∷ []), ([]), (10 ∷ []))
+queues_skip_of_a_lost_message : queues_shown (played start_skip_of_a_lost_message events_skip_of_a_lost_message)
+    ≡ (([]), ([]), ((10, ([])) ∷ (11, (98 ∷ 98 ∷ 98 ∷ [])) ∷ (12, (99 ∷ 99 ∷ 99 ∷ [])) ∷ []), ([]), (10 ∷ []))
 queues_skip_of_a_lost_message = refl
 
 reassembly_skip_of_a_lost_message : reassembly_shown (played start_skip_of_a_lost_message events_skip_of_a_lost_message) ≡
@@ -373,7 +383,8 @@ answers_skip_over_an_terminal_chunk : play start_skip_over_an_terminal_chunk eve
     []
 answers_skip_over_an_terminal_chunk = refl
 
-ledger_skip_over_an_terminal_chunk : ledger (played start_skip_over_an_terminal_chunk events_skip_over_an_terminal_chunk) ≡ record { written = 8; pending = 0; in_flight = 0; released = 8 }
+ledger_skip_over_an_terminal_chunk : ledger (played start_skip_over_an_terminal_chunk events_skip_over_an_terminal_chunk)
+    ≡ record { written = 8; pending = 0; in_flight = 0; released = 8 }
 ledger_skip_over_an_terminal_chunk = refl
 
 contents_skip_over_an_terminal_chunk : contents (played start_skip_over_an_terminal_chunk events_skip_over_an_terminal_chunk) ≡
@@ -456,7 +467,8 @@ streams_skips_in_order : streams_shown (played start_skips_in_order events_skips
     []
 streams_skips_in_order = refl
 
-queues_skips_in_order : queues_shown (played start_skips_in_order events_skips_in_order) ≡ (([]), ([]), ((10, ([])) ∷ (11, ([])) ∷ (12, (99 ∷ 99 ∷ 99 ∷ [])) ∷ []), ([]), ([]))
+queues_skips_in_order : queues_shown (played start_skips_in_order events_skips_in_order)
+    ≡ (([]), ([]), ((10, ([])) ∷ (11, ([])) ∷ (12, (99 ∷ 99 ∷ 99 ∷ [])) ∷ []), ([]), ([]))
 queues_skips_in_order = refl
 
 reassembly_skips_in_order : reassembly_shown (played start_skips_in_order events_skips_in_order) ≡
@@ -506,7 +518,8 @@ answers_stale_skip_keeps_unassembled_fragments : play start_stale_skip_keeps_una
     []
 answers_stale_skip_keeps_unassembled_fragments = refl
 
-ledger_stale_skip_keeps_unassembled_fragments : ledger (played start_stale_skip_keeps_unassembled_fragments events_stale_skip_keeps_unassembled_fragments) ≡ record { written = 9; pending = 0; in_flight = 9; released = 0 }
+ledger_stale_skip_keeps_unassembled_fragments : ledger (played start_stale_skip_keeps_unassembled_fragments events_stale_skip_keeps_unassembled_fragments)
+    ≡ record { written = 9; pending = 0; in_flight = 9; released = 0 }
 ledger_stale_skip_keeps_unassembled_fragments = refl
 
 contents_stale_skip_keeps_unassembled_fragments : contents (played start_stale_skip_keeps_unassembled_fragments events_stale_skip_keeps_unassembled_fragments) ≡
@@ -517,15 +530,18 @@ contents_stale_skip_keeps_unassembled_fragments : contents (played start_stale_s
     []
 contents_stale_skip_keeps_unassembled_fragments = refl
 
-streams_stale_skip_keeps_unassembled_fragments : streams_shown (played start_stale_skip_keeps_unassembled_fragments events_stale_skip_keeps_unassembled_fragments) ≡
+streams_stale_skip_keeps_unassembled_fragments : streams_shown
+    (played start_stale_skip_keeps_unassembled_fragments events_stale_skip_keeps_unassembled_fragments) ≡
     (1, 9, (2 ∷ 9 ∷ 2 ∷ 9 ∷ [])) ∷
     []
 streams_stale_skip_keeps_unassembled_fragments = refl
 
-queues_stale_skip_keeps_unassembled_fragments : queues_shown (played start_stale_skip_keeps_unassembled_fragments events_stale_skip_keeps_unassembled_fragments) ≡ (([]), ([]), ((10, (97 ∷ 97 ∷ 97 ∷ [])) ∷ (11, (98 ∷ 98 ∷ 98 ∷ [])) ∷ (12, (99 ∷ 99 ∷ 99 ∷ [])) ∷ []), ([]), ([]))
+queues_stale_skip_keeps_unassembled_fragments : queues_shown (played start_stale_skip_keeps_unassembled_fragments events_stale_skip_keeps_unassembled_fragments)
+    ≡ (([]), ([]), ((10, (97 ∷ 97 ∷ 97 ∷ [])) ∷ (11, (98 ∷ 98 ∷ 98 ∷ [])) ∷ (12, (99 ∷ 99 ∷ 99 ∷ [])) ∷ []), ([]), ([]))
 queues_stale_skip_keeps_unassembled_fragments = refl
 
-reassembly_stale_skip_keeps_unassembled_fragments : reassembly_shown (played start_stale_skip_keeps_unassembled_fragments events_stale_skip_keeps_unassembled_fragments) ≡
+reassembly_stale_skip_keeps_unassembled_fragments : reassembly_shown
+    (played start_stale_skip_keeps_unassembled_fragments events_stale_skip_keeps_unassembled_fragments) ≡
     (1, ([]), ([]), ([])) ∷
     []
 reassembly_stale_skip_keeps_unassembled_fragments = refl

@@ -1,4 +1,5 @@
-use Rattle.std.proofs.Common.{◌≡◌, ℕ, zero, suc, ◌+◌, ◌*◌, ◌<◌, ◌≤◌, ◌^◌, Bool, true, false, List, [], ◌∷◌, length, map, Option, Some, None, refl, ap, sym, ◌∙◌, inl, inr, arith}
+use Rattle.std.proofs.Common.{◌≡◌, ℕ, zero, suc, ◌+◌, ◌*◌, ◌<◌, ◌≤◌, ◌^◌, Bool, true, false, List, [], ◌∷◌, length, map, Option, Some, None, refl, ap, sym, ◌∙◌}
+use Rattle.std.proofs.Common.{inl, inr, arith}
 use Rattle.std.specs.Prelude.{◌⊎◌, if◌then◌else◌, ◌==◌, ◌&&◌, ◌||◌, not, nat_lt, nat_le, slice_get, slice_index_or, option_to_list}
 use Rattle.std.specs.List.{list_any, filter}
 use Rattle.std.proofs.lemmas.Bool.{cases_lt}
@@ -19,9 +20,11 @@ use Rattle.sctp_model.specs.LinkRecord.{Setup, LinkRecord}
 use Rattle.sctp_model.specs.Messages
 use Rattle.sctp_model.specs.Amounts.{growth}
 use Rattle.sctp_model.specs.Changes
-use Rattle.sctp_model.specs.Log.{has_lifetime, is_over, is_write_past_deadline, is_past_deadline_by_events, writes_in, modes_in, started_in, taken_in, is_acknowledged_in}
+use Rattle.sctp_model.specs.Log.{has_lifetime, is_over, is_write_past_deadline, is_past_deadline_by_events, writes_in, modes_in, started_in, taken_in}
+use Rattle.sctp_model.specs.Log.{is_acknowledged_in}
 use Rattle.sctp_model.specs.Steps.{History, record_of, IsRun, after, expired_reply, tail_reply}
-use Rattle.sctp_model.specs.Laws.{OnEveryRun, DeadlinesByEvents, ExpiresPastDeadline, TailAbandonsPastDeadline, LateListsPastDeadline, told_of, is_this, unsent_past_deadline, partially_sent_past_deadline, is_late_in, late_slots_by_events, shown_of, mode_of}
+use Rattle.sctp_model.specs.Laws.{OnEveryRun, DeadlinesByEvents, ExpiresPastDeadline, TailAbandonsPastDeadline, LateListsPastDeadline, told_of, is_this}
+use Rattle.sctp_model.specs.Laws.{unsent_past_deadline, partially_sent_past_deadline, is_late_in, late_slots_by_events, shown_of, mode_of}
 use Rattle.sctp_model.proofs.sender.Shape.{shape, sent}
 use Rattle.sctp_model.proofs.sender.Shapes
 use Rattle.sctp_model.proofs.sender.Fronts.{front-takes, slot-sent}
@@ -43,7 +46,8 @@ got-mapped f (x ∷ xs) (suc n) d lt = got-mapped f xs n d (omega arith)
 got-number : {B : Type 0} (f : ℕ → B) (from count n : ℕ) → n < count → slice_get (map f (numbers_where always from count)) n ≡ Some (f (from + n))
 got-number f from zero n lt = absurd (omega arith)
 got-number f from (suc count) zero lt = let z : from ≡ from + 0 = omega arith in ap (λ k. Some (f k)) z
-got-number f from (suc count) (suc n) lt = let z : from + 1 + n ≡ from + suc n = omega arith in got-number f (from + 1) count n (omega arith) ∙ ap (λ k. Some (f k)) z
+got-number f from (suc count) (suc n) lt = let z : from + 1 + n ≡ from + suc n = omega arith in
+    got-number f (from + 1) count n (omega arith) ∙ ap (λ k. Some (f k)) z
 
 got-none : {A : Type 0} (xs : List A) (n : ℕ) → length xs ≤ n → slice_get xs n ≡ None
 got-none [] n le = refl
@@ -67,7 +71,8 @@ reached now value true (Some t) = step (nat_lt (t + value * 1000000) (2 ^ 64))
     step true = refl
     step false = refl
 
-lapses : (now value : ℕ) (ppi : PayloadProtocolIdentifier) (r : ReliabilityType) (o : Option ℕ) → is_past now (if is_timed r && not (is_dcep ppi) then Messages.deadline_from value o else None) ≡ (has_lifetime r ppi && is_over now value o)
+lapses : (now value : ℕ) (ppi : PayloadProtocolIdentifier) (r : ReliabilityType) (o : Option ℕ)
+    → is_past now (if is_timed r && not (is_dcep ppi) then Messages.deadline_from value o else None) ≡ (has_lifetime r ppi && is_over now value o)
 lapses now value ppi T.Reliable o = refl
 lapses now value ppi T.Rexmit o = refl
 lapses now value ppi T.Timed o = reached now value (not (is_dcep ppi)) o ∙ ap (λ b. b && is_over now value o) (timed-lifetime ppi)
@@ -82,20 +87,24 @@ deadlines_by_events setup h is run now n = step (cases_lt n (length (record_of s
     step (inl lt) =
         let m = Messages.message_at w n in
         let write : Some (shown_of w n) ≡ slice_get (writes_in h) n =
-        (let z : 0 + n ≡ n = omega arith in sym (ap (λ k. Some (shown_of w k)) z)) ∙ sym (got-number (shown_of w) 0 (length w.messages) n lt) ∙ ap (λ xs. slice_get xs n) (messages_are_writes setup h is run) in
-        let mode : Some (mode_of m) ≡ slice_get (modes_in h) n = sym (got-mapped mode_of w.messages n Messages.no_message lt) ∙ ap (λ xs. slice_get xs n) (modes_are_kept setup h is run) in
+        (let z : 0 + n ≡ n = omega arith in sym (ap (λ k. Some (shown_of w k)) z)) ∙ sym (got-number (shown_of w) 0 (length w.messages) n lt)
+        ∙ ap (λ xs. slice_get xs n) (messages_are_writes setup h is run) in
+        let mode : Some (mode_of m) ≡ slice_get (modes_in h) n = sym (got-mapped mode_of w.messages n Messages.no_message lt)
+        ∙ ap (λ xs. slice_get xs n) (modes_are_kept setup h is run) in
         lapses now m.value m.ppi m.reliability m.started
         ∙ ap (λ o. is_write_past_deadline now o (Some (shown_of w n)) (Some (mode_of m))) (starts_once setup h is run n lt)
         ∙ ap (λ x. is_write_past_deadline now (started_in h n) x (Some (mode_of m))) write
         ∙ ap (is_write_past_deadline now (started_in h n) (slice_get (writes_in h) n)) mode
     step (inr le) =
-        ap (λ m. is_past now (if is_timed m.reliability && not (is_dcep m.ppi) then Messages.deadline_from m.value m.started else None)) (get-beyond w.messages n Messages.no_message le)
-        ∙ sym (ap (λ x. is_write_past_deadline now (started_in h n) x (slice_get (modes_in h) n)) (got-none (writes_in h) n (omega (arith, le, writes-count setup h is run))))
+        ap (λ m. is_past now (if is_timed m.reliability && not (is_dcep m.ppi) then Messages.deadline_from m.value m.started else None))
+        (get-beyond w.messages n Messages.no_message le) ∙ sym (ap (λ x. is_write_past_deadline now (started_in h n) x (slice_get (modes_in h) n))
+        (got-none (writes_in h) n (omega (arith, le, writes-count setup h is run))))
 
 -- ## Expire and Tail
 
 -- the front, where a test holds of it, as the record and as the law have it
-front-where : (w : LinkRecord) (p q : ℕ → Bool) (o : Option ℕ) → ((n : ℕ) → o ≡ Some n → p n ≡ q n) → Changes.front_if w p o ≡ first_of (filter q (option_to_list o))
+front-where : (w : LinkRecord) (p q : ℕ → Bool) (o : Option ℕ) → ((n : ℕ) → o ≡ Some n → p n ≡ q n)
+    → Changes.front_if w p o ≡ first_of (filter q (option_to_list o))
 front-where w p q None same = refl
 front-where w p q (Some n) same = ap (λ b. if b then Some n else None) (same n refl) ∙ step (q n)
   where
@@ -103,8 +112,10 @@ front-where w p q (Some n) same = ap (λ b. if b then Some n else None) (same n 
     step true = refl
     step false = refl
 
-expiring-is : (setup : Setup) (h : History) → Rattle.sctp_model.specs.Laws.IsSetup setup → IsRun setup h → (now : ℕ) → Changes.expiring (record_of setup h) now ≡ unsent_past_deadline h (record_of setup h) now
-expiring-is setup h is run now = front-where w (λ n. Messages.is_unsent w n && Messages.is_past_deadline w now n) (λ n. is_past_deadline_by_events h now n && (Messages.sent_of w n == 0)) (Messages.front w) same
+expiring-is : (setup : Setup) (h : History) → Rattle.sctp_model.specs.Laws.IsSetup setup → IsRun setup h → (now : ℕ)
+    → Changes.expiring (record_of setup h) now ≡ unsent_past_deadline h (record_of setup h) now
+expiring-is setup h is run now = front-where w (λ n. Messages.is_unsent w n && Messages.is_past_deadline w now n)
+    (λ n. is_past_deadline_by_events h now n && (Messages.sent_of w n == 0)) (Messages.front w) same
   where
     w : LinkRecord
     w = record_of setup h
@@ -115,11 +126,15 @@ expiring-is setup h is run now = front-where w (λ n. Messages.is_unsent w n && 
     mixed false b c true e f = refl
     mixed false b c false e f = refl
 
-    same : (n : ℕ) → Messages.front w ≡ Some n → (Messages.is_unsent w n && Messages.is_past_deadline w now n) ≡ (is_past_deadline_by_events h now n && (Messages.sent_of w n == 0))
-    same n e = mixed (Messages.sent_of w n == 0) (Messages.message_at w n).expired (Messages.is_past_deadline w now n) (is_past_deadline_by_events h now n) (front-takes (shape w) n (sane-run setup h run).sender e).kept (deadlines_by_events setup h is run now n)
+    same : (n : ℕ) → Messages.front w ≡ Some n
+        → (Messages.is_unsent w n && Messages.is_past_deadline w now n) ≡ (is_past_deadline_by_events h now n && (Messages.sent_of w n == 0))
+    same n e = mixed (Messages.sent_of w n == 0) (Messages.message_at w n).expired (Messages.is_past_deadline w now n) (is_past_deadline_by_events h now n)
+        (front-takes (shape w) n (sane-run setup h run).sender e).kept (deadlines_by_events setup h is run now n)
 
-tailing-is : (setup : Setup) (h : History) → Rattle.sctp_model.specs.Laws.IsSetup setup → IsRun setup h → (now : ℕ) → Changes.tailing (record_of setup h) now ≡ partially_sent_past_deadline h (record_of setup h) now
-tailing-is setup h is run now = front-where w (λ n. Messages.is_partially_sent w n && Messages.is_past_deadline w now n) (λ n. is_past_deadline_by_events h now n && nat_lt 0 (Messages.sent_of w n)) (Messages.front w) same
+tailing-is : (setup : Setup) (h : History) → Rattle.sctp_model.specs.Laws.IsSetup setup → IsRun setup h → (now : ℕ)
+    → Changes.tailing (record_of setup h) now ≡ partially_sent_past_deadline h (record_of setup h) now
+tailing-is setup h is run now = front-where w (λ n. Messages.is_partially_sent w n && Messages.is_past_deadline w now n)
+    (λ n. is_past_deadline_by_events h now n && nat_lt 0 (Messages.sent_of w n)) (Messages.front w) same
   where
     w : LinkRecord
     w = record_of setup h
@@ -130,12 +145,14 @@ tailing-is setup h is run now = front-where w (λ n. Messages.is_partially_sent 
     mixed false m b c true i e f = refl
     mixed false m b c false i e f = refl
 
-    same : (n : ℕ) → Messages.front w ≡ Some n → (Messages.is_partially_sent w n && Messages.is_past_deadline w now n) ≡ (is_past_deadline_by_events h now n && nat_lt 0 (Messages.sent_of w n))
+    same : (n : ℕ) → Messages.front w ≡ Some n
+        → (Messages.is_partially_sent w n && Messages.is_past_deadline w now n) ≡ (is_past_deadline_by_events h now n && nat_lt 0 (Messages.sent_of w n))
     same n e =
         let t = front-takes (shape w) n (sane-run setup h run).sender e in
         let some = t.more in
         let more : nat_lt (Messages.sent_of w n) (Messages.fragment_count w n) ≡ true = grind (arith, nat_tests) in
-        mixed (nat_lt 0 (Messages.sent_of w n)) (nat_lt (Messages.sent_of w n) (Messages.fragment_count w n)) (Messages.message_at w n).abandoned (Messages.is_past_deadline w now n) (is_past_deadline_by_events h now n) more t.alive (deadlines_by_events setup h is run now n)
+        mixed (nat_lt 0 (Messages.sent_of w n)) (nat_lt (Messages.sent_of w n) (Messages.fragment_count w n)) (Messages.message_at w n).abandoned
+        (Messages.is_past_deadline w now n) (is_past_deadline_by_events h now n) more t.alive (deadlines_by_events setup h is run now n)
 
 -- message n, or what was so before
 marked : (n m : ℕ) (b : Bool) → ((n == m) || b) ≡ (b || ((m == n) || false))
@@ -156,7 +173,8 @@ expires_past_deadline setup h is run now = (
     w : LinkRecord
     w = record_of setup h
 
-    told : (o : Option ℕ) → expired_reply w (after w (E.Expire now)) o ≡ told_of (λ n. R.Expired (Messages.message_at w n).stream (growth w (after w (E.Expire now)))) o
+    told : (o : Option ℕ)
+        → expired_reply w (after w (E.Expire now)) o ≡ told_of (λ n. R.Expired (Messages.message_at w n).stream (growth w (after w (E.Expire now)))) o
     told None = refl
     told (Some n) = refl
 
@@ -173,7 +191,8 @@ tail_abandons_past_deadline setup h is run now = (
     w : LinkRecord
     w = record_of setup h
 
-    told : (o : Option ℕ) → tail_reply w (after w (E.Tail now)) o ≡ told_of (λ n. R.Released (Messages.message_at w n).stream (growth w (after w (E.Tail now)))) o
+    told : (o : Option ℕ)
+        → tail_reply w (after w (E.Tail now)) o ≡ told_of (λ n. R.Released (Messages.message_at w n).stream (growth w (after w (E.Tail now)))) o
     told None = refl
     told (Some n) = refl
 
@@ -183,13 +202,16 @@ tail_abandons_past_deadline setup h is run now = (
 
 -- ## Late
 
-slots-are : (setup : Setup) (h : History) → Rattle.sctp_model.specs.Laws.IsSetup setup → IsRun setup h → (now : ℕ) → Changes.late_slots (record_of setup h) now ≡ late_slots_by_events setup h (record_of setup h) now
-slots-are setup h is run now = kept-same (Changes.is_late w now) (λ p. is_late_in setup h w now (Messages.message_of w p) p) 0 (length w.slots) (λ p a b. same p (omega arith))
+slots-are : (setup : Setup) (h : History) → Rattle.sctp_model.specs.Laws.IsSetup setup → IsRun setup h → (now : ℕ)
+    → Changes.late_slots (record_of setup h) now ≡ late_slots_by_events setup h (record_of setup h) now
+slots-are setup h is run now =
+    kept-same (Changes.is_late w now) (λ p. is_late_in setup h w now (Messages.message_of w p) p) 0 (length w.slots) (λ p a b. same p (omega arith))
   where
     w : LinkRecord
     w = record_of setup h
 
-    mixed : (f f' i l l' g a a' s m : Bool) → f ≡ f' → i ≡ true → l ≡ l' → a ≡ a' → s ≡ true → ((f && i) && (l && (not g && (not a || (s && (m && not g)))))) ≡ (f' && (l' && (not g && (not a' || m))))
+    mixed : (f f' i l l' g a a' s m : Bool) → f ≡ f' → i ≡ true → l ≡ l' → a ≡ a' → s ≡ true
+        → ((f && i) && (l && (not g && (not a || (s && (m && not g)))))) ≡ (f' && (l' && (not g && (not a' || m))))
     mixed f f' i l l' true a a' s m e j k o q = rw (e, j, k) (none f' l')
       where
         none : (f l : Bool) → ((f && true) && (l && false)) ≡ (f && (l && false))
@@ -209,13 +231,16 @@ slots-are setup h is run now = kept-same (Changes.is_late w now) (λ p. is_late_
         let some : 0 < sent (shape w) n = slot-sent (shape w) p (sane-run setup h run).sender lt in
         let there : nat_lt p (length w.slots) ≡ true = grind (arith, nat_tests) in
         let begun : nat_lt 0 (Messages.sent_of w n) ≡ true = grind (arith, nat_tests) in
-        mixed (nat_le w.taken p) (nat_le (taken_in setup h) p) (nat_lt p (length w.slots)) (Messages.is_past_deadline w now n) (is_past_deadline_by_events h now n) (Messages.message_at w n).abandoned (Messages.slot_at w p).acknowledged (is_acknowledged_in setup h p) (nat_lt 0 (Messages.sent_of w n)) (nat_lt (Messages.sent_of w n) (Messages.fragment_count w n))
+        mixed (nat_le w.taken p) (nat_le (taken_in setup h) p) (nat_lt p (length w.slots)) (Messages.is_past_deadline w now n)
+        (is_past_deadline_by_events h now n) (Messages.message_at w n).abandoned (Messages.slot_at w p).acknowledged (is_acknowledged_in setup h p)
+        (nat_lt 0 (Messages.sent_of w n)) (nat_lt (Messages.sent_of w n) (Messages.fragment_count w n))
         (ap (λ t. nat_le t p) r.1) there (deadlines_by_events setup h is run now n) (r.0 p lt) begun
 
 pub late_lists_past_deadline : OnEveryRun LateListsPastDeadline
 late_lists_past_deadline setup h is run now = (
   ap (λ ps. R.Late (length ps) (growth w (after w (E.Late now)))) (slots-are setup h is run now),
-  λ n lt. late_abandons_listed setup h is run now n lt ∙ ap (λ ps. (Messages.message_at w n).abandoned || list_any (λ p. Messages.message_of w p == n) ps) (slots-are setup h is run now),
+  λ n lt. late_abandons_listed setup h is run now n lt
+      ∙ ap (λ ps. (Messages.message_at w n).abandoned || list_any (λ p. Messages.message_of w p == n) ps) (slots-are setup h is run now),
 )
   where
     w : LinkRecord

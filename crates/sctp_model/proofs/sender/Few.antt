@@ -12,36 +12,51 @@ use Rattle.sctp_list_lemmas.proofs.Cases.{by_same, same-yes}
 use Rattle.sctp_list_lemmas.proofs.Totals.{total-none, total-one, total-le}
 
 -- each of so many things is of one of the messages
-counted : (g : ℕ → ℕ) (most things : ℕ) → ((p : ℕ) → p < things → g p < most) → total_over (λ n. length (numbers_where (λ p. g p == n) 0 things)) (numbers_where always 0 most) ≡ things
+counted : (g : ℕ → ℕ) (most things : ℕ) → ((p : ℕ) → p < things → g p < most)
+    → total_over (λ n. length (numbers_where (λ p. g p == n) 0 things)) (numbers_where always 0 most) ≡ things
 counted g most zero h = total-none (λ n. 0) 0 most (λ k a b. refl)
 counted g most (suc things) h =
     let ih = counted g most things (λ p lt. h p (omega arith)) in
-    let one = total-one (λ n. length (numbers_where (λ p. g p == n) 0 things)) (λ n. length (numbers_where (λ p. g p == n) 0 (suc things))) (g things) 1 0 most (omega arith) (omega (arith, h things (omega arith))) (λ k ne. sym (other k ne)) (sym here) in
+    let one = total-one (λ n. length (numbers_where (λ p. g p == n) 0 things)) (λ n. length (numbers_where (λ p. g p == n) 0 (suc things)))
+    (g things) 1 0 most (omega arith) (omega (arith, h things (omega arith))) (λ k ne. sym (other k ne)) (sym here) in
     omega (arith, ih, one)
   where
-    more : (k : ℕ) → length (numbers_where (λ p. g p == k) 0 (suc things)) ≡ length (numbers_where (λ p. g p == k) 0 things ++ (if g things == k then things ∷ [] else []))
+    more : (k : ℕ)
+        → length (numbers_where (λ p. g p == k) 0 (suc things)) ≡ length (numbers_where (λ p. g p == k) 0 things ++ (if g things == k then things ∷ [] else []))
     more k = ap length (kept-snoc (λ p. g p == k) 0 things things (omega arith))
 
     other : (k : ℕ) → (k ≡ g things → ⊥) → length (numbers_where (λ p. g p == k) 0 (suc things)) ≡ length (numbers_where (λ p. g p == k) 0 things)
-    other k ne = more k ∙ by_same {P = length (numbers_where (λ p. g p == k) 0 things ++ (if g things == k then things ∷ [] else [])) ≡ length (numbers_where (λ p. g p == k) 0 things)} (g things) k
+    other k ne = more k ∙ by_same
+        {P = length (numbers_where (λ p. g p == k) 0 things ++ (if g things == k then things ∷ [] else [])) ≡ length (numbers_where (λ p. g p == k) 0 things)}
+        (g things) k
         (λ e. absurd (ne (sym e)))
-        (λ n f. ap (λ b. length (numbers_where (λ p. g p == k) 0 things ++ (if b then things ∷ [] else []))) f ∙ (let z = length-append (numbers_where (λ p. g p == k) 0 things) [] in omega (arith, z)))
+        (λ n f. ap (λ b. length (numbers_where (λ p. g p == k) 0 things ++ (if b then things ∷ [] else []))) f
+        ∙ (let z = length-append (numbers_where (λ p. g p == k) 0 things) [] in omega (arith, z)))
 
     here : length (numbers_where (λ p. g p == g things) 0 (suc things)) ≡ length (numbers_where (λ p. g p == g things) 0 things) + 1
-    here = more (g things) ∙ ap (λ b. length (numbers_where (λ p. g p == g things) 0 things ++ (if b then things ∷ [] else []))) (same-yes (g things)) ∙ length-append (numbers_where (λ p. g p == g things) 0 things) (things ∷ [])
+    here = more (g things) ∙ ap (λ b. length (numbers_where (λ p. g p == g things) 0 things ++ (if b then things ∷ [] else []))) (same-yes (g things))
+        ∙ length-append (numbers_where (λ p. g p == g things) 0 things) (things ∷ [])
 
-length-split : (p q : ℕ → Bool) (from count : ℕ) → length (numbers_where (λ k. p k && not (q k)) from count) + length (numbers_where (λ k. p k && q k) from count) ≡ length (numbers_where p from count)
+length-split : (p q : ℕ → Bool) (from count : ℕ)
+    → length (numbers_where (λ k. p k && not (q k)) from count) + length (numbers_where (λ k. p k && q k) from count) ≡ length (numbers_where p from count)
 length-split p q from zero = refl
 length-split p q from (suc count) = step (p from) (q from) (length-split p q (from + 1) count)
   where
-    step : (b c : Bool) → length (numbers_where (λ k. p k && not (q k)) (from + 1) count) + length (numbers_where (λ k. p k && q k) (from + 1) count) ≡ length (numbers_where p (from + 1) count)
-        → length (if b && not c then from ∷ numbers_where (λ k. p k && not (q k)) (from + 1) count else numbers_where (λ k. p k && not (q k)) (from + 1) count) + length (if b && c then from ∷ numbers_where (λ k. p k && q k) (from + 1) count else numbers_where (λ k. p k && q k) (from + 1) count) ≡ length (if b then from ∷ numbers_where p (from + 1) count else numbers_where p (from + 1) count)
+    step : (b c : Bool) → length (numbers_where (λ k. p k && not (q k)) (from + 1) count) + length (numbers_where (λ k. p k && q k) (from + 1) count)
+        ≡ length (numbers_where p (from + 1) count)
+        → length (if b && not c then from ∷ numbers_where (λ k. p k && not (q k)) (from + 1) count else numbers_where (λ k. p k && not (q k)) (from + 1) count)
+        + length (if b && c then from ∷ numbers_where (λ k. p k && q k) (from + 1) count else numbers_where (λ k. p k && q k) (from + 1) count)
+        ≡ length (if b then from ∷ numbers_where p (from + 1) count else numbers_where p (from + 1) count)
     step true true ih = omega (arith, ih)
     step true false ih = omega (arith, ih)
     step false c ih = ih
 
 pub few-slots : (x : Shape) → Sender x → x.slots ≤ accepted_of x
-few-slots x s = omega (arith, counted (λ p. (x.slot p).message) x.count x.slots s.made, total-le (λ n. length (numbers_where (λ p. (x.slot p).message == n) 0 x.slots)) (parts x) 0 x.count (λ n a b. each n (omega arith)))
+few-slots x s = omega (
+  arith,
+  counted (λ p. (x.slot p).message) x.count x.slots s.made,
+  total-le (λ n. length (numbers_where (λ p. (x.slot p).message == n) 0 x.slots)) (parts x) 0 x.count (λ n a b. each n (omega arith)),
+)
   where
     one : (a b : Bool) (m p : ℕ) → m ≤ p → b ≡ nat_lt m p → m + (if a && b then 1 else 0) ≤ p
     one true true m p le e = let z : m < p = (let w = sym e in grind (arith, nat_tests)) in omega arith
@@ -49,7 +64,12 @@ few-slots x s = omega (arith, counted (λ p. (x.slot p).message) x.count x.slots
     one false b m p le e = omega arith
 
     each : (n : ℕ) → n < x.count → length (numbers_where (λ p. (x.slot p).message == n) 0 x.slots) ≤ parts x n
-    each n lt = omega (arith, length-split (λ p. (x.slot p).message == n) (λ p. (x.slot p).is_terminal_chunk) 0 x.slots, s.marks n lt, one (x.message n).abandoned (nat_lt (sent x n) (parts x n)) (sent x n) (parts x n) (s.within n lt) refl)
+    each n lt = omega (
+      arith,
+      length-split (λ p. (x.slot p).message == n) (λ p. (x.slot p).is_terminal_chunk) 0 x.slots,
+      s.marks n lt,
+      one (x.message n).abandoned (nat_lt (sent x n) (parts x n)) (sent x n) (parts x n) (s.within n lt) refl,
+    )
 
 pub few : (setup : Setup) (w : LinkRecord) → Sane setup w → length w.slots < 2 ^ 31
 few setup w g = omega (arith, few-slots (shape w) g.sender, g.accepted)

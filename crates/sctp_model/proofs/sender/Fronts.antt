@@ -24,7 +24,8 @@ pub record IsUnsent (x : Shape) (n : ℕ) : Type 0 where
   pub alive : (x.message n).expired ≡ false
 
 pub of-unsent : (x : Shape) (n : ℕ) → unsent x n ≡ true → IsUnsent x n
-of-unsent x n h = let a = both (sent x n == 0) (not (x.message n).expired) h in record { none = same-is (sent x n) 0 a.0; alive = negated (x.message n).expired a.1 }
+of-unsent x n h = let a = both (sent x n == 0) (not (x.message n).expired) h in
+    record { none = same-is (sent x n) 0 a.0; alive = negated (x.message n).expired a.1 }
 
 pub is-unsent : (x : Shape) (n : ℕ) → sent x n ≡ 0 → (x.message n).expired ≡ false → unsent x n ≡ true
 is-unsent x n a b = and (sent x n == 0) (not (x.message n).expired) (ap (λ c. c == 0) a) (ap not b)
@@ -40,7 +41,8 @@ front-takes x n s e = first (first_of (numbers_where (half x) 0 x.count)) (first
     absent : ((j : ℕ) → j < x.count → half x j ≡ false) → (k : ℕ) → half x k ≡ true → k ≡ n
     absent no' k h = absurd (not_both (sym (no' k (half-made x k s h)) ∙ h))
 
-    sending : ((j : ℕ) → j < x.count → half x j ≡ false) → n < x.count → IsUnsent x n → ((x.message n).ordered ≡ true → (m : ℕ) → m < n → (x.message m).ordered ≡ true → (x.message m).expired ≡ false → 0 < sent x m) → Takes x n
+    sending : ((j : ℕ) → j < x.count → half x j ≡ false) → n < x.count → IsUnsent x n
+        → ((x.message n).ordered ≡ true → (m : ℕ) → m < n → (x.message m).ordered ≡ true → (x.message m).expired ≡ false → 0 < sent x m) → Takes x n
     sending no' lt u turn = record {
       made = lt;
       more = omega (arith, u.none, s.some n lt);
@@ -58,19 +60,24 @@ front-takes x n s e = first (first_of (numbers_where (half x) 0 x.count)) (first
         sending no' (omega (arith, f.0)) (of-unsent x n a.0)
         (λ o m lt ord alive. pos m lt ord alive (f.2 m (omega arith)) (cases_lt 0 (sent x m)))
       where
-        pos : (m : ℕ) → m < n → (x.message m).ordered ≡ true → (x.message m).expired ≡ false → (unsent x m && (x.message m).ordered) ≡ false → (0 < sent x m) ⊎ (sent x m ≤ 0) → 0 < sent x m
+        pos : (m : ℕ) → m < n → (x.message m).ordered ≡ true → (x.message m).expired ≡ false → (unsent x m && (x.message m).ordered) ≡ false
+            → (0 < sent x m) ⊎ (sent x m ≤ 0) → 0 < sent x m
         pos m lt ord alive none (inl l) = l
         pos m lt ord alive none (inr g) = absurd (not_both (sym none ∙ and (unsent x m) (x.message m).ordered (is-unsent x m (omega arith) alive) ord))
 
-    second : ((j : ℕ) → j < x.count → half x j ≡ false) → (o : Option ℕ) → FirstOf (λ k. unsent x k && not (x.message k).ordered) x.count o → or_else o (first_of (numbers_where (λ k. unsent x k && (x.message k).ordered) 0 x.count)) ≡ Some n → Takes x n
-    second no' None f e = third no' (first_of (numbers_where (λ k. unsent x k && (x.message k).ordered) 0 x.count)) (first-kept (λ k. unsent x k && (x.message k).ordered) x.count) e
+    second : ((j : ℕ) → j < x.count → half x j ≡ false) → (o : Option ℕ) → FirstOf (λ k. unsent x k && not (x.message k).ordered) x.count o
+        → or_else o (first_of (numbers_where (λ k. unsent x k && (x.message k).ordered) 0 x.count)) ≡ Some n → Takes x n
+    second no' None f e = third no' (first_of (numbers_where (λ k. unsent x k && (x.message k).ordered) 0 x.count))
+        (first-kept (λ k. unsent x k && (x.message k).ordered) x.count) e
     second no' (Some k) f e =
         let same : k ≡ n = cc in
         let a = both (unsent x n) (not (x.message n).ordered) (ap (λ j. unsent x j && not (x.message j).ordered) (sym same) ∙ f.1) in
         sending no' (omega (arith, f.0)) (of-unsent x n a.0) (λ o m lt ord alive. absurd (not_both (sym (negated (x.message n).ordered a.1) ∙ o)))
 
-    first : (o : Option ℕ) → FirstOf (half x) x.count o → or_else o (or_else (first_of (numbers_where (λ k. unsent x k && not (x.message k).ordered) 0 x.count)) (first_of (numbers_where (λ k. unsent x k && (x.message k).ordered) 0 x.count))) ≡ Some n → Takes x n
-    first None f e = second f (first_of (numbers_where (λ k. unsent x k && not (x.message k).ordered) 0 x.count)) (first-kept (λ k. unsent x k && not (x.message k).ordered) x.count) e
+    first : (o : Option ℕ) → FirstOf (half x) x.count o → or_else o (or_else (first_of (numbers_where (λ k. unsent x k && not (x.message k).ordered) 0 x.count))
+        (first_of (numbers_where (λ k. unsent x k && (x.message k).ordered) 0 x.count))) ≡ Some n → Takes x n
+    first None f e = second f (first_of (numbers_where (λ k. unsent x k && not (x.message k).ordered) 0 x.count))
+        (first-kept (λ k. unsent x k && not (x.message k).ordered) x.count) e
     first (Some k) f e =
         let same : k ≡ n = cc in
         let h : half x n ≡ true = ap (half x) (sym same) ∙ f.1 in
@@ -94,23 +101,29 @@ front-none x e n lt = first (first_of (numbers_where (half x) 0 x.count)) (first
     neither true false p q = cc
     neither false b p q = refl
 
-    third : half x n ≡ false → (unsent x n && not (x.message n).ordered) ≡ false → (o : Option ℕ) → FirstOf (λ k. unsent x k && (x.message k).ordered) x.count o → o ≡ None → (half x n ≡ false) × (unsent x n ≡ false)
+    third : half x n ≡ false → (unsent x n && not (x.message n).ordered) ≡ false → (o : Option ℕ) → FirstOf (λ k. unsent x k && (x.message k).ordered) x.count o
+        → o ≡ None → (half x n ≡ false) × (unsent x n ≡ false)
     third h u None f e = (h, neither (unsent x n) (x.message n).ordered u (f n lt))
     third h u (Some k) f e = cc
 
-    second : half x n ≡ false → (o : Option ℕ) → FirstOf (λ k. unsent x k && not (x.message k).ordered) x.count o → or_else o (first_of (numbers_where (λ k. unsent x k && (x.message k).ordered) 0 x.count)) ≡ None → (half x n ≡ false) × (unsent x n ≡ false)
-    second h None f e = third h (f n lt) (first_of (numbers_where (λ k. unsent x k && (x.message k).ordered) 0 x.count)) (first-kept (λ k. unsent x k && (x.message k).ordered) x.count) e
+    second : half x n ≡ false → (o : Option ℕ) → FirstOf (λ k. unsent x k && not (x.message k).ordered) x.count o
+        → or_else o (first_of (numbers_where (λ k. unsent x k && (x.message k).ordered) 0 x.count)) ≡ None → (half x n ≡ false) × (unsent x n ≡ false)
+    second h None f e = third h (f n lt) (first_of (numbers_where (λ k. unsent x k && (x.message k).ordered) 0 x.count))
+        (first-kept (λ k. unsent x k && (x.message k).ordered) x.count) e
     second h (Some k) f e = cc
 
-    first : (o : Option ℕ) → FirstOf (half x) x.count o → or_else o (or_else (first_of (numbers_where (λ k. unsent x k && not (x.message k).ordered) 0 x.count)) (first_of (numbers_where (λ k. unsent x k && (x.message k).ordered) 0 x.count))) ≡ None → (half x n ≡ false) × (unsent x n ≡ false)
-    first None f e = second (f n lt) (first_of (numbers_where (λ k. unsent x k && not (x.message k).ordered) 0 x.count)) (first-kept (λ k. unsent x k && not (x.message k).ordered) x.count) e
+    first : (o : Option ℕ) → FirstOf (half x) x.count o → or_else o (or_else (first_of (numbers_where (λ k. unsent x k && not (x.message k).ordered) 0 x.count))
+        (first_of (numbers_where (λ k. unsent x k && (x.message k).ordered) 0 x.count))) ≡ None → (half x n ≡ false) × (unsent x n ≡ false)
+    first None f e = second (f n lt) (first_of (numbers_where (λ k. unsent x k && not (x.message k).ordered) 0 x.count))
+        (first-kept (λ k. unsent x k && not (x.message k).ordered) x.count) e
     first (Some k) f e = cc
 
 -- a terminal chunk is of an abandoned message
 pub mark-abandoned : (x : Shape) (p : ℕ) → Sender x → p < x.slots → (x.slot p).is_terminal_chunk ≡ true → (x.message (x.slot p).message).abandoned ≡ true
 mark-abandoned x p s lt e =
     let n = (x.slot p).message in
-    let some : 0 < length (numbers_where (is_mark x n) 0 x.slots) = length-kept-positive (is_mark x n) p 0 x.slots (omega arith) (omega arith) (and ((x.slot p).message == n) (x.slot p).is_terminal_chunk (same-yes n) e) in
+    let some : 0 < length (numbers_where (is_mark x n) 0 x.slots) = length-kept-positive (is_mark x n) p 0 x.slots (omega arith) (omega arith)
+    (and ((x.slot p).message == n) (x.slot p).is_terminal_chunk (same-yes n) e) in
     abandoned (x.message n).abandoned (omega (arith, some, s.marks n (s.made p lt)))
   where
     abandoned : (b : Bool) → ◌<◌ 0 (if b && nat_lt (sent x (x.slot p).message) (parts x (x.slot p).message) then 1 else 0) → b ≡ true
@@ -122,5 +135,6 @@ pub slot-sent : (x : Shape) (p : ℕ) → Sender x → p < x.slots → 0 < sent 
 slot-sent x p s lt = step (x.slot p).is_terminal_chunk refl
   where
     step : (b : Bool) → (x.slot p).is_terminal_chunk ≡ b → 0 < sent x (x.slot p).message
-    step false e = sent-some x (x.slot p).message p lt (and ((x.slot p).message == (x.slot p).message) (not (x.slot p).is_terminal_chunk) (same-yes (x.slot p).message) (ap not e))
+    step false e = sent-some x (x.slot p).message p lt
+        (and ((x.slot p).message == (x.slot p).message) (not (x.slot p).is_terminal_chunk) (same-yes (x.slot p).message) (ap not e))
     step true e = s.abandoned_sent (x.slot p).message (s.made p lt) (mark-abandoned x p s lt e)

@@ -37,13 +37,25 @@ pub record Grows (x y : Shape) : Type 0 where
   pub same_index : (n : ℕ) → 0 < sent x n → (x.message n).ordered ≡ true → index y n ≡ index x n
 
 pub grows-same : (x y : Shape) → y ≡ x → Grows x y
-grows-same x y e = subst (λ z. Grows x z) (sym e) (record { size = refl; slots = omega arith; slot = λ p lt. refl; count = omega arith; message = λ n lt. refl; abandoned = λ n lt e. e; expired = λ n lt e. e; sent_more = λ n. omega arith; ended = λ n a b. refl; same_index = λ n a b. refl })
+grows-same x y e = subst (λ z. Grows x z) (sym e) (record {
+  size = refl;
+  slots = omega arith;
+  slot = λ p lt. refl;
+  count = omega arith;
+  message = λ n lt. refl;
+  abandoned = λ n lt e. e;
+  expired = λ n lt e. e;
+  sent_more = λ n. omega arith;
+  ended = λ n a b. refl;
+  same_index = λ n a b. refl;
+})
 
 pub grows-by : (x y z : Shape) → y ≡ z → Grows x z → Grows x y
 grows-by x y z e g = subst (λ s. Grows x s) (sym e) g
 
 pub parts-grown : (x y : Shape) → Grows x y → (n : ℕ) → n < x.count → parts y n ≡ parts x n
-parts-grown x y g n lt = ap (λ m. length (pieces (length m.bytes) y.size m.bytes)) (g.message n lt) ∙ ap (λ s. length (pieces (length (x.message n).bytes) s (x.message n).bytes)) g.size
+parts-grown x y g n lt = ap (λ m. length (pieces (length m.bytes) y.size m.bytes)) (g.message n lt)
+    ∙ ap (λ s. length (pieces (length (x.message n).bytes) s (x.message n).bytes)) g.size
 
 pub grows-then : (x y z : Shape) → Sender x → Grows x y → Grows y z → Grows x z
 grows-then x y z s f g = record {
@@ -88,7 +100,18 @@ none-more true c = omega arith
 none-more false c = omega arith
 
 pub grows-abandoned : (x : Shape) (n : ℕ) → Grows x (abandoned_at x n)
-grows-abandoned x n = record { size = refl; slots = omega arith; slot = λ p lt. refl; count = omega arith; message = λ k lt. refl; abandoned = λ k lt e. or-right (k == n) (x.message k).abandoned e; expired = λ k lt e. e; sent_more = λ k. omega arith; ended = λ k a b. refl; same_index = λ k a b. refl }
+grows-abandoned x n = record {
+  size = refl;
+  slots = omega arith;
+  slot = λ p lt. refl;
+  count = omega arith;
+  message = λ k lt. refl;
+  abandoned = λ k lt e. or-right (k == n) (x.message k).abandoned e;
+  expired = λ k lt e. e;
+  sent_more = λ k. omega arith;
+  ended = λ k a b. refl;
+  same_index = λ k a b. refl;
+}
 
 pub grows-marked : (x : Shape) (n : ℕ) → Grows x (abandoned_at (slotted x n true) n)
 grows-marked x n = record {
@@ -115,17 +138,27 @@ grows-expired x n s z alive = record {
   expired = λ k lt e. or-right (k == n) (x.message k).expired e;
   sent_more = λ k. omega arith;
   ended = λ k a b. refl;
-  same_index = λ k pos o. ap length (kept-same (on (expired_at x n) (x.message k).stream) (on x (x.message k).stream) 0 k (λ j a b. same k pos o j (omega arith) ((x.message j).stream == (x.message k).stream) refl (x.message j).ordered refl));
+  same_index = λ k pos o. ap length (kept-same (on (expired_at x n) (x.message k).stream) (on x (x.message k).stream) 0 k
+      (λ j a b. same k pos o j (omega arith) ((x.message j).stream == (x.message k).stream) refl (x.message j).ordered refl));
 }
   where
     here : (k : ℕ) → 0 < sent x k → (x.message k).ordered ≡ true → on x (x.message k).stream k ≡ true
-    here k pos o = and ((x.message k).stream == (x.message k).stream) ((x.message k).ordered && not (x.message k).expired) (same-yes (x.message k).stream) (and (x.message k).ordered (not (x.message k).expired) o (ap not (sent-alive x k s pos)))
+    here k pos o = and ((x.message k).stream == (x.message k).stream) ((x.message k).ordered && not (x.message k).expired) (same-yes (x.message k).stream)
+        (and (x.message k).ordered (not (x.message k).expired) o (ap not (sent-alive x k s pos)))
 
-    same : (k : ℕ) → 0 < sent x k → (x.message k).ordered ≡ true → (j : ℕ) → j < k → (a : Bool) → ((x.message j).stream == (x.message k).stream) ≡ a → (b : Bool) → (x.message j).ordered ≡ b → (a && (b && not ((j == n) || (x.message j).expired))) ≡ (a && (b && not (x.message j).expired))
+    same : (k : ℕ) → 0 < sent x k → (x.message k).ordered ≡ true → (j : ℕ) → j < k → (a : Bool) → ((x.message j).stream == (x.message k).stream) ≡ a
+        → (b : Bool) → (x.message j).ordered ≡ b → (a && (b && not ((j == n) || (x.message j).expired))) ≡ (a && (b && not (x.message j).expired))
     same k pos o j lt false p b q = refl
     same k pos o j lt true p false q = refl
     same k pos o j lt true p true q = by_same {P = not ((j == n) || (x.message j).expired) ≡ not (x.message j).expired} j n
-        (λ e. absurd (omega (arith, z, ap (sent x) e, s.turn (x.message k).stream j k lt (sent-made x k s pos) (and ((x.message j).stream == (x.message k).stream) ((x.message j).ordered && not (x.message j).expired) p (and (x.message j).ordered (not (x.message j).expired) q (ap (λ i. not (x.message i).expired) e ∙ ap not alive))) (here k pos o) pos)))
+        (λ e. absurd (omega (
+          arith,
+          z,
+          ap (sent x) e,
+          s.turn (x.message k).stream j k lt (sent-made x k s pos)
+              (and ((x.message j).stream == (x.message k).stream) ((x.message j).ordered && not (x.message j).expired) p
+              (and (x.message j).ordered (not (x.message j).expired) q (ap (λ i. not (x.message i).expired) e ∙ ap not alive))) (here k pos o) pos,
+        )))
         (λ ne f. ap (λ b. not (b || (x.message j).expired)) f)
 
 pub grows-written : (x : Shape) (m : MessagePart) → Sender x → Grows x (written x m)
@@ -141,7 +174,8 @@ grows-written x m s = record {
   ended = λ k a b. refl;
   same_index = λ k pos o. let lt = sent-made x k s pos in
       ap (λ r. length (numbers_where (on (written x m) r) 0 k)) (ap (λ y. y.stream) (message-old x m k lt))
-      ∙ ap length (kept-same (on (written x m) (x.message k).stream) (on x (x.message k).stream) 0 k (λ j a b. on-old x m (x.message k).stream j (omega arith)));
+      ∙ ap length
+      (kept-same (on (written x m) (x.message k).stream) (on x (x.message k).stream) 0 k (λ j a b. on-old x m (x.message k).stream j (omega arith)));
 }
 
 -- a terminal chunk alone

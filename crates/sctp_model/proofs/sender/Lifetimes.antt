@@ -1,4 +1,5 @@
-use Rattle.std.proofs.Common.{◌≡◌, ℕ, ◌+◌, ◌<◌, ◌≤◌, Bool, true, false, List, [], ◌∷◌, ◌++◌, length, map, Option, Some, None, refl, ap, sym, ◌∙◌, inl, inr, arith, length-append}
+use Rattle.std.proofs.Common.{◌≡◌, ℕ, ◌+◌, ◌<◌, ◌≤◌, Bool, true, false, List, [], ◌∷◌, ◌++◌, length, map, Option, Some, None, refl, ap, sym, ◌∙◌, inl, inr}
+use Rattle.std.proofs.Common.{arith, length-append}
 use Rattle.std.specs.Prelude.{◌⊎◌, if◌then◌else◌, ◌==◌, ◌||◌, nat_lt, fold, slice_get, slice_index_or, is_none}
 use Rattle.std.specs.List.{list_any, filter}
 use Rattle.std.proofs.lemmas.Bool.{cases_lt}
@@ -29,21 +30,25 @@ use Rattle.sctp_list_lemmas.proofs.Totals.{length-numbers}
 
 -- ## Lifetimes
 
-started-now : (w : LinkRecord) (now n : ℕ) → n < length w.messages → (Messages.message_at (Changes.after_start w now) n).started ≡ or_else (Messages.message_at w n).started (Some now)
+started-now : (w : LinkRecord) (now n : ℕ) → n < length w.messages
+    → (Messages.message_at (Changes.after_start w now) n).started ≡ or_else (Messages.message_at w n).started (Some now)
 started-now w now n lt = ap (λ m. m.started) (map-at (Changes.start_lifetime now) n w.messages Messages.no_message lt) ∙ step (Messages.message_at w n).started
   where
     step : (o : Option ℕ) → (if is_none o then Some now else o) ≡ or_else o (Some now)
     step None = refl
     step (Some t) = refl
 
-started-sent : (w : LinkRecord) (now n : ℕ) (o : Option ℕ) → n < length w.messages → (Messages.message_at (Changes.send_from (Changes.after_start w now) o) n).started ≡ or_else (Messages.message_at w n).started (Some now)
+started-sent : (w : LinkRecord) (now n : ℕ) (o : Option ℕ) → n < length w.messages
+    → (Messages.message_at (Changes.send_from (Changes.after_start w now) o) n).started ≡ or_else (Messages.message_at w n).started (Some now)
 started-sent w now n None lt = started-now w now n lt
-started-sent w now n (Some m) lt = ap (λ ms. (slice_index_or ms n Messages.no_message).started) (messages-sent (Changes.after_start w now)) ∙ started-now w now n lt
+started-sent w now n (Some m) lt = ap (λ ms. (slice_index_or ms n Messages.no_message).started) (messages-sent (Changes.after_start w now))
+    ∙ started-now w now n lt
 
 started-abandoned : (w : LinkRecord) (m n : ℕ) → (Messages.message_at (Changes.after_abandon w m) n).started ≡ (Messages.message_at w n).started
 started-abandoned w m n = step (Messages.is_partially_sent w m)
   where
-    step : (b : Bool) → (Messages.message_at (Changes.message_changed (if b then Changes.with_slot w m true else w) m Changes.mark_abandoned) n).started ≡ (Messages.message_at w n).started
+    step : (b : Bool) → (Messages.message_at (Changes.message_changed (if b then Changes.with_slot w m true else w) m Changes.mark_abandoned) n).started
+        ≡ (Messages.message_at w n).started
     step true = changed-keeps Changes.mark_abandoned (λ y. y.started) (λ y. refl) m n w.messages Messages.no_message
     step false = changed-keeps Changes.mark_abandoned (λ y. y.started) (λ y. refl) m n w.messages Messages.no_message
 
@@ -63,12 +68,15 @@ started-read w s n (Some m) = changed-keeps Changes.mark_read (λ y. y.started) 
 pub messages-slot : (w : LinkRecord) (p : ℕ) → (Changes.receive_slot w p).messages ≡ w.messages
 messages-slot w p = step (is_new w p)
   where
-    noted : (v : LinkRecord) (n : ℕ) (b : Bool) → (if b then Changes.stream_changed v (Messages.message_at v n).stream (Changes.with_complete n) else v).messages ≡ v.messages
+    noted : (v : LinkRecord) (n : ℕ) (b : Bool)
+        → (if b then Changes.stream_changed v (Messages.message_at v n).stream (Changes.with_complete n) else v).messages ≡ v.messages
     noted v n true = refl
     noted v n false = refl
 
-    step : (b : Bool) → (if b then Changes.note_completion (record w { slots = change_at Changes.mark_arrived p w.slots }) (Messages.message_of w p) else record w { duplicates = w.duplicates ++ p ∷ [] }).messages ≡ w.messages
-    step true = noted (record w { slots = change_at Changes.mark_arrived p w.slots }) (Messages.message_of w p) (Changes.becomes_complete (record w { slots = change_at Changes.mark_arrived p w.slots }) (Messages.message_of w p))
+    step : (b : Bool) → (if b then Changes.note_completion (record w { slots = change_at Changes.mark_arrived p w.slots }) (Messages.message_of w p)
+        else record w { duplicates = w.duplicates ++ p ∷ [] }).messages ≡ w.messages
+    step true = noted (record w { slots = change_at Changes.mark_arrived p w.slots }) (Messages.message_of w p)
+        (Changes.becomes_complete (record w { slots = change_at Changes.mark_arrived p w.slots }) (Messages.message_of w p))
     step false = refl
 
 pub messages-received : (w : LinkRecord) (o : Option Datagram) → (Changes.after_arrive w o).messages ≡ w.messages
@@ -88,36 +96,42 @@ messages-taken w (Some (Forward upto names)) = refl
 messages-taken w (Some (Sack r)) = refl
 
 -- one event: a message that there was
-started-after : (w : LinkRecord) (e : Event) (n : ℕ) → n < length w.messages → (Messages.message_at (after w e) n).started ≡ or_else (Messages.message_at w n).started (moment_of e)
+started-after : (w : LinkRecord) (e : Event) (n : ℕ) → n < length w.messages
+    → (Messages.message_at (after w e) n).started ≡ or_else (Messages.message_at w n).started (moment_of e)
 started-after w e n lt = by_event e
   where
     none : (o : Option ℕ) → o ≡ or_else o None
     none None = refl
     none (Some t) = refl
 
-    same : (v : LinkRecord) → (Messages.message_at v n).started ≡ (Messages.message_at w n).started → (Messages.message_at v n).started ≡ or_else (Messages.message_at w n).started None
+    same : (v : LinkRecord) → (Messages.message_at v n).started ≡ (Messages.message_at w n).started
+        → (Messages.message_at v n).started ≡ or_else (Messages.message_at w n).started None
     same v e = e ∙ none (Messages.message_at w n).started
 
     by_event : (e : Event) → (Messages.message_at (after w e) n).started ≡ or_else (Messages.message_at w n).started (moment_of e)
     by_event (E.Open s) = same (after w (E.Open s)) refl
     by_event (E.Mode s u v x) = same (after w (E.Mode s u v x)) refl
     by_event (E.Write s ppi []) = same w refl
-    by_event (E.Write s ppi (b ∷ bs)) = same (Changes.after_write w s ppi (b ∷ bs)) (ap (λ m. m.started) (get-snoc_old w.messages (written_as w s ppi (b ∷ bs)) n Messages.no_message (λ e. absurd (omega arith))))
+    by_event (E.Write s ppi (b ∷ bs)) = same (Changes.after_write w s ppi (b ∷ bs))
+        (ap (λ m. m.started) (get-snoc_old w.messages (written_as w s ppi (b ∷ bs)) n Messages.no_message (λ e. absurd (omega arith))))
     by_event (E.Start now) = started-now w now n lt
     by_event (E.Send now) = started-sent w now n (Messages.front w) lt
     by_event (E.Resend x) = same (after w (E.Resend x)) refl
     by_event (E.Expire now) = same (after w (E.Expire now)) (started-expired w n (Changes.expiring w now))
     by_event (E.Tail now) = same (after w (E.Tail now)) (started-tail w n (Changes.tailing w now))
-    by_event (E.Late now) = same (after w (E.Late now)) (fold-keeps (λ v. (Messages.message_at v n).started ≡ (Messages.message_at w n).started) Changes.after_abandon (λ v m e. started-abandoned v m n ∙ e) (Changes.late_messages w now) w refl)
+    by_event (E.Late now) = same (after w (E.Late now)) (fold-keeps (λ v. (Messages.message_at v n).started
+        ≡ (Messages.message_at w n).started) Changes.after_abandon (λ v m e. started-abandoned v m n ∙ e) (Changes.late_messages w now) w refl)
     by_event (E.Abandon tsn) = same (after w (E.Abandon tsn)) (started-abandoned w (Messages.message_of w (Messages.place_of w tsn)) n)
     by_event (E.Skip upto names) = same (after w (E.Skip upto names)) refl
     by_event (E.Ack credit) = same (after w (E.Ack credit)) refl
-    by_event (E.Arrive k) = same (after w (E.Arrive k)) (ap (λ ms. (slice_index_or ms n Messages.no_message).started) (messages-received w (slice_get w.network k)))
+    by_event (E.Arrive k) =
+        same (after w (E.Arrive k)) (ap (λ ms. (slice_index_or ms n Messages.no_message).started) (messages-received w (slice_get w.network k)))
     by_event (E.Acked k) = same (after w (E.Acked k)) (ap (λ ms. (slice_index_or ms n Messages.no_message).started) (messages-taken w (slice_get w.network k)))
     by_event (E.Read s) = same (after w (E.Read s)) (started-read w s n (next_read w s))
 
 -- a message that an event makes
-started-new : (w : LinkRecord) (e : Event) (n : ℕ) → length w.messages ≤ n → n < length (after w e).messages → (Messages.message_at (after w e) n).started ≡ None
+started-new : (w : LinkRecord) (e : Event) (n : ℕ) → length w.messages ≤ n → n < length (after w e).messages
+    → (Messages.message_at (after w e) n).started ≡ None
 started-new w (E.Write s ppi []) n le lt = absurd (omega arith)
 started-new w (E.Write s ppi (b ∷ bs)) n le lt =
     let m = written_as w s ppi (b ∷ bs) in
@@ -130,7 +144,8 @@ started-new w (E.Send now) n le lt = absurd (few w now n (Messages.front w) le l
   where
     few : (w : LinkRecord) (now n : ℕ) (o : Option ℕ) → length w.messages ≤ n → n < length (Changes.send_from (Changes.after_start w now) o).messages → ⊥
     few w now n None le lt = absurd (omega (arith, length-mapped (Changes.start_lifetime now) w.messages))
-    few w now n (Some m) le lt = absurd (omega (arith, ap length (messages-sent (Changes.after_start w now)), length-mapped (Changes.start_lifetime now) w.messages))
+    few w now n (Some m) le lt =
+        absurd (omega (arith, ap length (messages-sent (Changes.after_start w now)), length-mapped (Changes.start_lifetime now) w.messages))
 started-new w (E.Resend x) n le lt = absurd (omega arith)
 started-new w (E.Expire now) n le lt = absurd (few (Changes.expiring w now) lt)
   where
@@ -159,23 +174,31 @@ record Begins (setup : Setup) (h : History) (w : LinkRecord) : Type 0 where
   past : (n : ℕ) → length w.messages ≤ n → started_in h n ≡ None
 
 pub writes-count : (setup : Setup) (h : History) → IsSetup setup → IsRun setup h → length (writes_in h) ≡ length (record_of setup h).messages
-writes-count setup h is run = ap length (sym (messages_are_writes setup h is run)) ∙ length-mapped (λ n. shown_of (record_of setup h) n) (numbers_where always 0 (length (record_of setup h).messages)) ∙ length-numbers 0 (length (record_of setup h).messages)
+writes-count setup h is run = ap length (sym (messages_are_writes setup h is run)) ∙ length-mapped (λ n. shown_of (record_of setup h) n)
+    (numbers_where always 0 (length (record_of setup h).messages)) ∙ length-numbers 0 (length (record_of setup h).messages)
 
-begins-step : (setup : Setup) (older : History) (e : Event) (r : Reply) → IsSetup setup → IsRun setup older → refusal_of (record_of setup older) e ≡ None → Begins setup older (record_of setup older) → Begins setup ((e, r) ∷ older) (after (record_of setup older) e)
+begins-step : (setup : Setup) (older : History) (e : Event) (r : Reply) → IsSetup setup → IsRun setup older → refusal_of (record_of setup older) e ≡ None
+    → Begins setup older (record_of setup older) → Begins setup ((e, r) ∷ older) (after (record_of setup older) e)
 begins-step setup older e r is run ok b = record {
   each = λ n lt. at n lt (cases_lt n (length (record_of setup older).messages));
   past = λ n le. beyond n (omega (arith, le, (extends-after setup (record_of setup older) e ok (sane-run setup older run)).grows.count));
 }
   where
-    beyond : (n : ℕ) → length (record_of setup older).messages ≤ n → or_else (started_in older n) (if nat_lt n (length (writes_in older)) then moment_of e else None) ≡ None
+    beyond : (n : ℕ) → length (record_of setup older).messages ≤ n
+        → or_else (started_in older n) (if nat_lt n (length (writes_in older)) then moment_of e else None) ≡ None
     beyond n le =
-        let t : nat_lt n (length (writes_in older)) ≡ false = (let z : length (writes_in older) ≤ n = omega (arith, le, writes-count setup older is run) in grind (arith, nat_tests)) in
+        let t : nat_lt n (length (writes_in older)) ≡ false =
+        (let z : length (writes_in older) ≤ n = omega (arith, le, writes-count setup older is run) in grind (arith, nat_tests)) in
         ap (λ o. or_else o (if nat_lt n (length (writes_in older)) then moment_of e else None)) (b.past n le) ∙ ap (λ c. if c then moment_of e else None) t
 
-    at : (n : ℕ) → n < length (after (record_of setup older) e).messages → (n < length (record_of setup older).messages) ⊎ (length (record_of setup older).messages ≤ n) → (Messages.message_at (after (record_of setup older) e) n).started ≡ or_else (started_in older n) (if nat_lt n (length (writes_in older)) then moment_of e else None)
+    at : (n : ℕ) → n < length (after (record_of setup older) e).messages → (n < length (record_of setup older).messages)
+        ⊎ (length (record_of setup older).messages ≤ n) → (Messages.message_at (after (record_of setup older) e) n).started ≡ or_else (started_in older n)
+        (if nat_lt n (length (writes_in older)) then moment_of e else None)
     at n lt (inl l) =
-        let t : nat_lt n (length (writes_in older)) ≡ true = (let z : n < length (writes_in older) = omega (arith, l, writes-count setup older is run) in grind (arith, nat_tests)) in
-        started-after (record_of setup older) e n l ∙ ap (λ o. or_else o (moment_of e)) (b.each n l) ∙ ap (λ c. or_else (started_in older n) (if c then moment_of e else None)) (sym t)
+        let t : nat_lt n (length (writes_in older)) ≡ true =
+        (let z : n < length (writes_in older) = omega (arith, l, writes-count setup older is run) in grind (arith, nat_tests)) in
+        started-after (record_of setup older) e n l ∙ ap (λ o. or_else o (moment_of e)) (b.each n l)
+        ∙ ap (λ c. or_else (started_in older n) (if c then moment_of e else None)) (sym t)
     at n lt (inr g) = started-new (record_of setup older) e n g lt ∙ sym (beyond n g)
 
 begins-run : (setup : Setup) (h : History) → IsSetup setup → IsRun setup h → Begins setup h (record_of setup h)
@@ -190,22 +213,25 @@ starts_once setup h is run = (begins-run setup h is run).each
 pub swap : (m n : ℕ) → (n == m) ≡ (m == n)
 swap m n = same_test (n == m) (m == n) (λ e. grind (arith, nat_tests)) (λ e. grind (arith, nat_tests))
 
-pub abandoned-by : (w : LinkRecord) (m n : ℕ) → (Messages.message_at (Changes.after_abandon w m) n).abandoned ≡ ((n == m) || (Messages.message_at w n).abandoned)
+pub abandoned-by : (w : LinkRecord) (m n : ℕ)
+    → (Messages.message_at (Changes.after_abandon w m) n).abandoned ≡ ((n == m) || (Messages.message_at w n).abandoned)
 abandoned-by w m n = step (Messages.is_partially_sent w m)
   where
-    step : (b : Bool) → (Messages.message_at (Changes.message_changed (if b then Changes.with_slot w m true else w) m Changes.mark_abandoned) n).abandoned ≡ ((n == m) || (Messages.message_at w n).abandoned)
+    step : (b : Bool) → (Messages.message_at (Changes.message_changed (if b then Changes.with_slot w m true else w) m Changes.mark_abandoned) n).abandoned
+        ≡ ((n == m) || (Messages.message_at w n).abandoned)
     step true = ap (λ x. (x.message n).abandoned) (Shapes.shape-abandoned (Changes.with_slot w m true) m)
     step false = ap (λ x. (x.message n).abandoned) (Shapes.shape-abandoned w m)
 
-abandoned-all : (ms : List ℕ) (w : LinkRecord) (n : ℕ) → (Messages.message_at (fold Changes.after_abandon w ms) n).abandoned ≡ ((Messages.message_at w n).abandoned || list_any (λ m. m == n) ms)
+abandoned-all : (ms : List ℕ) (w : LinkRecord) (n : ℕ)
+    → (Messages.message_at (fold Changes.after_abandon w ms) n).abandoned ≡ ((Messages.message_at w n).abandoned || list_any (λ m. m == n) ms)
 abandoned-all [] w n = sym (none (Messages.message_at w n).abandoned)
   where
     none : (b : Bool) → (b || false) ≡ b
     none true = refl
     none false = refl
 abandoned-all (m ∷ ms) w n =
-    abandoned-all ms (Changes.after_abandon w m) n ∙ ap (λ b. b || list_any (λ m. m == n) ms) (abandoned-by w m n ∙ ap (λ b. b || (Messages.message_at w n).abandoned) (swap m n))
-    ∙ mixed (m == n) (Messages.message_at w n).abandoned (list_any (λ m. m == n) ms)
+    abandoned-all ms (Changes.after_abandon w m) n ∙ ap (λ b. b || list_any (λ m. m == n) ms) (abandoned-by w m n
+    ∙ ap (λ b. b || (Messages.message_at w n).abandoned) (swap m n)) ∙ mixed (m == n) (Messages.message_at w n).abandoned (list_any (λ m. m == n) ms)
   where
     mixed : (a b c : Bool) → ((a || b) || c) ≡ (b || (a || c))
     mixed true true c = refl
@@ -224,7 +250,8 @@ any-passing t q (x ∷ xs) e = step (q x) e (λ h. any-passing t q xs h)
     right true e = refl
     right false e = e
 
-    step : (b : Bool) → list_any t (if b then x ∷ filter q xs else filter q xs) ≡ true → (list_any t (filter q xs) ≡ true → list_any t xs ≡ true) → (t x || list_any t xs) ≡ true
+    step : (b : Bool) → list_any t (if b then x ∷ filter q xs else filter q xs) ≡ true → (list_any t (filter q xs) ≡ true → list_any t xs ≡ true)
+        → (t x || list_any t xs) ≡ true
     step true e ih = either (t x) e ih
     step false e ih = right (t x) (ih e)
 
@@ -239,8 +266,8 @@ late_abandons_listed setup h is run now n lt =
     abandoned-all (Changes.late_messages w now) w n
     ∙ ap (λ b. (Messages.message_at w n).abandoned || b)
     (any-append (λ m. m == n) (filter (Messages.is_partially_sent w) all) all
-    ∙ absorbed (list_any (λ m. m == n) (filter (Messages.is_partially_sent w) all)) (list_any (λ m. m == n) all) (any-passing (λ m. m == n) (Messages.is_partially_sent w) all)
-    ∙ any-mapped (λ m. m == n) (Messages.message_of w) (Changes.late_slots w now))
+    ∙ absorbed (list_any (λ m. m == n) (filter (Messages.is_partially_sent w) all)) (list_any (λ m. m == n) all)
+    (any-passing (λ m. m == n) (Messages.is_partially_sent w) all) ∙ any-mapped (λ m. m == n) (Messages.message_of w) (Changes.late_slots w now))
   where
     absorbed : (a b : Bool) → (a ≡ true → b ≡ true) → (a || b) ≡ b
     absorbed true b f = sym (f refl)

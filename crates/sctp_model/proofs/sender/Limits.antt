@@ -1,4 +1,5 @@
-use Rattle.std.proofs.Common.{◌≡◌, ℕ, zero, suc, ◌+◌, ◌-◌, ◌*◌, ◌/◌, ◌<◌, ◌≤◌, Bool, true, false, List, [], ◌∷◌, length, map, Option, Some, None, refl, ap, sym, ◌∙◌, inl, inr, arith}
+use Rattle.std.proofs.Common.{◌≡◌, ℕ, zero, suc, ◌+◌, ◌-◌, ◌*◌, ◌/◌, ◌<◌, ◌≤◌, Bool, true, false, List, [], ◌∷◌, length, map, Option, Some, None, refl, ap, sym}
+use Rattle.std.proofs.Common.{◌∙◌, inl, inr, arith}
 use Rattle.std.specs.Prelude.{◌⊎◌, if◌then◌else◌, nat_le, slice_index_or}
 use Rattle.std.proofs.lemmas.Bool.Decides.{nat_tests}
 use Rattle.sctp_list_lemmas.specs.Kept.{numbers_where, always, numbers_from, total_over}
@@ -50,8 +51,11 @@ used-more w n start le =
     let all = ap (λ c. total_over f (numbers_where always start c)) count
     ∙ ap (total_over f) (kept-snoc_in always start (x.slots - start) x.slots last refl)
     ∙ total-append f (numbers_where always start (x.slots - start)) (x.slots ∷ []) in
-    let old = total-kept_same f (λ p. data_length (data_in x p)) always start (x.slots - start) (λ k a b. ap (λ s. data_length (slice_index_or (pieces (length (x.message s.message).bytes) x.size (x.message s.message).bytes) s.fragment [])) (slot-old x n k false (omega (arith, le)))) in
-    let new : f x.slots ≡ next_of w n = ap (λ s. data_length (slice_index_or (pieces (length (x.message s.message).bytes) x.size (x.message s.message).bytes) s.fragment [])) (slot-new x n false) in
+    let old = total-kept_same f (λ p. data_length (data_in x p)) always start (x.slots - start)
+    (λ k a b. ap (λ s. data_length (slice_index_or (pieces (length (x.message s.message).bytes) x.size (x.message s.message).bytes) s.fragment []))
+    (slot-old x n k false (omega (arith, le)))) in
+    let new : f x.slots ≡ next_of w n = ap (λ s.
+    data_length (slice_index_or (pieces (length (x.message s.message).bytes) x.size (x.message s.message).bytes) s.fragment [])) (slot-new x n false) in
     omega (arith, all, old, new)
 
 -- ## As a datagram is filled
@@ -62,7 +66,8 @@ record Filling (setup : Setup) (start used : ℕ) (v : LinkRecord) : Type 0 wher
   begun : start ≤ length v.slots
   is : used ≡ used_from (shape v) start
 
-filling-more : (setup : Setup) (start used : ℕ) (v : LinkRecord) (n : ℕ) → Filling setup start used v → Filling setup start (Changes.plus used (Changes.next_length_of v (Some n))) (Changes.with_slot v n false)
+filling-more : (setup : Setup) (start used : ℕ) (v : LinkRecord) (n : ℕ) → Filling setup start used v
+    → Filling setup start (Changes.plus used (Changes.next_length_of v (Some n))) (Changes.with_slot v n false)
 filling-more setup start used v n f = record {
   own = f.own;
   begun = omega (arith, f.begun, ap (λ y. y.slots) (Shapes.shape-slot v n false));
@@ -76,7 +81,8 @@ record Filled (setup : Setup) (start used : ℕ) (v u : LinkRecord) : Type 0 whe
   kept_within : (length_now ≤ setup.limit) ⊎ ((length_now ≡ used) × (length u.slots ≡ length v.slots))
   full : (n : ℕ) → Messages.front u ≡ Some n → setup.limit < length_now + next_of u n
 
-fill : (setup : Setup) (start most used : ℕ) (v : LinkRecord) → Filling setup start used v → setup.limit < used + most → Filled setup start used v (Changes.fill_datagram most used v)
+fill : (setup : Setup) (start most used : ℕ) (v : LinkRecord) → Filling setup start used v → setup.limit < used + most
+    → Filled setup start used v (Changes.fill_datagram most used v)
 fill setup start zero used v f fuel = record { length_now = used; filling = f; kept_within = inr (refl, refl); full = λ n e. omega (arith, fuel) }
 fill setup start (suc most) used v f fuel = step (λ n g m. fill setup start most (used + more n) (Changes.with_slot v n false) g m) (Messages.front v) refl
   where
@@ -87,7 +93,8 @@ fill setup start (suc most) used v f fuel = step (λ n g m. fill setup start mos
     limit = ap (λ t. t.limit) f.own
 
     Rest : ℕ → Type 0
-    Rest n = Filling setup start (used + more n) (Changes.with_slot v n false) → setup.limit < used + more n + most → Filled setup start (used + more n) (Changes.with_slot v n false) (Changes.fill_datagram most (used + more n) (Changes.with_slot v n false))
+    Rest n = Filling setup start (used + more n) (Changes.with_slot v n false) → setup.limit < used + more n + most
+        → Filled setup start (used + more n) (Changes.with_slot v n false) (Changes.fill_datagram most (used + more n) (Changes.with_slot v n false))
 
     low : (n now : ℕ) (P : Type 0) → used + more n ≤ setup.limit → (now ≤ setup.limit) ⊎ ((now ≡ used + more n) × P) → now ≤ setup.limit
     low n now P fits (inl l) = l
@@ -109,7 +116,8 @@ fill setup start (suc most) used v f fuel = step (λ n g m. fill setup start mos
           omega (arith, z, limit, chunk-is (length (next_fragment v n)), ap (next_of v) same);
     }
 
-    step : ((n : ℕ) → Rest n) → (o : Option ℕ) → Messages.front v ≡ o → Filled setup start used v (if Changes.chunk_fits v used (Changes.next_length_of v o) then Changes.fill_datagram most (Changes.plus used (Changes.next_length_of v o)) (Changes.send_fragment_of v o) else v)
+    step : ((n : ℕ) → Rest n) → (o : Option ℕ) → Messages.front v ≡ o → Filled setup start used v (if Changes.chunk_fits v used (Changes.next_length_of v o)
+        then Changes.fill_datagram most (Changes.plus used (Changes.next_length_of v o)) (Changes.send_fragment_of v o) else v)
     step rest None e = record { length_now = used; filling = f; kept_within = inr (refl, refl); full = λ n g. cc }
     step rest (Some n) e = test n (rest n) e (nat_le (used + more n) v.setup.limit) refl
 
@@ -131,27 +139,36 @@ send-fills setup w now n own e = step (Messages.front (Changes.after_start w now
     u = Changes.after_start w now
 
     base : Filling setup (length w.slots) 12 u
-    base = record { own = own; begun = omega arith; is = let z : length w.slots - length w.slots ≡ 0 = omega arith in sym (ap (λ c. 12 + total_over (λ p. data_length (data_in (shape u) p)) (numbers_from (length w.slots) c)) z) }
+    base = record {
+      own = own;
+      begun = omega arith;
+      is = let z : length w.slots - length w.slots ≡ 0 = omega arith in
+          sym (ap (λ c. 12 + total_over (λ p. data_length (data_in (shape u) p)) (numbers_from (length w.slots) c)) z);
+    }
 
     step : (o : Option ℕ) → Messages.front u ≡ o → o ≡ Some n → Sent setup w now
     step o f g =
         let one = filling-more setup (length w.slots) 12 u n base in
         let limit : u.setup.limit ≡ setup.limit = ap (λ t. t.limit) own in
-        let r = fill setup (length w.slots) u.setup.limit (12 + Changes.chunk_length (length (next_fragment u n))) (Changes.with_slot u n false) one (omega (arith, limit)) in
+        let r = fill setup (length w.slots) u.setup.limit (12 + Changes.chunk_length (length (next_fragment u n)))
+        (Changes.with_slot u n false) one (omega (arith, limit)) in
         let same : Changes.fill_datagram u.setup.limit (12 + Changes.chunk_length (length (next_fragment u n))) (Changes.with_slot u n false) ≡ taken w now =
         sym (ap (λ o. Changes.fill_datagram u.setup.limit (Changes.plus 12 (Changes.next_length_of u o)) (Changes.send_fragment_of u o)) (f ∙ g)) in
         record {
           length_now = r.length_now;
           is = r.filling.is ∙ ap (λ v. used_from (shape v) (length w.slots)) same;
-          kept_within = low r.length_now (r.length_now ≡ 12 + Changes.chunk_length (length (next_fragment u n))) (Changes.fill_datagram u.setup.limit (12 + Changes.chunk_length (length (next_fragment u n))) (Changes.with_slot u n false)) r.kept_within (ap (λ v. length v.slots) same);
+          kept_within = low r.length_now (r.length_now ≡ 12 + Changes.chunk_length (length (next_fragment u n))) (Changes.fill_datagram u.setup.limit
+              (12 + Changes.chunk_length (length (next_fragment u n))) (Changes.with_slot u n false)) r.kept_within (ap (λ v. length v.slots) same);
           full = λ k h. omega (arith, r.full k (ap Messages.front same ∙ h), ap (λ v. next_of v k) same);
         }
       where
-        low : (now' : ℕ) (P : Type 0) (v : LinkRecord) → (now' ≤ setup.limit) ⊎ (P × (length v.slots ≡ length (Changes.with_slot u n false).slots)) → length v.slots ≡ length (taken w now).slots → (now' ≤ setup.limit) ⊎ (length (taken w now).slots ≡ length w.slots + 1)
+        low : (now' : ℕ) (P : Type 0) (v : LinkRecord) → (now' ≤ setup.limit) ⊎ (P × (length v.slots ≡ length (Changes.with_slot u n false).slots))
+            → length v.slots ≡ length (taken w now).slots → (now' ≤ setup.limit) ⊎ (length (taken w now).slots ≡ length w.slots + 1)
         low now' P v (inl l) s = inl l
         low now' P v (inr e) s = inr (omega (arith, s, e.1, ap (λ y. y.slots) (Shapes.shape-slot u n false)))
 
-packet-is : (w : LinkRecord) (from count : ℕ) → packet_length (map (chunk_at w) (numbers_where always from count)) ≡ 12 + total_over (λ p. data_length (data_in (shape w) p)) (numbers_where always from count)
+packet-is : (w : LinkRecord) (from count : ℕ) → packet_length (map (chunk_at w) (numbers_where always from count))
+    ≡ 12 + total_over (λ p. data_length (data_in (shape w) p)) (numbers_where always from count)
 packet-is w from zero = refl
 packet-is w from (suc count) = omega (arith, packet-is w (from + 1) count)
 
@@ -164,8 +181,9 @@ record Made (setup : Setup) (w : LinkRecord) (now count : ℕ) (chunks : List Ch
   same_front : Messages.front (after w (E.Send now)) ≡ Messages.front (taken w now)
   same_next : (n : ℕ) → next_of (after w (E.Send now)) n ≡ next_of (taken w now) n
 
-send-made : (setup : Setup) (h : History) → IsSetup setup → IsRun setup h → (now d tsn ssn count : ℕ) (chunks : List ChunkPayloadData) → reply_to (record_of setup h) (E.Send now) ≡ R.Sent d tsn ssn count
-    → datagram (after (record_of setup h) (E.Send now)) d ≡ Some (DataContents chunks) → Made setup (record_of setup h) now count chunks
+send-made : (setup : Setup) (h : History) → IsSetup setup → IsRun setup h → (now d tsn ssn count : ℕ) (chunks : List ChunkPayloadData)
+    → reply_to (record_of setup h) (E.Send now) ≡ R.Sent d tsn ssn count → datagram (after (record_of setup h) (E.Send now)) d ≡ Some (DataContents chunks)
+    → Made setup (record_of setup h) now count chunks
 send-made setup h is run now d tsn ssn count chunks e m = step (Messages.front w) refl e
   where
     w : LinkRecord
@@ -188,7 +206,8 @@ send-made setup h is run now d tsn ssn count chunks e m = step (Messages.front w
         let same : shape (after w (E.Send now)) ≡ shape v = ap shape made in
         record {
           filled = send-fills setup w now n (sane-run setup h run).setup_is f;
-          many = sym (ap length listed) ∙ length-mapped (chunk_at (after w (E.Send now))) (numbers_from (length w.slots) count) ∙ length-numbers (length w.slots) count;
+          many = sym (ap length listed) ∙ length-mapped (chunk_at (after w (E.Send now))) (numbers_from (length w.slots) count)
+              ∙ length-numbers (length w.slots) count;
           is = sym (ap packet_length listed) ∙ packet-is (after w (E.Send now)) (length w.slots) count
               ∙ ap (λ x. 12 + total_over (λ p. data_length (data_in x p)) (numbers_from (length w.slots) count)) same
               ∙ ap (λ k. 12 + total_over (λ p. data_length (data_in (shape v) p)) (numbers_from (length w.slots) k)) (sym all);
@@ -207,7 +226,8 @@ within_limit setup h is run now d tsn ssn count chunks e m =
     w : LinkRecord
     w = record_of setup h
 
-    low : (s : Made setup w now count chunks) → 1 < count → (s.filled.length_now ≤ setup.limit) ⊎ (length (taken w now).slots ≡ length w.slots + 1) → packet_length chunks ≤ setup.limit
+    low : (s : Made setup w now count chunks) → 1 < count → (s.filled.length_now ≤ setup.limit) ⊎ (length (taken w now).slots ≡ length w.slots + 1)
+        → packet_length chunks ≤ setup.limit
     low s several (inl l) = omega (arith, l, s.is, s.filled.is)
     low s several (inr one) = absurd (omega (arith, one, s.slots, several))
 

@@ -15,7 +15,8 @@ use Rattle.sctp_model.specs.Log.{MadeData, MadeForward, made_by, made_in, place_
 use Rattle.sctp_model.specs.Laws.{IsSetup, OnEveryRun, NetworkIsMade, kind_of}
 use Rattle.sctp_model.proofs.sender.SenderRun.{Sane, sane-run}
 use Rattle.sctp_model.proofs.sender.Few.{few}
-use Rattle.sctp_model.proofs.sender.Network.{same-network, network-written, network-expired, network-tail, network-late, network-abandoned, same-received, same-taken, same-read}
+use Rattle.sctp_model.proofs.sender.Network.{same-network, network-written, network-expired, network-tail, network-late, network-abandoned, same-received}
+use Rattle.sctp_model.proofs.sender.Network.{same-taken, same-read}
 
 -- a TSN that was given out has its place
 pub place-back : (first p : ℕ) → first < 2 ^ 32 → p < 2 ^ 32 → ((first + p) % 2 ^ 32 + (2 ^ 32 - first)) % 2 ^ 32 ≡ p
@@ -28,31 +29,39 @@ kinds-same : (w v : LinkRecord) → v.network ≡ w.network → map kind_of v.ne
 kinds-same w v e = ap (map kind_of) e ∙ sym (append-nil (map kind_of w.network))
 
 made-sent : (setup : Setup) (w : LinkRecord) (now : ℕ) (o : Option ℕ) → IsSetup setup → Sane setup w
-    → map kind_of (Changes.send_from (Changes.after_start w now) o).network ≡ map kind_of w.network ++ made_by setup (E.Send now) (sent_reply w (Changes.send_from (Changes.after_start w now) o) o)
+    → map kind_of (Changes.send_from (Changes.after_start w now) o).network ≡ map kind_of w.network ++ made_by setup (E.Send now)
+    (sent_reply w (Changes.send_from (Changes.after_start w now) o) o)
 made-sent setup w now None is g = kinds-same w (Changes.after_start w now) refl
 made-sent setup w now (Some n) is g =
     let u = Changes.after_start w now in
     let v = Changes.send_fragments u in
     let f : w.setup.first ≡ setup.first = ap (λ s. s.first) g.setup_is in
-    let place : place_in setup (Messages.tsn_of w (length w.slots)) ≡ length w.slots = ap (λ i. ((i + length w.slots) % 2 ^ 32 + (2 ^ 32 - setup.first)) % 2 ^ 32) f ∙ place-back setup.first (length w.slots) is.first (omega (arith, few setup w g)) in
-    kinds-more w (Changes.with_data u v) (W.Data (numbers_from (length u.slots) (length v.slots - length u.slots))) (ap (λ l. l ++ W.Data (numbers_from (length u.slots) (length v.slots - length u.slots)) ∷ []) (same-network u))
+    let place : place_in setup (Messages.tsn_of w (length w.slots)) ≡ length w.slots =
+    ap (λ i. ((i + length w.slots) % 2 ^ 32 + (2 ^ 32 - setup.first)) % 2 ^ 32) f
+    ∙ place-back setup.first (length w.slots) is.first (omega (arith, few setup w g)) in
+    kinds-more w (Changes.with_data u v) (W.Data (numbers_from (length u.slots) (length v.slots - length u.slots)))
+    (ap (λ l. l ++ W.Data (numbers_from (length u.slots) (length v.slots - length u.slots)) ∷ []) (same-network u))
     ∙ ap (λ i. map kind_of w.network ++ MadeData (numbers_from i (length v.slots - length w.slots)) ∷ []) (sym place)
 
 place-same : (setup : Setup) (w : LinkRecord) (tsn : ℕ) → Sane setup w → Messages.place_of w tsn ≡ place_in setup tsn
 place-same setup w tsn g = ap (λ s. place_in s tsn) g.setup_is
 
-made-step : (setup : Setup) (w : LinkRecord) (e : Event) → IsSetup setup → Sane setup w → map kind_of (after w e).network ≡ map kind_of w.network ++ made_by setup e (reply_to w e)
+made-step : (setup : Setup) (w : LinkRecord) (e : Event) → IsSetup setup → Sane setup w
+    → map kind_of (after w e).network ≡ map kind_of w.network ++ made_by setup e (reply_to w e)
 made-step setup w (E.Open s) is g = kinds-same w (Changes.after_open w s) refl
 made-step setup w (E.Mode s unordered reliability value) is g = kinds-same w (Changes.after_mode w s unordered reliability value) refl
 made-step setup w (E.Write s ppi bytes) is g = kinds-same w (Changes.after_write w s ppi bytes) (network-written w s ppi bytes)
 made-step setup w (E.Start now) is g = kinds-same w (Changes.after_start w now) refl
 made-step setup w (E.Send now) is g = made-sent setup w now (Messages.front w) is g
-made-step setup w (E.Resend tsn) is g = kinds-more w (Changes.after_resend w tsn) (W.Data (Messages.place_of w tsn ∷ [])) refl ∙ ap (λ p. map kind_of w.network ++ MadeData (p ∷ []) ∷ []) (place-same setup w tsn g)
+made-step setup w (E.Resend tsn) is g = kinds-more w (Changes.after_resend w tsn) (W.Data (Messages.place_of w tsn ∷ [])) refl
+    ∙ ap (λ p. map kind_of w.network ++ MadeData (p ∷ []) ∷ []) (place-same setup w tsn g)
 made-step setup w (E.Expire now) is g = kinds-same w (Changes.after_expire w (Changes.expiring w now)) (network-expired w (Changes.expiring w now))
 made-step setup w (E.Tail now) is g = kinds-same w (Changes.after_tail w (Changes.tailing w now)) (network-tail w (Changes.tailing w now))
 made-step setup w (E.Late now) is g = kinds-same w (Changes.after_late w now) (network-late (Changes.late_messages w now) w)
-made-step setup w (E.Abandon tsn) is g = kinds-same w (Changes.after_abandon w (Messages.message_of w (Messages.place_of w tsn))) (network-abandoned w (Messages.message_of w (Messages.place_of w tsn)))
-made-step setup w (E.Skip upto names) is g = kinds-more w (after w (E.Skip upto names)) (Forward (Messages.place_of w upto) names.items) refl ∙ ap (λ p. map kind_of w.network ++ MadeForward p names.items ∷ []) (place-same setup w upto g)
+made-step setup w (E.Abandon tsn) is g = kinds-same w (Changes.after_abandon w (Messages.message_of w (Messages.place_of w tsn)))
+    (network-abandoned w (Messages.message_of w (Messages.place_of w tsn)))
+made-step setup w (E.Skip upto names) is g = kinds-more w (after w (E.Skip upto names)) (Forward (Messages.place_of w upto) names.items) refl
+    ∙ ap (λ p. map kind_of w.network ++ MadeForward p names.items ∷ []) (place-same setup w upto g)
 made-step setup w (E.Ack credit) is g = map-append kind_of w.network _
 made-step setup w (E.Arrive k) is g = kinds-same w (Changes.after_arrive w (slice_get w.network k)) (same-received w (slice_get w.network k)).network
 made-step setup w (E.Acked k) is g = kinds-same w (Changes.after_acked w (slice_get w.network k)) (same-taken w (slice_get w.network k)).network

@@ -37,18 +37,22 @@ ModesAre h w = (s : ℕ) → mode_now (stream_of w s) ≡ mode_in h s
 abbrev SameModes : LinkRecord → LinkRecord → Type 0
 SameModes w v = (s : ℕ) → mode_now (stream_of v s) ≡ mode_now (stream_of w s)
 
-modes-changed : (w : LinkRecord) (s : ℕ) (f : StreamRecord → StreamRecord) → ((r : StreamRecord) → (f r).stream ≡ r.stream) → ((r : StreamRecord) → mode_now (f r) ≡ mode_now r) → SameModes w (Changes.stream_changed w s f)
+modes-changed : (w : LinkRecord) (s : ℕ) (f : StreamRecord → StreamRecord) → ((r : StreamRecord) → (f r).stream ≡ r.stream)
+    → ((r : StreamRecord) → mode_now (f r) ≡ mode_now r) → SameModes w (Changes.stream_changed w s f)
 modes-changed w s f a b t = field-kept mode_now (λ r. if r.stream == s then f r else r) (either-keeps (λ r. r.stream) f a s) (either-keeps mode_now f b s) w t
 
 modes-slot : (w : LinkRecord) (p : ℕ) → SameModes w (Changes.receive_slot w p)
 modes-slot w p = step (is_new w p)
   where
-    noted : (v : LinkRecord) (n : ℕ) (b : Bool) → SameModes v (if b then Changes.stream_changed v (Messages.message_at v n).stream (Changes.with_complete n) else v)
+    noted : (v : LinkRecord) (n : ℕ) (b : Bool)
+        → SameModes v (if b then Changes.stream_changed v (Messages.message_at v n).stream (Changes.with_complete n) else v)
     noted v n true = modes-changed v (Messages.message_at v n).stream (Changes.with_complete n) (λ r. refl) (λ r. refl)
     noted v n false = λ t. refl
 
-    step : (b : Bool) → SameModes w (if b then Changes.note_completion (record w { slots = change_at Changes.mark_arrived p w.slots }) (Messages.message_of w p) else record w { duplicates = w.duplicates ++ p ∷ [] })
-    step true = noted (record w { slots = change_at Changes.mark_arrived p w.slots }) (Messages.message_of w p) (Changes.becomes_complete (record w { slots = change_at Changes.mark_arrived p w.slots }) (Messages.message_of w p))
+    step : (b : Bool) → SameModes w (if b then Changes.note_completion (record w { slots = change_at Changes.mark_arrived p w.slots }) (Messages.message_of w p)
+        else record w { duplicates = w.duplicates ++ p ∷ [] })
+    step true = noted (record w { slots = change_at Changes.mark_arrived p w.slots }) (Messages.message_of w p)
+        (Changes.becomes_complete (record w { slots = change_at Changes.mark_arrived p w.slots }) (Messages.message_of w p))
     step false = λ t. refl
 
 modes-received : (w : LinkRecord) (o : Option Datagram) → SameModes w (Changes.after_arrive w o)
@@ -80,7 +84,8 @@ modes-mapped : (f : Message → Message) → ((m : Message) → mode_of (f m) �
 modes-mapped f keeps [] = refl
 modes-mapped f keeps (m ∷ ms) = ap (λ y. y ∷ map mode_of (map f ms)) (keeps m) ∙ ap (λ l. mode_of m ∷ l) (modes-mapped f keeps ms)
 
-modes-flagged : (f : Message → Message) → ((m : Message) → mode_of (f m) ≡ mode_of m) → (i : ℕ) (ms : List Message) → map mode_of (change_at f i ms) ≡ map mode_of ms
+modes-flagged : (f : Message → Message) → ((m : Message) → mode_of (f m) ≡ mode_of m) → (i : ℕ) (ms : List Message)
+    → map mode_of (change_at f i ms) ≡ map mode_of ms
 modes-flagged f keeps i [] = refl
 modes-flagged f keeps zero (m ∷ ms) = ap (λ y. y ∷ map mode_of ms) (keeps m)
 modes-flagged f keeps (suc i) (m ∷ ms) = ap (λ l. mode_of m ∷ l) (modes-flagged f keeps i ms)
@@ -117,7 +122,8 @@ record Moded (h : History) (w : LinkRecord) : Type 0 where
   streams : ModesAre h w
   messages : kept_modes w ≡ modes_in h
 
-moded-step : (setup : Setup) (older : History) (e : Event) (r : Reply) → refusal_of (record_of setup older) e ≡ None → IsRun setup older → Moded older (record_of setup older) → Moded ((e, r) ∷ older) (after (record_of setup older) e)
+moded-step : (setup : Setup) (older : History) (e : Event) (r : Reply) → refusal_of (record_of setup older) e ≡ None → IsRun setup older
+    → Moded older (record_of setup older) → Moded ((e, r) ∷ older) (after (record_of setup older) e)
 moded-step setup older e r ok run m = by e ok
   where
     quiet : (v : LinkRecord) → Moves.Quiet (record_of setup older) v → (s : ℕ) → mode_now (stream_of v s) ≡ mode_in older s
@@ -128,33 +134,67 @@ moded-step setup older e r ok run m = by e ok
 
     by : (e : Event) → refusal_of (record_of setup older) e ≡ None → Moded ((e, r) ∷ older) (after (record_of setup older) e)
     by (E.Open s) ok = record {
-      streams = λ t. ap mode_now (find-more s t (record_of setup older).streams (negated (Messages.is_open (record_of setup older) s) (unless-holds (not (Messages.is_open (record_of setup older) s)) StreamOpen None ok).0)) ∙ m.streams t;
+      streams = λ t. ap mode_now (find-more s t (record_of setup older).streams (negated (Messages.is_open (record_of setup older) s)
+          (unless-holds (not (Messages.is_open (record_of setup older) s)) StreamOpen None ok).0)) ∙ m.streams t;
       messages = m.messages;
     }
     by (E.Mode s unordered reliability value) ok = record {
       streams = λ t.
           let new : Mode = record { unordered = unordered; reliability = reliability; value = value } in
-          field-changed mode_now (λ y. new) (Changes.with_mode unordered reliability value) (λ r. refl) (λ r. refl) (record_of setup older) s t (unless-holds (Messages.is_open (record_of setup older) s) StreamUnknown None ok).0
+          field-changed mode_now (λ y. new) (Changes.with_mode unordered reliability value) (λ r. refl) (λ r. refl)
+          (record_of setup older) s t (unless-holds (Messages.is_open (record_of setup older) s) StreamUnknown None ok).0
           ∙ ap (λ b. if b then new else mode_now (stream_of (record_of setup older) t)) (swap t s) ∙ ap (λ y. if s == t then new else y) (m.streams t);
       messages = m.messages;
     }
     by (E.Write s ppi []) ok = record { streams = m.streams; messages = m.messages }
     by (E.Write s ppi (b ∷ bs)) ok = record {
       streams = m.streams;
-      messages = map-append mode_of (record_of setup older).messages (written_as (record_of setup older) s ppi (b ∷ bs) ∷ []) ∙ ap (λ l. l ++ mode_for ppi (mode_now (stream_of (record_of setup older) s)) ∷ []) m.messages ∙ ap (λ y. modes_in older ++ mode_for ppi y ∷ []) (m.streams s);
+      messages = map-append mode_of (record_of setup older).messages (written_as (record_of setup older) s ppi (b ∷ bs) ∷ [])
+          ∙ ap (λ l. l ++ mode_for ppi (mode_now (stream_of (record_of setup older) s)) ∷ []) m.messages
+          ∙ ap (λ y. modes_in older ++ mode_for ppi y ∷ []) (m.streams s);
     }
     by (E.Start now) ok = record { streams = m.streams; messages = kept-sent (record_of setup older) now None ∙ m.messages }
-    by (E.Send now) ok = record { streams = quiet (after (record_of setup older) (E.Send now)) (Moves.quiet-sent setup (record_of setup older) now (Messages.front (record_of setup older)) (sane-run setup older run)); messages = kept-sent (record_of setup older) now (Messages.front (record_of setup older)) ∙ m.messages }
+    by (E.Send now) ok = record {
+      streams = quiet (after (record_of setup older) (E.Send now))
+          (Moves.quiet-sent setup (record_of setup older) now (Messages.front (record_of setup older)) (sane-run setup older run));
+      messages = kept-sent (record_of setup older) now (Messages.front (record_of setup older)) ∙ m.messages;
+    }
     by (E.Resend a) ok = record { streams = m.streams; messages = m.messages }
-    by (E.Expire now) ok = record { streams = quiet (after (record_of setup older) (E.Expire now)) (Moves.quiet-expire setup (record_of setup older) now (Messages.front (record_of setup older)) (sane-run setup older run)); messages = kept-expired (record_of setup older) (Changes.expiring (record_of setup older) now) ∙ m.messages }
-    by (E.Tail now) ok = record { streams = quiet (after (record_of setup older) (E.Tail now)) (Moves.quiet-tail setup (record_of setup older) (Changes.tailing (record_of setup older) now) (sane-run setup older run)); messages = kept-tail (record_of setup older) (Changes.tailing (record_of setup older) now) ∙ m.messages }
-    by (E.Late now) ok = record { streams = quiet (after (record_of setup older) (E.Late now)) (Moves.quiet-lates setup (record_of setup older) now (sane-run setup older run)); messages = fold-keeps (λ v. kept_modes v ≡ kept_modes (record_of setup older)) Changes.after_abandon (λ v n e. kept-abandoned v n ∙ e) (Changes.late_messages (record_of setup older) now) (record_of setup older) refl ∙ m.messages }
-    by (E.Abandon tsn) ok = record { streams = quiet (after (record_of setup older) (E.Abandon tsn)) (Moves.quiet-abandoned setup (record_of setup older) (Messages.message_of (record_of setup older) (Messages.place_of (record_of setup older) tsn)) (sane-run setup older run)); messages = kept-abandoned (record_of setup older) (Messages.message_of (record_of setup older) (Messages.place_of (record_of setup older) tsn)) ∙ m.messages }
+    by (E.Expire now) ok = record {
+      streams = quiet (after (record_of setup older) (E.Expire now))
+          (Moves.quiet-expire setup (record_of setup older) now (Messages.front (record_of setup older)) (sane-run setup older run));
+      messages = kept-expired (record_of setup older) (Changes.expiring (record_of setup older) now) ∙ m.messages;
+    }
+    by (E.Tail now) ok = record {
+      streams = quiet (after (record_of setup older) (E.Tail now))
+          (Moves.quiet-tail setup (record_of setup older) (Changes.tailing (record_of setup older) now) (sane-run setup older run));
+      messages = kept-tail (record_of setup older) (Changes.tailing (record_of setup older) now) ∙ m.messages;
+    }
+    by (E.Late now) ok = record {
+      streams = quiet (after (record_of setup older) (E.Late now)) (Moves.quiet-lates setup (record_of setup older) now (sane-run setup older run));
+      messages = fold-keeps (λ v. kept_modes v ≡ kept_modes (record_of setup older)) Changes.after_abandon (λ v n e. kept-abandoned v n ∙ e)
+          (Changes.late_messages (record_of setup older) now) (record_of setup older) refl ∙ m.messages;
+    }
+    by (E.Abandon tsn) ok = record {
+      streams = quiet (after (record_of setup older) (E.Abandon tsn)) (Moves.quiet-abandoned setup (record_of setup older)
+          (Messages.message_of (record_of setup older) (Messages.place_of (record_of setup older) tsn)) (sane-run setup older run));
+      messages = kept-abandoned (record_of setup older) (Messages.message_of (record_of setup older) (Messages.place_of (record_of setup older) tsn))
+          ∙ m.messages;
+    }
     by (E.Skip a b) ok = record { streams = m.streams; messages = m.messages }
     by (E.Ack a) ok = record { streams = m.streams; messages = m.messages }
-    by (E.Arrive k) ok = record { streams = λ t. modes-received (record_of setup older) (slice_get (record_of setup older).network k) t ∙ m.streams t; messages = ap (map mode_of) (messages-received (record_of setup older) (slice_get (record_of setup older).network k)) ∙ m.messages }
-    by (E.Acked k) ok = record { streams = λ t. modes-taken (record_of setup older) (slice_get (record_of setup older).network k) t ∙ m.streams t; messages = ap (map mode_of) (messages-taken (record_of setup older) (slice_get (record_of setup older).network k)) ∙ m.messages }
-    by (E.Read s) ok = record { streams = λ t. modes-read (record_of setup older) s (next_read (record_of setup older) s) t ∙ m.streams t; messages = kept-read (record_of setup older) s (next_read (record_of setup older) s) ∙ m.messages }
+    by (E.Arrive k) ok = record {
+      streams = λ t. modes-received (record_of setup older) (slice_get (record_of setup older).network k) t ∙ m.streams t;
+      messages = ap (map mode_of) (messages-received (record_of setup older) (slice_get (record_of setup older).network k)) ∙ m.messages;
+    }
+    by (E.Acked k) ok = record {
+      streams = λ t. modes-taken (record_of setup older) (slice_get (record_of setup older).network k) t ∙ m.streams t;
+      messages = ap (map mode_of) (messages-taken (record_of setup older) (slice_get (record_of setup older).network k)) ∙ m.messages;
+    }
+    by (E.Read s) ok = record {
+      streams = λ t. modes-read (record_of setup older) s (next_read (record_of setup older) s) t ∙ m.streams t;
+      messages = kept-read (record_of setup older) s (next_read (record_of setup older) s) ∙ m.messages;
+    }
 
 pub modes_are_kept : OnEveryRun ModesAreKept
 modes_are_kept setup h is run = (all h run).messages

@@ -1,5 +1,6 @@
 -- What the sender's events leave to the receiver as it was.
-use Rattle.std.proofs.Common.{◌≡◌, ℕ, ◌-◌, ◌<◌, ◌≤◌, Bool, true, false, List, [], ◌∷◌, ◌++◌, length, map, Option, Some, None, refl, ap, sym, ◌∙◌, inl, inr, arith, length-append, append-nil, append_assoc}
+use Rattle.std.proofs.Common.{◌≡◌, ℕ, ◌-◌, ◌<◌, ◌≤◌, Bool, true, false, List, [], ◌∷◌, ◌++◌, length, map, Option, Some, None, refl, ap, sym, ◌∙◌, inl, inr}
+use Rattle.std.proofs.Common.{arith, length-append, append-nil, append_assoc}
 use Rattle.std.specs.Prelude.{◌⊎◌, if◌then◌else◌, ◌==◌, ◌&&◌, fold}
 use Rattle.std.proofs.lemmas.Bool.{cases_lt}
 use Rattle.sctp_list_lemmas.proofs.More.{length-changed, changed-keeps}
@@ -14,7 +15,8 @@ use Rattle.sctp_model.proofs.sender.Shapes
 use Rattle.sctp_model.proofs.sender.Fronts.{front-takes, of-unsent}
 use Rattle.sctp_model.proofs.sender.SenderRun.{Sane, sane-takes, sane-abandoned, sane-started, filled-keeps, written_as, AllSent, sent-all, late-sent}
 use Rattle.sctp_list_lemmas.specs.Kept.{numbers_from}
-use Rattle.sctp_model.proofs.sender.Grows.{Grows, grows-same, grows-by, grows-then, grows-takes, grows-abandoned, grows-marked, grows-marks, grows-expired, grows-written}
+use Rattle.sctp_model.proofs.sender.Grows.{Grows, grows-same, grows-by, grows-then, grows-takes, grows-abandoned, grows-marked, grows-marks, grows-expired}
+use Rattle.sctp_model.proofs.sender.Grows.{grows-written}
 use Rattle.sctp_list_lemmas.proofs.Cases.{by_same}
 use Rattle.sctp_list_lemmas.proofs.Getting.{get-beyond, get-snoc_old, get-snoc_new, get-snoc, get-map, length-mapped}
 
@@ -75,7 +77,9 @@ quiet-then setup w v u g f h = record {
 
 -- ## Each change
 
-quiet-messages : (w : LinkRecord) (ms : List Message) → length ms ≡ length w.messages → ((n : ℕ) → (Messages.message_at (record w { messages = ms }) n).read ≡ (Messages.message_at w n).read) → Grows (shape w) (shape (record w { messages = ms })) → Quiet w (record w { messages = ms })
+quiet-messages : (w : LinkRecord) (ms : List Message) → length ms ≡ length w.messages
+    → ((n : ℕ) → (Messages.message_at (record w { messages = ms }) n).read ≡ (Messages.message_at w n).read)
+    → Grows (shape w) (shape (record w { messages = ms })) → Quiet w (record w { messages = ms })
 quiet-messages w ms l r g = record {
   setup = refl;
   streams = refl;
@@ -92,10 +96,14 @@ quiet-messages w ms l r g = record {
 }
 
 pub quiet-started : (w : LinkRecord) (now : ℕ) → Quiet w (Changes.after_start w now)
-quiet-started w now = quiet-messages w (map (Changes.start_lifetime now) w.messages) (length-mapped (Changes.start_lifetime now) w.messages) (λ n. get-map (Changes.start_lifetime now) (λ m. m.read) (λ m. refl) n w.messages Messages.no_message) (grows-same (shape w) (shape (Changes.after_start w now)) (Shapes.shape-started w now))
+quiet-started w now = quiet-messages w (map (Changes.start_lifetime now) w.messages) (length-mapped (Changes.start_lifetime now) w.messages)
+    (λ n. get-map (Changes.start_lifetime now) (λ m. m.read) (λ m. refl) n w.messages Messages.no_message)
+    (grows-same (shape w) (shape (Changes.after_start w now)) (Shapes.shape-started w now))
 
-quiet-flagged : (w : LinkRecord) (n : ℕ) (f : Message → Message) → ((m : Message) → (f m).read ≡ m.read) → Grows (shape w) (shape (Changes.message_changed w n f)) → Quiet w (Changes.message_changed w n f)
-quiet-flagged w n f keeps g = quiet-messages w (change_at f n w.messages) (length-changed f n w.messages) (λ k. changed-keeps f (λ m. m.read) keeps n k w.messages Messages.no_message) g
+quiet-flagged : (w : LinkRecord) (n : ℕ) (f : Message → Message) → ((m : Message) → (f m).read ≡ m.read)
+    → Grows (shape w) (shape (Changes.message_changed w n f)) → Quiet w (Changes.message_changed w n f)
+quiet-flagged w n f keeps g =
+    quiet-messages w (change_at f n w.messages) (length-changed f n w.messages) (λ k. changed-keeps f (λ m. m.read) keeps n k w.messages Messages.no_message) g
 
 quiet-slot : (w : LinkRecord) (n : ℕ) (mark : Bool) → Grows (shape w) (shape (Changes.with_slot w n mark)) → Quiet w (Changes.with_slot w n mark)
 quiet-slot w n mark g = record {
@@ -105,11 +113,13 @@ quiet-slot w n mark g = record {
   taken = refl;
   duplicates = refl;
   network = ([], sym (append-nil w.network));
-  arrived = λ p. get-snoc (λ x. x.arrived) w.slots new p Messages.no_slot ∙ by_same {P = (if p == length w.slots then false else arrived_at w p) ≡ arrived_at w p} p (length w.slots)
+  arrived = λ p. get-snoc (λ x. x.arrived) w.slots new p Messages.no_slot
+      ∙ by_same {P = (if p == length w.slots then false else arrived_at w p) ≡ arrived_at w p} p (length w.slots)
       (λ e. same (p == length w.slots) (arrived_at w p) (ap (λ x. x.arrived) (get-beyond w.slots p Messages.no_slot (omega arith))))
       (λ ne f. ap (λ b. if b then false else arrived_at w p) f);
   acknowledged = λ p lt. ap (λ x. x.acknowledged) (get-snoc_old w.slots new p Messages.no_slot (λ e. absurd (omega arith)));
-  fresh = λ p a b. let e : p ≡ length w.slots = omega (arith, length-append w.slots (new ∷ [])) in ap (λ q. (Messages.slot_at (Changes.with_slot w n mark) q).acknowledged) e ∙ ap (λ x. x.acknowledged) (get-snoc_new w.slots new Messages.no_slot);
+  fresh = λ p a b. let e : p ≡ length w.slots = omega (arith, length-append w.slots (new ∷ [])) in
+      ap (λ q. (Messages.slot_at (Changes.with_slot w n mark) q).acknowledged) e ∙ ap (λ x. x.acknowledged) (get-snoc_new w.slots new Messages.no_slot);
   read = λ n lt. refl;
   unread = λ n a b. absurd (omega arith);
   grows = g;
@@ -127,12 +137,14 @@ quiet-takes setup w g = step (Messages.front w) refl
   where
     step : (o : Option ℕ) → Messages.front w ≡ o → Quiet w (Changes.send_fragment_of w o)
     step None e = quiet-none w
-    step (Some n) e = quiet-slot w n false (grows-by (shape w) (shape (Changes.with_slot w n false)) (slotted (shape w) n false) (Shapes.shape-slot w n false) (grows-takes (shape w) n (front-takes (shape w) n g.sender e)))
+    step (Some n) e = quiet-slot w n false (grows-by (shape w) (shape (Changes.with_slot w n false)) (slotted (shape w) n false) (Shapes.shape-slot w n false)
+        (grows-takes (shape w) n (front-takes (shape w) n g.sender e)))
 
 pub quiet-abandoned : (setup : Setup) (w : LinkRecord) (n : ℕ) → Sane setup w → Quiet w (Changes.after_abandon w n)
 quiet-abandoned setup w n g = step (Messages.is_partially_sent w n) refl
   where
-    joined : (v : LinkRecord) → Quiet w v → Grows (shape w) (shape (Changes.message_changed v n Changes.mark_abandoned)) → Quiet w (Changes.message_changed v n Changes.mark_abandoned)
+    joined : (v : LinkRecord) → Quiet w v → Grows (shape w) (shape (Changes.message_changed v n Changes.mark_abandoned))
+        → Quiet w (Changes.message_changed v n Changes.mark_abandoned)
     joined v q grown = record {
       setup = q.setup;
       streams = q.streams;
@@ -144,22 +156,29 @@ quiet-abandoned setup w n g = step (Messages.is_partially_sent w n) refl
       acknowledged = q.acknowledged;
       fresh = q.fresh;
       read = λ k lt. changed-keeps Changes.mark_abandoned (λ m. m.read) (λ m. refl) n k v.messages Messages.no_message ∙ q.read k lt;
-      unread = λ k a b. changed-keeps Changes.mark_abandoned (λ m. m.read) (λ m. refl) n k v.messages Messages.no_message ∙ q.unread k a (omega (arith, b, length-changed Changes.mark_abandoned n v.messages));
+      unread = λ k a b. changed-keeps Changes.mark_abandoned (λ m. m.read) (λ m. refl) n k v.messages Messages.no_message
+          ∙ q.unread k a (omega (arith, b, length-changed Changes.mark_abandoned n v.messages));
       grows = grown;
     }
 
     slot-grows : Grows (shape w) (shape (Changes.with_slot w n true))
     slot-grows = grows-by (shape w) (shape (Changes.with_slot w n true)) (slotted (shape w) n true) (Shapes.shape-slot w n true) (grows-marks (shape w) n)
 
-    step : (b : Bool) → Messages.is_partially_sent w n ≡ b → Quiet w (Changes.message_changed (if b then Changes.with_slot w n true else w) n Changes.mark_abandoned)
+    step : (b : Bool) → Messages.is_partially_sent w n ≡ b
+        → Quiet w (Changes.message_changed (if b then Changes.with_slot w n true else w) n Changes.mark_abandoned)
     step true e = joined (Changes.with_slot w n true) (quiet-slot w n true slot-grows)
-        (grows-by (shape w) (shape (Changes.message_changed (Changes.with_slot w n true) n Changes.mark_abandoned)) (abandoned_at (slotted (shape w) n true) n) (Shapes.shape-abandoned (Changes.with_slot w n true) n ∙ ap (λ y. abandoned_at y n) (Shapes.shape-slot w n true)) (grows-marked (shape w) n))
-    step false e = joined w (quiet-none w) (grows-by (shape w) (shape (Changes.message_changed w n Changes.mark_abandoned)) (abandoned_at (shape w) n) (Shapes.shape-abandoned w n) (grows-abandoned (shape w) n))
+        (grows-by (shape w) (shape (Changes.message_changed (Changes.with_slot w n true) n Changes.mark_abandoned)) (abandoned_at (slotted (shape w) n true) n)
+        (Shapes.shape-abandoned (Changes.with_slot w n true) n ∙ ap (λ y. abandoned_at y n) (Shapes.shape-slot w n true)) (grows-marked (shape w) n))
+    step false e = joined w (quiet-none w) (grows-by (shape w) (shape (Changes.message_changed w n Changes.mark_abandoned)) (abandoned_at (shape w) n)
+        (Shapes.shape-abandoned w n) (grows-abandoned (shape w) n))
 
-pub quiet-expired : (setup : Setup) (w : LinkRecord) (n : ℕ) → Sane setup w → Messages.is_unsent w n ≡ true → Quiet w (Changes.message_changed w n Changes.mark_expired)
-quiet-expired setup w n g e = let u = of-unsent (shape w) n e in quiet-flagged w n Changes.mark_expired (λ m. refl) (grows-by (shape w) (shape (Changes.message_changed w n Changes.mark_expired)) (expired_at (shape w) n) (Shapes.shape-expired w n) (grows-expired (shape w) n g.sender u.none u.alive))
+pub quiet-expired : (setup : Setup) (w : LinkRecord) (n : ℕ) → Sane setup w → Messages.is_unsent w n ≡ true
+    → Quiet w (Changes.message_changed w n Changes.mark_expired)
+quiet-expired setup w n g e = let u = of-unsent (shape w) n e in quiet-flagged w n Changes.mark_expired (λ m. refl) (grows-by (shape w) (shape
+    (Changes.message_changed w n Changes.mark_expired)) (expired_at (shape w) n) (Shapes.shape-expired w n) (grows-expired (shape w) n g.sender u.none u.alive))
 
-pub quiet-written : (setup : Setup) (w : LinkRecord) (s : ℕ) (ppi : PayloadProtocolIdentifier) (bytes : List ℕ) → Sane setup w → Quiet w (Changes.after_write w s ppi bytes)
+pub quiet-written : (setup : Setup) (w : LinkRecord) (s : ℕ) (ppi : PayloadProtocolIdentifier) (bytes : List ℕ) → Sane setup w
+    → Quiet w (Changes.after_write w s ppi bytes)
 quiet-written setup w s ppi [] g = quiet-none w
 quiet-written setup w s ppi (b ∷ bs) g = record {
   setup = refl;
@@ -172,8 +191,10 @@ quiet-written setup w s ppi (b ∷ bs) g = record {
   acknowledged = λ p lt. refl;
   fresh = λ p a b. absurd (omega arith);
   read = λ n lt. ap (λ m. m.read) (get-snoc_old w.messages m n Messages.no_message (λ e. absurd (omega arith)));
-  unread = λ n a lt. let e : n ≡ length w.messages = omega (arith, length-append w.messages (m ∷ [])) in ap (λ q. (Messages.message_at (Changes.after_write w s ppi (b ∷ bs)) q).read) e ∙ ap (λ y. y.read) (get-snoc_new w.messages m Messages.no_message);
-  grows = grows-by (shape w) (shape (Changes.after_write w s ppi (b ∷ bs))) (written (shape w) (message_part m)) (Shapes.shape-written w m) (grows-written (shape w) (message_part m) g.sender);
+  unread = λ n a lt. let e : n ≡ length w.messages = omega (arith, length-append w.messages (m ∷ [])) in
+      ap (λ q. (Messages.message_at (Changes.after_write w s ppi (b ∷ bs)) q).read) e ∙ ap (λ y. y.read) (get-snoc_new w.messages m Messages.no_message);
+  grows = grows-by (shape w) (shape (Changes.after_write w s ppi (b ∷ bs))) (written (shape w) (message_part m)) (Shapes.shape-written w m)
+      (grows-written (shape w) (message_part m) g.sender);
 }
   where
     m : Message
@@ -202,25 +223,30 @@ pub record Reached (setup : Setup) (w v : LinkRecord) : Type 0 where
   pub quiet : Quiet w v
 
 pub reached-more : (setup : Setup) (w : LinkRecord) → Sane setup w → (v : LinkRecord) → Reached setup w v → Reached setup w (Changes.send_fragment v)
-reached-more setup w g v r = record { sane = sane-takes setup v r.sane; quiet = quiet-then setup w v (Changes.send_fragment v) g r.quiet (quiet-takes setup v r.sane) }
+reached-more setup w g v r =
+    record { sane = sane-takes setup v r.sane; quiet = quiet-then setup w v (Changes.send_fragment v) g r.quiet (quiet-takes setup v r.sane) }
 
 pub quiet-sent : (setup : Setup) (w : LinkRecord) (now : ℕ) (o : Option ℕ) → Sane setup w → Quiet w (Changes.send_from (Changes.after_start w now) o)
 quiet-sent setup w now None g = quiet-started w now
 quiet-sent setup w now (Some n) g =
     let u = Changes.after_start w now in
-    let first : Reached setup w (Changes.send_fragment u) = reached-more setup w g u (record { sane = sane-started setup w now g; quiet = quiet-started w now }) in
-    let all : Reached setup w (Changes.send_fragments u) = filled-keeps (Reached setup w) (reached-more setup w g) u.setup.limit (Changes.plus 12 (Changes.next_length u)) (Changes.send_fragment u) first in
+    let first : Reached setup w (Changes.send_fragment u) =
+    reached-more setup w g u (record { sane = sane-started setup w now g; quiet = quiet-started w now }) in
+    let all : Reached setup w (Changes.send_fragments u) = filled-keeps (Reached setup w)
+    (reached-more setup w g) u.setup.limit (Changes.plus 12 (Changes.next_length u)) (Changes.send_fragment u) first in
     quiet-datagram w (Changes.send_fragments u) (Data (numbers_from (length u.slots) (length (Changes.send_fragments u).slots - length u.slots))) all.quiet
 
 quiet-late : (setup : Setup) (ns : List ℕ) (w : LinkRecord) → Sane setup w → AllSent w ns → Quiet w (fold Changes.after_abandon w ns)
 quiet-late setup [] w g a = quiet-none w
 quiet-late setup (n ∷ ns) w g a =
     let h = sane-abandoned setup w n g a.0 in
-    quiet-then setup w (Changes.after_abandon w n) (fold Changes.after_abandon (Changes.after_abandon w n) ns) g (quiet-abandoned setup w n g) (quiet-late setup ns (Changes.after_abandon w n) h (sent-all w n ns a.1))
+    quiet-then setup w (Changes.after_abandon w n) (fold Changes.after_abandon (Changes.after_abandon w n) ns) g (quiet-abandoned setup w n g)
+    (quiet-late setup ns (Changes.after_abandon w n) h (sent-all w n ns a.1))
 
 -- ## The sender's events
 
-pub quiet-expire : (setup : Setup) (w : LinkRecord) (now : ℕ) (o : Option ℕ) → Sane setup w → Quiet w (Changes.after_expire w (Changes.front_if w (λ n. Messages.is_unsent w n && Messages.is_past_deadline w now n) o))
+pub quiet-expire : (setup : Setup) (w : LinkRecord) (now : ℕ) (o : Option ℕ) → Sane setup w
+    → Quiet w (Changes.after_expire w (Changes.front_if w (λ n. Messages.is_unsent w n && Messages.is_past_deadline w now n) o))
 quiet-expire setup w now None g = quiet-none w
 quiet-expire setup w now (Some n) g = step (Messages.is_unsent w n) (Messages.is_past_deadline w now n) refl
   where

@@ -1,4 +1,5 @@
-use Rattle.std.proofs.Common.{◌≡◌, ℕ, zero, suc, ◌+◌, ◌-◌, ◌<◌, ◌≤◌, ◌%◌, ◌^◌, Bool, true, false, List, [], ◌∷◌, ◌++◌, length, map, Option, Some, None, refl, ap, sym, ◌∙◌, inl, inr, arith, append-nil, zero-add}
+use Rattle.std.proofs.Common.{◌≡◌, ℕ, zero, suc, ◌+◌, ◌-◌, ◌<◌, ◌≤◌, ◌%◌, ◌^◌, Bool, true, false, List, [], ◌∷◌, ◌++◌, length, map, Option, Some, None, refl}
+use Rattle.std.proofs.Common.{ap, sym, ◌∙◌, inl, inr, arith, append-nil, zero-add}
 use Rattle.std.specs.Prelude.{◌⊎◌, if◌then◌else◌, ◌==◌, ◌&&◌, ◌||◌, not, nat_le, nat_lt, fold, slice_get, slice_index_or, max}
 use Rattle.std.specs.List.{list_any, list_all}
 use Rattle.std.proofs.Math.Path.{subst}
@@ -69,14 +70,17 @@ same-then w v u f g = record { setup = g.setup ∙ f.setup; network = g.network 
 pub same-slot : (w : LinkRecord) (p : ℕ) → Same w (Changes.receive_slot w p)
 same-slot w p = step (Receiver.is_new w p)
   where
-    step : (b : Bool) → Same w (if b then Changes.note_completion (record w { slots = change_at Changes.mark_arrived p w.slots }) (Messages.message_of w p) else record w { duplicates = w.duplicates ++ p ∷ [] })
+    step : (b : Bool) → Same w (if b then Changes.note_completion (record w { slots = change_at Changes.mark_arrived p w.slots }) (Messages.message_of w p)
+        else record w { duplicates = w.duplicates ++ p ∷ [] })
     step true =
         let v : LinkRecord = record w { slots = change_at Changes.mark_arrived p w.slots } in
-        same-then w v (Changes.note_completion v (Messages.message_of w p)) (record { setup = refl; network = refl; shape_is = Shapes.shape-arrived w p }) (same-noted v (Messages.message_of w p))
+        same-then w v (Changes.note_completion v (Messages.message_of w p)) (record { setup = refl; network = refl; shape_is = Shapes.shape-arrived w p })
+        (same-noted v (Messages.message_of w p))
     step false = record { setup = refl; network = refl; shape_is = refl }
 
 pub same-slots : (w : LinkRecord) (ps : List ℕ) → Same w (fold Changes.receive_slot w ps)
-same-slots w ps = fold-keeps (Same w) Changes.receive_slot (λ v p s. same-then w v (Changes.receive_slot v p) s (same-slot v p)) ps w (record { setup = refl; network = refl; shape_is = refl })
+same-slots w ps = fold-keeps (Same w) Changes.receive_slot (λ v p s. same-then w v (Changes.receive_slot v p) s (same-slot v p)) ps w
+    (record { setup = refl; network = refl; shape_is = refl })
 
 pub same-received : (w : LinkRecord) (o : Option Datagram) → Same w (Changes.after_arrive w o)
 same-received w None = record { setup = refl; network = refl; shape_is = refl }
@@ -103,7 +107,8 @@ one-datagram w v d a b c = record { setup = a; network = (d ∷ [], b); grows = 
 
 pub extends-after : (setup : Setup) (w : LinkRecord) (e : Event) → refusal_of w e ≡ None → Sane setup w → Extends w (after w e)
 extends-after setup w (E.Open s) ok g = extends-same w (Changes.after_open w s) (record { setup = refl; network = refl; shape_is = refl })
-extends-after setup w (E.Mode s unordered reliability value) ok g = extends-same w (Changes.after_mode w s unordered reliability value) (record { setup = refl; network = refl; shape_is = refl })
+extends-after setup w (E.Mode s unordered reliability value) ok g =
+    extends-same w (Changes.after_mode w s unordered reliability value) (record { setup = refl; network = refl; shape_is = refl })
 extends-after setup w (E.Write s ppi bytes) ok g = of-quiet w (Changes.after_write w s ppi bytes) (Moves.quiet-written setup w s ppi bytes g)
 extends-after setup w (E.Start now) ok g = of-quiet w (Changes.after_start w now) (Moves.quiet-started w now)
 extends-after setup w (E.Send now) ok g = of-quiet w (Changes.after_send w now) (Moves.quiet-sent setup w now (Messages.front w) g)
@@ -111,7 +116,8 @@ extends-after setup w (E.Resend tsn) ok g = one-datagram w (Changes.after_resend
 extends-after setup w (E.Expire now) ok g = of-quiet w (Changes.after_expire w (Changes.expiring w now)) (Moves.quiet-expire setup w now (Messages.front w) g)
 extends-after setup w (E.Tail now) ok g = of-quiet w (Changes.after_tail w (Changes.tailing w now)) (Moves.quiet-tail setup w (Changes.tailing w now) g)
 extends-after setup w (E.Late now) ok g = of-quiet w (Changes.after_late w now) (Moves.quiet-lates setup w now g)
-extends-after setup w (E.Abandon tsn) ok g = of-quiet w (Changes.after_abandon w (Messages.message_of w (Messages.place_of w tsn))) (Moves.quiet-abandoned setup w (Messages.message_of w (Messages.place_of w tsn)) g)
+extends-after setup w (E.Abandon tsn) ok g = of-quiet w (Changes.after_abandon w (Messages.message_of w (Messages.place_of w tsn)))
+    (Moves.quiet-abandoned setup w (Messages.message_of w (Messages.place_of w tsn)) g)
 extends-after setup w (E.Skip upto names) ok g = one-datagram w (after w (E.Skip upto names)) (Forward (Messages.place_of w upto) names.items) refl refl refl
 extends-after setup w (E.Ack credit) ok g = one-datagram w (Changes.after_ack w credit) (Sack (report_of w credit)) refl refl refl
 extends-after setup w (E.Arrive k) ok g = extends-same w (Changes.after_arrive w (slice_get w.network k)) (same-received w (slice_get w.network k))
@@ -151,8 +157,10 @@ slots-grown x y g (p ∷ ps) f = (omega (arith, f.0, g.slots), ap (λ s. s.is_te
 -- an ended message has no slot past those it had
 no-later : (x y : Shape) → Grows x y → (n q : ℕ) → 0 < sent x n → IsEnded x n → x.slots ≤ q → q < y.slots → has y n q ≡ true → ⊥
 no-later x y g n q pos e a b h =
-    let old : length (numbers_where (has y n) 0 x.slots) ≡ sent x n = ap length (kept-same (has y n) (has x n) 0 x.slots (λ k i j. ap (λ s. (s.message == n) && not s.is_terminal_chunk) (g.slot k (omega arith)))) in
-    absurd (omega (arith, g.ended n pos e, old, length-kept-mono (has y n) 0 x.slots q a, length-kept-lt (has y n) 0 q y.slots (ap (has y n) (zero-add q) ∙ h) b))
+    let old : length (numbers_where (has y n) 0 x.slots) ≡ sent x n =
+    ap length (kept-same (has y n) (has x n) 0 x.slots (λ k i j. ap (λ s. (s.message == n) && not s.is_terminal_chunk) (g.slot k (omega arith)))) in
+    absurd
+    (omega (arith, g.ended n pos e, old, length-kept-mono (has y n) 0 x.slots q a, length-kept-lt (has y n) 0 q y.slots (ap (has y n) (zero-add q) ∙ h) b))
 
 pub namable-grown : (x y : Shape) → Sender x → Grows x y → (upto n : ℕ) → IsNamable x upto n → IsNamable y upto n
 namable-grown x y s g upto n f = record {
@@ -209,21 +217,29 @@ record Adds (setup : Setup) (w v : LinkRecord) : Type 0 where
 adds-more : (setup : Setup) (w : LinkRecord) → Sane setup w → (v : LinkRecord) → Adds setup w v → Adds setup w (Changes.send_fragment v)
 adds-more setup w g v a = record { reached = Moves.reached-more setup w g v a.reached; fragments = step (Messages.front v) }
   where
-    step : (o : Option ℕ) → (p : ℕ) → length w.slots ≤ p → p < length (Changes.send_fragment_of v o).slots → (Messages.slot_at (Changes.send_fragment_of v o) p).is_terminal_chunk ≡ false
+    step : (o : Option ℕ) → (p : ℕ) → length w.slots ≤ p → p < length (Changes.send_fragment_of v o).slots
+        → (Messages.slot_at (Changes.send_fragment_of v o) p).is_terminal_chunk ≡ false
     step None p low high = a.fragments p low high
-    step (Some n) p low high = by_last {P = ((shape (Changes.with_slot v n false)).slot p).is_terminal_chunk ≡ false} p (length v.slots) (omega (arith, high, ap (λ y. y.slots) (Shapes.shape-slot v n false)))
-        (λ o. ap (λ y. (y.slot p).is_terminal_chunk) (Shapes.shape-slot v n false) ∙ ap (λ y. y.is_terminal_chunk) (slot-old (shape v) n p false o) ∙ a.fragments p low o)
-        (λ e. ap (λ y. (y.slot p).is_terminal_chunk) (Shapes.shape-slot v n false) ∙ ap (λ q. ((slotted (shape v) n false).slot q).is_terminal_chunk) e ∙ ap (λ y. y.is_terminal_chunk) (slot-new (shape v) n false))
+    step (Some n) p low high = by_last {P = ((shape (Changes.with_slot v n false)).slot p).is_terminal_chunk ≡ false} p (length v.slots)
+        (omega (arith, high, ap (λ y. y.slots) (Shapes.shape-slot v n false)))
+        (λ o. ap (λ y. (y.slot p).is_terminal_chunk) (Shapes.shape-slot v n false) ∙ ap (λ y. y.is_terminal_chunk) (slot-old (shape v) n p false o)
+        ∙ a.fragments p low o)
+        (λ e. ap (λ y. (y.slot p).is_terminal_chunk) (Shapes.shape-slot v n false) ∙ ap (λ q. ((slotted (shape v) n false).slot q).is_terminal_chunk) e
+        ∙ ap (λ y. y.is_terminal_chunk) (slot-new (shape v) n false))
 
 adds-sent : (setup : Setup) (w : LinkRecord) (now : ℕ) → Sane setup w → Adds setup w (Changes.send_fragments (Changes.after_start w now))
 adds-sent setup w now g =
     let u = Changes.after_start w now in
-    let base : Adds setup w u = record { reached = record { sane = sane-started setup w now g; quiet = Moves.quiet-started w now }; fragments = λ p a b. absurd (omega arith) } in
-    filled-keeps (Adds setup w) (adds-more setup w g) u.setup.limit (Changes.plus 12 (Changes.next_length u)) (Changes.send_fragment u) (adds-more setup w g u base)
+    let base : Adds setup w u =
+    record { reached = record { sane = sane-started setup w now g; quiet = Moves.quiet-started w now }; fragments = λ p a b. absurd (omega arith) } in
+    filled-keeps (Adds setup w) (adds-more setup w g) u.setup.limit (Changes.plus 12 (Changes.next_length u)) (Changes.send_fragment u)
+    (adds-more setup w g u base)
 
-pub slots-fit : (x : Shape) (from count : ℕ) → ((p : ℕ) → from ≤ p → p < from + count → (p < x.slots) × ((x.slot p).is_terminal_chunk ≡ false)) → SlotsFit x (numbers_where always from count)
+pub slots-fit : (x : Shape) (from count : ℕ) → ((p : ℕ) → from ≤ p → p < from + count → (p < x.slots) × ((x.slot p).is_terminal_chunk ≡ false))
+    → SlotsFit x (numbers_where always from count)
 slots-fit x from zero h = tt
-slots-fit x from (suc count) h = let a = h from (omega arith) (omega arith) in (a.0, a.1, slots-fit x (from + 1) count (λ p i j. h p (omega arith) (omega arith)))
+slots-fit x from (suc count) h = let a = h from (omega arith) (omega arith) in
+    (a.0, a.1, slots-fit x (from + 1) count (λ p i j. h p (omega arith) (omega arith)))
 
 pub network-more : (v : LinkRecord) → (Changes.send_fragment v).network ≡ v.network
 network-more v = step (Messages.front v)
@@ -233,27 +249,36 @@ network-more v = step (Messages.front v)
     step (Some n) = refl
 
 pub same-network : (u : LinkRecord) → (Changes.send_fragments u).network ≡ u.network
-same-network u = filled-keeps (λ v. v.network ≡ u.network) (λ v e. network-more v ∙ e) u.setup.limit (Changes.plus 12 (Changes.next_length u)) (Changes.send_fragment u) (network-more u)
+same-network u = filled-keeps (λ v. v.network ≡ u.network) (λ v e. network-more v ∙ e) u.setup.limit (Changes.plus 12 (Changes.next_length u))
+    (Changes.send_fragment u) (network-more u)
 
-fit-sent : (setup : Setup) (w : LinkRecord) (now : ℕ) (o : Option ℕ) → Sane setup w → AllFit (shape w) w.network → AllFit (shape (Changes.send_from (Changes.after_start w now) o)) (Changes.send_from (Changes.after_start w now) o).network
+fit-sent : (setup : Setup) (w : LinkRecord) (now : ℕ) (o : Option ℕ) → Sane setup w → AllFit (shape w) w.network
+    → AllFit (shape (Changes.send_from (Changes.after_start w now) o)) (Changes.send_from (Changes.after_start w now) o).network
 fit-sent setup w now None g a = fit-kept w (Changes.after_start w now) g.sender (Moves.quiet-started w now).grows refl a
 fit-sent setup w now (Some n) g a =
     let u = Changes.after_start w now in
     let v = Changes.send_fragments u in
     let d = adds-sent setup w now g in
     all-fit-append (shape v) v.network (W.Data (numbers_from (length u.slots) (length v.slots - length u.slots)) ∷ [])
-    (all-of d.reached.quiet)
-    (slots-fit (shape v) (length u.slots) (length v.slots - length u.slots) (λ p i j. (omega (arith, d.reached.quiet.grows.slots), d.fragments p (omega arith) (omega (arith, d.reached.quiet.grows.slots)))), tt)
+    (all-of d.reached.quiet) (
+      slots-fit (shape v) (length u.slots) (length v.slots - length u.slots)
+          (λ p i j. (omega (arith, d.reached.quiet.grows.slots), d.fragments p (omega arith) (omega (arith, d.reached.quiet.grows.slots)))),
+      tt,
+    )
   where
     -- no datagram is made before the slots are
-    all-of : Moves.Quiet w (Changes.send_fragments (Changes.after_start w now)) → AllFit (shape (Changes.send_fragments (Changes.after_start w now))) (Changes.send_fragments (Changes.after_start w now)).network
+    all-of : Moves.Quiet w (Changes.send_fragments (Changes.after_start w now))
+        → AllFit (shape (Changes.send_fragments (Changes.after_start w now))) (Changes.send_fragments (Changes.after_start w now)).network
     all-of q = fit-kept w (Changes.send_fragments (Changes.after_start w now)) g.sender q.grows (same-network (Changes.after_start w now)) a
 
 pub namable : (w : LinkRecord) (upto n : ℕ) → Sender (shape w) → can_name w upto n ≡ true → IsNamable (shape w) upto n
 namable w upto n s e =
-    let a = both (nat_lt n (length w.messages)) ((Messages.message_at w n).ordered && (is_ended w n && (not (Messages.message_at w n).expired && list_all (λ place. nat_le place upto) (Messages.slots_where w (Messages.belongs_to w n))))) e in
-    let b = both (Messages.message_at w n).ordered (is_ended w n && (not (Messages.message_at w n).expired && list_all (λ place. nat_le place upto) (Messages.slots_where w (Messages.belongs_to w n)))) a.1 in
-    let c = both (is_ended w n) (not (Messages.message_at w n).expired && list_all (λ place. nat_le place upto) (Messages.slots_where w (Messages.belongs_to w n))) b.1 in
+    let a = both (nat_lt n (length w.messages)) ((Messages.message_at w n).ordered && (is_ended w n
+    && (not (Messages.message_at w n).expired && list_all (λ place. nat_le place upto) (Messages.slots_where w (Messages.belongs_to w n))))) e in
+    let b = both (Messages.message_at w n).ordered (is_ended w n
+    && (not (Messages.message_at w n).expired && list_all (λ place. nat_le place upto) (Messages.slots_where w (Messages.belongs_to w n)))) a.1 in
+    let c = both (is_ended w n)
+    (not (Messages.message_at w n).expired && list_all (λ place. nat_le place upto) (Messages.slots_where w (Messages.belongs_to w n))) b.1 in
     let d = both (not (Messages.message_at w n).expired) (list_all (λ place. nat_le place upto) (Messages.slots_where w (Messages.belongs_to w n))) c.1 in
     let low = a.0 in
     let lt : n < length w.messages = grind (arith, nat_tests) in
@@ -261,7 +286,8 @@ namable w upto n s e =
       ordered = b.0;
       some = some lt (ended (sent (shape w) n == parts (shape w) n) refl c.0);
       ended = ended (sent (shape w) n == parts (shape w) n) refl c.0;
-      within = λ q l h. let t : nat_le q upto ≡ true = all-out (λ place. nat_le place upto) (Messages.belongs_to w n) q 0 (length w.slots) d.1 (omega arith) (omega arith) (both (Messages.belongs_to w n q) (not (Messages.slot_at w q).is_terminal_chunk) h).0 in grind (arith, nat_tests);
+      within = λ q l h. let t : nat_le q upto ≡ true = all-out (λ place. nat_le place upto) (Messages.belongs_to w n) q 0 (length w.slots) d.1 (omega arith)
+          (omega arith) (both (Messages.belongs_to w n q) (not (Messages.slot_at w q).is_terminal_chunk) h).0 in grind (arith, nat_tests);
     }
   where
     ended : (t : Bool) → (sent (shape w) n == parts (shape w) n) ≡ t → (t || (Messages.message_at w n).abandoned) ≡ true → IsEnded (shape w) n
@@ -307,9 +333,11 @@ pub network-written : (w : LinkRecord) (s : ℕ) (ppi : PayloadProtocolIdentifie
 network-written w s ppi [] = refl
 network-written w s ppi (b ∷ bs) = refl
 
-pub skip-ok : (w : LinkRecord) (upto : ℕ) (names : List ℕ) → skip_refusal w upto names ≡ None → (upto < length w.slots) × (list_all (can_name w upto) names ≡ true)
+pub skip-ok : (w : LinkRecord) (upto : ℕ) (names : List ℕ) → skip_refusal w upto names ≡ None
+    → (upto < length w.slots) × (list_all (can_name w upto) names ≡ true)
 skip-ok w upto names ok =
-    let first = unless-holds (nat_lt upto (length w.slots)) SkipUnassigned (unless (list_all (can_name w upto) names && nat_le (length names) 16381) SkipNames None) ok in
+    let first = unless-holds (nat_lt upto (length w.slots)) SkipUnassigned
+    (unless (list_all (can_name w upto) names && nat_le (length names) 16381) SkipNames None) ok in
     let second = unless-holds (list_all (can_name w upto) names && nat_le (length names) 16381) SkipNames None first.1 in
     let low = first.0 in
     (grind (arith, nat_tests), (both (list_all (can_name w upto) names) (nat_le (length names) 16381) second.0).0)
@@ -319,23 +347,36 @@ resend-ok w p s e =
     let a = both (Messages.is_in_flight w p) (not (Messages.slot_at w p).acknowledged && not (Messages.message_at w (Messages.message_of w p)).abandoned) e in
     let b = both (not (Messages.slot_at w p).acknowledged) (not (Messages.message_at w (Messages.message_of w p)).abandoned) a.1 in
     let low = (both (nat_le w.taken p) (nat_lt p (length w.slots)) a.0).1 in
-    let lt : p < length w.slots = grind (arith, nat_tests) in
-    (lt, fails (Messages.slot_at w p).is_terminal_chunk (λ m. not_both (sym (negated (Messages.message_at w (Messages.message_of w p)).abandoned b.1) ∙ mark-abandoned (shape w) p s lt m)), tt)
+    let lt : p < length w.slots = grind (arith, nat_tests) in (
+      lt,
+      fails (Messages.slot_at w p).is_terminal_chunk
+          (λ m. not_both (sym (negated (Messages.message_at w (Messages.message_of w p)).abandoned b.1) ∙ mark-abandoned (shape w) p s lt m)),
+      tt,
+    )
 
-pub fit-after : (setup : Setup) (w : LinkRecord) (e : Event) → refusal_of w e ≡ None → Sane setup w → AllFit (shape w) w.network → AllFit (shape (after w e)) (after w e).network
+pub fit-after : (setup : Setup) (w : LinkRecord) (e : Event) → refusal_of w e ≡ None → Sane setup w → AllFit (shape w) w.network
+    → AllFit (shape (after w e)) (after w e).network
 fit-after setup w (E.Open s) ok g a = a
 fit-after setup w (E.Mode s unordered reliability value) ok g a = a
-fit-after setup w (E.Write s ppi bytes) ok g a = fit-quiet w (Changes.after_write w s ppi bytes) g.sender (Moves.quiet-written setup w s ppi bytes g) (network-written w s ppi bytes) a
+fit-after setup w (E.Write s ppi bytes) ok g a =
+    fit-quiet w (Changes.after_write w s ppi bytes) g.sender (Moves.quiet-written setup w s ppi bytes g) (network-written w s ppi bytes) a
 fit-after setup w (E.Start now) ok g a = fit-quiet w (Changes.after_start w now) g.sender (Moves.quiet-started w now) refl a
 fit-after setup w (E.Send now) ok g a = fit-sent setup w now (Messages.front w) g a
-fit-after setup w (E.Resend tsn) ok g a = all-fit-append (shape w) w.network (W.Data (Messages.place_of w tsn ∷ []) ∷ []) a (resend-ok w (Messages.place_of w tsn) g.sender (unless-holds (can_resend w (Messages.place_of w tsn)) NotInFlight None ok).0, tt)
-fit-after setup w (E.Expire now) ok g a = fit-quiet w (Changes.after_expire w (Changes.expiring w now)) g.sender (Moves.quiet-expire setup w now (Messages.front w) g) (network-expired w (Changes.expiring w now)) a
-fit-after setup w (E.Tail now) ok g a = fit-quiet w (Changes.after_tail w (Changes.tailing w now)) g.sender (Moves.quiet-tail setup w (Changes.tailing w now) g) (network-tail w (Changes.tailing w now)) a
-fit-after setup w (E.Late now) ok g a = fit-quiet w (Changes.after_late w now) g.sender (Moves.quiet-lates setup w now g) (network-late (Changes.late_messages w now) w) a
-fit-after setup w (E.Abandon tsn) ok g a = fit-quiet w (Changes.after_abandon w (Messages.message_of w (Messages.place_of w tsn))) g.sender (Moves.quiet-abandoned setup w (Messages.message_of w (Messages.place_of w tsn)) g) (network-abandoned w (Messages.message_of w (Messages.place_of w tsn))) a
+fit-after setup w (E.Resend tsn) ok g a = all-fit-append (shape w) w.network (W.Data (Messages.place_of w tsn ∷ []) ∷ []) a
+    (resend-ok w (Messages.place_of w tsn) g.sender (unless-holds (can_resend w (Messages.place_of w tsn)) NotInFlight None ok).0, tt)
+fit-after setup w (E.Expire now) ok g a = fit-quiet w (Changes.after_expire w (Changes.expiring w now)) g.sender
+    (Moves.quiet-expire setup w now (Messages.front w) g) (network-expired w (Changes.expiring w now)) a
+fit-after setup w (E.Tail now) ok g a = fit-quiet w (Changes.after_tail w (Changes.tailing w now)) g.sender (Moves.quiet-tail setup w (Changes.tailing w now) g)
+    (network-tail w (Changes.tailing w now)) a
+fit-after setup w (E.Late now) ok g a =
+    fit-quiet w (Changes.after_late w now) g.sender (Moves.quiet-lates setup w now g) (network-late (Changes.late_messages w now) w) a
+fit-after setup w (E.Abandon tsn) ok g a = fit-quiet w (Changes.after_abandon w (Messages.message_of w (Messages.place_of w tsn))) g.sender
+    (Moves.quiet-abandoned setup w (Messages.message_of w (Messages.place_of w tsn)) g)
+    (network-abandoned w (Messages.message_of w (Messages.place_of w tsn))) a
 fit-after setup w (E.Skip upto names) ok g a =
     let s = skip-ok w (Messages.place_of w upto) names.items ok in
-    all-fit-append (shape w) w.network (Forward (Messages.place_of w upto) names.items ∷ []) a ((s.0, names-fit w (Messages.place_of w upto) names.items g.sender s.1), tt)
+    all-fit-append (shape w) w.network (Forward (Messages.place_of w upto) names.items ∷ []) a
+    ((s.0, names-fit w (Messages.place_of w upto) names.items g.sender s.1), tt)
 fit-after setup w (E.Ack credit) ok g a = all-fit-append (shape w) w.network (Sack (report_of w credit) ∷ []) a (tt, tt)
 fit-after setup w (E.Arrive k) ok g a = fit-same w (Changes.after_arrive w (slice_get w.network k)) g.sender (same-received w (slice_get w.network k)) a
 fit-after setup w (E.Acked k) ok g a = fit-same w (Changes.after_acked w (slice_get w.network k)) g.sender (same-taken w (slice_get w.network k)) a
@@ -348,7 +389,8 @@ fit-run setup (entry ∷ older) run = fit-after setup (record_of setup older) en
 -- ## The laws
 
 pub no_terminal_chunk_is_sent : OnEveryRun NoTerminalChunkIsSent
-no_terminal_chunk_is_sent setup h is run k slots e = none slots (fit-at (shape (record_of setup h)) (record_of setup h).network k (W.Data slots) (fit-run setup h run) e)
+no_terminal_chunk_is_sent setup h is run k slots e =
+    none slots (fit-at (shape (record_of setup h)) (record_of setup h).network k (W.Data slots) (fit-run setup h run) e)
   where
     none : (ps : List ℕ) → SlotsFit (shape (record_of setup h)) ps → list_any (λ p. (Messages.slot_at (record_of setup h) p).is_terminal_chunk) ps ≡ false
     none [] f = refl
@@ -370,7 +412,8 @@ said m size place i tsn =
     }
 
 -- the number of a message in its stream
-place-stays : (x y : Shape) → Grows x y → (n : ℕ) → 0 < sent x n → (m : MessagePart) (size i tsn : ℕ) → m.ordered ≡ (x.message n).ordered → said m size (index y n) i tsn ≡ said m size (index x n) i tsn
+place-stays : (x y : Shape) → Grows x y → (n : ℕ) → 0 < sent x n → (m : MessagePart) (size i tsn : ℕ) → m.ordered ≡ (x.message n).ordered
+    → said m size (index y n) i tsn ≡ said m size (index x n) i tsn
 place-stays x y g n pos m size i tsn e = step m.ordered refl
   where
     step : (b : Bool) → m.ordered ≡ b → said m size (index y n) i tsn ≡ said m size (index x n) i tsn
@@ -384,11 +427,12 @@ chunk-stays w v p s x lt =
     let made = s.made p lt in
     let pos = slot-sent (shape w) p s lt in
     let first : v.setup.first ≡ w.setup.first = ap (λ t. t.first) x.setup in
-    ap (λ f. fresh (said (as_written ((shape v).message ((shape v).slot p).message)) (shape v).size (index (shape v) ((shape v).slot p).message) ((shape v).slot p).fragment ((f + p) % 2 ^ 32))) first
-    ∙ ap (λ z. fresh (said (as_written ((shape v).message z.message)) (shape v).size (index (shape v) z.message) z.fragment (Messages.tsn_of w p))) (g.slot p lt)
-    ∙ ap (λ m. fresh (said m (shape v).size (index (shape v) n) ((shape w).slot p).fragment (Messages.tsn_of w p))) (g.message n made)
-    ∙ ap (λ c. fresh (said (as_written ((shape w).message n)) c (index (shape v) n) ((shape w).slot p).fragment (Messages.tsn_of w p))) g.size
-    ∙ ap fresh (place-stays (shape w) (shape v) g n pos (as_written ((shape w).message n)) (shape w).size ((shape w).slot p).fragment (Messages.tsn_of w p) refl)
+    ap (λ f. fresh (said (as_written ((shape v).message ((shape v).slot p).message)) (shape v).size (index (shape v) ((shape v).slot p).message)
+    ((shape v).slot p).fragment ((f + p) % 2 ^ 32))) first
+    ∙ ap (λ z. fresh (said (as_written ((shape v).message z.message)) (shape v).size (index (shape v) z.message) z.fragment (Messages.tsn_of w p)))
+    (g.slot p lt) ∙ ap (λ m. fresh (said m (shape v).size (index (shape v) n) ((shape w).slot p).fragment (Messages.tsn_of w p))) (g.message n made)
+    ∙ ap (λ c. fresh (said (as_written ((shape w).message n)) c (index (shape v) n) ((shape w).slot p).fragment (Messages.tsn_of w p))) g.size ∙ ap fresh
+    (place-stays (shape w) (shape v) g n pos (as_written ((shape w).message n)) (shape w).size ((shape w).slot p).fragment (Messages.tsn_of w p) refl)
 
 chunks-stay : (w v : LinkRecord) → Sender (shape w) → Extends w v → (ps : List ℕ) → SlotsFit (shape w) ps → map (chunk_at v) ps ≡ map (chunk_at w) ps
 chunks-stay w v s x [] f = refl
@@ -405,15 +449,18 @@ name-stays w v upto n s x f =
     ∙ ap (λ k. pair (Messages.message_at w n).stream (k % 2 ^ 16)) (g.same_index n f.some f.ordered)
     ∙ sym (ap (λ b. pair (Messages.message_at w n).stream ((if b then index (shape w) n else (Messages.message_at w n).before) % 2 ^ 16)) f.ordered)
 
-names-stay : (w v : LinkRecord) (upto : ℕ) → Sender (shape w) → Extends w v → (ns : List ℕ) → NamesFit (shape w) upto ns → map (name_of v) ns ≡ map (name_of w) ns
+names-stay : (w v : LinkRecord) (upto : ℕ) → Sender (shape w) → Extends w v → (ns : List ℕ) → NamesFit (shape w) upto ns
+    → map (name_of v) ns ≡ map (name_of w) ns
 names-stay w v upto s x [] f = refl
-names-stay w v upto s x (n ∷ ns) f = ap (λ c. c ∷ map (name_of v) ns) (name-stays w v upto n s x f.0) ∙ ap (λ l. name_of w n ∷ l) (names-stay w v upto s x ns f.1)
+names-stay w v upto s x (n ∷ ns) f = ap (λ c. c ∷ map (name_of v) ns) (name-stays w v upto n s x f.0)
+    ∙ ap (λ l. name_of w n ∷ l) (names-stay w v upto s x ns f.1)
 
 pub contents-stay : (w v : LinkRecord) (d : Datagram) → Sender (shape w) → Extends w v → Fits (shape w) d → contents_of v d ≡ contents_of w d
 contents-stay w v (W.Data ps) s x f = ap DataContents (chunks-stay w v s x ps f)
 contents-stay w v (Forward upto names) s x f =
     let first : v.setup.first ≡ w.setup.first = ap (λ t. t.first) x.setup in
-    ap (λ i. ForwardContents ((i + upto) % 2 ^ 32) (map (name_of v) names)) first ∙ ap (ForwardContents (Messages.tsn_of w upto)) (names-stay w v upto s x names f.1)
+    ap (λ i. ForwardContents ((i + upto) % 2 ^ 32) (map (name_of v) names)) first
+    ∙ ap (ForwardContents (Messages.tsn_of w upto)) (names-stay w v upto s x names f.1)
 contents-stay w v (Sack r) s x f =
     let first : v.setup.first ≡ w.setup.first = ap (λ t. t.first) x.setup in
     ap (λ i. SackContents ((i + (2 ^ 32 - 1) + r.cumulative) % 2 ^ 32) r.credit r.blocks (map (λ p. (i + p) % 2 ^ 32) r.duplicates)) first
@@ -427,6 +474,8 @@ datagrams_stay setup h is run event k ok lt =
     ∙ ap (contents_in (after w event)) (slice-front w.network x.network.0 k lt)
     ∙ at (slice_get w.network k) refl x g.sender
   where
-    at : (o : Option Datagram) → slice_get (record_of setup h).network k ≡ o → Extends (record_of setup h) (after (record_of setup h) event) → Sender (shape (record_of setup h)) → contents_in (after (record_of setup h) event) o ≡ contents_in (record_of setup h) o
+    at : (o : Option Datagram) → slice_get (record_of setup h).network k ≡ o → Extends (record_of setup h) (after (record_of setup h) event)
+        → Sender (shape (record_of setup h)) → contents_in (after (record_of setup h) event) o ≡ contents_in (record_of setup h) o
     at None e x s = refl
-    at (Some d) e x s = ap Some (contents-stay (record_of setup h) (after (record_of setup h) event) d s x (fit-at (shape (record_of setup h)) (record_of setup h).network k d (fit-run setup h run) e))
+    at (Some d) e x s = ap Some (contents-stay (record_of setup h) (after (record_of setup h) event) d s x
+        (fit-at (shape (record_of setup h)) (record_of setup h).network k d (fit-run setup h run) e))

@@ -8,7 +8,8 @@ use Rattle.sctp_list_lemmas.proofs.Passing.{kept-none}
 use Rattle.sctp_list_lemmas.proofs.More.{fails, not_both, both, and}
 use Rattle.sctp_model.proofs.sender.Shape.{Shape, MessagePart, has, sent, parts, half, on, slotted, written, abandoned_at, expired_at}
 use Rattle.sctp_model.proofs.sender.Sender.{Sender, is_mark, sent-slotted, marks-slotted, slot-old, slot-new}
-use Rattle.sctp_model.proofs.sender.SenderSteps.{of-has, sent-some, of-half, is-half, half-one, has-old, has-new, number-slotted, made-slotted, Next, Last, marks_due}
+use Rattle.sctp_model.proofs.sender.SenderSteps.{of-has, sent-some, of-half, is-half, half-one, has-old, has-new, number-slotted, made-slotted, Next, Last}
+use Rattle.sctp_model.proofs.sender.SenderSteps.{marks_due}
 use Rattle.sctp_list_lemmas.proofs.Cases.{by_last, by_same, same-yes, same-is}
 
 -- ## Abandonment
@@ -40,12 +41,14 @@ module _ (x : Shape) (n : ℕ) (s : Sender x) (h : half x n ≡ true) where
     some = s.some;
     made = made-slotted x n true s made-n;
     number = number-slotted x n true s;
-    beside = λ p lt mark pos. by_last {P = Next y p} p x.slots lt (λ o. old p o mark pos) (λ e. absurd (not_both (sym mark ∙ (ap (λ r. (y.slot r).is_terminal_chunk) e ∙ ap (λ z. z.is_terminal_chunk) (slot-new x n true)))));
+    beside = λ p lt mark pos. by_last {P = Next y p} p x.slots lt (λ o. old p o mark pos)
+        (λ e. absurd (not_both (sym mark ∙ (ap (λ r. (y.slot r).is_terminal_chunk) e ∙ ap (λ z. z.is_terminal_chunk) (slot-new x n true)))));
     last = λ k g. by_same {P = Last y k} k n
         (λ e. absurd (not_both (sym (of-half y k g).alive ∙ (let z : (k == n) ≡ true = ap (λ j. k == j) (sym e) ∙ same-yes k in rw z refl))))
         (λ ne f. absurd (ne (half-one x k n s (was k f g) h)));
     within = λ k lt. omega (arith, sent-same k, s.within k lt);
-    marks = λ k lt. marks-slotted x n k true ∙ by_same {P = length (numbers_where (is_mark x k) 0 x.slots) + (if (n == k) && true then 1 else 0) ≡ marks_due y k} n k
+    marks = λ k lt. marks-slotted x n k true
+        ∙ by_same {P = length (numbers_where (is_mark x k) 0 x.slots) + (if (n == k) && true then 1 else 0) ≡ marks_due y k} n k
         (λ e. ended k e)
         (λ ne f. other k ne f lt);
     expired_unsent = λ k lt e. sent-same k ∙ s.expired_unsent k lt e;
@@ -54,7 +57,8 @@ module _ (x : Shape) (n : ℕ) (s : Sender x) (h : half x n ≡ true) where
         (λ ne f. omega (arith, sent-same k, s.abandoned_sent k lt (before k ne e)));
     turn = λ r j k jk lt a b pos. omega (arith, sent-same j, s.turn r j k jk lt a b (omega (arith, pos, sent-same k)));
     ascend = λ r j k p q jk a b lp lq hp hq. by_last {P = p < q} p x.slots lp
-        (λ op. by_last {P = p < q} q x.slots lq (λ oq. s.ascend r j k p q jk a b op oq (sym (has-old x n true j p op) ∙ hp) (sym (has-old x n true k q oq) ∙ hq)) (λ eq. absurd (not_both (sym (new-none k) ∙ ap (has y k) (sym eq) ∙ hq))))
+        (λ op. by_last {P = p < q} q x.slots lq (λ oq. s.ascend r j k p q jk a b op oq (sym (has-old x n true j p op) ∙ hp) (sym (has-old x n true k q oq)
+        ∙ hq)) (λ eq. absurd (not_both (sym (new-none k) ∙ ap (has y k) (sym eq) ∙ hq))))
         (λ ep. absurd (not_both (sym (new-none j) ∙ ap (has y j) (sym ep) ∙ hp)));
   }
     where
@@ -80,13 +84,16 @@ module _ (x : Shape) (n : ℕ) (s : Sender x) (h : half x n ≡ true) where
           let i = of-half x n h in
           let hit : (n == k) ≡ true = ap (λ j. n == j) (sym e) ∙ same-yes n in
           let hit' : (k == n) ≡ true = ap (λ j. j == n) (sym e) ∙ same-yes n in
-          let few : length (numbers_where (is_mark x k) 0 x.slots) ≡ 0 = ap (λ j. length (numbers_where (is_mark x j) 0 x.slots)) (sym e) ∙ s.marks n made-n ∙ ap (λ b. if b && nat_lt (sent x n) (parts x n) then 1 else 0) i.alive in
-          let more : nat_lt (sent y k) (parts x k) ≡ true = (let l : sent y k < parts x k = omega (arith, sent-same k, ap (sent x) e, ap (parts x) e, i.more) in grind (arith, nat_tests)) in
+          let few : length (numbers_where (is_mark x k) 0 x.slots) ≡ 0 = ap (λ j. length (numbers_where (is_mark x j) 0 x.slots)) (sym e) ∙ s.marks n made-n
+          ∙ ap (λ b. if b && nat_lt (sent x n) (parts x n) then 1 else 0) i.alive in
+          let more : nat_lt (sent y k) (parts x k) ≡ true =
+          (let l : sent y k < parts x k = omega (arith, sent-same k, ap (sent x) e, ap (parts x) e, i.more) in grind (arith, nat_tests)) in
           ap (λ b. length (numbers_where (is_mark x k) 0 x.slots) + (if b && true then 1 else 0)) hit
           ∙ ap (λ c. c + 1) few
           ∙ sym (ap (λ b. if (b || (x.message k).abandoned) && nat_lt (sent y k) (parts x k) then 1 else 0) hit' ∙ ap (λ b. if true && b then 1 else 0) more)
 
-      other : (k : ℕ) → (n ≡ k → ⊥) → (n == k) ≡ false → k < x.count → length (numbers_where (is_mark x k) 0 x.slots) + (if (n == k) && true then 1 else 0) ≡ marks_due y k
+      other : (k : ℕ) → (n ≡ k → ⊥) → (n == k) ≡ false → k < x.count
+          → length (numbers_where (is_mark x k) 0 x.slots) + (if (n == k) && true then 1 else 0) ≡ marks_due y k
       other k ne f lt =
           let z : length (numbers_where (is_mark x k) 0 x.slots) + 0 ≡ length (numbers_where (is_mark x k) 0 x.slots) = omega arith in
           ap (λ b. length (numbers_where (is_mark x k) 0 x.slots) + (if b && true then 1 else 0)) f ∙ z ∙ s.marks k lt
@@ -117,12 +124,14 @@ sender-abandoned x n s no' pos = record {
     alive true c e = cc
     alive false c e = e
 
-    by_flag : (k : ℕ) → k ≡ n → (b : Bool) → (x.message k).abandoned ≡ b → (sent x k < parts x k) ⊎ (parts x k ≤ sent x k) → marks_due x k ≡ marks_due (abandoned_at x n) k
+    by_flag : (k : ℕ) → k ≡ n → (b : Bool) → (x.message k).abandoned ≡ b → (sent x k < parts x k) ⊎ (parts x k ≤ sent x k)
+        → marks_due x k ≡ marks_due (abandoned_at x n) k
     by_flag k e true f side = let hit : (k == n) ≡ true = ap (λ j. k == j) (sym e) ∙ same-yes k in rw (f, hit) refl
     by_flag k e false f (inl l) = absurd (not_both (sym no' ∙ ap (half x) (sym e) ∙ is-half x k (omega (arith, ap (sent x) e)) l f))
     by_flag k e false f (inr g) =
         let z : nat_lt (sent x k) (parts x k) ≡ false = grind (arith, nat_tests) in
-        ap (λ b. if (x.message k).abandoned && b then 1 else 0) z ∙ none (x.message k).abandoned ∙ sym (ap (λ b. if ((k == n) || (x.message k).abandoned) && b then 1 else 0) z ∙ none ((k == n) || (x.message k).abandoned))
+        ap (λ b. if (x.message k).abandoned && b then 1 else 0) z ∙ none (x.message k).abandoned
+        ∙ sym (ap (λ b. if ((k == n) || (x.message k).abandoned) && b then 1 else 0) z ∙ none ((k == n) || (x.message k).abandoned))
       where
         none : (b : Bool) → ◌≡◌ {A = ℕ} (if b && false then 1 else 0) 0
         none true = refl
@@ -151,7 +160,8 @@ sender-expired x n s z = record {
     was r k e =
         let a = both ((x.message k).stream == r) ((x.message k).ordered && not ((k == n) || (x.message k).expired)) e in
         let b = both (x.message k).ordered (not ((k == n) || (x.message k).expired)) a.1 in
-        and ((x.message k).stream == r) ((x.message k).ordered && not (x.message k).expired) a.0 (and (x.message k).ordered (not (x.message k).expired) b.0 (less (k == n) (x.message k).expired b.1))
+        and ((x.message k).stream == r) ((x.message k).ordered && not (x.message k).expired) a.0
+        (and (x.message k).ordered (not (x.message k).expired) b.0 (less (k == n) (x.message k).expired b.1))
       where
         less : (b c : Bool) → not (b || c) ≡ true → not c ≡ true
         less true c e = cc
@@ -160,7 +170,8 @@ sender-expired x n s z = record {
 -- ## Writes
 
 pub sent-none : (x : Shape) (n : ℕ) → Sender x → x.count ≤ n → sent x n ≡ 0
-sent-none x n s le = ap length (kept-none (has x n) 0 x.slots (λ p a b. fails (has x n p) (λ h. absurd (omega (arith, (of-has x n p h).0, s.made p (omega arith))))))
+sent-none x n s le =
+    ap length (kept-none (has x n) 0 x.slots (λ p a b. fails (has x n p) (λ h. absurd (omega (arith, (of-has x n p h).0, s.made p (omega arith))))))
 
 module _ (x : Shape) (m : MessagePart) where
   abbrev z : Shape
@@ -184,16 +195,22 @@ module _ (x : Shape) (m : MessagePart) where
     made = λ p lt. omega (arith, s.made p lt);
     number = s.number;
     beside = s.beside;
-    last = λ k h. let i = of-half z k h in by_made {P = Last z k} k i.some (λ o. s.last k (is-half x k i.some (omega (arith, i.more, parts-old k o)) (ap (λ v. v.abandoned) (sym (message-old k o)) ∙ i.alive)));
+    last = λ k h. let i = of-half z k h in by_made {P = Last z k} k i.some
+        (λ o. s.last k (is-half x k i.some (omega (arith, i.more, parts-old k o)) (ap (λ v. v.abandoned) (sym (message-old k o)) ∙ i.alive)));
     within = λ k lt. by_last {P = sent x k ≤ parts z k} k x.count lt (λ o. omega (arith, parts-old k o, s.within k o)) (λ e. omega (arith, none k e));
     marks = λ k lt. by_last {P = length (numbers_where (is_mark x k) 0 x.slots) ≡ marks_due z k} k x.count lt
-        (λ o. s.marks k o ∙ ap (λ b. if b && nat_lt (sent x k) (parts x k) then 1 else 0) (ap (λ v. v.abandoned) (sym (message-old k o))) ∙ ap (λ c. if (z.message k).abandoned && nat_lt (sent x k) c then 1 else 0) (sym (parts-old k o)))
-        (λ e. ap length (kept-none (is_mark x k) 0 x.slots (λ p a b. fails (is_mark x k p) (λ h. absurd (omega (arith, same-is (x.slot p).message k (both ((x.slot p).message == k) (x.slot p).is_terminal_chunk h).0, s.made p (omega arith))))))
-        ∙ sym (ap (λ b. if b && nat_lt (sent x k) (parts z k) then 1 else 0) (ap (λ j. (z.message j).abandoned) e ∙ ap (λ v. v.abandoned) message-new ∙ kept')));
-    expired_unsent = λ k lt e. by_last {P = sent x k ≡ 0} k x.count lt (λ o. s.expired_unsent k o (ap (λ v. v.expired) (sym (message-old k o)) ∙ e)) (λ i. none k i);
-    abandoned_sent = λ k lt e. by_last {P = 0 < sent x k} k x.count lt (λ o. s.abandoned_sent k o (ap (λ v. v.abandoned) (sym (message-old k o)) ∙ e)) (λ i. absurd (not_both (sym kept' ∙ ap (λ v. v.abandoned) (sym message-new) ∙ ap (λ j. (z.message j).abandoned) (sym i) ∙ e)));
+        (λ o. s.marks k o ∙ ap (λ b. if b && nat_lt (sent x k) (parts x k) then 1 else 0) (ap (λ v. v.abandoned) (sym (message-old k o)))
+        ∙ ap (λ c. if (z.message k).abandoned && nat_lt (sent x k) c then 1 else 0) (sym (parts-old k o)))
+        (λ e. ap length (kept-none (is_mark x k) 0 x.slots (λ p a b. fails (is_mark x k p) (λ h. absurd
+        (omega (arith, same-is (x.slot p).message k (both ((x.slot p).message == k) (x.slot p).is_terminal_chunk h).0, s.made p (omega arith)))))) ∙ sym
+        (ap (λ b. if b && nat_lt (sent x k) (parts z k) then 1 else 0) (ap (λ j. (z.message j).abandoned) e ∙ ap (λ v. v.abandoned) message-new ∙ kept')));
+    expired_unsent =
+        λ k lt e. by_last {P = sent x k ≡ 0} k x.count lt (λ o. s.expired_unsent k o (ap (λ v. v.expired) (sym (message-old k o)) ∙ e)) (λ i. none k i);
+    abandoned_sent = λ k lt e. by_last {P = 0 < sent x k} k x.count lt (λ o. s.abandoned_sent k o (ap (λ v. v.abandoned) (sym (message-old k o)) ∙ e))
+        (λ i. absurd (not_both (sym kept' ∙ ap (λ v. v.abandoned) (sym message-new) ∙ ap (λ j. (z.message j).abandoned) (sym i) ∙ e)));
     turn = λ r j k jk lt a b pos. by_made {P = 0 < sent x j} k pos (λ o. s.turn r j k jk o (sym (on-old r j (omega arith)) ∙ a) (sym (on-old r k o) ∙ b) pos);
-    ascend = λ r j k p q jk a b lp lq hp hq. by_made {P = p < q} k (sent-some x k q lq hq) (λ o. s.ascend r j k p q jk (sym (on-old r j (omega arith)) ∙ a) (sym (on-old r k o) ∙ b) lp lq hp hq);
+    ascend = λ r j k p q jk a b lp lq hp hq. by_made {P = p < q} k (sent-some x k q lq hq)
+        (λ o. s.ascend r j k p q jk (sym (on-old r j (omega arith)) ∙ a) (sym (on-old r k o) ∙ b) lp lq hp hq);
   }
     where
       none : (k : ℕ) → k ≡ x.count → sent x k ≡ 0

@@ -1,5 +1,6 @@
 -- In every history the sender's slots are valid.
-use Rattle.std.proofs.Common.{◌≡◌, ℕ, zero, suc, ◌+◌, ◌<◌, ◌^◌, Bool, true, false, List, [], ◌∷◌, ◌++◌, length, map, Option, Some, None, refl, ap, sym, ◌∙◌, arith, add-one}
+use Rattle.std.proofs.Common.{◌≡◌, ℕ, zero, suc, ◌+◌, ◌<◌, ◌^◌, Bool, true, false, List, [], ◌∷◌, ◌++◌, length, map, Option, Some, None, refl, ap, sym, ◌∙◌}
+use Rattle.std.proofs.Common.{arith, add-one}
 use Rattle.std.specs.Prelude.{if◌then◌else◌, ◌==◌, ◌&&◌, nat_lt, find, is_some, slice_get, fold, max, nat_le, unwrap_or}
 use Rattle.std.proofs.Math.Path.{subst}
 use Rattle.std.proofs.lemmas.Bool.Decides.{nat_tests}
@@ -50,11 +51,13 @@ sane-shape setup own x y rs e g = subst (λ z. SaneIn setup own z rs) (sym e) g
 
 -- ## Streams
 
-pub open-mapped : (f : StreamRecord → StreamRecord) (s : ℕ) (rs : List StreamRecord) → ((r : StreamRecord) → (f r).stream ≡ r.stream) → open_in (map f rs) s ≡ open_in rs s
+pub open-mapped : (f : StreamRecord → StreamRecord) (s : ℕ) (rs : List StreamRecord) → ((r : StreamRecord) → (f r).stream ≡ r.stream)
+    → open_in (map f rs) s ≡ open_in rs s
 open-mapped f s [] keeps = refl
 open-mapped f s (r ∷ rs) keeps = step ((f r).stream == s) (r.stream == s) (ap (λ t. t == s) (keeps r)) (open-mapped f s rs keeps)
   where
-    step : (a b : Bool) → a ≡ b → open_in (map f rs) s ≡ open_in rs s → is_some (if a then Some (f r) else find (λ r. r.stream == s) (map f rs)) ≡ is_some (if b then Some r else find (λ r. r.stream == s) rs)
+    step : (a b : Bool) → a ≡ b → open_in (map f rs) s ≡ open_in rs s
+        → is_some (if a then Some (f r) else find (λ r. r.stream == s) (map f rs)) ≡ is_some (if b then Some r else find (λ r. r.stream == s) rs)
     step true true e ih = refl
     step false false e ih = ih
     step true false e ih = cc
@@ -64,37 +67,47 @@ open-more : (r : StreamRecord) (s : ℕ) (rs : List StreamRecord) → open_in rs
 open-more r s [] e = cc
 open-more r s (q ∷ rs) e = step (q.stream == s) e (λ h. open-more r s rs h)
   where
-    step : (a : Bool) → is_some (if a then Some q else find (λ r. r.stream == s) rs) ≡ true → (open_in rs s ≡ true → open_in (rs ++ r ∷ []) s ≡ true) → is_some (if a then Some q else find (λ r. r.stream == s) (rs ++ r ∷ [])) ≡ true
+    step : (a : Bool) → is_some (if a then Some q else find (λ r. r.stream == s) rs) ≡ true → (open_in rs s ≡ true → open_in (rs ++ r ∷ []) s ≡ true)
+        → is_some (if a then Some q else find (λ r. r.stream == s) (rs ++ r ∷ [])) ≡ true
     step true e ih = refl
     step false e ih = ih e
 
-pub sane-streams : (setup own : Setup) (x : Shape) (rs ss : List StreamRecord) → ((s : ℕ) → open_in rs s ≡ true → open_in ss s ≡ true) → SaneIn setup own x rs → SaneIn setup own x ss
-sane-streams setup own x rs ss more g = record { setup_is = g.setup_is; sender = g.sender; accepted = g.accepted; known = λ n lt. more (x.message n).stream (g.known n lt) }
+pub sane-streams : (setup own : Setup) (x : Shape) (rs ss : List StreamRecord) → ((s : ℕ) → open_in rs s ≡ true → open_in ss s ≡ true) → SaneIn setup own x rs
+    → SaneIn setup own x ss
+sane-streams setup own x rs ss more g =
+    record { setup_is = g.setup_is; sender = g.sender; accepted = g.accepted; known = λ n lt. more (x.message n).stream (g.known n lt) }
 
-pub sane-mapped : (setup own : Setup) (x : Shape) (rs : List StreamRecord) (f : StreamRecord → StreamRecord) → ((r : StreamRecord) → (f r).stream ≡ r.stream) → SaneIn setup own x rs → SaneIn setup own x (map f rs)
+pub sane-mapped : (setup own : Setup) (x : Shape) (rs : List StreamRecord) (f : StreamRecord → StreamRecord) → ((r : StreamRecord) → (f r).stream ≡ r.stream)
+    → SaneIn setup own x rs → SaneIn setup own x (map f rs)
 sane-mapped setup own x rs f keeps g = sane-streams setup own x rs (map f rs) (λ s e. open-mapped f s rs keeps ∙ e) g
 
-pub stream-where : (s : ℕ) (f : StreamRecord → StreamRecord) → ((r : StreamRecord) → (f r).stream ≡ r.stream) → (r : StreamRecord) → (if r.stream == s then f r else r).stream ≡ r.stream
+pub stream-where : (s : ℕ) (f : StreamRecord → StreamRecord) → ((r : StreamRecord) → (f r).stream ≡ r.stream) → (r : StreamRecord)
+    → (if r.stream == s then f r else r).stream ≡ r.stream
 stream-where s f keeps r = step (r.stream == s)
   where
     step : (b : Bool) → (if b then f r else r).stream ≡ r.stream
     step true = keeps r
     step false = refl
 
-pub sane-changed : (setup : Setup) (w : LinkRecord) (s : ℕ) (f : StreamRecord → StreamRecord) → ((r : StreamRecord) → (f r).stream ≡ r.stream) → Sane setup w → Sane setup (Changes.stream_changed w s f)
+pub sane-changed : (setup : Setup) (w : LinkRecord) (s : ℕ) (f : StreamRecord → StreamRecord) → ((r : StreamRecord) → (f r).stream ≡ r.stream) → Sane setup w
+    → Sane setup (Changes.stream_changed w s f)
 sane-changed setup w s f keeps g = sane-mapped setup w.setup (shape w) w.streams (λ r. if r.stream == s then f r else r) (stream-where s f keeps) g
 
 -- ## Folds
 
-pub fold-keeps : {A : Type 0} (P : LinkRecord → Type 0) (f : LinkRecord → A → LinkRecord) → ((v : LinkRecord) (a : A) → P v → P (f v a)) → (xs : List A) (w : LinkRecord) → P w → P (fold f w xs)
+pub fold-keeps : {A : Type 0} (P : LinkRecord → Type 0) (f : LinkRecord → A → LinkRecord) → ((v : LinkRecord) (a : A) → P v → P (f v a))
+    → (xs : List A) (w : LinkRecord) → P w → P (fold f w xs)
 fold-keeps P f keeps [] w p = p
 fold-keeps P f keeps (x ∷ xs) w p = fold-keeps P f keeps xs (f w x) (keeps w x p)
 
-pub filled-keeps : (P : LinkRecord → Type 0) → ((v : LinkRecord) → P v → P (Changes.send_fragment v)) → (most used : ℕ) (w : LinkRecord) → P w → P (Changes.fill_datagram most used w)
+pub filled-keeps : (P : LinkRecord → Type 0) → ((v : LinkRecord) → P v → P (Changes.send_fragment v)) → (most used : ℕ) (w : LinkRecord) → P w
+    → P (Changes.fill_datagram most used w)
 filled-keeps P keeps zero used w p = p
-filled-keeps P keeps (suc most) used w p = step (Changes.chunk_fits w used (Changes.next_length w)) (filled-keeps P keeps most (Changes.plus used (Changes.next_length w)) (Changes.send_fragment w) (keeps w p))
+filled-keeps P keeps (suc most) used w p = step (Changes.chunk_fits w used (Changes.next_length w))
+    (filled-keeps P keeps most (Changes.plus used (Changes.next_length w)) (Changes.send_fragment w) (keeps w p))
   where
-    step : (b : Bool) → P (Changes.fill_datagram most (Changes.plus used (Changes.next_length w)) (Changes.send_fragment w)) → P (if b then Changes.fill_datagram most (Changes.plus used (Changes.next_length w)) (Changes.send_fragment w) else w)
+    step : (b : Bool) → P (Changes.fill_datagram most (Changes.plus used (Changes.next_length w)) (Changes.send_fragment w))
+        → P (if b then Changes.fill_datagram most (Changes.plus used (Changes.next_length w)) (Changes.send_fragment w) else w)
     step true h = h
     step false h = p
 
@@ -109,14 +122,21 @@ sane-takes setup w g = step (Messages.front w) refl
     step : (o : Option ℕ) → Messages.front w ≡ o → Sane setup (Changes.send_fragment_of w o)
     step None e = g
     step (Some n) e = sane-shape setup w.setup (slotted (shape w) n false) (shape (Changes.with_slot w n false)) w.streams (Shapes.shape-slot w n false)
-        (record { setup_is = g.setup_is; sender = sender-takes (shape w) n g.sender (front-takes (shape w) n g.sender e); accepted = g.accepted; known = g.known })
+        (record {
+          setup_is = g.setup_is;
+          sender = sender-takes (shape w) n g.sender (front-takes (shape w) n g.sender e);
+          accepted = g.accepted;
+          known = g.known;
+        })
 
 pub sane-abandoned : (setup : Setup) (w : LinkRecord) (n : ℕ) → Sane setup w → 0 < sent (shape w) n → Sane setup (Changes.after_abandon w n)
 sane-abandoned setup w n g pos = step (Messages.is_partially_sent w n) refl
   where
-    step : (b : Bool) → Messages.is_partially_sent w n ≡ b → Sane setup (Changes.message_changed (if b then Changes.with_slot w n true else w) n Changes.mark_abandoned)
+    step : (b : Bool) → Messages.is_partially_sent w n ≡ b
+        → Sane setup (Changes.message_changed (if b then Changes.with_slot w n true else w) n Changes.mark_abandoned)
     step true e =
-        sane-shape setup w.setup (abandoned_at (slotted (shape w) n true) n) (shape (Changes.message_changed (Changes.with_slot w n true) n Changes.mark_abandoned)) w.streams
+        sane-shape setup w.setup (abandoned_at (slotted (shape w) n true) n)
+        (shape (Changes.message_changed (Changes.with_slot w n true) n Changes.mark_abandoned)) w.streams
         (Shapes.shape-abandoned (Changes.with_slot w n true) n ∙ ap (λ y. abandoned_at y n) (Shapes.shape-slot w n true))
         (record { setup_is = g.setup_is; sender = sender-marked (shape w) n g.sender e; accepted = g.accepted; known = g.known })
     step false e =
@@ -143,11 +163,13 @@ sane-late : (setup : Setup) (ns : List ℕ) (w : LinkRecord) → Sane setup w �
 sane-late setup [] w g a = g
 sane-late setup (n ∷ ns) w g a = sane-late setup ns (Changes.after_abandon w n) (sane-abandoned setup w n g a.0) (sent-all w n ns a.1)
 
-all-kept : (w : LinkRecord) (p : ℕ → Bool) (from count : ℕ) → ((k : ℕ) → p k ≡ true → 0 < sent (shape w) (Messages.message_of w k)) → AllSent w (map (Messages.message_of w) (numbers_where p from count))
+all-kept : (w : LinkRecord) (p : ℕ → Bool) (from count : ℕ) → ((k : ℕ) → p k ≡ true → 0 < sent (shape w) (Messages.message_of w k))
+    → AllSent w (map (Messages.message_of w) (numbers_where p from count))
 all-kept w p from zero h = tt
 all-kept w p from (suc count) h = step (p from) refl (all-kept w p (from + 1) count h)
   where
-    step : (b : Bool) → p from ≡ b → AllSent w (map (Messages.message_of w) (numbers_where p (from + 1) count)) → AllSent w (map (Messages.message_of w) (if b then from ∷ numbers_where p (from + 1) count else numbers_where p (from + 1) count))
+    step : (b : Bool) → p from ≡ b → AllSent w (map (Messages.message_of w) (numbers_where p (from + 1) count))
+        → AllSent w (map (Messages.message_of w) (if b then from ∷ numbers_where p (from + 1) count else numbers_where p (from + 1) count))
     step true e ih = (h from e, ih)
     step false e ih = ih
 
@@ -169,7 +191,9 @@ in-flight-sent setup w p g h = let lt = (both _ (nat_lt p (length w.slots)) h).1
 pub late-sent : (setup : Setup) (w : LinkRecord) (now : ℕ) → Sane setup w → AllSent w (Changes.late_messages w now)
 late-sent setup w now g =
     let all = all-kept w (Changes.is_late w now) 0 (length w.slots) (λ k e. in-flight-sent setup w k g (both (Messages.is_in_flight w k) _ e).0) in
-    all-append w (filter (Messages.is_partially_sent w) (map (Messages.message_of w) (Changes.late_slots w now))) (map (Messages.message_of w) (Changes.late_slots w now)) (all-passing w (Messages.is_partially_sent w) (map (Messages.message_of w) (Changes.late_slots w now)) all) all
+    all-append w (filter (Messages.is_partially_sent w) (map (Messages.message_of w) (Changes.late_slots w now)))
+    (map (Messages.message_of w) (Changes.late_slots w now))
+    (all-passing w (Messages.is_partially_sent w) (map (Messages.message_of w) (Changes.late_slots w now)) all) all
 
 -- a slot comes
 sane-noted : (setup : Setup) (v : LinkRecord) (n : ℕ) → Sane setup v → Sane setup (Changes.note_completion v n)
@@ -182,8 +206,10 @@ sane-noted setup v n g = step (Changes.becomes_complete v n)
 pub sane-received : (setup : Setup) (w : LinkRecord) (p : ℕ) → Sane setup w → Sane setup (Changes.receive_slot w p)
 sane-received setup w p g = step (Receiver.is_new w p)
   where
-    step : (b : Bool) → Sane setup (if b then Changes.note_completion (record w { slots = change_at Changes.mark_arrived p w.slots }) (Messages.message_of w p) else record w { duplicates = w.duplicates ++ p ∷ [] })
-    step true = sane-noted setup (record w { slots = change_at Changes.mark_arrived p w.slots }) (Messages.message_of w p) (sane-shape setup w.setup (shape w) (shape (record w { slots = change_at Changes.mark_arrived p w.slots })) w.streams (Shapes.shape-arrived w p) g)
+    step : (b : Bool) → Sane setup (if b then Changes.note_completion (record w { slots = change_at Changes.mark_arrived p w.slots }) (Messages.message_of w p)
+        else record w { duplicates = w.duplicates ++ p ∷ [] })
+    step true = sane-noted setup (record w { slots = change_at Changes.mark_arrived p w.slots }) (Messages.message_of w p)
+        (sane-shape setup w.setup (shape w) (shape (record w { slots = change_at Changes.mark_arrived p w.slots })) w.streams (Shapes.shape-arrived w p) g)
     step false = g
 
 sane-datagram : (setup : Setup) (w : LinkRecord) (o : Option Datagram) → Sane setup w → Sane setup (Changes.after_arrive w o)
@@ -197,14 +223,16 @@ sane-datagram setup w (Some (Forward upto names)) g = step (Changes.skip_counts 
 sane-datagram setup w (Some (Sack r)) g = g
 
 sane-taken : (setup : Setup) (w : LinkRecord) (o : Option Datagram) → Sane setup w → Sane setup (Changes.after_acked w o)
-sane-taken setup w (Some (Sack r)) g = sane-shape setup w.setup (shape w) (shape (Changes.after_acked w (Some (Sack r)))) w.streams (Shapes.shape-acknowledged w r (max w.taken r.cumulative)) g
+sane-taken setup w (Some (Sack r)) g =
+    sane-shape setup w.setup (shape w) (shape (Changes.after_acked w (Some (Sack r)))) w.streams (Shapes.shape-acknowledged w r (max w.taken r.cumulative)) g
 sane-taken setup w (Some (Data slots)) g = g
 sane-taken setup w (Some (Forward upto names)) g = g
 sane-taken setup w None g = g
 
 sane-read : (setup : Setup) (w : LinkRecord) (s : ℕ) (o : Option ℕ) → Sane setup w → Sane setup (Changes.read_of w s o)
 sane-read setup w s None g = g
-sane-read setup w s (Some n) g = sane-changed setup (Changes.message_changed w n Changes.mark_read) s Changes.without_first (λ r. refl) (sane-shape setup w.setup (shape w) (shape (Changes.message_changed w n Changes.mark_read)) w.streams (Shapes.shape-read w n) g)
+sane-read setup w s (Some n) g = sane-changed setup (Changes.message_changed w n Changes.mark_read) s Changes.without_first (λ r. refl)
+    (sane-shape setup w.setup (shape w) (shape (Changes.message_changed w n Changes.mark_read)) w.streams (Shapes.shape-read w n) g)
 
 -- ## Writes
 
@@ -212,7 +240,8 @@ pub found : (s : ℕ) (rs : List StreamRecord) (r : StreamRecord) → find (λ r
 found s [] r e = cc
 found s (q ∷ rs) r e = step (q.stream == s) refl e (λ h. found s rs r h)
   where
-    step : (b : Bool) → (q.stream == s) ≡ b → (if b then Some q else find (λ r. r.stream == s) rs) ≡ Some r → (find (λ r. r.stream == s) rs ≡ Some r → r.stream ≡ s) → r.stream ≡ s
+    step : (b : Bool) → (q.stream == s) ≡ b → (if b then Some q else find (λ r. r.stream == s) rs) ≡ Some r
+        → (find (λ r. r.stream == s) rs ≡ Some r → r.stream ≡ s) → r.stream ≡ s
     step true h e ih = let z : q ≡ r = cc in let same : q.stream ≡ s = grind (arith, nat_tests) in ap (λ y. y.stream) (sym z) ∙ same
     step false h e ih = ih e
 
@@ -230,38 +259,48 @@ unless-holds false r others e = cc
 abbrev pub written_as : LinkRecord → ℕ → PayloadProtocolIdentifier → List ℕ → Message
 written_as w s ppi bytes = Changes.message_on w (Messages.stream_of w s) ppi bytes
 
-sane-written : (setup : Setup) (w : LinkRecord) (s : ℕ) (ppi : PayloadProtocolIdentifier) (bytes : List ℕ) → Messages.is_open w s ≡ true → fragments_accepted w + fragments_in w bytes < 2 ^ 31 → Sane setup w → Sane setup (Changes.after_write w s ppi bytes)
+sane-written : (setup : Setup) (w : LinkRecord) (s : ℕ) (ppi : PayloadProtocolIdentifier) (bytes : List ℕ) → Messages.is_open w s ≡ true
+    → fragments_accepted w + fragments_in w bytes < 2 ^ 31 → Sane setup w → Sane setup (Changes.after_write w s ppi bytes)
 sane-written setup w s ppi [] open' fits g = g
 sane-written setup w s ppi (b ∷ bs) open' fits g =
-    let new : parts (written (shape w) (message_part (written_as w s ppi (b ∷ bs)))) (length w.messages) ≡ fragments_in w (b ∷ bs) = ap (λ y. length (pieces (length y.bytes) w.setup.size y.bytes)) (message-new (shape w) (message_part (written_as w s ppi (b ∷ bs)))) in
+    let new : parts (written (shape w) (message_part (written_as w s ppi (b ∷ bs)))) (length w.messages) ≡ fragments_in w (b ∷ bs) =
+    ap (λ y. length (pieces (length y.bytes) w.setup.size y.bytes)) (message-new (shape w) (message_part (written_as w s ppi (b ∷ bs)))) in
     let total = accepted-written (shape w) (message_part (written_as w s ppi (b ∷ bs))) in
-    sane-shape setup w.setup (written (shape w) (message_part (written_as w s ppi (b ∷ bs)))) (shape (Changes.after_write w s ppi (b ∷ bs))) w.streams (Shapes.shape-written w (written_as w s ppi (b ∷ bs)))
+    sane-shape setup w.setup (written (shape w) (message_part (written_as w s ppi (b ∷ bs))))
+    (shape (Changes.after_write w s ppi (b ∷ bs))) w.streams (Shapes.shape-written w (written_as w s ppi (b ∷ bs)))
     (record {
       setup_is = g.setup_is;
       sender = sender-written (shape w) (message_part (written_as w s ppi (b ∷ bs))) g.sender refl refl (omega (arith, new));
       accepted = omega (arith, total, new, fits);
-      known = λ n lt. by_last {P = open_in w.streams ((written (shape w) (message_part (written_as w s ppi (b ∷ bs)))).message n).stream ≡ true} n (length w.messages) lt
+      known = λ n lt.
+          by_last {P = open_in w.streams ((written (shape w) (message_part (written_as w s ppi (b ∷ bs)))).message n).stream ≡ true} n (length w.messages) lt
           (λ o. ap (λ y. open_in w.streams y.stream) (message-old (shape w) (message_part (written_as w s ppi (b ∷ bs))) n o) ∙ g.known n o)
-          (λ e. ap (λ j. open_in w.streams ((written (shape w) (message_part (written_as w s ppi (b ∷ bs)))).message j).stream) e ∙ ap (λ y. open_in w.streams y.stream) (message-new (shape w) (message_part (written_as w s ppi (b ∷ bs)))) ∙ named (find (λ r. r.stream == s) w.streams) refl open');
+          (λ e. ap (λ j. open_in w.streams ((written (shape w) (message_part (written_as w s ppi (b ∷ bs)))).message j).stream) e
+          ∙ ap (λ y. open_in w.streams y.stream) (message-new (shape w) (message_part (written_as w s ppi (b ∷ bs))))
+          ∙ named (find (λ r. r.stream == s) w.streams) refl open');
     })
   where
-    named : (o : Option StreamRecord) → find (λ r. r.stream == s) w.streams ≡ o → is_some o ≡ true → open_in w.streams (unwrap_or o (Messages.no_stream s)).stream ≡ true
+    named : (o : Option StreamRecord) → find (λ r. r.stream == s) w.streams ≡ o → is_some o ≡ true
+        → open_in w.streams (unwrap_or o (Messages.no_stream s)).stream ≡ true
     named None e h = cc
     named (Some r) e h = let q : r.stream ≡ s = found s w.streams r e in ap (open_in w.streams) q ∙ ap is_some e
 
 -- ## Each accepted event keeps it
 
-sane-expired : (setup : Setup) (w : LinkRecord) (now : ℕ) (o : Option ℕ) → Sane setup w → Sane setup (Changes.after_expire w (Changes.front_if w (λ n. Messages.is_unsent w n && Messages.is_past_deadline w now n) o))
+sane-expired : (setup : Setup) (w : LinkRecord) (now : ℕ) (o : Option ℕ) → Sane setup w
+    → Sane setup (Changes.after_expire w (Changes.front_if w (λ n. Messages.is_unsent w n && Messages.is_past_deadline w now n) o))
 sane-expired setup w now None g = g
 sane-expired setup w now (Some n) g = step (Messages.is_unsent w n) (Messages.is_past_deadline w now n) refl
   where
     step : (b c : Bool) → Messages.is_unsent w n ≡ b → Sane setup (Changes.after_expire w (if b && c then Some n else None))
-    step true true e = sane-shape setup w.setup (expired_at (shape w) n) (shape (Changes.message_changed w n Changes.mark_expired)) w.streams (Shapes.shape-expired w n)
+    step true true e =
+        sane-shape setup w.setup (expired_at (shape w) n) (shape (Changes.message_changed w n Changes.mark_expired)) w.streams (Shapes.shape-expired w n)
         (record { setup_is = g.setup_is; sender = sender-expired (shape w) n g.sender (of-unsent (shape w) n e).none; accepted = g.accepted; known = g.known })
     step true false e = g
     step false c e = g
 
-sane-tail : (setup : Setup) (w : LinkRecord) (now : ℕ) (o : Option ℕ) → Sane setup w → Sane setup (Changes.after_tail w (Changes.front_if w (λ n. Messages.is_partially_sent w n && Messages.is_past_deadline w now n) o))
+sane-tail : (setup : Setup) (w : LinkRecord) (now : ℕ) (o : Option ℕ) → Sane setup w
+    → Sane setup (Changes.after_tail w (Changes.front_if w (λ n. Messages.is_partially_sent w n && Messages.is_past_deadline w now n) o))
 sane-tail setup w now None g = g
 sane-tail setup w now (Some n) g = step (Messages.is_partially_sent w n) (Messages.is_past_deadline w now n) refl
   where
@@ -278,11 +317,14 @@ sane-sent setup w now None g = sane-started setup w now g
 sane-sent setup w now (Some n) g = sends-keep (Sane setup) (λ v h. sane-takes setup v h) (Changes.after_start w now) (sane-started setup w now g)
 
 pub sane-after : (setup : Setup) (w : LinkRecord) (e : Event) → refusal_of w e ≡ None → Sane setup w → Sane setup (after w e)
-sane-after setup w (E.Open s) ok g = sane-streams setup w.setup (shape w) w.streams (w.streams ++ Messages.no_stream s ∷ []) (λ t h. open-more (Messages.no_stream s) t w.streams h) g
+sane-after setup w (E.Open s) ok g =
+    sane-streams setup w.setup (shape w) w.streams (w.streams ++ Messages.no_stream s ∷ []) (λ t h. open-more (Messages.no_stream s) t w.streams h) g
 sane-after setup w (E.Mode s unordered reliability value) ok g = sane-changed setup w s (Changes.with_mode unordered reliability value) (λ r. refl) g
 sane-after setup w (E.Write s ppi bytes) ok g =
-    let first = unless-holds (Messages.is_open w s) StreamUnknown (unless (nat_le (length bytes) w.setup.largest) MessageTooLarge (unless (nat_lt (fragments_accepted w + fragments_in w bytes) (2 ^ 31)) TsnsUsedUp None)) ok in
-    let second = unless-holds (nat_le (length bytes) w.setup.largest) MessageTooLarge (unless (nat_lt (fragments_accepted w + fragments_in w bytes) (2 ^ 31)) TsnsUsedUp None) first.1 in
+    let first = unless-holds (Messages.is_open w s) StreamUnknown (unless (nat_le (length bytes) w.setup.largest) MessageTooLarge
+    (unless (nat_lt (fragments_accepted w + fragments_in w bytes) (2 ^ 31)) TsnsUsedUp None)) ok in
+    let second = unless-holds (nat_le (length bytes) w.setup.largest) MessageTooLarge
+    (unless (nat_lt (fragments_accepted w + fragments_in w bytes) (2 ^ 31)) TsnsUsedUp None) first.1 in
     let third = unless-holds (nat_lt (fragments_accepted w + fragments_in w bytes) (2 ^ 31)) TsnsUsedUp None second.1 in
     let t = third.0 in
     sane-written setup w s ppi bytes first.0 (grind (arith, nat_tests)) g
@@ -292,7 +334,8 @@ sane-after setup w (E.Resend tsn) ok g = g
 sane-after setup w (E.Expire now) ok g = sane-expired setup w now (Messages.front w) g
 sane-after setup w (E.Tail now) ok g = sane-tail setup w now (Messages.front w) g
 sane-after setup w (E.Late now) ok g = sane-late setup (Changes.late_messages w now) w g (late-sent setup w now g)
-sane-after setup w (E.Abandon tsn) ok g = sane-abandoned setup w (Messages.message_of w (Messages.place_of w tsn)) g (in-flight-sent setup w (Messages.place_of w tsn) g (unless-holds (Messages.is_in_flight w (Messages.place_of w tsn)) NotInFlight None ok).0)
+sane-after setup w (E.Abandon tsn) ok g = sane-abandoned setup w (Messages.message_of w (Messages.place_of w tsn)) g
+    (in-flight-sent setup w (Messages.place_of w tsn) g (unless-holds (Messages.is_in_flight w (Messages.place_of w tsn)) NotInFlight None ok).0)
 sane-after setup w (E.Skip upto names) ok g = g
 sane-after setup w (E.Ack credit) ok g = g
 sane-after setup w (E.Arrive k) ok g = sane-datagram setup w (slice_get w.network k) g

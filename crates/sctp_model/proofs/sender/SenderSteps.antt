@@ -14,7 +14,8 @@ use Rattle.sctp_list_lemmas.proofs.Cases.{by_last, by_same, same-yes, same-is, n
 -- ## By cases
 
 pub of-has : (x : Shape) (n p : ℕ) → has x n p ≡ true → ((x.slot p).message ≡ n) × ((x.slot p).is_terminal_chunk ≡ false)
-of-has x n p h = let a = both ((x.slot p).message == n) (not (x.slot p).is_terminal_chunk) h in (same-is (x.slot p).message n a.0, negated (x.slot p).is_terminal_chunk a.1)
+of-has x n p h = let a = both ((x.slot p).message == n) (not (x.slot p).is_terminal_chunk) h in
+    (same-is (x.slot p).message n a.0, negated (x.slot p).is_terminal_chunk a.1)
 
 -- a slot with a fragment of a message: some was sent
 pub sent-some : (x : Shape) (n p : ℕ) → p < x.slots → has x n p ≡ true → 0 < sent x n
@@ -34,7 +35,8 @@ of-half x n h =
     record { some = grind (arith, nat_tests); more = grind (arith, nat_tests); alive = negated (x.message n).abandoned b.1 }
 
 pub is-half : (x : Shape) (n : ℕ) → 0 < sent x n → sent x n < parts x n → (x.message n).abandoned ≡ false → half x n ≡ true
-is-half x n a b c = and (nat_lt 0 (sent x n)) (nat_lt (sent x n) (parts x n) && not (x.message n).abandoned) (grind (arith, nat_tests)) (and (nat_lt (sent x n) (parts x n)) (not (x.message n).abandoned) (grind (arith, nat_tests)) (ap not c))
+is-half x n a b c = and (nat_lt 0 (sent x n)) (nat_lt (sent x n) (parts x n) && not (x.message n).abandoned) (grind (arith, nat_tests))
+    (and (nat_lt (sent x n) (parts x n)) (not (x.message n).abandoned) (grind (arith, nat_tests)) (ap not c))
 
 -- at most one message is partially sent
 pub half-one : (x : Shape) (j k : ℕ) → Sender x → half x j ≡ true → half x k ≡ true → j ≡ k
@@ -74,9 +76,11 @@ module _ (x : Shape) (n : ℕ) (m : Bool) where
   -- a slot has the number of its fragment
   pub number-slotted : Sender x → (p : ℕ) → p < y.slots → (y.slot p).fragment ≡ length (numbers_where (has y (y.slot p).message) 0 p)
   number-slotted s p lt = by_last p x.slots lt
-      (λ l. ap (λ z. z.fragment) (slot-old x n p m l) ∙ s.number p l ∙ sym (ap (λ z. length (numbers_where (has y z.message) 0 p)) (slot-old x n p m l) ∙ upto (x.slot p).message p (omega arith)))
+      (λ l. ap (λ z. z.fragment) (slot-old x n p m l) ∙ s.number p l
+      ∙ sym (ap (λ z. length (numbers_where (has y z.message) 0 p)) (slot-old x n p m l) ∙ upto (x.slot p).message p (omega arith)))
       (λ e. let q : (y.slot p).fragment ≡ sent x n = ap (λ r. (y.slot r).fragment) e ∙ ap (λ z. z.fragment) (slot-new x n m) in
-      q ∙ sym (ap (λ r. length (numbers_where (has y (y.slot r).message) 0 r)) e ∙ ap (λ z. length (numbers_where (has y z.message) 0 x.slots)) (slot-new x n m) ∙ upto n x.slots (omega arith)))
+      q ∙ sym (ap (λ r. length (numbers_where (has y (y.slot r).message) 0 r)) e ∙ ap (λ z. length (numbers_where (has y z.message) 0 x.slots)) (slot-new x n m)
+      ∙ upto n x.slots (omega arith)))
     where
       upto : (k p : ℕ) → p ≤ x.slots → length (numbers_where (has y k) 0 p) ≡ length (numbers_where (has x k) 0 p)
       upto k p le = ap length (kept-same (has y k) (has x k) 0 p (λ j a b. has-old k j (omega arith)))
@@ -110,11 +114,14 @@ sender-takes x n s t = record {
   beside = λ p lt mark pos. by_last {P = Next (slotted x n false) p} p x.slots lt (λ o. old p o mark pos) (λ e. new p e pos);
   last = λ k h. by_same {P = Last (slotted x n false) k} n k
       (λ e. (x.slots, refl, ap (λ j. has (slotted x n false) j x.slots) (sym e) ∙ here x n))
-      (λ ne f. absurd (ne (sym (t.alone k (ap (λ c. nat_lt 0 c && (nat_lt c (parts x k) && not (x.message k).abandoned)) (sym (sent-other x n false k ne)) ∙ h)))));
+      (λ ne f.
+      absurd (ne (sym (t.alone k (ap (λ c. nat_lt 0 c && (nat_lt c (parts x k) && not (x.message k).abandoned)) (sym (sent-other x n false k ne)) ∙ h)))));
   within = λ k lt. by_same {P = sent (slotted x n false) k ≤ parts x k} n k
-      (λ e. let z : sent (slotted x n false) k ≡ sent x n + 1 = ap (sent (slotted x n false)) (sym e) ∙ sent-here x n in let w : parts x n ≡ parts x k = ap (parts x) e in omega (arith, t.more, z, w))
+      (λ e. let z : sent (slotted x n false) k ≡ sent x n + 1 = ap (sent (slotted x n false)) (sym e) ∙ sent-here x n in
+      let w : parts x n ≡ parts x k = ap (parts x) e in omega (arith, t.more, z, w))
       (λ ne f. omega (arith, sent-other x n false k ne, s.within k lt));
-  marks = λ k lt. marks-slotted x n k false ∙ none (n == k) (length (numbers_where (is_mark x k) 0 x.slots)) ∙ s.marks k lt ∙ by_same {P = marks_due x k ≡ marks_due (slotted x n false) k} n k
+  marks = λ k lt. marks-slotted x n k false ∙ none (n == k) (length (numbers_where (is_mark x k) 0 x.slots)) ∙ s.marks k lt
+      ∙ by_same {P = marks_due x k ≡ marks_due (slotted x n false) k} n k
       (λ e. let dead : (x.message k).abandoned ≡ false = ap (λ j. (x.message j).abandoned) (sym e) ∙ t.alive in rw dead refl)
       (λ ne f. ap (λ c. if (x.message k).abandoned && nat_lt c (parts x k) then 1 else 0) (sym (sent-other x n false k ne)));
   expired_unsent = λ k lt e. sent-other x n false k (λ z. not_both (sym t.kept ∙ ap (λ j. (x.message j).expired) z ∙ e)) ∙ s.expired_unsent k lt e;
@@ -133,7 +140,8 @@ sender-takes x n s t = record {
     none true c = omega arith
     none false c = omega arith
 
-    old : (p : ℕ) → p < x.slots → ((slotted x n false).slot p).is_terminal_chunk ≡ false → 0 < ((slotted x n false).slot p).fragment → Next (slotted x n false) p
+    old : (p : ℕ) → p < x.slots → ((slotted x n false).slot p).is_terminal_chunk ≡ false → 0 < ((slotted x n false).slot p).fragment
+        → Next (slotted x n false) p
     old p o mark pos =
         let z = slot-old x n p false o in
         let r = s.beside p o (ap (λ v. v.is_terminal_chunk) (sym z) ∙ mark) (rw z at pos) in
@@ -141,7 +149,8 @@ sender-takes x n s t = record {
 
     new : (p : ℕ) → p ≡ x.slots → 0 < ((slotted x n false).slot p).fragment → Next (slotted x n false) p
     new p e pos =
-        let z : (slotted x n false).slot p ≡ record { message = n; fragment = sent x n; is_terminal_chunk = false } = ap (slotted x n false).slot e ∙ slot-new x n false in
+        let z : (slotted x n false).slot p ≡ record { message = n; fragment = sent x n; is_terminal_chunk = false } = ap (slotted x n false).slot e
+        ∙ slot-new x n false in
         let some : 0 < sent x n = omega (arith, pos, ap (λ v. v.fragment) z) in
         let r = s.last n (is-half x n some t.more t.alive) in
         (r.0, e ∙ r.1, ap (λ v. has (slotted x n false) v.message r.0) z ∙ has-old x n false n r.0 (omega (arith, r.1)) ∙ r.2)
@@ -161,7 +170,11 @@ sender-takes x n s t = record {
         let q = both (x.message j).ordered (not (x.message j).expired) p.1 in
         let kp = both ((x.message k).stream == r) ((x.message k).ordered && not (x.message k).expired) b in
         let kq = both (x.message k).ordered (not (x.message k).expired) kp.1 in
-        omega (arith, sent-grows x n false j, t.turn (ap (λ i. (x.message i).ordered) e ∙ kq.0) (omega arith) j (omega arith) q.0 (negated (x.message j).expired q.1))
+        omega (
+          arith,
+          sent-grows x n false j,
+          t.turn (ap (λ i. (x.message i).ordered) e ∙ kq.0) (omega arith) j (omega arith) q.0 (negated (x.message j).expired q.1),
+        )
 
     -- a later message of the stream has no slot yet
     early : (r j k q : ℕ) → j < k → on x r j ≡ true → on x r k ≡ true → q < x.slots → has x k q ≡ true → n ≡ j → ⊥

@@ -1,4 +1,5 @@
-use Rattle.std.proofs.Common.{◌≡◌, ℕ, ◌+◌, ◌-◌, ◌<◌, ◌≤◌, Bool, true, false, [], ◌∷◌, ◌++◌, length, Option, Some, None, refl, ap, sym, ◌∙◌, inl, inr, arith, length-append}
+use Rattle.std.proofs.Common.{◌≡◌, ℕ, ◌+◌, ◌-◌, ◌<◌, ◌≤◌, Bool, true, false, [], ◌∷◌, ◌++◌, length, Option, Some, None, refl, ap, sym, ◌∙◌, inl, inr, arith}
+use Rattle.std.proofs.Common.{length-append}
 use Rattle.std.specs.Prelude.{◌⊎◌, if◌then◌else◌, ◌&&◌, ◌||◌, not, ◌↔◌, slice_get, is_some, Result, Ok, Err}
 use Rattle.std.proofs.lemmas.Bool.{cases_lt}
 use Rattle.std.specs.List.{flat_map}
@@ -6,7 +7,8 @@ use Rattle.sctp_list_lemmas.specs.Kept.{numbers_where, always, numbers_from, tot
 use Rattle.sctp_list_lemmas.proofs.More.{not_both}
 use Rattle.sctp_model.specs.declared.event.Event.TheVariants as E
 use Rattle.sctp_model.specs.declared.event.LinkRefusal.{LinkRefusal}
-use Rattle.sctp_model.specs.declared.event.LinkRefusal.TheVariants.{StreamUnknown, StreamOpen, MessageTooLarge, TsnsUsedUp, NoSuchDatagram, NotInFlight, SkipUnassigned, SkipNames, SpanTooWide, OutOfMemory}
+use Rattle.sctp_model.specs.declared.event.LinkRefusal.TheVariants.{StreamUnknown, StreamOpen, MessageTooLarge, TsnsUsedUp, NoSuchDatagram, NotInFlight}
+use Rattle.sctp_model.specs.declared.event.LinkRefusal.TheVariants.{SkipUnassigned, SkipNames, SpanTooWide, OutOfMemory}
 use Rattle.sctp_model.specs.Reply.{Reply}
 use Rattle.sctp_model.specs.Reply as R
 use Rattle.sctp_model.specs.LinkRecord.{Setup, Data, LinkRecord}
@@ -39,9 +41,12 @@ count-pending w =
     let u : ℕ → Bool = λ n. not (Messages.message_at w n).ordered && not (is_expired_or_abandoned w n) in
     length-append (flat_map (pending_fragments w) (Messages.messages_where w o)) (flat_map (pending_fragments w) (Messages.messages_where w u))
     ∙ ap (λ c. c + length (flat_map (pending_fragments w) (Messages.messages_where w u))) (length-gathered (pending_fragments w) o 0 (length w.messages))
-    ∙ ap (λ c. total_over (λ n. if o n then length (pending_fragments w n) else 0) (numbers_where always 0 (length w.messages)) + c) (length-gathered (pending_fragments w) u 0 (length w.messages))
-    ∙ total-plus (λ n. if o n then length (pending_fragments w n) else 0) (λ n. if u n then length (pending_fragments w n) else 0) (waiting_of (shape w)) always 0 (length w.messages)
-    (λ n a b. each (Messages.message_at w n).ordered (is_expired_or_abandoned w n) (length (pending_fragments w n)) (parts (shape w) n - sent (shape w) n) (length-mapped (pending_at w n) (numbers_from (sent (shape w) n) (parts (shape w) n - sent (shape w) n)) ∙ length-numbers (sent (shape w) n) (parts (shape w) n - sent (shape w) n)))
+    ∙ ap (λ c. total_over (λ n. if o n then length (pending_fragments w n) else 0) (numbers_where always 0 (length w.messages)) + c)
+    (length-gathered (pending_fragments w) u 0 (length w.messages)) ∙ total-plus (λ n. if o n then length (pending_fragments w n) else 0)
+    (λ n. if u n then length (pending_fragments w n) else 0) (waiting_of (shape w)) always 0 (length w.messages)
+    (λ n a b. each (Messages.message_at w n).ordered (is_expired_or_abandoned w n) (length (pending_fragments w n)) (parts (shape w) n - sent (shape w) n)
+    (length-mapped (pending_at w n) (numbers_from (sent (shape w) n) (parts (shape w) n - sent (shape w) n))
+    ∙ length-numbers (sent (shape w) n) (parts (shape w) n - sent (shape w) n)))
   where
     each : (b g : Bool) (l c : ℕ) → l ≡ c → (if b && not g then l else 0) + (if not b && not g then l else 0) ≡ (if g then 0 else c)
     each true true l c e = refl
@@ -53,7 +58,8 @@ count-pending w =
 none-waits : (x : Shape) → front_of x ≡ None → waiting x ≡ 0
 none-waits x e = total-none (waiting_of x) 0 x.count (λ n a b. each n (omega arith) (x.message n).expired refl (x.message n).abandoned refl)
   where
-    left : (n : ℕ) → n < x.count → (x.message n).expired ≡ false → (x.message n).abandoned ≡ false → (sent x n < parts x n) ⊎ (parts x n ≤ sent x n) → (0 < sent x n) ⊎ (sent x n ≤ 0) → parts x n - sent x n ≡ 0
+    left : (n : ℕ) → n < x.count → (x.message n).expired ≡ false → (x.message n).abandoned ≡ false → (sent x n < parts x n) ⊎ (parts x n ≤ sent x n)
+        → (0 < sent x n) ⊎ (sent x n ≤ 0) → parts x n - sent x n ≡ 0
     left n lt a b (inr g) s = omega arith
     left n lt a b (inl l) (inl pos) = absurd (not_both (sym (front-none x e n lt).0 ∙ is-half x n pos l b))
     left n lt a b (inl l) (inr z) = absurd (not_both (sym (front-none x e n lt).1 ∙ is-unsent x n (omega arith) a))
@@ -85,11 +91,17 @@ taken-waits x n t =
 pub emits_where_pending : OnEveryRun EmitsWherePending
 emits_where_pending setup h is run now = step (Messages.front (record_of setup h)) refl
   where
-    step : (o : Option ℕ) → Messages.front (record_of setup h) ≡ o → (sent_reply (record_of setup h) (after (record_of setup h) (E.Send now)) o ≡ R.Idle) ↔ (pending_count (record_of setup h) ≡ 0)
+    step : (o : Option ℕ) → Messages.front (record_of setup h) ≡ o
+        → (sent_reply (record_of setup h) (after (record_of setup h) (E.Send now)) o ≡ R.Idle) ↔ (pending_count (record_of setup h) ≡ 0)
     step None e = (λ i. count-pending (record_of setup h) ∙ none-waits (shape (record_of setup h)) e, λ z. refl)
     step (Some n) e = (
       λ i. cc,
-      λ z. absurd (omega (arith, z, count-pending (record_of setup h), some-waits (shape (record_of setup h)) n (front-takes (shape (record_of setup h)) n (sane-run setup h run).sender e))),
+      λ z. absurd (omega (
+        arith,
+        z,
+        count-pending (record_of setup h),
+        some-waits (shape (record_of setup h)) n (front-takes (shape (record_of setup h)) n (sane-run setup h run).sender e),
+      )),
     )
 
 -- what a record of which some fragments took slots keeps
@@ -102,7 +114,9 @@ record Sending (setup : Setup) (w v : LinkRecord) : Type 0 where
 sending-more : (setup : Setup) (w v : LinkRecord) → Sending setup w v → Sending setup w (Changes.send_fragment v)
 sending-more setup w v s = record { sane = sane-takes setup v s.sane; more = r.0; balance = r.1; network = r.2 }
   where
-    step : (o : Option ℕ) → Messages.front v ≡ o → (length w.slots < length (Changes.send_fragment_of v o).slots) × (waiting (shape (Changes.send_fragment_of v o)) + length (Changes.send_fragment_of v o).slots ≡ waiting (shape w) + length w.slots) × ((Changes.send_fragment_of v o).network ≡ w.network)
+    step : (o : Option ℕ) → Messages.front v ≡ o → (length w.slots < length (Changes.send_fragment_of v o).slots)
+        × (waiting (shape (Changes.send_fragment_of v o)) + length (Changes.send_fragment_of v o).slots ≡ waiting (shape w) + length w.slots)
+        × ((Changes.send_fragment_of v o).network ≡ w.network)
     step None e = (s.more, s.balance, s.network)
     step (Some n) e =
         let t = front-takes (shape v) n s.sane.sender e in
@@ -110,10 +124,13 @@ sending-more setup w v s = record { sane = sane-takes setup v s.sane; more = r.0
         let l = ap (λ y. y.slots) i in
         (omega (arith, l, s.more), omega (arith, l, ap waiting i, taken-waits (shape v) n t, s.balance), s.network)
 
-    r : (length w.slots < length (Changes.send_fragment v).slots) × (waiting (shape (Changes.send_fragment v)) + length (Changes.send_fragment v).slots ≡ waiting (shape w) + length w.slots) × ((Changes.send_fragment v).network ≡ w.network)
+    r : (length w.slots < length (Changes.send_fragment v).slots)
+        × (waiting (shape (Changes.send_fragment v)) + length (Changes.send_fragment v).slots ≡ waiting (shape w) + length w.slots)
+        × ((Changes.send_fragment v).network ≡ w.network)
     r = step (Messages.front v) refl
 
-sending-first : (setup : Setup) (w : LinkRecord) (now n : ℕ) → Sane setup w → Messages.front w ≡ Some n → Sending setup w (Changes.send_fragment (Changes.after_start w now))
+sending-first : (setup : Setup) (w : LinkRecord) (now n : ℕ) → Sane setup w → Messages.front w ≡ Some n
+    → Sending setup w (Changes.send_fragment (Changes.after_start w now))
 sending-first setup w now n g e = rw f (record {
   sane = rw f at (sane-takes setup (Changes.after_start w now) (sane-started setup w now g));
   more = omega (arith, l, slots);
@@ -141,18 +158,23 @@ takes_pending setup h is run now d tsn ssn count e = step (Messages.front (recor
   where
     step : (o : Option ℕ) → Messages.front (record_of setup h) ≡ o
         → sent_reply (record_of setup h) (Changes.send_from (Changes.after_start (record_of setup h) now) o) o ≡ R.Sent d tsn ssn count
-        → (0 < count) × ((pending_count (Changes.send_from (Changes.after_start (record_of setup h) now) o) + count ≡ pending_count (record_of setup h)) × (slice_get (Changes.send_from (Changes.after_start (record_of setup h) now) o).network d ≡ Some (Data (numbers_from (length (record_of setup h).slots) count))))
+        → (0 < count) × ((pending_count (Changes.send_from (Changes.after_start (record_of setup h) now) o) + count ≡ pending_count (record_of setup h))
+        × (slice_get (Changes.send_from (Changes.after_start (record_of setup h) now) o).network d
+        ≡ Some (Data (numbers_from (length (record_of setup h).slots) count))))
     step None f i = cc
     step (Some n) f i =
         let u = Changes.after_start (record_of setup h) now in
         let v = Changes.send_fragments u in
-        let s : Sending setup (record_of setup h) v = filled-keeps (Sending setup (record_of setup h)) (λ v q. sending-more setup (record_of setup h) v q) u.setup.limit (Changes.plus 12 (Changes.next_length u)) (Changes.send_fragment u) (sending-first setup (record_of setup h) now n (sane-run setup h run) f) in
+        let s : Sending setup (record_of setup h) v = filled-keeps (Sending setup (record_of setup h))
+        (λ v q. sending-more setup (record_of setup h) v q) u.setup.limit (Changes.plus 12 (Changes.next_length u)) (Changes.send_fragment u)
+        (sending-first setup (record_of setup h) now n (sane-run setup h run) f) in
         let c : length v.slots - length (record_of setup h).slots ≡ count = cc in
         let dd : length (record_of setup h).network ≡ d = cc in (
           omega (arith, s.more, c),
           (
             omega (arith, s.more, c, s.balance, count-pending (record_of setup h), count-pending (Changes.with_data u v)),
-            ap (λ k. slice_get (v.network ++ Data (numbers_from (length (record_of setup h).slots) (length v.slots - length (record_of setup h).slots)) ∷ []) k) (sym dd ∙ ap length (sym s.network))
+            ap (λ k. slice_get (v.network ++ Data (numbers_from (length (record_of setup h).slots) (length v.slots - length (record_of setup h).slots)) ∷ []) k)
+                (sym dd ∙ ap length (sym s.network))
                 ∙ get-last v.network (Data (numbers_from (length (record_of setup h).slots) (length v.slots - length (record_of setup h).slots)))
                 ∙ ap (λ k. Some (Data (numbers_from (length (record_of setup h).slots) k))) c,
           ),

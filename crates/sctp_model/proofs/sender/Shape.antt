@@ -18,7 +18,8 @@ pub record MessagePart : Type 0 where
   pub abandoned : Bool
 
 abbrev pub message_part : Message → MessagePart
-message_part m = record { stream = m.stream; ordered = m.ordered; ppi = m.ppi; bytes = m.bytes; before = m.before; expired = m.expired; abandoned = m.abandoned }
+message_part m =
+    record { stream = m.stream; ordered = m.ordered; ppi = m.ppi; bytes = m.bytes; before = m.before; expired = m.expired; abandoned = m.abandoned }
 
 -- what a slot is for
 pub record SlotPart : Type 0 where
@@ -38,7 +39,13 @@ pub record Shape : Type 0 where
   pub slot : ℕ → SlotPart
 
 abbrev pub shape : LinkRecord → Shape
-shape w = record { size = w.setup.size; count = length w.messages; message = λ n. message_part (message_at w n); slots = length w.slots; slot = λ p. slot_part (slot_at w p) }
+shape w = record {
+  size = w.setup.size;
+  count = length w.messages;
+  message = λ n. message_part (message_at w n);
+  slots = length w.slots;
+  slot = λ p. slot_part (slot_at w p);
+}
 
 -- ## The words of the record, over its shape
 
@@ -74,7 +81,10 @@ front_of x =
 -- one more slot
 abbrev pub slotted : Shape → ℕ → Bool → Shape
 slotted x n is_terminal_chunk =
-    record x { slots = x.slots + 1; slot = λ p. if p == x.slots then record { message = n; fragment = sent x n; is_terminal_chunk = is_terminal_chunk } else x.slot p }
+    record x {
+      slots = x.slots + 1;
+      slot = λ p. if p == x.slots then record { message = n; fragment = sent x n; is_terminal_chunk = is_terminal_chunk } else x.slot p;
+    }
 
 -- one more message
 abbrev pub written : Shape → MessagePart → Shape

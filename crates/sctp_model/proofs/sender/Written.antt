@@ -34,7 +34,8 @@ told-written x m =
     ap (λ c. map (λ n. shown_part ((written x m).message n)) (numbers_where always 0 c)) (add-one x.count)
     ∙ ap (map (λ n. shown_part ((written x m).message n))) (kept-snoc_in always 0 x.count x.count (omega arith) refl)
     ∙ map-append (λ n. shown_part ((written x m).message n)) (numbers_where always 0 x.count) (x.count ∷ [])
-    ∙ ap (λ l. l ++ shown_part ((written x m).message x.count) ∷ []) (map-kept-same (λ n. shown_part ((written x m).message n)) (λ n. shown_part (x.message n)) always always 0 x.count (λ k a b. refl) (λ k a b e. ap shown_part (message-old x m k (omega arith))))
+    ∙ ap (λ l. l ++ shown_part ((written x m).message x.count) ∷ []) (map-kept-same (λ n. shown_part ((written x m).message n))
+    (λ n. shown_part (x.message n)) always always 0 x.count (λ k a b. refl) (λ k a b e. ap shown_part (message-old x m k (omega arith))))
     ∙ ap (λ y. told x ++ shown_part y ∷ []) (message-new x m)
 
 told-sent : (w : LinkRecord) → told (shape (Changes.send_fragment w)) ≡ told (shape w)
@@ -46,7 +47,8 @@ told-sent w = step (Messages.front w)
 
 told-sends : (w : LinkRecord) (now : ℕ) (o : Option ℕ) → told (shape (Changes.send_from (Changes.after_start w now) o)) ≡ told (shape w)
 told-sends w now None = ap told (Shapes.shape-started w now)
-told-sends w now (Some n) = sends-keep (λ v. told (shape v) ≡ told (shape w)) (λ v e. told-sent v ∙ e) (Changes.after_start w now) (ap told (Shapes.shape-started w now))
+told-sends w now (Some n) =
+    sends-keep (λ v. told (shape v) ≡ told (shape w)) (λ v e. told-sent v ∙ e) (Changes.after_start w now) (ap told (Shapes.shape-started w now))
 
 told-abandoned : (w : LinkRecord) (n : ℕ) → told (shape (Changes.after_abandon w n)) ≡ told (shape w)
 told-abandoned w n = step (Messages.is_partially_sent w n)
@@ -71,10 +73,13 @@ stream-named w s open' = step (find (λ r. r.stream == s) w.streams) refl open'
     step None e h = cc
     step (Some r) e h = found s w.streams r e
 
-pub write-open : (w : LinkRecord) (s : ℕ) (ppi : PayloadProtocolIdentifier) (bytes : List ℕ) → refusal_of w (E.Write s ppi bytes) ≡ None → Messages.is_open w s ≡ true
-write-open w s ppi bytes ok = (unless-holds (Messages.is_open w s) StreamUnknown (unless (nat_le (length bytes) w.setup.largest) MessageTooLarge (unless (nat_lt (fragments_accepted w + fragments_in w bytes) (2 ^ 31)) TsnsUsedUp None)) ok).0
+pub write-open : (w : LinkRecord) (s : ℕ) (ppi : PayloadProtocolIdentifier) (bytes : List ℕ) → refusal_of w (E.Write s ppi bytes) ≡ None
+    → Messages.is_open w s ≡ true
+write-open w s ppi bytes ok = (unless-holds (Messages.is_open w s) StreamUnknown (unless (nat_le (length bytes) w.setup.largest) MessageTooLarge
+    (unless (nat_lt (fragments_accepted w + fragments_in w bytes) (2 ^ 31)) TsnsUsedUp None)) ok).0
 
-written-step : (setup : Setup) (older : History) (e : Event) (r : Reply) → refusal_of (record_of setup older) e ≡ None → told (shape (record_of setup older)) ≡ writes_in older → told (shape (after (record_of setup older) e)) ≡ writes_in ((e, r) ∷ older)
+written-step : (setup : Setup) (older : History) (e : Event) (r : Reply) → refusal_of (record_of setup older) e ≡ None
+    → told (shape (record_of setup older)) ≡ writes_in older → told (shape (after (record_of setup older) e)) ≡ writes_in ((e, r) ∷ older)
 written-step setup older (E.Open s) r ok t = t
 written-step setup older (E.Mode s u v x) r ok t = t
 written-step setup older (E.Write s ppi []) r ok t = t
@@ -88,11 +93,14 @@ written-step setup older (E.Send now) r ok t = told-sends (record_of setup older
 written-step setup older (E.Resend x) r ok t = t
 written-step setup older (E.Expire now) r ok t = told-expired (record_of setup older) (Changes.expiring (record_of setup older) now) ∙ t
 written-step setup older (E.Tail now) r ok t = told-tail (record_of setup older) (Changes.tailing (record_of setup older) now) ∙ t
-written-step setup older (E.Late now) r ok t = fold-keeps (λ v. told (shape v) ≡ told (shape (record_of setup older))) Changes.after_abandon (λ v n e. told-abandoned v n ∙ e) (Changes.late_messages (record_of setup older) now) (record_of setup older) refl ∙ t
-written-step setup older (E.Abandon tsn) r ok t = told-abandoned (record_of setup older) (Messages.message_of (record_of setup older) (Messages.place_of (record_of setup older) tsn)) ∙ t
+written-step setup older (E.Late now) r ok t = fold-keeps (λ v. told (shape v) ≡ told (shape (record_of setup older))) Changes.after_abandon
+    (λ v n e. told-abandoned v n ∙ e) (Changes.late_messages (record_of setup older) now) (record_of setup older) refl ∙ t
+written-step setup older (E.Abandon tsn) r ok t =
+    told-abandoned (record_of setup older) (Messages.message_of (record_of setup older) (Messages.place_of (record_of setup older) tsn)) ∙ t
 written-step setup older (E.Skip upto names) r ok t = t
 written-step setup older (E.Ack credit) r ok t = t
-written-step setup older (E.Arrive k) r ok t = ap told (Network.same-received (record_of setup older) (slice_get (record_of setup older).network k)).shape_is ∙ t
+written-step setup older (E.Arrive k) r ok t = ap told (Network.same-received (record_of setup older) (slice_get (record_of setup older).network k)).shape_is
+    ∙ t
 written-step setup older (E.Acked k) r ok t = ap told (Network.same-taken (record_of setup older) (slice_get (record_of setup older).network k)).shape_is ∙ t
 written-step setup older (E.Read s) r ok t = ap told (Network.same-read (record_of setup older) s (next_read (record_of setup older) s)).shape_is ∙ t
 

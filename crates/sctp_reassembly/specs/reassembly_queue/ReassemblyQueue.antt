@@ -1,5 +1,6 @@
 -- A reassembly queue as callers see it, and its calls as functions of lists (RFC 4960 6.5, 6.6; RFC 3758 3.6).
-use Rattle.std.specs.Prelude.{◌≡◌, ℕ, ◌+◌, ◌-◌, ◌%◌, ◌^◌, Bool, true, false, ◌&&◌, not, ◌==◌, min, max, nat_lt, if◌then◌else◌, List, [], ◌∷◌, ◌++◌, length, take, drop, Option, Some, None}
+use Rattle.std.specs.Prelude.{◌≡◌, ℕ, ◌+◌, ◌-◌, ◌%◌, ◌^◌, Bool, true, false, ◌&&◌, not, ◌==◌, min, max, nat_lt, if◌then◌else◌, List, [], ◌∷◌, ◌++◌, length}
+use Rattle.std.specs.Prelude.{take, drop, Option, Some, None}
 use Rattle.std.specs.List.{list_any, sum_by, filter}
 use Rattle.sctp_list_lemmas.specs.Serial.{comes_before16, at_or_before, at_or_before16}
 use Rattle.sctp_list_lemmas.specs.Lists.{insert_before, after_leading}

@@ -210,8 +210,7 @@ impl Loose {
         count: usize,
     ) -> Result<Vec<Fragment>, AllocError>
         requires { first + count ≤ length self.old.chunks }
-        ensures taken { IfOk result (λ taken. taken.items
-            ≡ take count (drop first self.old.chunks)) }
+        ensures taken { IfOk result (λ taken. taken.items ≡ take count (drop first self.old.chunks)) }
         ensures rest { OnOk result (self.new ≡ with_chunks self.old
             (take first self.old.chunks ++ drop (first + count) self.old.chunks)) }
         ensures err { OnErr result (self.new ≡ self.old) }

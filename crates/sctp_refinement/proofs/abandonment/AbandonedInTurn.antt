@@ -1,5 +1,6 @@
 -- A Late as a link does it: the partially sent message of the late slots is abandoned first, then that of each late slot in turn.
-use Rattle.std.proofs.Common.{◌≡◌, ℕ, zero, suc, ◌+◌, ◌-◌, ◌<◌, ◌≤◌, ◌%◌, ◌^◌, Bool, true, false, List, [], ◌∷◌, ◌++◌, length, map, get_or, take, Option, Some, None, refl, ap, sym, ◌∙◌, arith}
+use Rattle.std.proofs.Common.{◌≡◌, ℕ, zero, suc, ◌+◌, ◌-◌, ◌<◌, ◌≤◌, ◌%◌, ◌^◌, Bool, true, false, List, [], ◌∷◌, ◌++◌, length, map, get_or, take, Option, Some}
+use Rattle.std.proofs.Common.{None, refl, ap, sym, ◌∙◌, arith}
 use Rattle.std.specs.Prelude.{if◌then◌else◌, ◌==◌, ◌&&◌, ◌||◌, not, nat_lt, nat_le, fold, find}
 use Rattle.std.specs.List.{list_all, filter}
 use Rattle.std.proofs.Math.Path.{subst}
@@ -36,24 +37,30 @@ use Rattle.sctp_refinement.proofs.abandonment.Released.{balance-in, released-aba
 -- ## The partially sent one first
 
 -- it may be abandoned once more
-again-all : (w : LinkRecord) (n : ℕ) (ns : List ℕ) → Sender (shape w) → is_partially_sent w n ≡ true → fold after_abandon (after_abandon w n) (filter (is_partially_sent w) ns) ≡ after_abandon w n
+again-all : (w : LinkRecord) (n : ℕ) (ns : List ℕ) → Sender (shape w) → is_partially_sent w n ≡ true
+    → fold after_abandon (after_abandon w n) (filter (is_partially_sent w) ns) ≡ after_abandon w n
 again-all w n [] s e = refl
 again-all w n (k ∷ ns) s e = by (is_partially_sent w k) refl (again-all w n ns s e)
   where
     twice : after_abandon (after_abandon w n) n ≡ after_abandon w n
     twice = abandoned-again (after_abandon w n) n (dead-then w n n ∙ ap (λ b. b || (message_at w n).abandoned) (same-yes n))
 
-    by : (b : Bool) → is_partially_sent w k ≡ b → fold after_abandon (after_abandon w n) (filter (is_partially_sent w) ns) ≡ after_abandon w n → fold after_abandon (after_abandon w n) (if b then k ∷ filter (is_partially_sent w) ns else filter (is_partially_sent w) ns) ≡ after_abandon w n
+    by : (b : Bool) → is_partially_sent w k ≡ b → fold after_abandon (after_abandon w n) (filter (is_partially_sent w) ns) ≡ after_abandon w n
+        → fold after_abandon (after_abandon w n) (if b then k ∷ filter (is_partially_sent w) ns else filter (is_partially_sent w) ns) ≡ after_abandon w n
     by false f h = h
     by true f h =
         let same : n ≡ k = half-one (shape w) n k s e f in
         ap (λ v. fold after_abandon v (filter (is_partially_sent w) ns)) (ap (after_abandon (after_abandon w n)) (sym same) ∙ twice) ∙ h
 
-pub first-is : (w : LinkRecord) (ts : List ℕ) → Sender (shape w) → abandoned_tsn w (find (λ t. is_partially_sent w (message_of_tsn w t)) ts) ≡ fold after_abandon w (filter (is_partially_sent w) (map (message_of_tsn w) ts))
+pub first-is : (w : LinkRecord) (ts : List ℕ) → Sender (shape w) → abandoned_tsn w (find (λ t. is_partially_sent w (message_of_tsn w t)) ts)
+    ≡ fold after_abandon w (filter (is_partially_sent w) (map (message_of_tsn w) ts))
 first-is w [] s = refl
 first-is w (t ∷ ts) s = by (is_partially_sent w (message_of_tsn w t)) refl (first-is w ts s)
   where
-    by : (b : Bool) → is_partially_sent w (message_of_tsn w t) ≡ b → abandoned_tsn w (find (λ t. is_partially_sent w (message_of_tsn w t)) ts) ≡ fold after_abandon w (filter (is_partially_sent w) (map (message_of_tsn w) ts)) → abandoned_tsn w (if b then Some t else find (λ t. is_partially_sent w (message_of_tsn w t)) ts) ≡ fold after_abandon w (if b then message_of_tsn w t ∷ filter (is_partially_sent w) (map (message_of_tsn w) ts) else filter (is_partially_sent w) (map (message_of_tsn w) ts))
+    by : (b : Bool) → is_partially_sent w (message_of_tsn w t) ≡ b → abandoned_tsn w (find (λ t. is_partially_sent w (message_of_tsn w t)) ts)
+        ≡ fold after_abandon w (filter (is_partially_sent w) (map (message_of_tsn w) ts))
+        → abandoned_tsn w (if b then Some t else find (λ t. is_partially_sent w (message_of_tsn w t)) ts) ≡ fold after_abandon w (if b
+        then message_of_tsn w t ∷ filter (is_partially_sent w) (map (message_of_tsn w) ts) else filter (is_partially_sent w) (map (message_of_tsn w) ts))
     by false e h = h
     by true e h = sym (again-all w (message_of_tsn w t) (map (message_of_tsn w) ts) s e)
 
@@ -96,7 +103,8 @@ each-of q (x ∷ ts) zero d a lt = (both (q x) (list_all q ts) a).0
 each-of q (x ∷ ts) (suc j) d a lt = each-of q ts j d (both (q x) (list_all q ts) a).1 (omega (arith, lt))
 
 -- none of them is partially sent then
-pub none-half : (w : LinkRecord) (ts : List ℕ) (o : Option ℕ) → Sender (shape w) → o ≡ find (λ t. is_partially_sent w (message_of_tsn w t)) ts → (j d : ℕ) → j < length ts → is_partially_sent (abandoned_tsn w o) (message_of_tsn w (get_or ts j d)) ≡ false
+pub none-half : (w : LinkRecord) (ts : List ℕ) (o : Option ℕ) → Sender (shape w) → o ≡ find (λ t. is_partially_sent w (message_of_tsn w t)) ts → (j d : ℕ)
+    → j < length ts → is_partially_sent (abandoned_tsn w o) (message_of_tsn w (get_or ts j d)) ≡ false
 none-half w ts None s e j d lt = find-none (λ t. is_partially_sent w (message_of_tsn w t)) ts (sym e) j d lt
 none-half w ts (Some t) s e j d lt = half-still w n k ∙ by (is_partially_sent w k) refl
   where
@@ -108,7 +116,8 @@ none-half w ts (Some t) s e j d lt = half-still w n k ∙ by (is_partially_sent 
 
     by : (b : Bool) → is_partially_sent w k ≡ b → (b && not (k == n)) ≡ false
     by false f = refl
-    by true f = ap not (let z : k ≡ n = half-one (shape w) k n s f (find-yes (λ t. is_partially_sent w (message_of_tsn w t)) ts t (sym e)) in ap (λ i. k == i) (sym z) ∙ same-yes k)
+    by true f = ap not (let z : k ≡ n = half-one (shape w) k n s f (find-yes (λ t. is_partially_sent w (message_of_tsn w t)) ts t (sym e)) in
+        ap (λ i. k == i) (sym z) ∙ same-yes k)
 
 -- ## In turn
 
@@ -158,7 +167,8 @@ module _ (w v : LinkRecord) (t : ℕ) (turn : IsTurn w v) (flies : is_in_flight 
   pub turn-accepted : refusal_of v (E.Abandon t) ≡ None
   turn-accepted =
       ap (λ k. unless (is_in_flight v k) NotInFlight None) place-same
-      ∙ ap (λ b. unless b NotInFlight None) (and (nat_le v.taken p) (nat_lt p (length v.slots)) (let l : v.taken ≤ p = omega (arith, low, turn.abandoning.taken) in grind (arith, nat_tests)) (let l : p < length v.slots = high' in grind (arith, nat_tests)))
+      ∙ ap (λ b. unless b NotInFlight None) (and (nat_le v.taken p) (nat_lt p (length v.slots)) (let l : v.taken ≤ p =
+      omega (arith, low, turn.abandoning.taken) in grind (arith, nat_tests)) (let l : p < length v.slots = high' in grind (arith, nat_tests)))
 
   pub turn-is : after v (E.Abandon t) ≡ after_abandon v n
   turn-is = ap (after_abandon v) message-same
@@ -179,9 +189,11 @@ module _ (w v : LinkRecord) (t : ℕ) (turn : IsTurn w v) (flies : is_in_flight 
   turn-sum = omega (arith, turn.more, released-abandoned w.setup v n turn.setup turn.abandoning.sane sent)
 
 -- after the partially sent one, if any
-pub turn-given : (w : LinkRecord) (ts : List ℕ) (o : Option ℕ) → IsSetup w.setup → Sane w.setup w → list_all (λ t. is_in_flight w (place_of w t)) ts ≡ true → o ≡ find (λ t. is_partially_sent w (message_of_tsn w t)) ts → IsTurn w (abandoned_tsn w o)
+pub turn-given : (w : LinkRecord) (ts : List ℕ) (o : Option ℕ) → IsSetup w.setup → Sane w.setup w → list_all (λ t. is_in_flight w (place_of w t)) ts ≡ true
+    → o ≡ find (λ t. is_partially_sent w (message_of_tsn w t)) ts → IsTurn w (abandoned_tsn w o)
 turn-given w ts None is g all e = turn-first w is g
-turn-given w ts (Some t) is g all e = turn-next w w t (turn-first w is g) (find-among (λ t. is_partially_sent w (message_of_tsn w t)) (λ t. is_in_flight w (place_of w t)) ts t all (sym e))
+turn-given w ts (Some t) is g all e =
+    turn-next w w t (turn-first w is g) (find-among (λ t. is_partially_sent w (message_of_tsn w t)) (λ t. is_in_flight w (place_of w t)) ts t all (sym e))
 
 pub half-next : (v : LinkRecord) (n k : ℕ) → is_partially_sent v k ≡ false → is_partially_sent (after_abandon v n) k ≡ false
 half-next v n k h = half-still v n k ∙ ap (λ b. b && not (k == n)) h
@@ -194,7 +206,8 @@ pub record GivesInTurn (w v : LinkRecord) (o : Option ℕ) (ts : List ℕ) (coun
   pub complete : (j d : ℕ) → j < length ts → is_partially_sent v (message_of_tsn w (get_or ts j d)) ≡ false
 
 module _ (w : LinkRecord) (ts : List ℕ) (o : Option ℕ) (all : list_all (λ t. is_in_flight w (place_of w t)) ts ≡ true) where
-  pub begins : (bytes : ℕ) → IsSetup w.setup → Sane w.setup w → o ≡ find (λ t. is_partially_sent w (message_of_tsn w t)) ts → bytes ≡ growth w (abandoned_tsn w o) → GivesInTurn w (abandoned_tsn w o) o ts 0 bytes
+  pub begins : (bytes : ℕ) → IsSetup w.setup → Sane w.setup w → o ≡ find (λ t. is_partially_sent w (message_of_tsn w t)) ts
+      → bytes ≡ growth w (abandoned_tsn w o) → GivesInTurn w (abandoned_tsn w o) o ts 0 bytes
   begins bytes is g e b = record { turn = turn-given w ts o is g all e; is = refl; bytes_are = b; complete = none-half w ts o g.sender e }
 
   module _ (v : LinkRecord) (count bytes t : ℕ) (i : GivesInTurn w v o ts count bytes) (lt : count < length ts) (t_is : t ≡ get_or ts count t) where
@@ -213,7 +226,9 @@ module _ (w : LinkRecord) (ts : List ℕ) (o : Option ℕ) (all : list_all (λ t
         let here : u ≡ after_abandon v n = e ∙ turn-is w v t i.turn flies in
         let next : GivesInTurn w (after_abandon v n) o ts (count + 1) (bytes + more) = record {
           turn = turn-next w v t i.turn flies;
-          is = ap (λ r. after_abandon r n) i.is ∙ sym (fold-append after_abandon (abandoned_tsn w o) (map (message_of_tsn w) (take count ts)) (n ∷ [])) ∙ sym (ap (fold after_abandon (abandoned_tsn w o)) (ap (map (message_of_tsn w)) (taken ∙ ap (λ k. take count ts ++ k ∷ []) (sym t_is)) ∙ map-append (message_of_tsn w) (take count ts) (t ∷ [])));
+          is = ap (λ r. after_abandon r n) i.is ∙ sym (fold-append after_abandon (abandoned_tsn w o) (map (message_of_tsn w) (take count ts)) (n ∷ []))
+              ∙ sym (ap (fold after_abandon (abandoned_tsn w o)) (ap (map (message_of_tsn w)) (taken ∙ ap (λ k. take count ts ++ k ∷ []) (sym t_is))
+              ∙ map-append (message_of_tsn w) (take count ts) (t ∷ [])));
           bytes_are = omega (arith, i.bytes_are, b, ap (growth v) here, turn-sum w v t i.turn flies);
           complete = λ j d less. half-next v n (message_of_tsn w (get_or ts j d)) (i.complete j d less);
         } in
@@ -224,18 +239,23 @@ module _ (w : LinkRecord) (ts : List ℕ) (o : Option ℕ) (all : list_all (λ t
 
 -- ## The TSNs of the late slots
 
-pub all-fly : (w : LinkRecord) (ps : List ℕ) → w.setup.first < 2 ^ 32 → length w.slots < 2 ^ 32 → AllInFlight w ps → list_all (λ t. is_in_flight w (place_of w t)) (map (tsn_of w) ps) ≡ true
+pub all-fly : (w : LinkRecord) (ps : List ℕ) → w.setup.first < 2 ^ 32 → length w.slots < 2 ^ 32 → AllInFlight w ps
+    → list_all (λ t. is_in_flight w (place_of w t)) (map (tsn_of w) ps) ≡ true
 all-fly w [] first short a = refl
 all-fly w (p ∷ ps) first short a =
     and (is_in_flight w (place_of w (tsn_of w p))) (list_all (λ t. is_in_flight w (place_of w t)) (map (tsn_of w) ps))
-    (ap (is_in_flight w) (place-back w p first (omega (arith, a.1, short))) ∙ and (nat_le w.taken p) (nat_lt p (length w.slots)) (let l : w.taken ≤ p = a.0 in grind (arith, nat_tests)) (let l : p < length w.slots = a.1 in grind (arith, nat_tests)))
+    (ap (is_in_flight w) (place-back w p first (omega (arith, a.1, short))) ∙ and (nat_le w.taken p) (nat_lt p (length w.slots)) (let l : w.taken ≤ p = a.0 in
+    grind (arith, nat_tests)) (let l : p < length w.slots = a.1 in grind (arith, nat_tests)))
     (all-fly w ps first short a.2)
 
-messages-back : (w : LinkRecord) (ps : List ℕ) → w.setup.first < 2 ^ 32 → length w.slots < 2 ^ 32 → AllInFlight w ps → map (message_of_tsn w) (map (tsn_of w) ps) ≡ map (message_of w) ps
+messages-back : (w : LinkRecord) (ps : List ℕ) → w.setup.first < 2 ^ 32 → length w.slots < 2 ^ 32 → AllInFlight w ps
+    → map (message_of_tsn w) (map (tsn_of w) ps) ≡ map (message_of w) ps
 messages-back w [] first short a = refl
-messages-back w (p ∷ ps) first short a = ap (λ k. message_of w k ∷ map (message_of_tsn w) (map (tsn_of w) ps)) (place-back w p first (omega (arith, a.1, short))) ∙ ap (λ l. message_of w p ∷ l) (messages-back w ps first short a.2)
+messages-back w (p ∷ ps) first short a = ap (λ k. message_of w k ∷ map (message_of_tsn w) (map (tsn_of w) ps))
+    (place-back w p first (omega (arith, a.1, short))) ∙ ap (λ l. message_of w p ∷ l) (messages-back w ps first short a.2)
 
-module _ (w : LinkRecord) (now : ℕ) (q : Outbound) (ts : List ℕ) (is : IsSetup w.setup) (g : Sane w.setup w) (made : w.taken ≤ length w.slots) (t : RefinesOutbound w q) (listed : ts ≡ late_tsns now q) where
+module _ (w : LinkRecord) (now : ℕ) (q : Outbound) (ts : List ℕ) (is : IsSetup w.setup) (g : Sane w.setup w) (made : w.taken ≤ length w.slots)
+    (t : RefinesOutbound w q) (listed : ts ≡ late_tsns now q) where
   here : ts ≡ map (tsn_of w) (late_slots w now)
   here = listed ∙ late-tsns w now q g.sender made t
 
@@ -250,18 +270,22 @@ module _ (w : LinkRecord) (now : ℕ) (q : Outbound) (ts : List ℕ) (is : IsSet
 
   -- it takes memory where some are
   pub late-takes : 0 < length ts → takes_memory w (E.Late now) ≡ true
-  late-takes some = let l : 0 < length (late_slots w now) = omega (arith, some, ap length here, length-mapped (tsn_of w) (late_slots w now)) in grind (arith, nat_tests)
+  late-takes some = let l : 0 < length (late_slots w now) = omega (arith, some, ap length here, length-mapped (tsn_of w) (late_slots w now)) in
+      grind (arith, nat_tests)
 
-  in-all : (o : Option ℕ) → o ≡ find (λ t. is_partially_sent w (message_of_tsn w t)) ts → fold after_abandon (abandoned_tsn w o) (map (message_of_tsn w) ts) ≡ after w (E.Late now)
+  in-all : (o : Option ℕ) → o ≡ find (λ t. is_partially_sent w (message_of_tsn w t)) ts
+      → fold after_abandon (abandoned_tsn w o) (map (message_of_tsn w) ts) ≡ after w (E.Late now)
   in-all o e =
       ap (λ v. fold after_abandon v (map (message_of_tsn w) ts)) (ap (abandoned_tsn w) e ∙ first-is w ts g.sender)
       ∙ ap (λ ns. fold after_abandon (fold after_abandon w (filter (is_partially_sent w) ns)) ns) messages-are
       ∙ sym (fold-append after_abandon w (filter (is_partially_sent w) (map (message_of w) (late_slots w now))) (map (message_of w) (late_slots w now)))
 
   -- all in all it is the Late
-  pub late-done : (v : LinkRecord) (o : Option ℕ) (bytes : ℕ) → o ≡ find (λ t. is_partially_sent w (message_of_tsn w t)) ts → GivesInTurn w v o ts (length ts) bytes → IsRight w (E.Late now) (R.Late (length ts) bytes) v
+  pub late-done : (v : LinkRecord) (o : Option ℕ) (bytes : ℕ) → o ≡ find (λ t. is_partially_sent w (message_of_tsn w t)) ts
+      → GivesInTurn w v o ts (length ts) bytes → IsRight w (E.Late now) (R.Late (length ts) bytes) v
   late-done v o bytes e i = record {
-    right = ap (λ k. R.Late k bytes) (ap length here ∙ length-mapped (tsn_of w) (late_slots w now)) ∙ ap (R.Late (length (late_slots w now))) (i.bytes_are ∙ ap (growth w) moves);
+    right = ap (λ k. R.Late k bytes) (ap length here ∙ length-mapped (tsn_of w) (late_slots w now))
+        ∙ ap (R.Late (length (late_slots w now))) (i.bytes_are ∙ ap (growth w) moves);
     moves = moves;
   }
     where

@@ -54,5 +54,6 @@ pub half-still : (w : LinkRecord) (n k : ℕ) → is_partially_sent (after_aband
 half-still w n k = by (is_partially_sent w n)
   where
     by : (b : Bool) → is_partially_sent (message_changed (if b then with_slot w n true else w) n mark_abandoned) k ≡ (is_partially_sent w k && not (k == n))
-    by true = ap (λ c. nat_lt 0 c && (nat_lt c (fragment_count (marked w n) k) && not (message_at (marked w n) k).abandoned)) (sent-same w n k) ∙ half-then w n k
+    by true = ap (λ c. nat_lt 0 c && (nat_lt c (fragment_count (marked w n) k) && not (message_at (marked w n) k).abandoned)) (sent-same w n k)
+        ∙ half-then w n k
     by false = half-then w n k

@@ -20,7 +20,8 @@ use Rattle.sctp_list_lemmas.proofs.Cases.{some-same}
 
 -- ## The chunk of a TSN in flight
 
-module _ (setup : Setup) (w : LinkRecord) (tsn : ℕ) (q : Outbound) (g : Sane setup w) (first : w.setup.first < 2 ^ 32) (fits : tsn < 2 ^ 32) (flies : is_in_flight w (place_of w tsn) ≡ true) (t : RefinesOutbound w q) where
+module _ (setup : Setup) (w : LinkRecord) (tsn : ℕ) (q : Outbound) (g : Sane setup w) (first : w.setup.first < 2 ^ 32) (fits : tsn < 2 ^ 32)
+    (flies : is_in_flight w (place_of w tsn) ≡ true) (t : RefinesOutbound w q) where
   abbrev p : ℕ
   p = place_of w tsn
 
@@ -36,8 +37,10 @@ module _ (setup : Setup) (w : LinkRecord) (tsn : ℕ) (q : Outbound) (g : Sane s
   -- there is one, so the call answers that stream
   pub flying-answer : option_map (λ c. c.stream_identifier) (find (has_tsn tsn) q.inflight.chunks) ≡ Some (message_at w (message_of w (place_of w tsn))).stream
   flying-answer =
-      let f : Found w p q.inflight.chunks = found-in w p (omega (arith, high, few setup w g)) q.inflight.chunks w.taken (length w.slots - w.taken) (omega (arith, low, high, few setup w g)) low (omega (arith, low, high)) t.in_flight in
-      ap (λ k. option_map (λ c. c.stream_identifier) (find (has_tsn k) q.inflight.chunks)) (sym back) ∙ ap (option_map (λ c. c.stream_identifier)) f.is ∙ ap (λ s. Some s.stream) f.says
+      let f : Found w p q.inflight.chunks = found-in w p (omega (arith, high, few setup w g)) q.inflight.chunks w.taken (length w.slots - w.taken)
+      (omega (arith, low, high, few setup w g)) low (omega (arith, low, high)) t.in_flight in
+      ap (λ k. option_map (λ c. c.stream_identifier) (find (has_tsn k) q.inflight.chunks)) (sym back) ∙ ap (option_map (λ c. c.stream_identifier)) f.is
+      ∙ ap (λ s. Some s.stream) f.says
 
 -- ## In front of what waits
 
@@ -46,7 +49,8 @@ pub record IsNext (w : LinkRecord) (c : ChunkPayloadData) : Type 0 where
   pub front : front w ≡ Some c.message_id
   pub is : c ≡ waiting_at w c.message_id (sent_of w c.message_id)
 
-pub peeked-next : (setup : Setup) (w : LinkRecord) (q : Outbound) (c : ChunkPayloadData) → Going setup w → RefinesOutbound w q → next_pending q.pending ≡ Some c → IsNext w c
+pub peeked-next : (setup : Setup) (w : LinkRecord) (q : Outbound) (c : ChunkPayloadData) → Going setup w → RefinesOutbound w q → next_pending q.pending ≡ Some c
+    → IsNext w c
 peeked-next setup w q c g t e = by (front w) refl
   where
     nothing : {A : Type 0} {a : A} → Some a ≡ None → ⊥
@@ -64,7 +68,8 @@ peeked-next setup w q c g t e = by (front w) refl
 next-stream : (w : LinkRecord) (c : ChunkPayloadData) → IsNext w c → c.stream_identifier ≡ (message_at w c.message_id).stream
 next-stream w c n = ap (λ (d : ChunkPayloadData). d.stream_identifier) n.is
 
-pub peeked-stream : (setup : Setup) (w : LinkRecord) (q : Outbound) (c : ChunkPayloadData) → Going setup w → RefinesOutbound w q → next_pending q.pending ≡ Some c → c.stream_identifier ≡ (message_at w c.message_id).stream
+pub peeked-stream : (setup : Setup) (w : LinkRecord) (q : Outbound) (c : ChunkPayloadData) → Going setup w → RefinesOutbound w q
+    → next_pending q.pending ≡ Some c → c.stream_identifier ≡ (message_at w c.message_id).stream
 peeked-stream setup w q c g t e = next-stream w c (peeked-next setup w q c g t e)
 
 -- what passes a test is what is shown
@@ -77,5 +82,6 @@ passed p (Some d) c e = by (p d) e
     by false h = cc
 
 -- the rest of a message in front, past its deadline
-pub tail-stream : (setup : Setup) (w : LinkRecord) (now : ℕ) (q : Outbound) (c : ChunkPayloadData) → Going setup w → RefinesOutbound w q → expiring_tail now q ≡ Some c → c.stream_identifier ≡ (message_at w c.message_id).stream
+pub tail-stream : (setup : Setup) (w : LinkRecord) (now : ℕ) (q : Outbound) (c : ChunkPayloadData) → Going setup w → RefinesOutbound w q
+    → expiring_tail now q ≡ Some c → c.stream_identifier ≡ (message_at w c.message_id).stream
 tail-stream setup w now q c g t e = peeked-stream setup w q c g t (passed (queue.is_expired_tail now) (next_pending q.pending) c e)

@@ -1,5 +1,6 @@
 -- A message expires: the outbound queue holds what the record says.
-use Rattle.std.proofs.Common.{◌≡◌, ℕ, zero, suc, ◌+◌, ◌-◌, ◌<◌, ◌≤◌, ◌%◌, ◌^◌, Bool, true, false, List, [], ◌∷◌, length, map, Option, Some, None, refl, ap, sym, ◌∙◌, inl, inr, arith}
+use Rattle.std.proofs.Common.{◌≡◌, ℕ, zero, suc, ◌+◌, ◌-◌, ◌<◌, ◌≤◌, ◌%◌, ◌^◌, Bool, true, false, List, [], ◌∷◌, length, map, Option, Some, None, refl, ap, sym}
+use Rattle.std.proofs.Common.{◌∙◌, inl, inr, arith}
 use Rattle.std.specs.Prelude.{◌⊎◌, if◌then◌else◌, ◌==◌, ◌&&◌, ◌||◌, not, nat_lt, slice_index_or, is_some}
 use Rattle.std.specs.Option.{option_map}
 use Rattle.std.proofs.Math.Path.{subst}
@@ -22,7 +23,8 @@ use Rattle.sctp_outbound.specs.outbound_queue.OutboundQueue as outbound
 use Rattle.sctp_outbound.specs.outbound_queue.OutboundQueue.{Outbound, expired_of, is_expired, passing}
 use Rattle.sctp_model.specs.declared.event.Event.TheVariants as E
 use Rattle.sctp_model.specs.LinkRecord.{LinkRecord, Message, Setup}
-use Rattle.sctp_model.specs.Messages.{message_at, message_of, messages_where, front, is_ordered_on, ordered_before, ssn_of, fragment_count, fragment_at, sent_of, is_partially_sent, is_unsent, is_past_deadline, deadline_of, no_message}
+use Rattle.sctp_model.specs.Messages.{message_at, message_of, messages_where, front, is_ordered_on, ordered_before, ssn_of, fragment_count, fragment_at}
+use Rattle.sctp_model.specs.Messages.{sent_of, is_partially_sent, is_unsent, is_past_deadline, deadline_of, no_message}
 use Rattle.sctp_model.specs.Messages
 use Rattle.sctp_model.specs.Amounts.{is_expired_or_abandoned}
 use Rattle.sctp_model.specs.Changes.{mark_expired, message_changed, after_expire, expiring, front_if}
@@ -49,11 +51,14 @@ without-waiting w n k xs = by (k == n) refl xs
     by : (b : Bool) → (k == n) ≡ b → (xs : List ℕ) → without_message n (map (waiting_at w k) xs) ≡ (if b then [] else map (waiting_at w k) xs)
     by true e [] = refl
     by false e [] = refl
-    by true e (x ∷ xs) = ap (λ b. if not b then waiting_at w k x ∷ without_message n (map (waiting_at w k) xs) else without_message n (map (waiting_at w k) xs)) e ∙ by true e xs
-    by false e (x ∷ xs) = ap (λ b. if not b then waiting_at w k x ∷ without_message n (map (waiting_at w k) xs) else without_message n (map (waiting_at w k) xs)) e ∙ ap (λ l. waiting_at w k x ∷ l) (by false e xs)
+    by true e (x ∷ xs) =
+        ap (λ b. if not b then waiting_at w k x ∷ without_message n (map (waiting_at w k) xs) else without_message n (map (waiting_at w k) xs)) e ∙ by true e xs
+    by false e (x ∷ xs) = ap (λ b. if not b then waiting_at w k x ∷ without_message n (map (waiting_at w k) xs)
+        else without_message n (map (waiting_at w k) xs)) e ∙ ap (λ l. waiting_at w k x ∷ l) (by false e xs)
 
 -- closing up changes what waits one by one
-changed-waiting : (t : ChunkPayloadData → Bool) (f : ChunkPayloadData → ChunkPayloadData) (g h : ℕ → ChunkPayloadData) → ((i : ℕ) → (if t (g i) then f (g i) else g i) ≡ h i) → (xs : List ℕ) → change_where t f (map g xs) ≡ map h xs
+changed-waiting : (t : ChunkPayloadData → Bool) (f : ChunkPayloadData → ChunkPayloadData) (g h : ℕ → ChunkPayloadData)
+    → ((i : ℕ) → (if t (g i) then f (g i) else g i) ≡ h i) → (xs : List ℕ) → change_where t f (map g xs) ≡ map h xs
 changed-waiting t f g h e [] = refl
 changed-waiting t f g h e (x ∷ xs) = ap (λ y. y ∷ change_where t f (map g xs)) (e x) ∙ ap (λ l. h x ∷ l) (changed-waiting t f g h e xs)
 
@@ -105,7 +110,8 @@ module _ (setup : Setup) (w : LinkRecord) (n : ℕ) (g : Going setup w) (is : fr
       out false b = refl
 
   on-was : (s : ℕ) → is_ordered_on w s n ≡ (((message_at w n).stream == s) && (message_at w n).ordered)
-  on-was s = ap (λ b. ((message_at w n).stream == s) && ((message_at w n).ordered && not b)) f.takes.kept ∙ ap (λ b. ((message_at w n).stream == s) && b) (ands (message_at w n).ordered)
+  on-was s = ap (λ b. ((message_at w n).stream == s) && ((message_at w n).ordered && not b)) f.takes.kept
+      ∙ ap (λ b. ((message_at w n).stream == s) && b) (ands (message_at w n).ordered)
     where
       ands : (b : Bool) → (b && true) ≡ b
       ands true = refl
@@ -119,34 +125,44 @@ module _ (setup : Setup) (w : LinkRecord) (n : ℕ) (g : Going setup w) (is : fr
   before-low s k le = ap length (kept-same (is_ordered_on v s) (is_ordered_on w s) 0 k (λ j a b. on-other s j (λ e. omega (arith, le, e, b))))
 
   -- before a later one it is one less, where the one that expires is an ordered one of the stream
-  pub before-high : (s k : ℕ) → n < k → ordered_before v s k + (if ((message_at w n).stream == s) && (message_at w n).ordered then 1 else 0) ≡ ordered_before w s k
+  pub before-high : (s k : ℕ) → n < k
+      → ordered_before v s k + (if ((message_at w n).stream == s) && (message_at w n).ordered then 1 else 0) ≡ ordered_before w s k
   before-high s k lt = by (is_ordered_on w s n) refl (sym (on-was s))
     where
-      by : (b : Bool) → is_ordered_on w s n ≡ b → (((message_at w n).stream == s) && (message_at w n).ordered) ≡ is_ordered_on w s n → ordered_before v s k + (if ((message_at w n).stream == s) && (message_at w n).ordered then 1 else 0) ≡ ordered_before w s k
+      by : (b : Bool) → is_ordered_on w s n ≡ b → (((message_at w n).stream == s) && (message_at w n).ordered) ≡ is_ordered_on w s n
+          → ordered_before v s k + (if ((message_at w n).stream == s) && (message_at w n).ordered then 1 else 0) ≡ ordered_before w s k
       by true e h =
           ap (λ b. ordered_before v s k + (if b then 1 else 0)) (h ∙ e)
-          ∙ sym (length-kept-one_more (is_ordered_on v s) (is_ordered_on w s) n 0 k (on-here s) e (omega arith) (omega (arith, lt)) (λ j a b ne. on-other s j ne))
+          ∙ sym
+          (length-kept-one_more (is_ordered_on v s) (is_ordered_on w s) n 0 k (on-here s) e (omega arith) (omega (arith, lt)) (λ j a b ne. on-other s j ne))
       by false e h =
           ap (λ b. ordered_before v s k + (if b then 1 else 0)) (h ∙ e)
-          ∙ (let z : ordered_before v s k ≡ ordered_before w s k = ap length (kept-same (is_ordered_on v s) (is_ordered_on w s) 0 k (λ j a b. by_same {P = is_ordered_on v s j ≡ is_ordered_on w s j} j n (λ z. ap (is_ordered_on v s) z ∙ on-here s ∙ sym e ∙ ap (is_ordered_on w s) (sym z)) (λ ne x. on-other s j ne))) in omega (arith, z))
+          ∙ (let z : ordered_before v s k ≡ ordered_before w s k =
+          ap length (kept-same (is_ordered_on v s) (is_ordered_on w s) 0 k (λ j a b. by_same {P = is_ordered_on v s j ≡ is_ordered_on w s j} j n
+          (λ z. ap (is_ordered_on v s) z ∙ on-here s ∙ sym e ∙ ap (is_ordered_on w s) (sym z)) (λ ne x. on-other s j ne))) in omega (arith, z))
 
   -- the count of all, which a later write takes
-  pub before-all : (s : ℕ) → ordered_before v s (length v.messages) + (if ((message_at w n).stream == s) && (message_at w n).ordered then 1 else 0) ≡ ordered_before w s (length w.messages)
-  before-all s = ap (λ c. ordered_before v s c + (if ((message_at w n).stream == s) && (message_at w n).ordered then 1 else 0)) len-same ∙ before-high s (length w.messages) f.takes.made
+  pub before-all : (s : ℕ) → ordered_before v s (length v.messages) + (if ((message_at w n).stream == s) && (message_at w n).ordered then 1 else 0)
+      ≡ ordered_before w s (length w.messages)
+  before-all s = ap (λ c. ordered_before v s c + (if ((message_at w n).stream == s) && (message_at w n).ordered then 1 else 0)) len-same
+      ∙ before-high s (length w.messages) f.takes.made
 
   -- ## The numbers of messages
 
   -- a message whose count before it is as it was
-  ssn-by : (k : ℕ) → (k ≡ n → ⊥) → ((message_at w k).ordered ≡ true → ordered_before v (message_at w k).stream k ≡ ordered_before w (message_at w k).stream k) → ssn_of v k ≡ ssn_of w k
+  ssn-by : (k : ℕ) → (k ≡ n → ⊥) → ((message_at w k).ordered ≡ true → ordered_before v (message_at w k).stream k ≡ ordered_before w (message_at w k).stream k)
+      → ssn_of v k ≡ ssn_of w k
   ssn-by k ne same =
       ap (λ x. (if x.ordered then ordered_before v x.stream k else x.before) % 2 ^ 16) (message-other k ne)
       ∙ by (message_at w k).ordered refl
     where
-      by : (b : Bool) → (message_at w k).ordered ≡ b → (if b then ordered_before v (message_at w k).stream k else (message_at w k).before) % 2 ^ 16 ≡ (if b then ordered_before w (message_at w k).stream k else (message_at w k).before) % 2 ^ 16
+      by : (b : Bool) → (message_at w k).ordered ≡ b → (if b then ordered_before v (message_at w k).stream k else (message_at w k).before) % 2 ^ 16
+          ≡ (if b then ordered_before w (message_at w k).stream k else (message_at w k).before) % 2 ^ 16
       by true e = ap (λ c. c % 2 ^ 16) (same e)
       by false e = refl
 
-  alike-by : (k : ℕ) → (k ≡ n → ⊥) → ((message_at w k).ordered ≡ true → ordered_before v (message_at w k).stream k ≡ ordered_before w (message_at w k).stream k) → Alike w v k
+  alike-by : (k : ℕ) → (k ≡ n → ⊥) → ((message_at w k).ordered ≡ true → ordered_before v (message_at w k).stream k ≡ ordered_before w (message_at w k).stream k)
+      → Alike w v k
   alike-by k ne same = record { setup = refl; message = message-other k ne; ssn = ssn-by k ne same }
 
   -- no other stream, and no unordered message, changes a count
@@ -155,10 +171,12 @@ module _ (setup : Setup) (w : LinkRecord) (n : ℕ) (g : Going setup w) (is : fr
     where
       by : (n < k) ⊎ (k ≤ n) → ordered_before v s k ≡ ordered_before w s k
       by (inr le) = before-low s k le
-      by (inl lt) = (let z : ordered_before v s k + 0 ≡ ordered_before w s k = ap (λ b. ordered_before v s k + (if b then 1 else 0)) (sym miss) ∙ before-high s k lt in omega (arith, z))
+      by (inl lt) = (let z : ordered_before v s k + 0 ≡ ordered_before w s k = ap (λ b. ordered_before v s k + (if b then 1 else 0)) (sym miss)
+          ∙ before-high s k lt in omega (arith, z))
 
   -- what was sent keeps its index
-  pub index-sent : (k : ℕ) → 0 < sent_of w k → (message_at w k).ordered ≡ true → ordered_before v (message_at w k).stream k ≡ ordered_before w (message_at w k).stream k
+  pub index-sent : (k : ℕ) → 0 < sent_of w k → (message_at w k).ordered ≡ true
+      → ordered_before v (message_at w k).stream k ≡ ordered_before w (message_at w k).stream k
   index-sent k pos o = ap (λ t. ordered_before v t k) (sym (stream-same k)) ∙ (quiet-expired setup w n g.sane un).grows.same_index k pos o
 
   sent-differs : (k : ℕ) → 0 < sent_of w k → k ≡ n → ⊥
@@ -170,11 +188,13 @@ module _ (setup : Setup) (w : LinkRecord) (n : ℕ) (g : Going setup w) (is : fr
   -- ## What waits
 
   -- of a message that neither expired nor is abandoned
-  waiting-closed : (k : ℕ) → (k ≡ n → ⊥) → (message_at w k).ordered ≡ true → is_expired_or_abandoned w k ≡ false → closed (message_at w n).ordered (message_at w n).stream (waiting_of w k) ≡ waiting_of v k
+  waiting-closed : (k : ℕ) → (k ≡ n → ⊥) → (message_at w k).ordered ≡ true → is_expired_or_abandoned w k ≡ false
+      → closed (message_at w n).ordered (message_at w n).stream (waiting_of w k) ≡ waiting_of v k
   waiting-closed k ne o alive = by (message_at w n).ordered refl
     where
       by : (b : Bool) → (message_at w n).ordered ≡ b → closed b (message_at w n).stream (waiting_of w k) ≡ waiting_of v k
-      by false e = sym (waiting_of-alike w v k (alike-by k ne (λ x. elsewhere (message_at w k).stream k (ap (λ b. ((message_at w n).stream == (message_at w k).stream) && b) e ∙ no' ((message_at w n).stream == (message_at w k).stream)))) refl)
+      by false e = sym (waiting_of-alike w v k (alike-by k ne (λ x. elsewhere (message_at w k).stream k
+          (ap (λ b. ((message_at w n).stream == (message_at w k).stream) && b) e ∙ no' ((message_at w n).stream == (message_at w k).stream)))) refl)
         where
           no' : (a : Bool) → (a && false) ≡ false
           no' true = refl
@@ -184,11 +204,14 @@ module _ (setup : Setup) (w : LinkRecord) (n : ℕ) (g : Going setup w) (is : fr
           -- on another stream
           on : (b : Bool) → ((message_at w k).stream == (message_at w n).stream) ≡ b → closed true (message_at w n).stream (waiting_of w k) ≡ waiting_of v k
           on false h =
-              changed-waiting (is_on (message_at w n).stream) one_lower (waiting_at w k) (waiting_at w k) (λ i. ap (λ b. if b then one_lower (waiting_at w k i) else waiting_at w k i) h) (numbers_from (sent_of w k) (fragment_count w k - sent_of w k))
-              ∙ sym (waiting_of-alike w v k (alike-by k ne (λ x. elsewhere (message_at w k).stream k (miss ((message_at w n).stream == (message_at w k).stream) refl))) refl)
+              changed-waiting (is_on (message_at w n).stream) one_lower (waiting_at w k) (waiting_at w k)
+              (λ i. ap (λ b. if b then one_lower (waiting_at w k i) else waiting_at w k i) h)
+              (numbers_from (sent_of w k) (fragment_count w k - sent_of w k)) ∙ sym (waiting_of-alike w v k
+              (alike-by k ne (λ x. elsewhere (message_at w k).stream k (miss ((message_at w n).stream == (message_at w k).stream) refl))) refl)
             where
               miss : (b : Bool) → ((message_at w n).stream == (message_at w k).stream) ≡ b → (b && (message_at w n).ordered) ≡ false
-              miss true z = absurd (not_both (sym h ∙ ap (λ t. t == (message_at w n).stream) (sym (same-is (message_at w n).stream (message_at w k).stream z)) ∙ same-yes (message_at w n).stream))
+              miss true z = absurd (not_both (sym h ∙ ap (λ t. t == (message_at w n).stream) (sym (same-is (message_at w n).stream (message_at w k).stream z))
+                  ∙ same-yes (message_at w n).stream))
               miss false z = refl
           -- on its stream: earlier ones were sent
           on true h = side (cases_lt n k)
@@ -202,30 +225,39 @@ module _ (setup : Setup) (w : LinkRecord) (n : ℕ) (g : Going setup w) (is : fr
                   ap (closed true (message_at w n).stream) (all-sent w k alive b.0 b.1)
                   ∙ sym (waiting_of-alike w v k (alike-by k ne (λ x. before-low (message_at w k).stream k le)) refl ∙ all-sent w k alive b.0 b.1)
               side (inl lt) =
-                  changed-waiting (is_on (message_at w n).stream) one_lower (waiting_at w k) (waiting_at v k) one (numbers_from (sent_of w k) (fragment_count w k - sent_of w k))
+                  changed-waiting (is_on (message_at w n).stream) one_lower (waiting_at w k)
+                  (waiting_at v k) one (numbers_from (sent_of w k) (fragment_count w k - sent_of w k))
                   ∙ ap (λ c. map (waiting_at v k) (numbers_from (sent_of w k) (c - sent_of w k))) (sym counts)
                 where
                   counts : fragment_count v k ≡ fragment_count w k
                   counts = ap (λ x. length (pieces (length x.bytes) w.setup.size x.bytes)) (message-other k ne)
 
                   less : ordered_before w (message_at w k).stream k ≡ ordered_before v (message_at w k).stream k + 1
-                  less = sym (ap (λ b. ordered_before v (message_at w k).stream k + (if b then 1 else 0)) (sym (and ((message_at w n).stream == (message_at w k).stream) (message_at w n).ordered (ap (λ t. (message_at w n).stream == t) s-same ∙ same-yes (message_at w n).stream) e)) ∙ before-high (message_at w k).stream k lt)
+                  less = sym (ap (λ b. ordered_before v (message_at w k).stream k + (if b then 1 else 0))
+                      (sym (and ((message_at w n).stream == (message_at w k).stream) (message_at w n).ordered (ap (λ t. (message_at w n).stream == t) s-same
+                      ∙ same-yes (message_at w n).stream) e)) ∙ before-high (message_at w k).stream k lt)
 
                   number : (ssn_of w k + (2 ^ 16 - 1)) % 2 ^ 16 ≡ ssn_of v k
                   number =
                       ap (λ b. ((if b then ordered_before w (message_at w k).stream k else (message_at w k).before) % 2 ^ 16 + (2 ^ 16 - 1)) % 2 ^ 16) o
                       ∙ lower (ordered_before v (message_at w k).stream k) (ordered_before w (message_at w k).stream k) less
-                      ∙ sym (ap (λ x. (if x.ordered then ordered_before v x.stream k else x.before) % 2 ^ 16) (message-other k ne) ∙ ap (λ b. (if b then ordered_before v (message_at w k).stream k else (message_at w k).before) % 2 ^ 16) o)
+                      ∙ sym (ap (λ x. (if x.ordered then ordered_before v x.stream k else x.before) % 2 ^ 16) (message-other k ne)
+                      ∙ ap (λ b. (if b then ordered_before v (message_at w k).stream k else (message_at w k).before) % 2 ^ 16) o)
 
-                  one : (i : ℕ) → (if (message_at w k).stream == (message_at w n).stream then one_lower (waiting_at w k i) else waiting_at w k i) ≡ waiting_at v k i
+                  one : (i : ℕ)
+                      → (if (message_at w k).stream == (message_at w n).stream then one_lower (waiting_at w k i) else waiting_at w k i) ≡ waiting_at v k i
                   one i = ap (λ b. if b then one_lower (waiting_at w k i) else waiting_at w k i) h ∙ rw (number, message-other k ne) refl
 
   -- the list of one kind: without the message, and closed up or not
-  where-expired : (t : Message → Bool) (b : Bool) → t (mark_expired (message_at w n)) ≡ false → ((k : ℕ) → (k ≡ n → ⊥) → t (message_at w k) ≡ true → closed b (message_at w n).stream (waiting_of w k) ≡ waiting_of v k) → closed b (message_at w n).stream (without_message n (waiting_where w (λ k. t (message_at w k)))) ≡ waiting_where v (λ k. t (message_at v k))
+  where-expired : (t : Message → Bool) (b : Bool) → t (mark_expired (message_at w n)) ≡ false
+      → ((k : ℕ) → (k ≡ n → ⊥) → t (message_at w k) ≡ true → closed b (message_at w n).stream (waiting_of w k) ≡ waiting_of v k)
+      → closed b (message_at w n).stream (without_message n (waiting_where w (λ k. t (message_at w k)))) ≡ waiting_where v (λ k. t (message_at v k))
   where-expired t b gone others =
-      ap (closed b (message_at w n).stream) (those-gathered (λ c. not (is_of n c)) (waiting_of w) (numbers_where (λ k. t (message_at w k)) 0 (length w.messages)))
+      ap (closed b (message_at w n).stream)
+      (those-gathered (λ c. not (is_of n c)) (waiting_of w) (numbers_where (λ k. t (message_at w k)) 0 (length w.messages)))
       ∙ closed-gathered b (message_at w n).stream (λ k. without_message n (waiting_of w k)) (numbers_where (λ k. t (message_at w k)) 0 (length w.messages))
-      ∙ gathered-by (λ k. closed b (message_at w n).stream (without_message n (waiting_of w k))) (waiting_of v) (λ k. t (message_at w k)) (λ k. t (message_at v k)) 0 (length w.messages) (λ k x y. each k)
+      ∙ gathered-by (λ k. closed b (message_at w n).stream (without_message n (waiting_of w k))) (waiting_of v) (λ k. t (message_at w k))
+      (λ k. t (message_at v k)) 0 (length w.messages) (λ k x y. each k)
       ∙ ap (λ c. flat_map (waiting_of v) (numbers_where (λ k. t (message_at v k)) 0 c)) (sym len-same)
     where
       mine : (k : ℕ) → without_message n (waiting_of w k) ≡ (if k == n then [] else waiting_of w k)
@@ -235,19 +267,26 @@ module _ (setup : Setup) (w : LinkRecord) (n : ℕ) (g : Going setup w) (is : fr
       nothing true xs e = e
       nothing false xs e = refl
 
-      each : (k : ℕ) → (if t (message_at w k) then closed b (message_at w n).stream (without_message n (waiting_of w k)) else []) ≡ (if t (message_at v k) then waiting_of v k else [])
-      each k = by_same {P = (if t (message_at w k) then closed b (message_at w n).stream (without_message n (waiting_of w k)) else []) ≡ (if t (message_at v k) then waiting_of v k else [])} k n here there
+      each : (k : ℕ) → (if t (message_at w k) then closed b (message_at w n).stream (without_message n (waiting_of w k)) else [])
+          ≡ (if t (message_at v k) then waiting_of v k else [])
+      each k = by_same {
+          P = (if t (message_at w k) then closed b (message_at w n).stream (without_message n (waiting_of w k)) else [])
+          ≡ (if t (message_at v k) then waiting_of v k else [])} k n here there
         where
-          here : k ≡ n → (if t (message_at w k) then closed b (message_at w n).stream (without_message n (waiting_of w k)) else []) ≡ (if t (message_at v k) then waiting_of v k else [])
+          here : k ≡ n → (if t (message_at w k) then closed b (message_at w n).stream (without_message n (waiting_of w k)) else [])
+              ≡ (if t (message_at v k) then waiting_of v k else [])
           here e =
               nothing (t (message_at w k)) (closed b (message_at w n).stream (without_message n (waiting_of w k)))
-              (ap (closed b (message_at w n).stream) (mine k ∙ ap (λ c. if c then [] else waiting_of w k) (ap (λ j. j == n) e ∙ same-yes n)) ∙ closed-none b (message_at w n).stream)
+              (ap (closed b (message_at w n).stream) (mine k ∙ ap (λ c. if c then [] else waiting_of w k) (ap (λ j. j == n) e ∙ same-yes n))
+              ∙ closed-none b (message_at w n).stream)
               ∙ sym (ap (λ c. if c then waiting_of v k else []) (ap (λ j. t (message_at v j)) e ∙ ap t message-here ∙ gone))
 
-          there : (k ≡ n → ⊥) → (k == n) ≡ false → (if t (message_at w k) then closed b (message_at w n).stream (without_message n (waiting_of w k)) else []) ≡ (if t (message_at v k) then waiting_of v k else [])
+          there : (k ≡ n → ⊥) → (k == n) ≡ false → (if t (message_at w k) then closed b (message_at w n).stream (without_message n (waiting_of w k)) else [])
+              ≡ (if t (message_at v k) then waiting_of v k else [])
           there ne off = by (t (message_at w k)) refl ∙ ap (λ x. if t x then waiting_of v k else []) (sym (message-other k ne))
             where
-              by : (c : Bool) → t (message_at w k) ≡ c → (if c then closed b (message_at w n).stream (without_message n (waiting_of w k)) else []) ≡ (if c then waiting_of v k else [])
+              by : (c : Bool) → t (message_at w k) ≡ c
+                  → (if c then closed b (message_at w n).stream (without_message n (waiting_of w k)) else []) ≡ (if c then waiting_of v k else [])
               by true e = ap (closed b (message_at w n).stream) (mine k ∙ ap (λ c. if c then [] else waiting_of w k) off) ∙ others k ne e
               by false e = refl
 
@@ -260,24 +299,30 @@ module _ (setup : Setup) (w : LinkRecord) (n : ℕ) (g : Going setup w) (is : fr
   miss true b = refl
   miss false b = refl
 
-  ordered-expired : closed (message_at w n).ordered (message_at w n).stream (without_message n (waiting_where w (waits_ordered w))) ≡ waiting_where v (waits_ordered v)
-  ordered-expired = where-expired (λ x. x.ordered && not (x.expired || x.abandoned)) (message_at w n).ordered (miss (message_at w n).ordered (message_at w n).abandoned)
+  ordered-expired : closed (message_at w n).ordered (message_at w n).stream (without_message n (waiting_where w (waits_ordered w)))
+      ≡ waiting_where v (waits_ordered v)
+  ordered-expired =
+      where-expired (λ x. x.ordered && not (x.expired || x.abandoned)) (message_at w n).ordered (miss (message_at w n).ordered (message_at w n).abandoned)
       (λ k ne h. let p = split (message_at w k).ordered (is_expired_or_abandoned w k) h in waiting-closed k ne p.0 p.1)
 
   unordered-expired : without_message n (waiting_where w (waits_unordered w)) ≡ waiting_where v (waits_unordered v)
-  unordered-expired = where-expired (λ x. not x.ordered && not (x.expired || x.abandoned)) false (miss (not (message_at w n).ordered) (message_at w n).abandoned)
-      (λ k ne h. let p = split (not (message_at w k).ordered) (is_expired_or_abandoned w k) h in sym (waiting_of-alike w v k (alike-by k ne (λ o. absurd (not_both (sym (negated (message_at w k).ordered p.0) ∙ o)))) refl))
+  unordered-expired =
+      where-expired (λ x. not x.ordered && not (x.expired || x.abandoned)) false (miss (not (message_at w n).ordered) (message_at w n).abandoned)
+      (λ k ne h. let p = split (not (message_at w k).ordered) (is_expired_or_abandoned w k) h in
+      sym (waiting_of-alike w v k (alike-by k ne (λ o. absurd (not_both (sym (negated (message_at w k).ordered p.0) ∙ o)))) refl))
 
   -- nothing is partially sent before or after
   half-none : (k : ℕ) → k < length w.messages → is_partially_sent w k ≡ false
   half-none k lt = by f.selected
     where
-      by : (is_partially_sent w n ≡ true) ⊎ ((sent_of w n ≡ 0) × ((j : ℕ) → j < length w.messages → is_partially_sent w j ≡ false)) → is_partially_sent w k ≡ false
+      by : (is_partially_sent w n ≡ true) ⊎ ((sent_of w n ≡ 0) × ((j : ℕ) → j < length w.messages → is_partially_sent w j ≡ false))
+          → is_partially_sent w k ≡ false
       by (inl h) = absurd (not_both (sym (ap (λ c. nat_lt 0 c && (nat_lt c (fragment_count w n) && not (message_at w n).abandoned)) none-sent) ∙ h))
       by (inr r) = r.1 k lt
 
   half-v : (k : ℕ) → is_partially_sent v k ≡ is_partially_sent w k
-  half-v k = changed-keeps mark_expired (λ x. nat_lt 0 (sent_of w k) && (nat_lt (sent_of w k) (length (pieces (length x.bytes) w.setup.size x.bytes)) && not x.abandoned)) (λ x. refl) n k w.messages no_message
+  half-v k = changed-keeps mark_expired (λ x. nat_lt 0 (sent_of w k)
+      && (nat_lt (sent_of w k) (length (pieces (length x.bytes) w.setup.size x.bytes)) && not x.abandoned)) (λ x. refl) n k w.messages no_message
 
   selected-v : selected_of v (first_of (messages_where v (is_partially_sent v))) ≡ None
   selected-v =
@@ -292,7 +337,8 @@ module _ (setup : Setup) (w : LinkRecord) (n : ℕ) (g : Going setup w) (is : fr
   pending_then ordered q = if not ordered then without n q else closed_up (message_at w n).stream (without n q)
 
   pub pending-expired : (q : Pending) → RefinesPending w q → RefinesPending v (pending_then (message_at w n).ordered q)
-  pending-expired q t = by (message_at w n).ordered (ap (λ l. closed (message_at w n).ordered (message_at w n).stream (without_message n l)) t.ordered ∙ ordered-expired)
+  pending-expired q t =
+      by (message_at w n).ordered (ap (λ l. closed (message_at w n).ordered (message_at w n).stream (without_message n l)) t.ordered ∙ ordered-expired)
     where
       sel : selected_without n q.selected ≡ selected_of v (first_of (messages_where v (is_partially_sent v)))
       sel = ap (selected_without n) (t.selected ∙ selected-w) ∙ sym selected-v
@@ -317,14 +363,16 @@ module _ (setup : Setup) (w : LinkRecord) (n : ℕ) (g : Going setup w) (is : fr
 
 -- ## The same message
 
-first-piece : (most size : ℕ) (bytes : List ℕ) → 0 < size → 0 < length (pieces most size bytes) → (length (slice_index_or (pieces most size bytes) 0 []) == 0) ≡ false
+first-piece : (most size : ℕ) (bytes : List ℕ) → 0 < size → 0 < length (pieces most size bytes)
+    → (length (slice_index_or (pieces most size bytes) 0 []) == 0) ≡ false
 first-piece zero size bytes s some = absurd (omega arith)
 first-piece (suc most) size [] s some = absurd (omega arith)
 first-piece (suc most) zero (x ∷ xs) s some = absurd (omega arith)
 first-piece (suc most) (suc size) (x ∷ xs) s some = grind (arith, nat_tests)
 
 -- DCEP has no deadline
-past_deadline-same : (now : ℕ) (p : PayloadProtocolIdentifier) (timed : Bool) (o : Option ℕ) → (not (is_dcep p) && is_past now (if timed && not (is_dcep p) then o else None)) ≡ is_past now (if timed && not (is_dcep p) then o else None)
+past_deadline-same : (now : ℕ) (p : PayloadProtocolIdentifier) (timed : Bool) (o : Option ℕ)
+    → (not (is_dcep p) && is_past now (if timed && not (is_dcep p) then o else None)) ≡ is_past now (if timed && not (is_dcep p) then o else None)
 past_deadline-same now Dcep true o = refl
 past_deadline-same now Dcep false o = refl
 past_deadline-same now String timed o = refl
@@ -334,19 +382,24 @@ past_deadline-same now BinaryEmpty timed o = refl
 past_deadline-same now Unknown timed o = refl
 
 -- the queue takes the fragment in front for an unsent message past its deadline where the record does
-test-same : (setup : Setup) (w : LinkRecord) (n now : ℕ) → 0 < w.setup.size → Going setup w → front w ≡ Some n → is_expired now (waiting_at w n (sent_of w n)) ≡ (is_unsent w n && is_past_deadline w now n)
+test-same : (setup : Setup) (w : LinkRecord) (n now : ℕ) → 0 < w.setup.size → Going setup w → front w ≡ Some n
+    → is_expired now (waiting_at w n (sent_of w n)) ≡ (is_unsent w n && is_past_deadline w now n)
 test-same setup w n now size g is = by (sent_of w n == 0) refl
   where
     t : FrontIs w n
     t = front_is w g.sane.sender g.turns n is
 
     past_deadline : (not (is_dcep (message_at w n).ppi) && is_past now (deadline_of w n)) ≡ is_past_deadline w now n
-    past_deadline = past_deadline-same now (message_at w n).ppi (is_timed (message_at w n).reliability) (Messages.deadline_from (message_at w n).value (message_at w n).started)
+    past_deadline = past_deadline-same now (message_at w n).ppi (is_timed (message_at w n).reliability)
+        (Messages.deadline_from (message_at w n).value (message_at w n).started)
 
     some : sent_of w n ≡ 0 → (length (fragment_at w n (sent_of w n)) == 0) ≡ false
-    some z = ap (λ i. length (fragment_at w n i) == 0) z ∙ first-piece (length (message_at w n).bytes) w.setup.size (message_at w n).bytes size (g.sane.sender.some n t.takes.made)
+    some z = ap (λ i. length (fragment_at w n i) == 0) z
+        ∙ first-piece (length (message_at w n).bytes) w.setup.size (message_at w n).bytes size (g.sane.sender.some n t.takes.made)
 
-    by : (b : Bool) → (sent_of w n == 0) ≡ b → (b && (not (length (fragment_at w n (sent_of w n)) == 0) && (not (is_dcep (message_at w n).ppi) && is_past now (deadline_of w n)))) ≡ ((b && not (message_at w n).expired) && is_past_deadline w now n)
+    by : (b : Bool) → (sent_of w n == 0) ≡ b
+        → (b && (not (length (fragment_at w n (sent_of w n)) == 0) && (not (is_dcep (message_at w n).ppi) && is_past now (deadline_of w n))))
+        ≡ ((b && not (message_at w n).expired) && is_past_deadline w now n)
     by false e = refl
     by true e =
         ap (λ b. not b && (not (is_dcep (message_at w n).ppi) && is_past now (deadline_of w n))) (some (same-is (sent_of w n) 0 e))
@@ -355,17 +408,20 @@ test-same setup w n now size g is = by (sent_of w n == 0) refl
 -- ## Expire
 
 -- the queue's chunk is the first fragment of the message that the record's Expire removes
-pub expiring-is : (setup : Setup) (w : LinkRecord) (now : ℕ) (q : Outbound) → 0 < w.setup.size → Going setup w → RefinesOutbound w q → outbound.expiring now q ≡ option_map (λ n. waiting_at w n 0) (expiring w now)
+pub expiring-is : (setup : Setup) (w : LinkRecord) (now : ℕ) (q : Outbound) → 0 < w.setup.size → Going setup w → RefinesOutbound w q
+    → outbound.expiring now q ≡ option_map (λ n. waiting_at w n 0) (expiring w now)
 expiring-is setup w now q size g t = by (front w) refl
   where
-    by : (o : Option ℕ) → front w ≡ o → outbound.expiring now q ≡ option_map (λ n. waiting_at w n 0) (front_if w (λ n. is_unsent w n && is_past_deadline w now n) o)
+    by : (o : Option ℕ) → front w ≡ o
+        → outbound.expiring now q ≡ option_map (λ n. waiting_at w n 0) (front_if w (λ n. is_unsent w n && is_past_deadline w now n) o)
     by None e = ap (passing (is_expired now)) (idle w q t e)
     by (Some n) e =
         ap (passing (is_expired now)) (shown setup w n q g e t)
         ∙ ap (λ b. if b then Some (waiting_at w n (sent_of w n)) else None) (test-same setup w n now size g e)
         ∙ take-it (is_unsent w n) (is_past_deadline w now n) refl
       where
-        take-it : (b c : Bool) → is_unsent w n ≡ b → (if b && c then Some (waiting_at w n (sent_of w n)) else None) ≡ option_map (λ k. waiting_at w k 0) (if b && c then Some n else None)
+        take-it : (b c : Bool) → is_unsent w n ≡ b
+            → (if b && c then Some (waiting_at w n (sent_of w n)) else None) ≡ option_map (λ k. waiting_at w k 0) (if b && c then Some n else None)
         take-it true true h = ap (λ i. Some (waiting_at w n i)) (same-is (sent_of w n) 0 (both (sent_of w n == 0) (not (message_at w n).expired) h).0)
         take-it true false h = refl
         take-it false c h = refl
@@ -374,11 +430,13 @@ expiring-is setup w now q size g t = by (front w) refl
 pub expiring-front : (w : LinkRecord) (now n : ℕ) → expiring w now ≡ Some n → (front w ≡ Some n) × (is_unsent w n ≡ true) × (is_past_deadline w now n ≡ true)
 expiring-front w now n e = by (front w) refl e
   where
-    by : (o : Option ℕ) → front w ≡ o → front_if w (λ k. is_unsent w k && is_past_deadline w now k) o ≡ Some n → (front w ≡ Some n) × (is_unsent w n ≡ true) × (is_past_deadline w now n ≡ true)
+    by : (o : Option ℕ) → front w ≡ o → front_if w (λ k. is_unsent w k && is_past_deadline w now k) o ≡ Some n
+        → (front w ≡ Some n) × (is_unsent w n ≡ true) × (is_past_deadline w now n ≡ true)
     by None h z = cc
     by (Some k) h z = on (is_unsent w k && is_past_deadline w now k) refl z
       where
-        on : (b : Bool) → (is_unsent w k && is_past_deadline w now k) ≡ b → (if b then Some k else None) ≡ Some n → (front w ≡ Some n) × (is_unsent w n ≡ true) × (is_past_deadline w now n ≡ true)
+        on : (b : Bool) → (is_unsent w k && is_past_deadline w now k) ≡ b → (if b then Some k else None) ≡ Some n
+            → (front w ≡ Some n) × (is_unsent w n ≡ true) × (is_past_deadline w now n ≡ true)
         on true a y =
             let same : k ≡ n = cc in
             let p = both (is_unsent w k) (is_past_deadline w now k) a in
@@ -386,8 +444,10 @@ expiring-front w now n e = by (front w) refl e
         on false a y = cc
 
 -- the outbound queue after the call holds what the record after the event says
-pub refines-expire : (setup : Setup) (w : LinkRecord) (now : ℕ) (q : Outbound) → 0 < w.setup.size → Going setup w → RefinesOutbound w q → RefinesOutbound (after w (E.Expire now)) (expired_of (outbound.expiring now q) q)
-refines-expire setup w now q size g t = subst (λ o. RefinesOutbound (after w (E.Expire now)) (expired_of o q)) (sym (expiring-is setup w now q size g t)) (by (expiring w now) refl)
+pub refines-expire : (setup : Setup) (w : LinkRecord) (now : ℕ) (q : Outbound) → 0 < w.setup.size → Going setup w → RefinesOutbound w q
+    → RefinesOutbound (after w (E.Expire now)) (expired_of (outbound.expiring now q) q)
+refines-expire setup w now q size g t =
+    subst (λ o. RefinesOutbound (after w (E.Expire now)) (expired_of o q)) (sym (expiring-is setup w now q size g t)) (by (expiring w now) refl)
   where
     by : (o : Option ℕ) → expiring w now ≡ o → RefinesOutbound (after_expire w o) (expired_of (option_map (λ n. waiting_at w n 0) o) q)
     by None e = t

@@ -11,11 +11,15 @@ those-gathered t f [] = refl
 those-gathered t f (x ∷ xs) = those-append t (f x) (flat_map f xs) ∙ ap (λ l. filter t (f x) ++ l) (those-gathered t f xs)
 
 -- gathered of the numbers that pass two tests, where each number gives the same
-pub gathered-by : {A : Type 0} (f g : ℕ → List A) (p q : ℕ → Bool) (from count : ℕ) → ((k : ℕ) → from ≤ k → k < from + count → (if p k then f k else []) ≡ (if q k then g k else [])) → flat_map f (numbers_where p from count) ≡ flat_map g (numbers_where q from count)
+pub gathered-by : {A : Type 0} (f g : ℕ → List A) (p q : ℕ → Bool) (from count : ℕ) → ((k : ℕ) → from ≤ k → k < from + count
+    → (if p k then f k else []) ≡ (if q k then g k else [])) → flat_map f (numbers_where p from count) ≡ flat_map g (numbers_where q from count)
 gathered-by f g p q from zero same = refl
-gathered-by {A} f g p q from (suc count) same = step (p from) (q from) (same from (omega arith) (omega arith)) (gathered-by f g p q (from + 1) count (λ k a b. same k (omega arith) (omega arith)))
+gathered-by {A} f g p q from (suc count) same =
+    step (p from) (q from) (same from (omega arith) (omega arith)) (gathered-by f g p q (from + 1) count (λ k a b. same k (omega arith) (omega arith)))
   where
-    step : (s t : Bool) → (if s then f from else []) ≡ (if t then g from else []) → flat_map f (numbers_where p (from + 1) count) ≡ flat_map g (numbers_where q (from + 1) count) → flat_map f (if s then from ∷ numbers_where p (from + 1) count else numbers_where p (from + 1) count) ≡ flat_map g (if t then from ∷ numbers_where q (from + 1) count else numbers_where q (from + 1) count)
+    step : (s t : Bool) → (if s then f from else []) ≡ (if t then g from else []) → flat_map f (numbers_where p (from + 1) count)
+        ≡ flat_map g (numbers_where q (from + 1) count) → flat_map f (if s then from ∷ numbers_where p (from + 1) count else numbers_where p (from + 1) count)
+        ≡ flat_map g (if t then from ∷ numbers_where q (from + 1) count else numbers_where q (from + 1) count)
     step true true e ih = ap (λ l. l ++ flat_map f (numbers_where p (from + 1) count)) e ∙ ap (λ l. g from ++ l) ih
     step true false e ih = ap (λ l. l ++ flat_map f (numbers_where p (from + 1) count)) e ∙ ih
     step false true e ih = ih ∙ ap (λ l. l ++ flat_map g (numbers_where q (from + 1) count)) e

@@ -35,7 +35,9 @@ use Rattle.sctp_refinement.proofs.amounts.ToldSums.{AsTold, told-after, read-qui
 -- ## By what the queues hold
 
 -- but for writes, the released bytes grow by what the outbound queue holds less
-pub growth-by_queues : (setup : Setup) (h : History) → IsSetup setup → IsRun setup h → (e : Event) → refusal_of (record_of setup h) e ≡ None → is_write e ≡ false → (q r : Outbound) → RefinesOutbound (record_of setup h) q → RefinesOutbound (after (record_of setup h) e) r → growth (record_of setup h) (after (record_of setup h) e) ≡ total_bytes q - total_bytes r
+pub growth-by_queues : (setup : Setup) (h : History) → IsSetup setup → IsRun setup h → (e : Event) → refusal_of (record_of setup h) e ≡ None
+    → is_write e ≡ false → (q r : Outbound) → RefinesOutbound (record_of setup h) q → RefinesOutbound (after (record_of setup h) e) r
+    → growth (record_of setup h) (after (record_of setup h) e) ≡ total_bytes q - total_bytes r
 growth-by_queues setup h is run e ok a q r t u =
     let w = record_of setup h in
     let longer : History = (e, reply_to w e) ∷ h in
@@ -53,14 +55,17 @@ growth-by_queues setup h is run e ok a q r t u =
 
 -- ## By the record
 
-pub balance-in : (setup : Setup) (w : LinkRecord) → IsSetup setup → Sane setup w → in_all w (held_bytes w) + in_all w (released_bytes w) ≡ in_all w (written_bytes w)
-balance-in setup w is g = total-plus (held_bytes w) (released_bytes w) (written_bytes w) always 0 (length w.messages) (λ n a b. balance w n g.sender (size-some setup w is g) (omega arith))
+pub balance-in : (setup : Setup) (w : LinkRecord) → IsSetup setup → Sane setup w
+    → in_all w (held_bytes w) + in_all w (released_bytes w) ≡ in_all w (written_bytes w)
+balance-in setup w is g = total-plus (held_bytes w) (released_bytes w) (written_bytes w) always 0 (length w.messages)
+    (λ n a b. balance w n g.sender (size-some setup w is g) (omega arith))
 
 written-as : (w v : LinkRecord) → AsTold w v → in_all v (written_bytes v) ≡ in_all w (written_bytes w)
 written-as w v t = sum-same w v (λ m. true) (λ m. length m.bytes) t.count (λ n lt. refl) (λ n lt. ap length (t.bytes n lt))
 
 -- abandoning a message releases what it holds
-pub released-abandoned : (setup : Setup) (w : LinkRecord) (n : ℕ) → IsSetup setup → Sane setup w → 0 < sent (shape w) n → in_all (after_abandon w n) (released_bytes (after_abandon w n)) ≡ in_all w (released_bytes w) + held_bytes w n
+pub released-abandoned : (setup : Setup) (w : LinkRecord) (n : ℕ) → IsSetup setup → Sane setup w → 0 < sent (shape w) n
+    → in_all (after_abandon w n) (released_bytes (after_abandon w n)) ≡ in_all w (released_bytes w) + held_bytes w n
 released-abandoned setup w n is g pos =
     let v = after_abandon w n in
     let told = (read-quiet w v (count-abandoned w n) (Moves.quiet-abandoned setup w n g)).told in
@@ -88,14 +93,24 @@ made-front setup w p n g e = (front-takes (shape w) n g.sender (chosen w p (fron
 
 module _ (setup : Setup) (w : LinkRecord) (now n : ℕ) (g : Sane setup w) where
   -- an Expire takes what the front holds from its stream
-  pub amount-expire : expiring w now ≡ Some n → (t : ℕ) → amount (after w (E.Expire now)) t + (if (message_at w n).stream == t then held_bytes w n else 0) ≡ amount w t
-  amount-expire e t = ap (λ o. amount (after_expire w o) t + (if (message_at w n).stream == t then held_bytes w n else 0)) e ∙ amount-expired w n t (made-front setup w (λ n. is_unsent w n && is_past_deadline w now n) n g e)
+  pub amount-expire : expiring w now ≡ Some n → (t : ℕ)
+      → amount (after w (E.Expire now)) t + (if (message_at w n).stream == t then held_bytes w n else 0) ≡ amount w t
+  amount-expire e t = ap (λ o. amount (after_expire w o) t + (if (message_at w n).stream == t then held_bytes w n else 0)) e
+      ∙ amount-expired w n t (made-front setup w (λ n. is_unsent w n && is_past_deadline w now n) n g e)
 
   pub growth-expire : IsSetup setup → expiring w now ≡ Some n → growth w (after w (E.Expire now)) ≡ held_bytes w n
   growth-expire is e =
       let v = after w (E.Expire now) in
-      let held : in_all v (held_bytes v) + held_bytes w n ≡ in_all w (held_bytes w) = ap (λ o. in_all (after_expire w o) (held_bytes (after_expire w o)) + held_bytes w n) e ∙ held-in-expired w n (made-front setup w (λ n. is_unsent w n && is_past_deadline w now n) n g e) in
-      omega (arith, balance-in setup w is g, balance-in setup v is (sane-after setup w (E.Expire now) refl g), written-as w v (told-after setup w (E.Expire now) g refl), held)
+      let held : in_all v (held_bytes v) + held_bytes w n ≡ in_all w (held_bytes w) =
+      ap (λ o. in_all (after_expire w o) (held_bytes (after_expire w o)) + held_bytes w n) e
+      ∙ held-in-expired w n (made-front setup w (λ n. is_unsent w n && is_past_deadline w now n) n g e) in
+      omega (
+        arith,
+        balance-in setup w is g,
+        balance-in setup v is (sane-after setup w (E.Expire now) refl g),
+        written-as w v (told-after setup w (E.Expire now) g refl),
+        held,
+      )
 
   pub growth-tail : IsSetup setup → tailing w now ≡ Some n → growth w (after w (E.Tail now)) ≡ held_bytes w n
   growth-tail is e =

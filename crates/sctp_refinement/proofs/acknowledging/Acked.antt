@@ -12,7 +12,8 @@ use Rattle.sctp_model.specs.Reports.{reports}
 use Rattle.sctp_model.specs.Changes.{after_acked, acknowledged_by}
 use Rattle.sctp_model.proofs.sender.Shape.{sent}
 use Rattle.sctp_model.proofs.sender.Shapes
-use Rattle.sctp_refinement.specs.Refines.{sending_by, IsInFlight, sending_at, sendings_of, selected_of, waiting_of, waiting_where, waits_ordered, waits_unordered, RefinesOutbound}
+use Rattle.sctp_refinement.specs.Refines.{sending_by, IsInFlight, sending_at, sendings_of, selected_of, waiting_of, waiting_where, waits_ordered}
+use Rattle.sctp_refinement.specs.Refines.{waits_unordered, RefinesOutbound}
 use Rattle.sctp_refinement.proofs.sending.Waiting
 use Rattle.sctp_refinement.proofs.sending.Waiting.{gathered-same}
 
@@ -31,10 +32,12 @@ module _ (w : LinkRecord) (r : Report) where
   sending-then : (p : ℕ) → p < length w.slots → sending_at v p ≡ sending_by w ((slot_at w p).acknowledged || reports r p) p
   sending-then p lt = rw (ap (λ x. x.message) (slot-then p lt), slot-then p lt) refl
 
-  pub sendings-taken : sendings_of v ≡ map (λ k. sending_by w ((slot_at w k).acknowledged || reports r k) k) (numbers_from (max w.taken r.cumulative) (length w.slots - max w.taken r.cumulative))
+  pub sendings-taken : sendings_of v ≡ map (λ k. sending_by w ((slot_at w k).acknowledged || reports r k) k)
+      (numbers_from (max w.taken r.cumulative) (length w.slots - max w.taken r.cumulative))
   sendings-taken =
       ap (λ c. map (sending_at v) (numbers_from (max w.taken r.cumulative) (c - max w.taken r.cumulative))) count-same
-      ∙ map-kept-same (sending_at v) (λ k. sending_by w ((slot_at w k).acknowledged || reports r k) k) always always (max w.taken r.cumulative) (length w.slots - max w.taken r.cumulative) (λ k a b. refl) (λ k a b e. sending-then k (omega arith))
+      ∙ map-kept-same (sending_at v) (λ k. sending_by w ((slot_at w k).acknowledged || reports r k) k) always always (max w.taken r.cumulative)
+      (length w.slots - max w.taken r.cumulative) (λ k a b. refl) (λ k a b e. sending-then k (omega arith))
 
   sent-same : (n : ℕ) → sent_of v n ≡ sent_of w n
   sent-same n = ap (λ x. sent x n) (Shapes.shape-acknowledged w r (max w.taken r.cumulative))
@@ -46,13 +49,15 @@ module _ (w : LinkRecord) (r : Report) where
   where-same t = gathered-same (waiting_of v) (waiting_of w) t t 0 (length w.messages) (λ k a b. refl) (λ k a b e. waiting-same k)
 
   half-same : messages_where v (is_partially_sent v) ≡ messages_where w (is_partially_sent w)
-  half-same = kept-same (is_partially_sent v) (is_partially_sent w) 0 (length w.messages) (λ k a b. ap (λ s. nat_lt 0 s && (nat_lt s (fragment_count w k) && not (message_at w k).abandoned)) (sent-same k))
+  half-same = kept-same (is_partially_sent v) (is_partially_sent w) 0 (length w.messages)
+      (λ k a b. ap (λ s. nat_lt 0 s && (nat_lt s (fragment_count w k) && not (message_at w k).abandoned)) (sent-same k))
 
   message-same : (p : ℕ) → message_of v p ≡ message_of w p
   message-same p = get-numbered (acknowledged_by r) (λ x. x.message) (λ i x. refl) 0 p w.slots no_slot
 
   -- once what the SACK reports is marked, and what it acknowledges cumulatively is popped
-  pub refines-taken : (q : Outbound) (cs : List ChunkPayloadData) → RefinesOutbound w q → IsInFlight w (λ k. (slot_at w k).acknowledged || reports r k) (max w.taken r.cumulative) (length w.slots - max w.taken r.cumulative) cs → RefinesOutbound v (with_inflight q cs)
+  pub refines-taken : (q : Outbound) (cs : List ChunkPayloadData) → RefinesOutbound w q → IsInFlight w (λ k. (slot_at w k).acknowledged || reports r k)
+      (max w.taken r.cumulative) (length w.slots - max w.taken r.cumulative) cs → RefinesOutbound v (with_inflight q cs)
   refines-taken q cs t e = record {
     pending = record {
       ordered = t.pending.ordered ∙ sym (where-same (waits_ordered w));
@@ -71,9 +76,12 @@ module _ (w : LinkRecord) (r : Report) where
       same (n ∷ l) = refl
 
 -- marks and pops begin from what the record has in flight
-pub in-flight-first : (w : LinkRecord) (q : Outbound) → RefinesOutbound w q → IsInFlight w (λ k. (slot_at w k).acknowledged) w.taken (length w.slots - w.taken) q.inflight.chunks
+pub in-flight-first : (w : LinkRecord) (q : Outbound) → RefinesOutbound w q
+    → IsInFlight w (λ k. (slot_at w k).acknowledged) w.taken (length w.slots - w.taken) q.inflight.chunks
 in-flight-first w q t = t.in_flight
 
 -- what is acknowledged may be told by another test that agrees
-pub in-flight-same : (w : LinkRecord) (s t : ℕ → Bool) (from count : ℕ) (cs : List ChunkPayloadData) → ((k : ℕ) → from ≤ k → k < from + count → s k ≡ t k) → IsInFlight w s from count cs → IsInFlight w t from count cs
-in-flight-same w s t from count cs same e = e ∙ map-kept-same (λ k. sending_by w (s k) k) (λ k. sending_by w (t k) k) always always from count (λ k a b. refl) (λ k a b p. ap (λ b. sending_by w b k) (same k a b))
+pub in-flight-same : (w : LinkRecord) (s t : ℕ → Bool) (from count : ℕ) (cs : List ChunkPayloadData) → ((k : ℕ) → from ≤ k → k < from + count → s k ≡ t k)
+    → IsInFlight w s from count cs → IsInFlight w t from count cs
+in-flight-same w s t from count cs same e = e ∙ map-kept-same (λ k. sending_by w (s k) k) (λ k. sending_by w (t k) k) always always from count (λ k a b. refl)
+    (λ k a b p. ap (λ b. sending_by w b k) (same k a b))

@@ -14,8 +14,10 @@ use Rattle.sctp_data.specs.ChunkSet.{fresh}
 use Rattle.sctp_outbound.specs.outbound_queue.OutboundQueue.{Outbound}
 use Rattle.sctp_outbound.specs.declared.pending_queue.Selected.{Selected}
 use Rattle.sctp_model.specs.LinkRecord.{LinkRecord, Setup, Message, Slot}
-use Rattle.sctp_model.specs.Messages.{message_at, slot_at, message_of, messages_where, no_message, no_slot, is_ordered_on, ordered_before, ssn_of, fragment_count, has_fragment, sent_of, is_partially_sent, deadline_from}
-use Rattle.sctp_model.specs.Changes.{mark_arrived, mark_read, stream_changed, with_complete, becomes_complete, skip_counts, named_by, receive_slot, receive_skip, read_of, note_completion}
+use Rattle.sctp_model.specs.Messages.{message_at, slot_at, message_of, messages_where, no_message, no_slot, is_ordered_on, ordered_before, ssn_of}
+use Rattle.sctp_model.specs.Messages.{fragment_count, has_fragment, sent_of, is_partially_sent, deadline_from}
+use Rattle.sctp_model.specs.Changes.{mark_arrived, mark_read, stream_changed, with_complete, becomes_complete, skip_counts, named_by, receive_slot}
+use Rattle.sctp_model.specs.Changes.{receive_skip, read_of, note_completion}
 use Rattle.sctp_model.specs.Receiver.{is_new}
 use Rattle.sctp_refinement.specs.Refines.{waiting_at, waiting_of, waiting_where, selected_of, RefinesOutbound, Sending, unless_gone, sending_at}
 use Rattle.sctp_refinement.proofs.sending.Waiting.{gathered-same}
@@ -72,7 +74,8 @@ sending_by s m ssn x p = record {
 
 module _ (w v : LinkRecord) (s : SameToSender w v) where
   before-same : (t n : ℕ) → ordered_before v t n ≡ ordered_before w t n
-  before-same t n = ap length (kept-same (is_ordered_on v t) (is_ordered_on w t) 0 n (λ k a b. ap (λ m. (m.stream == t) && (m.ordered && not m.expired)) (s.message k)))
+  before-same t n =
+      ap length (kept-same (is_ordered_on v t) (is_ordered_on w t) 0 n (λ k a b. ap (λ m. (m.stream == t) && (m.ordered && not m.expired)) (s.message k)))
 
   ssn-same : (n : ℕ) → ssn_of v n ≡ ssn_of w n
   ssn-same n =
@@ -96,21 +99,25 @@ module _ (w v : LinkRecord) (s : SameToSender w v) where
       ∙ ap (λ x. sending_by w.setup (unread (message_at w (message_of w p))) (ssn_of w (message_of w p)) x p) (s.slot p)
 
   sent-same : (n : ℕ) → sent_of v n ≡ sent_of w n
-  sent-same n = ap (λ c. length (numbers_where (has_fragment v n) 0 c)) s.slots ∙ ap length (kept-same (has_fragment v n) (has_fragment w n) 0 (length w.slots) (λ k a b. ap (λ x. (x.message == n) && not x.is_terminal_chunk) (s.slot k)))
+  sent-same n = ap (λ c. length (numbers_where (has_fragment v n) 0 c)) s.slots ∙ ap length
+      (kept-same (has_fragment v n) (has_fragment w n) 0 (length w.slots) (λ k a b. ap (λ x. (x.message == n) && not x.is_terminal_chunk) (s.slot k)))
 
   count-same : (n : ℕ) → fragment_count v n ≡ fragment_count w n
-  count-same n = ap (λ m. length (pieces (length m.bytes) v.setup.size m.bytes)) (s.message n) ∙ ap (λ t. length (pieces (length (message_at w n).bytes) t.size (message_at w n).bytes)) s.setup
+  count-same n = ap (λ m. length (pieces (length m.bytes) v.setup.size m.bytes)) (s.message n)
+      ∙ ap (λ t. length (pieces (length (message_at w n).bytes) t.size (message_at w n).bytes)) s.setup
 
   waiting_of-same : (n : ℕ) → waiting_of v n ≡ waiting_of w n
   waiting_of-same n =
       ap (λ c. map (waiting_at v n) (numbers_from c (fragment_count v n - c))) (sent-same n)
       ∙ ap (λ c. map (waiting_at v n) (numbers_from (sent_of w n) (c - sent_of w n))) (count-same n)
-      ∙ map-kept-same (waiting_at v n) (waiting_at w n) always always (sent_of w n) (fragment_count w n - sent_of w n) (λ k a b. refl) (λ k a b e. waiting_at-same n k)
+      ∙ map-kept-same (waiting_at v n) (waiting_at w n) always always (sent_of w n) (fragment_count w n - sent_of w n) (λ k a b. refl)
+      (λ k a b e. waiting_at-same n k)
 
   where-same : (t : Message → Bool) → waiting_where v (λ n. t (unread (message_at v n))) ≡ waiting_where w (λ n. t (unread (message_at w n)))
   where-same t =
       ap (λ c. flat_map (waiting_of v) (numbers_where (λ n. t (unread (message_at v n))) 0 c)) s.count
-      ∙ gathered-same (waiting_of v) (waiting_of w) (λ n. t (unread (message_at v n))) (λ n. t (unread (message_at w n))) 0 (length w.messages) (λ k a b. ap t (s.message k)) (λ k a b e. waiting_of-same k)
+      ∙ gathered-same (waiting_of v) (waiting_of w) (λ n. t (unread (message_at v n))) (λ n. t (unread (message_at w n))) 0 (length w.messages)
+      (λ k a b. ap t (s.message k)) (λ k a b e. waiting_of-same k)
 
   half-same : messages_where v (is_partially_sent v) ≡ messages_where w (is_partially_sent w)
   half-same =
@@ -132,7 +139,8 @@ module _ (w v : LinkRecord) (s : SameToSender w v) where
       unordered = t.pending.unordered ∙ sym (where-same (λ m. not m.ordered && not (m.expired || m.abandoned)));
       selected = t.pending.selected ∙ sym (ap (λ l. selected_of v (first_of l)) half-same ∙ selected-same (first_of (messages_where w (is_partially_sent w))));
     };
-    in_flight = t.in_flight ∙ sym (ap (λ c. map (sending_at v) (numbers_from c (length v.slots - c))) s.taken ∙ ap (λ c. map (sending_at v) (numbers_from w.taken (c - w.taken))) s.slots
+    in_flight = t.in_flight ∙ sym (ap (λ c. map (sending_at v) (numbers_from c (length v.slots - c))) s.taken
+        ∙ ap (λ c. map (sending_at v) (numbers_from w.taken (c - w.taken))) s.slots
         ∙ map-kept-same (sending_at v) (sending_at w) always always w.taken (length w.slots - w.taken) (λ k a b. refl) (λ k a b e. sending-same k));
     next = t.next ∙ sym s.count;
     unstarted = λ n lt. ap (λ m. is_some m.started) (s.message n) ∙ t.unstarted n (omega (arith, lt, s.count));
@@ -178,8 +186,11 @@ same-slot w p = by (is_new w p)
     by : (b : Bool) → SameToSender w (if b then note_completion (with_arrived w p) (message_of w p) else record w { duplicates = w.duplicates ++ p ∷ [] })
     by true = complete (becomes_complete (with_arrived w p) (message_of w p))
       where
-        complete : (b : Bool) → SameToSender w (if b then stream_changed (with_arrived w p) (message_at w (message_of w p)).stream (with_complete (message_of w p)) else with_arrived w p)
-        complete true = same-then w (with_arrived w p) (stream_changed (with_arrived w p) (message_at w (message_of w p)).stream (with_complete (message_of w p))) (same-arrived w p) (same-self (with_arrived w p) (stream_changed (with_arrived w p) (message_at w (message_of w p)).stream (with_complete (message_of w p))) refl refl refl refl)
+        complete : (b : Bool) → SameToSender w (if b
+            then stream_changed (with_arrived w p) (message_at w (message_of w p)).stream (with_complete (message_of w p)) else with_arrived w p)
+        complete true = same-then w (with_arrived w p)
+            (stream_changed (with_arrived w p) (message_at w (message_of w p)).stream (with_complete (message_of w p))) (same-arrived w p) (same-self
+            (with_arrived w p) (stream_changed (with_arrived w p) (message_at w (message_of w p)).stream (with_complete (message_of w p))) refl refl refl refl)
         complete false = same-arrived w p
     by false = same-self w (record w { duplicates = w.duplicates ++ p ∷ [] }) refl refl refl refl
 

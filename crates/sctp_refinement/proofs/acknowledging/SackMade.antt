@@ -14,7 +14,8 @@ use Rattle.sctp_refinement.proofs.acknowledging.QuietSender.{outbound-same, same
 use Rattle.sctp_serial.specs.DataChunks.{tsns}
 
 -- its gap blocks are the first that fit of those that the queue tells
-pub blocks-are : (w : LinkRecord) (credit : ℕ) (cs : List ChunkPayloadData) → w.skipped ≤ length w.slots → length w.slots < 2 ^ 31 → tsns cs ≡ (seen_of w).held → (report_of w credit).blocks ≡ take 16379 (runs_of (gap_offsets (seen_of w).cum cs))
+pub blocks-are : (w : LinkRecord) (credit : ℕ) (cs : List ChunkPayloadData) → w.skipped ≤ length w.slots → length w.slots < 2 ^ 31 → tsns cs ≡ (seen_of w).held
+    → (report_of w credit).blocks ≡ take 16379 (runs_of (gap_offsets (seen_of w).cum cs))
 blocks-are w credit cs made few held = ap (λ ds. take 16379 (runs_of ds)) (sym (distances-is w cs made few held))
 
 pub reported-outbound : (w : LinkRecord) (credit : ℕ) (q : Outbound) → RefinesOutbound w q → RefinesOutbound (after_ack w credit) q

@@ -1,5 +1,6 @@
 -- The bytes that the queue in flight holds are those that the record says.
-use Rattle.std.proofs.Common.{◌≡◌, ℕ, zero, suc, ◌+◌, ◌-◌, ◌<◌, ◌≤◌, Bool, true, false, List, [], ◌∷◌, length, Option, Some, None, refl, ap, sym, ◌∙◌, inl, inr, arith}
+use Rattle.std.proofs.Common.{◌≡◌, ℕ, zero, suc, ◌+◌, ◌-◌, ◌<◌, ◌≤◌, Bool, true, false, List, [], ◌∷◌, length, Option, Some, None, refl, ap, sym, ◌∙◌, inl, inr}
+use Rattle.std.proofs.Common.{arith}
 use Rattle.std.specs.Prelude.{◌⊎◌, if◌then◌else◌, ◌==◌, ◌||◌, not, nat_lt, max, slice_get}
 use Rattle.std.proofs.lemmas.Bool.{cases_lt}
 use Rattle.std.proofs.lemmas.Bool.Decides.{nat_tests}
@@ -38,7 +39,8 @@ use Rattle.sctp_refinement.proofs.sending.InFlight.{head_of, tail_of}
 -- ## A chunk
 
 -- the payload of a slot in flight is what the slot holds, nothing where it is acknowledged
-pub payload-bytes : (w : LinkRecord) (acked : Bool) (p : ℕ) → Sender (shape w) → p < length w.slots → length (sending_by w acked p).chunk.payload ≡ (if acked then 0 else bytes_at w p)
+pub payload-bytes : (w : LinkRecord) (acked : Bool) (p : ℕ) → Sender (shape w) → p < length w.slots
+    → length (sending_by w acked p).chunk.payload ≡ (if acked then 0 else bytes_at w p)
 payload-bytes w true p s lt = refl
 payload-bytes w false p s lt =
     by (slot_at w p).is_terminal_chunk (message_at w (message_of w p)).expired (message_at w (message_of w p)).abandoned (chunk_at w p).user_data
@@ -52,11 +54,13 @@ payload-bytes w false p s lt =
     by false false true bytes e marks = refl
     by false false false bytes e marks = refl
 
-pub chunk-bytes : (w : LinkRecord) (acked : Bool) (p : ℕ) (c : ChunkPayloadData) → Sender (shape w) → p < length w.slots → sending_of c ≡ sending_by w acked p → length c.user_data ≡ (if acked then 0 else bytes_at w p)
+pub chunk-bytes : (w : LinkRecord) (acked : Bool) (p : ℕ) (c : ChunkPayloadData) → Sender (shape w) → p < length w.slots → sending_of c ≡ sending_by w acked p
+    → length c.user_data ≡ (if acked then 0 else bytes_at w p)
 chunk-bytes w acked p c s lt e = ap (λ x. length x.chunk.payload) e ∙ payload-bytes w acked p s lt
 
 -- what a chunk in flight has of stream t, by the chunk and by the record
-pub chunk-on : (w : LinkRecord) (acked : Bool) (p t : ℕ) (c : ChunkPayloadData) → Sender (shape w) → p < length w.slots → sending_of c ≡ sending_by w acked p → (if c.stream_identifier == t then length c.user_data else 0) ≡ (if stream_of_slot w p == t then (if acked then 0 else bytes_at w p) else 0)
+pub chunk-on : (w : LinkRecord) (acked : Bool) (p t : ℕ) (c : ChunkPayloadData) → Sender (shape w) → p < length w.slots → sending_of c ≡ sending_by w acked p
+    → (if c.stream_identifier == t then length c.user_data else 0) ≡ (if stream_of_slot w p == t then (if acked then 0 else bytes_at w p) else 0)
 chunk-on w acked p t c s lt e =
     ap (λ x. if x.stream == t then length c.user_data else 0) e
     ∙ ap (λ k. if stream_of_slot w p == t then k else 0) (chunk-bytes w acked p c s lt e)
@@ -66,7 +70,8 @@ chunk-on w acked p t c s lt e =
 abbrev size : ChunkPayloadData → ℕ
 size c = length c.user_data
 
-bytes-by_slot : (w : LinkRecord) (acked : ℕ → Bool) → Sender (shape w) → (cs : List ChunkPayloadData) (from count : ℕ) → from + count ≤ length w.slots → IsInFlight w acked from count cs → bytes_of cs ≡ total_over (λ p. if acked p then 0 else bytes_at w p) (numbers_where always from count)
+bytes-by_slot : (w : LinkRecord) (acked : ℕ → Bool) → Sender (shape w) → (cs : List ChunkPayloadData) (from count : ℕ) → from + count ≤ length w.slots
+    → IsInFlight w acked from count cs → bytes_of cs ≡ total_over (λ p. if acked p then 0 else bytes_at w p) (numbers_where always from count)
 bytes-by_slot w acked s [] from zero le e = refl
 bytes-by_slot w acked s [] from (suc count) le e = cc
 bytes-by_slot w acked s (c ∷ cs) from zero le e = cc
@@ -76,7 +81,8 @@ bytes-by_slot w acked s (c ∷ cs) from (suc count) le e =
     ∙ ap (λ t. (if acked from then 0 else bytes_at w from) + t) (bytes-by_slot w acked s cs (from + 1) count (omega (arith, le)) (ap tail_of e))
 
 -- the queue holds the bytes that are not acknowledged, where each slot before its first is
-pub bytes-unacked : (w : LinkRecord) (acked : ℕ → Bool) (cs : List ChunkPayloadData) (from : ℕ) → Sender (shape w) → from ≤ length w.slots → ((p : ℕ) → p < from → acked p ≡ true) → IsInFlight w acked from (length w.slots - from) cs → bytes_of cs ≡ bytes_but_for w acked
+pub bytes-unacked : (w : LinkRecord) (acked : ℕ → Bool) (cs : List ChunkPayloadData) (from : ℕ) → Sender (shape w) → from ≤ length w.slots
+    → ((p : ℕ) → p < from → acked p ≡ true) → IsInFlight w acked from (length w.slots - from) cs → bytes_of cs ≡ bytes_but_for w acked
 bytes-unacked w acked cs from s le before e =
     let f : ℕ → ℕ = λ p. if acked p then 0 else bytes_at w p in
     let queue = bytes-by_slot w acked s cs from (length w.slots - from) (omega (arith, le)) e in
@@ -104,7 +110,8 @@ acknowledged-below setup ((E.Acked k, r) ∷ older) p lt = by (slice_get (record
     reported (Some (Forward upto names)) l = absurd (omega arith)
     reported (Some (Sack r)) l = let z : nat_lt p r.cumulative ≡ true = grind (arith, nat_tests) in or-left (nat_lt p r.cumulative) _ z
 
-    by : (o : Option Datagram) → (p < taken_in setup older → is_acknowledged_in setup older p ≡ true) → p < max (taken_in setup older) (cumulative_in o) → (is_acknowledged_in setup older p || reported_by o p) ≡ true
+    by : (o : Option Datagram) → (p < taken_in setup older → is_acknowledged_in setup older p ≡ true) → p < max (taken_in setup older) (cumulative_in o)
+        → (is_acknowledged_in setup older p || reported_by o p) ≡ true
     by o ih l = split (cases_lt p (taken_in setup older))
       where
         split : (p < taken_in setup older) ⊎ (taken_in setup older ≤ p) → (is_acknowledged_in setup older p || reported_by o p) ≡ true
@@ -126,22 +133,27 @@ acknowledged-below setup ((E.Arrive a, r) ∷ older) p lt = acknowledged-below s
 acknowledged-below setup ((E.Read a, r) ∷ older) p lt = acknowledged-below setup older p lt
 
 -- what is acknowledged cumulatively is acknowledged
-pub taken-acknowledged : (setup : Setup) (h : History) → IsSetup setup → IsRun setup h → (p : ℕ) → p < (record_of setup h).taken → acknowledged_at (record_of setup h) p ≡ true
+pub taken-acknowledged : (setup : Setup) (h : History) → IsSetup setup → IsRun setup h → (p : ℕ) → p < (record_of setup h).taken
+    → acknowledged_at (record_of setup h) p ≡ true
 taken-acknowledged setup h is run p lt =
     let a = acknowledged_is_reported setup h is run in
     a.0 p (omega (arith, lt, taken-run setup h is run)) ∙ acknowledged-below setup h p (omega (arith, lt, a.1))
 
-pub in-flight-bytes : (setup : Setup) (h : History) → IsSetup setup → IsRun setup h → (q : Outbound) → RefinesOutbound (record_of setup h) q → bytes_of q.inflight.chunks ≡ in_all (record_of setup h) (in_flight_bytes (record_of setup h))
+pub in-flight-bytes : (setup : Setup) (h : History) → IsSetup setup → IsRun setup h → (q : Outbound) → RefinesOutbound (record_of setup h) q
+    → bytes_of q.inflight.chunks ≡ in_all (record_of setup h) (in_flight_bytes (record_of setup h))
 in-flight-bytes setup h is run q t =
     let w = record_of setup h in
     let s = (sane-run setup h run).sender in
-    bytes-unacked w (acknowledged_at w) q.inflight.chunks w.taken s (taken-run setup h is run) (taken-acknowledged setup h is run) (in-flight-first w q t) ∙ sym (in-flight-in w s)
+    bytes-unacked w (acknowledged_at w) q.inflight.chunks w.taken s (taken-run setup h is run) (taken-acknowledged setup h is run) (in-flight-first w q t)
+    ∙ sym (in-flight-in w s)
 
 -- the four sums, by what was written and what the queues hold
 abbrev pub ledger_by : ℕ → ℕ → ℕ → Ledger
 ledger_by written pending in_flight = record { written = written; pending = pending; in_flight = in_flight; released = written - pending - in_flight }
 
-pub ledger-is : (setup : Setup) (h : History) → IsSetup setup → IsRun setup h → (q : Outbound) → RefinesOutbound (record_of setup h) q → ledger (record_of setup h) ≡ ledger_by (in_all (record_of setup h) (written_bytes (record_of setup h))) (total_bytes q.pending) (bytes_of q.inflight.chunks)
+pub ledger-is : (setup : Setup) (h : History) → IsSetup setup → IsRun setup h → (q : Outbound) → RefinesOutbound (record_of setup h) q
+    → ledger (record_of setup h) ≡ ledger_by (in_all (record_of setup h) (written_bytes (record_of setup h))) (total_bytes q.pending)
+    (bytes_of q.inflight.chunks)
 ledger-is setup h is run q t =
     let w = record_of setup h in
     let f = in-flight-bytes setup h is run q t in
@@ -158,9 +170,11 @@ ledger-is setup h is run q t =
 -- ## A SACK is taken
 
 -- what it acknowledges cumulatively is acknowledged then, with what was before
-pub then-below : (w : LinkRecord) (r : Report) (p : ℕ) → ((k : ℕ) → k < w.taken → acknowledged_at w k ≡ true) → p < max w.taken r.cumulative → acknowledged_then w r p ≡ true
+pub then-below : (w : LinkRecord) (r : Report) (p : ℕ) → ((k : ℕ) → k < w.taken → acknowledged_at w k ≡ true) → p < max w.taken r.cumulative
+    → acknowledged_then w r p ≡ true
 then-below w r p before lt = by (cases_lt p w.taken)
   where
     by : (p < w.taken) ⊎ (w.taken ≤ p) → acknowledged_then w r p ≡ true
     by (inl l) = or-left (acknowledged_at w p) (reports r p) (before p l)
-    by (inr g) = let low : p < r.cumulative = omega (arith, lt, g) in let z : nat_lt p r.cumulative ≡ true = grind (arith, nat_tests) in or-right (acknowledged_at w p) (reports r p) (or-left (nat_lt p r.cumulative) _ z)
+    by (inr g) = let low : p < r.cumulative = omega (arith, lt, g) in let z : nat_lt p r.cumulative ≡ true = grind (arith, nat_tests) in
+        or-right (acknowledged_at w p) (reports r p) (or-left (nat_lt p r.cumulative) _ z)

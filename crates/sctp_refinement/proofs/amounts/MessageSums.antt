@@ -16,7 +16,8 @@ sum_where w q f = total_over (λ n. f (message_at w n)) (messages_where w (λ n.
 abbrev pub is_on : ℕ → Message → Bool
 is_on t m = m.stream == t
 
-pub sum-written : (w : LinkRecord) (m : Message) (q : Message → Bool) (f : Message → ℕ) → sum_where (with_message w m) q f ≡ sum_where w q f + (if q m then f m else 0)
+pub sum-written : (w : LinkRecord) (m : Message) (q : Message → Bool) (f : Message → ℕ)
+    → sum_where (with_message w m) q f ≡ sum_where w q f + (if q m then f m else 0)
 sum-written w m q f =
     let v = with_message w m in
     let t : ℕ → Bool = λ n. q (message_at v n) in
@@ -25,15 +26,20 @@ sum-written w m q f =
     ap (λ c. total_over g (numbers_where t 0 c)) count
     ∙ ap (total_over g) (kept-snoc t 0 (length w.messages) (length w.messages) (omega arith))
     ∙ total-append g (numbers_where t 0 (length w.messages)) (if t (length w.messages) then length w.messages ∷ [] else [])
-    ∙ ap (λ k. k + total_over g (if t (length w.messages) then length w.messages ∷ [] else [])) (total-kept_same g (λ n. f (message_at w n)) t 0 (length w.messages) (λ k a b. ap f (message-before w m k (omega arith))) ∙ ap (total_over (λ n. f (message_at w n))) (kept-same t (λ n. q (message_at w n)) 0 (length w.messages) (λ k a b. ap q (message-before w m k (omega arith)))))
+    ∙ ap (λ k. k + total_over g (if t (length w.messages) then length w.messages ∷ [] else []))
+    (total-kept_same g (λ n. f (message_at w n)) t 0 (length w.messages) (λ k a b. ap f (message-before w m k (omega arith))) ∙ ap (total_over
+    (λ n. f (message_at w n))) (kept-same t (λ n. q (message_at w n)) 0 (length w.messages) (λ k a b. ap q (message-before w m k (omega arith)))))
     ∙ ap (λ k. sum_where w q f + k) (last (t (length w.messages)) ∙ ap (λ y. if q y then f y else 0) (message-last w m))
   where
-    last : (b : Bool) → total_over (λ n. f (message_at (with_message w m) n)) (if b then length w.messages ∷ [] else []) ≡ (if b then f (message_at (with_message w m) (length w.messages)) else 0)
+    last : (b : Bool) → total_over (λ n. f (message_at (with_message w m) n))
+        (if b then length w.messages ∷ [] else []) ≡ (if b then f (message_at (with_message w m) (length w.messages)) else 0)
     last true = omega arith
     last false = refl
 
-pub sum-same : (w v : LinkRecord) (q : Message → Bool) (f : Message → ℕ) → length v.messages ≡ length w.messages → ((n : ℕ) → n < length w.messages → q (message_at v n) ≡ q (message_at w n)) → ((n : ℕ) → n < length w.messages → f (message_at v n) ≡ f (message_at w n)) → sum_where v q f ≡ sum_where w q f
+pub sum-same : (w v : LinkRecord) (q : Message → Bool) (f : Message → ℕ) → length v.messages ≡ length w.messages → ((n : ℕ) → n < length w.messages
+    → q (message_at v n) ≡ q (message_at w n)) → ((n : ℕ) → n < length w.messages → f (message_at v n) ≡ f (message_at w n)) → sum_where v q f ≡ sum_where w q f
 sum-same w v q f count qs fs =
     ap (λ c. total_over (λ n. f (message_at v n)) (numbers_where (λ n. q (message_at v n)) 0 c)) count
     ∙ total-kept_same (λ n. f (message_at v n)) (λ n. f (message_at w n)) (λ n. q (message_at v n)) 0 (length w.messages) (λ k a b. fs k (omega arith))
-    ∙ ap (total_over (λ n. f (message_at w n))) (kept-same (λ n. q (message_at v n)) (λ n. q (message_at w n)) 0 (length w.messages) (λ k a b. qs k (omega arith)))
+    ∙ ap (total_over (λ n. f (message_at w n)))
+    (kept-same (λ n. q (message_at v n)) (λ n. q (message_at w n)) 0 (length w.messages) (λ k a b. qs k (omega arith)))

@@ -28,7 +28,8 @@ all-both : (t : Shown → Bool) (xs ys : List Shown) → list_all t xs ≡ true 
 all-both t [] ys a b = b
 all-both t (x ∷ xs) ys a b = let c = both (t x) (list_all t xs) a in and (t x) (list_all t (xs ++ ys)) c.0 (all-both t xs ys c.1 b)
 
-all-at : (t : Shown → Bool) (f : ℕ → Shown) (n from count : ℕ) → from ≤ n → n < from + count → list_all t (map f (numbers_where always from count)) ≡ true → t (f n) ≡ true
+all-at : (t : Shown → Bool) (f : ℕ → Shown) (n from count : ℕ) → from ≤ n → n < from + count → list_all t (map f (numbers_where always from count)) ≡ true
+    → t (f n) ≡ true
 all-at t f n from zero low high a = absurd (omega arith)
 all-at t f n from (suc count) low high a =
     let c = both (t (f from)) (list_all t (map f (numbers_where always (from + 1) count))) a in
@@ -39,20 +40,25 @@ all-at t f n from (suc count) low high a =
     by (inr l) here rest = rest (omega arith)
 
 -- an accepted write is no longer
-fits-write : (w : LinkRecord) (s : ℕ) (ppi : PayloadProtocolIdentifier) (bytes : List ℕ) → refusal_of w (E.Write s ppi bytes) ≡ None → nat_le (length bytes) w.setup.largest ≡ true
+fits-write : (w : LinkRecord) (s : ℕ) (ppi : PayloadProtocolIdentifier) (bytes : List ℕ) → refusal_of w (E.Write s ppi bytes) ≡ None
+    → nat_le (length bytes) w.setup.largest ≡ true
 fits-write w s ppi bytes ok =
-    let first = unless-holds (Messages.is_open w s) StreamUnknown (unless (nat_le (length bytes) w.setup.largest) MessageTooLarge (unless (nat_lt (fragments_accepted w + fragments_in w bytes) (2 ^ 31)) TsnsUsedUp None)) ok in
-    (unless-holds (nat_le (length bytes) w.setup.largest) MessageTooLarge (unless (nat_lt (fragments_accepted w + fragments_in w bytes) (2 ^ 31)) TsnsUsedUp None) first.1).0
+    let first = unless-holds (Messages.is_open w s) StreamUnknown (unless (nat_le (length bytes) w.setup.largest) MessageTooLarge
+    (unless (nat_lt (fragments_accepted w + fragments_in w bytes) (2 ^ 31)) TsnsUsedUp None)) ok in
+    (unless-holds (nat_le (length bytes) w.setup.largest) MessageTooLarge
+    (unless (nat_lt (fragments_accepted w + fragments_in w bytes) (2 ^ 31)) TsnsUsedUp None) first.1).0
 
 writes-short : (setup : Setup) (h : History) → IsRun setup h → list_all (short setup.largest) (writes_in h) ≡ true
 writes-short setup [] run = refl
 writes-short setup (entry ∷ older) run = step entry.0 entry.1 run.0 (writes-short setup older run.1.1)
   where
-    step : (e : Event) (r : Reply) → refusal_of (record_of setup older) e ≡ None → list_all (short setup.largest) (writes_in older) ≡ true → list_all (short setup.largest) (writes_in ((e, r) ∷ older)) ≡ true
+    step : (e : Event) (r : Reply) → refusal_of (record_of setup older) e ≡ None → list_all (short setup.largest) (writes_in older) ≡ true
+        → list_all (short setup.largest) (writes_in ((e, r) ∷ older)) ≡ true
     step (E.Write s ppi []) r ok ih = ih
     step (E.Write s ppi (b ∷ bs)) r ok ih =
         let last : Shown = (s, ppi, b ∷ bs) in
-        let one : short setup.largest last ≡ true = ap (λ x. nat_le (length (b ∷ bs)) x.largest) (sym (sane-run setup older run.1.1).setup_is) ∙ fits-write (record_of setup older) s ppi (b ∷ bs) ok in
+        let one : short setup.largest last ≡ true = ap (λ x. nat_le (length (b ∷ bs)) x.largest) (sym (sane-run setup older run.1.1).setup_is)
+        ∙ fits-write (record_of setup older) s ppi (b ∷ bs) ok in
         all-both (short setup.largest) (writes_in older) (last ∷ []) ih (and (short setup.largest last) true one refl)
     step (E.Open s) r ok ih = ih
     step (E.Mode s u v x) r ok ih = ih
@@ -70,7 +76,8 @@ writes-short setup (entry ∷ older) run = step entry.0 entry.1 run.0 (writes-sh
     step (E.Read s) r ok ih = ih
 
 -- no message is longer than the longest taken
-pub no-larger : (setup : Setup) (h : History) (n : ℕ) → IsSetup setup → IsRun setup h → n < length (record_of setup h).messages → length (message_at (record_of setup h) n).bytes ≤ setup.largest
+pub no-larger : (setup : Setup) (h : History) (n : ℕ) → IsSetup setup → IsRun setup h → n < length (record_of setup h).messages
+    → length (message_at (record_of setup h) n).bytes ≤ setup.largest
 no-larger setup h n is run lt =
     let w = record_of setup h in
     let all = ap (list_all (short setup.largest)) (messages_are_writes setup h is run) ∙ writes-short setup h run in

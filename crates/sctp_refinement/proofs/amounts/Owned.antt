@@ -7,7 +7,9 @@ use Rattle.sctp_list_lemmas.proofs.More.{fails}
 use Rattle.sctp_list_lemmas.proofs.Totals.{total-none, total-one, total-plus}
 
 -- the sum over the owners of what is theirs is the sum over all
-pub total-owned : (owner : ℕ → ℕ) (f : ℕ → ℕ → ℕ) (owners from count : ℕ) → ((p : ℕ) → from ≤ p → p < from + count → owner p < owners) → total_over (λ n. total_over (λ p. if owner p == n then f n p else 0) (numbers_where always from count)) (numbers_where always 0 owners) ≡ total_over (λ p. f (owner p) p) (numbers_where always from count)
+pub total-owned : (owner : ℕ → ℕ) (f : ℕ → ℕ → ℕ) (owners from count : ℕ) → ((p : ℕ) → from ≤ p → p < from + count → owner p < owners)
+    → total_over (λ n. total_over (λ p. if owner p == n then f n p else 0) (numbers_where always from count))
+    (numbers_where always 0 owners) ≡ total_over (λ p. f (owner p) p) (numbers_where always from count)
 total-owned owner f owners from zero below = total-none (λ n. 0) 0 owners (λ k a b. refl)
 total-owned owner f owners from (suc count) below =
     let here : ℕ → ℕ = λ n. if owner from == n then f n from else 0 in

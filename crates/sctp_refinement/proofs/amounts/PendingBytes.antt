@@ -30,9 +30,12 @@ bytes-gathered w (n ∷ ns) =
 pub pending-bytes : (w : LinkRecord) (q : Pending) → RefinesPending w q → total_bytes q ≡ in_all w (pending_bytes w)
 pending-bytes w q t =
     ap (λ l. bytes_of l + bytes_of q.unordered) t.ordered ∙ ap (λ l. bytes_of (waiting_where w (waits_ordered w)) + bytes_of l) t.unordered
-    ∙ ap (λ k. k + bytes_of (waiting_where w (waits_unordered w))) (bytes-gathered w (messages_where w (waits_ordered w)) ∙ total-where (unsent_bytes w) (waits_ordered w) 0 (length w.messages))
-    ∙ ap (λ k. total_over (λ n. if waits_ordered w n then unsent_bytes w n else 0) (numbers_where always 0 (length w.messages)) + k) (bytes-gathered w (messages_where w (waits_unordered w)) ∙ total-where (unsent_bytes w) (waits_unordered w) 0 (length w.messages))
-    ∙ total-plus (λ n. if waits_ordered w n then unsent_bytes w n else 0) (λ n. if waits_unordered w n then unsent_bytes w n else 0) (pending_bytes w) always 0 (length w.messages) (λ n a b. each (message_at w n).ordered (is_expired_or_abandoned w n) (unsent_bytes w n))
+    ∙ ap (λ k. k + bytes_of (waiting_where w (waits_unordered w)))
+    (bytes-gathered w (messages_where w (waits_ordered w)) ∙ total-where (unsent_bytes w) (waits_ordered w) 0 (length w.messages))
+    ∙ ap (λ k. total_over (λ n. if waits_ordered w n then unsent_bytes w n else 0) (numbers_where always 0 (length w.messages)) + k)
+    (bytes-gathered w (messages_where w (waits_unordered w)) ∙ total-where (unsent_bytes w) (waits_unordered w) 0 (length w.messages))
+    ∙ total-plus (λ n. if waits_ordered w n then unsent_bytes w n else 0) (λ n. if waits_unordered w n then unsent_bytes w n else 0)
+    (pending_bytes w) always 0 (length w.messages) (λ n a b. each (message_at w n).ordered (is_expired_or_abandoned w n) (unsent_bytes w n))
   where
     each : (o g : Bool) (k : ℕ) → (if o && not g then k else 0) + (if not o && not g then k else 0) ≡ (if g then 0 else k)
     each true true k = refl

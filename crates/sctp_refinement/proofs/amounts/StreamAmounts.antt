@@ -16,7 +16,8 @@ use Rattle.sctp_model.specs.declared.event.LinkRefusal.TheVariants.{StreamUnknow
 use Rattle.sctp_model.specs.LinkRecord.{Setup, StreamRecord, Message, LinkRecord}
 use Rattle.sctp_model.specs.Messages.{message_at, slot_at, message_of, messages_where, slots_where, is_open, stream_of, no_stream, no_message, front}
 use Rattle.sctp_model.specs.Receiver.{next_read}
-use Rattle.sctp_model.specs.Amounts.{is_expired_or_abandoned, written_bytes, unsent_bytes, unacknowledged_bytes, acknowledged_bytes, pending_bytes, in_flight_bytes}
+use Rattle.sctp_model.specs.Amounts.{is_expired_or_abandoned, written_bytes, unsent_bytes, unacknowledged_bytes, acknowledged_bytes, pending_bytes}
+use Rattle.sctp_model.specs.Amounts.{in_flight_bytes}
 use Rattle.sctp_model.specs.Changes
 use Rattle.sctp_model.specs.Changes.{message_on, after_write}
 use Rattle.sctp_model.specs.Steps.{refusal_of, after, unless, fragments_accepted, fragments_in}
@@ -50,13 +51,15 @@ amount-rest w t s pos =
     let q : ℕ → Bool = λ n. (message_at w n).stream == t in
     let two : ℕ → ℕ = λ n. pending_bytes w n + in_flight_bytes w n in
     let a = total-plus (pending_bytes w) (in_flight_bytes w) two q 0 (length w.messages) (λ n i j. refl) in
-    let b = total-plus two (bytes_where w (acknowledged_at w)) (λ n. alive_bytes (message_at w n)) q 0 (length w.messages) (λ n i j. each n (is_expired_or_abandoned w n) (balance w n s pos (omega arith))) in
+    let b = total-plus two (bytes_where w (acknowledged_at w)) (λ n. alive_bytes (message_at w n)) q 0 (length w.messages)
+    (λ n i j. each n (is_expired_or_abandoned w n) (balance w n s pos (omega arith))) in
     let c = bytes-by_slot w q (acknowledged_at w) s in
     omega (arith, a, b, c)
   where
     each : (n : ℕ) (g : Bool)
-        → (if g then 0 else unsent_bytes w n) + (if g then 0 else unacknowledged_bytes w n) + (if g then written_bytes w n else acknowledged_bytes w n) ≡ written_bytes w n
-        → (if g then 0 else unsent_bytes w n) + (if g then 0 else unacknowledged_bytes w n) + (if g then 0 else acknowledged_bytes w n) ≡ (if g then 0 else written_bytes w n)
+        → (if g then 0 else unsent_bytes w n) + (if g then 0 else unacknowledged_bytes w n) + (if g then written_bytes w n else acknowledged_bytes w n)
+        ≡ written_bytes w n → (if g then 0 else unsent_bytes w n) + (if g then 0 else unacknowledged_bytes w n) + (if g then 0 else acknowledged_bytes w n)
+        ≡ (if g then 0 else written_bytes w n)
     each n true e = refl
     each n false e = e
 
@@ -87,18 +90,22 @@ module _ (w v : LinkRecord) (s : Sender (shape w)) (q : Quiet w v) (gone : SameG
   acked-quiet t =
       let c : ℕ → Bool = λ p. acknowledged_at v p && (stream_of_slot v p == t) in
       let more : length v.slots ≡ length w.slots + (length v.slots - length w.slots) = omega (arith, q.grows.slots) in
-      ap (total_over (bytes_at v)) (kept-short c 0 (length w.slots) (length v.slots - length w.slots) (length v.slots) more (λ k a b. ap (λ d. d && (stream_of_slot v k == t)) (q.fresh k (omega arith) (omega arith))))
+      ap (total_over (bytes_at v)) (kept-short c 0 (length w.slots) (length v.slots - length w.slots) (length v.slots) more
+      (λ k a b. ap (λ d. d && (stream_of_slot v k == t)) (q.fresh k (omega arith) (omega arith))))
       ∙ total-kept_same (bytes_at v) (bytes_at w) c 0 (length w.slots) (λ k a b. bytes_at-quiet k (omega arith))
-      ∙ ap (total_over (bytes_at w)) (kept-same c (λ p. acknowledged_at w p && (stream_of_slot w p == t)) 0 (length w.slots) (λ k a b. ap (λ d. d && (stream_of_slot v k == t)) (q.acknowledged k (omega arith)) ∙ ap (λ r. acknowledged_at w k && (r == t)) (stream-quiet k (omega arith))))
+      ∙ ap (total_over (bytes_at w)) (kept-same c (λ p. acknowledged_at w p && (stream_of_slot w p == t)) 0 (length w.slots) (λ k a b.
+      ap (λ d. d && (stream_of_slot v k == t)) (q.acknowledged k (omega arith)) ∙ ap (λ r. acknowledged_at w k && (r == t)) (stream-quiet k (omega arith))))
 
   alive-quiet : (t : ℕ) → length v.messages ≡ length w.messages → sum_where v (is_on t) alive_bytes ≡ sum_where w (is_on t) alive_bytes
   alive-quiet t count =
       sum-same w v (is_on t) alive_bytes count
       (λ n lt. ap (λ m. m.stream == t) (q.grows.message n lt))
-      (λ n lt. ap (λ b. if b then 0 else length (message_at v n).bytes) (gone n lt) ∙ ap (λ m. if is_expired_or_abandoned w n then 0 else length m.bytes) (q.grows.message n lt))
+      (λ n lt. ap (λ b. if b then 0 else length (message_at v n).bytes) (gone n lt)
+      ∙ ap (λ m. if is_expired_or_abandoned w n then 0 else length m.bytes) (q.grows.message n lt))
 
 -- where the sender gives nothing up and writes nothing, each stream has as much to send or to see acknowledged as before
-pub amount-quiet : (setup : Setup) (w v : LinkRecord) (t : ℕ) → IsSetup setup → Sane setup w → Sane setup v → Quiet w v → SameGone w v → length v.messages ≡ length w.messages → amount v t ≡ amount w t
+pub amount-quiet : (setup : Setup) (w v : LinkRecord) (t : ℕ) → IsSetup setup → Sane setup w → Sane setup v → Quiet w v → SameGone w v
+    → length v.messages ≡ length w.messages → amount v t ≡ amount w t
 amount-quiet setup w v t is g h q gone count =
     let a = amount-rest w t g.sender (size-some setup w is g) in
     let b = amount-rest v t h.sender (size-some setup v is h) in
@@ -122,12 +129,15 @@ stream-open w s e = by (find (λ r. r.stream == s) w.streams) refl e
 
 -- the stream of an accepted write is open
 pub write-open : (w : LinkRecord) (s : ℕ) (ppi : PayloadProtocolIdentifier) (bytes : List ℕ) → refusal_of w (E.Write s ppi bytes) ≡ None → is_open w s ≡ true
-write-open w s ppi bytes ok = (unless-holds (is_open w s) StreamUnknown (unless (nat_le (length bytes) w.setup.largest) MessageTooLarge (unless (nat_lt (fragments_accepted w + fragments_in w bytes) (2 ^ 31)) TsnsUsedUp None)) ok).0
+write-open w s ppi bytes ok = (unless-holds (is_open w s) StreamUnknown (unless (nat_le (length bytes) w.setup.largest) MessageTooLarge
+    (unless (nat_lt (fragments_accepted w + fragments_in w bytes) (2 ^ 31)) TsnsUsedUp None)) ok).0
 
 pub same-turned : (s t : ℕ) → (s == t) ≡ (t == s)
-same-turned s t = by_same s t (λ e. ap (λ k. k == t) e ∙ same-yes t ∙ sym (ap (λ k. t == k) e ∙ same-yes t)) (λ ne f. f ∙ sym (fails (t == s) (λ e. ne (sym (same-is t s e)))))
+same-turned s t = by_same s t (λ e. ap (λ k. k == t) e ∙ same-yes t ∙ sym (ap (λ k. t == k) e ∙ same-yes t))
+    (λ ne f. f ∙ sym (fails (t == s) (λ e. ne (sym (same-is t s e)))))
 
-alive-wrote : (w : LinkRecord) (s t : ℕ) (ppi : PayloadProtocolIdentifier) (bytes : List ℕ) → (stream_of w s).stream ≡ s → sum_where (after_write w s ppi bytes) (is_on t) alive_bytes ≡ sum_where w (is_on t) alive_bytes + (if t == s then length bytes else 0)
+alive-wrote : (w : LinkRecord) (s t : ℕ) (ppi : PayloadProtocolIdentifier) (bytes : List ℕ) → (stream_of w s).stream ≡ s
+    → sum_where (after_write w s ppi bytes) (is_on t) alive_bytes ≡ sum_where w (is_on t) alive_bytes + (if t == s then length bytes else 0)
 alive-wrote w s t ppi [] e = none (t == s) (sum_where w (is_on t) alive_bytes)
   where
     none : (b : Bool) (k : ℕ) → k ≡ k + (if b then 0 else 0)
@@ -139,7 +149,8 @@ alive-wrote w s t ppi (b ∷ bs) e =
     ∙ ap (λ c. sum_where w (is_on t) alive_bytes + (if c then length (b ∷ bs) else 0)) (same-turned s t)
 
 -- a write adds its bytes to its stream
-pub amount-wrote : (setup : Setup) (w : LinkRecord) (s t : ℕ) (ppi : PayloadProtocolIdentifier) (bytes : List ℕ) → IsSetup setup → Sane setup w → refusal_of w (E.Write s ppi bytes) ≡ None → amount (after_write w s ppi bytes) t ≡ amount w t + (if t == s then length bytes else 0)
+pub amount-wrote : (setup : Setup) (w : LinkRecord) (s t : ℕ) (ppi : PayloadProtocolIdentifier) (bytes : List ℕ) → IsSetup setup → Sane setup w
+    → refusal_of w (E.Write s ppi bytes) ≡ None → amount (after_write w s ppi bytes) t ≡ amount w t + (if t == s then length bytes else 0)
 amount-wrote setup w s t ppi bytes is g ok =
     let v = after_write w s ppi bytes in
     let h = sane-after setup w (E.Write s ppi bytes) ok g in
@@ -162,11 +173,14 @@ count-sent w now None = length-mapped (Changes.start_lifetime now) w.messages
 count-sent w now (Some k) = ap length (messages-sent (Changes.after_start w now)) ∙ length-mapped (Changes.start_lifetime now) w.messages
 
 pub amount-sent : (setup : Setup) (w : LinkRecord) (now t : ℕ) → IsSetup setup → Sane setup w → amount (Changes.after_send w now) t ≡ amount w t
-amount-sent setup w now t is g = amount-quiet setup w (Changes.after_send w now) t is g (sane-after setup w (E.Send now) refl g) (Moves.quiet-sent setup w now (front w) g) (gone-sent w now (front w)) (count-sent w now (front w))
+amount-sent setup w now t is g = amount-quiet setup w (Changes.after_send w now) t is g (sane-after setup w (E.Send now) refl g)
+    (Moves.quiet-sent setup w now (front w) g) (gone-sent w now (front w)) (count-sent w now (front w))
 
 -- the amount, over the shape of the record and what is acknowledged
 abbrev in_flight_by : Shape → (ℕ → Bool) → ℕ → ℕ
-in_flight_by x a n = if (x.message n).expired || (x.message n).abandoned then 0 else total_over (λ p. length (get_or (pieces (length (x.message n).bytes) x.size (x.message n).bytes) (x.slot p).fragment [])) (numbers_where (λ p. has x n p && not (a p)) 0 x.slots)
+in_flight_by x a n = if (x.message n).expired || (x.message n).abandoned then 0
+    else total_over (λ p. length (get_or (pieces (length (x.message n).bytes) x.size (x.message n).bytes) (x.slot p).fragment []))
+    (numbers_where (λ p. has x n p && not (a p)) 0 x.slots)
 
 abbrev amount_by : Shape → (ℕ → Bool) → ℕ → ℕ
 amount_by x a t = pending_on_by x t + total_over (in_flight_by x a) (numbers_where (λ n. (x.message n).stream == t) 0 x.count)
@@ -175,7 +189,8 @@ pub amount-shape : (w v : LinkRecord) (t : ℕ) → shape v ≡ shape w → ((p 
 amount-shape w v t e a = ap (λ x. amount_by x (acknowledged_at v) t) e ∙ ap (λ f. amount_by (shape w) f t) (fun_ext a)
 
 -- what is no write, gives nothing up and acknowledges nothing leaves each stream as it was
-pub amount-same : (setup : Setup) (w : LinkRecord) (e : Event) (t : ℕ) → IsSetup setup → Sane setup w → keeps_amounts e ≡ true → amount (after w e) t ≡ amount w t
+pub amount-same : (setup : Setup) (w : LinkRecord) (e : Event) (t : ℕ) → IsSetup setup → Sane setup w → keeps_amounts e ≡ true
+    → amount (after w e) t ≡ amount w t
 amount-same setup w (E.Open s) t is g k = refl
 amount-same setup w (E.Mode s a b c) t is g k = refl
 amount-same setup w (E.Write s a b) t is g k = cc
@@ -188,14 +203,17 @@ amount-same setup w (E.Late a) t is g k = cc
 amount-same setup w (E.Abandon a) t is g k = cc
 amount-same setup w (E.Skip a b) t is g k = refl
 amount-same setup w (E.Ack a) t is g k = refl
-amount-same setup w (E.Arrive a) t is g k = amount-shape w (after w (E.Arrive a)) t (Network.same-received w (slice_get w.network a)).shape_is (as-datagram w (slice_get w.network a)).slots
+amount-same setup w (E.Arrive a) t is g k =
+    amount-shape w (after w (E.Arrive a)) t (Network.same-received w (slice_get w.network a)).shape_is (as-datagram w (slice_get w.network a)).slots
 amount-same setup w (E.Acked a) t is g k = cc
-amount-same setup w (E.Read s) t is g k = amount-shape w (after w (E.Read s)) t (Network.same-read w s (next_read w s)).shape_is (as-read w s (next_read w s)).slots
+amount-same setup w (E.Read s) t is g k =
+    amount-shape w (after w (E.Read s)) t (Network.same-read w s (next_read w s)).shape_is (as-read w s (next_read w s)).slots
 
 -- ## A stream that is not open
 
 pub none-written : (setup : Setup) (w : LinkRecord) (t : ℕ) → Sane setup w → is_open w t ≡ false → messages_where w (λ n. (message_at w n).stream == t) ≡ []
-none-written setup w t g e = kept-none (λ n. (message_at w n).stream == t) 0 (length w.messages) (λ n a b. fails ((message_at w n).stream == t) (λ h. not_both (sym e ∙ ap (is_open w) (sym (same-is (message_at w n).stream t h)) ∙ g.known n (omega arith))))
+none-written setup w t g e = kept-none (λ n. (message_at w n).stream == t) 0 (length w.messages) (λ n a b.
+    fails ((message_at w n).stream == t) (λ h. not_both (sym e ∙ ap (is_open w) (sym (same-is (message_at w n).stream t h)) ∙ g.known n (omega arith))))
 
 pub amount-none : (setup : Setup) (w : LinkRecord) (t : ℕ) → Sane setup w → is_open w t ≡ false → amount w t ≡ 0
 amount-none setup w t g e = ap (λ l. total_over (pending_bytes w) l + total_over (in_flight_bytes w) l) (none-written setup w t g e)

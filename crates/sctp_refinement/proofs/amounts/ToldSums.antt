@@ -76,13 +76,17 @@ pub read-after : (setup : Setup) (w : LinkRecord) (e : Event) → Sane setup w �
 read-after setup w (E.Open s) g a b = read-messages w (after w (E.Open s)) refl
 read-after setup w (E.Mode s u x y) g a b = read-messages w (after w (E.Mode s u x y)) refl
 read-after setup w (E.Write s x y) g a b = cc
-read-after setup w (E.Start now) g a b = read-quiet w (after w (E.Start now)) (length-mapped (Changes.start_lifetime now) w.messages) (Moves.quiet-started w now)
+read-after setup w (E.Start now) g a b =
+    read-quiet w (after w (E.Start now)) (length-mapped (Changes.start_lifetime now) w.messages) (Moves.quiet-started w now)
 read-after setup w (E.Send now) g a b = read-quiet w (after w (E.Send now)) (count-sent w now (front w)) (Moves.quiet-sent setup w now (front w) g)
 read-after setup w (E.Resend x) g a b = read-messages w (after w (E.Resend x)) refl
-read-after setup w (E.Expire now) g a b = read-quiet w (after w (E.Expire now)) (count-expired w (Changes.expiring w now)) (Moves.quiet-expire setup w now (front w) g)
-read-after setup w (E.Tail now) g a b = read-quiet w (after w (E.Tail now)) (count-tail w (Changes.tailing w now)) (Moves.quiet-tail setup w (Changes.tailing w now) g)
+read-after setup w (E.Expire now) g a b =
+    read-quiet w (after w (E.Expire now)) (count-expired w (Changes.expiring w now)) (Moves.quiet-expire setup w now (front w) g)
+read-after setup w (E.Tail now) g a b =
+    read-quiet w (after w (E.Tail now)) (count-tail w (Changes.tailing w now)) (Moves.quiet-tail setup w (Changes.tailing w now) g)
 read-after setup w (E.Late now) g a b = read-quiet w (after w (E.Late now)) (count-late (Changes.late_messages w now) w) (Moves.quiet-lates setup w now g)
-read-after setup w (E.Abandon tsn) g a b = read-quiet w (after w (E.Abandon tsn)) (count-abandoned w (message_of w (place_of w tsn))) (Moves.quiet-abandoned setup w (message_of w (place_of w tsn)) g)
+read-after setup w (E.Abandon tsn) g a b =
+    read-quiet w (after w (E.Abandon tsn)) (count-abandoned w (message_of w (place_of w tsn))) (Moves.quiet-abandoned setup w (message_of w (place_of w tsn)) g)
 read-after setup w (E.Skip x y) g a b = read-messages w (after w (E.Skip x y)) refl
 read-after setup w (E.Ack x) g a b = read-messages w (after w (E.Ack x)) refl
 read-after setup w (E.Arrive k) g a b = read-messages w (after w (E.Arrive k)) (messages-received w (slice_get w.network k))
@@ -134,14 +138,17 @@ abbrev pub read_on : LinkRecord → ℕ → (PayloadProtocolIdentifier → List 
 read_on w t g = sum_where w (is_on t) (λ m. if m.read then g m.ppi m.bytes else 0)
 
 pub told_on-same : (w v : LinkRecord) (t : ℕ) (g : PayloadProtocolIdentifier → List ℕ → ℕ) → AsTold w v → told_on v t g ≡ told_on w t g
-told_on-same w v t g a = sum-same w v (is_on t) (λ m. g m.ppi m.bytes) a.count (λ n lt. ap (λ k. k == t) (a.stream n lt)) (λ n lt. ap (λ p. g p (message_at v n).bytes) (a.ppi n lt) ∙ ap (g (message_at w n).ppi) (a.bytes n lt))
+told_on-same w v t g a = sum-same w v (is_on t) (λ m. g m.ppi m.bytes) a.count (λ n lt. ap (λ k. k == t) (a.stream n lt))
+    (λ n lt. ap (λ p. g p (message_at v n).bytes) (a.ppi n lt) ∙ ap (g (message_at w n).ppi) (a.bytes n lt))
 
 pub read_on-same : (w v : LinkRecord) (t : ℕ) (g : PayloadProtocolIdentifier → List ℕ → ℕ) → AsRead w v → read_on v t g ≡ read_on w t g
 read_on-same w v t g a = sum-same w v (is_on t) (λ m. if m.read then g m.ppi m.bytes else 0) a.told.count (λ n lt. ap (λ k. k == t) (a.told.stream n lt))
-    (λ n lt. ap (λ p. if (message_at v n).read then g p (message_at v n).bytes else 0) (a.told.ppi n lt) ∙ ap (λ l. if (message_at v n).read then g (message_at w n).ppi l else 0) (a.told.bytes n lt) ∙ ap (λ b. if b then g (message_at w n).ppi (message_at w n).bytes else 0) (a.read n lt))
+    (λ n lt. ap (λ p. if (message_at v n).read then g p (message_at v n).bytes else 0) (a.told.ppi n lt) ∙ ap (λ l. if (message_at v n).read
+    then g (message_at w n).ppi l else 0) (a.told.bytes n lt) ∙ ap (λ b. if b then g (message_at w n).ppi (message_at w n).bytes else 0) (a.read n lt))
 
 -- a write adds its message to its stream
-pub told_on-wrote : (w : LinkRecord) (s t : ℕ) (ppi : PayloadProtocolIdentifier) (bytes : List ℕ) (g : PayloadProtocolIdentifier → List ℕ → ℕ) → (stream_of w s).stream ≡ s → told_on (after_write w s ppi bytes) t g ≡ told_on w t g + (if (t == s) && not (length bytes == 0) then g ppi bytes else 0)
+pub told_on-wrote : (w : LinkRecord) (s t : ℕ) (ppi : PayloadProtocolIdentifier) (bytes : List ℕ) (g : PayloadProtocolIdentifier → List ℕ → ℕ)
+    → (stream_of w s).stream ≡ s → told_on (after_write w s ppi bytes) t g ≡ told_on w t g + (if (t == s) && not (length bytes == 0) then g ppi bytes else 0)
 told_on-wrote w s t ppi [] g e = none (t == s) (told_on w t g)
   where
     none : (b : Bool) (k : ℕ) → k ≡ k + (if b && false then g ppi [] else 0)
@@ -159,25 +166,31 @@ told_on-wrote w s t ppi (b ∷ bs) g e =
     some false false h = refl
 
 -- it was not read yet
-pub read_on-wrote : (w : LinkRecord) (s t : ℕ) (ppi : PayloadProtocolIdentifier) (bytes : List ℕ) (g : PayloadProtocolIdentifier → List ℕ → ℕ) → read_on (after_write w s ppi bytes) t g ≡ read_on w t g
+pub read_on-wrote : (w : LinkRecord) (s t : ℕ) (ppi : PayloadProtocolIdentifier) (bytes : List ℕ) (g : PayloadProtocolIdentifier → List ℕ → ℕ)
+    → read_on (after_write w s ppi bytes) t g ≡ read_on w t g
 read_on-wrote w s t ppi [] g = refl
-read_on-wrote w s t ppi (b ∷ bs) g = sum-written w (message_on w (stream_of w s) ppi (b ∷ bs)) (is_on t) (λ m. if m.read then g m.ppi m.bytes else 0) ∙ none ((stream_of w s).stream == t)
+read_on-wrote w s t ppi (b ∷ bs) g = sum-written w (message_on w (stream_of w s) ppi (b ∷ bs)) (is_on t) (λ m. if m.read then g m.ppi m.bytes else 0)
+    ∙ none ((stream_of w s).stream == t)
   where
     none : (c : Bool) → read_on w t g + (if c then 0 else 0) ≡ read_on w t g
     none true = omega arith
     none false = omega arith
 
 -- a read adds the message that it reads
-pub read_on-read : (setup : Setup) (h : History) → IsSetup setup → IsRun setup h → (s t n : ℕ) (g : PayloadProtocolIdentifier → List ℕ → ℕ) → next_read (record_of setup h) s ≡ Some n → read_on (after_reading (record_of setup h) s) t g ≡ read_on (record_of setup h) t g + (if t == s then g (message_at (record_of setup h) n).ppi (message_at (record_of setup h) n).bytes else 0)
+pub read_on-read : (setup : Setup) (h : History) → IsSetup setup → IsRun setup h → (s t n : ℕ) (g : PayloadProtocolIdentifier → List ℕ → ℕ)
+    → next_read (record_of setup h) s ≡ Some n → read_on (after_reading (record_of setup h) s) t g
+    ≡ read_on (record_of setup h) t g + (if t == s then g (message_at (record_of setup h) n).ppi (message_at (record_of setup h) n).bytes else 0)
 read_on-read setup h is run s t n g e =
     ap (λ o. read_on (read_of w s o) t g) e
     ∙ ap (λ c. total_over (value v) (numbers_where (λ k. on v k) 0 c)) (length-changed mark_read n w.messages)
     ∙ total-where (value v) (λ k. on v k) 0 (length w.messages)
-    ∙ sym (total-one (λ k. if on w k then value w k else 0) (λ k. if on v k then value v k else 0) n (if t == s then all n else 0) 0 (length w.messages) (omega arith) (omega (arith, r.made))
+    ∙ sym (total-one (λ k. if on w k then value w k else 0) (λ k. if on v k then value v k else 0) n (if t == s then all n
+    else 0) 0 (length w.messages) (omega arith) (omega (arith, r.made))
     (λ k ne. ap (λ m. if m.stream == t then (if m.read then g m.ppi m.bytes else 0) else 0) (sym (changed-other mark_read n k w.messages no_message ne)))
-    (ap (λ b. (if on w n then (if b then all n else 0) else 0) + (if t == s then all n else 0)) r.unread ∙ ap (λ k. (if k == t then 0 else 0) + (if t == s then all n else 0)) r.stream
-    ∙ here (s == t) (t == s) (same-turned s t)
-    ∙ sym (ap (λ m. if m.stream == t then (if m.read then g m.ppi m.bytes else 0) else 0) (changed-same mark_read n w.messages no_message r.made) ∙ ap (λ k. if k == t then all n else 0) r.stream)))
+    (ap (λ b. (if on w n then (if b then all n else 0) else 0) + (if t == s then all n else 0)) r.unread
+    ∙ ap (λ k. (if k == t then 0 else 0) + (if t == s then all n else 0)) r.stream ∙ here (s == t) (t == s) (same-turned s t)
+    ∙ sym (ap (λ m. if m.stream == t then (if m.read then g m.ppi m.bytes else 0) else 0) (changed-same mark_read n w.messages no_message r.made)
+    ∙ ap (λ k. if k == t then all n else 0) r.stream)))
     ∙ ap (λ k. k + (if t == s then all n else 0)) (sym (total-where (value w) (λ k. on w k) 0 (length w.messages)))
   where
     w : LinkRecord

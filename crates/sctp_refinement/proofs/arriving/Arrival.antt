@@ -19,7 +19,8 @@ use Rattle.sctp_model.specs.Messages.{slot_at, message_of, no_slot, fragment_cou
 use Rattle.sctp_model.specs.Receiver.{arrived_at, arrived_of, has_arrived, is_held}
 use Rattle.sctp_model.specs.Changes.{mark_arrived}
 use Rattle.sctp_model.specs.Valid.{IsLaid, Valid}
-use Rattle.sctp_list_lemmas.proofs.More.{fails, not_both, both, same_test, length-changed, changed-same, changed-other, changed-keeps, kept-short, length-kept-one_more}
+use Rattle.sctp_list_lemmas.proofs.More.{fails, not_both, both, same_test, length-changed, changed-same, changed-other, changed-keeps, kept-short}
+use Rattle.sctp_list_lemmas.proofs.More.{length-kept-one_more}
 use Rattle.sctp_refinement.proofs.arriving.Complete.{IsMessage, complete-kept}
 
 abbrev pub with_arrived : LinkRecord → ℕ → LinkRecord
@@ -45,24 +46,30 @@ come w n p e = both (has_fragment w n p) (arrived_at w p) e
 
 -- ## A set is complete where its message is complete
 
-pub kept-window : (p : ℕ → Bool) (all base count : ℕ) → ((k : ℕ) → p k ≡ true → (base ≤ k) × (k < base + count) × (k < all)) → numbers_where p 0 all ≡ numbers_where p base count
+pub kept-window : (p : ℕ → Bool) (all base count : ℕ) → ((k : ℕ) → p k ≡ true → (base ≤ k) × (k < base + count) × (k < all))
+    → numbers_where p 0 all ≡ numbers_where p base count
 kept-window p all base count inside =
     let total = all + (base + count) in
     sym (kept-short p 0 all (base + count) total refl (λ k a b. fails (p k) (λ e. absurd (omega (arith, (inside k e).2)))))
     ∙ kept-skip p 0 total base (omega arith) (omega arith) (λ k a b. fails (p k) (λ e. absurd (omega (arith, (inside k e).0))))
     ∙ kept-short p base count all (0 + total - base) (omega arith) (λ k a b. fails (p k) (λ e. absurd (omega (arith, (inside k e).1))))
 
-pub is_message : (w : LinkRecord) (n base : ℕ) → Valid w → n < length w.messages → IsLaid w n base → IsMessage w.setup.first (chunk_at w) (has_come w n) base (fragment_count w n)
+pub is_message : (w : LinkRecord) (n base : ℕ) → Valid w → n < length w.messages → IsLaid w n base
+    → IsMessage w.setup.first (chunk_at w) (has_come w n) base (fragment_count w n)
 is_message w n base valid lt laid = record {
   some = valid.some n lt;
   short = omega (arith, valid.short n lt);
   tsn_is = λ k a b e. refl;
-  begins = λ k a b e. let at = laid.at k (come w n k e).0 in same_test ((slot_at w k).fragment == 0) (k == base) (λ h. grind (arith, nat_tests)) (λ h. grind (arith, nat_tests));
-  ends = λ k a b e. let at = laid.at k (come w n k e).0 in rw (of_message w n k (come w n k e).0) (same_test ((slot_at w k).fragment + 1 == fragment_count w n) (k + 1 == base + fragment_count w n) (λ h. grind (arith, nat_tests)) (λ h. grind (arith, nat_tests)));
+  begins = λ k a b e. let at = laid.at k (come w n k e).0 in
+      same_test ((slot_at w k).fragment == 0) (k == base) (λ h. grind (arith, nat_tests)) (λ h. grind (arith, nat_tests));
+  ends = λ k a b e. let at = laid.at k (come w n k e).0 in rw (of_message w n k (come w n k e).0) (same_test ((slot_at w k).fragment + 1 == fragment_count w n)
+      (k + 1 == base + fragment_count w n) (λ h. grind (arith, nat_tests)) (λ h. grind (arith, nat_tests)));
 }
 
-pub window : (w : LinkRecord) (n base : ℕ) → IsLaid w n base → numbers_where (has_come w n) 0 (length w.slots) ≡ numbers_where (has_come w n) base (fragment_count w n)
-window w n base laid = kept-window (has_come w n) (length w.slots) base (fragment_count w n) (λ k e. let h = (come w n k e).0 in (omega (arith, laid.at k h), omega (arith, laid.at k h, laid.within k h), made k h (cases_lt k (length w.slots))))
+pub window : (w : LinkRecord) (n base : ℕ) → IsLaid w n base
+    → numbers_where (has_come w n) 0 (length w.slots) ≡ numbers_where (has_come w n) base (fragment_count w n)
+window w n base laid = kept-window (has_come w n) (length w.slots) base (fragment_count w n)
+    (λ k e. let h = (come w n k e).0 in (omega (arith, laid.at k h), omega (arith, laid.at k h, laid.within k h), made k h (cases_lt k (length w.slots))))
   where
     made : (k : ℕ) → has_fragment w n k ≡ true → (k < length w.slots) ⊎ (length w.slots ≤ k) → k < length w.slots
     made k h (inl l) = l
@@ -119,7 +126,8 @@ has_come-elsewhere w p n k ne = step (cases_lt k p) (cases_lt p k)
 
 -- ## An arrival: the sets
 
-pub kept_come-elsewhere : (w : LinkRecord) (p n : ℕ) → (message_of w p ≡ n → ⊥) → numbers_where (has_come (with_arrived w p) n) 0 (length (with_arrived w p).slots) ≡ numbers_where (has_come w n) 0 (length w.slots)
+pub kept_come-elsewhere : (w : LinkRecord) (p n : ℕ) → (message_of w p ≡ n → ⊥)
+    → numbers_where (has_come (with_arrived w p) n) 0 (length (with_arrived w p).slots) ≡ numbers_where (has_come w n) 0 (length w.slots)
 kept_come-elsewhere w p n ne =
     ap (numbers_where (has_come (with_arrived w p) n) 0) (count-arrived w p)
     ∙ kept-same (has_come (with_arrived w p) n) (has_come w n) 0 (length w.slots) (λ k a b. has_come-elsewhere w p n k ne)
@@ -128,20 +136,24 @@ pub set_of-elsewhere : (w : LinkRecord) (p n : ℕ) → (message_of w p ≡ n �
 set_of-elsewhere w p n ne =
     let chunks : chunks_come (with_arrived w p) n ≡ chunks_come w n =
     ap (λ c. map (chunk_at (with_arrived w p)) (numbers_where (has_come (with_arrived w p) n) 0 c)) (count-arrived w p)
-    ∙ map-kept-same (chunk_at (with_arrived w p)) (chunk_at w) (has_come (with_arrived w p) n) (has_come w n) 0 (length w.slots) (λ k a b. has_come-elsewhere w p n k ne) (λ k a b e. chunk_at-arrived w p k) in
+    ∙ map-kept-same (chunk_at (with_arrived w p)) (chunk_at w) (has_come (with_arrived w p) n) (has_come w n) 0 (length w.slots)
+    (λ k a b. has_come-elsewhere w p n k ne) (λ k a b e. chunk_at-arrived w p k) in
     ap (λ c. let x : ChunkSet = record { ssn = (set_of w n).ssn; ppi = (set_of w n).ppi; chunks = c } in x) chunks
 
 -- the place of a chunk among those of its list, whatever the list
-pub order_of : (w : LinkRecord) (p k : ℕ) → length w.slots < 2 ^ 31 → p < length w.slots → k < length w.slots → (k ≡ p → ⊥) → chunk_before (chunk_at w p) (chunk_at w k) ≡ nat_lt p k
+pub order_of : (w : LinkRecord) (p k : ℕ) → length w.slots < 2 ^ 31 → p < length w.slots → k < length w.slots → (k ≡ p → ⊥)
+    → chunk_before (chunk_at w p) (chunk_at w k) ≡ nat_lt p k
 order_of w p k few lt lk ne = comes_before-tsn w.setup.first p k (omega arith) (omega arith) (λ e. ne (sym e))
 
-pub chunks_come-here : (w : LinkRecord) (p : ℕ) → length w.slots < 2 ^ 31 → p < length w.slots → arrived_at w p ≡ false → (slot_at w p).is_terminal_chunk ≡ false → chunks_come (with_arrived w p) (message_of w p) ≡ insert_before chunk_before (chunk_at w p) (chunks_come w (message_of w p))
+pub chunks_come-here : (w : LinkRecord) (p : ℕ) → length w.slots < 2 ^ 31 → p < length w.slots → arrived_at w p ≡ false → (slot_at w p).is_terminal_chunk
+    ≡ false → chunks_come (with_arrived w p) (message_of w p) ≡ insert_before chunk_before (chunk_at w p) (chunks_come w (message_of w p))
 chunks_come-here w p few lt new fragment =
     let n = message_of w p in
     let out : has_come w n p ≡ false = rw new (grind (arith, common_steps)) in
     let in' : has_come (with_arrived w p) n p ≡ true = rw (has_fragment-arrived w p n p, arrived-here w p lt, has-fragment w p fragment) refl in
     ap (λ c. map (chunk_at (with_arrived w p)) (numbers_where (has_come (with_arrived w p) n) 0 c)) (count-arrived w p)
-    ∙ map-kept-same (chunk_at (with_arrived w p)) (chunk_at w) (has_come (with_arrived w p) n) (has_come (with_arrived w p) n) 0 (length w.slots) (λ k a b. refl) (λ k a b e. chunk_at-arrived w p k)
+    ∙ map-kept-same (chunk_at (with_arrived w p)) (chunk_at w) (has_come (with_arrived w p) n) (has_come (with_arrived w p) n) 0 (length w.slots)
+    (λ k a b. refl) (λ k a b e. chunk_at-arrived w p k)
     ∙ map-kept-inserted (chunk_at w) chunk_before (has_come w n) (has_come (with_arrived w p) n) p 0 (length w.slots) out in' (omega arith) (omega arith)
     (λ k a b ne. sym (has_come-other w p n k ne))
     (λ k a b ne pass. order_of w p k few lt (omega arith) ne)
@@ -151,13 +163,15 @@ chunks_come-here w p few lt new fragment =
 pub arrived_of-elsewhere : (w : LinkRecord) (p n : ℕ) → (message_of w p ≡ n → ⊥) → arrived_of (with_arrived w p) n ≡ arrived_of w n
 arrived_of-elsewhere w p n ne = ap length (kept_come-elsewhere w p n ne)
 
-pub arrived_of-here : (w : LinkRecord) (p : ℕ) → p < length w.slots → arrived_at w p ≡ false → (slot_at w p).is_terminal_chunk ≡ false → arrived_of (with_arrived w p) (message_of w p) ≡ arrived_of w (message_of w p) + 1
+pub arrived_of-here : (w : LinkRecord) (p : ℕ) → p < length w.slots → arrived_at w p ≡ false → (slot_at w p).is_terminal_chunk ≡ false
+    → arrived_of (with_arrived w p) (message_of w p) ≡ arrived_of w (message_of w p) + 1
 arrived_of-here w p lt new fragment =
     let n = message_of w p in
     let out : has_come w n p ≡ false = rw new (grind (arith, common_steps)) in
     let in' : has_come (with_arrived w p) n p ≡ true = rw (has_fragment-arrived w p n p, arrived-here w p lt, has-fragment w p fragment) refl in
     ap (λ c. length (numbers_where (has_come (with_arrived w p) n) 0 c)) (count-arrived w p)
-    ∙ length-kept-one_more (has_come w n) (has_come (with_arrived w p) n) p 0 (length w.slots) out in' (omega arith) (omega arith) (λ k a b ne. sym (has_come-other w p n k ne))
+    ∙ length-kept-one_more (has_come w n) (has_come (with_arrived w p) n) p 0 (length w.slots) out in' (omega arith) (omega arith)
+    (λ k a b ne. sym (has_come-other w p n k ne))
 
 pub is_held-elsewhere : (w : LinkRecord) (p s n : ℕ) → (message_of w p ≡ n → ⊥) → is_held (with_arrived w p) s n ≡ is_held w s n
 is_held-elsewhere w p s n ne = rw (arrived_of-elsewhere w p n ne) refl

@@ -31,9 +31,14 @@ carried setup w p g lt mark = record {
 }
   where
     not_sent : sent (shape w) (message_of w p) ≡ 0 → ⊥
-    not_sent z = omega (arith, z, length-kept-positive (has_fragment w (message_of w p)) p 0 (length w.slots) (omega arith) (omega (arith, lt)) (Arrival.has-fragment w p mark))
+    not_sent z = omega (
+      arith,
+      z,
+      length-kept-positive (has_fragment w (message_of w p)) p 0 (length w.slots) (omega arith) (omega (arith, lt)) (Arrival.has-fragment w p mark),
+    )
 
-    some-of : (o : Option StreamRecord) → stream_at w (message_at w (message_of w p)).stream ≡ o → is_some o ≡ true → (r : StreamRecord) × (stream_at w (message_at w (message_of w p)).stream ≡ Some r)
+    some-of : (o : Option StreamRecord) → stream_at w (message_at w (message_of w p)).stream ≡ o → is_some o ≡ true
+        → (r : StreamRecord) × (stream_at w (message_at w (message_of w p)).stream ≡ Some r)
     some-of None e h = cc
     some-of (Some r) e h = (r, e)
 
@@ -42,9 +47,11 @@ abbrev pub noted : LinkRecord → ℕ → Bool → LinkRecord
 noted w p b = if b then stream_changed (with_arrived w p) (message_at w (message_of w p)).stream (with_complete (message_of w p)) else with_arrived w p
 
 -- P of the record after a slot, from P of the forms that it may have
-pub by_step : (P : LinkRecord → Type 0) (w : LinkRecord) (p : ℕ) → P (record w { duplicates = w.duplicates ++ p ∷ [] }) → (is_new w p ≡ true → (b : Bool) → becomes_complete (with_arrived w p) (message_of w p) ≡ b → P (noted w p b)) → P (receive_slot w p)
+pub by_step : (P : LinkRecord → Type 0) (w : LinkRecord) (p : ℕ) → P (record w { duplicates = w.duplicates ++ p ∷ [] })
+    → (is_new w p ≡ true → (b : Bool) → becomes_complete (with_arrived w p) (message_of w p) ≡ b → P (noted w p b)) → P (receive_slot w p)
 by_step P w p again new = step (is_new w p) refl
   where
-    step : (b : Bool) → is_new w p ≡ b → P (if b then noted w p (becomes_complete (with_arrived w p) (message_of w p)) else record w { duplicates = w.duplicates ++ p ∷ [] })
+    step : (b : Bool) → is_new w p ≡ b
+        → P (if b then noted w p (becomes_complete (with_arrived w p) (message_of w p)) else record w { duplicates = w.duplicates ++ p ∷ [] })
     step true e = new e (becomes_complete (with_arrived w p) (message_of w p)) refl
     step false e = again

@@ -48,7 +48,8 @@ at_or_before-cumulative first c k short lt = step (cases_lt k c)
 
 -- ## Windows
 
-module _ (w : LinkRecord) (cs : List ChunkPayloadData) (made : w.skipped ≤ length w.slots) (few : length w.slots < 2 ^ 31) (held : tsns cs ≡ (seen_of w).held) where
+module _ (w : LinkRecord) (cs : List ChunkPayloadData) (made : w.skipped ≤ length w.slots) (few : length w.slots < 2 ^ 31)
+    (held : tsns cs ≡ (seen_of w).held) where
   abbrev c : ℕ
   c = cumulative w
 
@@ -71,7 +72,9 @@ module _ (w : LinkRecord) (cs : List ChunkPayloadData) (made : w.skipped ≤ len
       swapped false = refl
 
       differ : (k : ℕ) → k < length w.slots → (k ≡ p → ⊥) → (k < p) ⊎ (p ≤ k) → (tsn w.setup.first k == tsn w.setup.first p) ≡ false
-      differ k lk ne (inl l) = let e = tsn_differ w.setup.first k p l (omega arith) in fails (tsn w.setup.first k == tsn w.setup.first p) (λ h. let z : tsn w.setup.first k ≡ tsn w.setup.first p = grind (arith, nat_tests) in let t : (tsn w.setup.first p == tsn w.setup.first k) ≡ true = grind (arith, nat_tests) in not_both (sym e ∙ t))
+      differ k lk ne (inl l) = let e = tsn_differ w.setup.first k p l (omega arith) in
+          fails (tsn w.setup.first k == tsn w.setup.first p) (λ h. let z : tsn w.setup.first k ≡ tsn w.setup.first p = grind (arith, nat_tests) in
+          let t : (tsn w.setup.first p == tsn w.setup.first k) ≡ true = grind (arith, nat_tests) in not_both (sym e ∙ t))
       differ k lk ne (inr g) = tsn_differ w.setup.first p k (omega arith) (omega arith)
 
       step : (p < c) ⊎ (c ≤ p) → (not (is_held cs (tsn_of w p)) && not (at_or_before (tsn_of w p) (seen_of w).cum)) ≡ (nat_le c p && not (arrived_at w p))
@@ -82,19 +85,26 @@ module _ (w : LinkRecord) (cs : List ChunkPayloadData) (made : w.skipped ≤ len
       step (inr g) =
           let nay : at_or_before (tsn_of w p) (seen_of w).cum ≡ false = sym before ∙ (grind (arith, nat_tests)) in
           let yes : nat_le c p ≡ true = grind (arith, nat_tests) in
-          let same : is_held cs (tsn_of w p) ≡ arrived_at w p = held-any (tsn_of w p) cs ∙ ap (list_any (λ u. u == tsn_of w p)) held ∙ any-kept (tsn w.setup.first) (arrived_at w) p c (length w.slots - c) g (omega arith) (λ k a b ne. differ k (omega (arith, top)) ne (cases_lt k p)) (tsn_same w.setup.first p) in
+          let same : is_held cs (tsn_of w p) ≡ arrived_at w p = held-any (tsn_of w p) cs ∙ ap (list_any (λ u. u == tsn_of w p)) held
+          ∙ any-kept (tsn w.setup.first) (arrived_at w) p c (length w.slots - c) g (omega arith)
+          (λ k a b ne. differ k (omega (arith, top)) ne (cases_lt k p)) (tsn_same w.setup.first p) in
           rw (nay, yes, same) (swapped (arrived_at w p))
 
   -- ## Gap blocks
 
-  shifted : (p : ℕ → Bool) (b from count : ℕ) → b ≤ from → map (λ k. k + 1 - b) (numbers_where p from count) ≡ numbers_where (λ d. p (b + d - 1)) (from + 1 - b) count
+  shifted : (p : ℕ → Bool) (b from count : ℕ) → b ≤ from
+      → map (λ k. k + 1 - b) (numbers_where p from count) ≡ numbers_where (λ d. p (b + d - 1)) (from + 1 - b) count
   shifted p b from zero le = refl
   shifted p b from (suc count) le =
       let place : b + (from + 1 - b) - 1 ≡ from = omega arith in
       let next : from + 1 + 1 - b ≡ from + 1 - b + 1 = omega arith in
-      step (p from) (shifted p b (from + 1) count (omega arith) ∙ ap (λ j. numbers_where (λ d. p (b + d - 1)) j count) next) ∙ ap (λ j. if p j then (from + 1 - b) ∷ numbers_where (λ d. p (b + d - 1)) (from + 1 - b + 1) count else numbers_where (λ d. p (b + d - 1)) (from + 1 - b + 1) count) (sym place)
+      step (p from) (shifted p b (from + 1) count (omega arith) ∙ ap (λ j. numbers_where (λ d. p (b + d - 1)) j count) next)
+      ∙ ap (λ j. if p j then (from + 1 - b) ∷ numbers_where (λ d. p (b + d - 1)) (from + 1 - b + 1) count
+      else numbers_where (λ d. p (b + d - 1)) (from + 1 - b + 1) count) (sym place)
     where
-      step : (t : Bool) → map (λ k. k + 1 - b) (numbers_where p (from + 1) count) ≡ numbers_where (λ d. p (b + d - 1)) (from + 1 - b + 1) count → map (λ k. k + 1 - b) (if t then from ∷ numbers_where p (from + 1) count else numbers_where p (from + 1) count) ≡ (if t then (from + 1 - b) ∷ numbers_where (λ d. p (b + d - 1)) (from + 1 - b + 1) count else numbers_where (λ d. p (b + d - 1)) (from + 1 - b + 1) count)
+      step : (t : Bool) → map (λ k. k + 1 - b) (numbers_where p (from + 1) count) ≡ numbers_where (λ d. p (b + d - 1)) (from + 1 - b + 1) count
+          → map (λ k. k + 1 - b) (if t then from ∷ numbers_where p (from + 1) count else numbers_where p (from + 1) count) ≡ (if t
+          then (from + 1 - b) ∷ numbers_where (λ d. p (b + d - 1)) (from + 1 - b + 1) count else numbers_where (λ d. p (b + d - 1)) (from + 1 - b + 1) count)
       step true ih = ap (λ l. (from + 1 - b) ∷ l) ih
       step false ih = ih
 
@@ -118,10 +128,13 @@ module _ (w : LinkRecord) (cs : List ChunkPayloadData) (made : w.skipped ≤ len
   pub distances-is : gap_offsets (seen_of w).cum cs ≡ distances w
   distances-is =
       let count = length w.slots - c in
-      let all : map (λ x. distance (seen_of w).cum x.tsn) cs ≡ map (λ k. distance (seen_of w).cum (tsn w.setup.first k)) (numbers_where (arrived_at w) c count) =
-      map-twice (distance (seen_of w).cum) (λ x. x.tsn) cs ∙ ap (map (distance (seen_of w).cum)) held ∙ map-numbers (distance (seen_of w).cum) (tsn w.setup.first) (numbers_where (arrived_at w) c count) in
+      let all : map (λ x. distance (seen_of w).cum x.tsn) cs ≡ map (λ k. distance (seen_of w).cum (tsn w.setup.first k))
+      (numbers_where (arrived_at w) c count) =
+      map-twice (distance (seen_of w).cum) (λ x. x.tsn) cs ∙ ap (map (distance (seen_of w).cum)) held
+      ∙ map-numbers (distance (seen_of w).cum) (tsn w.setup.first) (numbers_where (arrived_at w) c count) in
       ap (filter is_offset) all
-      ∙ sym (those-kept is_offset (λ k. distance (seen_of w).cum (tsn w.setup.first k)) (λ k. k + 1 - c) (arrived_at w) (λ k. arrived_at w k && is_offset (k + 1 - c)) c count
+      ∙ sym (those-kept is_offset (λ k. distance (seen_of w).cum (tsn w.setup.first k)) (λ k. k + 1 - c) (arrived_at w)
+      (λ k. arrived_at w k && is_offset (k + 1 - c)) c count
       (λ k a b. ap (λ d. arrived_at w k && is_offset d) (sym (ahead w.setup.first c k a (omega (arith, top)))))
       (λ k a b e. sym (ahead w.setup.first c k a (omega (arith, top)))))
       ∙ shifted (λ k. arrived_at w k && is_offset (k + 1 - c)) c c count (omega arith)
@@ -132,16 +145,21 @@ module _ (w : LinkRecord) (cs : List ChunkPayloadData) (made : w.skipped ≤ len
       at d le = ap (λ x. arrived_at w (c + d - 1) && is_offset x) (let e : c + d - 1 + 1 - c ≡ d = omega arith in e)
 
       small : (d : ℕ) → 1 ≤ d → d < 65536 → (arrived_at w (c + d - 1) && is_offset (c + d - 1 + 1 - c)) ≡ arrived_at w (c + d - 1)
-      small d le lt = at d le ∙ ap (λ b. arrived_at w (c + d - 1) && b) (let e : is_offset d ≡ true = grind (arith, nat_tests) in e) ∙ and-yes (arrived_at w (c + d - 1))
+      small d le lt = at d le ∙ ap (λ b. arrived_at w (c + d - 1) && b) (let e : is_offset d ≡ true = grind (arith, nat_tests) in e)
+          ∙ and-yes (arrived_at w (c + d - 1))
 
       large : (d : ℕ) → 65536 ≤ d → (arrived_at w (c + d - 1) && is_offset (c + d - 1 + 1 - c)) ≡ false
-      large d le = at d (omega arith) ∙ ap (λ b. arrived_at w (c + d - 1) && b) (let e : is_offset d ≡ false = grind (arith, nat_tests) in e) ∙ and-no (arrived_at w (c + d - 1))
+      large d le = at d (omega arith) ∙ ap (λ b. arrived_at w (c + d - 1) && b) (let e : is_offset d ≡ false = grind (arith, nat_tests) in e)
+          ∙ and-no (arrived_at w (c + d - 1))
 
-      cut : (65535 < length w.slots - c) ⊎ (length w.slots - c ≤ 65535) → numbers_where (λ d. arrived_at w (c + d - 1) && is_offset (c + d - 1 + 1 - c)) 1 (length w.slots - c) ≡ numbers_where (λ d. arrived_at w (c + d - 1)) 1 (min 65535 (length w.slots - c))
+      cut : (65535 < length w.slots - c) ⊎ (length w.slots - c ≤ 65535) → numbers_where (λ d. arrived_at w (c + d - 1) && is_offset (c + d - 1 + 1 - c)) 1
+          (length w.slots - c) ≡ numbers_where (λ d. arrived_at w (c + d - 1)) 1 (min 65535 (length w.slots - c))
       cut (inl l) =
-          kept-short (λ d. arrived_at w (c + d - 1) && is_offset (c + d - 1 + 1 - c)) 1 65535 (length w.slots - c - 65535) (length w.slots - c) (omega arith) (λ d a b. large d (omega arith))
-          ∙ kept-same (λ d. arrived_at w (c + d - 1) && is_offset (c + d - 1 + 1 - c)) (λ d. arrived_at w (c + d - 1)) 1 65535 (λ d a b. small d (omega arith) (omega arith))
+          kept-short (λ d. arrived_at w (c + d - 1) && is_offset (c + d - 1 + 1 - c)) 1 65535 (length w.slots - c - 65535) (length w.slots - c) (omega arith)
+          (λ d a b. large d (omega arith)) ∙ kept-same (λ d. arrived_at w (c + d - 1) && is_offset (c + d - 1 + 1 - c))
+          (λ d. arrived_at w (c + d - 1)) 1 65535 (λ d a b. small d (omega arith) (omega arith))
           ∙ ap (numbers_where (λ d. arrived_at w (c + d - 1)) 1) (let e : 65535 ≡ min 65535 (length w.slots - c) = omega arith in e)
       cut (inr g) =
-          kept-same (λ d. arrived_at w (c + d - 1) && is_offset (c + d - 1 + 1 - c)) (λ d. arrived_at w (c + d - 1)) 1 (length w.slots - c) (λ d a b. small d (omega arith) (omega arith))
+          kept-same (λ d. arrived_at w (c + d - 1) && is_offset (c + d - 1 + 1 - c)) (λ d. arrived_at w (c + d - 1)) 1 (length w.slots - c)
+          (λ d a b. small d (omega arith) (omega arith))
           ∙ ap (numbers_where (λ d. arrived_at w (c + d - 1)) 1) (let e : length w.slots - c ≡ min 65535 (length w.slots - c) = omega arith in e)

@@ -18,9 +18,12 @@ pub run-due : (w : LinkRecord) (s : ℕ) → Valid w → first_of (filter (is_un
 run-due w s valid =
     let line = ordered_on w s in
     let next = next_of w s in
-    run-first (is_complete_message w) (read_at w) (stream_of w s).named line (all (is_ordered_on w s) 0 (length w.messages) (λ k e r. complete-ordered w s k e ∙ valid.read_complete s k e r))
-    ∙ ap first_of (take-kept (is_ordered_on w s) (wanted (is_complete_message w) (read_at w)) (index_of w) 0 (length w.messages) (next + 1) 0 (next + 1) (omega arith) (λ k a b e. index_on w s k e ∙ place k)
-    ∙ kept-same (λ k. is_ordered_on w s k && (wanted (is_complete_message w) (read_at w) k && nat_lt (index_of w k) (next + 1))) (is_due w s) 0 (length w.messages) (λ k a b. same (is_ordered_on w s k) (not (read_at w k)) (is_complete_message w k) (index_of w k) next))
+    run-first (is_complete_message w) (read_at w)
+    (stream_of w s).named line (all (is_ordered_on w s) 0 (length w.messages) (λ k e r. complete-ordered w s k e ∙ valid.read_complete s k e r))
+    ∙ ap first_of (take-kept (is_ordered_on w s) (wanted (is_complete_message w) (read_at w)) (index_of w) 0 (length w.messages) (next + 1) 0 (next + 1)
+    (omega arith) (λ k a b e. index_on w s k e ∙ place k)
+    ∙ kept-same (λ k. is_ordered_on w s k && (wanted (is_complete_message w) (read_at w) k && nat_lt (index_of w k) (next + 1))) (is_due w s) 0
+    (length w.messages) (λ k a b. same (is_ordered_on w s k) (not (read_at w k)) (is_complete_message w k) (index_of w k) next))
   where
     read_at : LinkRecord → ℕ → Bool
     read_at w k = (message_at w k).read
@@ -28,11 +31,14 @@ run-due w s valid =
     place : (k : ℕ) → length (numbers_where (is_ordered_on w s) 0 k) ≡ 0 + length (numbers_where (is_ordered_on w s) 0 (k - 0))
     place k = let e : k - 0 ≡ k = omega arith in rw e (omega arith)
 
-    all : (p : ℕ → Bool) (from count : ℕ) → ((k : ℕ) → p k ≡ true → (message_at w k).read ≡ true → is_complete_message w k ≡ true) → ReadComplete (is_complete_message w) (λ k. (message_at w k).read) (numbers_where p from count)
+    all : (p : ℕ → Bool) (from count : ℕ) → ((k : ℕ) → p k ≡ true → (message_at w k).read ≡ true → is_complete_message w k ≡ true)
+        → ReadComplete (is_complete_message w) (λ k. (message_at w k).read) (numbers_where p from count)
     all p from zero h = tt
     all p from (suc count) h = step (p from) refl (all p (from + 1) count h)
       where
-        step : (b : Bool) → p from ≡ b → ReadComplete (is_complete_message w) (λ k. (message_at w k).read) (numbers_where p (from + 1) count) → ReadComplete (is_complete_message w) (λ k. (message_at w k).read) (if b then from ∷ numbers_where p (from + 1) count else numbers_where p (from + 1) count)
+        step : (b : Bool) → p from ≡ b → ReadComplete (is_complete_message w) (λ k. (message_at w k).read) (numbers_where p (from + 1) count)
+            → ReadComplete (is_complete_message w) (λ k. (message_at w k).read)
+            (if b then from ∷ numbers_where p (from + 1) count else numbers_where p (from + 1) count)
         step true e ih = (h from e, ih)
         step false e ih = ih
 

@@ -24,10 +24,13 @@ use Rattle.sctp_refinement.proofs.arriving.Unordered.{unordered-of}
 
 -- the queues of the streams that are open stay as they are
 pub opened-same : (w : LinkRecord) (s t : ℕ) → is_open w s ≡ false → reassembly_of (after_open w s) t ≡ reassembly_of w t
-opened-same w s t e = Keeps.restreamed w (after_open w s).streams t (λ x. ap (λ u. u.named x) (View.view-opened w s e)) (ap (λ u. u.complete t) (View.view-opened w s e))
+opened-same w s t e =
+    Keeps.restreamed w (after_open w s).streams t (λ x. ap (λ u. u.named x) (View.view-opened w s e)) (ap (λ u. u.complete t) (View.view-opened w s e))
 
-pub mode-same : (w : LinkRecord) (s : ℕ) (unordered : Bool) (reliability : ReliabilityType) (value t : ℕ) → reassembly_of (after_mode w s unordered reliability value) t ≡ reassembly_of w t
-mode-same w s u r n t = Keeps.restreamed w (after_mode w s u r n).streams t (λ x. ap (λ y. y.named x) (View.view-moded w s u r n)) (ap (λ y. y.complete t) (View.view-moded w s u r n))
+pub mode-same : (w : LinkRecord) (s : ℕ) (unordered : Bool) (reliability : ReliabilityType) (value t : ℕ)
+    → reassembly_of (after_mode w s unordered reliability value) t ≡ reassembly_of w t
+mode-same w s u r n t = Keeps.restreamed w (after_mode w s u r n).streams t (λ x. ap (λ y. y.named x) (View.view-moded w s u r n))
+    (ap (λ y. y.complete t) (View.view-moded w s u r n))
 
 -- a stream that is not open has nothing
 module _ (setup : Setup) (w : LinkRecord) (s : ℕ) (g : Sane setup w) (closed : is_open w s ≡ false) where
@@ -53,7 +56,8 @@ module _ (setup : Setup) (w : LinkRecord) (s : ℕ) (g : Sane setup w) (closed :
       ∙ ap (λ l. 0 + length (leading (λ n. (message_at w n).read) (drop 0 l))) line
 
   sets : ordered_sets w s ≡ []
-  sets = ap (map (set_of w)) (kept-none (is_held w s) 0 (length w.messages) (λ k a b. fails (is_held w s k) (λ h. not_both (sym (none-on k (omega arith)) ∙ (held w s k h).on))))
+  sets = ap (map (set_of w))
+      (kept-none (is_held w s) 0 (length w.messages) (λ k a b. fails (is_held w s k) (λ h. not_both (sym (none-on k (omega arith)) ∙ (held w s k h).on))))
 
   unassembled : unassembled_chunks w s ≡ []
   unassembled = ap (map (chunk_at w)) (kept-none (is_unassembled w s) 0 (length w.slots) (λ p a b. fails (is_unassembled w s p) (λ h. none p (omega arith) h)))

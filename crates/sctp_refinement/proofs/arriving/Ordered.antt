@@ -18,7 +18,8 @@ use Rattle.sctp_list_lemmas.specs.Serial.{comes_before16}
 use Rattle.sctp_list_lemmas.proofs.Passing.{kept-same, map-kept-same, map-kept-inserted, length-kept-le}
 use Rattle.sctp_list_lemmas.proofs.Round.{tsn_differ, tsn_same}
 use Rattle.sctp_model.specs.LinkRecord.{LinkRecord}
-use Rattle.sctp_model.specs.Messages.{message_at, slot_at, message_of, stream_of, is_ordered_on, index_of, ssn_of, fragment_count, has_fragment, is_unordered_on}
+use Rattle.sctp_model.specs.Messages.{message_at, slot_at, message_of, stream_of, is_ordered_on, index_of, ssn_of, fragment_count, has_fragment}
+use Rattle.sctp_model.specs.Messages.{is_unordered_on}
 use Rattle.sctp_model.specs.Receiver.{arrived_at, arrived_of, has_arrived, cumulative, is_complete_message, is_unread, is_held, next_of, is_new}
 use Rattle.sctp_model.specs.Changes.{receive_slot, becomes_complete}
 use Rattle.sctp_list_lemmas.specs.Lists.{change_first}
@@ -60,7 +61,8 @@ module _ (w : LinkRecord) (s p : ℕ) (valid : Valid w) (a : Arrives w s p) wher
         at = λ k e. laid.1.at k (sym (Arrival.has_fragment-arrived w p n k) ∙ e) ∙ ap (λ i. laid.0 + i) (sym (Arrival.fragment-arrived w p k));
         within = λ k e. rw (Arrival.fragment-arrived w p k) (laid.1.within k (sym (Arrival.has_fragment-arrived w p n k) ∙ e));
       } in
-      let count : arrived_of (with_arrived w p) n ≤ fragment_count w n = rw (Arrival.window (with_arrived w p) n laid.0 laid') (length-kept-le (has_come (with_arrived w p) n) laid.0 (fragment_count w n)) in
+      let count : arrived_of (with_arrived w p) n ≤ fragment_count w n = rw (Arrival.window (with_arrived w p) n laid.0 laid')
+      (length-kept-le (has_come (with_arrived w p) n) laid.0 (fragment_count w n)) in
       omega (arith, Arrival.arrived_of-here w p a.made a.new a.fragment, count)
 
   not_complete : has_arrived w n ≡ false
@@ -84,8 +86,10 @@ module _ (w : LinkRecord) (s p : ℕ) (valid : Valid w) (a : Arrives w s p) wher
       step (inr g) = g
 
   -- it is held exactly where some of it had arrived
-  held-is : (v : LinkRecord) → is_ordered_on v s n ≡ true → (message_at v n).read ≡ false → (stream_of v s).named ≤ index_of v n → is_held v s n ≡ nat_lt 0 (arrived_of v n)
-  held-is v on unr le = holds (is_ordered_on v s n) (message_at v n).read (nat_lt 0 (arrived_of v n)) (is_complete_message v n) (nat_le (stream_of v s).named (index_of v n)) on unr (grind (arith, nat_tests))
+  held-is : (v : LinkRecord) → is_ordered_on v s n ≡ true → (message_at v n).read ≡ false → (stream_of v s).named ≤ index_of v n
+      → is_held v s n ≡ nat_lt 0 (arrived_of v n)
+  held-is v on unr le = holds (is_ordered_on v s n) (message_at v n).read (nat_lt 0 (arrived_of v n)) (is_complete_message v n)
+      (nat_le (stream_of v s).named (index_of v n)) on unr (grind (arith, nat_tests))
     where
       holds : (a b h c d : Bool) → a ≡ true → b ≡ false → d ≡ true → (a && (not b && (h && (c || d)))) ≡ h
       holds true false true true true x y z = refl
@@ -109,7 +113,8 @@ module _ (w : LinkRecord) (s p : ℕ) (valid : Valid w) (a : Arrives w s p) wher
   mine = sp.others (index_of w n) (let e : (index_of w n == index_of w n) ≡ true = grind (arith, nat_tests) in rw e refl)
 
   held-on : (k : ℕ) → is_held w s k ≡ true → is_ordered_on w s k ≡ true
-  held-on k e = (both (is_ordered_on w s k) (is_unread w k && (nat_lt 0 (arrived_of w k) && (is_complete_message w k || nat_le (stream_of w s).named (index_of w k)))) e).0
+  held-on k e = (both (is_ordered_on w s k)
+      (is_unread w k && (nat_lt 0 (arrived_of w k) && (is_complete_message w k || nat_le (stream_of w s).named (index_of w k)))) e).0
 
   ssn-other : (k : ℕ) → k < length w.messages → is_held w s k ≡ true → (k ≡ n → ⊥) → (ssn_of w k == ssn_of w n) ≡ false
   ssn-other k lt e ne =
@@ -122,7 +127,11 @@ module _ (w : LinkRecord) (s p : ℕ) (valid : Valid w) (a : Arrives w s p) wher
   ssn-before k lt e ne =
       let on = held-on k e in
       let h = sp.held k lt e in
-      rw (ssn_on w s k on, ssn_on w s n a.on, comes_before16-index (index_of w n) (index_of w k) (omega (arith, h, mine, sp.short)) (omega (arith, h, mine, sp.short)))
+      rw (
+        ssn_on w s k on,
+        ssn_on w s n a.on,
+        comes_before16-index (index_of w n) (index_of w k) (omega (arith, h, mine, sp.short)) (omega (arith, h, mine, sp.short)),
+      )
       (order on (cases_lt n k))
     where
       order : is_ordered_on w s k ≡ true → (n < k) ⊎ (k ≤ n) → nat_lt (index_of w n) (index_of w k) ≡ nat_lt n k
@@ -135,29 +144,34 @@ module _ (w : LinkRecord) (s p : ℕ) (valid : Valid w) (a : Arrives w s p) wher
   ssn-same = grind (arith, nat_tests)
 
   known : list_any (has_ssn (ssn_of w n)) (ordered_sets w s) ≡ is_held w s n
-  known = any-kept_one (has_ssn (ssn_of w n)) (set_of w) (is_held w s) n 0 (length w.messages) (omega arith) (omega (arith, n-made)) (λ k x y ne e. ssn-other k (omega arith) e ne) (λ e. ssn-same)
+  known = any-kept_one (has_ssn (ssn_of w n)) (set_of w) (is_held w s) n 0 (length w.messages) (omega arith) (omega (arith, n-made))
+      (λ k x y ne e. ssn-other k (omega arith) e ne) (λ e. ssn-same)
 
   -- its number is not in the set
   unknown : list_any (has_tsn (chunk_at w p).tsn) (chunks_come w n) ≡ false
-  unknown = any-kept_one (has_tsn (chunk_at w p).tsn) (chunk_at w) (has_come w n) p 0 (length w.slots) (omega arith) (omega (arith, a.made)) (λ k x y ne e. differ k (omega arith) ne (cases_lt k p)) (λ e. tsn_same w.setup.first p) ∙ out
+  unknown = any-kept_one (has_tsn (chunk_at w p).tsn) (chunk_at w) (has_come w n) p 0 (length w.slots) (omega arith) (omega (arith, a.made))
+      (λ k x y ne e. differ k (omega arith) ne (cases_lt k p)) (λ e. tsn_same w.setup.first p) ∙ out
     where
       differ : (k : ℕ) → k < length w.slots → (k ≡ p → ⊥) → (k < p) ⊎ (p ≤ k) → ((chunk_at w k).tsn == (chunk_at w p).tsn) ≡ false
       differ k lt ne (inl l) = let e = tsn_differ w.setup.first k p l (omega (arith, a.made, valid.few)) in turned (chunk_at w k).tsn (chunk_at w p).tsn e
         where
           turned : (x y : ℕ) → (y == x) ≡ false → (x == y) ≡ false
-          turned x y e = fails (x == y) (λ h. let z : x ≡ y = grind (arith, nat_tests) in let t : (y == x) ≡ true = grind (arith, nat_tests) in not_both (sym e ∙ t))
+          turned x y e =
+              fails (x == y) (λ h. let z : x ≡ y = grind (arith, nat_tests) in let t : (y == x) ≡ true = grind (arith, nat_tests) in not_both (sym e ∙ t))
       differ k lt ne (inr g) = tsn_differ w.setup.first p k (omega arith) (omega (arith, valid.few))
 
   set-grown : set_of (with_arrived w p) n ≡ with_chunk (chunk_at w p) (set_of w n)
   set-grown =
-      let chunks : chunks_come (with_arrived w p) n ≡ (if list_any (has_tsn (chunk_at w p).tsn) (chunks_come w n) then chunks_come w n else insert_before chunk_before (chunk_at w p) (chunks_come w n)) =
+      let chunks : chunks_come (with_arrived w p) n
+      ≡ (if list_any (has_tsn (chunk_at w p).tsn) (chunks_come w n) then chunks_come w n else insert_before chunk_before (chunk_at w p) (chunks_come w n)) =
       rw unknown (Arrival.chunks_come-here w p valid.few a.made a.new a.fragment) in
       ap (λ c. let x : ChunkSet = record { ssn = (set_of w n).ssn; ppi = (set_of w n).ppi; chunks = c } in x) chunks
 
   set-new : arrived_of w n ≡ 0 → set_of (with_arrived w p) n ≡ new_set (chunk_at w p)
   set-new none =
       let empty : numbers_where (has_come w n) 0 (length w.slots) ≡ [] = nothing (numbers_where (has_come w n) 0 (length w.slots)) none in
-      let chunks : chunks_come (with_arrived w p) n ≡ chunk_at w p ∷ [] = Arrival.chunks_come-here w p valid.few a.made a.new a.fragment ∙ ap (λ l. insert_before chunk_before (chunk_at w p) (map (chunk_at w) l)) empty in
+      let chunks : chunks_come (with_arrived w p) n ≡ chunk_at w p ∷ [] = Arrival.chunks_come-here w p valid.few a.made a.new a.fragment
+      ∙ ap (λ l. insert_before chunk_before (chunk_at w p) (map (chunk_at w) l)) empty in
       ap (λ c. let x : ChunkSet = record { ssn = (set_of w n).ssn; ppi = (set_of w n).ppi; chunks = c } in x) chunks
     where
       nothing : (l : List ℕ) → length l ≡ 0 → l ≡ []
@@ -173,7 +187,8 @@ module _ (w : LinkRecord) (s p : ℕ) (valid : Valid w) (a : Arrives w s p) wher
   -- in a set that is there
   joined : is_held w s n ≡ true → ordered_sets (with_arrived w p) s ≡ change_first (has_ssn (ssn_of w n)) (with_chunk (chunk_at w p)) (ordered_sets w s)
   joined h =
-      ap (map (set_of (with_arrived w p))) (kept-same (is_held (with_arrived w p) s) (is_held w s) 0 (length w.messages) (λ k x y. same k (cases_lt k n) (cases_lt n k)))
+      ap (map (set_of (with_arrived w p)))
+      (kept-same (is_held (with_arrived w p) s) (is_held w s) 0 (length w.messages) (λ k x y. same k (cases_lt k n) (cases_lt n k)))
       ∙ change_first-kept (has_ssn (ssn_of w n)) (with_chunk (chunk_at w p)) (set_of w) (set_of (with_arrived w p)) (is_held w s) n 0 (length w.messages) h
       (λ k x y ne e. (ssn-other k (omega arith) e ne, set-same k ne)) ssn-same set-grown (omega arith) (omega (arith, n-made))
     where
@@ -187,16 +202,20 @@ module _ (w : LinkRecord) (s p : ℕ) (valid : Valid w) (a : Arrives w s p) wher
   put h =
       let none : arrived_of w n ≡ 0 = (let e = held-is w a.on unread past in grind (arith, nat_tests)) in
       let first = set-new none in
-      map-kept-inserted (set_of (with_arrived w p)) set_before (is_held w s) (is_held (with_arrived w p) s) n 0 (length w.messages) h held-after (omega arith) (omega (arith, n-made))
+      map-kept-inserted (set_of (with_arrived w p)) set_before (is_held w s) (is_held (with_arrived w p) s) n 0 (length w.messages) h held-after (omega arith)
+      (omega (arith, n-made))
       (λ k x y ne. sym (sets-same k ne))
       (λ k x y ne e. ssn-before k (omega arith) e ne)
-      ∙ ap (λ l. insert_before set_before (set_of (with_arrived w p) n) l) (map-kept-same (set_of (with_arrived w p)) (set_of w) (is_held w s) (is_held w s) 0 (length w.messages) (λ k x y. refl) (λ k x y e. set-same k (λ z. not_both (sym h ∙ ap (is_held w s) (sym z) ∙ e))))
+      ∙ ap (λ l. insert_before set_before (set_of (with_arrived w p) n) l) (map-kept-same (set_of (with_arrived w p)) (set_of w) (is_held w s) (is_held w s) 0
+      (length w.messages) (λ k x y. refl) (λ k x y e. set-same k (λ z. not_both (sym h ∙ ap (is_held w s) (sym z) ∙ e))))
       ∙ ap (λ x. insert_before set_before x (ordered_sets w s)) first
 
   pub sets-arrived : ordered_sets (with_arrived w p) s ≡ sets_with (chunk_at w p) (ordered_sets w s)
   sets-arrived = rw known (step (is_held w s n) refl)
     where
-      step : (b : Bool) → is_held w s n ≡ b → ordered_sets (with_arrived w p) s ≡ (if b then change_first (has_ssn (ssn_of w n)) (with_chunk (chunk_at w p)) (ordered_sets w s) else insert_before set_before (new_set (chunk_at w p)) (ordered_sets w s))
+      step : (b : Bool) → is_held w s n ≡ b
+          → ordered_sets (with_arrived w p) s ≡ (if b then change_first (has_ssn (ssn_of w n)) (with_chunk (chunk_at w p)) (ordered_sets w s)
+          else insert_before set_before (new_set (chunk_at w p)) (ordered_sets w s))
       step true h = joined h
       step false h = put h
 
@@ -212,11 +231,15 @@ module _ (w : LinkRecord) (s p : ℕ) (valid : Valid w) (a : Arrives w s p) wher
   pub ordered-arrived : reassembly_of (with_arrived w p) s ≡ held_after_ordered_push (chunk_at w p) (reassembly_of w s)
   ordered-arrived =
       let late : comes_before16 (ssn_of w n) (next_of w s % 2 ^ 16) ≡ false =
-      rw (ssn_on w s n a.on, comes_before16-index (index_of w n) (next_of w s) (omega (arith, mine, sp.next, sp.short)) (omega (arith, mine, sp.next, sp.short))) (le-ltb (index_of w n) (next_of w s) not_before) in
+      rw (
+        ssn_on w s n a.on,
+        comes_before16-index (index_of w n) (next_of w s) (omega (arith, mine, sp.next, sp.short)) (omega (arith, mine, sp.next, sp.short)),
+      ) (le-ltb (index_of w n) (next_of w s) not_before) in
       rw (late, Stays.complete_sets-arrived w p s, Stays.unassembled-elsewhere w p s ordered-not, sets-arrived) refl
 
   other-stream : (t : ℕ) → (t ≡ s → ⊥) → ((message_at w n).stream == t) ≡ false
-  other-stream t ne = fails ((message_at w n).stream == t) (λ e. let h : (message_at w n).stream ≡ t = grind (arith, nat_tests) in ne (sym h ∙ on-stream w s n a.on))
+  other-stream t ne =
+      fails ((message_at w n).stream == t) (λ e. let h : (message_at w n).stream ≡ t = grind (arith, nat_tests) in ne (sym h ∙ on-stream w s n a.on))
 
   -- the queues of the other streams are as they were
   pub ordered-elsewhere : (t : ℕ) → (t ≡ s → ⊥) → reassembly_of (with_arrived w p) t ≡ reassembly_of w t

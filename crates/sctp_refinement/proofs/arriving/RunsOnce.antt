@@ -10,7 +10,17 @@ use Rattle.sctp_serial.specs.Runs.{IsRun, IsEarliestRun}
 use Rattle.sctp_reassembly.specs.reassembly_queue.ReassemblyQueue.{Reassembly, set_of_run, BecomesComplete}
 
 some_chunk : ChunkPayloadData
-some_chunk = fresh (record { unordered = false; beginning_fragment = false; ending_fragment = false; immediate_sack = false; tsn = 0; stream_identifier = 0; stream_sequence_number = 0; payload_type = Unknown; user_data = [] })
+some_chunk = fresh (record {
+  unordered = false;
+  beginning_fragment = false;
+  ending_fragment = false;
+  immediate_sack = false;
+  tsn = 0;
+  stream_identifier = 0;
+  stream_sequence_number = 0;
+  payload_type = Unknown;
+  user_data = [];
+})
 
 -- two runs that end at the same place begin at the same place
 later-first : (xs : List ChunkPayloadData) (f n g m : ℕ) → IsRun xs f n → IsRun xs g m → f + n ≡ g + m → f < g → ⊥
@@ -28,14 +38,17 @@ same-run xs f n g m a b = step (cases_lt f g) (cases_lt g f)
     step (inr l) (inr k) = (omega arith, omega (arith, ends))
 
 abbrev without_run : List ChunkPayloadData → Reassembly → ℕ → ℕ → Reassembly
-without_run xs old first count = record old { unassembled = take first xs ++ drop (first + count) xs; unordered = old.unordered ++ set_of_run (take count (drop first xs)) ∷ [] }
+without_run xs old first count =
+    record old { unassembled = take first xs ++ drop (first + count) xs; unordered = old.unordered ++ set_of_run (take count (drop first xs)) ∷ [] }
 
 same-left : (xs : List ChunkPayloadData) (old : Reassembly) {f n g m : ℕ} → f ≡ g → n ≡ m → without_run xs old f n ≡ without_run xs old g m
 same-left xs old {f} {n} {g} {m} a b = ap (λ k. without_run xs old k n) a ∙ ap (without_run xs old g) b
 
 -- an unordered push leaves one thing, and answers one thing
-pub becomes-same : (xs : List ChunkPayloadData) (old x y : Reassembly) (a b : Bool) → BecomesComplete xs old x a → BecomesComplete xs old y b → (x ≡ y) × (a ≡ b)
-becomes-same xs old x y true true t u = let s = same-run xs t.first t.count u.first u.count t.run u.run in (t.moved ∙ same-left xs old s.0 s.1 ∙ sym u.moved, refl)
+pub becomes-same : (xs : List ChunkPayloadData) (old x y : Reassembly) (a b : Bool) → BecomesComplete xs old x a → BecomesComplete xs old y b
+    → (x ≡ y) × (a ≡ b)
+becomes-same xs old x y true true t u = let s = same-run xs t.first t.count u.first u.count t.run u.run in
+    (t.moved ∙ same-left xs old s.0 s.1 ∙ sym u.moved, refl)
 becomes-same xs old x y true false t u = absurd (u.0 t.first t.count t.run.run)
 becomes-same xs old x y false true t u = absurd (t.0 u.first u.count u.run.run)
 becomes-same xs old x y false false t u = (t.1 ∙ sym u.1, refl)

@@ -38,7 +38,8 @@ use Rattle.sctp_refinement.proofs.reading.Line
 pub repeated : (w : LinkRecord) (p : ℕ) → is_new w p ≡ false → receive_slot w p ≡ record w { duplicates = w.duplicates ++ p ∷ [] }
 repeated w p e = rw e refl
 
-pub repeated-filter : (w : LinkRecord) (p : ℕ) → is_new w p ≡ false → filter_of (receive_slot w p) ≡ record (filter_of w) { duplicates = (filter_of w).duplicates ++ tsn_of w p ∷ [] }
+pub repeated-filter : (w : LinkRecord) (p : ℕ) → is_new w p ≡ false
+    → filter_of (receive_slot w p) ≡ record (filter_of w) { duplicates = (filter_of w).duplicates ++ tsn_of w p ∷ [] }
 repeated-filter w p e = rw (e, map-append (tsn_of w) w.duplicates (p ∷ [])) refl
 
 pub repeated-reassembly : (w : LinkRecord) (p t : ℕ) → is_new w p ≡ false → reassembly_of (receive_slot w p) t ≡ reassembly_of w t
@@ -78,7 +79,8 @@ module _ (w : LinkRecord) (s p : ℕ) (a : Enters w s p) where
   hits = let e = a.stream in grind (arith, nat_tests)
 
   pub ordered-on : (message_at w n).ordered ≡ true → is_ordered_on w s n ≡ true
-  ordered-on e = and ((message_at w n).stream == s) ((message_at w n).ordered && not (message_at w n).expired) hits (and (message_at w n).ordered (not (message_at w n).expired) e (ap not a.alive))
+  ordered-on e = and ((message_at w n).stream == s)
+      ((message_at w n).ordered && not (message_at w n).expired) hits (and (message_at w n).ordered (not (message_at w n).expired) e (ap not a.alive))
 
   pub unordered-on : (message_at w n).ordered ≡ false → is_unordered_on w s n ≡ true
   unordered-on e = and ((message_at w n).stream == s) (not (message_at w n).ordered) hits (ap not e)
@@ -90,7 +92,8 @@ module _ (w : LinkRecord) (s p : ℕ) (a : Enters w s p) where
   arrives-unassembled e = record { made = a.made; new = not-arrived w p a.new; fresh = fresh w p a.new; fragment = a.fragment; on = unordered-on e }
 
   -- of an ordered message: the queue of its stream holds it where its push puts it
-  pub ordered-slot : Valid w → (message_at w n).ordered ≡ true → IsSpan w s (index_of w n ∷ []) → reassembly_of (receive_slot w p) s ≡ held_after_ordered_push (chunk_at w p) (reassembly_of w s)
+  pub ordered-slot : Valid w → (message_at w n).ordered ≡ true → IsSpan w s (index_of w n ∷ [])
+      → reassembly_of (receive_slot w p) s ≡ held_after_ordered_push (chunk_at w p) (reassembly_of w s)
   ordered-slot valid e sp = ap (λ v. reassembly_of v s) (Ordered.ordered-step w s p valid (arrives e sp)) ∙ Ordered.ordered-arrived w s p valid (arrives e sp)
 
 -- ## A complete unordered message
@@ -98,11 +101,14 @@ module _ (w : LinkRecord) (s p : ℕ) (a : Enters w s p) where
 complete-run : (w : LinkRecord) (n p : ℕ) → has_fragment w n p ≡ true → p < length w.slots → set_of_run (map (chunk_at w) (slots_of w n)) ≡ complete_set_of w n
 complete-run w n p has lt = step (slots_of w n) refl (front-kept (has_fragment w n) 0 (length w.slots))
   where
-    step : (l : List ℕ) → slots_of w n ≡ l → FrontOf (has_fragment w n) 0 (length w.slots) l → set_of_run (map (chunk_at w) l) ≡ (let x : ChunkSet = record { ssn = 0; ppi = (message_at w n).ppi; chunks = map (chunk_at w) l } in x)
+    step : (l : List ℕ) → slots_of w n ≡ l → FrontOf (has_fragment w n) 0 (length w.slots) l
+        → set_of_run (map (chunk_at w) l) ≡ (let x : ChunkSet = record { ssn = 0; ppi = (message_at w n).ppi; chunks = map (chunk_at w) l } in x)
     step [] e f = absurd (not_both (sym (f p (omega arith) (omega arith)) ∙ has))
-    step (k ∷ rest) e f = ap (λ m. let x : ChunkSet = record { ssn = 0; ppi = (message_at w m).ppi; chunks = map (chunk_at w) (k ∷ rest) } in x) (Arrival.of_message w n k f.passes)
+    step (k ∷ rest) e f = ap (λ m. let x : ChunkSet = record { ssn = 0; ppi = (message_at w m).ppi; chunks = map (chunk_at w) (k ∷ rest) } in x)
+        (Arrival.of_message w n k f.passes)
 
-module _ (w : LinkRecord) (s p : ℕ) (r : StreamRecord) (valid : Valid w) (more : ValidUnassembled w) (a : Enters w s p) (kind : (message_at w (message_of w p)).ordered ≡ false) (open' : stream_at w s ≡ Some r) where
+module _ (w : LinkRecord) (s p : ℕ) (r : StreamRecord) (valid : Valid w) (more : ValidUnassembled w) (a : Enters w s p)
+    (kind : (message_at w (message_of w p)).ordered ≡ false) (open' : stream_at w s ≡ Some r) where
   abbrev v : LinkRecord
   v = with_arrived w p
 
@@ -123,9 +129,14 @@ module _ (w : LinkRecord) (s p : ℕ) (r : StreamRecord) (valid : Valid w) (more
       let same = UnorderedStep.ordered-same w s p r valid more unassembled open' e s in
       let put = Unordered.unassembled-put w s p valid more unassembled in
       let set : complete_set_of w n ≡ set_of_run (take t.count (drop t.first xs)) =
-      sym (complete-run w n p (Arrival.has-fragment w p a.fragment) a.made) ∙ ap set_of_run t.taken ∙ ap (λ l. set_of_run (take t.count (drop t.first l))) put in
-      let moved : reassembly_of u s ≡ record (reassembly_of w s) { unassembled = take t.first xs ++ drop (t.first + t.count) xs; unordered = (reassembly_of w s).unordered ++ set_of_run (take t.count (drop t.first xs)) ∷ [] } =
-      SkipStep.parts same.0 same.1 (t.moved ∙ ap (λ x. (reassembly_of w s).unordered ++ x ∷ []) set) (t.rest ∙ ap (λ l. take t.first l ++ drop (t.first + t.count) l) put) in
+      sym (complete-run w n p (Arrival.has-fragment w p a.fragment) a.made) ∙ ap set_of_run t.taken
+      ∙ ap (λ l. set_of_run (take t.count (drop t.first l))) put in
+      let moved : reassembly_of u s ≡ record (reassembly_of w s) {
+        unassembled = take t.first xs ++ drop (t.first + t.count) xs;
+        unordered = (reassembly_of w s).unordered ++ set_of_run (take t.count (drop t.first xs)) ∷ [];
+      } =
+      SkipStep.parts same.0 same.1 (t.moved ∙ ap (λ x. (reassembly_of w s).unordered ++ x ∷ []) set)
+      (t.rest ∙ ap (λ l. take t.first l ++ drop (t.first + t.count) l) put) in
       record {
         first = t.first;
         count = t.count;
@@ -144,22 +155,27 @@ module _ (w : LinkRecord) (s p : ℕ) (r : StreamRecord) (valid : Valid w) (more
 
 -- ## The other streams, and the filter
 
-pub slot-elsewhere : (w : LinkRecord) (s p t : ℕ) → Valid w → Enters w s p → IsSpan w s (index_of w (message_of w p) ∷ []) → (t ≡ s → ⊥) → reassembly_of (receive_slot w p) t ≡ reassembly_of w t
+pub slot-elsewhere : (w : LinkRecord) (s p t : ℕ) → Valid w → Enters w s p → IsSpan w s (index_of w (message_of w p) ∷ []) → (t ≡ s → ⊥)
+    → reassembly_of (receive_slot w p) t ≡ reassembly_of w t
 slot-elsewhere w s p t valid a sp ne = by_kind (message_at w (message_of w p)).ordered refl
   where
     by_kind : (b : Bool) → (message_at w (message_of w p)).ordered ≡ b → reassembly_of (receive_slot w p) t ≡ reassembly_of w t
-    by_kind true e = ap (λ v. reassembly_of v t) (Ordered.ordered-step w s p valid (arrives w s p a e sp)) ∙ Ordered.ordered-elsewhere w s p valid (arrives w s p a e sp) t ne
+    by_kind true e = ap (λ v. reassembly_of v t) (Ordered.ordered-step w s p valid (arrives w s p a e sp))
+        ∙ Ordered.ordered-elsewhere w s p valid (arrives w s p a e sp) t ne
     by_kind false e = Keeps.unordered-elsewhere w s p t (arrives-unassembled w s p a e) ne
 
 -- what an arrival leaves of the record but for the slot and the stream's complete messages
-noted : (w : LinkRecord) (p : ℕ) → is_new w p ≡ true → (seen_of (receive_slot w p) ≡ seen_of (with_arrived w p)) × ((receive_slot w p).duplicates ≡ w.duplicates)
+noted : (w : LinkRecord) (p : ℕ) → is_new w p ≡ true
+    → (seen_of (receive_slot w p) ≡ seen_of (with_arrived w p)) × ((receive_slot w p).duplicates ≡ w.duplicates)
 noted w p e = step (becomes_complete (with_arrived w p) (message_of w p)) refl
   where
-    step : (b : Bool) → becomes_complete (with_arrived w p) (message_of w p) ≡ b → (seen_of (receive_slot w p) ≡ seen_of (with_arrived w p)) × ((receive_slot w p).duplicates ≡ w.duplicates)
+    step : (b : Bool) → becomes_complete (with_arrived w p) (message_of w p) ≡ b
+        → (seen_of (receive_slot w p) ≡ seen_of (with_arrived w p)) × ((receive_slot w p).duplicates ≡ w.duplicates)
     step true h = rw (e, h) (refl, refl)
     step false h = rw (e, h) (refl, refl)
 
-pub filter-slot : (w : LinkRecord) (p : ℕ) → Valid w → p < length w.slots → is_new w p ≡ true → seen_of (receive_slot w p) ≡ advance_over (seen_of w).cum (insert_before comes_before (tsn_of w p) (seen_of w).held)
+pub filter-slot : (w : LinkRecord) (p : ℕ) → Valid w → p < length w.slots → is_new w p ≡ true
+    → seen_of (receive_slot w p) ≡ advance_over (seen_of w).cum (insert_before comes_before (tsn_of w p) (seen_of w).held)
 filter-slot w p valid made e =
     (noted w p e).0 ∙ Filter.filter-arrived w p valid.skipped_made valid.few made (fresh w p e) (not-arrived w p e)
 

@@ -36,7 +36,8 @@ slots_of-arrived w p n =
 pub complete_set_of-arrived : (w : LinkRecord) (p n : ℕ) → complete_set_of (with_arrived w p) n ≡ complete_set_of w n
 complete_set_of-arrived w p n =
     let chunks : map (chunk_at (with_arrived w p)) (slots_of (with_arrived w p) n) ≡ map (chunk_at w) (slots_of w n) =
-    map-all (chunk_at (with_arrived w p)) (chunk_at w) (slots_of (with_arrived w p) n) (λ k. Arrival.chunk_at-arrived w p k) ∙ ap (map (chunk_at w)) (slots_of-arrived w p n) in
+    map-all (chunk_at (with_arrived w p)) (chunk_at w) (slots_of (with_arrived w p) n) (λ k. Arrival.chunk_at-arrived w p k)
+    ∙ ap (map (chunk_at w)) (slots_of-arrived w p n) in
     ap (λ c. let x : ChunkSet = record { ssn = 0; ppi = (message_at w n).ppi; chunks = c } in x) chunks
 
 pub complete_sets-arrived : (w : LinkRecord) (p s : ℕ) → complete_sets (with_arrived w p) s ≡ complete_sets w s
@@ -52,7 +53,8 @@ ordered_sets-elsewhere w p s off =
     (λ k a b held. Arrival.set_of-elsewhere w p k (λ e. not_both (sym off ∙ rw e (on k held))))
   where
     on : (k : ℕ) → is_held (with_arrived w p) s k ≡ true → is_ordered_on w s k ≡ true
-    on k e = (both (is_ordered_on w s k) (is_unread w k && (nat_lt 0 (arrived_of (with_arrived w p) k) && (is_complete_message (with_arrived w p) k || nat_le (stream_of w s).named (index_of w k)))) e).0
+    on k e = (both (is_ordered_on w s k) (is_unread w k
+        && (nat_lt 0 (arrived_of (with_arrived w p) k) && (is_complete_message (with_arrived w p) k || nat_le (stream_of w s).named (index_of w k)))) e).0
 
 -- whether an unordered message is complete is told by its stream and by whether it was read
 pub complete-unordered : (w : LinkRecord) (p n : ℕ) → (message_at w n).ordered ≡ false → is_complete_message (with_arrived w p) n ≡ is_complete_message w n
@@ -77,7 +79,8 @@ unassembled-other w p s k ne =
     by_kind k false e = refl
 
 -- the unassembled chunks, where the slot is of no unordered message of the stream
-pub unassembled-elsewhere : (w : LinkRecord) (p s : ℕ) → is_unordered_on w s (message_of w p) ≡ false → unassembled_chunks (with_arrived w p) s ≡ unassembled_chunks w s
+pub unassembled-elsewhere : (w : LinkRecord) (p s : ℕ) → is_unordered_on w s (message_of w p) ≡ false
+    → unassembled_chunks (with_arrived w p) s ≡ unassembled_chunks w s
 unassembled-elsewhere w p s off =
     ap (λ c. map (chunk_at (with_arrived w p)) (numbers_where (is_unassembled (with_arrived w p) s) 0 c)) (Arrival.count-arrived w p)
     ∙ map-kept-same (chunk_at (with_arrived w p)) (chunk_at w) (is_unassembled (with_arrived w p) s) (is_unassembled w s) 0 (length w.slots)

@@ -1,5 +1,6 @@
 -- Runs among the unassembled chunks are complete messages.
-use Rattle.std.proofs.Common.{◌≡◌, ℕ, zero, suc, ◌+◌, ◌-◌, ◌<◌, ◌≤◌, ◌%◌, ◌^◌, Bool, true, false, List, [], ◌∷◌, length, map, get_or, refl, ap, sym, ◌∙◌, inl, inr, arith}
+use Rattle.std.proofs.Common.{◌≡◌, ℕ, zero, suc, ◌+◌, ◌-◌, ◌<◌, ◌≤◌, ◌%◌, ◌^◌, Bool, true, false, List, [], ◌∷◌, length, map, get_or, refl, ap, sym, ◌∙◌, inl}
+use Rattle.std.proofs.Common.{inr, arith}
 use Rattle.std.specs.Prelude.{◌⊎◌, if◌then◌else◌, ◌==◌, ◌&&◌, not, nat_le}
 use Rattle.std.specs.List.{list_all}
 use Rattle.std.proofs.lemmas.Bool.{cases_lt}
@@ -41,7 +42,8 @@ pub kept-full : (p : ℕ → Bool) (from count k : ℕ) → length (numbers_wher
 kept-full p from zero k e a b = absurd (omega arith)
 kept-full p from (suc count) k e a b = step (p from) refl e (cases_lt from k) (λ h l. kept-full p (from + 1) count k h l (omega arith))
   where
-    step : (c : Bool) → p from ≡ c → length (if c then from ∷ numbers_where p (from + 1) count else numbers_where p (from + 1) count) ≡ suc count → (from < k) ⊎ (k ≤ from) → (length (numbers_where p (from + 1) count) ≡ count → from + 1 ≤ k → p k ≡ true) → p k ≡ true
+    step : (c : Bool) → p from ≡ c → length (if c then from ∷ numbers_where p (from + 1) count else numbers_where p (from + 1) count) ≡ suc count
+        → (from < k) ⊎ (k ≤ from) → (length (numbers_where p (from + 1) count) ≡ count → from + 1 ≤ k → p k ≡ true) → p k ≡ true
     step true h e (inl l) ih = ih (omega arith) (omega arith)
     step true h e (inr g) ih = let z : k ≡ from = omega arith in rw z h
     step false h e side ih = absurd (omega (arith, length-kept-le p (from + 1) count))
@@ -50,7 +52,8 @@ pub all-kept : (t p : ℕ → Bool) (from count : ℕ) → ((k : ℕ) → p k �
 all-kept t p from zero h = refl
 all-kept t p from (suc count) h = step (p from) refl (all-kept t p (from + 1) count h)
   where
-    step : (b : Bool) → p from ≡ b → list_all t (numbers_where p (from + 1) count) ≡ true → list_all t (if b then from ∷ numbers_where p (from + 1) count else numbers_where p (from + 1) count) ≡ true
+    step : (b : Bool) → p from ≡ b → list_all t (numbers_where p (from + 1) count) ≡ true
+        → list_all t (if b then from ∷ numbers_where p (from + 1) count else numbers_where p (from + 1) count) ≡ true
     step true e ih = rw (h from e, ih) refl
     step false e ih = ih
 
@@ -58,7 +61,8 @@ pub kept-all : (t p : ℕ → Bool) (from count k : ℕ) → list_all t (numbers
 kept-all t p from zero k e a b h = absurd (omega arith)
 kept-all t p from (suc count) k e a b h = step (p from) refl e (cases_lt from k) (λ x l. kept-all t p (from + 1) count k x l (omega arith) h)
   where
-    step : (c : Bool) → p from ≡ c → list_all t (if c then from ∷ numbers_where p (from + 1) count else numbers_where p (from + 1) count) ≡ true → (from < k) ⊎ (k ≤ from) → (list_all t (numbers_where p (from + 1) count) ≡ true → from + 1 ≤ k → t k ≡ true) → t k ≡ true
+    step : (c : Bool) → p from ≡ c → list_all t (if c then from ∷ numbers_where p (from + 1) count else numbers_where p (from + 1) count) ≡ true
+        → (from < k) ⊎ (k ≤ from) → (list_all t (numbers_where p (from + 1) count) ≡ true → from + 1 ≤ k → t k ≡ true) → t k ≡ true
     step true x e (inl l) ih = ih (both (t from) (list_all t (numbers_where p (from + 1) count)) e).1 (omega arith)
     step true x e (inr g) ih = let z : k ≡ from = omega arith in rw z (both (t from) (list_all t (numbers_where p (from + 1) count)) e).0
     step false x e (inl l) ih = ih e (omega arith)
@@ -83,7 +87,8 @@ unassembled w s k e =
 pub is-unassembled : (w : LinkRecord) (s k : ℕ) → IsUnassembled w s k → is_unassembled w s k ≡ true
 is-unassembled w s k l =
     and (arrived_at w k) (nat_le w.skipped k && (is_unordered_on w s (message_of w k) && not (is_complete_message w (message_of w k)))) l.datagram_received
-    (and (nat_le w.skipped k) (is_unordered_on w s (message_of w k) && not (is_complete_message w (message_of w k))) (let le = l.past in grind (arith, nat_tests))
+    (and (nat_le w.skipped k) (is_unordered_on w s (message_of w k) && not (is_complete_message w (message_of w k))) (let le = l.past in
+    grind (arith, nat_tests))
     (and (is_unordered_on w s (message_of w k)) (not (is_complete_message w (message_of w k))) l.on (ap not l.complete)))
 
 -- ## A run is a message
@@ -98,7 +103,8 @@ pub record IsCompleteRun (w : LinkRecord) (q : ℕ → Bool) (first count : ℕ)
   pub count_is : count ≡ fragment_count w (message_of w base)
   pub first_is : length (numbers_where q 0 base) ≡ first
 
-module _ (w : LinkRecord) (q : ℕ → Bool) (first count : ℕ) (valid : Valid w) (more : ValidUnassembled w) (datagram_received : (k : ℕ) → q k ≡ true → has_fragment w (message_of w k) k ≡ true) (run : IsRun (map (chunk_at w) (numbers_where q 0 (length w.slots))) first count) where
+module _ (w : LinkRecord) (q : ℕ → Bool) (first count : ℕ) (valid : Valid w) (more : ValidUnassembled w) (datagram_received : (k : ℕ) → q k ≡ true
+    → has_fragment w (message_of w k) k ≡ true) (run : IsRun (map (chunk_at w) (numbers_where q 0 (length w.slots))) first count) where
   abbrev at : ℕ → ℕ
   at i = get_or (numbers_where q 0 (length w.slots)) (first + i) 0
 
@@ -120,7 +126,9 @@ module _ (w : LinkRecord) (q : ℕ → Bool) (first count : ℕ) (valid : Valid 
   starts : (slot_at w (at 0)).fragment ≡ 0
   starts =
       let d = chunk_at w 0 in
-      let e : (chunk_at w (at 0)).beginning_fragment ≡ true = ap (λ x. x.beginning_fragment) (sym (value 0 d run.some)) ∙ ap (λ k. (get_or (map (chunk_at w) (numbers_where q 0 (length w.slots))) k d).beginning_fragment) (let z : first + 0 ≡ first = omega arith in z) ∙ run.begins d in
+      let e : (chunk_at w (at 0)).beginning_fragment ≡ true = ap (λ x. x.beginning_fragment) (sym (value 0 d run.some))
+      ∙ ap (λ k. (get_or (map (chunk_at w) (numbers_where q 0 (length w.slots))) k d).beginning_fragment) (let z : first + 0 ≡ first = omega arith in z)
+      ∙ run.begins d in
       let h : ((slot_at w (at 0)).fragment == 0) ≡ true = e in
       grind (arith, nat_tests)
 
@@ -132,15 +140,19 @@ module _ (w : LinkRecord) (q : ℕ → Bool) (first count : ℕ) (valid : Valid 
       let d = chunk_at w 0 in
       let index : first + i + 1 ≡ first + suc i = omega arith in
       let rise : tsn_at (at (suc i)) ≡ (tsn_at (at i) + 1) % 2 ^ 32 =
-      ap (λ x. x.tsn) (sym (value (suc i) d lt)) ∙ ap (λ k. (get_or (map (chunk_at w) (numbers_where q 0 (length w.slots))) k d).tsn) (sym index) ∙ run.rising (first + i) d (omega arith) (omega arith) ∙ ap (λ x. (x.tsn + 1) % 2 ^ 32) (value i d (omega arith)) in
+      ap (λ x. x.tsn) (sym (value (suc i) d lt)) ∙ ap (λ k. (get_or (map (chunk_at w) (numbers_where q 0 (length w.slots))) k d).tsn) (sym index)
+      ∙ run.rising (first + i) d (omega arith) (omega arith) ∙ ap (λ x. (x.tsn + 1) % 2 ^ 32) (value i d (omega arith)) in
       let next : at (suc i) ≡ at i + 1 = follows (at i) (at (suc i)) (in-slots i (omega arith)) (in-slots (suc i) lt) rise in
-      let middle : (chunk_at w (at (suc i))).beginning_fragment ≡ false = ap (λ x. x.beginning_fragment) (sym (value (suc i) d lt)) ∙ run.no_other (first + suc i) d (omega arith) (omega arith) in
+      let middle : (chunk_at w (at (suc i))).beginning_fragment ≡ false = ap (λ x. x.beginning_fragment) (sym (value (suc i) d lt))
+      ∙ run.no_other (first + suc i) d (omega arith) (omega arith) in
       let later : ((slot_at w (at (suc i))).fragment == 0) ≡ false = middle in
       let positive : 0 < (slot_at w (at (suc i))).fragment = grind (arith, nat_tests) in
       let here : has_fragment w (message_of w (at (suc i))) (at (suc i)) ≡ true = datagram_received (at (suc i)) (passes (suc i) lt) in
-      let back : has_fragment w (message_of w (at (suc i))) (at (suc i) - 1) ≡ true = more.prefix (message_of w (at (suc i))) (at (suc i)) ((slot_at w (at (suc i))).fragment - 1) here (omega arith) in
+      let back : has_fragment w (message_of w (at (suc i))) (at (suc i) - 1) ≡ true = more.prefix (message_of w (at (suc i))) (at (suc i))
+      ((slot_at w (at (suc i))).fragment - 1) here (omega arith) in
       let place' : at (suc i) - 1 ≡ at i = omega (arith, next) in
-      let same : message_of w (at i) ≡ message_of w (at (suc i)) = ap (message_of w) (sym place') ∙ Arrival.of_message w (message_of w (at (suc i))) (at (suc i) - 1) back in
+      let same : message_of w (at i) ≡ message_of w (at (suc i)) = ap (message_of w) (sym place')
+      ∙ Arrival.of_message w (message_of w (at (suc i))) (at (suc i) - 1) back in
       let laid = valid.laid (message_of w (at (suc i))) in
       let one = laid.1.at (at (suc i)) here in
       let two = laid.1.at (at i) (ap (has_fragment w (message_of w (at (suc i)))) (sym place') ∙ back) in
@@ -158,7 +170,8 @@ module _ (w : LinkRecord) (q : ℕ → Bool) (first count : ℕ) (valid : Valid 
       let last = goes_on (count - 1) (omega (arith, run.some)) in
       let d = chunk_at w 0 in
       let index : first + (count - 1) ≡ first + count - 1 = omega (arith, run.some) in
-      let e : (chunk_at w (at (count - 1))).ending_fragment ≡ true = ap (λ x. x.ending_fragment) (sym (value (count - 1) d (omega (arith, run.some)))) ∙ ap (λ k. (get_or (map (chunk_at w) (numbers_where q 0 (length w.slots))) k d).ending_fragment) index ∙ run.ends d in
+      let e : (chunk_at w (at (count - 1))).ending_fragment ≡ true = ap (λ x. x.ending_fragment) (sym (value (count - 1) d (omega (arith, run.some))))
+      ∙ ap (λ k. (get_or (map (chunk_at w) (numbers_where q 0 (length w.slots))) k d).ending_fragment) index ∙ run.ends d in
       let h : ((slot_at w (at (count - 1))).fragment + 1 == fragment_count w (message_of w (at (count - 1)))) ≡ true = e in
       let total : (slot_at w (at (count - 1))).fragment + 1 ≡ fragment_count w (message_of w (at (count - 1))) = grind (arith, nat_tests) in
       let r = place 0 run.some in
@@ -168,7 +181,10 @@ module _ (w : LinkRecord) (q : ℕ → Bool) (first count : ℕ) (valid : Valid 
         begins = starts;
         made = in-slots 0 run.some;
         passes = passes 0 run.some;
-        all = λ i lt. let g = goes_on i lt in (ap q (sym g.0) ∙ passes i lt, ap (has_fragment w (message_of w (at 0))) (sym g.0) ∙ ap (λ m. has_fragment w m (at i)) (sym g.1) ∙ datagram_received (at i) (passes i lt));
+        all = λ i lt. let g = goes_on i lt in (
+          ap q (sym g.0) ∙ passes i lt,
+          ap (has_fragment w (message_of w (at 0))) (sym g.0) ∙ ap (λ m. has_fragment w m (at i)) (sym g.1) ∙ datagram_received (at i) (passes i lt),
+        );
         count_is = omega (arith, total, ap (fragment_count w) last.1, last.2, run.some);
         first_is = ap (λ x. length (numbers_where q 0 x)) k ∙ r.place_is ∙ omega arith;
       }

@@ -1,5 +1,6 @@
 -- An unordered chunk arrives: a complete run is there exactly where its message becomes complete.
-use Rattle.std.proofs.Common.{◌≡◌, ℕ, zero, suc, ◌+◌, ◌-◌, ◌<◌, ◌≤◌, ◌%◌, ◌^◌, Bool, true, false, List, [], ◌∷◌, length, map, get_or, refl, ap, sym, ◌∙◌, inl, inr, arith, length-append}
+use Rattle.std.proofs.Common.{◌≡◌, ℕ, zero, suc, ◌+◌, ◌-◌, ◌<◌, ◌≤◌, ◌%◌, ◌^◌, Bool, true, false, List, [], ◌∷◌, length, map, get_or, refl, ap, sym, ◌∙◌, inl}
+use Rattle.std.proofs.Common.{inr, arith, length-append}
 use Rattle.std.specs.Prelude.{◌⊎◌, ◌==◌, ◌&&◌, not, nat_le}
 use Rattle.std.specs.List.{list_all}
 use Rattle.std.proofs.lemmas.Bool.{cases_lt}
@@ -23,7 +24,8 @@ use Rattle.sctp_refinement.proofs.arriving.Arrival
 use Rattle.sctp_refinement.proofs.arriving.Arrival.{with_arrived}
 use Rattle.sctp_refinement.proofs.arriving.Stays
 use Rattle.sctp_refinement.proofs.arriving.Stays.{by_place}
-use Rattle.sctp_refinement.proofs.arriving.Unassembled.{get-map, length-map, length-kept-all, kept-full, all-kept, kept-all, unassembled, is-unassembled, IsCompleteRun, run-is}
+use Rattle.sctp_refinement.proofs.arriving.Unassembled.{get-map, length-map, length-kept-all, kept-full, all-kept, kept-all, unassembled, is-unassembled}
+use Rattle.sctp_refinement.proofs.arriving.Unassembled.{IsCompleteRun, run-is}
 use Rattle.sctp_list_lemmas.proofs.Cases.{negated}
 use Rattle.sctp_list_lemmas.proofs.Places.{kept-get}
 
@@ -88,7 +90,8 @@ module _ (w : LinkRecord) (s p : ℕ) (valid : Valid w) (more : ValidUnassembled
       omega (arith, Arrival.arrived_of-here w p a.made a.new a.fragment, most)
 
   not_complete : is_complete_message w n ≡ false
-  not_complete = fails (is_complete_message w n) (λ e. let h : has_arrived w n ≡ true = more.complete_arrived n (unordered-of w s n a.on).1 e in let z : arrived_of w n ≡ count = grind (arith, nat_tests) in absurd (omega (arith, one_short)))
+  not_complete = fails (is_complete_message w n) (λ e. let h : has_arrived w n ≡ true = more.complete_arrived n (unordered-of w s n a.on).1 e in
+      let z : arrived_of w n ≡ count = grind (arith, nat_tests) in absurd (omega (arith, one_short)))
 
   skipped-le : w.skipped ≤ p
   skipped-le = omega (arith, a.fresh)
@@ -120,7 +123,8 @@ module _ (w : LinkRecord) (s p : ℕ) (valid : Valid w) (more : ValidUnassembled
   -- ## No other run
 
   pub fragments : (k : ℕ) → q k ≡ true → has_fragment w (message_of w k) k ≡ true
-  fragments k e = Arrival.has-fragment w k (by_place {C = (slot_at w k).is_terminal_chunk ≡ false} k p (λ ne. more.marks k (sym (Arrival.arrived-other w p k ne) ∙ (unassembled v s k e).datagram_received)) (λ z. rw z a.fragment))
+  fragments k e = Arrival.has-fragment w k (by_place {C = (slot_at w k).is_terminal_chunk ≡ false} k p
+      (λ ne. more.marks k (sym (Arrival.arrived-other w p k ne) ∙ (unassembled v s k e).datagram_received)) (λ z. rw z a.fragment))
 
   becomes : (first c : ℕ) → (r : IsCompleteRun w q first c) → becomes_complete v (message_of w r.base) ≡ true
   becomes first c r =
@@ -131,10 +135,13 @@ module _ (w : LinkRecord) (s p : ℕ) (valid : Valid w) (more : ValidUnassembled
       let x = unassembled v s r.base (front first c r) in
       let kind : (message_at w m).ordered ≡ false = (unordered-of w s m (ap (is_unordered_on w s) (sym (Arrival.message_of-arrived w p r.base)) ∙ x.on)).1 in
       let window = Arrival.window v m l.0 (laid-arrived w p m l.0 l.1) in
-      let full : length (numbers_where (has_come v m) l.0 (fragment_count w m)) ≡ fragment_count w m = length-kept-all (has_come v m) l.0 (fragment_count w m) (λ k b e. arrived r k (omega (arith, b, start)) (omega (arith, e, start, r.count_is))) in
+      let full : length (numbers_where (has_come v m) l.0 (fragment_count w m)) ≡ fragment_count w m = length-kept-all (has_come v m) l.0 (fragment_count w m)
+      (λ k b e. arrived r k (omega (arith, b, start)) (omega (arith, e, start, r.count_is))) in
       let arrives : has_arrived v m ≡ true = (let z : arrived_of v m ≡ fragment_count w m = ap length window ∙ full in grind (arith, nat_tests)) in
-      let past : list_all (λ k. nat_le w.skipped k) (slots_of v m) ≡ true = all-kept (λ k. nat_le w.skipped k) (has_fragment v m) 0 (length v.slots) (λ k e. low k (omega (arith, l.1.at k (sym (Arrival.has_fragment-arrived w p m k) ∙ e), start, x.past))) in
-      and (not (message_at w m).ordered) (has_arrived v m && list_all (λ k. nat_le w.skipped k) (slots_of v m)) (ap not kind) (and (has_arrived v m) (list_all (λ k. nat_le w.skipped k) (slots_of v m)) arrives past)
+      let past : list_all (λ k. nat_le w.skipped k) (slots_of v m) ≡ true = all-kept (λ k. nat_le w.skipped k) (has_fragment v m) 0 (length v.slots)
+      (λ k e. low k (omega (arith, l.1.at k (sym (Arrival.has_fragment-arrived w p m k) ∙ e), start, x.past))) in
+      and (not (message_at w m).ordered) (has_arrived v m && list_all (λ k. nat_le w.skipped k) (slots_of v m)) (ap not kind)
+      (and (has_arrived v m) (list_all (λ k. nat_le w.skipped k) (slots_of v m)) arrives past)
     where
       front : (first c : ℕ) → (r : IsCompleteRun w q first c) → q r.base ≡ true
       front first c r = r.passes
@@ -146,7 +153,8 @@ module _ (w : LinkRecord) (s p : ℕ) (valid : Valid w) (more : ValidUnassembled
       arrived r k low high =
           let i : r.base + (k - r.base) ≡ k = omega arith in
           let g = r.all (k - r.base) (omega arith) in
-          and (has_fragment v (message_of w r.base) k) (arrived_at v k) (Arrival.has_fragment-arrived w p (message_of w r.base) k ∙ ap (has_fragment w (message_of w r.base)) (sym i) ∙ g.1) (unassembled v s k (ap q (sym i) ∙ g.0)).datagram_received
+          and (has_fragment v (message_of w r.base) k) (arrived_at v k) (Arrival.has_fragment-arrived w p (message_of w r.base) k
+          ∙ ap (has_fragment w (message_of w r.base)) (sym i) ∙ g.1) (unassembled v s k (ap q (sym i) ∙ g.0)).datagram_received
 
   -- a run is that of the message that came
   pub run-mine : (first c : ℕ) → IsRun xs first c → (becomes_complete v n ≡ true) × (first ≡ length (numbers_where q 0 base)) × (c ≡ count)
@@ -155,15 +163,18 @@ module _ (w : LinkRecord) (s p : ℕ) (valid : Valid w) (more : ValidUnassembled
       let m = message_of w r.base in
       let complete : becomes_complete v m ≡ true = becomes first c r in
       let same : n ≡ m = by_place {C = n ≡ m} n m (λ ne. absurd (stale r ne (sym (becomes-elsewhere w p m ne) ∙ complete))) (λ e. e) in
-      let start : r.base ≡ base = laid.at r.base (ap (λ x. has_fragment w x r.base) same ∙ fragments r.base r.passes) ∙ ap (λ i. base + i) r.begins ∙ omega arith in
+      let start : r.base ≡ base = laid.at r.base (ap (λ x. has_fragment w x r.base) same ∙ fragments r.base r.passes) ∙ ap (λ i. base + i) r.begins
+      ∙ omega arith in
       (ap (becomes_complete v) same ∙ complete, sym r.first_is ∙ ap (λ b. length (numbers_where q 0 b)) start, r.count_is ∙ ap (fragment_count w) (sym same))
     where
       stale : (r : IsCompleteRun w q first c) → (n ≡ message_of w r.base → ⊥) → becomes_complete w (message_of w r.base) ≡ true → ⊥
       stale r ne e =
           let x = unassembled v s r.base r.passes in
           let m = message_of w r.base in
-          let kind : (message_at w m).ordered ≡ false = (unordered-of w s m (ap (is_unordered_on w s) (sym (Arrival.message_of-arrived w p r.base)) ∙ x.on)).1 in
-          not_both (sym x.complete ∙ ap (is_complete_message v) (Arrival.message_of-arrived w p r.base) ∙ Stays.complete-unordered w p m kind ∙ more.arrived_complete m e)
+          let kind : (message_at w m).ordered ≡ false =
+          (unordered-of w s m (ap (is_unordered_on w s) (sym (Arrival.message_of-arrived w p r.base)) ∙ x.on)).1 in
+          not_both (sym x.complete ∙ ap (is_complete_message v) (Arrival.message_of-arrived w p r.base) ∙ Stays.complete-unordered w p m kind
+          ∙ more.arrived_complete m e)
 
   pub no-run : becomes_complete v n ≡ false → HasNoRun xs
   no-run e = λ f c run. not_both (sym e ∙ (run-mine f c run).0)
@@ -172,7 +183,8 @@ module _ (w : LinkRecord) (s p : ℕ) (valid : Valid w) (more : ValidUnassembled
 
   module _ (complete : becomes_complete v n ≡ true) where
     parts : (has_arrived v n ≡ true) × (list_all (λ k. nat_le w.skipped k) (slots_of v n) ≡ true)
-    parts = both (has_arrived v n) (list_all (λ k. nat_le w.skipped k) (slots_of v n)) (both (not (message_at w n).ordered) (has_arrived v n && list_all (λ k. nat_le w.skipped k) (slots_of v n)) complete).1
+    parts = both (has_arrived v n) (list_all (λ k. nat_le w.skipped k) (slots_of v n))
+        (both (not (message_at w n).ordered) (has_arrived v n && list_all (λ k. nat_le w.skipped k) (slots_of v n)) complete).1
 
     full : length (numbers_where (has_come v n) base count) ≡ count
     full =
@@ -185,7 +197,8 @@ module _ (w : LinkRecord) (s p : ℕ) (valid : Valid w) (more : ValidUnassembled
         let c = Arrival.come v n k (kept-full (has_come v n) base count k full low high) in
         let frag : has_fragment w n k ≡ true = sym (Arrival.has_fragment-arrived w p n k) ∙ c.0 in
         let of : message_of v k ≡ n = Arrival.message_of-arrived w p k ∙ Arrival.of_message w n k frag in
-        let past : nat_le w.skipped k ≡ true = kept-all (λ k. nat_le w.skipped k) (has_fragment v n) 0 (length v.slots) k parts.1 (omega arith) (omega (arith, inside k c.0 (cases_lt k (length v.slots)))) c.0 in (
+        let past : nat_le w.skipped k ≡ true = kept-all (λ k. nat_le w.skipped k) (has_fragment v n) 0 (length v.slots) k parts.1 (omega arith)
+        (omega (arith, inside k c.0 (cases_lt k (length v.slots)))) c.0 in (
           is-unassembled v s k (record {
             datagram_received = c.1;
             past = grind (arith, nat_tests);
@@ -206,7 +219,9 @@ module _ (w : LinkRecord) (s p : ℕ) (valid : Valid w) (more : ValidUnassembled
     upto zero le = let z : base + 0 ≡ base = omega arith in ap (λ b. length (numbers_where q 0 b)) z ∙ omega arith
     upto (suc i) le =
         let z : base + suc i ≡ suc (base + i) = omega arith in
-        ap (λ b. length (numbers_where q 0 b)) z ∙ ap length (kept-snoc_in q 0 (base + i) (base + i) (omega arith) (mine (base + i) (omega arith) (omega arith)).0) ∙ length-append (numbers_where q 0 (base + i)) ((base + i) ∷ []) ∙ omega (arith, upto i (omega arith))
+        ap (λ b. length (numbers_where q 0 b)) z
+        ∙ ap length (kept-snoc_in q 0 (base + i) (base + i) (omega arith) (mine (base + i) (omega arith) (omega arith)).0)
+        ∙ length-append (numbers_where q 0 (base + i)) ((base + i) ∷ []) ∙ omega (arith, upto i (omega arith))
 
     in-slots : (k : ℕ) → has_fragment w n k ≡ true → (k < length w.slots) ⊎ (length w.slots ≤ k) → k < length w.slots
     in-slots k h (inl l) = l
@@ -227,7 +242,8 @@ module _ (w : LinkRecord) (s p : ℕ) (valid : Valid w) (more : ValidUnassembled
     value : (i : ℕ) (d : ChunkPayloadData) → i < count → get_or xs (first + i) d ≡ chunk_at w (base + i)
     value i d lt =
         get-map (chunk_at w) (numbers_where q 0 (length w.slots)) (first + i) d (omega (arith, long))
-        ∙ ap (chunk_at w) (ap (λ j. get_or (numbers_where q 0 (length w.slots)) j 0) (sym (upto i (omega arith))) ∙ kept-get q 0 (length w.slots) (base + i) (base + i) 0 (omega arith) (omega (arith, top)) (mine (base + i) (omega arith) (omega arith)).0)
+        ∙ ap (chunk_at w) (ap (λ j. get_or (numbers_where q 0 (length w.slots)) j 0) (sym (upto i (omega arith)))
+        ∙ kept-get q 0 (length w.slots) (base + i) (base + i) 0 (omega arith) (omega (arith, top)) (mine (base + i) (omega arith) (omega arith)).0)
 
     number : (i : ℕ) → i < count → (slot_at w (base + i)).fragment ≡ i
     number i lt = omega (arith, laid.at (base + i) (mine (base + i) (omega arith) (omega arith)).1)
@@ -243,7 +259,8 @@ module _ (w : LinkRecord) (s p : ℕ) (valid : Valid w) (more : ValidUnassembled
       no_other = λ k d low high.
           let z : first + (k - first) ≡ k = omega arith in
           let f = number (k - first) (omega arith) in
-          ap (λ k. (get_or xs k d).beginning_fragment) (sym z) ∙ ap (λ x. x.beginning_fragment) (value (k - first) d (omega arith)) ∙ other (k - first) (slot_at w (base + (k - first))).fragment f (omega arith);
+          ap (λ k. (get_or xs k d).beginning_fragment) (sym z) ∙ ap (λ x. x.beginning_fragment) (value (k - first) d (omega arith))
+          ∙ other (k - first) (slot_at w (base + (k - first))).fragment f (omega arith);
       rising = λ k d low high.
           let i = k - first in
           let z : first + i ≡ k = omega arith in
@@ -255,7 +272,9 @@ module _ (w : LinkRecord) (s p : ℕ) (valid : Valid w) (more : ValidUnassembled
           let last : base + (count - 1) < base + count = omega (arith, some) in
           let f = number (count - 1) (omega (arith, some)) in
           let of : message_of w (base + (count - 1)) ≡ n = Arrival.of_message w n (base + (count - 1)) (mine (base + (count - 1)) (omega arith) last).1 in
-          ap (λ k. (get_or xs k d).ending_fragment) (sym z) ∙ ap (λ x. x.ending_fragment) (value (count - 1) d (omega (arith, some))) ∙ ap (λ m. (slot_at w (base + (count - 1))).fragment + 1 == fragment_count w m) of ∙ closes (slot_at w (base + (count - 1))).fragment count f some;
+          ap (λ k. (get_or xs k d).ending_fragment) (sym z) ∙ ap (λ x. x.ending_fragment) (value (count - 1) d (omega (arith, some)))
+          ∙ ap (λ m. (slot_at w (base + (count - 1))).fragment + 1 == fragment_count w m) of
+          ∙ closes (slot_at w (base + (count - 1))).fragment count f some;
     }
       where
         other : (i f : ℕ) → f ≡ i → 0 < i → (f == 0) ≡ false

@@ -25,23 +25,28 @@ use Rattle.sctp_refinement.proofs.arriving.UnorderedStep.{with_streams, next-str
 
 -- ## A stream's queue where the stream's record is as it was
 
-pub restreamed : (v : LinkRecord) (rs : List StreamRecord) (t : ℕ) → ((x : ℕ) → (stream_of (with_streams v rs) x).named ≡ (stream_of v x).named) → (stream_of (with_streams v rs) t).complete ≡ (stream_of v t).complete → reassembly_of (with_streams v rs) t ≡ reassembly_of v t
+pub restreamed : (v : LinkRecord) (rs : List StreamRecord) (t : ℕ) → ((x : ℕ) → (stream_of (with_streams v rs) x).named ≡ (stream_of v x).named)
+    → (stream_of (with_streams v rs) t).complete ≡ (stream_of v t).complete → reassembly_of (with_streams v rs) t ≡ reassembly_of v t
 restreamed v rs t named complete =
     parts (next-streams v rs named t) (sets-streams v rs named t) (ap (map (complete_set_of v)) complete)
-    (map-kept-same (chunk_at (with_streams v rs)) (chunk_at v) (is_unassembled (with_streams v rs) t) (is_unassembled v t) 0 (length v.slots) (λ k a b. ap (λ x. arrived_at v k && (nat_le v.skipped k && x)) (by_kind (message_of v k) (is_unordered_on v t (message_of v k)) refl)) (λ k a b e. refl))
+    (map-kept-same (chunk_at (with_streams v rs)) (chunk_at v) (is_unassembled (with_streams v rs) t) (is_unassembled v t) 0 (length v.slots) (λ k a b.
+    ap (λ x. arrived_at v k && (nat_le v.skipped k && x)) (by_kind (message_of v k) (is_unordered_on v t (message_of v k)) refl)) (λ k a b e. refl))
   where
-    by_kind : (m : ℕ) (b : Bool) → is_unordered_on v t m ≡ b → (is_unordered_on v t m && not (is_complete_message (with_streams v rs) m)) ≡ (is_unordered_on v t m && not (is_complete_message v m))
+    by_kind : (m : ℕ) (b : Bool) → is_unordered_on v t m ≡ b
+        → (is_unordered_on v t m && not (is_complete_message (with_streams v rs) m)) ≡ (is_unordered_on v t m && not (is_complete_message v m))
     by_kind m true e =
         let u = unordered-of v t m e in
         let same : is_complete_message (with_streams v rs) m ≡ is_complete_message v m =
-        ap (λ x. if (message_at v m).ordered then has_arrived v m else ((message_at v m).read || list_any (λ k. k == m) (stream_of (with_streams v rs) x).complete)) u.0
-        ∙ ap (λ l. if (message_at v m).ordered then has_arrived v m else ((message_at v m).read || list_any (λ k. k == m) l)) complete
-        ∙ ap (λ x. if (message_at v m).ordered then has_arrived v m else ((message_at v m).read || list_any (λ k. k == m) (stream_of v x).complete)) (sym u.0) in
+        ap (λ x. if (message_at v m).ordered then has_arrived v m
+        else ((message_at v m).read || list_any (λ k. k == m) (stream_of (with_streams v rs) x).complete)) u.0
+        ∙ ap (λ l. if (message_at v m).ordered then has_arrived v m else ((message_at v m).read || list_any (λ k. k == m) l)) complete ∙ ap
+        (λ x. if (message_at v m).ordered then has_arrived v m else ((message_at v m).read || list_any (λ k. k == m) (stream_of v x).complete)) (sym u.0) in
         ap (λ x. is_unordered_on v t m && not x) same
     by_kind m false e = rw e refl
 
 -- what a change of one stream's record leaves of the others'
-module _ (v : LinkRecord) (s : ℕ) (f : StreamRecord → StreamRecord) (stream : (r : StreamRecord) → (f r).stream ≡ r.stream) (named : (r : StreamRecord) → (f r).named ≡ r.named) where
+module _ (v : LinkRecord) (s : ℕ) (f : StreamRecord → StreamRecord) (stream : (r : StreamRecord) → (f r).stream ≡ r.stream)
+    (named : (r : StreamRecord) → (f r).named ≡ r.named) where
   abbrev at_s : StreamRecord → StreamRecord
   at_s r = if r.stream == s then f r else r
 
@@ -72,7 +77,8 @@ module _ (v : LinkRecord) (s : ℕ) (f : StreamRecord → StreamRecord) (stream 
   pub complete-other : (t : ℕ) → (t ≡ s → ⊥) → (stream_of (stream_changed v s f) t).complete ≡ (stream_of v t).complete
   complete-other t ne = ap (λ o. (unwrap_or o (no_stream t)).complete) (found t) ∙ same (stream_at v t) refl
     where
-      same : (o : Option StreamRecord) → stream_at v t ≡ o → (unwrap_or (then_by (λ r. if r.stream == s then f r else r) o) (no_stream t)).complete ≡ (unwrap_or o (no_stream t)).complete
+      same : (o : Option StreamRecord) → stream_at v t ≡ o
+          → (unwrap_or (then_by (λ r. if r.stream == s then f r else r) o) (no_stream t)).complete ≡ (unwrap_or o (no_stream t)).complete
       same None e = refl
       same (Some r) e =
           let id : r.stream ≡ t = find-passes t v.streams r e in
@@ -97,24 +103,29 @@ unordered-elsewhere w s p t a ne =
     let new : Receiver.is_new w p ≡ true = rw a.new (grind (arith, nat_tests, a.fresh)) in
     let off : is_unordered_on w t n ≡ false = fails (is_unordered_on w t n) (λ e. ne (sym (unordered-of w t n e).0 ∙ u.0)) in
     let off' : is_ordered_on w t n ≡ false = fails (is_ordered_on w t n) (λ e. not_both (sym u.1 ∙ Line.on-ordered w t n e)) in
-    let plain : reassembly_of v t ≡ reassembly_of w t = parts refl (Stays.ordered_sets-elsewhere w p t off') (Stays.complete_sets-arrived w p t) (Stays.unassembled-elsewhere w p t off) in
+    let plain : reassembly_of v t ≡ reassembly_of w t = parts refl (Stays.ordered_sets-elsewhere w p t off') (Stays.complete_sets-arrived w p t)
+    (Stays.unassembled-elsewhere w p t off) in
     let noted : reassembly_of (stream_changed v s (with_complete n)) t ≡ reassembly_of v t =
-    restreamed v (stream_changed v s (with_complete n)).streams t (named-changed v s (with_complete n) (λ r. refl) (λ r. refl)) (complete-other v s (with_complete n) (λ r. refl) (λ r. refl) t ne) in
+    restreamed v (stream_changed v s (with_complete n)).streams t (named-changed v s (with_complete n) (λ r. refl) (λ r. refl))
+    (complete-other v s (with_complete n) (λ r. refl) (λ r. refl) t ne) in
     let moved : receive_slot w p ≡ (if becomes_complete v n then stream_changed v s (with_complete n) else v) = rw (new, u.0) refl in
     ap (λ x. reassembly_of x t) moved ∙ step v n (becomes_complete v n) noted ∙ plain
   where
-    step : (v : LinkRecord) (n : ℕ) (b : Bool) → reassembly_of (stream_changed v s (with_complete n)) t ≡ reassembly_of v t → reassembly_of (if b then stream_changed v s (with_complete n) else v) t ≡ reassembly_of v t
+    step : (v : LinkRecord) (n : ℕ) (b : Bool) → reassembly_of (stream_changed v s (with_complete n)) t ≡ reassembly_of v t
+        → reassembly_of (if b then stream_changed v s (with_complete n) else v) t ≡ reassembly_of v t
     step v n true e = e
     step v n false e = refl
 
 -- ## A read as the record has it
 
 -- of an ordered message: no unordered one was complete
-pub ordered-read_of : (w : LinkRecord) (s n t : ℕ) (r : StreamRecord) → stream_at w s ≡ Some r → (stream_of w s).complete ≡ [] → reassembly_of (read_of w s (Some n)) t ≡ reassembly_of (with_read w n) t
+pub ordered-read_of : (w : LinkRecord) (s n t : ℕ) (r : StreamRecord) → stream_at w s ≡ Some r → (stream_of w s).complete ≡ []
+    → reassembly_of (read_of w s (Some n)) t ≡ reassembly_of (with_read w n) t
 ordered-read_of w s n t r open' empty =
     let v = with_read w n in
     let f = Changes.without_first in
     restreamed v (stream_changed v s f).streams t (named-changed v s f (λ r. refl) (λ r. refl))
     (by_place {C = (stream_of (stream_changed v s f) t).complete ≡ (stream_of v t).complete} t s
     (λ ne. complete-other v s f (λ r. refl) (λ r. refl) t ne)
-    (λ e. ap (λ x. (stream_of (stream_changed v s f) x).complete) e ∙ complete-here v s f (λ r. refl) (λ r. refl) r open' ∙ ap (drop 1) empty ∙ sym empty ∙ ap (λ x. (stream_of w x).complete) (sym e)))
+    (λ e. ap (λ x. (stream_of (stream_changed v s f) x).complete) e ∙ complete-here v s f (λ r. refl) (λ r. refl) r open' ∙ ap (drop 1) empty ∙ sym empty
+    ∙ ap (λ x. (stream_of w x).complete) (sym e)))

@@ -15,10 +15,12 @@ use Rattle.sctp_list_lemmas.proofs.Places.{leading-passes, leading-stops, leadin
 -- ## Indexes
 
 pub on-stream : (w : LinkRecord) (s n : ℕ) → is_ordered_on w s n ≡ true → (message_at w n).stream ≡ s
-on-stream w s n on = let h : ((message_at w n).stream == s) ≡ true = (both ((message_at w n).stream == s) ((message_at w n).ordered && not (message_at w n).expired) on).0 in grind (arith, nat_tests)
+on-stream w s n on = let h : ((message_at w n).stream == s) ≡ true =
+    (both ((message_at w n).stream == s) ((message_at w n).ordered && not (message_at w n).expired) on).0 in grind (arith, nat_tests)
 
 pub on-ordered : (w : LinkRecord) (s n : ℕ) → is_ordered_on w s n ≡ true → (message_at w n).ordered ≡ true
-on-ordered w s n on = (both (message_at w n).ordered (not (message_at w n).expired) (both ((message_at w n).stream == s) ((message_at w n).ordered && not (message_at w n).expired) on).1).0
+on-ordered w s n on = (both (message_at w n).ordered (not (message_at w n).expired)
+    (both ((message_at w n).stream == s) ((message_at w n).ordered && not (message_at w n).expired) on).1).0
 
 pub index_on : (w : LinkRecord) (s n : ℕ) → is_ordered_on w s n ≡ true → index_of w n ≡ length (numbers_where (is_ordered_on w s) 0 n)
 index_on w s n on = rw (on-stream w s n on) refl
@@ -55,11 +57,13 @@ index-short w s n on = rw (index_on w s n on) (length-kept-lt (is_ordered_on w s
 abbrev pub read_at : LinkRecord → ℕ → Bool
 read_at w n = (message_at w n).read
 
-pub next_reads : (w : LinkRecord) (s k : ℕ) → is_ordered_on w s k ≡ true → (stream_of w s).named ≤ index_of w k → index_of w k < next_of w s → (message_at w k).read ≡ true
+pub next_reads : (w : LinkRecord) (s k : ℕ) → is_ordered_on w s k ≡ true → (stream_of w s).named ≤ index_of w k → index_of w k < next_of w s
+    → (message_at w k).read ≡ true
 next_reads w s k on low high =
     let named = (stream_of w s).named in
     let line = ordered_on w s in
-    let at : get_or (drop named line) (index_of w k - named) 0 ≡ k = get-drop named line (index_of w k - named) (index_of w k) 0 (omega arith) ∙ line-at w s k 0 on in
+    let at : get_or (drop named line) (index_of w k - named) 0 ≡ k = get-drop named line (index_of w k - named) (index_of w k) 0 (omega arith)
+    ∙ line-at w s k 0 on in
     rw at at (leading-passes (read_at w) (drop named line) (index_of w k - named) 0 (omega arith))
 
 pub next_unread : (w : LinkRecord) (s k : ℕ) → is_ordered_on w s k ≡ true → index_of w k ≡ next_of w s → (message_at w k).read ≡ false
@@ -71,7 +75,9 @@ next_unread w s k on e =
     rw at at (leading-stops (read_at w) (drop named line) 0 (omega (arith, length-dropped named line, index-short w s k on, e)))
 
 -- the next one is settled by what is read before it and what is not at it
-pub next_is : (w : LinkRecord) (s x : ℕ) → (stream_of w s).named ≤ x → x ≤ length (ordered_on w s) → ((k : ℕ) → (stream_of w s).named ≤ k → k < x → (message_at w (get_or (ordered_on w s) k 0)).read ≡ true) → (x < length (ordered_on w s) → (message_at w (get_or (ordered_on w s) x 0)).read ≡ false) → next_of w s ≡ x
+pub next_is : (w : LinkRecord) (s x : ℕ) → (stream_of w s).named ≤ x → x ≤ length (ordered_on w s)
+    → ((k : ℕ) → (stream_of w s).named ≤ k → k < x → (message_at w (get_or (ordered_on w s) k 0)).read ≡ true)
+    → (x < length (ordered_on w s) → (message_at w (get_or (ordered_on w s) x 0)).read ≡ false) → next_of w s ≡ x
 next_is w s x low high pass stop =
     let named = (stream_of w s).named in
     let line = ordered_on w s in
@@ -83,7 +89,8 @@ next_is w s x low high pass stop =
 
 -- ## By place in the line
 
-pub index-at : (w : LinkRecord) (s j : ℕ) → j < length (ordered_on w s) → (is_ordered_on w s (get_or (ordered_on w s) j 0) ≡ true) × (index_of w (get_or (ordered_on w s) j 0) ≡ j)
+pub index-at : (w : LinkRecord) (s j : ℕ) → j < length (ordered_on w s)
+    → (is_ordered_on w s (get_or (ordered_on w s) j 0) ≡ true) × (index_of w (get_or (ordered_on w s) j 0) ≡ j)
 index-at w s j lt =
     let r = kept-place (is_ordered_on w s) 0 (length w.messages) j 0 lt in
     let k : get_or (ordered_on w s) j 0 ≡ r.k = omega (arith, r.is) in

@@ -37,10 +37,15 @@ unassembled-other w n t off =
     still : is_unordered_on (with_read w n) t n ≡ false
     still = rw (Reading.stream-read w n n, Reading.ordered-read w n n) off
 
-    by_message : (m : ℕ) → (is_unordered_on (with_read w n) t m && not (is_complete_message (with_read w n) m)) ≡ (is_unordered_on w t m && not (is_complete_message w m))
-    by_message m = by_place {C = (is_unordered_on (with_read w n) t m && not (is_complete_message (with_read w n) m)) ≡ (is_unordered_on w t m && not (is_complete_message w m))} m n
+    by_message : (m : ℕ)
+        → (is_unordered_on (with_read w n) t m && not (is_complete_message (with_read w n) m)) ≡ (is_unordered_on w t m && not (is_complete_message w m))
+    by_message m = by_place
+        {C = (is_unordered_on (with_read w n) t m && not (is_complete_message (with_read w n) m)) ≡ (is_unordered_on w t m && not (is_complete_message w m))} m
+        n
         (λ ne. rw (Reading.message-other w n m ne) refl)
-        (λ e. ap (λ j. is_unordered_on (with_read w n) t j && not (is_complete_message (with_read w n) j)) e ∙ ap (λ b. b && not (is_complete_message (with_read w n) n)) still ∙ sym (ap (λ j. is_unordered_on w t j && not (is_complete_message w j)) e ∙ ap (λ b. b && not (is_complete_message w n)) off))
+        (λ e. ap (λ j. is_unordered_on (with_read w n) t j && not (is_complete_message (with_read w n) j)) e
+        ∙ ap (λ b. b && not (is_complete_message (with_read w n) n)) still
+        ∙ sym (ap (λ j. is_unordered_on w t j && not (is_complete_message w j)) e ∙ ap (λ b. b && not (is_complete_message w n)) off))
 
 module _ (w : LinkRecord) (s : ℕ) (r : StreamRecord) (valid : Valid w) (more : ValidUnassembled w) (sp : IsSpan w s []) (open' : stream_at w s ≡ Some r) where
   abbrev due : Option ℕ
@@ -65,7 +70,8 @@ module _ (w : LinkRecord) (s : ℕ) (r : StreamRecord) (valid : Valid w) (more :
   of-front : (n : ℕ) (rest : List ℕ) → (stream_of w s).complete ≡ n ∷ rest → (is_unordered_on w s n ≡ true) × (n < length w.messages)
   of-front n rest e = let i = more.waits s n (ap (list_any (λ k. k == n)) e ∙ any-here n rest) in (waits-on w s n i, i.made)
 
-  message-with : (l : List ℕ) → (stream_of w s).complete ≡ l → message_among (map (complete_set_of w) l) (reassembly_of w s) ≡ map_option (handed_out w) (next_with l)
+  message-with : (l : List ℕ) → (stream_of w s).complete ≡ l
+      → message_among (map (complete_set_of w) l) (reassembly_of w s) ≡ map_option (handed_out w) (next_with l)
   message-with [] e = front-gives w s valid sp ∙ given due refl ∙ ap (map_option (handed_out w)) (sym next-due)
   message-with (n ∷ rest) e = ap (λ x. Some x) (handed-complete n (unordered-of w s n (of-front n rest e).0).1)
 
@@ -73,13 +79,15 @@ module _ (w : LinkRecord) (s : ℕ) (r : StreamRecord) (valid : Valid w) (more :
   pub message-is : message_read (reassembly_of w s) ≡ map_option (handed_out w) (next_read w s)
   message-is = message-with (stream_of w s).complete refl
 
-  after-ordered : (o : Option ℕ) → due ≡ o → (stream_of w s).complete ≡ [] → after_read (map_option (set_of w) o) (reassembly_of w s) ≡ reassembly_of (read_of w s o) s
+  after-ordered : (o : Option ℕ) → due ≡ o → (stream_of w s).complete ≡ []
+      → after_read (map_option (set_of w) o) (reassembly_of w s) ≡ reassembly_of (read_of w s o) s
   after-ordered None e empty = refl
   after-ordered (Some n) e empty =
       let d = due-front w s valid sp n e in
       sym (Keeps.ordered-read_of w s n s r open' empty ∙ Reading.ordered-read_off w s n valid sp d.0 d.1.0 d.1.1)
 
-  rest-with : (l : List ℕ) → (stream_of w s).complete ≡ l → rest_among (map (complete_set_of w) l) (reassembly_of w s) ≡ reassembly_of (read_of w s (next_with l)) s
+  rest-with : (l : List ℕ) → (stream_of w s).complete ≡ l
+      → rest_among (map (complete_set_of w) l) (reassembly_of w s) ≡ reassembly_of (read_of w s (next_with l)) s
   rest-with [] e =
       ap (λ o. after_read o (reassembly_of w s)) (front-gives w s valid sp)
       ∙ after-ordered due refl e ∙ ap (λ o. reassembly_of (read_of w s o) s) (sym next-due)
@@ -106,9 +114,10 @@ module _ (w : LinkRecord) (s : ℕ) (r : StreamRecord) (valid : Valid w) (more :
       let v = with_read w n in
       let g = Changes.without_first in
       let off : is_unordered_on w t n ≡ false = fails (is_unordered_on w t n) (λ h. ne (sym (unordered-of w t n h).0 ∙ u.0)) in
-      let plain : reassembly_of v t ≡ reassembly_of w t = SkipStep.parts (UnorderedRead.next-read_unordered w n valid u.1 t) (UnorderedRead.sets-read_unordered w n valid u.1 t) (Reading.complete_sets-read w n t) (unassembled-other w n t off) in
-      Keeps.restreamed v (Changes.stream_changed v s g).streams t (Keeps.named-changed v s g (λ r. refl) (λ r. refl)) (Keeps.complete-other v s g (λ r. refl) (λ r. refl) t ne)
-      ∙ plain
+      let plain : reassembly_of v t ≡ reassembly_of w t = SkipStep.parts (UnorderedRead.next-read_unordered w n valid u.1 t)
+      (UnorderedRead.sets-read_unordered w n valid u.1 t) (Reading.complete_sets-read w n t) (unassembled-other w n t off) in
+      Keeps.restreamed v (Changes.stream_changed v s g).streams t (Keeps.named-changed v s g (λ r. refl) (λ r. refl))
+      (Keeps.complete-other v s g (λ r. refl) (λ r. refl) t ne) ∙ plain
 
   -- the other streams' queues are as they were
   pub read-others : (t : ℕ) → (t ≡ s → ⊥) → reassembly_of (after_reading w s) t ≡ reassembly_of w t

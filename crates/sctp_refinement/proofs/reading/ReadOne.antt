@@ -67,7 +67,8 @@ nothing-read w s e = ap (read_of w s) e
 module _ (w : LinkRecord) (s : ℕ) (r : StreamRecord) (valid : Valid w) (more : ValidUnassembled w) (sp : IsSpan w s []) (open' : stream_at w s ≡ Some r) where
   -- the index expected next after a read is that of the record with the message read
   restreamed : (n t : ℕ) → next_of (read_of w s (Some n)) t ≡ next_of (with_read w n) t
-  restreamed n t = UnorderedStep.next-streams (with_read w n) (read_of w s (Some n)).streams (Keeps.named-changed (with_read w n) s Changes.without_first (λ r. refl) (λ r. refl)) t
+  restreamed n t = UnorderedStep.next-streams (with_read w n)
+      (read_of w s (Some n)).streams (Keeps.named-changed (with_read w n) s Changes.without_first (λ r. refl) (λ r. refl)) t
 
   pub complete-read : (n : ℕ) (rest : List ℕ) → (stream_of w s).complete ≡ n ∷ rest → ReadsComplete w s n
   complete-read n rest e =
@@ -85,7 +86,8 @@ module _ (w : LinkRecord) (s : ℕ) (r : StreamRecord) (valid : Valid w) (more :
 
   pub ordered-read : (n : ℕ) → (stream_of w s).complete ≡ [] → next_read w s ≡ Some n → ReadsOrdered w s n
   ordered-read n e front =
-      let run : first_of (filter (is_unread w) (run_of w s)) ≡ Some n = ap (λ l. or_else (first_of l) (first_of (filter (is_unread w) (run_of w s)))) (sym e) ∙ front in
+      let run : first_of (filter (is_unread w) (run_of w s)) ≡ Some n = ap (λ l. or_else (first_of l) (first_of (filter (is_unread w) (run_of w s)))) (sym e)
+      ∙ front in
       let d = due-front w s valid sp n (sym (run-due w s valid) ∙ run) in
       let kind = Line.on-ordered w s n d.0.on in
       record {
@@ -93,7 +95,8 @@ module _ (w : LinkRecord) (s : ℕ) (r : StreamRecord) (valid : Valid w) (more :
         due = d.0;
         rest = d.1.0;
         front = d.1.1;
-        message = NextRead.message-is w s r valid more sp open' ∙ ap (map_option (handed_out w)) front ∙ ap (λ x. Some x) (ap (λ b. if b then set_of w n else complete_set_of w n) kind);
+        message = NextRead.message-is w s r valid more sp open' ∙ ap (map_option (handed_out w)) front
+            ∙ ap (λ x. Some x) (ap (λ b. if b then set_of w n else complete_set_of w n) kind);
         here = ap (λ o. next_of (read_of w s o) s) front ∙ restreamed n s ∙ step (index_of w n == next_of w s) refl d.0;
         other = λ t ne. ap (λ o. next_of (read_of w s o) t) front ∙ restreamed n t ∙ Reading.next-other w s n valid sp d.0 t ne;
       }
@@ -133,7 +136,8 @@ module _ (w : LinkRecord) (s : ℕ) (r : StreamRecord) (valid : Valid w) (more :
     where
       by : (o : Option ℕ) → next_read w s ≡ o → (n : ℕ) × (next_read w s ≡ Some n) × (set ≡ handed_out w n)
       by None f = let z : Some set ≡ None = sym e ∙ none-read f in cc
-      by (Some n) f = let z : Some set ≡ Some (handed_out w n) = sym e ∙ NextRead.message-is w s r valid more sp open' ∙ ap (map_option (handed_out w)) f in (n, f, cc)
+      by (Some n) f = let z : Some set ≡ Some (handed_out w n) = sym e ∙ NextRead.message-is w s r valid more sp open' ∙ ap (map_option (handed_out w)) f in
+          (n, f, cc)
 
 -- ## The other events leave the index expected next
 
@@ -152,27 +156,36 @@ next-taken w (Some (Data ps)) t = refl
 next-taken w (Some (Forward upto names)) t = refl
 next-taken w (Some (Sack r)) t = refl
 
-pub next-same : (setup : Setup) (h : History) (e : Event) (t : ℕ) → IsSetup setup → IsRun setup h → refusal_of (record_of setup h) e ≡ None → KeepsNext e → next_of (after (record_of setup h) e) t ≡ next_of (record_of setup h) t
+pub next-same : (setup : Setup) (h : History) (e : Event) (t : ℕ) → IsSetup setup → IsRun setup h → refusal_of (record_of setup h) e ≡ None → KeepsNext e
+    → next_of (after (record_of setup h) e) t ≡ next_of (record_of setup h) t
 next-same setup h e t is run ok keeps = by e ok keeps
   where
-    quiet : (e : Event) → refusal_of (record_of setup h) e ≡ None → Quiet (record_of setup h) (after (record_of setup h) e) → next_of (after (record_of setup h) e) t ≡ next_of (record_of setup h) t
+    quiet : (e : Event) → refusal_of (record_of setup h) e ≡ None → Quiet (record_of setup h) (after (record_of setup h) e)
+        → next_of (after (record_of setup h) e) t ≡ next_of (record_of setup h) t
     quiet e ok q =
         let g = sane-run setup h run in
         let a = sane-after setup (record_of setup h) e ok g in
-        Ordered.next-still (view (record_of setup h)) (view (after (record_of setup h) e)) (still-of setup (record_of setup h) (after (record_of setup h) e) g a q) (received-run setup h is run).ordered t
+        Ordered.next-still (view (record_of setup h)) (view (after (record_of setup h) e))
+        (still-of setup (record_of setup h) (after (record_of setup h) e) g a q) (received-run setup h is run).ordered t
 
     by : (e : Event) → refusal_of (record_of setup h) e ≡ None → KeepsNext e → next_of (after (record_of setup h) e) t ≡ next_of (record_of setup h) t
     by (E.Open s) ok keeps =
-        next-view (record_of setup h) (Changes.after_open (record_of setup h) s) t (View.view-opened (record_of setup h) s (negated (Messages.is_open (record_of setup h) s) (unless-holds (not (Messages.is_open (record_of setup h) s)) StreamOpen None ok).0))
-    by (E.Mode s u y v) ok keeps = next-view (record_of setup h) (Changes.after_mode (record_of setup h) s u y v) t (View.view-moded (record_of setup h) s u y v)
+        next-view (record_of setup h) (Changes.after_open (record_of setup h) s) t (View.view-opened (record_of setup h) s
+        (negated (Messages.is_open (record_of setup h) s) (unless-holds (not (Messages.is_open (record_of setup h) s)) StreamOpen None ok).0))
+    by (E.Mode s u y v) ok keeps =
+        next-view (record_of setup h) (Changes.after_mode (record_of setup h) s u y v) t (View.view-moded (record_of setup h) s u y v)
     by (E.Write s ppi bytes) ok keeps = quiet (E.Write s ppi bytes) ok (Moves.quiet-written setup (record_of setup h) s ppi bytes (sane-run setup h run))
     by (E.Start now) ok keeps = quiet (E.Start now) ok (Moves.quiet-started (record_of setup h) now)
-    by (E.Send now) ok keeps = quiet (E.Send now) ok (Moves.quiet-sent setup (record_of setup h) now (Messages.front (record_of setup h)) (sane-run setup h run))
+    by (E.Send now) ok keeps =
+        quiet (E.Send now) ok (Moves.quiet-sent setup (record_of setup h) now (Messages.front (record_of setup h)) (sane-run setup h run))
     by (E.Resend tsn) ok keeps = refl
-    by (E.Expire now) ok keeps = quiet (E.Expire now) ok (Moves.quiet-expire setup (record_of setup h) now (Messages.front (record_of setup h)) (sane-run setup h run))
-    by (E.Tail now) ok keeps = quiet (E.Tail now) ok (Moves.quiet-tail setup (record_of setup h) (Changes.tailing (record_of setup h) now) (sane-run setup h run))
+    by (E.Expire now) ok keeps =
+        quiet (E.Expire now) ok (Moves.quiet-expire setup (record_of setup h) now (Messages.front (record_of setup h)) (sane-run setup h run))
+    by (E.Tail now) ok keeps =
+        quiet (E.Tail now) ok (Moves.quiet-tail setup (record_of setup h) (Changes.tailing (record_of setup h) now) (sane-run setup h run))
     by (E.Late now) ok keeps = quiet (E.Late now) ok (Moves.quiet-lates setup (record_of setup h) now (sane-run setup h run))
-    by (E.Abandon tsn) ok keeps = quiet (E.Abandon tsn) ok (Moves.quiet-abandoned setup (record_of setup h) (Messages.message_of (record_of setup h) (Messages.place_of (record_of setup h) tsn)) (sane-run setup h run))
+    by (E.Abandon tsn) ok keeps = quiet (E.Abandon tsn) ok (Moves.quiet-abandoned setup (record_of setup h)
+        (Messages.message_of (record_of setup h) (Messages.place_of (record_of setup h) tsn)) (sane-run setup h run))
     by (E.Skip upto names) ok keeps = refl
     by (E.Ack credit) ok keeps = refl
     by (E.Arrive k) ok keeps = absurd keeps
@@ -192,7 +205,8 @@ next-slots (p ∷ ps) w t = next-slots ps (receive_slot w p) t ∙ by_step (λ u
         let f = Changes.with_complete (message_of w p) in
         UnorderedStep.next-streams v (Changes.stream_changed v on f).streams (Keeps.named-changed v on f (λ r. refl) (λ r. refl)) t
 
-pub next-arrive : (setup : Setup) (h : History) (k t : ℕ) (slots : List ℕ) → slice_get (record_of setup h).network k ≡ Some (Data slots) → next_of (after (record_of setup h) (E.Arrive k)) t ≡ next_of (record_of setup h) t
+pub next-arrive : (setup : Setup) (h : History) (k t : ℕ) (slots : List ℕ) → slice_get (record_of setup h).network k ≡ Some (Data slots)
+    → next_of (after (record_of setup h) (E.Arrive k)) t ≡ next_of (record_of setup h) t
 next-arrive setup h k t slots e =
     let w = record_of setup h in
     ap (λ d. next_of (Changes.after_arrive w d) t) e ∙ next-slots slots w t

@@ -1,5 +1,6 @@
 -- A read of an ordered message: what it leaves.
-use Rattle.std.proofs.Common.{◌≡◌, ℕ, ◌+◌, ◌-◌, ◌<◌, ◌≤◌, ◌%◌, ◌^◌, Bool, true, false, List, [], ◌∷◌, length, map, get_or, Some, refl, ap, sym, ◌∙◌, inl, inr, arith}
+use Rattle.std.proofs.Common.{◌≡◌, ℕ, ◌+◌, ◌-◌, ◌<◌, ◌≤◌, ◌%◌, ◌^◌, Bool, true, false, List, [], ◌∷◌, length, map, get_or, Some, refl, ap, sym, ◌∙◌, inl, inr}
+use Rattle.std.proofs.Common.{arith}
 use Rattle.std.specs.Prelude.{◌⊎◌, if◌then◌else◌, ◌==◌, ◌&&◌, not, nat_le}
 use Rattle.std.proofs.lemmas.Bool.Decides.{nat_tests}
 use Rattle.std.proofs.Math.Nat.{eq-or-lt_of_le}
@@ -11,7 +12,8 @@ use Rattle.sctp_model.specs.Queues.{set_of, complete_set_of, is_unassembled}
 use Rattle.sctp_refinement.specs.Holds.{ordered_sets, complete_sets, unassembled_chunks, reassembly_of}
 use Rattle.sctp_list_lemmas.proofs.Passing.{kept-same, kept-skip, map-kept-same, front-kept, FrontOf, IsFront}
 use Rattle.sctp_model.specs.LinkRecord.{LinkRecord}
-use Rattle.sctp_model.specs.Messages.{message_at, message_of, stream_of, no_message, is_ordered_on, index_of, ssn_of, fragments_of, has_fragment, ordered_on, slots_of, is_unordered_on}
+use Rattle.sctp_model.specs.Messages.{message_at, message_of, stream_of, no_message, is_ordered_on, index_of, ssn_of, fragments_of, has_fragment, ordered_on}
+use Rattle.sctp_model.specs.Messages.{slots_of, is_unordered_on}
 use Rattle.sctp_model.specs.Receiver.{arrived_at, is_complete_message, is_held, held_on, next_of}
 use Rattle.sctp_model.specs.Changes.{mark_read}
 use Rattle.sctp_model.specs.Valid.{IsSpan, Valid}
@@ -43,10 +45,12 @@ stream-read w n k = changed-keeps mark_read (λ m. m.stream) (λ m. refl) n k w.
 
 pub index-read : (w : LinkRecord) (n k : ℕ) → index_of (with_read w n) k ≡ index_of w k
 index-read w n k =
-    rw (stream-read w n k) (ap length (kept-same (is_ordered_on (with_read w n) (message_at w k).stream) (is_ordered_on w (message_at w k).stream) 0 k (λ j a b. on-read w n (message_at w k).stream j)))
+    rw (stream-read w n k) (ap length (kept-same (is_ordered_on (with_read w n) (message_at w k).stream) (is_ordered_on w (message_at w k).stream) 0 k
+    (λ j a b. on-read w n (message_at w k).stream j)))
 
 pub line-read : (w : LinkRecord) (n s : ℕ) → ordered_on (with_read w n) s ≡ ordered_on w s
-line-read w n s = ap (numbers_where (is_ordered_on (with_read w n) s) 0) (count-read w n) ∙ kept-same (is_ordered_on (with_read w n) s) (is_ordered_on w s) 0 (length w.messages) (λ k a b. on-read w n s k)
+line-read w n s = ap (numbers_where (is_ordered_on (with_read w n) s) 0) (count-read w n)
+    ∙ kept-same (is_ordered_on (with_read w n) s) (is_ordered_on w s) 0 (length w.messages) (λ k a b. on-read w n s k)
 
 pub ssn-read : (w : LinkRecord) (n k : ℕ) → ssn_of (with_read w n) k ≡ ssn_of w k
 ssn-read w n k = rw (index-read w n k, ordered-read w n k, changed-keeps mark_read (λ m. m.before) (λ m. refl) n k w.messages no_message) refl
@@ -63,7 +67,11 @@ chunk-read w n p =
     rw (ssn-read w n k, fragments-read w n k, stream-read w n k, ordered-read w n k, ppi-read w n k) refl
 
 pub set-read : (w : LinkRecord) (n k : ℕ) → set_of (with_read w n) k ≡ set_of w k
-set-read w n k = rw (ssn-read w n k, ppi-read w n k, map-all (chunk_at (with_read w n)) (chunk_at w) (numbers_where (λ p. has_fragment w k p && arrived_at w p) 0 (length w.slots)) (λ p. chunk-read w n p)) refl
+set-read w n k = rw (
+  ssn-read w n k,
+  ppi-read w n k,
+  map-all (chunk_at (with_read w n)) (chunk_at w) (numbers_where (λ p. has_fragment w k p && arrived_at w p) 0 (length w.slots)) (λ p. chunk-read w n p),
+) refl
 
 pub message-other : (w : LinkRecord) (n k : ℕ) → (k ≡ n → ⊥) → message_at (with_read w n) k ≡ message_at w k
 message-other w n k ne = changed-other mark_read n k w.messages no_message ne
@@ -97,8 +105,11 @@ unassembled-read w n s on =
     here : (v : LinkRecord) → (message_at v n).ordered ≡ true → (is_unordered_on v s n && not (is_complete_message v n)) ≡ false
     here v e = let off : is_unordered_on v s n ≡ false = (rw e (ands ((message_at v n).stream == s))) in rw off refl
 
-    by_message : (m : ℕ) → (is_unordered_on (with_read w n) s m && not (is_complete_message (with_read w n) m)) ≡ (is_unordered_on w s m && not (is_complete_message w m))
-    by_message m = by_place {C = (is_unordered_on (with_read w n) s m && not (is_complete_message (with_read w n) m)) ≡ (is_unordered_on w s m && not (is_complete_message w m))} m n
+    by_message : (m : ℕ)
+        → (is_unordered_on (with_read w n) s m && not (is_complete_message (with_read w n) m)) ≡ (is_unordered_on w s m && not (is_complete_message w m))
+    by_message m = by_place
+        {C = (is_unordered_on (with_read w n) s m && not (is_complete_message (with_read w n) m)) ≡ (is_unordered_on w s m && not (is_complete_message w m))} m
+        n
         (λ ne. rw (message-other w n m ne) refl)
         (λ e. rw e (here (with_read w n) (ordered-read w n n ∙ on) ∙ sym (here w on)))
 
@@ -118,9 +129,9 @@ module _ (w : LinkRecord) (s n : ℕ) (valid : Valid w) (sp : IsSpan w s []) (d 
       let v = with_read w n in
       map-kept-same (set_of v) (set_of w) (is_held v s) (is_held v s) 0 (length v.messages) (λ k a b. refl) (λ k a b h. set-read w n k)
       ∙ ap (λ c. map (set_of w) (numbers_where (is_held v s) 0 c)) (count-read w n)
-      ∙ ap (map (set_of w)) (kept-skip (is_held v s) 0 (length w.messages) (n + 1) (omega arith) (omega (arith, n-made)) (λ j a b. upto f j b (eq-or-lt_of_le (below j b)))
-      ∙ kept-same (is_held v s) (is_held w s) (n + 1) (0 + length w.messages - (n + 1)) (λ j a b. held-read w n s j (λ z. omega arith))
-      ∙ sym f.others)
+      ∙ ap (map (set_of w))
+      (kept-skip (is_held v s) 0 (length w.messages) (n + 1) (omega arith) (omega (arith, n-made)) (λ j a b. upto f j b (eq-or-lt_of_le (below j b)))
+      ∙ kept-same (is_held v s) (is_held w s) (n + 1) (0 + length w.messages - (n + 1)) (λ j a b. held-read w n s j (λ z. omega arith)) ∙ sym f.others)
       ∙ ap (λ l. without_first (map (set_of w) l)) (sym e)
     where
       front : (l : List ℕ) → l ≡ n ∷ rest → FrontOf (is_held w s) 0 (length w.messages) l → IsFront (is_held w s) 0 (length w.messages) n rest
@@ -154,7 +165,8 @@ module _ (w : LinkRecord) (s n : ℕ) (valid : Valid w) (sp : IsSpan w s []) (d 
       upto : (j : ℕ) → j < next_of w s + 1 → j ≤ next_of w s
       upto j lt = omega arith
 
-      pass : (j : ℕ) → (stream_of w s).named ≤ j → (j ≡ next_of w s) ⊎ (j < next_of w s) → (message_at (with_read w n) (get_or (ordered_on w s) j 0)).read ≡ true
+      pass : (j : ℕ) → (stream_of w s).named ≤ j → (j ≡ next_of w s) ⊎ (j < next_of w s)
+          → (message_at (with_read w n) (get_or (ordered_on w s) j 0)).read ≡ true
       pass j low (inl z) =
           let m : get_or (ordered_on w s) j 0 ≡ n = ap (λ i. get_or (ordered_on w s) i 0) (z ∙ sym e) ∙ line-at w s n 0 d.on in
           rw m (read-now w n n-made)
@@ -183,9 +195,11 @@ module _ (w : LinkRecord) (s n : ℕ) (valid : Valid w) (sp : IsSpan w s []) (d 
   next-read : next_of (with_read w n) s % 2 ^ 16 ≡ (if ssn_of w n == next_of w s % 2 ^ 16 then (next_of w s % 2 ^ 16 + 1) % 2 ^ 16 else next_of w s % 2 ^ 16)
   next-read =
       let near = sp.held n n-made n-held in
-      rw (ssn_on w s n d.on, same16-index (index_of w n) (next_of w s) (omega (arith, near, sp.next, sp.short)) (omega (arith, near, sp.next, sp.short))) (step (index_of w n == next_of w s) refl)
+      rw (ssn_on w s n d.on, same16-index (index_of w n) (next_of w s) (omega (arith, near, sp.next, sp.short)) (omega (arith, near, sp.next, sp.short)))
+      (step (index_of w n == next_of w s) refl)
     where
-      step : (b : Bool) → (index_of w n == next_of w s) ≡ b → next_of (with_read w n) s % 2 ^ 16 ≡ (if b then (next_of w s % 2 ^ 16 + 1) % 2 ^ 16 else next_of w s % 2 ^ 16)
+      step : (b : Bool) → (index_of w n == next_of w s) ≡ b
+          → next_of (with_read w n) s % 2 ^ 16 ≡ (if b then (next_of w s % 2 ^ 16 + 1) % 2 ^ 16 else next_of w s % 2 ^ 16)
       step true e = let h : index_of w n ≡ next_of w s = grind (arith, nat_tests) in ap (λ x. x % 2 ^ 16) (next-moves h) ∙ sym (Wraps.next16 (next_of w s))
       step false e = ap (λ x. x % 2 ^ 16) (next-stays (λ h. grind (arith, nat_tests)))
 
@@ -202,18 +216,21 @@ module _ (w : LinkRecord) (s n : ℕ) (valid : Valid w) (sp : IsSpan w s []) (d 
       off k on z = ne (sym (Line.on-stream w t k on) ∙ ap (λ m. (message_at w m).stream) z ∙ Line.on-stream w s n d.on)
 
       held-same : (k : ℕ) → is_held (with_read w n) t k ≡ is_held w t k
-      held-same k = by_place {C = is_held (with_read w n) t k ≡ is_held w t k} k n (λ x. held-read w n t k x) (λ z. ap (is_held (with_read w n) t) z ∙ held-now w n t n-made ∙ sym (fails (is_held w t k) (λ h. off k (held w t k h).on z)))
+      held-same k = by_place {C = is_held (with_read w n) t k ≡ is_held w t k} k n (λ x. held-read w n t k x)
+          (λ z. ap (is_held (with_read w n) t) z ∙ held-now w n t n-made ∙ sym (fails (is_held w t k) (λ h. off k (held w t k h).on z)))
 
       sets-same : ordered_sets (with_read w n) t ≡ ordered_sets w t
       sets-same =
-          map-kept-same (set_of (with_read w n)) (set_of w) (is_held (with_read w n) t) (is_held w t) 0 (length (with_read w n).messages) (λ k a b. held-same k) (λ k a b h. set-read w n k)
-          ∙ ap (λ c. map (set_of w) (numbers_where (is_held w t) 0 c)) (count-read w n)
+          map-kept-same (set_of (with_read w n)) (set_of w) (is_held (with_read w n) t) (is_held w t) 0 (length (with_read w n).messages) (λ k a b. held-same k)
+          (λ k a b h. set-read w n k) ∙ ap (λ c. map (set_of w) (numbers_where (is_held w t) 0 c)) (count-read w n)
 
       next-same : next_of (with_read w n) t ≡ next_of w t
       next-same =
           next_is (with_read w n) t (next_of w t) (omega arith) (omega (arith, next_le w t (valid.named_made t), ap length (line-read w n t)))
-          (λ j low high. ap (λ m. (message_at (with_read w n) m).read) (ap (λ l. get_or l j 0) (line-read w n t)) ∙ stays-read (get_or (ordered_on w t) j 0) (next_passes w t j low high))
-          (λ lt. ap (λ m. (message_at (with_read w n) m).read) (ap (λ l. get_or l (next_of w t) 0) (line-read w n t)) ∙ stop (omega (arith, lt, ap length (line-read w n t))))
+          (λ j low high. ap (λ m. (message_at (with_read w n) m).read) (ap (λ l. get_or l j 0) (line-read w n t))
+          ∙ stays-read (get_or (ordered_on w t) j 0) (next_passes w t j low high))
+          (λ lt. ap (λ m. (message_at (with_read w n) m).read) (ap (λ l. get_or l (next_of w t) 0) (line-read w n t))
+          ∙ stop (omega (arith, lt, ap length (line-read w n t))))
         where
           stop : next_of w t < length (ordered_on w t) → (message_at (with_read w n) (get_or (ordered_on w t) (next_of w t) 0)).read ≡ false
           stop lt =
@@ -225,8 +242,10 @@ module _ (w : LinkRecord) (s n : ℕ) (valid : Valid w) (sp : IsSpan w s []) (d 
   pub next-other : (t : ℕ) → (t ≡ s → ⊥) → next_of (with_read w n) t ≡ next_of w t
   next-other t ne =
       next_is (with_read w n) t (next_of w t) (omega arith) (omega (arith, next_le w t (valid.named_made t), ap length (line-read w n t)))
-      (λ j low high. ap (λ m. (message_at (with_read w n) m).read) (ap (λ l. get_or l j 0) (line-read w n t)) ∙ stays-read (get_or (ordered_on w t) j 0) (next_passes w t j low high))
-      (λ lt. ap (λ m. (message_at (with_read w n) m).read) (ap (λ l. get_or l (next_of w t) 0) (line-read w n t)) ∙ stop (omega (arith, lt, ap length (line-read w n t))))
+      (λ j low high. ap (λ m. (message_at (with_read w n) m).read) (ap (λ l. get_or l j 0) (line-read w n t))
+      ∙ stays-read (get_or (ordered_on w t) j 0) (next_passes w t j low high))
+      (λ lt. ap (λ m. (message_at (with_read w n) m).read) (ap (λ l. get_or l (next_of w t) 0) (line-read w n t))
+      ∙ stop (omega (arith, lt, ap length (line-read w n t))))
     where
       stop : next_of w t < length (ordered_on w t) → (message_at (with_read w n) (get_or (ordered_on w t) (next_of w t) 0)).read ≡ false
       stop lt =

@@ -41,7 +41,8 @@ module _ (w : LinkRecord) (n : ℕ) (valid : Valid w) (kind : (message_at w n).o
   pub sets-read_unordered : (t : ℕ) → ordered_sets (with_read w n) t ≡ ordered_sets w t
   sets-read_unordered t =
       map-kept-same (set_of (with_read w n)) (set_of w) (is_held (with_read w n) t) (is_held w t) 0 (length (with_read w n).messages)
-      (λ k a b. by_place {C = is_held (with_read w n) t k ≡ is_held w t k} k n (λ x. Reading.held-read w n t k x) (λ z. ap (is_held (with_read w n) t) z ∙ not-held (with_read w n) (Reading.ordered-read w n n ∙ kind) t ∙ sym (ap (is_held w t) z ∙ not-held w kind t)))
+      (λ k a b. by_place {C = is_held (with_read w n) t k ≡ is_held w t k} k n (λ x. Reading.held-read w n t k x) (λ z. ap (is_held (with_read w n) t) z
+      ∙ not-held (with_read w n) (Reading.ordered-read w n n ∙ kind) t ∙ sym (ap (is_held w t) z ∙ not-held w kind t)))
       (λ k a b h. Reading.set-read w n k)
       ∙ ap (λ c. map (set_of w) (numbers_where (is_held w t) 0 c)) (Reading.count-read w n)
 
@@ -51,7 +52,8 @@ module _ (w : LinkRecord) (n : ℕ) (valid : Valid w) (kind : (message_at w n).o
       (λ j low high. at j (omega (arith, high, next_le w t (valid.named_made t))) ∙ next_passes w t j low high)
       (λ lt. let lt' : next_of w t < length (ordered_on w t) = omega (arith, lt, ap length (Reading.line-read w n t)) in at (next_of w t) lt' ∙ stop lt')
     where
-      at : (j : ℕ) → j < length (ordered_on w t) → (message_at (with_read w n) (get_or (ordered_on (with_read w n) t) j 0)).read ≡ (message_at w (get_or (ordered_on w t) j 0)).read
+      at : (j : ℕ) → j < length (ordered_on w t)
+          → (message_at (with_read w n) (get_or (ordered_on (with_read w n) t) j 0)).read ≡ (message_at w (get_or (ordered_on w t) j 0)).read
       at j lt =
           ap (λ l. (message_at (with_read w n) (get_or l j 0)).read) (Reading.line-read w n t)
           ∙ ap (λ m. m.read) (Reading.message-other w n (get_or (ordered_on w t) j 0) (off t (get_or (ordered_on w t) j 0) (index-at w t j lt).0))
@@ -59,7 +61,8 @@ module _ (w : LinkRecord) (n : ℕ) (valid : Valid w) (kind : (message_at w n).o
       stop : next_of w t < length (ordered_on w t) → (message_at w (get_or (ordered_on w t) (next_of w t) 0)).read ≡ false
       stop lt = let x = index-at w t (next_of w t) lt in Line.next_unread w t (get_or (ordered_on w t) (next_of w t) 0) x.0 x.1
 
-module _ (w : LinkRecord) (s n : ℕ) (rest : List ℕ) (r : StreamRecord) (valid : Valid w) (on : is_unordered_on w s n ≡ true) (made : n < length w.messages) (open' : stream_at w s ≡ Some r) (front : (stream_of w s).complete ≡ n ∷ rest) where
+module _ (w : LinkRecord) (s n : ℕ) (rest : List ℕ) (r : StreamRecord) (valid : Valid w) (on : is_unordered_on w s n ≡ true) (made : n < length w.messages)
+    (open' : stream_at w s ≡ Some r) (front : (stream_of w s).complete ≡ n ∷ rest) where
   abbrev u : LinkRecord
   u = read_of w s (Some n)
 
@@ -77,7 +80,8 @@ module _ (w : LinkRecord) (s n : ℕ) (rest : List ℕ) (r : StreamRecord) (vali
   named-u t = Keeps.named-changed (with_read w n) s Changes.without_first (λ r. refl) (λ r. refl) t
 
   complete-u : (m : ℕ) → is_unordered_on w s m ≡ true → is_complete_message u m ≡ is_complete_message w m
-  complete-u m e = by_place {C = is_complete_message u m ≡ is_complete_message w m} m n (λ ne. other ne) (λ z. ap (is_complete_message u) z ∙ now ∙ sym (ap (is_complete_message w) z ∙ was))
+  complete-u m e = by_place {C = is_complete_message u m ≡ is_complete_message w m} m n (λ ne. other ne)
+      (λ z. ap (is_complete_message u) z ∙ now ∙ sym (ap (is_complete_message w) z ∙ was))
     where
       reads : (b c : Bool) → c ≡ true → (b || c) ≡ true
       reads true c e = refl
@@ -87,11 +91,13 @@ module _ (w : LinkRecord) (s n : ℕ) (rest : List ℕ) (r : StreamRecord) (vali
       was =
           ap (λ b. if b then has_arrived w n else ((message_at w n).read || list_any (λ k. k == n) (stream_of w (message_at w n).stream).complete)) kind
           ∙ reads (message_at w n).read (list_any (λ k. k == n) (stream_of w (message_at w n).stream).complete)
-          (ap (λ t. list_any (λ k. k == n) (stream_of w t).complete) (unordered-of w s n on).0 ∙ ap (list_any (λ k. k == n)) front ∙ (let z : (n == n) ≡ true = grind (arith, nat_tests) in ap (λ b. b || list_any (λ k. k == n) rest) z))
+          (ap (λ t. list_any (λ k. k == n) (stream_of w t).complete) (unordered-of w s n on).0 ∙ ap (list_any (λ k. k == n)) front
+          ∙ (let z : (n == n) ≡ true = grind (arith, nat_tests) in ap (λ b. b || list_any (λ k. k == n) rest) z))
 
       now : is_complete_message u n ≡ true
       now =
-          ap (λ b. if b then has_arrived u n else ((message_at u n).read || list_any (λ k. k == n) (stream_of u (message_at u n).stream).complete)) (Reading.ordered-read w n n ∙ kind)
+          ap (λ b. if b then has_arrived u n else ((message_at u n).read || list_any (λ k. k == n) (stream_of u (message_at u n).stream).complete))
+          (Reading.ordered-read w n n ∙ kind)
           ∙ ap (λ b. b || list_any (λ k. k == n) (stream_of u (message_at u n).stream).complete) (Reading.read-now w n made)
 
       other : (m ≡ n → ⊥) → is_complete_message u m ≡ is_complete_message w m
@@ -99,14 +105,14 @@ module _ (w : LinkRecord) (s n : ℕ) (rest : List ℕ) (r : StreamRecord) (vali
           let same = Reading.message-other w n m ne in
           let k = unordered-of w s m e in
           let miss : (n == m) ≡ false = fails (n == m) (λ h. let z : n ≡ m = grind (arith, nat_tests) in ne (sym z)) in
-          ap (λ b. if b then has_arrived u m else ((message_at u m).read || list_any (λ k. k == m) (stream_of u (message_at u m).stream).complete)) (Reading.ordered-read w n m ∙ k.1)
-          ∙ ap (λ x. x.read || list_any (λ k. k == m) (stream_of u x.stream).complete) same
-          ∙ ap (λ b. if b then has_arrived w m else ((message_at w m).read || list_any (λ k. k == m) (stream_of u (message_at w m).stream).complete)) (sym k.1)
+          ap (λ b. if b then has_arrived u m else ((message_at u m).read || list_any (λ k. k == m) (stream_of u (message_at u m).stream).complete))
+          (Reading.ordered-read w n m ∙ k.1) ∙ ap (λ x. x.read || list_any (λ k. k == m) (stream_of u x.stream).complete) same ∙ ap (λ b. if b
+          then has_arrived w m else ((message_at w m).read || list_any (λ k. k == m) (stream_of u (message_at w m).stream).complete)) (sym k.1)
           ∙ ap (λ t. if (message_at w m).ordered then has_arrived w m else ((message_at w m).read || list_any (λ k. k == m) (stream_of u t).complete)) k.0
           ∙ ap (λ l. if (message_at w m).ordered then has_arrived w m else ((message_at w m).read || list_any (λ k. k == m) l)) left
           ∙ ap (λ b. if (message_at w m).ordered then has_arrived w m else ((message_at w m).read || (b || list_any (λ k. k == m) rest))) (sym miss)
-          ∙ ap (λ l. if (message_at w m).ordered then has_arrived w m else ((message_at w m).read || list_any (λ k. k == m) l)) (sym front)
-          ∙ ap (λ t. if (message_at w m).ordered then has_arrived w m else ((message_at w m).read || list_any (λ k. k == m) (stream_of w t).complete)) (sym k.0)
+          ∙ ap (λ l. if (message_at w m).ordered then has_arrived w m else ((message_at w m).read || list_any (λ k. k == m) l)) (sym front) ∙ ap
+          (λ t. if (message_at w m).ordered then has_arrived w m else ((message_at w m).read || list_any (λ k. k == m) (stream_of w t).complete)) (sym k.0)
 
   unassembled-u : unassembled_chunks u s ≡ unassembled_chunks w s
   unassembled-u =
@@ -117,7 +123,8 @@ module _ (w : LinkRecord) (s n : ℕ) (rest : List ℕ) (r : StreamRecord) (vali
       on-u : (m : ℕ) → is_unordered_on u s m ≡ is_unordered_on w s m
       on-u m = rw (Reading.stream-read w n m, Reading.ordered-read w n m) refl
 
-      by_kind : (m : ℕ) (b : Bool) → is_unordered_on w s m ≡ b → (is_unordered_on u s m && not (is_complete_message u m)) ≡ (is_unordered_on w s m && not (is_complete_message w m))
+      by_kind : (m : ℕ) (b : Bool) → is_unordered_on w s m ≡ b
+          → (is_unordered_on u s m && not (is_complete_message u m)) ≡ (is_unordered_on w s m && not (is_complete_message w m))
       by_kind m true e = ap (λ x. x && not (is_complete_message u m)) (on-u m) ∙ ap (λ x. is_unordered_on w s m && not x) (complete-u m e)
       by_kind m false e = ap (λ x. x && not (is_complete_message u m)) (on-u m ∙ e) ∙ sym (ap (λ x. x && not (is_complete_message w m)) e)
 
@@ -126,5 +133,6 @@ module _ (w : LinkRecord) (s n : ℕ) (rest : List ℕ) (r : StreamRecord) (vali
       SkipStep.parts
       (UnorderedStep.next-streams (with_read w n) u.streams named-u s ∙ next-read_unordered w n valid kind s)
       (UnorderedStep.sets-streams (with_read w n) u.streams named-u s ∙ sets-read_unordered w n valid kind s)
-      (ap (map (complete_set_of u)) left ∙ Stays.map-all (complete_set_of u) (complete_set_of w) rest (λ m. Reading.complete_set-read w n m) ∙ ap (λ l. without_first (map (complete_set_of w) l)) (sym front))
+      (ap (map (complete_set_of u)) left ∙ Stays.map-all (complete_set_of u) (complete_set_of w) rest (λ m. Reading.complete_set-read w n m)
+      ∙ ap (λ l. without_first (map (complete_set_of w) l)) (sym front))
       unassembled-u

@@ -27,7 +27,8 @@ begun x s = length (numbers_where (begins_on x s) 0 x.count)
 pub first-index : (x : Shape) (n : ℕ) → Sender x → Takes x n → sent x n ≡ 0 → (x.message n).ordered ≡ true → index x n ≡ begun x (x.message n).stream
 first-index x n s t z o =
     ap length (kept-same (on x (x.message n).stream) (begins_on x (x.message n).stream) 0 n (λ m a b. earlier m (omega arith)))
-    ∙ sym (ap length (kept-short (begins_on x (x.message n).stream) 0 n (x.count - n) x.count (omega (arith, t.made)) (λ k a b. later k (omega arith) (omega arith))))
+    ∙ sym (ap length
+    (kept-short (begins_on x (x.message n).stream) 0 n (x.count - n) x.count (omega (arith, t.made)) (λ k a b. later k (omega arith) (omega arith))))
   where
     earlier : (m : ℕ) → m < n → on x (x.message n).stream m ≡ begins_on x (x.message n).stream m
     earlier m lt = step ((x.message m).stream == (x.message n).stream) (x.message m).ordered refl
@@ -54,8 +55,10 @@ first-index x n s t z o =
               arith,
               z,
               s.turn (x.message n).stream n k l (sent-made x k s pos)
-                  (and ((x.message n).stream == (x.message n).stream) ((x.message n).ordered && not (x.message n).expired) (same-yes (x.message n).stream) (and (x.message n).ordered (not (x.message n).expired) o (ap not t.kept)))
-                  (and ((x.message k).stream == (x.message n).stream) ((x.message k).ordered && not (x.message k).expired) a (and (x.message k).ordered (not (x.message k).expired) b (ap not (sent-alive x k s pos))))
+                  (and ((x.message n).stream == (x.message n).stream) ((x.message n).ordered && not (x.message n).expired) (same-yes (x.message n).stream)
+                  (and (x.message n).ordered (not (x.message n).expired) o (ap not t.kept)))
+                  (and ((x.message k).stream == (x.message n).stream) ((x.message k).ordered && not (x.message k).expired) a
+                  (and (x.message k).ordered (not (x.message k).expired) b (ap not (sent-alive x k s pos))))
                   pos,
             ))
 
@@ -65,17 +68,20 @@ pub begun-written : (x : Shape) (m : MessagePart) (s : ℕ) → Sender x → beg
 begun-written x m s k =
     ap (λ c. length (numbers_where (begins_on (written x m) s) 0 c)) (add-one x.count)
     ∙ ap length (kept-snoc_out (begins_on (written x m) s) 0 x.count x.count (omega arith) (fails (begins_on (written x m) s x.count) none))
-    ∙ ap length (kept-same (begins_on (written x m) s) (begins_on x s) 0 x.count (λ j a b. ap (λ y. (y.stream == s) && (y.ordered && nat_lt 0 (sent x j))) (message-old x m j (omega arith))))
+    ∙ ap length (kept-same (begins_on (written x m) s) (begins_on x s) 0 x.count
+    (λ j a b. ap (λ y. (y.stream == s) && (y.ordered && nat_lt 0 (sent x j))) (message-old x m j (omega arith))))
   where
     none : begins_on (written x m) s x.count ≡ true → ⊥
     none h =
-        let c = (both ((written x m).message x.count).ordered (nat_lt 0 (sent x x.count)) (both (((written x m).message x.count).stream == s) (((written x m).message x.count).ordered && nat_lt 0 (sent x x.count)) h).1).1 in
+        let c = (both ((written x m).message x.count).ordered (nat_lt 0 (sent x x.count))
+        (both (((written x m).message x.count).stream == s) (((written x m).message x.count).ordered && nat_lt 0 (sent x x.count)) h).1).1 in
         let pos : 0 < sent x x.count = grind (arith, nat_tests) in
         absurd (omega (arith, pos, sent-none x x.count k (omega arith)))
 
 -- a terminal chunk is no fragment
 pub begun-marked : (x : Shape) (n s : ℕ) → begun (slotted x n true) s ≡ begun x s
-begun-marked x n s = ap length (kept-same (begins_on (slotted x n true) s) (begins_on x s) 0 x.count (λ j a b. ap (λ c. ((x.message j).stream == s) && ((x.message j).ordered && nat_lt 0 c)) (marked j)))
+begun-marked x n s = ap length (kept-same (begins_on (slotted x n true) s) (begins_on x s) 0 x.count
+    (λ j a b. ap (λ c. ((x.message j).stream == s) && ((x.message j).ordered && nat_lt 0 c)) (marked j)))
   where
     marked : (j : ℕ) → sent (slotted x n true) j ≡ sent x j
     marked j = sent-slotted x n j true ∙ none (n == j)
@@ -85,7 +91,8 @@ begun-marked x n s = ap length (kept-same (begins_on (slotted x n true) s) (begi
         none false = omega arith
 
 -- a fragment counts where it is the first of an ordered message
-pub begun-taken : (x : Shape) (n s : ℕ) → n < x.count → begun (slotted x n false) s ≡ begun x s + (if ((x.message n).stream == s) && ((x.message n).ordered && (sent x n == 0)) then 1 else 0)
+pub begun-taken : (x : Shape) (n s : ℕ) → n < x.count
+    → begun (slotted x n false) s ≡ begun x s + (if ((x.message n).stream == s) && ((x.message n).ordered && (sent x n == 0)) then 1 else 0)
 begun-taken x n s lt = by ((x.message n).stream == s) (x.message n).ordered (sent x n == 0) refl refl refl
   where
     elsewhere : (k : ℕ) → (k ≡ n → ⊥) → begins_on (slotted x n false) s k ≡ begins_on x s k
@@ -98,11 +105,16 @@ begun-taken x n s lt = by ((x.message n).stream == s) (x.message n).ordered (sen
     here = ap (λ b. ((x.message n).stream == s) && ((x.message n).ordered && b)) now
 
     same : begins_on (slotted x n false) s n ≡ begins_on x s n → begun (slotted x n false) s ≡ begun x s + 0
-    same e = (let z : begun (slotted x n false) s ≡ begun x s = ap length (kept-same (begins_on (slotted x n false) s) (begins_on x s) 0 x.count (λ j a b. by_same {P = begins_on (slotted x n false) s j ≡ begins_on x s j} j n (λ q. ap (begins_on (slotted x n false) s) q ∙ e ∙ ap (begins_on x s) (sym q)) (λ ne q. elsewhere j ne))) in omega (arith, z))
+    same e = (let z : begun (slotted x n false) s ≡ begun x s = ap length
+        (kept-same (begins_on (slotted x n false) s) (begins_on x s) 0 x.count (λ j a b. by_same {P = begins_on (slotted x n false) s j ≡ begins_on x s j} j n
+        (λ q. ap (begins_on (slotted x n false) s) q ∙ e ∙ ap (begins_on x s) (sym q)) (λ ne q. elsewhere j ne))) in omega (arith, z))
 
-    by : (a b c : Bool) → ((x.message n).stream == s) ≡ a → (x.message n).ordered ≡ b → (sent x n == 0) ≡ c → begun (slotted x n false) s ≡ begun x s + (if a && (b && c) then 1 else 0)
-    by false b c p q r = same (ap (λ t. t && ((x.message n).ordered && nat_lt 0 (sent (slotted x n false) n))) p ∙ sym (ap (λ t. t && ((x.message n).ordered && nat_lt 0 (sent x n))) p))
-    by true false c p q r = same (ap (λ t. ((x.message n).stream == s) && (t && nat_lt 0 (sent (slotted x n false) n))) q ∙ sym (ap (λ t. ((x.message n).stream == s) && (t && nat_lt 0 (sent x n))) q))
+    by : (a b c : Bool) → ((x.message n).stream == s) ≡ a → (x.message n).ordered ≡ b → (sent x n == 0) ≡ c
+        → begun (slotted x n false) s ≡ begun x s + (if a && (b && c) then 1 else 0)
+    by false b c p q r = same (ap (λ t. t && ((x.message n).ordered && nat_lt 0 (sent (slotted x n false) n))) p
+        ∙ sym (ap (λ t. t && ((x.message n).ordered && nat_lt 0 (sent x n))) p))
+    by true false c p q r = same (ap (λ t. ((x.message n).stream == s) && (t && nat_lt 0 (sent (slotted x n false) n))) q
+        ∙ sym (ap (λ t. ((x.message n).stream == s) && (t && nat_lt 0 (sent x n))) q))
     by true true false p q r =
         let was : nat_lt 0 (sent x n) ≡ true = grind (arith, nat_tests) in
         same (ap (λ t. ((x.message n).stream == s) && ((x.message n).ordered && t)) (now ∙ sym was))
@@ -130,7 +142,8 @@ indexed-grown x y f s g old i = record {
 }
 
 -- a fragment: the first one of an ordered message takes the next index of its stream
-pub indexed-taken : (x : Shape) (n : ℕ) (f g : ℕ → ℕ) → Sender x → Takes x n → ((k : ℕ) → (k ≡ n → ⊥) → g k ≡ f k) → g n ≡ (if (x.message n).ordered && (sent x n == 0) then begun x (x.message n).stream else f n) → Indexed x f → Indexed (slotted x n false) g
+pub indexed-taken : (x : Shape) (n : ℕ) (f g : ℕ → ℕ) → Sender x → Takes x n → ((k : ℕ) → (k ≡ n → ⊥) → g k ≡ f k)
+    → g n ≡ (if (x.message n).ordered && (sent x n == 0) then begun x (x.message n).stream else f n) → Indexed x f → Indexed (slotted x n false) g
 indexed-taken x n f g s t others here i = record {
   is = λ k pos o. by_same {P = g k ≡ index x k} k n
       (λ e. ap g e ∙ here ∙ mine (sent x n == 0) refl (ap (λ j. (x.message j).ordered) (sym e) ∙ o) ∙ ap (index x) (sym e))
@@ -140,7 +153,8 @@ indexed-taken x n f g s t others here i = record {
       (λ ne q. omega (arith, others k ne, i.low k));
 }
   where
-    mine : (b : Bool) → (sent x n == 0) ≡ b → (x.message n).ordered ≡ true → (if (x.message n).ordered && b then begun x (x.message n).stream else f n) ≡ index x n
+    mine : (b : Bool) → (sent x n == 0) ≡ b → (x.message n).ordered ≡ true
+        → (if (x.message n).ordered && b then begun x (x.message n).stream else f n) ≡ index x n
     mine true e o = ap (λ c. if c && true then begun x (x.message n).stream else f n) o ∙ sym (first-index x n s t (same-is (sent x n) 0 e) o)
     mine false e o = ap (λ c. if c && false then begun x (x.message n).stream else f n) o ∙ i.is n (let z = e in grind (arith, nat_tests)) o
 

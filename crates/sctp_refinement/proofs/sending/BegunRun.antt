@@ -40,22 +40,28 @@ none-gone : (w : LinkRecord) (n : ℕ) → NoneSent (shape w) (shape (Changes.af
 none-gone w n = by (Messages.is_partially_sent w n)
   where
     flag : (u : LinkRecord) → NoneSent (shape u) (shape (Changes.message_changed u n Changes.mark_abandoned))
-    flag u = none-then (shape u) (abandoned_at (shape u) n) (shape (Changes.message_changed u n Changes.mark_abandoned)) (record { sent = λ k. refl; begun = λ s. refl }) (none-same (abandoned_at (shape u) n) (shape (Changes.message_changed u n Changes.mark_abandoned)) (Shapes.shape-abandoned u n))
+    flag u = none-then (shape u) (abandoned_at (shape u) n) (shape (Changes.message_changed u n Changes.mark_abandoned))
+        (record { sent = λ k. refl; begun = λ s. refl })
+        (none-same (abandoned_at (shape u) n) (shape (Changes.message_changed u n Changes.mark_abandoned)) (Shapes.shape-abandoned u n))
 
     by : (b : Bool) → NoneSent (shape w) (shape (Changes.message_changed (if b then Changes.with_slot w n true else w) n Changes.mark_abandoned))
     by true =
         none-then (shape w) (shape (Changes.with_slot w n true)) (shape (Changes.message_changed (Changes.with_slot w n true) n Changes.mark_abandoned))
-        (none-then (shape w) (slotted (shape w) n true) (shape (Changes.with_slot w n true)) (none-marked (shape w) n) (none-same (slotted (shape w) n true) (shape (Changes.with_slot w n true)) (Shapes.shape-slot w n true)))
+        (none-then (shape w) (slotted (shape w) n true) (shape (Changes.with_slot w n true)) (none-marked (shape w) n)
+        (none-same (slotted (shape w) n true) (shape (Changes.with_slot w n true)) (Shapes.shape-slot w n true)))
         (flag (Changes.with_slot w n true))
     by false = flag w
 
 none-fold : (ns : List ℕ) (w : LinkRecord) → NoneSent (shape w) (shape (fold Changes.after_abandon w ns))
 none-fold [] w = none-same (shape w) (shape w) refl
-none-fold (n ∷ ns) w = none-then (shape w) (shape (Changes.after_abandon w n)) (shape (fold Changes.after_abandon (Changes.after_abandon w n) ns)) (none-gone w n) (none-fold ns (Changes.after_abandon w n))
+none-fold (n ∷ ns) w = none-then (shape w) (shape (Changes.after_abandon w n)) (shape (fold Changes.after_abandon (Changes.after_abandon w n) ns))
+    (none-gone w n) (none-fold ns (Changes.after_abandon w n))
 
 none-expired : (w : LinkRecord) (o : Option ℕ) → NoneSent (shape w) (shape (Changes.after_expire w o))
 none-expired w None = none-same (shape w) (shape w) refl
-none-expired w (Some n) = none-then (shape w) (expired_at (shape w) n) (shape (Changes.message_changed w n Changes.mark_expired)) (record { sent = λ k. refl; begun = λ s. refl }) (none-same (expired_at (shape w) n) (shape (Changes.message_changed w n Changes.mark_expired)) (Shapes.shape-expired w n))
+none-expired w (Some n) =
+    none-then (shape w) (expired_at (shape w) n) (shape (Changes.message_changed w n Changes.mark_expired)) (record { sent = λ k. refl; begun = λ s. refl })
+    (none-same (expired_at (shape w) n) (shape (Changes.message_changed w n Changes.mark_expired)) (Shapes.shape-expired w n))
 
 none-tail : (w : LinkRecord) (o : Option ℕ) → NoneSent (shape w) (shape (Changes.after_tail w o))
 none-tail w None = none-same (shape w) (shape w) refl
@@ -65,7 +71,9 @@ none-wrote : (setup : Setup) (w : LinkRecord) (s : ℕ) (ppi : _) (bytes : List 
 none-wrote setup w s ppi [] g = none-same (shape w) (shape w) refl
 none-wrote setup w s ppi (b ∷ bs) g =
     let m = Changes.message_on w (Messages.stream_of w s) ppi (b ∷ bs) in
-    none-then (shape w) (written (shape w) (message_part m)) (shape (Changes.after_write w s ppi (b ∷ bs))) (record { sent = λ k. refl; begun = λ t. begun-written (shape w) (message_part m) t g.sender }) (none-same (written (shape w) (message_part m)) (shape (Changes.after_write w s ppi (b ∷ bs))) (Shapes.shape-written w m))
+    none-then (shape w) (written (shape w) (message_part m)) (shape (Changes.after_write w s ppi (b ∷ bs)))
+    (record { sent = λ k. refl; begun = λ t. begun-written (shape w) (message_part m) t g.sender })
+    (none-same (written (shape w) (message_part m)) (shape (Changes.after_write w s ppi (b ∷ bs))) (Shapes.shape-written w m))
 
 -- any event but a Send
 abbrev pub SendsNone : Event → Type 0
@@ -85,8 +93,10 @@ none-after setup w (E.Late now) g no' = none-fold (Changes.late_messages w now) 
 none-after setup w (E.Abandon tsn) g no' = none-gone w (Messages.message_of w (Messages.place_of w tsn))
 none-after setup w (E.Skip upto names) g no' = none-same (shape w) (shape (after w (E.Skip upto names))) refl
 none-after setup w (E.Ack credit) g no' = none-same (shape w) (shape (after w (E.Ack credit))) refl
-none-after setup w (E.Arrive k) g no' = none-same (shape w) (shape (Changes.after_arrive w (slice_get w.network k))) (same-received w (slice_get w.network k)).shape_is
-none-after setup w (E.Acked k) g no' = none-same (shape w) (shape (Changes.after_acked w (slice_get w.network k))) (same-taken w (slice_get w.network k)).shape_is
+none-after setup w (E.Arrive k) g no' =
+    none-same (shape w) (shape (Changes.after_arrive w (slice_get w.network k))) (same-received w (slice_get w.network k)).shape_is
+none-after setup w (E.Acked k) g no' =
+    none-same (shape w) (shape (Changes.after_acked w (slice_get w.network k))) (same-taken w (slice_get w.network k)).shape_is
 none-after setup w (E.Read s) g no' = none-same (shape w) (shape (Changes.after_reading w s)) (same-read w s (Receiver.next_read w s)).shape_is
 
 -- ## What a link keeps: an index for each message, and for each stream how many of its ordered messages were begun
@@ -96,7 +106,8 @@ pub record Counted (w : LinkRecord) (f : ℕ → ℕ) (b : ℕ → ℕ) : Type 0
   pub begun : (s : ℕ) → b s ≡ begun (shape w) s
 
 -- every event but a Send keeps it, an Expire too
-pub counted-after : (setup : Setup) (w : LinkRecord) (e : Event) (f b : ℕ → ℕ) → refusal_of w e ≡ None → Sane setup w → SendsNone e → Counted w f b → Counted (after w e) f b
+pub counted-after : (setup : Setup) (w : LinkRecord) (e : Event) (f b : ℕ → ℕ) → refusal_of w e ≡ None → Sane setup w → SendsNone e → Counted w f b
+    → Counted (after w e) f b
 counted-after setup w e f b ok g no' c =
     let k = none-after setup w e g no' in
     record {
@@ -110,5 +121,6 @@ counted-after setup w e f b ok g no' c =
 pub begun-closed : (setup : Setup) (w : LinkRecord) (s : ℕ) → Sane setup w → Messages.is_open w s ≡ false → begun (shape w) s ≡ 0
 begun-closed setup w s g e =
     ap length (kept-none (begins_on (shape w) s) 0 (length w.messages) (λ k a b. fails (begins_on (shape w) s k) (λ h.
-    let z = same-is (Messages.message_at w k).stream s (both ((Messages.message_at w k).stream == s) ((Messages.message_at w k).ordered && nat_lt 0 (Messages.sent_of w k)) h).0 in
+    let z = same-is (Messages.message_at w k).stream s
+    (both ((Messages.message_at w k).stream == s) ((Messages.message_at w k).ordered && nat_lt 0 (Messages.sent_of w k)) h).0 in
     not_both (sym e ∙ ap (Messages.is_open w) (sym z) ∙ g.known k (omega arith)))))

@@ -1,5 +1,6 @@
 -- The chunks that fill a datagram are those of the slots that it takes.
-use Rattle.std.proofs.Common.{◌≡◌, ℕ, zero, suc, ◌+◌, ◌<◌, ◌≤◌, Bool, true, false, List, [], ◌∷◌, ◌++◌, length, map, get_or, Option, Some, None, refl, ap, sym, ◌∙◌, arith, length-append, ◌*◌}
+use Rattle.std.proofs.Common.{◌≡◌, ℕ, zero, suc, ◌+◌, ◌<◌, ◌≤◌, Bool, true, false, List, [], ◌∷◌, ◌++◌, length, map, get_or, Option, Some, None, refl, ap, sym}
+use Rattle.std.proofs.Common.{◌∙◌, arith, length-append, ◌*◌}
 use Rattle.std.specs.Prelude.{if◌then◌else◌, nat_le, is_some, IfSome, not, ◌==◌, ◌%◌, ◌^◌}
 use Rattle.std.proofs.Math.Path.{subst}
 use Rattle.std.proofs.lemmas.Bool.Decides.{nat_tests}
@@ -13,7 +14,8 @@ use Rattle.sctp_outbound.specs.outbound_queue.OutboundQueue.{taken_of, after_sen
 use Rattle.sctp_model.specs.LinkRecord.{Setup, LinkRecord, Slot}
 use Rattle.sctp_model.specs.Messages.{front, sent_of, slot_at, tsn_of, no_slot}
 use Rattle.sctp_model.specs.Contents.{chunk_at, data_fields}
-use Rattle.sctp_model.specs.Changes.{after_start, with_slot, send_fragment, send_fragment_of, send_fragments, fill_datagram, plus, chunk_fits, chunk_length, next_length, next_length_of}
+use Rattle.sctp_model.specs.Changes.{after_start, with_slot, send_fragment, send_fragment_of, send_fragments, fill_datagram, plus, chunk_fits, chunk_length}
+use Rattle.sctp_model.specs.Changes.{next_length, next_length_of}
 use Rattle.sctp_model.proofs.sender.Shape.{Shape, shape, sent, parts, index, front_of}
 use Rattle.sctp_model.proofs.sender.Shapes
 use Rattle.sctp_model.proofs.sender.Fronts.{front-none}
@@ -45,7 +47,8 @@ slots-alone w (Some n) = refl
 
 pub only-slots : (n : ℕ) (w : LinkRecord) → after_fragments n w ≡ record w { slots = (after_fragments n w).slots }
 only-slots zero w = refl
-only-slots (suc n) w = only-slots n (send_fragment w) ∙ ap (λ (v : LinkRecord). record v { slots = (after_fragments n (send_fragment w)).slots }) (slots-alone w (front w))
+only-slots (suc n) w = only-slots n (send_fragment w)
+    ∙ ap (λ (v : LinkRecord). record v { slots = (after_fragments n (send_fragment w)).slots }) (slots-alone w (front w))
 
 -- the slots of before stay
 pub slots-longer : (n : ℕ) (w : LinkRecord) → length w.slots ≤ length (after_fragments n w).slots
@@ -54,7 +57,8 @@ slots-longer (suc n) w = omega (arith, longer (front w), slots-longer n (send_fr
   where
     longer : (o : Option ℕ) → length w.slots ≤ length (send_fragment_of w o).slots
     longer None = omega arith
-    longer (Some m) = let new : Slot = record { message = m; fragment = sent_of w m; is_terminal_chunk = false; arrived = false; acknowledged = false } in omega (arith, length-append w.slots (new ∷ []))
+    longer (Some m) = let new : Slot = record { message = m; fragment = sent_of w m; is_terminal_chunk = false; arrived = false; acknowledged = false } in
+        omega (arith, length-append w.slots (new ∷ []))
 
 pub slots-stay : (n p : ℕ) (w : LinkRecord) → p < length w.slots → slot_at (after_fragments n w) p ≡ slot_at w p
 slots-stay zero p w lt = refl
@@ -80,7 +84,8 @@ fills-none : (w : LinkRecord) → Fills w w []
 fills-none w = record { all = refl; fronts = λ i lt. absurd (omega arith); count = omega arith; says = refl }
 
 -- one chunk more
-fills-more : (w z : LinkRecord) (n : ℕ) (c : ChunkPayloadData) (cs : List ChunkPayloadData) → front w ≡ Some n → data_of c ≡ data_fields w n (sent_of w n) (tsn_of w (length w.slots)) → Fills (with_slot w n false) z cs → Fills w z (c ∷ cs)
+fills-more : (w z : LinkRecord) (n : ℕ) (c : ChunkPayloadData) (cs : List ChunkPayloadData) → front w ≡ Some n
+    → data_of c ≡ data_fields w n (sent_of w n) (tsn_of w (length w.slots)) → Fills (with_slot w n false) z cs → Fills w z (c ∷ cs)
 fills-more w z n c cs fr is f = record {
   all = f.all ∙ ap (after_fragments (length cs)) (sym takes);
   fronts = λ i lt. each i lt;
@@ -119,20 +124,24 @@ fills-more w z n c cs fr is f = record {
 
 -- the TSN after it
 pub next-tsn : (w : LinkRecord) (n : ℕ) → following_tsn (tsn_of w (length w.slots)) ≡ tsn_of (with_slot w n false) (length (with_slot w n false).slots)
-next-tsn w n = let new : Slot = record { message = n; fragment = sent_of w n; is_terminal_chunk = false; arrived = false; acknowledged = false } in omega (arith, length-append w.slots (new ∷ []))
+next-tsn w n = let new : Slot = record { message = n; fragment = sent_of w n; is_terminal_chunk = false; arrived = false; acknowledged = false } in
+    omega (arith, length-append w.slots (new ∷ []))
 
 -- a queue that shows what the record says fills a datagram with it
-pub fill-from : (setup : Setup) (most used tsn : ℕ) (w : LinkRecord) (q : Pending) → Going setup w → RefinesPending w q → tsn ≡ tsn_of w (length w.slots) → Fills w (fill_datagram most used w) (further most w.setup.limit used tsn q)
+pub fill-from : (setup : Setup) (most used tsn : ℕ) (w : LinkRecord) (q : Pending) → Going setup w → RefinesPending w q → tsn ≡ tsn_of w (length w.slots)
+    → Fills w (fill_datagram most used w) (further most w.setup.limit used tsn q)
 fill-from setup zero used tsn w q g t e = fills-none w
 fill-from setup (suc most) used tsn w q g t e = by (λ used' tsn' v r g' t' e'. fill-from setup most used' tsn' v r g' t' e') (front w) refl
   where
     Rest : Type 0
-    Rest = (used' tsn' : ℕ) (v : LinkRecord) (r : Pending) → Going setup v → RefinesPending v r → tsn' ≡ tsn_of v (length v.slots) → Fills v (fill_datagram most used' v) (further most v.setup.limit used' tsn' r)
+    Rest = (used' tsn' : ℕ) (v : LinkRecord) (r : Pending) → Going setup v → RefinesPending v r → tsn' ≡ tsn_of v (length v.slots)
+        → Fills v (fill_datagram most used' v) (further most v.setup.limit used' tsn' r)
 
     Step : Option ℕ → Option ChunkPayloadData → Type 0
     Step o p =
         Fills w (if chunk_fits w used (next_length_of w o) then fill_datagram most (plus used (next_length_of w o)) (send_fragment_of w o) else w)
-        (if fits_in w.setup.limit used (length_shown p) then leaving tsn p ++ further most w.setup.limit (plus used (length_shown p)) (following_tsn tsn) (taken_of p q) else [])
+        (if fits_in w.setup.limit used (length_shown p)
+        then leaving tsn p ++ further most w.setup.limit (plus used (length_shown p)) (following_tsn tsn) (taken_of p q) else [])
 
     by : Rest → (o : Option ℕ) → front w ≡ o → Step o (next_pending q)
     by rest None fr = subst (Step None) (sym (pending-idle w q t (λ k lt. front-none (shape w) fr k lt))) (fills-none w)
@@ -150,26 +159,31 @@ fill-from setup (suc most) used tsn w q g t e = by (λ used' tsn' v r g' t' e'. 
         going : Going setup (with_slot w n false)
         going = subst (λ o. Going setup (send_fragment_of w o)) fr (going-takes setup w g)
 
-        test : (b : Bool) → Fills w (if b then fill_datagram most (used + more) (with_slot w n false) else w) (if b then leaving tsn (Some c) ++ further most w.setup.limit (used + more) (following_tsn tsn) (taken_of (Some c) q) else [])
+        test : (b : Bool) → Fills w (if b then fill_datagram most (used + more) (with_slot w n false) else w)
+            (if b then leaving tsn (Some c) ++ further most w.setup.limit (used + more) (following_tsn tsn) (taken_of (Some c) q) else [])
         test true =
-            fills-more w (fill_datagram most (used + more) (with_slot w n false)) n (under_tsn tsn c) (further most w.setup.limit (used + more) (following_tsn tsn) (taken_of (Some c) q)) fr
+            fills-more w (fill_datagram most (used + more) (with_slot w n false)) n (under_tsn tsn c)
+            (further most w.setup.limit (used + more) (following_tsn tsn) (taken_of (Some c) q)) fr
             (ap (λ k. data_fields w n (sent_of w n) k) e)
             (rest (used + more) (following_tsn tsn) (with_slot w n false) (taken_of (Some c) q) going shows.1 (ap following_tsn e ∙ next-tsn w n))
         test false = fills-none w
 
 -- after so many sends it holds what the record says after so many fragments
-pub pending-after : (setup : Setup) (i : ℕ) (w : LinkRecord) (q : Pending) → Going setup w → RefinesPending w q → RefinesPending (after_fragments i w) (after_sends i q)
+pub pending-after : (setup : Setup) (i : ℕ) (w : LinkRecord) (q : Pending) → Going setup w → RefinesPending w q
+    → RefinesPending (after_fragments i w) (after_sends i q)
 pending-after setup zero w q g t = t
 pending-after setup (suc i) w q g t = pending-after setup i (send_fragment w) (taken_of (next_pending q) q) (going-takes setup w g) (by (front w) refl)
   where
     by : (o : Option ℕ) → front w ≡ o → RefinesPending (send_fragment_of w o) (taken_of (next_pending q) q)
     by None fr = subst (λ p. RefinesPending w (taken_of p q)) (sym (pending-idle w q t (λ k lt. front-none (shape w) fr k lt))) t
     by (Some n) fr =
-        let shows : (next_pending q ≡ Some (waiting_at w n (sent_of w n))) × RefinesPending (with_slot w n false) (taken_of (Some (waiting_at w n (sent_of w n))) q) = pending-sent w n (front_is w g.sane.sender g.turns n fr) q t in
+        let shows : (next_pending q ≡ Some (waiting_at w n (sent_of w n))) × RefinesPending (with_slot w n false)
+        (taken_of (Some (waiting_at w n (sent_of w n))) q) = pending-sent w n (front_is w g.sane.sender g.turns n fr) q t in
         subst (λ p. RefinesPending (with_slot w n false) (taken_of p q)) (sym shows.0) shows.1
 
 -- what it shows then is a fragment of the record
-pub shown-after : (setup : Setup) (i : ℕ) (w : LinkRecord) (q : Pending) (P : ChunkPayloadData → Type 0) → Going setup w → RefinesPending w q → ((n : ℕ) → P (waiting_at (after_fragments i w) n (sent_of (after_fragments i w) n))) → IfSome (next_pending (after_sends i q)) P
+pub shown-after : (setup : Setup) (i : ℕ) (w : LinkRecord) (q : Pending) (P : ChunkPayloadData → Type 0) → Going setup w → RefinesPending w q
+    → ((n : ℕ) → P (waiting_at (after_fragments i w) n (sent_of (after_fragments i w) n))) → IfSome (next_pending (after_sends i q)) P
 shown-after setup i w q P g t each = by (front (after_fragments i w)) refl
   where
     r : RefinesPending (after_fragments i w) (after_sends i q)
@@ -179,11 +193,14 @@ shown-after setup i w q P g t each = by (front (after_fragments i w)) refl
     z = going-after setup i w g
 
     by : (o : Option ℕ) → front (after_fragments i w) ≡ o → IfSome (next_pending (after_sends i q)) P
-    by None fr = subst (λ p. IfSome p P) (sym (pending-idle (after_fragments i w) (after_sends i q) r (λ k lt. front-none (shape (after_fragments i w)) fr k lt))) tt
-    by (Some n) fr = subst (λ p. IfSome p P) (sym (pending-sent (after_fragments i w) n (front_is (after_fragments i w) z.sane.sender z.turns n fr) (after_sends i q) r).0) (each n)
+    by None fr =
+        subst (λ p. IfSome p P) (sym (pending-idle (after_fragments i w) (after_sends i q) r (λ k lt. front-none (shape (after_fragments i w)) fr k lt))) tt
+    by (Some n) fr = subst (λ p. IfSome p P)
+        (sym (pending-sent (after_fragments i w) n (front_is (after_fragments i w) z.sane.sender z.turns n fr) (after_sends i q) r).0) (each n)
 
 -- a Send takes what the queue shows
-pub fill-sent : (setup : Setup) (tsn n : ℕ) (w : LinkRecord) (q : Pending) → Going setup w → RefinesPending w q → front w ≡ Some n → tsn ≡ tsn_of w (length w.slots) → Fills w (send_fragments w) (chunks_taken w.setup.limit tsn q)
+pub fill-sent : (setup : Setup) (tsn n : ℕ) (w : LinkRecord) (q : Pending) → Going setup w → RefinesPending w q → front w ≡ Some n
+    → tsn ≡ tsn_of w (length w.slots) → Fills w (send_fragments w) (chunks_taken w.setup.limit tsn q)
 fill-sent setup tsn n w q g t fr e = subst (λ o. Takes o (next_pending q)) (sym fr) (subst (Takes (Some n)) (sym shows.0) one)
   where
     c : ChunkPayloadData
@@ -202,9 +219,11 @@ fill-sent setup tsn n w q g t fr e = subst (λ o. Takes o (next_pending q)) (sym
 
     one : Takes (Some n) (Some c)
     one =
-        fills-more w (fill_datagram w.setup.limit (12 + more) (with_slot w n false)) n (under_tsn tsn c) (further w.setup.limit w.setup.limit (12 + more) (following_tsn tsn) (taken_of (Some c) q)) fr
+        fills-more w (fill_datagram w.setup.limit (12 + more) (with_slot w n false)) n (under_tsn tsn c)
+        (further w.setup.limit w.setup.limit (12 + more) (following_tsn tsn) (taken_of (Some c) q)) fr
         (ap (λ k. data_fields w n (sent_of w n) k) e)
-        (fill-from setup w.setup.limit (12 + more) (following_tsn tsn) (with_slot w n false) (taken_of (Some c) q) (subst (λ o. Going setup (send_fragment_of w o)) fr (going-takes setup w g)) shows.1 (ap following_tsn e ∙ next-tsn w n))
+        (fill-from setup w.setup.limit (12 + more) (following_tsn tsn) (with_slot w n false) (taken_of (Some c) q)
+        (subst (λ o. Going setup (send_fragment_of w o)) fr (going-takes setup w g)) shows.1 (ap following_tsn e ∙ next-tsn w n))
 
 -- ## Lifetimes start first
 
@@ -221,7 +240,8 @@ front-started : (w : LinkRecord) (now : ℕ) → front (after_start w now) ≡ f
 front-started w now = ap front_of (Shapes.shape-started w now)
 
 next-started : (w : LinkRecord) (now : ℕ) → next_length (after_start w now) ≡ next_length w
-next-started w now = next-shape (after_start w now) (front (after_start w now)) ∙ ap (λ y. next_by y (front_of y)) (Shapes.shape-started w now) ∙ sym (next-shape w (front w))
+next-started w now = next-shape (after_start w now) (front (after_start w now)) ∙ ap (λ y. next_by y (front_of y)) (Shapes.shape-started w now)
+    ∙ sym (next-shape w (front w))
 
 fragment-started : (w : LinkRecord) (now : ℕ) → send_fragment (after_start w now) ≡ after_start (send_fragment w) now
 fragment-started w now = ap (send_fragment_of (after_start w now)) (front-started w now) ∙ by (front w)
@@ -237,16 +257,21 @@ after-started (suc n) w now = ap (after_fragments n) (fragment-started w now) �
 filled-started : (most used : ℕ) (w : LinkRecord) (now : ℕ) → fill_datagram most used (after_start w now) ≡ after_start (fill_datagram most used w) now
 filled-started zero used w now = refl
 filled-started (suc most) used w now =
-    ap (λ o. if chunk_fits (after_start w now) used o then fill_datagram most (plus used o) (send_fragment (after_start w now)) else after_start w now) (next-started w now)
-    ∙ ap (λ v. if chunk_fits (after_start w now) used (next_length w) then fill_datagram most (plus used (next_length w)) v else after_start w now) (fragment-started w now)
-    ∙ by (next_length w) (λ used'. filled-started most used' (send_fragment w) now)
+    ap (λ o. if chunk_fits (after_start w now) used o then fill_datagram most (plus used o) (send_fragment (after_start w now)) else after_start w now)
+    (next-started w now) ∙ ap (λ v. if chunk_fits (after_start w now) used (next_length w) then fill_datagram most (plus used (next_length w)) v
+    else after_start w now) (fragment-started w now) ∙ by (next_length w) (λ used'. filled-started most used' (send_fragment w) now)
   where
-    by : (o : Option ℕ) → ((used' : ℕ) → fill_datagram most used' (after_start (send_fragment w) now) ≡ after_start (fill_datagram most used' (send_fragment w)) now)
-        → (if chunk_fits (after_start w now) used o then fill_datagram most (plus used o) (after_start (send_fragment w) now) else after_start w now) ≡ after_start (if chunk_fits w used o then fill_datagram most (plus used o) (send_fragment w) else w) now
+    by : (o : Option ℕ)
+        → ((used' : ℕ) → fill_datagram most used' (after_start (send_fragment w) now) ≡ after_start (fill_datagram most used' (send_fragment w)) now)
+        → (if chunk_fits (after_start w now) used o then fill_datagram most (plus used o) (after_start (send_fragment w) now) else after_start w now)
+        ≡ after_start (if chunk_fits w used o then fill_datagram most (plus used o) (send_fragment w) else w) now
     by None rest = refl
     by (Some more) rest = test (nat_le (used + more) w.setup.limit) (rest (used + more))
       where
-        test : (b : Bool) → fill_datagram most (used + more) (after_start (send_fragment w) now) ≡ after_start (fill_datagram most (used + more) (send_fragment w)) now → (if b then fill_datagram most (used + more) (after_start (send_fragment w) now) else after_start w now) ≡ after_start (if b then fill_datagram most (used + more) (send_fragment w) else w) now
+        test : (b : Bool)
+            → fill_datagram most (used + more) (after_start (send_fragment w) now) ≡ after_start (fill_datagram most (used + more) (send_fragment w)) now
+            → (if b then fill_datagram most (used + more) (after_start (send_fragment w) now) else after_start w now)
+            ≡ after_start (if b then fill_datagram most (used + more) (send_fragment w) else w) now
         test true same = same
         test false same = refl
 
@@ -285,7 +310,8 @@ fill-started w z now cs f = record {
   where
     map-same : (ps : List ℕ) → map (λ p. data_of (chunk_at z p)) ps ≡ map (λ p. data_of (chunk_at (after_start z now) p)) ps
     map-same [] = refl
-    map-same (p ∷ ps) = ap (λ d. d ∷ map (λ p. data_of (chunk_at z p)) ps) (sym (data-started z now (slot_at z p).message (slot_at z p).fragment (tsn_of z p))) ∙ ap (λ l. data_of (chunk_at (after_start z now) p) ∷ l) (map-same ps)
+    map-same (p ∷ ps) = ap (λ d. d ∷ map (λ p. data_of (chunk_at z p)) ps) (sym (data-started z now (slot_at z p).message (slot_at z p).fragment (tsn_of z p)))
+        ∙ ap (λ l. data_of (chunk_at (after_start z now) p) ∷ l) (map-same ps)
 
 -- ## The turns
 
@@ -294,21 +320,27 @@ none-fits : (most limit used tsn : ℕ) (q : Pending) → limit < used + 16 → 
 none-fits zero limit used tsn q short = refl
 none-fits (suc most) limit used tsn q short = by (next_pending q)
   where
-    by : (p : Option ChunkPayloadData) → (if fits_in limit used (length_shown p) then leaving tsn p ++ further most limit (plus used (length_shown p)) (following_tsn tsn) (taken_of p q) else []) ≡ []
+    by : (p : Option ChunkPayloadData) → (if fits_in limit used (length_shown p)
+        then leaving tsn p ++ further most limit (plus used (length_shown p)) (following_tsn tsn) (taken_of p q) else []) ≡ []
     by None = refl
     by (Some c) =
         let no' : nat_le (used + chunk_length (length c.user_data)) limit ≡ false = grind (arith, nat_tests) in
-        ap (λ b. if b then under_tsn tsn c ∷ further most limit (used + chunk_length (length c.user_data)) (following_tsn tsn) (taken_of (Some c) q) else []) no'
+        ap (λ b. if b then under_tsn tsn c ∷ further most limit (used + chunk_length (length c.user_data)) (following_tsn tsn) (taken_of (Some c) q)
+        else []) no'
 
 -- so no more turns are of use than the limit has room for
-pub turns-enough : (most more limit used tsn : ℕ) (q : Pending) → limit < used + 16 * (most + 1) → further (most + more) limit used tsn q ≡ further most limit used tsn q
+pub turns-enough : (most more limit used tsn : ℕ) (q : Pending) → limit < used + 16 * (most + 1)
+    → further (most + more) limit used tsn q ≡ further most limit used tsn q
 turns-enough zero more limit used tsn q short = none-fits (zero + more) limit used tsn q (omega (arith, short))
 turns-enough (suc most) more limit used tsn q short =
     let count : suc most + more ≡ suc (most + more) = omega arith in
     ap (λ k. further k limit used tsn q) count ∙ by (λ used' r low. turns-enough most more limit used' (following_tsn tsn) r low) (next_pending q)
   where
-    by : ((used' : ℕ) (r : Pending) → limit < used' + 16 * (most + 1) → further (most + more) limit used' (following_tsn tsn) r ≡ further most limit used' (following_tsn tsn) r) → (p : Option ChunkPayloadData)
-        → (if fits_in limit used (length_shown p) then leaving tsn p ++ further (most + more) limit (plus used (length_shown p)) (following_tsn tsn) (taken_of p q) else [])
-        ≡ (if fits_in limit used (length_shown p) then leaving tsn p ++ further most limit (plus used (length_shown p)) (following_tsn tsn) (taken_of p q) else [])
+    by : ((used' : ℕ) (r : Pending) → limit < used' + 16 * (most + 1) → further (most + more) limit used' (following_tsn tsn) r
+        ≡ further most limit used' (following_tsn tsn) r) → (p : Option ChunkPayloadData) → (if fits_in limit used (length_shown p)
+        then leaving tsn p ++ further (most + more) limit (plus used (length_shown p)) (following_tsn tsn) (taken_of p q) else [])
+        ≡ (if fits_in limit used (length_shown p) then leaving tsn p ++ further most limit (plus used (length_shown p)) (following_tsn tsn) (taken_of p q)
+        else [])
     by rest None = refl
-    by rest (Some c) = ap (λ l. if fits_in limit used (length_shown (Some c)) then under_tsn tsn c ∷ l else []) (rest (used + chunk_length (length c.user_data)) (taken_of (Some c) q) (omega (arith, short)))
+    by rest (Some c) = ap (λ l. if fits_in limit used (length_shown (Some c)) then under_tsn tsn c ∷ l else [])
+        (rest (used + chunk_length (length c.user_data)) (taken_of (Some c) q) (omega (arith, short)))

@@ -27,11 +27,13 @@ pub idle : (w : LinkRecord) (q : Outbound) → RefinesOutbound w q → front w �
 idle w q t e = pending-idle w q.pending t.pending (λ k lt. front-none (shape w) e k lt)
 
 -- where there is a front, its next fragment is shown
-pub shown : (setup : Setup) (w : LinkRecord) (n : ℕ) (q : Outbound) → Going setup w → front w ≡ Some n → RefinesOutbound w q → next_pending q.pending ≡ Some (waiting_at w n (sent_of w n))
+pub shown : (setup : Setup) (w : LinkRecord) (n : ℕ) (q : Outbound) → Going setup w → front w ≡ Some n → RefinesOutbound w q
+    → next_pending q.pending ≡ Some (waiting_at w n (sent_of w n))
 shown setup w n q g e t = (pending-sent w n (front_is w g.sane.sender g.turns n e) q.pending t.pending).0
 
 -- and takes the next slot
-pub refines-fragment : (setup : Setup) (w : LinkRecord) (n now : ℕ) (q : Outbound) → Going setup w → front w ≡ Some n → w.taken ≤ length w.slots → q.next_unstarted ≡ length w.messages → RefinesOutbound w q → RefinesOutbound (send_fragment w) (sent_peeked q (tsn_of w (length w.slots)) now)
+pub refines-fragment : (setup : Setup) (w : LinkRecord) (n now : ℕ) (q : Outbound) → Going setup w → front w ≡ Some n → w.taken ≤ length w.slots
+    → q.next_unstarted ≡ length w.messages → RefinesOutbound w q → RefinesOutbound (send_fragment w) (sent_peeked q (tsn_of w (length w.slots)) now)
 refines-fragment setup w n now q g e made all t =
     subst (λ o. RefinesOutbound (send_fragment_of w o) (sent_peeked q (tsn_of w (length w.slots)) now)) (sym e)
     (refines-sent w n now q (front_is w g.sane.sender g.turns n e) (Few.few setup w g.sane) made all t)
@@ -45,4 +47,5 @@ all-begun w now q t = by (q.next_unstarted == q.next_message_id) refl
     by false e = rw e t.next
 
 pub going-started : (setup : Setup) (w : LinkRecord) (now : ℕ) → Going setup w → Going setup (after_start w now)
-going-started setup w now g = record { sane = sane-started setup w now g.sane; turns = turns-as (shape w) (shape (after_start w now)) (Shapes.shape-started w now) g.turns }
+going-started setup w now g =
+    record { sane = sane-started setup w now g.sane; turns = turns-as (shape w) (shape (after_start w now)) (Shapes.shape-started w now) g.turns }

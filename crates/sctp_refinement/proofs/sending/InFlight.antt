@@ -37,11 +37,13 @@ pub record Found (w : LinkRecord) (p : ℕ) (cs : List ChunkPayloadData) : Type 
   pub is : find (has_tsn (tsn_of w p)) cs ≡ Some chunk
   pub says : sending_of chunk ≡ sending_at w p
 
-pub found-in : (w : LinkRecord) (p : ℕ) → p < 2 ^ 31 → (cs : List ChunkPayloadData) (from count : ℕ) → from + count ≤ 2 ^ 31 → from ≤ p → p < from + count → map sending_of cs ≡ map (sending_at w) (numbers_where always from count) → Found w p cs
+pub found-in : (w : LinkRecord) (p : ℕ) → p < 2 ^ 31 → (cs : List ChunkPayloadData) (from count : ℕ) → from + count ≤ 2 ^ 31 → from ≤ p → p < from + count
+    → map sending_of cs ≡ map (sending_at w) (numbers_where always from count) → Found w p cs
 found-in w p short [] from zero le low high e = absurd (omega arith)
 found-in w p short [] from (suc count) le low high e = cc
 found-in w p short (c ∷ cs) from zero le low high e = absurd (omega arith)
-found-in w p short (c ∷ cs) from (suc count) le low high e = by (from == p) refl (λ ne. found-in w p short cs (from + 1) count (omega (arith, le)) (omega (arith, low, ne)) (omega (arith, high)) (ap tail_of e))
+found-in w p short (c ∷ cs) from (suc count) le low high e =
+    by (from == p) refl (λ ne. found-in w p short cs (from + 1) count (omega (arith, le)) (omega (arith, low, ne)) (omega (arith, high)) (ap tail_of e))
   where
     head : sending_of c ≡ sending_at w from
     head = ap (λ l. head_of l (sending_of c)) e
@@ -69,7 +71,8 @@ says-same w p c e clear = by (c.acked || c.abandoned) (ap (λ s. s.says) e ∙ a
 
 -- ## Marks that the record does not know
 
-pub marked-quiet : (t : ChunkPayloadData → Bool) (f : ChunkPayloadData → ChunkPayloadData) → ((c : ChunkPayloadData) → sending_of (f c) ≡ sending_of c) → (cs : List ChunkPayloadData) → map sending_of (change_where t f cs) ≡ map sending_of cs
+pub marked-quiet : (t : ChunkPayloadData → Bool) (f : ChunkPayloadData → ChunkPayloadData) → ((c : ChunkPayloadData) → sending_of (f c) ≡ sending_of c)
+    → (cs : List ChunkPayloadData) → map sending_of (change_where t f cs) ≡ map sending_of cs
 marked-quiet t f same [] = refl
 marked-quiet t f same (c ∷ cs) = ap (λ l. sending_of (if t c then f c else c) ∷ l) (marked-quiet t f same cs) ∙ ap (λ s. s ∷ map sending_of cs) (by (t c))
   where
@@ -77,8 +80,16 @@ marked-quiet t f same (c ∷ cs) = ap (λ l. sending_of (if t c then f c else c)
     by true = same c
     by false = refl
 
-pub refines-marked : (w : LinkRecord) (q : Outbound) (t : ChunkPayloadData → Bool) (f : ChunkPayloadData → ChunkPayloadData) → ((c : ChunkPayloadData) → sending_of (f c) ≡ sending_of c) → RefinesOutbound w q → RefinesOutbound w (with_inflight q (change_where t f q.inflight.chunks))
-refines-marked w q t f same h = record { pending = h.pending; in_flight = marked-quiet t f same q.inflight.chunks ∙ h.in_flight; next = h.next; unstarted = h.unstarted; started = h.started; begun = h.begun }
+pub refines-marked : (w : LinkRecord) (q : Outbound) (t : ChunkPayloadData → Bool) (f : ChunkPayloadData → ChunkPayloadData) → ((c : ChunkPayloadData)
+    → sending_of (f c) ≡ sending_of c) → RefinesOutbound w q → RefinesOutbound w (with_inflight q (change_where t f q.inflight.chunks))
+refines-marked w q t f same h = record {
+  pending = h.pending;
+  in_flight = marked-quiet t f same q.inflight.chunks ∙ h.in_flight;
+  next = h.next;
+  unstarted = h.unstarted;
+  started = h.started;
+  begun = h.begun;
+}
 
 pub nsent-quiet : (n : ℕ) (c : ChunkPayloadData) → sending_of (with_nsent n c) ≡ sending_of c
 nsent-quiet n c = refl

@@ -26,10 +26,12 @@ count-with w m = length-append w.messages (m ∷ [])
 -- the count before a message that was there is as it was
 pub before-same : (w : LinkRecord) (m : Message) (t k : ℕ) → k ≤ length w.messages → ordered_before (with_message w m) t k ≡ ordered_before w t k
 before-same w m t k le =
-    ap length (kept-same (is_ordered_on (with_message w m) t) (is_ordered_on w t) 0 k (λ j a b. ap (λ x. (x.stream == t) && (x.ordered && not x.expired)) (message-before w m j (omega arith))))
+    ap length (kept-same (is_ordered_on (with_message w m) t) (is_ordered_on w t) 0 k
+    (λ j a b. ap (λ x. (x.stream == t) && (x.ordered && not x.expired)) (message-before w m j (omega arith))))
 
 -- the count of all messages is one more where the new one is an ordered one of the stream
-pub before-more : (w : LinkRecord) (m : Message) (t : ℕ) → m.expired ≡ false → ordered_before (with_message w m) t (length (with_message w m).messages) ≡ ordered_before w t (length w.messages) + (if (m.stream == t) && m.ordered then 1 else 0)
+pub before-more : (w : LinkRecord) (m : Message) (t : ℕ) → m.expired ≡ false → ordered_before (with_message w m) t (length (with_message w m).messages)
+    ≡ ordered_before w t (length w.messages) + (if (m.stream == t) && m.ordered then 1 else 0)
 before-more w m t alive =
     let v = with_message w m in
     let n = length w.messages in
@@ -57,4 +59,5 @@ before-by w v t k same = ap length (kept-same (is_ordered_on v t) (is_ordered_on
 
 -- lifetimes start
 pub before-started : (w : LinkRecord) (now t k : ℕ) → ordered_before (after_start w now) t k ≡ ordered_before w t k
-before-started w now t k = before-by w (after_start w now) t k (λ j lt. get-map (start_lifetime now) (λ m. (m.stream == t) && (m.ordered && not m.expired)) (λ m. refl) j w.messages no_message)
+before-started w now t k = before-by w (after_start w now) t k
+    (λ j lt. get-map (start_lifetime now) (λ m. (m.stream == t) && (m.ordered && not m.expired)) (λ m. refl) j w.messages no_message)

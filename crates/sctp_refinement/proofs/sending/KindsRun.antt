@@ -50,7 +50,8 @@ turns-written x m s t n k h lt ord = by (cases_lt n x.count)
         let a = old n l in
         let b = old k (omega arith) in
         let h' : half x n ≡ true = sym (ap (λ c. half_by (if c then m else x.message n)) a) ∙ h in
-        let o' : (x.message k).ordered ≡ (x.message n).ordered = sym (ap (λ c. (if c then m else x.message k).ordered) b) ∙ ord ∙ ap (λ c. (if c then m else x.message n).ordered) a in
+        let o' : (x.message k).ordered ≡ (x.message n).ordered = sym (ap (λ c. (if c then m else x.message k).ordered) b) ∙ ord
+        ∙ ap (λ c. (if c then m else x.message n).ordered) a in
         ap (λ c. (sent x k == 0) && not (if c then m else x.message k).expired) b ∙ t n k h' lt o'
       where
         half_by : MessagePart → Bool
@@ -90,10 +91,12 @@ turns-marked x n' t n k h lt ord =
         none false = omega arith
 
 turns-takes : (w : LinkRecord) (n' : ℕ) → FrontIs w n' → Turns (shape w) → Turns (slotted (shape w) n' false)
-turns-takes w n' f t n k h lt ord = by_same {P = unsent (slotted (shape w) n' false) k ≡ false} n' n (λ e. here e) (λ ne x. absurd (ne (sym (f.takes.alone n (other ne)))))
+turns-takes w n' f t n k h lt ord =
+    by_same {P = unsent (slotted (shape w) n' false) k ≡ false} n' n (λ e. here e) (λ ne x. absurd (ne (sym (f.takes.alone n (other ne)))))
   where
     other : (n' ≡ n → ⊥) → half (shape w) n ≡ true
-    other ne = ap (λ c. nat_lt 0 c && (nat_lt c (Messages.fragment_count w n) && not (Messages.message_at w n).abandoned)) (sym (sent-other (shape w) n' false n ne)) ∙ h
+    other ne = ap (λ c. nat_lt 0 c && (nat_lt c (Messages.fragment_count w n) && not (Messages.message_at w n).abandoned))
+        (sym (sent-other (shape w) n' false n ne)) ∙ h
 
     here : n' ≡ n → unsent (slotted (shape w) n' false) k ≡ false
     here e =
@@ -109,21 +112,26 @@ going-takes setup w g = record { sane = sane-takes setup w g.sane; turns = by (f
   where
     by : (o : Option ℕ) → front w ≡ o → Turns (shape (Changes.send_fragment_of w o))
     by None e = g.turns
-    by (Some n) e = turns-as (slotted (shape w) n false) (shape (Changes.with_slot w n false)) (Shapes.shape-slot w n false) (turns-takes w n (front_is w g.sane.sender g.turns n e) g.turns)
+    by (Some n) e = turns-as (slotted (shape w) n false) (shape (Changes.with_slot w n false)) (Shapes.shape-slot w n false)
+        (turns-takes w n (front_is w g.sane.sender g.turns n e) g.turns)
 
 turns-gone : (w : LinkRecord) (n : ℕ) → Turns (shape w) → Turns (shape (Changes.after_abandon w n))
 turns-gone w n t = by (Messages.is_partially_sent w n)
   where
     by : (b : Bool) → Turns (shape (Changes.message_changed (if b then Changes.with_slot w n true else w) n Changes.mark_abandoned))
-    by true = turns-as (abandoned_at (slotted (shape w) n true) n) (shape (Changes.message_changed (Changes.with_slot w n true) n Changes.mark_abandoned)) (Shapes.shape-abandoned (Changes.with_slot w n true) n ∙ ap (λ y. abandoned_at y n) (Shapes.shape-slot w n true)) (turns-abandoned (slotted (shape w) n true) n (turns-marked (shape w) n t))
-    by false = turns-as (abandoned_at (shape w) n) (shape (Changes.message_changed w n Changes.mark_abandoned)) (Shapes.shape-abandoned w n) (turns-abandoned (shape w) n t)
+    by true = turns-as (abandoned_at (slotted (shape w) n true) n) (shape (Changes.message_changed (Changes.with_slot w n true) n Changes.mark_abandoned))
+        (Shapes.shape-abandoned (Changes.with_slot w n true) n ∙ ap (λ y. abandoned_at y n) (Shapes.shape-slot w n true))
+        (turns-abandoned (slotted (shape w) n true) n (turns-marked (shape w) n t))
+    by false = turns-as (abandoned_at (shape w) n) (shape (Changes.message_changed w n Changes.mark_abandoned)) (Shapes.shape-abandoned w n)
+        (turns-abandoned (shape w) n t)
 
 turns-expire : (w : LinkRecord) (p : ℕ → Bool) (o : Option ℕ) → Turns (shape w) → Turns (shape (Changes.after_expire w (Changes.front_if w p o)))
 turns-expire w p None t = t
 turns-expire w p (Some n) t = by (p n)
   where
     by : (b : Bool) → Turns (shape (Changes.after_expire w (if b then Some n else None)))
-    by true = turns-as (expired_at (shape w) n) (shape (Changes.message_changed w n Changes.mark_expired)) (Shapes.shape-expired w n) (turns-expired (shape w) n t)
+    by true =
+        turns-as (expired_at (shape w) n) (shape (Changes.message_changed w n Changes.mark_expired)) (Shapes.shape-expired w n) (turns-expired (shape w) n t)
     by false = t
 
 turns-tail : (w : LinkRecord) (p : ℕ → Bool) (o : Option ℕ) → Turns (shape w) → Turns (shape (Changes.after_tail w (Changes.front_if w p o)))
@@ -134,16 +142,20 @@ turns-tail w p (Some n) t = by (p n)
     by true = turns-gone w n t
     by false = t
 
-turns-wrote : (setup : Setup) (w : LinkRecord) (s : ℕ) (ppi : _) (bytes : List ℕ) → Sane setup w → Turns (shape w) → Turns (shape (Changes.after_write w s ppi bytes))
+turns-wrote : (setup : Setup) (w : LinkRecord) (s : ℕ) (ppi : _) (bytes : List ℕ) → Sane setup w → Turns (shape w)
+    → Turns (shape (Changes.after_write w s ppi bytes))
 turns-wrote setup w s ppi [] g t = t
 turns-wrote setup w s ppi (b ∷ bs) g t =
     let m = Changes.message_on w (Messages.stream_of w s) ppi (b ∷ bs) in
-    turns-as (written (shape w) (message_part m)) (shape (Changes.after_write w s ppi (b ∷ bs))) (Shapes.shape-written w m) (turns-written (shape w) (message_part m) g.sender t)
+    turns-as (written (shape w) (message_part m)) (shape (Changes.after_write w s ppi (b ∷ bs))) (Shapes.shape-written w m)
+    (turns-written (shape w) (message_part m) g.sender t)
 
-turns-sent : (setup : Setup) (w : LinkRecord) (now : ℕ) (o : Option ℕ) → Sane setup w → Turns (shape w) → Turns (shape (Changes.send_from (Changes.after_start w now) o))
+turns-sent : (setup : Setup) (w : LinkRecord) (now : ℕ) (o : Option ℕ) → Sane setup w → Turns (shape w)
+    → Turns (shape (Changes.send_from (Changes.after_start w now) o))
 turns-sent setup w now None g t = turns-as (shape w) (shape (Changes.after_start w now)) (Shapes.shape-started w now) t
 turns-sent setup w now (Some n) g t =
-    Going.turns (sends-keep (Going setup) (λ v h. going-takes setup v h) (Changes.after_start w now) (record { sane = sane-started setup w now g; turns = turns-as (shape w) (shape (Changes.after_start w now)) (Shapes.shape-started w now) t }))
+    Going.turns (sends-keep (Going setup) (λ v h. going-takes setup v h) (Changes.after_start w now)
+    (record { sane = sane-started setup w now g; turns = turns-as (shape w) (shape (Changes.after_start w now)) (Shapes.shape-started w now) t }))
 
 turns-after : (setup : Setup) (w : LinkRecord) (e : Event) → Sane setup w → Turns (shape w) → Turns (shape (after w e))
 turns-after setup w (E.Open s) g t = t
@@ -158,8 +170,10 @@ turns-after setup w (E.Late now) g t = fold-keeps (λ v. Turns (shape v)) Change
 turns-after setup w (E.Abandon tsn) g t = turns-gone w (Messages.message_of w (Messages.place_of w tsn)) t
 turns-after setup w (E.Skip upto names) g t = t
 turns-after setup w (E.Ack credit) g t = t
-turns-after setup w (E.Arrive k) g t = turns-as (shape w) (shape (Changes.after_arrive w (slice_get w.network k))) (same-received w (slice_get w.network k)).shape_is t
-turns-after setup w (E.Acked k) g t = turns-as (shape w) (shape (Changes.after_acked w (slice_get w.network k))) (same-taken w (slice_get w.network k)).shape_is t
+turns-after setup w (E.Arrive k) g t =
+    turns-as (shape w) (shape (Changes.after_arrive w (slice_get w.network k))) (same-received w (slice_get w.network k)).shape_is t
+turns-after setup w (E.Acked k) g t =
+    turns-as (shape w) (shape (Changes.after_acked w (slice_get w.network k))) (same-taken w (slice_get w.network k)).shape_is t
 turns-after setup w (E.Read s) g t = turns-as (shape w) (shape (Changes.after_reading w s)) (same-read w s (Receiver.next_read w s)).shape_is t
 
 pub turns-run : (setup : Setup) (h : History) → IsRun setup h → KindsInTurn (record_of setup h)
@@ -168,7 +182,8 @@ turns-run setup (entry ∷ older) run = turns-after setup (record_of setup older
 
 -- ## No more slots are acknowledged than there are
 
-taken-sack : (w : LinkRecord) (r : W.Report) → w.taken ≤ length w.slots → ((p : ℕ) → reports r p ≡ true → p < length w.slots) → max w.taken r.cumulative ≤ length w.slots
+taken-sack : (w : LinkRecord) (r : W.Report) → w.taken ≤ length w.slots → ((p : ℕ) → reports r p ≡ true → p < length w.slots)
+    → max w.taken r.cumulative ≤ length w.slots
 taken-sack w r le inside = by (cases_lt 0 r.cumulative)
   where
     by : (0 < r.cumulative) ⊎ (r.cumulative ≤ 0) → max w.taken r.cumulative ≤ length w.slots
@@ -188,7 +203,8 @@ module _ (setup : Setup) (older : History) (is : IsSetup setup) (run : IsRun set
   w = record_of setup older
 
   seen-in : (r : W.Report) (k : ℕ) → slice_get w.network k ≡ Some (Sack r) → (p : ℕ) → reports r p ≡ true → p < length w.slots
-  seen-in r k e p h = Acknowledged.seen-made w (log_of setup older) p (received-run setup older is run).known.heard (Acknowledged.sack-at (log_of setup older) w.network k (Sack r) (Acknowledged.sacks-run setup older is run) e p h)
+  seen-in r k e p h = Acknowledged.seen-made w (log_of setup older) p (received-run setup older is run).known.heard
+      (Acknowledged.sack-at (log_of setup older) w.network k (Sack r) (Acknowledged.sacks-run setup older is run) e p h)
 
   taken-after : (e : Event) → refusal_of w e ≡ None → w.taken ≤ length w.slots → (after w e).taken ≤ length (after w e).slots
   taken-after e ok le = by e (extends-after setup w e ok (sane-run setup older run)).grows.slots
@@ -204,7 +220,8 @@ module _ (setup : Setup) (older : History) (is : IsSetup setup) (run : IsRun set
       acked k None x = le
       acked k (Some (W.Data ps)) x = le
       acked k (Some (Forward upto names)) x = le
-      acked k (Some (Sack r)) x = let m = taken-sack w r le (seen-in r k x) in let l = length-numbered (Changes.acknowledged_by r) 0 w.slots in omega (arith, m, l)
+      acked k (Some (Sack r)) x = let m = taken-sack w r le (seen-in r k x) in let l = length-numbered (Changes.acknowledged_by r) 0 w.slots in
+          omega (arith, m, l)
 
       by : (e : Event) → length w.slots ≤ length (after w e).slots → (after w e).taken ≤ length (after w e).slots
       by (E.Open s) g = same (after w (E.Open s)) g refl
@@ -216,7 +233,8 @@ module _ (setup : Setup) (older : History) (is : IsSetup setup) (run : IsRun set
       by (E.Expire now) g = same (after w (E.Expire now)) g (Moves.quiet-expire setup w now (front w) (sane-run setup older run)).taken
       by (E.Tail now) g = same (after w (E.Tail now)) g (Moves.quiet-tail setup w (Changes.tailing w now) (sane-run setup older run)).taken
       by (E.Late now) g = same (after w (E.Late now)) g (Moves.quiet-lates setup w now (sane-run setup older run)).taken
-      by (E.Abandon tsn) g = same (after w (E.Abandon tsn)) g (Moves.quiet-abandoned setup w (Messages.message_of w (Messages.place_of w tsn)) (sane-run setup older run)).taken
+      by (E.Abandon tsn) g =
+          same (after w (E.Abandon tsn)) g (Moves.quiet-abandoned setup w (Messages.message_of w (Messages.place_of w tsn)) (sane-run setup older run)).taken
       by (E.Skip upto names) g = same (after w (E.Skip upto names)) g refl
       by (E.Ack credit) g = same (after w (E.Ack credit)) g refl
       by (E.Arrive k) g = same (after w (E.Arrive k)) g (Acknowledged.as-datagram w (slice_get w.network k)).taken

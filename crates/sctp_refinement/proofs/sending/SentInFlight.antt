@@ -23,14 +23,17 @@ use Rattle.sctp_refinement.proofs.sending.Written.{sending-alike}
 use Rattle.sctp_refinement.proofs.sending.Sent.{FrontIs, pending-sent}
 
 -- a chunk behind all others goes to the end
-pub put-last : (w : LinkRecord) (x : ChunkPayloadData) (p : ℕ) → x.tsn ≡ tsn_of w p → p < 2 ^ 31 → (cs : List ChunkPayloadData) (from count : ℕ) → map sending_of cs ≡ map (sending_at w) (numbers_where always from count) → from + count ≤ p → insert_before chunk_before x cs ≡ cs ++ x ∷ []
+pub put-last : (w : LinkRecord) (x : ChunkPayloadData) (p : ℕ) → x.tsn ≡ tsn_of w p → p < 2 ^ 31 → (cs : List ChunkPayloadData) (from count : ℕ)
+    → map sending_of cs ≡ map (sending_at w) (numbers_where always from count) → from + count ≤ p → insert_before chunk_before x cs ≡ cs ++ x ∷ []
 put-last w x p e short [] from count same le = refl
 put-last w x p e short (c ∷ cs) from zero same le = cc
 put-last w x p e short (c ∷ cs) from (suc count) same le =
     let head : c.tsn ≡ tsn_of w from = ap (λ l. first_tsn l) same in
-    let later : comes_before x.tsn c.tsn ≡ false = rw (e, head) (comes_before-tsn w.setup.first p from (omega (arith, le)) (omega (arith, le)) (λ z. omega (arith, le, z)) ∙ (let g : from ≤ p = omega (arith, le) in grind (arith, nat_tests))) in
+    let later : comes_before x.tsn c.tsn ≡ false = rw (e, head) (comes_before-tsn w.setup.first p from (omega (arith, le)) (omega (arith, le))
+    (λ z. omega (arith, le, z)) ∙ (let g : from ≤ p = omega (arith, le) in grind (arith, nat_tests))) in
     let tail : map sending_of cs ≡ map (sending_at w) (numbers_where always (from + 1) count) = ap rest same in
-    ap (λ b. if b then x ∷ c ∷ cs else c ∷ insert_before chunk_before x cs) later ∙ ap (λ l. c ∷ l) (put-last w x p e short cs (from + 1) count tail (omega (arith, le)))
+    ap (λ b. if b then x ∷ c ∷ cs else c ∷ insert_before chunk_before x cs) later
+    ∙ ap (λ l. c ∷ l) (put-last w x p e short cs (from + 1) count tail (omega (arith, le)))
   where
     first_tsn : List Sending → ℕ
     first_tsn [] = 0
@@ -72,19 +75,21 @@ module _ (w : LinkRecord) (n : ℕ) (alive : (message_at w n).abandoned ≡ fals
       ap (λ c. map (sending_at v) (numbers_from w.taken c)) many
       ∙ ap (map (sending_at v)) (kept-snoc_in always w.taken (length w.slots - w.taken) here (omega (arith, made)) refl)
       ∙ map-append (sending_at v) (numbers_from w.taken (length w.slots - w.taken)) (here ∷ [])
-      ∙ ap (λ l. l ++ sending_at v here ∷ []) (map-kept-same (sending_at v) (sending_at w) always always w.taken (length w.slots - w.taken) (λ k a b. refl) (λ k a b e. sending-alike w v k (slot-old k (omega (arith, made))) (record { setup = refl; message = refl; ssn = refl })))
+      ∙ ap (λ l. l ++ sending_at v here ∷ []) (map-kept-same (sending_at v) (sending_at w) always always w.taken (length w.slots - w.taken) (λ k a b. refl)
+      (λ k a b e. sending-alike w v k (slot-old k (omega (arith, made))) (record { setup = refl; message = refl; ssn = refl })))
 
   -- the chunk goes behind what is in flight
-  pub in-flight-sent : (now : ℕ) (cs : List ChunkPayloadData) → map sending_of cs ≡ sendings_of w → map sending_of (insert_before chunk_before (as_sent (tsn_of w here) now (waiting_at w n (Messages.sent_of w n))) cs) ≡ sendings_of v
+  pub in-flight-sent : (now : ℕ) (cs : List ChunkPayloadData) → map sending_of cs ≡ sendings_of w
+      → map sending_of (insert_before chunk_before (as_sent (tsn_of w here) now (waiting_at w n (Messages.sent_of w n))) cs) ≡ sendings_of v
   in-flight-sent now cs t =
-      ap (map sending_of) (put-last w (as_sent (tsn_of w here) now (waiting_at w n (Messages.sent_of w n))) here refl few cs w.taken (length w.slots - w.taken) t (omega (arith, made)))
-      ∙ map-append sending_of cs (as_sent (tsn_of w here) now (waiting_at w n (Messages.sent_of w n)) ∷ [])
+      ap (map sending_of) (put-last w (as_sent (tsn_of w here) now (waiting_at w n (Messages.sent_of w n))) here refl few cs w.taken (length w.slots
+      - w.taken) t (omega (arith, made))) ∙ map-append sending_of cs (as_sent (tsn_of w here) now (waiting_at w n (Messages.sent_of w n)) ∷ [])
       ∙ ap (λ l. l ++ sending_of (as_sent (tsn_of w here) now (waiting_at w n (Messages.sent_of w n))) ∷ []) t
-      ∙ ap (λ x. sendings_of w ++ x ∷ []) (sending-new now)
-      ∙ sym sendings-more
+      ∙ ap (λ x. sendings_of w ++ x ∷ []) (sending-new now) ∙ sym sendings-more
 
 -- the peeked fragment is in flight under the next TSN: the outbound queue holds what the record says
-pub refines-sent : (w : LinkRecord) (n now : ℕ) (q : Outbound) → FrontIs w n → length w.slots < 2 ^ 31 → w.taken ≤ length w.slots → q.next_unstarted ≡ length w.messages → RefinesOutbound w q → RefinesOutbound (with_slot w n false) (sent_peeked q (tsn_of w (length w.slots)) now)
+pub refines-sent : (w : LinkRecord) (n now : ℕ) (q : Outbound) → FrontIs w n → length w.slots < 2 ^ 31 → w.taken ≤ length w.slots
+    → q.next_unstarted ≡ length w.messages → RefinesOutbound w q → RefinesOutbound (with_slot w n false) (sent_peeked q (tsn_of w (length w.slots)) now)
 refines-sent w n now q f few made all t =
     let p = pending-sent w n f q.pending t.pending in
     subst (λ o. RefinesOutbound (with_slot w n false) (sent_of o q (tsn_of w (length w.slots)) now)) (sym p.0) (record {
@@ -95,5 +100,6 @@ refines-sent w n now q f few made all t =
       started = t.started;
       begun = λ k lt. by_last k (length w.slots) (omega (arith, lt, slots-more w n f.takes.alive few made))
           (λ l. omega (arith, t.begun k l, ap (λ x. x.message) (slot-old w n f.takes.alive few made k l)))
-          (λ e. let m : message_of (with_slot w n false) k ≡ n = ap (message_of (with_slot w n false)) e ∙ ap (λ x. x.message) (slot-new w n f.takes.alive few made) in omega (arith, m, f.takes.made, all));
+          (λ e. let m : message_of (with_slot w n false) k ≡ n = ap (message_of (with_slot w n false)) e
+          ∙ ap (λ x. x.message) (slot-new w n f.takes.alive few made) in omega (arith, m, f.takes.made, all));
     })

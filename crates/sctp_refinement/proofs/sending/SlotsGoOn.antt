@@ -31,19 +31,22 @@ abbrev pub AllGoOn : Shape → Type 0
 AllGoOn x = (p : ℕ) → p < x.slots → (x.slot p).is_terminal_chunk ≡ false → (x.slot p).fragment + 1 < parts x (x.slot p).message → GoesOn x p
 
 -- the message of the last slot is partially sent, where that does not end it
-half-last : (x : Shape) (p : ℕ) → Sender x → p + 1 ≡ x.slots → (x.slot p).is_terminal_chunk ≡ false → (x.slot p).fragment + 1 < parts x (x.slot p).message → (x.message (x.slot p).message).abandoned ≡ false → half x (x.slot p).message ≡ true
+half-last : (x : Shape) (p : ℕ) → Sender x → p + 1 ≡ x.slots → (x.slot p).is_terminal_chunk ≡ false → (x.slot p).fragment + 1 < parts x (x.slot p).message
+    → (x.message (x.slot p).message).abandoned ≡ false → half x (x.slot p).message ≡ true
 half-last x p s e mark lt alive =
     let n = (x.slot p).message in
     let has-it : has x n p ≡ true = and (n == n) (not (x.slot p).is_terminal_chunk) (same-yes n) (ap not mark) in
     let all : sent x n ≡ length (numbers_where (has x n) 0 p) + 1 =
-    ap (λ c. length (numbers_where (has x n) 0 c)) (sym e ∙ add-one p) ∙ ap length (kept-snoc_in (has x n) 0 p p (omega arith) has-it) ∙ length-append (numbers_where (has x n) 0 p) (p ∷ []) in
+    ap (λ c. length (numbers_where (has x n) 0 c)) (sym e ∙ add-one p) ∙ ap length (kept-snoc_in (has x n) 0 p p (omega arith) has-it)
+    ∙ length-append (numbers_where (has x n) 0 p) (p ∷ []) in
     let number = s.number p (omega (arith, e)) in
     is-half x n (omega (arith, all)) (omega (arith, all, number, lt)) alive
 
 -- ## Each change keeps it
 
 -- one more slot, of the only message that may be partially sent
-goes-slotted : (x : Shape) (n : ℕ) (m : Bool) → Sender x → ((k : ℕ) → half x k ≡ true → k ≡ n) → (m ≡ false → (x.message n).abandoned ≡ false) → AllGoOn x → AllGoOn (slotted x n m)
+goes-slotted : (x : Shape) (n : ℕ) (m : Bool) → Sender x → ((k : ℕ) → half x k ≡ true → k ≡ n) → (m ≡ false → (x.message n).abandoned ≡ false) → AllGoOn x
+    → AllGoOn (slotted x n m)
 goes-slotted x n m s alone alive g p lt mark short = by_last {P = GoesOn (slotted x n m) p} p x.slots lt old new
   where
     old : p < x.slots → GoesOn (slotted x n m) p
@@ -56,21 +59,24 @@ goes-slotted x n m s alone alive g p lt mark short = by_last {P = GoesOn (slotte
         record {
           same = λ a. by_last {P = ((slotted x n m).slot (p + 1)).message ≡ ((slotted x n m).slot p).message} (p + 1) x.slots (omega (arith, a, top))
               (λ b. ap (λ z. z.message) (slot-old x n (p + 1) m b) ∙ o.same b ∙ ap (λ z. z.message) (sym here))
-              (λ b. ap (λ r. ((slotted x n m).slot r).message) b ∙ ap (λ z. z.message) (slot-new x n m) ∙ sym (alone (x.slot p).message (half-last x p s b mark' short' (o.alive b))) ∙ ap (λ z. z.message) (sym here));
+              (λ b. ap (λ r. ((slotted x n m).slot r).message) b ∙ ap (λ z. z.message) (slot-new x n m)
+              ∙ sym (alone (x.slot p).message (half-last x p s b mark' short' (o.alive b))) ∙ ap (λ z. z.message) (sym here));
           alive = λ a. absurd (omega (arith, a, top, l));
         }
 
     new : p ≡ x.slots → GoesOn (slotted x n m) p
     new e =
         let top : (slotted x n m).slots ≡ x.slots + 1 = refl in
-        let here : (slotted x n m).slot p ≡ record { message = n; fragment = sent x n; is_terminal_chunk = m } = ap (λ r. (slotted x n m).slot r) e ∙ slot-new x n m in
+        let here : (slotted x n m).slot p ≡ record { message = n; fragment = sent x n; is_terminal_chunk = m } = ap (λ r. (slotted x n m).slot r) e
+        ∙ slot-new x n m in
         record {
           same = λ a. absurd (omega (arith, a, top, e));
           alive = λ a. ap (λ z. (x.message z.message).abandoned) here ∙ alive (ap (λ z. z.is_terminal_chunk) (sym here) ∙ mark);
         }
 
 -- a message is abandoned, whose fragment does not stand last with more to come
-goes-abandoned : (x : Shape) (n : ℕ) → ((p : ℕ) → p + 1 ≡ x.slots → (x.slot p).is_terminal_chunk ≡ false → (x.slot p).fragment + 1 < parts x (x.slot p).message → (x.message (x.slot p).message).abandoned ≡ false → (x.slot p).message ≡ n → ⊥) → AllGoOn x → AllGoOn (abandoned_at x n)
+goes-abandoned : (x : Shape) (n : ℕ) → ((p : ℕ) → p + 1 ≡ x.slots → (x.slot p).is_terminal_chunk ≡ false → (x.slot p).fragment + 1 < parts x (x.slot p).message
+    → (x.message (x.slot p).message).abandoned ≡ false → (x.slot p).message ≡ n → ⊥) → AllGoOn x → AllGoOn (abandoned_at x n)
 goes-abandoned x n last g p lt mark short =
     let o = g p lt mark short in
     record {
@@ -106,12 +112,15 @@ goes-takes setup w g = record { sane = sane-takes setup w g.sane; on = step (Mes
     step None e = g.on
     step (Some n) e =
         let t = front-takes (shape w) n g.sane.sender e in
-        goes-as (slotted (shape w) n false) (shape (Changes.with_slot w n false)) (Shapes.shape-slot w n false) (goes-slotted (shape w) n false g.sane.sender t.alone (λ z. t.alive) g.on)
+        goes-as (slotted (shape w) n false) (shape (Changes.with_slot w n false)) (Shapes.shape-slot w n false)
+        (goes-slotted (shape w) n false g.sane.sender t.alone (λ z. t.alive) g.on)
 
-goes-sent : (setup : Setup) (w : LinkRecord) (now : ℕ) (o : Option ℕ) → Sane setup w → AllGoOn (shape w) → AllGoOn (shape (Changes.send_from (Changes.after_start w now) o))
+goes-sent : (setup : Setup) (w : LinkRecord) (now : ℕ) (o : Option ℕ) → Sane setup w → AllGoOn (shape w)
+    → AllGoOn (shape (Changes.send_from (Changes.after_start w now) o))
 goes-sent setup w now None s g = goes-as (shape w) (shape (Changes.after_start w now)) (Shapes.shape-started w now) g
 goes-sent setup w now (Some n) s g =
-    let r = sends-keep (Sends setup) (λ v h. goes-takes setup v h) (Changes.after_start w now) (record { sane = sane-started setup w now s; on = goes-as (shape w) (shape (Changes.after_start w now)) (Shapes.shape-started w now) g }) in
+    let r = sends-keep (Sends setup) (λ v h. goes-takes setup v h) (Changes.after_start w now)
+    (record { sane = sane-started setup w now s; on = goes-as (shape w) (shape (Changes.after_start w now)) (Shapes.shape-started w now) g }) in
     r.on
 
 goes-gone : (setup : Setup) (w : LinkRecord) (n : ℕ) → Sane setup w → AllGoOn (shape w) → AllGoOn (shape (Changes.after_abandon w n))
@@ -122,18 +131,21 @@ goes-gone setup w n s g = step (Messages.is_partially_sent w n) refl
         let at : p ≡ (shape w).slots = omega (arith, e) in
         not_both (sym mark ∙ ap (λ r. ((slotted (shape w) n m).slot r).is_terminal_chunk) at ∙ ap (λ z. z.is_terminal_chunk) (slot-new (shape w) n m) ∙ t)
 
-    step : (b : Bool) → Messages.is_partially_sent w n ≡ b → AllGoOn (shape (Changes.message_changed (if b then Changes.with_slot w n true else w) n Changes.mark_abandoned))
+    step : (b : Bool) → Messages.is_partially_sent w n ≡ b
+        → AllGoOn (shape (Changes.message_changed (if b then Changes.with_slot w n true else w) n Changes.mark_abandoned))
     step true e =
         goes-as (abandoned_at (slotted (shape w) n true) n) (shape (Changes.message_changed (Changes.with_slot w n true) n Changes.mark_abandoned))
         (Shapes.shape-abandoned (Changes.with_slot w n true) n ∙ ap (λ y. abandoned_at y n) (Shapes.shape-slot w n true))
-        (goes-abandoned (slotted (shape w) n true) n (λ p a mark c d z. last true refl p a mark) (goes-slotted (shape w) n true s.sender (λ k h. half-one (shape w) k n s.sender h e) (λ z. cc) g))
+        (goes-abandoned (slotted (shape w) n true) n (λ p a mark c d z. last true refl p a mark)
+        (goes-slotted (shape w) n true s.sender (λ k h. half-one (shape w) k n s.sender h e) (λ z. cc) g))
     step false e =
         goes-as (abandoned_at (shape w) n) (shape (Changes.message_changed w n Changes.mark_abandoned)) (Shapes.shape-abandoned w n)
         (goes-abandoned (shape w) n (λ p a mark c d z. not_both (sym e ∙ ap (half (shape w)) (sym z) ∙ half-last (shape w) p s.sender a mark c d)) g)
 
 goes-late : (setup : Setup) (ns : List ℕ) (w : LinkRecord) → Sane setup w → AllSent w ns → AllGoOn (shape w) → AllGoOn (shape (fold Changes.after_abandon w ns))
 goes-late setup [] w s a g = g
-goes-late setup (n ∷ ns) w s a g = goes-late setup ns (Changes.after_abandon w n) (sane-abandoned setup w n s a.0) (sent-all w n ns a.1) (goes-gone setup w n s g)
+goes-late setup (n ∷ ns) w s a g =
+    goes-late setup ns (Changes.after_abandon w n) (sane-abandoned setup w n s a.0) (sent-all w n ns a.1) (goes-gone setup w n s g)
 
 goes-tail : (setup : Setup) (w : LinkRecord) (o : Option ℕ) → Sane setup w → AllGoOn (shape w) → AllGoOn (shape (Changes.after_tail w o))
 goes-tail setup w None s g = g
@@ -141,7 +153,8 @@ goes-tail setup w (Some n) s g = goes-gone setup w n s g
 
 goes-expiring : (w : LinkRecord) (o : Option ℕ) → AllGoOn (shape w) → AllGoOn (shape (Changes.after_expire w o))
 goes-expiring w None g = g
-goes-expiring w (Some n) g = goes-as (expired_at (shape w) n) (shape (Changes.message_changed w n Changes.mark_expired)) (Shapes.shape-expired w n) (goes-expired (shape w) n g)
+goes-expiring w (Some n) g =
+    goes-as (expired_at (shape w) n) (shape (Changes.message_changed w n Changes.mark_expired)) (Shapes.shape-expired w n) (goes-expired (shape w) n g)
 
 goes-after : (setup : Setup) (w : LinkRecord) (e : Event) → Sane setup w → AllGoOn (shape w) → AllGoOn (shape (after w e))
 goes-after setup w (E.Open s) a g = g
@@ -149,7 +162,8 @@ goes-after setup w (E.Mode s u r v) a g = g
 goes-after setup w (E.Write s ppi []) a g = g
 goes-after setup w (E.Write s ppi (b ∷ bs)) a g =
     let m = written_as w s ppi (b ∷ bs) in
-    goes-as (written (shape w) (message_part m)) (shape (Changes.after_write w s ppi (b ∷ bs))) (Shapes.shape-written w m) (goes-written (shape w) (message_part m) a.sender g)
+    goes-as (written (shape w) (message_part m)) (shape (Changes.after_write w s ppi (b ∷ bs))) (Shapes.shape-written w m)
+    (goes-written (shape w) (message_part m) a.sender g)
 goes-after setup w (E.Start now) a g = goes-as (shape w) (shape (Changes.after_start w now)) (Shapes.shape-started w now) g
 goes-after setup w (E.Send now) a g = goes-sent setup w now (Messages.front w) a g
 goes-after setup w (E.Resend tsn) a g = g

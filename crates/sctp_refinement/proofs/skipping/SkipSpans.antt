@@ -1,5 +1,6 @@
 -- The span test of a skip's arrival, from the ends of what a stream holds and of what the skip names.
-use Rattle.std.proofs.Common.{◌≡◌, ℕ, zero, suc, ◌+◌, ◌-◌, ◌<◌, ◌≤◌, ◌^◌, Bool, true, false, List, [], ◌∷◌, ◌++◌, length, map, Option, Some, None, refl, ap, sym, ◌∙◌, inl, inr, arith}
+use Rattle.std.proofs.Common.{◌≡◌, ℕ, zero, suc, ◌+◌, ◌-◌, ◌<◌, ◌≤◌, ◌^◌, Bool, true, false, List, [], ◌∷◌, ◌++◌, length, map, Option, Some, None, refl, ap}
+use Rattle.std.proofs.Common.{sym, ◌∙◌, inl, inr, arith}
 use Rattle.std.specs.Prelude.{◌⊎◌, ◌%◌, if◌then◌else◌, ◌==◌, ◌&&◌, min, max, nat_lt, nat_le}
 use Rattle.std.specs.List.{list_any, list_all}
 use Rattle.std.proofs.Math.Nat.{eq-or-lt_of_le}
@@ -55,9 +56,11 @@ named-from w c ns =
 -- each lies between both ends
 under-end : (w : LinkRecord) (y : ℕ) (ns : List ℕ) (c : ℕ) → list_any (λ z. z == y) (map (index_of w) ns) ≡ true → y < named_with w c ns
 under-end w y [] c e = cc
-under-end w y (n ∷ ns) c e = step (or-split (index_of w n == y) (list_any (λ z. z == y) (map (index_of w) ns)) e) (λ h. under-end w y ns (max c (index_of w n + 1)) h)
+under-end w y (n ∷ ns) c e =
+    step (or-split (index_of w n == y) (list_any (λ z. z == y) (map (index_of w) ns)) e) (λ h. under-end w y ns (max c (index_of w n + 1)) h)
   where
-    step : ((index_of w n == y) ≡ true) ⊎ (list_any (λ z. z == y) (map (index_of w) ns) ≡ true) → (list_any (λ z. z == y) (map (index_of w) ns) ≡ true → y < named_with w (max c (index_of w n + 1)) ns) → y < named_with w (max c (index_of w n + 1)) ns
+    step : ((index_of w n == y) ≡ true) ⊎ (list_any (λ z. z == y) (map (index_of w) ns) ≡ true) → (list_any (λ z. z == y) (map (index_of w) ns) ≡ true
+        → y < named_with w (max c (index_of w n + 1)) ns) → y < named_with w (max c (index_of w n + 1)) ns
     step (inl h) ih = let z = same-is (index_of w n) y h in omega (arith, z, named_with-ge w (max c (index_of w n + 1)) ns)
     step (inr h) ih = ih h
 
@@ -69,13 +72,15 @@ over-low : (w : LinkRecord) (y : ℕ) (ns : List ℕ) (c : ℕ) → list_any (λ
 over-low w y [] c e = cc
 over-low w y (n ∷ ns) c e = step (or-split (index_of w n == y) (list_any (λ z. z == y) (map (index_of w) ns)) e) (λ h. over-low w y ns (min c (index_of w n)) h)
   where
-    step : ((index_of w n == y) ≡ true) ⊎ (list_any (λ z. z == y) (map (index_of w) ns) ≡ true) → (list_any (λ z. z == y) (map (index_of w) ns) ≡ true → least (min c (index_of w n)) (map (index_of w) ns) ≤ y) → least (min c (index_of w n)) (map (index_of w) ns) ≤ y
+    step : ((index_of w n == y) ≡ true) ⊎ (list_any (λ z. z == y) (map (index_of w) ns) ≡ true) → (list_any (λ z. z == y) (map (index_of w) ns) ≡ true
+        → least (min c (index_of w n)) (map (index_of w) ns) ≤ y) → least (min c (index_of w n)) (map (index_of w) ns) ≤ y
     step (inl h) ih = let z = same-is (index_of w n) y h in omega (arith, z, least-le (index_of w) (min c (index_of w n)) ns)
     step (inr h) ih = ih h
 
 -- ## Before the skip
 
-pub fits-before : (w : LinkRecord) (s : ℕ) (names : List ℕ) → lowest_held w s < 2 ^ 64 → fits w (map (index_of w) (on_stream w s names)) s ≡ nat_lt (max (highest_held w s) (end_named w s names - 1)) (min (lowest_held w s) (low_named w s names) + 2 ^ 15)
+pub fits-before : (w : LinkRecord) (s : ℕ) (names : List ℕ) → lowest_held w s < 2 ^ 64 → fits w (map (index_of w) (on_stream w s names)) s
+    ≡ nat_lt (max (highest_held w s) (end_named w s names - 1)) (min (lowest_held w s) (low_named w s names) + 2 ^ 15)
 fits-before w s names small =
     let n = next_of w s in
     let xs = map (index_of w) (held_on w s) in
@@ -83,7 +88,8 @@ fits-before w s names small =
     let low = lowest_held w s in
     let high = highest_held w s in
     let capped : min low (2 ^ 64 - 1) ≡ low = omega (arith, small) in
-    let l : least low (map (index_of w) mine) ≡ min low (low_named w s names) = ap (λ z. least z (map (index_of w) mine)) (sym capped) ∙ least-min (index_of w) low (2 ^ 64 - 1) mine in
+    let l : least low (map (index_of w) mine) ≡ min low (low_named w s names) = ap (λ z. least z (map (index_of w) mine)) (sym capped)
+    ∙ least-min (index_of w) low (2 ^ 64 - 1) mine in
     let next = greatest-next (index_of w) high mine ∙ named-from w (high + 1) mine in
     let g : greatest high (map (index_of w) mine) ≡ max high (end_named w s names - 1) = omega (arith, next) in
     ap (λ z. nat_lt z (least n (xs ++ map (index_of w) mine) + 2 ^ 15)) (greatest-append n xs (map (index_of w) mine) ∙ g)
@@ -95,7 +101,8 @@ least-below : (f : ℕ → ℕ) (p : ℕ → Bool) (from count x k : ℕ) → fr
 least-below f p from zero x k a b e = absurd (omega arith)
 least-below f p from (suc count) x k a b e = step (p from) refl (eq-or-lt_of_le a) (λ y l. least-below f p (from + 1) count y k l (omega arith) e)
   where
-    step : (c : Bool) → p from ≡ c → (from ≡ k) ⊎ (from < k) → ((y : ℕ) → from + 1 ≤ k → least y (map f (numbers_where p (from + 1) count)) ≤ f k) → least x (map f (if c then from ∷ numbers_where p (from + 1) count else numbers_where p (from + 1) count)) ≤ f k
+    step : (c : Bool) → p from ≡ c → (from ≡ k) ⊎ (from < k) → ((y : ℕ) → from + 1 ≤ k → least y (map f (numbers_where p (from + 1) count)) ≤ f k)
+        → least x (map f (if c then from ∷ numbers_where p (from + 1) count else numbers_where p (from + 1) count)) ≤ f k
     step true h (inl z) ih = let same = ap f z in omega (arith, same, least-le f (min x (f from)) (numbers_where p (from + 1) count))
     step true h (inr l) ih = ih (min x (f from)) (omega arith)
     step false h (inl z) ih = absurd (not_both (sym h ∙ ap p z ∙ e))
@@ -105,21 +112,25 @@ greatest-ge : (f : ℕ → ℕ) (c : ℕ) (ns : List ℕ) → c ≤ greatest c (
 greatest-ge f c [] = omega arith
 greatest-ge f c (n ∷ ns) = omega (arith, greatest-ge f (max c (f n)) ns)
 
-greatest-above : (f : ℕ → ℕ) (p : ℕ → Bool) (from count x k : ℕ) → from ≤ k → k < from + count → p k ≡ true → f k ≤ greatest x (map f (numbers_where p from count))
+greatest-above : (f : ℕ → ℕ) (p : ℕ → Bool) (from count x k : ℕ) → from ≤ k → k < from + count → p k ≡ true
+    → f k ≤ greatest x (map f (numbers_where p from count))
 greatest-above f p from zero x k a b e = absurd (omega arith)
 greatest-above f p from (suc count) x k a b e = step (p from) refl (eq-or-lt_of_le a) (λ y l. greatest-above f p (from + 1) count y k l (omega arith) e)
   where
-    step : (c : Bool) → p from ≡ c → (from ≡ k) ⊎ (from < k) → ((y : ℕ) → from + 1 ≤ k → f k ≤ greatest y (map f (numbers_where p (from + 1) count))) → f k ≤ greatest x (map f (if c then from ∷ numbers_where p (from + 1) count else numbers_where p (from + 1) count))
+    step : (c : Bool) → p from ≡ c → (from ≡ k) ⊎ (from < k) → ((y : ℕ) → from + 1 ≤ k → f k ≤ greatest y (map f (numbers_where p (from + 1) count)))
+        → f k ≤ greatest x (map f (if c then from ∷ numbers_where p (from + 1) count else numbers_where p (from + 1) count))
     step true h (inl z) ih = let same = ap f z in omega (arith, same, greatest-ge f (max x (f from)) (numbers_where p (from + 1) count))
     step true h (inr l) ih = ih (max x (f from)) (omega arith)
     step false h (inl z) ih = absurd (not_both (sym h ∙ ap p z ∙ e))
     step false h (inr l) ih = ih x (omega arith)
 
 held-low : (w : LinkRecord) (s k : ℕ) → is_held w s k ≡ true → lowest_held w s ≤ index_of w k
-held-low w s k h = least-below (index_of w) (is_held w s) 0 (length w.messages) (next_of w s) k (omega arith) (omega (arith, Line.on-made w s k (held w s k h).on)) h
+held-low w s k h =
+    least-below (index_of w) (is_held w s) 0 (length w.messages) (next_of w s) k (omega arith) (omega (arith, Line.on-made w s k (held w s k h).on)) h
 
 held-high : (w : LinkRecord) (s k : ℕ) → is_held w s k ≡ true → index_of w k ≤ highest_held w s
-held-high w s k h = greatest-above (index_of w) (is_held w s) 0 (length w.messages) (next_of w s) k (omega arith) (omega (arith, Line.on-made w s k (held w s k h).on)) h
+held-high w s k h =
+    greatest-above (index_of w) (is_held w s) 0 (length w.messages) (next_of w s) k (omega arith) (omega (arith, Line.on-made w s k (held w s k h).on)) h
 
 -- a complete one comes after the first one, if that is not complete
 abbrev Past : LinkRecord → ℕ → ℕ → Option ℕ → Type 0
@@ -176,7 +187,8 @@ end-short : (w : LinkRecord) (s c : ℕ) (names : List ℕ) → c ≤ length w.m
 end-short w s c [] le = le
 end-short w s c (n ∷ ns) le = step (is_ordered_on w s n) refl (λ d l. end-short w s d ns l)
   where
-    step : (b : Bool) → is_ordered_on w s n ≡ b → ((d : ℕ) → d ≤ length w.messages → named_with w d (on_stream w s ns) ≤ length w.messages) → named_with w c (if b then n ∷ on_stream w s ns else on_stream w s ns) ≤ length w.messages
+    step : (b : Bool) → is_ordered_on w s n ≡ b → ((d : ℕ) → d ≤ length w.messages → named_with w d (on_stream w s ns) ≤ length w.messages)
+        → named_with w c (if b then n ∷ on_stream w s ns else on_stream w s ns) ≤ length w.messages
     step true e ih =
         let i : index_of w n ≤ n = length-kept-le (is_ordered_on w (message_at w n).stream) 0 n in
         ih (max c (index_of w n + 1)) (omega (arith, le, i, Line.on-made w s n e))
@@ -211,20 +223,40 @@ module _ (w : LinkRecord) (s upto : ℕ) (names : List ℕ) (r : StreamRecord) (
       let complete = complete-skip w upto names k in
       by x complete (or-split (is_complete_message v k) (nat_le (stream_of v s).named (index_of w k)) x.due)
     where
-      by : IsHeld v s k → is_complete_message v k ≡ is_complete_message w k → (is_complete_message v k ≡ true) ⊎ (nat_le (stream_of v s).named (index_of w k) ≡ true) → (is_held w s k ≡ true) × ((is_complete_message w k ≡ true) ⊎ (end ≤ index_of w k))
+      by : IsHeld v s k → is_complete_message v k ≡ is_complete_message w k → (is_complete_message v k ≡ true)
+          ⊎ (nat_le (stream_of v s).named (index_of w k) ≡ true) → (is_held w s k ≡ true) × ((is_complete_message w k ≡ true) ⊎ (end ≤ index_of w k))
       by x complete (inl t) =
-          let t' : is_complete_message w k ≡ true = sym complete ∙ t in
-          (is-held w s k (record { on = x.on; unread = x.unread; some = x.some; due = or-left (is_complete_message w k) (nat_le (stream_of w s).named (index_of w k)) t' }), inl t')
+          let t' : is_complete_message w k ≡ true = sym complete ∙ t in (
+            is-held w s k (record {
+              on = x.on;
+              unread = x.unread;
+              some = x.some;
+              due = or-left (is_complete_message w k) (nat_le (stream_of w s).named (index_of w k)) t';
+            }),
+            inl t',
+          )
       by x complete (inr t) =
           let le : (stream_of v s).named ≤ index_of w k = grind (arith, nat_tests) in
-          let above : (stream_of w s).named ≤ index_of w k = omega (arith, le, named-skip) in
-          (is-held w s k (record { on = x.on; unread = x.unread; some = x.some; due = or-right (is_complete_message w k) (nat_le (stream_of w s).named (index_of w k)) (grind (arith, nat_tests)) }), inr (omega (arith, le, named-skip)))
+          let above : (stream_of w s).named ≤ index_of w k = omega (arith, le, named-skip) in (
+            is-held w s k (record {
+              on = x.on;
+              unread = x.unread;
+              some = x.some;
+              due = or-right (is_complete_message w k) (nat_le (stream_of w s).named (index_of w k)) (grind (arith, nat_tests));
+            }),
+            inr (omega (arith, le, named-skip)),
+          )
 
   -- a complete one stays
   held-still : (k : ℕ) → is_held w s k ≡ true → is_complete_message w k ≡ true → is_held v s k ≡ true
   held-still k h t =
       let x = held w s k h in
-      is-held v s k (record { on = x.on; unread = x.unread; some = x.some; due = or-left (is_complete_message v k) (nat_le (stream_of v s).named (index_of w k)) (complete-skip w upto names k ∙ t) })
+      is-held v s k (record {
+        on = x.on;
+        unread = x.unread;
+        some = x.some;
+        due = or-left (is_complete_message v k) (nat_le (stream_of v s).named (index_of w k)) (complete-skip w upto names k ∙ t);
+      })
 
   module _ (few : length w.messages < 2 ^ 31) where
     abbrev low : ℕ
@@ -271,7 +303,8 @@ module _ (w : LinkRecord) (s upto : ℕ) (names : List ℕ) (r : StreamRecord) (
         short = omega arith;
         next = (omega (arith, next-skip, near', next-low, next-high), omega (arith, next-skip, next-high));
         held = λ k lt h. one k (held-then k h);
-        others = λ y h. let a = under-end w y (on_stream w s names) 0 h in let b = over-low w y (on_stream w s names) (2 ^ 64 - 1) h in (omega (arith, a, b, near', above), omega (arith, a));
+        others = λ y h. let a = under-end w y (on_stream w s names) 0 h in let b = over-low w y (on_stream w s names) (2 ^ 64 - 1) h in
+            (omega (arith, a, b, near', above), omega (arith, a));
       })
         where
           next-low : lowest_held w s ≤ next_of w s
@@ -294,7 +327,8 @@ module _ (w : LinkRecord) (s upto : ℕ) (names : List ℕ) (r : StreamRecord) (
           past k None l p = omega (arith, near', p)
           past k (Some i) l p = omega (arith, l, p)
 
-          one : (k : ℕ) → (is_held w s k ≡ true) × ((is_complete_message w k ≡ true) ⊎ (end ≤ index_of w k)) → (max (highest_held w s) end - (2 ^ 15 - 1) ≤ index_of w k) × (index_of w k ≤ max (highest_held w s) end)
+          one : (k : ℕ) → (is_held w s k ≡ true) × ((is_complete_message w k ≡ true) ⊎ (end ≤ index_of w k))
+              → (max (highest_held w s) end - (2 ^ 15 - 1) ≤ index_of w k) × (index_of w k ≤ max (highest_held w s) end)
           one k (h, inl t) = (omega (arith, near', held-low w s k h, past k first lt ((first-is w s).past k h t)), omega (arith, held-high w s k h))
           one k (h, inr le) = (omega (arith, near', held-low w s k h, le), omega (arith, held-high w s k h))
 
@@ -308,13 +342,16 @@ module _ (w : LinkRecord) (s upto : ℕ) (names : List ℕ) (r : StreamRecord) (
         let before = fits-before w s names (omega (arith, lowest, next-short w s valid, few)) in
         by (nat_lt (max (highest_held w s) (end - 1)) (min (lowest_held w s) low + 2 ^ 15)) refl before
       where
-        by : (b : Bool) → nat_lt (max (highest_held w s) (end - 1)) (min (lowest_held w s) low + 2 ^ 15) ≡ b → fits w mine s ≡ nat_lt (max (highest_held w s) (end - 1)) (min (lowest_held w s) low + 2 ^ 15) → (fits w mine s && fits v mine s) ≡ names_fit w s names
-        by true e same = ap (λ b. b && fits v mine s) same ∙ ap (λ c. nat_lt (max (highest_held w s) (end - 1)) (min (lowest_held w s) low + 2 ^ 15) && c) (fits-after e)
+        by : (b : Bool) → nat_lt (max (highest_held w s) (end - 1)) (min (lowest_held w s) low + 2 ^ 15) ≡ b → fits w mine s
+            ≡ nat_lt (max (highest_held w s) (end - 1)) (min (lowest_held w s) low + 2 ^ 15) → (fits w mine s && fits v mine s) ≡ names_fit w s names
+        by true e same = ap (λ b. b && fits v mine s) same
+            ∙ ap (λ c. nat_lt (max (highest_held w s) (end - 1)) (min (lowest_held w s) low + 2 ^ 15) && c) (fits-after e)
         by false e same = ap (λ b. b && fits v mine s) (same ∙ e) ∙ sym (ap (λ b. b && nat_lt end (min_with first low + 2 ^ 15)) e)
 
 -- ## On all streams
 
-all-mapped : (f : StreamRecord → StreamRecord) (t u : ℕ → Bool) (rs : List StreamRecord) → ((r : StreamRecord) → (f r).stream ≡ r.stream) → (list_all (λ r. t r.stream) rs && list_all (λ r. u r.stream) (map f rs)) ≡ list_all (λ r. t r.stream && u r.stream) rs
+all-mapped : (f : StreamRecord → StreamRecord) (t u : ℕ → Bool) (rs : List StreamRecord) → ((r : StreamRecord) → (f r).stream ≡ r.stream)
+    → (list_all (λ r. t r.stream) rs && list_all (λ r. u r.stream) (map f rs)) ≡ list_all (λ r. t r.stream && u r.stream) rs
 all-mapped f t u [] keeps = refl
 all-mapped f t u (r ∷ rs) keeps =
     ap (λ b. (t r.stream && list_all (λ r. t r.stream) rs) && (u b && list_all (λ r. u r.stream) (map f rs))) (keeps r)
@@ -328,14 +365,18 @@ all-mapped f t u (r ∷ rs) keeps =
     turn false b c d = refl
 
 -- the test of an arrival that counts
-pub skip-fits : (w : LinkRecord) (upto : ℕ) (names : List ℕ) → cumulative w ≤ upto → arrival_fits w (Some (Forward upto names)) ≡ list_all (λ r. fits w (map (index_of w) (on_stream w r.stream names)) r.stream && fits (with_skip w upto names) (map (index_of w) (on_stream w r.stream names)) r.stream) w.streams
+pub skip-fits : (w : LinkRecord) (upto : ℕ) (names : List ℕ) → cumulative w ≤ upto
+    → arrival_fits w (Some (Forward upto names)) ≡ list_all (λ r. fits w (map (index_of w) (on_stream w r.stream names)) r.stream
+    && fits (with_skip w upto names) (map (index_of w) (on_stream w r.stream names)) r.stream) w.streams
 skip-fits w upto names counts =
     let e : skip_counts w upto ≡ true = grind (arith, nat_tests) in
     ap (λ b. spans_fit w (if b then names else []) && spans_fit (if b then with_skip w upto names else w) (if b then names else [])) e
-    ∙ all-mapped (named_by w names) (λ t. fits w (map (index_of w) (on_stream w t names)) t) (λ t. fits (with_skip w upto names) (map (index_of w) (on_stream w t names)) t) w.streams (λ r. refl)
+    ∙ all-mapped (named_by w names) (λ t. fits w (map (index_of w) (on_stream w t names)) t)
+    (λ t. fits (with_skip w upto names) (map (index_of w) (on_stream w t names)) t) w.streams (λ r. refl)
 
 -- and of one that does not
-pub stale-fits : (w : LinkRecord) (upto : ℕ) (names : List ℕ) → skip_counts w upto ≡ false → spans_fit w [] ≡ true → arrival_fits w (Some (Forward upto names)) ≡ true
+pub stale-fits : (w : LinkRecord) (upto : ℕ) (names : List ℕ) → skip_counts w upto ≡ false → spans_fit w [] ≡ true
+    → arrival_fits w (Some (Forward upto names)) ≡ true
 stale-fits w upto names stale fits' =
     ap (λ b. spans_fit w (if b then names else []) && spans_fit (if b then with_skip w upto names else w) (if b then names else [])) stale
     ∙ and (spans_fit w []) (spans_fit w []) fits' fits'
@@ -350,28 +391,45 @@ pub record IsLast (w : LinkRecord) (s end : ℕ) (names : List ℕ) : Type 0 whe
   pub is : end ≡ index_of w number + 1
 
 -- either the start is the greatest, or one of them has it
-pub last-named : (w : LinkRecord) (s c : ℕ) (names : List ℕ) → (named_with w c (on_stream w s names) ≡ c) ⊎ IsLast w s (named_with w c (on_stream w s names)) (on_stream w s names)
+pub last-named : (w : LinkRecord) (s c : ℕ) (names : List ℕ)
+    → (named_with w c (on_stream w s names) ≡ c) ⊎ IsLast w s (named_with w c (on_stream w s names)) (on_stream w s names)
 last-named w s c [] = inl refl
 last-named w s c (n ∷ ns) = step (is_ordered_on w s n) refl (λ d. last-named w s d ns)
   where
-    step : (b : Bool) → is_ordered_on w s n ≡ b → ((d : ℕ) → (named_with w d (on_stream w s ns) ≡ d) ⊎ IsLast w s (named_with w d (on_stream w s ns)) (on_stream w s ns)) → (named_with w c (if b then n ∷ on_stream w s ns else on_stream w s ns) ≡ c) ⊎ IsLast w s (named_with w c (if b then n ∷ on_stream w s ns else on_stream w s ns)) (if b then n ∷ on_stream w s ns else on_stream w s ns)
+    step : (b : Bool) → is_ordered_on w s n ≡ b → ((d : ℕ) → (named_with w d (on_stream w s ns) ≡ d)
+        ⊎ IsLast w s (named_with w d (on_stream w s ns)) (on_stream w s ns)) → (named_with w c (if b then n ∷ on_stream w s ns else on_stream w s ns) ≡ c)
+        ⊎ IsLast w s (named_with w c (if b then n ∷ on_stream w s ns else on_stream w s ns)) (if b then n ∷ on_stream w s ns else on_stream w s ns)
     step false e ih = ih c
     step true e ih = by (ih (max c (index_of w n + 1)))
       where
-        here : named_with w (max c (index_of w n + 1)) (on_stream w s ns) ≡ max c (index_of w n + 1) → (index_of w n < c) ⊎ (c ≤ index_of w n) → (named_with w c (n ∷ on_stream w s ns) ≡ c) ⊎ IsLast w s (named_with w c (n ∷ on_stream w s ns)) (n ∷ on_stream w s ns)
+        here : named_with w (max c (index_of w n + 1)) (on_stream w s ns) ≡ max c (index_of w n + 1) → (index_of w n < c) ⊎ (c ≤ index_of w n)
+            → (named_with w c (n ∷ on_stream w s ns) ≡ c) ⊎ IsLast w s (named_with w c (n ∷ on_stream w s ns)) (n ∷ on_stream w s ns)
         here z (inl l) = inl (omega (arith, z, l))
-        here z (inr g) = inr (record { number = n; on = e; among = or-left (index_of w n == index_of w n) (list_any (λ z. z == index_of w n) (map (index_of w) (on_stream w s ns))) (same-yes (index_of w n)); is = omega (arith, z, g) })
+        here z (inr g) = inr (record {
+          number = n;
+          on = e;
+          among = or-left (index_of w n == index_of w n) (list_any (λ z. z == index_of w n) (map (index_of w) (on_stream w s ns))) (same-yes (index_of w n));
+          is = omega (arith, z, g);
+        })
 
-        by : (named_with w (max c (index_of w n + 1)) (on_stream w s ns) ≡ max c (index_of w n + 1)) ⊎ IsLast w s (named_with w (max c (index_of w n + 1)) (on_stream w s ns)) (on_stream w s ns) → (named_with w c (n ∷ on_stream w s ns) ≡ c) ⊎ IsLast w s (named_with w c (n ∷ on_stream w s ns)) (n ∷ on_stream w s ns)
+        by : (named_with w (max c (index_of w n + 1)) (on_stream w s ns) ≡ max c (index_of w n + 1))
+            ⊎ IsLast w s (named_with w (max c (index_of w n + 1)) (on_stream w s ns)) (on_stream w s ns)
+            → (named_with w c (n ∷ on_stream w s ns) ≡ c) ⊎ IsLast w s (named_with w c (n ∷ on_stream w s ns)) (n ∷ on_stream w s ns)
         by (inl z) = here z (cases_lt (index_of w n) c)
-        by (inr l) = inr (record { number = l.number; on = l.on; among = or-right (index_of w n == index_of w l.number) (list_any (λ z. z == index_of w l.number) (map (index_of w) (on_stream w s ns))) l.among; is = l.is })
+        by (inr l) = inr (record {
+          number = l.number;
+          on = l.on;
+          among = or-right (index_of w n == index_of w l.number) (list_any (λ z. z == index_of w l.number) (map (index_of w) (on_stream w s ns))) l.among;
+          is = l.is;
+        })
 
 -- the queue, gone forward to the last one named, where one is
 abbrev pub gone_forward : ℕ → Reassembly → Reassembly
 gone_forward end q = if end == 0 then q else held_after_ordered_skip ((end - 1) % 2 ^ 16) q
 
 -- that is an ordered skip to the SSN of the last one
-pub gone-last : (w : LinkRecord) (s end : ℕ) (names : List ℕ) (q : Reassembly) (last : IsLast w s end names) → gone_forward end q ≡ held_after_ordered_skip (ssn_of w last.number) q
+pub gone-last : (w : LinkRecord) (s end : ℕ) (names : List ℕ) (q : Reassembly) (last : IsLast w s end names)
+    → gone_forward end q ≡ held_after_ordered_skip (ssn_of w last.number) q
 gone-last w s end names q last =
     let n = last.number in
     let is = last.is in
@@ -387,14 +445,19 @@ none-named w [] e = refl
 none-named w (n ∷ ns) e = absurd (omega (arith, e, named_with-ge w (max 0 (index_of w n + 1)) ns))
 
 -- with those named before, the last one is still the greatest
-pub named-last : (w : LinkRecord) (s : ℕ) (names : List ℕ) (last : IsLast w s (end_named w s names) (on_stream w s names)) → named_with w (stream_of w s).named (on_stream w s names) ≡ max (stream_of w s).named (index_of w last.number + 1)
+pub named-last : (w : LinkRecord) (s : ℕ) (names : List ℕ) (last : IsLast w s (end_named w s names) (on_stream w s names))
+    → named_with w (stream_of w s).named (on_stream w s names) ≡ max (stream_of w s).named (index_of w last.number + 1)
 named-last w s names last = named-from w (stream_of w s).named (on_stream w s names) ∙ ap (max (stream_of w s).named) last.is
 
-pub queue-skip : (w : LinkRecord) (s upto : ℕ) (names : List ℕ) (r : StreamRecord) → Valid w → upto < length w.slots → cumulative w ≤ upto → stream_at w s ≡ Some r → IsSpan w s (map (index_of w) (on_stream w s names)) → IsSpan (with_skip w upto names) s (map (index_of w) (on_stream w s names)) → reassembly_of (with_skip w upto names) s ≡ held_after_unordered_skip (tsn_of w upto) (gone_forward (end_named w s names) (reassembly_of w s))
+pub queue-skip : (w : LinkRecord) (s upto : ℕ) (names : List ℕ) (r : StreamRecord) → Valid w → upto < length w.slots → cumulative w ≤ upto
+    → stream_at w s ≡ Some r → IsSpan w s (map (index_of w) (on_stream w s names)) → IsSpan (with_skip w upto names) s (map (index_of w) (on_stream w s names))
+    → reassembly_of (with_skip w upto names) s ≡ held_after_unordered_skip (tsn_of w upto) (gone_forward (end_named w s names) (reassembly_of w s))
 queue-skip w s upto names r valid lt counts open' before after' = step (last-named w s 0 names)
   where
-    step : (end_named w s names ≡ 0) ⊎ IsLast w s (end_named w s names) (on_stream w s names) → reassembly_of (with_skip w upto names) s ≡ held_after_unordered_skip (tsn_of w upto) (gone_forward (end_named w s names) (reassembly_of w s))
-    step (inl z) = skipped-none w s upto names r valid lt counts open' before after' (none-named w (on_stream w s names) z) ∙ ap (λ e. held_after_unordered_skip (tsn_of w upto) (gone_forward e (reassembly_of w s))) (sym z)
+    step : (end_named w s names ≡ 0) ⊎ IsLast w s (end_named w s names) (on_stream w s names)
+        → reassembly_of (with_skip w upto names) s ≡ held_after_unordered_skip (tsn_of w upto) (gone_forward (end_named w s names) (reassembly_of w s))
+    step (inl z) = skipped-none w s upto names r valid lt counts open' before after' (none-named w (on_stream w s names) z)
+        ∙ ap (λ e. held_after_unordered_skip (tsn_of w upto) (gone_forward e (reassembly_of w s))) (sym z)
     step (inr last) =
         skipped-once w s upto names r valid lt counts open' before after' last.number last.on last.among (named-last w s names last)
         ∙ ap (held_after_unordered_skip (tsn_of w upto)) (sym (gone-last w s (end_named w s names) (on_stream w s names) (reassembly_of w s) last))

@@ -38,12 +38,14 @@ abbrev pub then_by : (StreamRecord → StreamRecord) → Option StreamRecord →
 then_by f None = None
 then_by f (Some r) = Some (f r)
 
-pub find-map : (f : StreamRecord → StreamRecord) → ((r : StreamRecord) → (f r).stream ≡ r.stream) → (t : ℕ) (rs : List StreamRecord) → find (λ r. r.stream == t) (map f rs) ≡ then_by f (find (λ r. r.stream == t) rs)
+pub find-map : (f : StreamRecord → StreamRecord) → ((r : StreamRecord) → (f r).stream ≡ r.stream) → (t : ℕ) (rs : List StreamRecord)
+    → find (λ r. r.stream == t) (map f rs) ≡ then_by f (find (λ r. r.stream == t) rs)
 find-map f keeps t [] = refl
 find-map f keeps t (r ∷ rs) =
     ap (λ x. if x == t then Some (f r) else find (λ r. r.stream == t) (map f rs)) (keeps r) ∙ step (r.stream == t) (find-map f keeps t rs)
   where
-    step : (b : Bool) → find (λ r. r.stream == t) (map f rs) ≡ then_by f (find (λ r. r.stream == t) rs) → (if b then Some (f r) else find (λ r. r.stream == t) (map f rs)) ≡ then_by f (if b then Some r else find (λ r. r.stream == t) rs)
+    step : (b : Bool) → find (λ r. r.stream == t) (map f rs) ≡ then_by f (find (λ r. r.stream == t) rs)
+        → (if b then Some (f r) else find (λ r. r.stream == t) (map f rs)) ≡ then_by f (if b then Some r else find (λ r. r.stream == t) rs)
     step true ih = refl
     step false ih = ih
 
@@ -51,7 +53,8 @@ pub find-passes : (t : ℕ) (rs : List StreamRecord) (x : StreamRecord) → find
 find-passes t [] x e = cc
 find-passes t (r ∷ rs) x e = step (r.stream == t) refl e (λ h. find-passes t rs x h)
   where
-    step : (b : Bool) → (r.stream == t) ≡ b → (if b then Some r else find (λ r. r.stream == t) rs) ≡ Some x → (find (λ r. r.stream == t) rs ≡ Some x → x.stream ≡ t) → x.stream ≡ t
+    step : (b : Bool) → (r.stream == t) ≡ b → (if b then Some r else find (λ r. r.stream == t) rs) ≡ Some x
+        → (find (λ r. r.stream == t) rs ≡ Some x → x.stream ≡ t) → x.stream ≡ t
     step true h e ih = let same : r ≡ x = cc in ap (λ r. r.stream) (sym same) ∙ (let s : r.stream ≡ t = grind (arith, nat_tests) in s)
     step false h e ih = ih e
 
@@ -62,7 +65,8 @@ complete-frame w upto names t = ap (λ o. (unwrap_or o (no_stream t)).complete) 
     same None = refl
     same (Some r) = refl
 
-pub named-frame : (w : LinkRecord) (upto : ℕ) (names : List ℕ) (t : ℕ) (r : StreamRecord) → stream_at w t ≡ Some r → (stream_of (with_skip w upto names) t).named ≡ named_with w (stream_of w t).named (filter (is_ordered_on w t) names)
+pub named-frame : (w : LinkRecord) (upto : ℕ) (names : List ℕ) (t : ℕ) (r : StreamRecord) → stream_at w t ≡ Some r
+    → (stream_of (with_skip w upto names) t).named ≡ named_with w (stream_of w t).named (filter (is_ordered_on w t) names)
 named-frame w upto names t r e =
     let id : r.stream ≡ t = find-passes t w.streams r e in
     ap (λ o. (unwrap_or o (no_stream t)).named) (find-map (named_by w names) (λ r. refl) t w.streams ∙ ap (then_by (named_by w names)) e)
@@ -71,14 +75,18 @@ named-frame w upto names t r e =
 
 pub complete-skip : (w : LinkRecord) (upto : ℕ) (names : List ℕ) (n : ℕ) → is_complete_message (with_skip w upto names) n ≡ is_complete_message w n
 complete-skip w upto names n =
-    ap (λ l. if (message_at w n).ordered then has_arrived w n else ((message_at w n).read || list_any (λ k. k == n) l)) (complete-frame w upto names (message_at w n).stream)
+    ap (λ l. if (message_at w n).ordered then has_arrived w n else ((message_at w n).read || list_any (λ k. k == n) l))
+    (complete-frame w upto names (message_at w n).stream)
 
-pub parts : {a b : ℕ} {xs ys us vs : List ChunkSet} {ls ms : List ChunkPayloadData} → a ≡ b → xs ≡ ys → us ≡ vs → ls ≡ ms → reassembly a xs us ls ≡ reassembly b ys vs ms
+pub parts : {a b : ℕ} {xs ys us vs : List ChunkSet} {ls ms : List ChunkPayloadData} → a ≡ b → xs ≡ ys → us ≡ vs → ls ≡ ms
+    → reassembly a xs us ls ≡ reassembly b ys vs ms
 parts e f g h = rw (e, f, g, h) refl
 
 -- ## Near one another, in both states
 
-module _ (w : LinkRecord) (s upto : ℕ) (names : List ℕ) (r : StreamRecord) (valid : Valid w) (lt : upto < length w.slots) (counts : cumulative w ≤ upto) (open' : stream_at w s ≡ Some r) (before : IsSpan w s (map (index_of w) (filter (is_ordered_on w s) names))) (after' : IsSpan (with_skip w upto names) s (map (index_of w) (filter (is_ordered_on w s) names))) where
+module _ (w : LinkRecord) (s upto : ℕ) (names : List ℕ) (r : StreamRecord) (valid : Valid w) (lt : upto < length w.slots) (counts : cumulative w ≤ upto)
+    (open' : stream_at w s ≡ Some r) (before : IsSpan w s (map (index_of w) (filter (is_ordered_on w s) names)))
+    (after' : IsSpan (with_skip w upto names) s (map (index_of w) (filter (is_ordered_on w s) names))) where
   abbrev mine : List ℕ
   mine = filter (is_ordered_on w s) names
 
@@ -104,13 +112,15 @@ module _ (w : LinkRecord) (s upto : ℕ) (names : List ℕ) (r : StreamRecord) (
         held = λ m l h. let x = before.held m l h in (omega (arith, x, b, before.short), omega (arith, x, b, before.short));
       }
 
-  near-all : (ns : List ℕ) → ((y : ℕ) → list_any (λ z. z == y) (map (index_of w) (filter (is_ordered_on w s) ns)) ≡ true → list_any (λ z. z == y) (map (index_of w) mine) ≡ true) → AllNear w s (max (next_of w s) named) (filter (is_ordered_on w s) ns)
+  near-all : (ns : List ℕ) → ((y : ℕ) → list_any (λ z. z == y) (map (index_of w) (filter (is_ordered_on w s) ns)) ≡ true
+      → list_any (λ z. z == y) (map (index_of w) mine) ≡ true) → AllNear w s (max (next_of w s) named) (filter (is_ordered_on w s) ns)
   near-all [] among = tt
   near-all (n ∷ ns) among = step (is_ordered_on w s n) refl among (λ h. near-all ns h)
     where
       step : (b : Bool) → is_ordered_on w s n ≡ b
-          → ((y : ℕ) → list_any (λ z. z == y) (map (index_of w) (if b then n ∷ filter (is_ordered_on w s) ns else filter (is_ordered_on w s) ns)) ≡ true → list_any (λ z. z == y) (map (index_of w) mine) ≡ true)
-          → (((y : ℕ) → list_any (λ z. z == y) (map (index_of w) (filter (is_ordered_on w s) ns)) ≡ true → list_any (λ z. z == y) (map (index_of w) mine) ≡ true) → AllNear w s (max (next_of w s) named) (filter (is_ordered_on w s) ns))
+          → ((y : ℕ) → list_any (λ z. z == y) (map (index_of w) (if b then n ∷ filter (is_ordered_on w s) ns else filter (is_ordered_on w s) ns)) ≡ true
+          → list_any (λ z. z == y) (map (index_of w) mine) ≡ true) → (((y : ℕ) → list_any (λ z. z == y) (map (index_of w) (filter (is_ordered_on w s) ns))
+          ≡ true → list_any (λ z. z == y) (map (index_of w) mine) ≡ true) → AllNear w s (max (next_of w s) named) (filter (is_ordered_on w s) ns))
           → AllNear w s (max (next_of w s) named) (if b then n ∷ filter (is_ordered_on w s) ns else filter (is_ordered_on w s) ns)
       step true on among ih = (
         near-one n on (among (index_of w n) (let e : (index_of w n == index_of w n) ≡ true = grind (arith, nat_tests) in rw e refl)),
@@ -126,8 +136,12 @@ module _ (w : LinkRecord) (s upto : ℕ) (names : List ℕ) (r : StreamRecord) (
 
   unassembled-skip : unassembled_chunks (with_skip w upto names) s ≡ after_leading (λ x. at_or_before x.tsn (tsn_of w upto)) (unassembled_chunks w s)
   unassembled-skip =
-      after_leading-kept (λ x. at_or_before x.tsn (tsn_of w upto)) (chunk_at w) (is_unassembled w s) (is_unassembled (with_skip w upto names) s) (upto + 1) 0 (length w.slots)
-      (λ k a b e. (λ l. serial k (omega arith) ∙ (let le : k ≤ upto = omega arith in grind (arith, nat_tests)), λ l. serial k (omega arith) ∙ (let le : upto < k = omega arith in grind (arith, nat_tests))))
+      after_leading-kept (λ x. at_or_before x.tsn (tsn_of w upto)) (chunk_at w) (is_unassembled w s) (is_unassembled (with_skip w upto names) s)
+      (upto + 1) 0 (length w.slots)
+      (λ k a b e. (
+        λ l. serial k (omega arith) ∙ (let le : k ≤ upto = omega arith in grind (arith, nat_tests)),
+        λ l. serial k (omega arith) ∙ (let le : upto < k = omega arith in grind (arith, nat_tests)),
+      ))
       (λ k a b. (λ l. low k l, λ l. high k l))
     where
       serial : (k : ℕ) → k < length w.slots → at_or_before (chunk_at w k).tsn (tsn_of w upto) ≡ nat_le k upto
@@ -151,16 +165,19 @@ module _ (w : LinkRecord) (s upto : ℕ) (names : List ℕ) (r : StreamRecord) (
       map-kept-same (set_of (with_skip w upto names)) (set_of w) (is_held (with_skip w upto names) s) (held_past w s named) 0 (length w.messages)
       (λ k a b. rw (complete-skip w upto names k, named-frame w upto names s r open') refl) (λ k a b e. refl)
 
-  pub skipped : reassembly_of (with_skip w upto names) s ≡ held_after_unordered_skip (tsn_of w upto) (held_after_ordered_skips (map (ssn_of w) mine) (reassembly_of w s))
+  pub skipped : reassembly_of (with_skip w upto names) s ≡ held_after_unordered_skip (tsn_of w upto)
+      (held_after_ordered_skips (map (ssn_of w) mine) (reassembly_of w s))
   skipped =
-      let each : held_after_ordered_skips (map (ssn_of w) mine) (reassembly_of w s) ≡ queue_past w s named = forwarded-all w s (stream_of w s).named (max (next_of w s) named) mine valid (omega arith) (omega arith) (near-all names (λ y h. h)) in
+      let each : held_after_ordered_skips (map (ssn_of w) mine) (reassembly_of w s) ≡ queue_past w s named =
+      forwarded-all w s (stream_of w s).named (max (next_of w s) named) mine valid (omega arith) (omega arith) (near-all names (λ y h. h)) in
       let next : next_of (with_skip w upto names) s ≡ next_past w s named = ap (λ k. next_past w s k) (named-frame w upto names s r open') in
       let complete_ones : complete_sets (with_skip w upto names) s ≡ complete_sets w s = ap (map (complete_set_of w)) (complete-frame w upto names s) in
       parts next sets-skip complete_ones unassembled-skip ∙ ap (held_after_unordered_skip (tsn_of w upto)) (sym each)
 
   -- ## One name alone: the one with the greatest index
 
-  forward-tells : (q : Reassembly) → held_after_ordered_skips (map (ssn_of w) mine) (reassembly_of w s) ≡ q → reassembly_of (with_skip w upto names) s ≡ held_after_unordered_skip (tsn_of w upto) q
+  forward-tells : (q : Reassembly) → held_after_ordered_skips (map (ssn_of w) mine) (reassembly_of w s) ≡ q
+      → reassembly_of (with_skip w upto names) s ≡ held_after_unordered_skip (tsn_of w upto) q
   forward-tells q e = skipped ∙ ap (held_after_unordered_skip (tsn_of w upto)) e
 
   each-is : held_after_ordered_skips (map (ssn_of w) mine) (reassembly_of w s) ≡ queue_past w s named
@@ -171,10 +188,15 @@ module _ (w : LinkRecord) (s upto : ℕ) (names : List ℕ) (r : StreamRecord) (
   skipped-none e = forward-tells (reassembly_of w s) (ap (λ ns. held_after_ordered_skips (map (ssn_of w) ns) (reassembly_of w s)) e)
 
   -- one after another, they come to the one with the greatest index
-  pub once-is : (n : ℕ) → is_ordered_on w s n ≡ true → list_any (λ z. z == index_of w n) (map (index_of w) mine) ≡ true → named ≡ max (stream_of w s).named (index_of w n + 1) → held_after_ordered_skips (map (ssn_of w) mine) (reassembly_of w s) ≡ held_after_ordered_skip (ssn_of w n) (reassembly_of w s)
+  pub once-is : (n : ℕ) → is_ordered_on w s n ≡ true → list_any (λ z. z == index_of w n) (map (index_of w) mine) ≡ true
+      → named ≡ max (stream_of w s).named (index_of w n + 1)
+      → held_after_ordered_skips (map (ssn_of w) mine) (reassembly_of w s) ≡ held_after_ordered_skip (ssn_of w n) (reassembly_of w s)
   once-is n on among last =
       each-is ∙ ap (queue_past w s) last
-      ∙ sym (forwarded-one w s (stream_of w s).named (max (next_of w s) named) n valid (omega arith) (omega (arith, named-ge (stream_of w s).named mine)) (near-one n on among))
+      ∙ sym (forwarded-one w s (stream_of w s).named (max (next_of w s) named) n valid (omega arith) (omega (arith, named-ge (stream_of w s).named mine))
+      (near-one n on among))
 
-  pub skipped-once : (n : ℕ) → is_ordered_on w s n ≡ true → list_any (λ z. z == index_of w n) (map (index_of w) mine) ≡ true → named ≡ max (stream_of w s).named (index_of w n + 1) → reassembly_of (with_skip w upto names) s ≡ held_after_unordered_skip (tsn_of w upto) (held_after_ordered_skip (ssn_of w n) (reassembly_of w s))
+  pub skipped-once : (n : ℕ) → is_ordered_on w s n ≡ true → list_any (λ z. z == index_of w n) (map (index_of w) mine) ≡ true
+      → named ≡ max (stream_of w s).named (index_of w n + 1)
+      → reassembly_of (with_skip w upto names) s ≡ held_after_unordered_skip (tsn_of w upto) (held_after_ordered_skip (ssn_of w n) (reassembly_of w s))
   skipped-once n on among last = forward-tells (held_after_ordered_skip (ssn_of w n) (reassembly_of w s)) (once-is n on among last)

@@ -1,5 +1,6 @@
 -- A skip that counts: the queue's forwards and the record's step agree.
-use Rattle.std.proofs.Common.{◌≡◌, ℕ, ◌+◌, ◌-◌, ◌<◌, ◌≤◌, ◌%◌, ◌^◌, Bool, true, false, List, [], ◌∷◌, length, map, drop, get_or, refl, ap, sym, ◌∙◌, inl, inr, arith}
+use Rattle.std.proofs.Common.{◌≡◌, ℕ, ◌+◌, ◌-◌, ◌<◌, ◌≤◌, ◌%◌, ◌^◌, Bool, true, false, List, [], ◌∷◌, length, map, drop, get_or, refl, ap, sym, ◌∙◌, inl, inr}
+use Rattle.std.proofs.Common.{arith}
 use Rattle.std.specs.Prelude.{◌⊎◌, if◌then◌else◌, ◌&&◌, ◌||◌, not, nat_lt, nat_le, max}
 use Rattle.std.proofs.lemmas.Bool.{cases_lt}
 use Rattle.std.proofs.lemmas.Bool.Decides.{nat_tests}
@@ -50,11 +51,13 @@ next_past-is w s named valid le = step (cases_lt (next_of w s) named)
 
     step : (next_of w s < named) ⊎ (named ≤ next_of w s) → next_past w s named ≡ max (next_of w s) named
     step (inl l) =
-        let none : length (leading (read_at w) (drop named (ordered_on w s))) ≡ 0 = leading-is (read_at w) (drop named (ordered_on w s)) 0 0 (omega arith) (λ j lt. absurd (omega arith)) (λ lt. beyond l lt) in
+        let none : length (leading (read_at w) (drop named (ordered_on w s))) ≡ 0 = leading-is (read_at w) (drop named (ordered_on w s)) 0 0 (omega arith)
+        (λ j lt. absurd (omega arith)) (λ lt. beyond l lt) in
         omega (arith, none)
     step (inr g) =
         let count : length (leading (read_at w) (drop named (ordered_on w s))) ≡ next_of w s - named =
-        leading-is (read_at w) (drop named (ordered_on w s)) (next_of w s - named) 0 (omega (arith, length-dropped named (ordered_on w s), next_le w s (valid.named_made s)))
+        leading-is (read_at w) (drop named (ordered_on w s))
+        (next_of w s - named) 0 (omega (arith, length-dropped named (ordered_on w s), next_le w s (valid.named_made s)))
         (λ j lt. rw (get-drop named (ordered_on w s) j (named + j) 0 refl) (next_passes w s (named + j) (omega arith) (omega arith)))
         (λ lt. stop g (omega (arith, lt, length-dropped named (ordered_on w s)))) in
         omega (arith, count)
@@ -62,7 +65,8 @@ next_past-is w s named valid le = step (cases_lt (next_of w s) named)
         stop : named ≤ next_of w s → next_of w s < length (ordered_on w s) → read_at w (get_or (drop named (ordered_on w s)) (next_of w s - named) 0) ≡ false
         stop g lt =
             let at = index-at w s (next_of w s) lt in
-            rw (get-drop named (ordered_on w s) (next_of w s - named) (next_of w s) 0 (omega arith)) (next_unread w s (get_or (ordered_on w s) (next_of w s) 0) at.0 at.1)
+            rw (get-drop named (ordered_on w s) (next_of w s - named) (next_of w s) 0 (omega arith))
+            (next_unread w s (get_or (ordered_on w s) (next_of w s) 0) at.0 at.1)
 
 -- an index is near those of the state: what both span tests give for a name
 pub record IsNear (w : LinkRecord) (s top n : ℕ) : Type 0 where
@@ -72,9 +76,11 @@ pub record IsNear (w : LinkRecord) (s top n : ℕ) : Type 0 where
   pub held : (m : ℕ) → m < length w.messages → is_held w s m ≡ true → (index_of w m < index_of w n + 2 ^ 15) × (index_of w n < index_of w m + 2 ^ 15)
 
 -- one name
-module _ (w : LinkRecord) (s named top n : ℕ) (valid : Valid w) (from : (stream_of w s).named ≤ named) (upto : max (next_of w s) named ≤ top) (near : IsNear w s top n) where
+module _ (w : LinkRecord) (s named top n : ℕ) (valid : Valid w) (from : (stream_of w s).named ≤ named) (upto : max (next_of w s) named ≤ top)
+    (near : IsNear w s top n) where
   held-before : (m : ℕ) → held_past w s named m ≡ true → is_held w s m ≡ true
-  held-before m e = weaker (is_ordered_on w s m) (is_unread w m) (nat_lt 0 (arrived_of w m)) (is_complete_message w m) (nat_le named (index_of w m)) (nat_le (stream_of w s).named (index_of w m)) (λ h. grind (arith, nat_tests)) e
+  held-before m e = weaker (is_ordered_on w s m) (is_unread w m) (nat_lt 0 (arrived_of w m)) (is_complete_message w m) (nat_le named (index_of w m))
+      (nat_le (stream_of w s).named (index_of w m)) (λ h. grind (arith, nat_tests)) e
     where
       weaker : (a b c d e f : Bool) → (e ≡ true → f ≡ true) → (a && (b && (c && (d || e)))) ≡ true → (a && (b && (c && (d || f)))) ≡ true
       weaker true true true true e f h x = refl
@@ -87,12 +93,14 @@ module _ (w : LinkRecord) (s named top n : ℕ) (valid : Valid w) (from : (strea
   on-held : (m : ℕ) → held_past w s named m ≡ true → is_ordered_on w s m ≡ true
   on-held m e = (both (is_ordered_on w s m) (is_unread w m && (nat_lt 0 (arrived_of w m) && (is_complete_message w m || nat_le named (index_of w m)))) e).0
 
-  passed : (m : ℕ) → held_past w s named m ≡ true → is_passed (ssn_of w n) (set_of w m) ≡ (nat_le (index_of w m) (index_of w n) && not (is_complete_message w m))
+  passed : (m : ℕ) → held_past w s named m ≡ true
+      → is_passed (ssn_of w n) (set_of w m) ≡ (nat_le (index_of w m) (index_of w n) && not (is_complete_message w m))
   passed m e =
       let on = on-held m e in
       let lt = on-made w s m on in
       let h = near.held m lt (held-before m e) in
-      let serial : at_or_before16 (ssn_of w m) (ssn_of w n) ≡ nat_le (index_of w m) (index_of w n) = rw (ssn_on w s m on, ssn_on w s n near.on) (at_or_before16-index (index_of w m) (index_of w n) h.0 h.1) in
+      let serial : at_or_before16 (ssn_of w m) (ssn_of w n) ≡ nat_le (index_of w m) (index_of w n) = rw (ssn_on w s m on, ssn_on w s n near.on)
+      (at_or_before16-index (index_of w m) (index_of w n) h.0 h.1) in
       let complete : is_complete (chunks_come w m) ≡ is_complete_message w m = set_is_complete w m valid lt ∙ sym (complete-ordered w s m on) in
       rw (serial, complete) refl
 
@@ -106,7 +114,8 @@ module _ (w : LinkRecord) (s named top n : ℕ) (valid : Valid w) (from : (strea
       gone true false c d i k j e = refl
       gone false b c d i k j e = refl
 
-      kept' : (a b c d : Bool) (i k j : ℕ) → (a && (b && (c && (d || nat_le k i)))) ≡ true → (a && (b && (c && (d || nat_le (max k (j + 1)) i)))) ≡ not (nat_le i j && not d)
+      kept' : (a b c d : Bool) (i k j : ℕ) → (a && (b && (c && (d || nat_le k i)))) ≡ true
+          → (a && (b && (c && (d || nat_le (max k (j + 1)) i)))) ≡ not (nat_le i j && not d)
       kept' true true true true i k j e = sym (ap not (ands (nat_le i j)))
         where
           ands : (b : Bool) → (b && false) ≡ false
@@ -127,14 +136,22 @@ module _ (w : LinkRecord) (s named top n : ℕ) (valid : Valid w) (from : (strea
           ∙ ap not (sym (passed m e))
       step false e = gone (is_ordered_on w s m) (is_unread w m) (nat_lt 0 (arrived_of w m)) (is_complete_message w m) (index_of w m) named (index_of w n) e
 
-  next-named : (if at_or_before16 (next_past w s named % 2 ^ 16) (ssn_of w n) then (ssn_of w n + 1) % 2 ^ 16 else next_past w s named % 2 ^ 16) ≡ next_past w s (max named (index_of w n + 1)) % 2 ^ 16
+  next-named : (if at_or_before16 (next_past w s named % 2 ^ 16) (ssn_of w n) then (ssn_of w n + 1) % 2 ^ 16 else next_past w s named % 2 ^ 16)
+      ≡ next_past w s (max named (index_of w n + 1)) % 2 ^ 16
   next-named =
       let i = index_of w n in
       let a : next_past w s named ≡ max (next_of w s) named = next_past-is w s named valid from in
       let b : next_past w s (max named (i + 1)) ≡ max (next_of w s) (max named (i + 1)) = next_past-is w s (max named (i + 1)) valid (omega arith) in
-      rw (ssn_on w s n near.on, a, b, at_or_before16-index (max (next_of w s) named) (index_of w n) (omega (arith, near.above, upto)) (omega (arith, near.below)), next16 (index_of w n)) (step (cases_lt (index_of w n) (max (next_of w s) named)))
+      rw (
+        ssn_on w s n near.on,
+        a,
+        b,
+        at_or_before16-index (max (next_of w s) named) (index_of w n) (omega (arith, near.above, upto)) (omega (arith, near.below)),
+        next16 (index_of w n),
+      ) (step (cases_lt (index_of w n) (max (next_of w s) named)))
     where
-      step : (index_of w n < max (next_of w s) named) ⊎ (max (next_of w s) named ≤ index_of w n) → (if nat_le (max (next_of w s) named) (index_of w n) then (index_of w n + 1) % 2 ^ 16 else max (next_of w s) named % 2 ^ 16) ≡ max (next_of w s) (max named (index_of w n + 1)) % 2 ^ 16
+      step : (index_of w n < max (next_of w s) named) ⊎ (max (next_of w s) named ≤ index_of w n) → (if nat_le (max (next_of w s) named) (index_of w n)
+          then (index_of w n + 1) % 2 ^ 16 else max (next_of w s) named % 2 ^ 16) ≡ max (next_of w s) (max named (index_of w n + 1)) % 2 ^ 16
       step (inl l) =
           let off : nat_le (max (next_of w s) named) (index_of w n) ≡ false = grind (arith, nat_tests) in
           let same : max (next_of w s) (max named (index_of w n + 1)) ≡ max (next_of w s) named = omega arith in
@@ -146,7 +163,8 @@ module _ (w : LinkRecord) (s named top n : ℕ) (valid : Valid w) (from : (strea
 
   pub forwarded-one : held_after_ordered_skip (ssn_of w n) (queue_past w s named) ≡ queue_past w s (max named (index_of w n + 1))
   forwarded-one =
-      let sets = those-kept (λ set. not (is_passed (ssn_of w n) set)) (set_of w) (set_of w) (held_past w s named) (held_past w s (max named (index_of w n + 1))) 0 (length w.messages) (λ k a b. stays k) (λ k a b e. refl) in
+      let sets = those-kept (λ set. not (is_passed (ssn_of w n) set)) (set_of w) (set_of w) (held_past w s named)
+      (held_past w s (max named (index_of w n + 1))) 0 (length w.messages) (λ k a b. stays k) (λ k a b e. refl) in
       rw (next-named, sets) refl
 
 -- all of them, in the order given
@@ -161,7 +179,8 @@ pub named_with-ge : (w : LinkRecord) (named : ℕ) (names : List ℕ) → named 
 named_with-ge w named [] = omega arith
 named_with-ge w named (n ∷ ns) = omega (arith, named_with-ge w (max named (index_of w n + 1)) ns)
 
-pub forwarded-all : (w : LinkRecord) (s named top : ℕ) (names : List ℕ) → Valid w → (stream_of w s).named ≤ named → max (next_of w s) (named_with w named names) ≤ top → AllNear w s top names → held_after_ordered_skips (map (ssn_of w) names) (queue_past w s named) ≡ queue_past w s (named_with w named names)
+pub forwarded-all : (w : LinkRecord) (s named top : ℕ) (names : List ℕ) → Valid w → (stream_of w s).named ≤ named → max (next_of w s) (named_with w named names)
+    ≤ top → AllNear w s top names → held_after_ordered_skips (map (ssn_of w) names) (queue_past w s named) ≡ queue_past w s (named_with w named names)
 forwarded-all w s named top [] valid from upto near = refl
 forwarded-all w s named top (n ∷ ns) valid from upto near =
     let more = max named (index_of w n + 1) in

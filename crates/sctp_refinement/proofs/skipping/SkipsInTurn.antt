@@ -17,16 +17,21 @@ pub ssns-are : (w : LinkRecord) (s : ℕ) (names : List ℕ) → map (ssn_of w) 
 ssns-are w s [] = refl
 ssns-are w s (n ∷ ns) = step (is_ordered_on w s n) refl (ssns-are w s ns)
   where
-    step : (b : Bool) → is_ordered_on w s n ≡ b → map (ssn_of w) (on_stream w s ns) ≡ map (λ n. index_of w n % 2 ^ 16) (on_stream w s ns) → map (ssn_of w) (if b then n ∷ on_stream w s ns else on_stream w s ns) ≡ map (λ n. index_of w n % 2 ^ 16) (if b then n ∷ on_stream w s ns else on_stream w s ns)
+    step : (b : Bool) → is_ordered_on w s n ≡ b → map (ssn_of w) (on_stream w s ns) ≡ map (λ n. index_of w n % 2 ^ 16) (on_stream w s ns) → map (ssn_of w)
+        (if b then n ∷ on_stream w s ns else on_stream w s ns) ≡ map (λ n. index_of w n % 2 ^ 16) (if b then n ∷ on_stream w s ns else on_stream w s ns)
     step true e ih = ap (λ i. i ∷ map (ssn_of w) (on_stream w s ns)) (Line.ssn_on w s n e) ∙ ap (λ is. index_of w n % 2 ^ 16 ∷ is) ih
     step false e ih = ih
 
 -- one skip after another, against one to the last
-pub skips-in-turn : (w : LinkRecord) (s upto : ℕ) (names : List ℕ) (r : StreamRecord) → Valid w → upto < length w.slots → cumulative w ≤ upto → stream_at w s ≡ Some r → IsSpan w s (map (index_of w) (on_stream w s names)) → IsSpan (with_skip w upto names) s (map (index_of w) (on_stream w s names)) → held_after_ordered_skips (map (λ n. index_of w n % 2 ^ 16) (on_stream w s names)) (reassembly_of w s) ≡ gone_forward (end_named w s names) (reassembly_of w s)
+pub skips-in-turn : (w : LinkRecord) (s upto : ℕ) (names : List ℕ) (r : StreamRecord) → Valid w → upto < length w.slots → cumulative w ≤ upto
+    → stream_at w s ≡ Some r → IsSpan w s (map (index_of w) (on_stream w s names)) → IsSpan (with_skip w upto names) s (map (index_of w) (on_stream w s names))
+    → held_after_ordered_skips (map (λ n. index_of w n % 2 ^ 16) (on_stream w s names)) (reassembly_of w s) ≡ gone_forward (end_named w s names)
+    (reassembly_of w s)
 skips-in-turn w s upto names r valid lt counts open' before after' =
     ap (λ is. held_after_ordered_skips is (reassembly_of w s)) (sym (ssns-are w s names)) ∙ step (last-named w s 0 names)
   where
-    step : (end_named w s names ≡ 0) ⊎ IsLast w s (end_named w s names) (on_stream w s names) → held_after_ordered_skips (map (ssn_of w) (on_stream w s names)) (reassembly_of w s) ≡ gone_forward (end_named w s names) (reassembly_of w s)
+    step : (end_named w s names ≡ 0) ⊎ IsLast w s (end_named w s names) (on_stream w s names)
+        → held_after_ordered_skips (map (ssn_of w) (on_stream w s names)) (reassembly_of w s) ≡ gone_forward (end_named w s names) (reassembly_of w s)
     step (inl z) =
         ap (λ ns. held_after_ordered_skips (map (ssn_of w) ns) (reassembly_of w s)) (none-named w (on_stream w s names) z)
         ∙ ap (λ e. gone_forward e (reassembly_of w s)) (sym z)

@@ -1,5 +1,6 @@
 -- Fragments whose TSNs ascend are complete where their ends are those of a complete set.
-use Rattle.std.proofs.Common.{◌≡◌, ℕ, zero, suc, ◌+◌, ◌-◌, ◌%◌, ◌^◌, ◌<◌, ◌≤◌, ◌==◌, ◌&&◌, true, List, [], ◌∷◌, length, map, get_or, ap, subst, ◌∙◌, inl, inr, arith}
+use Rattle.std.proofs.Common.{◌≡◌, ℕ, zero, suc, ◌+◌, ◌-◌, ◌%◌, ◌^◌, ◌<◌, ◌≤◌, ◌==◌, ◌&&◌, true, List, [], ◌∷◌, length, map, get_or, ap, subst, ◌∙◌, inl, inr}
+use Rattle.std.proofs.Common.{arith}
 use Rattle.std.proofs.lemmas.Bool.Decides.{nat_tests}
 use Rattle.std.proofs.lemmas.List.{get_or_default}
 use Rattle.sctp_data.specs.declared.chunk.chunk_payload_data.ChunkPayloadData.{ChunkPayloadData}
@@ -11,7 +12,9 @@ use Rattle.sctp_serial.proofs.lemmas.AscendingEdits.{Ascends, ascends, half, far
 use Rattle.sctp_reassembly.specs.reassembly_queue.Fragments.{completes, is_complete}
 
 -- each TSN follows the one before it, and the last ends
-completes_by : (x : ChunkPayloadData) (ys : List ChunkPayloadData) (d : ChunkPayloadData) → ((k : ℕ) → k < length ys → (get_or (x ∷ ys) (suc k) d).tsn ≡ following_tsn (get_or (x ∷ ys) k d).tsn) → (get_or (x ∷ ys) (length ys) d).ending_fragment ≡ true → completes x ys ≡ true
+completes_by : (x : ChunkPayloadData) (ys : List ChunkPayloadData) (d : ChunkPayloadData)
+    → ((k : ℕ) → k < length ys → (get_or (x ∷ ys) (suc k) d).tsn ≡ following_tsn (get_or (x ∷ ys) k d).tsn)
+    → (get_or (x ∷ ys) (length ys) d).ending_fragment ≡ true → completes x ys ≡ true
 completes_by x [] d r e = e
 completes_by x (y ∷ ys) d r e =
     let s : y.tsn ≡ following_tsn x.tsn = r 0 (omega arith) in
@@ -48,7 +51,8 @@ module _ (xs : List ChunkPayloadData) (d : ChunkPayloadData) (s : Ascends (λ (c
       omega arith
 
   at_most : (j k : ℕ) → k + j < length xs → distance (get_or xs 0 d).tsn (get_or xs k d).tsn + j ≤ distance (get_or xs 0 d).tsn (get_or xs (k + j) d).tsn
-  at_most zero k lt = subst (λ i. distance (get_or xs 0 d).tsn (get_or xs k d).tsn + 0 ≤ distance (get_or xs 0 d).tsn (get_or xs i d).tsn) {x = k} (omega arith) (omega arith)
+  at_most zero k lt =
+      subst (λ i. distance (get_or xs 0 d).tsn (get_or xs k d).tsn + 0 ≤ distance (get_or xs 0 d).tsn (get_or xs i d).tsn) {x = k} (omega arith) (omega arith)
   at_most (suc j) k lt =
       let more = up (k + j) (k + suc j) (omega arith) lt in
       let below = at_most j k (omega arith) in
@@ -63,13 +67,17 @@ module _ (xs : List ChunkPayloadData) (d : ChunkPayloadData) (s : Ascends (λ (c
         let long = at_least n (omega arith) in
         let end = far_is (get_or xs 0 d).tsn (get_or xs n d).tsn n (s.small 0 d some) (s.small n d (omega arith)) (omega arith) last in
         let low = at_least k lt in
-        let high = subst (λ i. distance (get_or xs 0 d).tsn (get_or xs k d).tsn + (n - k) ≤ distance (get_or xs 0 d).tsn (get_or xs i d).tsn) {x = k + (n - k)} {y = n} (omega arith) (at_most (n - k) k (omega arith)) in
+        let high = subst (λ i. distance (get_or xs 0 d).tsn (get_or xs k d).tsn + (n - k)
+        ≤ distance (get_or xs 0 d).tsn (get_or xs i d).tsn) {x = k + (n - k)} {y = n} (omega arith) (at_most (n - k) k (omega arith)) in
         omega arith
 
     follows : (k : ℕ) → suc k < length xs → (get_or xs (suc k) d).tsn ≡ following_tsn (get_or xs k d).tsn
-    follows k lt = next_to (get_or xs 0 d).tsn (get_or xs k d).tsn (get_or xs (suc k) d).tsn k (s.small 0 d some) (s.small k d (omega arith)) (s.small (suc k) d lt) (exact k (omega arith)) (let e = exact (suc k) lt in omega arith)
+    follows k lt = next_to (get_or xs 0 d).tsn (get_or xs k d).tsn (get_or xs (suc k) d).tsn k (s.small 0 d some) (s.small k d (omega arith))
+        (s.small (suc k) d lt) (exact k (omega arith)) (let e = exact (suc k) lt in omega arith)
 
-pub ascending_complete : (xs : List ChunkPayloadData) (d : ChunkPayloadData) → IsAscending (map (λ (c : ChunkPayloadData). c.tsn) xs) → 0 < length xs → (get_or xs 0 d).beginning_fragment ≡ true → (get_or xs (length xs - 1) d).ending_fragment ≡ true → (get_or xs (length xs - 1) d).tsn ≡ ((get_or xs 0 d).tsn + (length xs - 1) % 2 ^ 32) % 2 ^ 32 → is_complete xs ≡ true
+pub ascending_complete : (xs : List ChunkPayloadData) (d : ChunkPayloadData) → IsAscending (map (λ (c : ChunkPayloadData). c.tsn) xs) → 0 < length xs
+    → (get_or xs 0 d).beginning_fragment ≡ true → (get_or xs (length xs - 1) d).ending_fragment ≡ true
+    → (get_or xs (length xs - 1) d).tsn ≡ ((get_or xs 0 d).tsn + (length xs - 1) % 2 ^ 32) % 2 ^ 32 → is_complete xs ≡ true
 ascending_complete [] d a some begins ends last = absurd (omega arith)
 ascending_complete (x ∷ xs) d a some begins ends last =
     let s = ascends (λ (c : ChunkPayloadData). c.tsn) (x ∷ xs) a in

@@ -1,5 +1,6 @@
 -- The byte count follows what is held.
-use Rattle.std.proofs.Common.{◌≡◌, ℕ, ◌+◌, ◌-◌, ◌^◌, ◌<◌, ◌&&◌, ◌||◌, Bool, true, false, not, if◌then◌else◌, List, [], ◌∷◌, ◌++◌, Some, None, Result, Ok, Err, OnOk, OnErr, IfOk, length, take, drop, refl, sym, ap, ap₂, ◌∙◌, arith}
+use Rattle.std.proofs.Common.{◌≡◌, ℕ, ◌+◌, ◌-◌, ◌^◌, ◌<◌, ◌&&◌, ◌||◌, Bool, true, false, not, if◌then◌else◌, List, [], ◌∷◌, ◌++◌, Some, None, Result, Ok, Err}
+use Rattle.std.proofs.Common.{OnOk, OnErr, IfOk, length, take, drop, refl, sym, ap, ap₂, ◌∙◌, arith}
 use Rattle.std.specs.List.{list_any, sum_by, filter}
 use Rattle.std.proofs.lemmas.Bool.{true≢false}
 use Rattle.std.proofs.lemmas.List.{take-append-drop, drop-drop}
@@ -10,9 +11,13 @@ use Rattle.sctp_data.specs.declared.chunk.chunk_payload_data.ChunkPayloadData.{C
 use Rattle.sctp_data.specs.ChunkSet.{ChunkSet}
 use Rattle.sctp_reassembly.specs.reassembly_queue.Fragments.{has_ssn, with_chunk, new_set, sets_with, chunks_of_ssn, set_before, is_complete}
 use Rattle.sctp_serial.specs.DataChunks.{bytes_of, has_tsn, chunk_before}
-use Rattle.sctp_reassembly.specs.reassembly_queue.ReassemblyQueue.{Reassembly, ReassemblyState, set_bytes, held_bytes, IsCounted, count_up, after_ordered_push, set_of_run, BecomesComplete, PushesUnordered, is_readable, state_read, message_read, rest_read, after_read, bytes_read, leading_upto, after_unordered_skip, after_ordered_skip, held_after_ordered_skip, is_passed, complete_sets}
+use Rattle.sctp_reassembly.specs.reassembly_queue.ReassemblyQueue.{Reassembly, ReassemblyState, set_bytes, held_bytes, IsCounted, count_up, after_ordered_push}
+use Rattle.sctp_reassembly.specs.reassembly_queue.ReassemblyQueue.{set_of_run, BecomesComplete, PushesUnordered, is_readable, state_read, message_read}
+use Rattle.sctp_reassembly.specs.reassembly_queue.ReassemblyQueue.{rest_read, after_read, bytes_read, leading_upto, after_unordered_skip, after_ordered_skip}
+use Rattle.sctp_reassembly.specs.reassembly_queue.ReassemblyQueue.{held_after_ordered_skip, is_passed, complete_sets}
 use Rattle.sctp_reassembly.specs.reassembly_queue.Loose.{IsRunTaken}
-use Rattle.sctp_reassembly.specs.reassembly_queue.Skips.{after_bounded_skip, held_after_bounded_skip, is_abandoned, misses, cannot_complete, ssn_past_sets, held_after_incomplete_skip, after_incomplete_skip}
+use Rattle.sctp_reassembly.specs.reassembly_queue.Skips.{after_bounded_skip, held_after_bounded_skip, is_abandoned, misses, cannot_complete, ssn_past_sets}
+use Rattle.sctp_reassembly.specs.reassembly_queue.Skips.{held_after_incomplete_skip, after_incomplete_skip}
 use Rattle.sctp_reassembly.proofs.lemmas.reassembly_queue.ChunkSets.{chunks_none, state_of}
 use Rattle.sctp_serial.proofs.lemmas.ListEdits.{neither}
 
@@ -21,7 +26,8 @@ sum-inserted : {A : Type 0} (f : A → ℕ) (before : A → A → Bool) (x : A) 
 sum-inserted f before x [] = omega (arith, sum_by-cons f x [])
 sum-inserted {A = A} f before x (e ∷ es) = at_head (before x e) (sum-inserted f before x es)
   where
-    at_head : (b : Bool) → sum_by f (insert_before before x es) ≡ sum_by f es + f x → sum_by f (if b then x ∷ e ∷ es else e ∷ insert_before before x es) ≡ sum_by f (e ∷ es) + f x
+    at_head : (b : Bool) → sum_by f (insert_before before x es) ≡ sum_by f es + f x
+        → sum_by f (if b then x ∷ e ∷ es else e ∷ insert_before before x es) ≡ sum_by f (e ∷ es) + f x
     at_head true rec = omega (arith, sum_by-cons f x (e ∷ es))
     at_head false rec = omega (arith, sum_by-cons f e (insert_before before x es), sum_by-cons f e es, rec)
 
@@ -30,7 +36,8 @@ sum-those : {A : Type 0} (f : A → ℕ) (p : A → Bool) (xs : List A) → sum_
 sum-those f p [] = refl
 sum-those {A = A} f p (x ∷ xs) = at_head (p x) (sum-those f p xs)
   where
-    at_head : (b : Bool) → sum_by f (filter p xs) + sum_by f (filter (λ y. not (p y)) xs) ≡ sum_by f xs → sum_by f (if b then x ∷ filter p xs else filter p xs) + sum_by f (if not b then x ∷ filter (λ y. not (p y)) xs else filter (λ y. not (p y)) xs) ≡ sum_by f (x ∷ xs)
+    at_head : (b : Bool) → sum_by f (filter p xs) + sum_by f (filter (λ y. not (p y)) xs) ≡ sum_by f xs → sum_by f (if b then x ∷ filter p xs else filter p xs)
+        + sum_by f (if not b then x ∷ filter (λ y. not (p y)) xs else filter (λ y. not (p y)) xs) ≡ sum_by f (x ∷ xs)
     at_head true rec = omega (arith, sum_by-cons f x (filter p xs), sum_by-cons f x xs, rec)
     at_head false rec = omega (arith, sum_by-cons f x (filter (λ y. not (p y)) xs), sum_by-cons f x xs, rec)
 
@@ -42,17 +49,26 @@ pub dropped : (t : ℕ) (xs : List ChunkPayloadData) → bytes_of (leading_upto 
 dropped t [] = refl
 dropped t (x ∷ xs) = at_head (at_or_before x.tsn t) (dropped t xs)
   where
-    at_head : (b : Bool) → bytes_of (leading_upto t xs) + bytes_of (after_leading (λ y. at_or_before y.tsn t) xs) ≡ bytes_of xs → bytes_of (if b then x ∷ leading_upto t xs else []) + bytes_of (if b then after_leading (λ y. at_or_before y.tsn t) xs else x ∷ xs) ≡ bytes_of (x ∷ xs)
-    at_head true rec = omega (arith, sum_by-cons (λ (c : ChunkPayloadData). length c.user_data) x (leading_upto t xs), sum_by-cons (λ (c : ChunkPayloadData). length c.user_data) x xs, rec)
+    at_head : (b : Bool) → bytes_of (leading_upto t xs) + bytes_of (after_leading (λ y. at_or_before y.tsn t) xs) ≡ bytes_of xs
+        → bytes_of (if b then x ∷ leading_upto t xs else []) + bytes_of (if b then after_leading (λ y. at_or_before y.tsn t) xs else x ∷ xs) ≡ bytes_of (x ∷ xs)
+    at_head true rec = omega (
+      arith,
+      sum_by-cons (λ (c : ChunkPayloadData). length c.user_data) x (leading_upto t xs),
+      sum_by-cons (λ (c : ChunkPayloadData). length c.user_data) x xs,
+      rec,
+    )
     at_head false rec = omega arith
 
 -- a read takes out what it gives
-read_parts : (next : ℕ) (us os : List ChunkSet) (ls : List ChunkPayloadData) (bytes : ℕ) → bytes ≡ set_bytes os + set_bytes us + bytes_of ls → (let q : Reassembly = record { next_ssn = next; ordered = os; unordered = us; unassembled = ls } in bytes - bytes_read (message_read q) ≡ held_bytes (rest_read q))
+read_parts : (next : ℕ) (us os : List ChunkSet) (ls : List ChunkPayloadData) (bytes : ℕ) → bytes ≡ set_bytes os + set_bytes us + bytes_of ls
+    → (let q : Reassembly = record { next_ssn = next; ordered = os; unordered = us; unassembled = ls } in
+    bytes - bytes_read (message_read q) ≡ held_bytes (rest_read q))
 read_parts next (u ∷ us) os ls bytes h = omega (arith, h, sum_by-cons (λ (s : ChunkSet). bytes_of s.chunks) u us)
 read_parts next [] [] ls bytes h = omega (arith, h)
 read_parts next [] (o ∷ os) ls bytes h = at_head (is_readable next o)
   where
-    at_head : (b : Bool) → bytes - bytes_read (if b then Some o else None) ≡ held_bytes (after_read (if b then Some o else None) record { next_ssn = next; ordered = o ∷ os; unordered = []; unassembled = ls })
+    at_head : (b : Bool) → bytes - bytes_read (if b then Some o else None)
+        ≡ held_bytes (after_read (if b then Some o else None) record { next_ssn = next; ordered = o ∷ os; unordered = []; unassembled = ls })
     at_head true = omega (arith, h, sum_by-cons (λ (s : ChunkSet). bytes_of s.chunks) o os)
     at_head false = omega (arith, h)
 
@@ -60,7 +76,8 @@ pub read_counted : (q : ReassemblyState) → IsCounted q → IsCounted (state_re
 read_counted q h = read_parts q.held.next_ssn q.held.unordered q.held.ordered q.held.unassembled q.bytes h
 
 -- how much longer the sets are with a chunk
-bytes_changed : (x : ChunkPayloadData) (ssn : ℕ) (sets : List ChunkSet) → list_any (has_ssn ssn) sets ≡ true → set_bytes (change_first (has_ssn ssn) (with_chunk x) sets) ≡ set_bytes sets + (if list_any (has_tsn x.tsn) (chunks_of_ssn ssn sets) then 0 else length x.user_data)
+bytes_changed : (x : ChunkPayloadData) (ssn : ℕ) (sets : List ChunkSet) → list_any (has_ssn ssn) sets ≡ true → set_bytes
+    (change_first (has_ssn ssn) (with_chunk x) sets) ≡ set_bytes sets + (if list_any (has_tsn x.tsn) (chunks_of_ssn ssn sets) then 0 else length x.user_data)
 bytes_changed x ssn [] h = absurd (true≢false (sym h))
 bytes_changed x ssn (s ∷ ss) h = at_head (has_ssn ssn s) refl (bytes_changed x ssn ss)
   where
@@ -68,16 +85,32 @@ bytes_changed x ssn (s ∷ ss) h = at_head (has_ssn ssn s) refl (bytes_changed x
     put_in true = omega arith
     put_in false = sum-inserted (λ (c : ChunkPayloadData). length c.user_data) chunk_before x s.chunks
 
-    at_head : (b : Bool) → has_ssn ssn s ≡ b → (list_any (has_ssn ssn) ss ≡ true → set_bytes (change_first (has_ssn ssn) (with_chunk x) ss) ≡ set_bytes ss + (if list_any (has_tsn x.tsn) (chunks_of_ssn ssn ss) then 0 else length x.user_data)) → set_bytes (if b then with_chunk x s ∷ ss else s ∷ change_first (has_ssn ssn) (with_chunk x) ss) ≡ set_bytes (s ∷ ss) + (if list_any (has_tsn x.tsn) (if b then s.chunks else chunks_of_ssn ssn ss) then 0 else length x.user_data)
-    at_head true e rec = omega (arith, sum_by-cons (λ (t : ChunkSet). bytes_of t.chunks) (with_chunk x s) ss, sum_by-cons (λ (t : ChunkSet). bytes_of t.chunks) s ss, put_in (list_any (has_tsn x.tsn) s.chunks))
+    at_head : (b : Bool) → has_ssn ssn s ≡ b → (list_any (has_ssn ssn) ss ≡ true → set_bytes (change_first (has_ssn ssn) (with_chunk x) ss)
+        ≡ set_bytes ss + (if list_any (has_tsn x.tsn) (chunks_of_ssn ssn ss) then 0 else length x.user_data))
+        → set_bytes (if b then with_chunk x s ∷ ss else s ∷ change_first (has_ssn ssn) (with_chunk x) ss)
+        ≡ set_bytes (s ∷ ss) + (if list_any (has_tsn x.tsn) (if b then s.chunks else chunks_of_ssn ssn ss) then 0 else length x.user_data)
+    at_head true e rec = omega (
+      arith,
+      sum_by-cons (λ (t : ChunkSet). bytes_of t.chunks) (with_chunk x s) ss,
+      sum_by-cons (λ (t : ChunkSet). bytes_of t.chunks) s ss,
+      put_in (list_any (has_tsn x.tsn) s.chunks),
+    )
     at_head false e rec =
         let later : list_any (has_ssn ssn) ss ≡ true = ap (λ b. b || list_any (has_ssn ssn) ss) (sym e) ∙ h in
-        omega (arith, sum_by-cons (λ (t : ChunkSet). bytes_of t.chunks) s (change_first (has_ssn ssn) (with_chunk x) ss), sum_by-cons (λ (t : ChunkSet). bytes_of t.chunks) s ss, rec later)
+        omega (
+          arith,
+          sum_by-cons (λ (t : ChunkSet). bytes_of t.chunks) s (change_first (has_ssn ssn) (with_chunk x) ss),
+          sum_by-cons (λ (t : ChunkSet). bytes_of t.chunks) s ss,
+          rec later,
+        )
 
-pub bytes_with : (x : ChunkPayloadData) (sets : List ChunkSet) → set_bytes (sets_with x sets) ≡ set_bytes sets + (if list_any (has_tsn x.tsn) (chunks_of_ssn x.stream_sequence_number sets) then 0 else length x.user_data)
+pub bytes_with : (x : ChunkPayloadData) (sets : List ChunkSet)
+    → set_bytes (sets_with x sets) ≡ set_bytes sets + (if list_any (has_tsn x.tsn) (chunks_of_ssn x.stream_sequence_number sets) then 0 else length x.user_data)
 bytes_with x sets = at_any (list_any (has_ssn x.stream_sequence_number) sets) refl
   where
-    at_any : (b : Bool) → list_any (has_ssn x.stream_sequence_number) sets ≡ b → set_bytes (if b then change_first (has_ssn x.stream_sequence_number) (with_chunk x) sets else insert_before set_before (new_set x) sets) ≡ set_bytes sets + (if list_any (has_tsn x.tsn) (chunks_of_ssn x.stream_sequence_number sets) then 0 else length x.user_data)
+    at_any : (b : Bool) → list_any (has_ssn x.stream_sequence_number) sets ≡ b
+        → set_bytes (if b then change_first (has_ssn x.stream_sequence_number) (with_chunk x) sets else insert_before set_before (new_set x) sets)
+        ≡ set_bytes sets + (if list_any (has_tsn x.tsn) (chunks_of_ssn x.stream_sequence_number sets) then 0 else length x.user_data)
     at_any true e = bytes_changed x x.stream_sequence_number sets e
     at_any false e =
         let alone = sum_by-cons (λ (c : ChunkPayloadData). length c.user_data) x [] in
@@ -85,10 +118,14 @@ bytes_with x sets = at_any (list_any (has_ssn x.stream_sequence_number) sets) re
         rw (chunks_none x.stream_sequence_number sets e) (omega (arith, alone, more))
 
 -- an ordered push counts what it keeps
-pub ordered_counted : (x : ChunkPayloadData) (q : ReassemblyState) → held_bytes q.held + length x.user_data < 2 ^ 64 → IsCounted q → IsCounted (after_ordered_push x q)
-ordered_counted x q fits h = at_test (comes_before16 x.stream_sequence_number q.held.next_ssn) (list_any (has_tsn x.tsn) (chunks_of_ssn x.stream_sequence_number q.held.ordered)) (bytes_with x q.held.ordered)
+pub ordered_counted : (x : ChunkPayloadData) (q : ReassemblyState) → held_bytes q.held + length x.user_data < 2 ^ 64 → IsCounted q
+    → IsCounted (after_ordered_push x q)
+ordered_counted x q fits h = at_test (comes_before16 x.stream_sequence_number q.held.next_ssn)
+    (list_any (has_tsn x.tsn) (chunks_of_ssn x.stream_sequence_number q.held.ordered)) (bytes_with x q.held.ordered)
   where
-    at_test : (late known : Bool) → set_bytes (sets_with x q.held.ordered) ≡ set_bytes q.held.ordered + (if known then 0 else length x.user_data) → (if not late && not known then count_up q.bytes (length x.user_data) else q.bytes) ≡ held_bytes (if late then q.held else record q.held { ordered = sets_with x q.held.ordered })
+    at_test : (late known : Bool) → set_bytes (sets_with x q.held.ordered) ≡ set_bytes q.held.ordered + (if known then 0 else length x.user_data)
+        → (if not late && not known then count_up q.bytes (length x.user_data) else q.bytes)
+        ≡ held_bytes (if late then q.held else record q.held { ordered = sets_with x q.held.ordered })
     at_test true known more = h
     at_test false true more = omega (arith, h, more)
     at_test false false more = omega (arith, h, more, fits)
@@ -99,12 +136,16 @@ run_bytes [] = refl
 run_bytes (c ∷ cs) = refl
 
 -- a run between a front and a rest
-run_between : (xs : List ChunkPayloadData) (first count : ℕ) → bytes_of xs ≡ bytes_of (take first xs ++ drop (first + count) xs) + bytes_of (take count (drop first xs))
+run_between : (xs : List ChunkPayloadData) (first count : ℕ)
+    → bytes_of xs ≡ bytes_of (take first xs ++ drop (first + count) xs) + bytes_of (take count (drop first xs))
 run_between xs first count =
     let run = take count (drop first xs) in
     let rest = drop (first + count) xs in
-    let split : bytes_of xs ≡ bytes_of (take first xs) + bytes_of (drop first xs) = ap bytes_of (sym (take-append-drop first xs)) ∙ sum_by-append (λ (c : ChunkPayloadData). length c.user_data) (take first xs) (drop first xs) in
-    let split_run : bytes_of (drop first xs) ≡ bytes_of run + bytes_of rest = ap bytes_of (sym (take-append-drop count (drop first xs))) ∙ sum_by-append (λ (c : ChunkPayloadData). length c.user_data) run (drop count (drop first xs)) ∙ ap (λ ys. bytes_of run + bytes_of ys) (drop-drop count first xs) in
+    let split : bytes_of xs ≡ bytes_of (take first xs) + bytes_of (drop first xs) = ap bytes_of (sym (take-append-drop first xs))
+    ∙ sum_by-append (λ (c : ChunkPayloadData). length c.user_data) (take first xs) (drop first xs) in
+    let split_run : bytes_of (drop first xs) ≡ bytes_of run + bytes_of rest = ap bytes_of (sym (take-append-drop count (drop first xs)))
+    ∙ sum_by-append (λ (c : ChunkPayloadData). length c.user_data) run (drop count (drop first xs))
+    ∙ ap (λ ys. bytes_of run + bytes_of ys) (drop-drop count first xs) in
     let left = sum_by-append (λ (c : ChunkPayloadData). length c.user_data) (take first xs) rest in
     omega (arith, split, split_run, left)
 
@@ -112,7 +153,8 @@ run_between xs first count =
 pub taken_bytes : (xs left taken : List ChunkPayloadData) → IsRunTaken xs left taken → bytes_of xs ≡ bytes_of left + bytes_of taken
 taken_bytes xs left taken h = omega (arith, run_between xs h.first h.count, ap bytes_of h.rest, ap bytes_of h.fragments)
 
-pub whole_bytes : (xs : List ChunkPayloadData) (old new : Reassembly) (whole : Bool) → BecomesComplete xs old new whole → held_bytes new ≡ set_bytes old.ordered + set_bytes old.unordered + bytes_of xs
+pub whole_bytes : (xs : List ChunkPayloadData) (old new : Reassembly) (whole : Bool) → BecomesComplete xs old new whole
+    → held_bytes new ≡ set_bytes old.ordered + set_bytes old.unordered + bytes_of xs
 whole_bytes xs old new false h = ap held_bytes h.1
 whole_bytes xs old new true h =
     let run = take h.count (drop h.first xs) in
@@ -121,7 +163,8 @@ whole_bytes xs old new true h =
     ap held_bytes h.moved ∙ omega (arith, run_between xs h.first h.count, moved, one, run_bytes run)
 
 -- an unordered push counts its fragment
-pub unordered_counted : (x : ChunkPayloadData) (old new : ReassemblyState) (whole : Bool) → PushesUnordered x old new whole → held_bytes old.held + length x.user_data < 2 ^ 64 → IsCounted old → IsCounted new
+pub unordered_counted : (x : ChunkPayloadData) (old new : ReassemblyState) (whole : Bool) → PushesUnordered x old new whole
+    → held_bytes old.held + length x.user_data < 2 ^ 64 → IsCounted old → IsCounted new
 unordered_counted x old new whole h fits counted =
     let bytes = whole_bytes (insert_before chunk_before x old.held.unassembled) old.held new.held whole h.0 in
     let more = sum-inserted (λ (c : ChunkPayloadData). length c.user_data) chunk_before x old.held.unassembled in
@@ -132,7 +175,8 @@ pub those_stay : (p q : ChunkSet → Bool) → ((s : ChunkSet) → p s ≡ true 
 those_stay p q h [] = refl
 those_stay p q h (x ∷ xs) = at_head (p x) (q x) refl refl (those_stay p q h xs)
   where
-    at_head : (a b : Bool) → p x ≡ a → q x ≡ b → filter p (filter q xs) ≡ filter p xs → filter p (if b then x ∷ filter q xs else filter q xs) ≡ (if a then x ∷ filter p xs else filter p xs)
+    at_head : (a b : Bool) → p x ≡ a → q x ≡ b → filter p (filter q xs) ≡ filter p xs
+        → filter p (if b then x ∷ filter q xs else filter q xs) ≡ (if a then x ∷ filter p xs else filter p xs)
     at_head a true e f rec = ap (λ c. if c then x ∷ filter p (filter q xs) else filter p (filter q xs)) e ∙ ap (λ ys. if a then x ∷ ys else ys) rec
     at_head true false e f rec = absurd (true≢false (sym (h x e) ∙ f))
     at_head false false e f rec = rec
@@ -165,13 +209,16 @@ complete_not_cut false c e = absurd (true≢false (sym e))
 
 -- the complete sets stay
 pub skip_complete : (last : ℕ) (q : Reassembly) → complete_sets (held_after_ordered_skip last q) ≡ complete_sets q
-skip_complete last q = those_stay (λ s. is_complete s.chunks) (λ s. not (is_passed last s)) (λ s e. complete_not_passed (at_or_before16 s.ssn last) (is_complete s.chunks) e) q.ordered
+skip_complete last q = those_stay (λ s. is_complete s.chunks) (λ s. not (is_passed last s))
+    (λ s e. complete_not_passed (at_or_before16 s.ssn last) (is_complete s.chunks) e) q.ordered
 
 pub bounded_complete : (last t : ℕ) (q : Reassembly) → complete_sets (held_after_bounded_skip last t q) ≡ complete_sets q
-bounded_complete last t q = those_stay (λ s. is_complete s.chunks) (λ s. not (is_abandoned last t s)) (λ s e. complete_not_abandoned (at_or_before16 s.ssn last) (is_complete s.chunks) (misses t s.chunks) e) q.ordered
+bounded_complete last t q = those_stay (λ s. is_complete s.chunks) (λ s. not (is_abandoned last t s))
+    (λ s e. complete_not_abandoned (at_or_before16 s.ssn last) (is_complete s.chunks) (misses t s.chunks) e) q.ordered
 
 pub incomplete_complete : (t : ℕ) (q : Reassembly) → complete_sets (held_after_incomplete_skip t q) ≡ complete_sets q
-incomplete_complete t q = those_stay (λ s. is_complete s.chunks) (λ s. not (cannot_complete t s)) (λ s e. complete_not_cut (is_complete s.chunks) (misses t s.chunks) e) q.ordered
+incomplete_complete t q =
+    those_stay (λ s. is_complete s.chunks) (λ s. not (cannot_complete t s)) (λ s e. complete_not_cut (is_complete s.chunks) (misses t s.chunks) e) q.ordered
 
 -- where there is none, none goes and all stay
 pub none_there : (p : ChunkSet → Bool) (xs : List ChunkSet) → list_any p xs ≡ false → filter p xs ≡ []
@@ -185,7 +232,8 @@ all_stay p (x ∷ xs) h = let (a, b) = neither (p x) (list_any p xs) h in rw a (
 pub incomplete_agrees : (t : ℕ) (q : ReassemblyState) → list_any (cannot_complete t) q.held.ordered ≡ false → after_incomplete_skip t q ≡ q
 incomplete_agrees t q h =
     let kept : q.bytes - 0 ≡ q.bytes = omega arith in
-    ap₂ (λ gone stay. state_of q.si (ssn_past_sets q.held.next_ssn gone) stay q.held.unordered q.held.unassembled (q.bytes - set_bytes gone) q.max_message_size q.places)
+    ap₂ (λ gone stay.
+    state_of q.si (ssn_past_sets q.held.next_ssn gone) stay q.held.unordered q.held.unassembled (q.bytes - set_bytes gone) q.max_message_size q.places)
     (none_there (cannot_complete t) q.held.ordered h) (all_stay (cannot_complete t) q.held.ordered h)
     ∙ ap (λ bytes. record q { bytes = bytes }) kept
 

@@ -1,5 +1,6 @@
 -- The last fragment of a TSN, from both sides.
-use Rattle.std.proofs.Common.{◌≡◌, ℕ, zero, suc, ◌+◌, ◌<◌, true, false, ◌||◌, not, if◌then◌else◌, List, [], ◌∷◌, ◌++◌, length, get_or, take, drop, reverse, refl, sym, ap, subst, ◌∙◌, append_assoc, arith}
+use Rattle.std.proofs.Common.{◌≡◌, ℕ, zero, suc, ◌+◌, ◌<◌, true, false, ◌||◌, not, if◌then◌else◌, List, [], ◌∷◌, ◌++◌, length, get_or, take, drop, reverse}
+use Rattle.std.proofs.Common.{refl, sym, ap, subst, ◌∙◌, append_assoc, arith}
 use Rattle.std.specs.List.{list_any}
 use Rattle.std.proofs.Math.Bool.{or-true}
 use Rattle.std.proofs.lemmas.List.{reverse-append, take_more, append-nil}
@@ -23,13 +24,15 @@ module _ (t : ℕ) where
   on_none (x ∷ xs) h = let (a, b) = neither (has_tsn t x) (list_any (has_tsn t) xs) h in rw (b, a) refl
 
   -- the last of the TSN and what follows it
-  pub on_at : (xs : List ChunkPayloadData) (p : ℕ) (d : ChunkPayloadData) → p < length xs → has_tsn t (get_or xs p d) ≡ true → list_any (has_tsn t) (drop (suc p) xs) ≡ false → on_from t xs ≡ drop p xs
+  pub on_at : (xs : List ChunkPayloadData) (p : ℕ) (d : ChunkPayloadData) → p < length xs → has_tsn t (get_or xs p d) ≡ true
+      → list_any (has_tsn t) (drop (suc p) xs) ≡ false → on_from t xs ≡ drop p xs
   on_at [] p d lt h later = absurd (omega arith)
   on_at (x ∷ xs) zero d lt h later = rw (later, h) refl
   on_at (x ∷ xs) (suc p) d lt h later = rw (any_get xs p d (omega arith) h) (on_at xs p d (omega arith) h later)
 
   -- what has none of the TSN is passed over from the end
-  pub back_over : (zs ws : List ChunkPayloadData) → list_any (has_tsn t) zs ≡ false → after_leading (λ y. not (has_tsn t y)) (reverse zs ++ ws) ≡ after_leading (λ y. not (has_tsn t y)) ws
+  pub back_over : (zs ws : List ChunkPayloadData) → list_any (has_tsn t) zs ≡ false
+      → after_leading (λ y. not (has_tsn t y)) (reverse zs ++ ws) ≡ after_leading (λ y. not (has_tsn t y)) ws
   back_over [] ws h = refl
   back_over (z ∷ zs) ws h =
       let (a, b) = neither (has_tsn t z) (list_any (has_tsn t) zs) h in
@@ -45,7 +48,8 @@ module _ (t : ℕ) where
 pub reverse_more : (xs : List ChunkPayloadData) (p : ℕ) (d : ChunkPayloadData) → p < length xs → reverse (take (p + 1) xs) ≡ get_or xs p d ∷ reverse (take p xs)
 reverse_more xs p d lt = ap reverse (take_more xs p d lt) ∙ reverse-append (take p xs) (get_or xs p d ∷ [])
 
-pub back_at : (t : ℕ) (xs : List ChunkPayloadData) (p : ℕ) (d : ChunkPayloadData) → p < length xs → has_tsn t (get_or xs p d) ≡ true → list_any (has_tsn t) (drop (suc p) xs) ≡ false → back_from t xs ≡ reverse (take (p + 1) xs)
+pub back_at : (t : ℕ) (xs : List ChunkPayloadData) (p : ℕ) (d : ChunkPayloadData) → p < length xs → has_tsn t (get_or xs p d) ≡ true
+    → list_any (has_tsn t) (drop (suc p) xs) ≡ false → back_from t xs ≡ reverse (take (p + 1) xs)
 back_at t xs p d lt h later =
     let split = ap reverse (sym (take-append-drop (p + 1) xs)) ∙ reverse-append (take (p + 1) xs) (drop (p + 1) xs) in
     let more = reverse_more xs p d lt in

@@ -1,5 +1,6 @@
 -- Messages copied into a buffer, and taken piece by piece.
-use Rattle.std.proofs.Common.{◌≡◌, ℕ, ◌+◌, ◌-◌, ◌<◌, ◌≤◌, min, nat_le, true, false, if◌then◌else◌, List, [], ◌∷◌, ◌++◌, map, length, get_or, take, drop, Some, refl, sym, ap, ap₂, subst, ◌∙◌, append_assoc, length-take-le, length-drop, inl, inr, arith}
+use Rattle.std.proofs.Common.{◌≡◌, ℕ, ◌+◌, ◌-◌, ◌<◌, ◌≤◌, min, nat_le, true, false, if◌then◌else◌, List, [], ◌∷◌, ◌++◌, map, length, get_or, take, drop, Some}
+use Rattle.std.proofs.Common.{refl, sym, ap, ap₂, subst, ◌∙◌, append_assoc, length-take-le, length-drop, inl, inr, arith}
 use Rattle.std.specs.List.{concat}
 use Rattle.std.proofs.lemmas.Bool.{cases_lt}
 use Rattle.std.proofs.lemmas.Bool.Decides.{nat_tests}
@@ -14,24 +15,32 @@ payload-append [] ys = refl
 payload-append (x ∷ xs) ys = ap (λ zs. x.user_data ++ zs) (payload-append xs ys) ∙ sym (append_assoc x.user_data (payload_of xs) (payload_of ys))
 
 -- the bytes of one more fragment
-pub payload_more : (xs : List ChunkPayloadData) (k : ℕ) (d : ChunkPayloadData) → k < length xs → payload_of (take (k + 1) xs) ≡ payload_of (take k xs) ++ (get_or xs k d).user_data
-payload_more xs k d lt = ap payload_of (take_more xs k d lt) ∙ payload-append (take k xs) (get_or xs k d ∷ []) ∙ ap (λ ys. payload_of (take k xs) ++ ys) (append-nil (get_or xs k d).user_data)
+pub payload_more : (xs : List ChunkPayloadData) (k : ℕ) (d : ChunkPayloadData) → k < length xs
+    → payload_of (take (k + 1) xs) ≡ payload_of (take k xs) ++ (get_or xs k d).user_data
+payload_more xs k d lt = ap payload_of (take_more xs k d lt) ∙ payload-append (take k xs) (get_or xs k d ∷ [])
+    ∙ ap (λ ys. payload_of (take k xs) ++ ys) (append-nil (get_or xs k d).user_data)
 
 -- and of all others
-pub payload_split : (xs : List ChunkPayloadData) (k : ℕ) (d : ChunkPayloadData) → k < length xs → payload_of xs ≡ (payload_of (take k xs) ++ (get_or xs k d).user_data) ++ payload_of (drop (k + 1) xs)
+pub payload_split : (xs : List ChunkPayloadData) (k : ℕ) (d : ChunkPayloadData) → k < length xs
+    → payload_of xs ≡ (payload_of (take k xs) ++ (get_or xs k d).user_data) ++ payload_of (drop (k + 1) xs)
 payload_split xs k d lt =
-    ap payload_of (sym (take-append-drop (k + 1) xs)) ∙ payload-append (take (k + 1) xs) (drop (k + 1) xs) ∙ ap (λ ys. ys ++ payload_of (drop (k + 1) xs)) (payload_more xs k d lt)
+    ap payload_of (sym (take-append-drop (k + 1) xs)) ∙ payload-append (take (k + 1) xs) (drop (k + 1) xs)
+    ∙ ap (λ ys. ys ++ payload_of (drop (k + 1) xs)) (payload_more xs k d lt)
 
 -- bytes copied behind those that were
-pub filled_more : (buf start front more : List ℕ) (written : ℕ) → written ≡ length front → buf ≡ front ++ drop written start → (take written buf ++ more) ++ drop (written + length more) buf ≡ (front ++ more) ++ drop (written + length more) start
+pub filled_more : (buf start front more : List ℕ) (written : ℕ) → written ≡ length front → buf ≡ front ++ drop written start
+    → (take written buf ++ more) ++ drop (written + length more) buf ≡ (front ++ more) ++ drop (written + length more) start
 filled_more buf start front more written e h =
     let n = length more in
     let first : take written buf ≡ front = ap₂ (λ i xs. take i xs) e h ∙ take-append_seam front (drop written start) in
-    let last : drop (written + n) buf ≡ drop (written + n) start = ap₂ (λ i xs. drop (i + n) xs) e h ∙ drop-append-add front (drop written start) n ∙ drop-drop n written start in
+    let last : drop (written + n) buf ≡ drop (written + n) start = ap₂ (λ i xs. drop (i + n) xs) e h ∙ drop-append-add front (drop written start) n
+    ∙ drop-drop n written start in
     ap₂ (λ a b. (a ++ more) ++ b) first last
 
 -- the buffer is full of the beginning of all
-pub filled_short : (buf start front bytes rest all : List ℕ) (written n : ℕ) → written ≡ length front → buf ≡ front ++ drop written start → written + n ≡ length start → n ≤ length bytes → all ≡ (front ++ bytes) ++ rest → (take written buf ++ take n bytes) ++ drop (written + length (take n bytes)) buf ≡ take (length start) all
+pub filled_short : (buf start front bytes rest all : List ℕ) (written n : ℕ) → written ≡ length front → buf ≡ front ++ drop written start
+    → written + n ≡ length start → n ≤ length bytes → all ≡ (front ++ bytes) ++ rest
+    → (take written buf ++ take n bytes) ++ drop (written + length (take n bytes)) buf ≡ take (length start) all
 filled_short buf start front bytes rest all written n e h full le split =
     let len = length-take-le n bytes le in
     let over : drop (written + length (take n bytes)) start ≡ [] = drop_all (written + length (take n bytes)) start (omega arith) in
@@ -43,23 +52,28 @@ filled_short buf start front bytes rest all written n e h full le split =
     filled_more buf start front (take n bytes) written e h ∙ ap (λ xs. (front ++ take n bytes) ++ xs) over ∙ append-nil (front ++ take n bytes) ∙ sym begin
 
 -- what is left, seen from the first fragment
-pub left_head : (chunks : List ChunkPayloadData) (i o : ℕ) (d : ChunkPayloadData) → i < length chunks → left_from chunks i o ≡ drop o (get_or chunks i d).user_data ∷ left_from chunks (i + 1) 0
-left_head chunks i o d lt = ap (λ cs. cut_first o (map (λ c. c.user_data) cs)) (drop_more chunks i d lt) ∙ ap (λ xss. drop o (get_or chunks i d).user_data ∷ xss) (sym (whole (map (λ c. c.user_data) (drop (i + 1) chunks))))
+pub left_head : (chunks : List ChunkPayloadData) (i o : ℕ) (d : ChunkPayloadData) → i < length chunks
+    → left_from chunks i o ≡ drop o (get_or chunks i d).user_data ∷ left_from chunks (i + 1) 0
+left_head chunks i o d lt = ap (λ cs. cut_first o (map (λ c. c.user_data) cs)) (drop_more chunks i d lt)
+    ∙ ap (λ xss. drop o (get_or chunks i d).user_data ∷ xss) (sym (whole (map (λ c. c.user_data) (drop (i + 1) chunks))))
   where
     whole : (xss : List (List ℕ)) → cut_first 0 xss ≡ xss
     whole [] = refl
     whole (xs ∷ xss) = refl
 
 -- where a fragment is left, so is a piece
-pub piece_some : (n : ℕ) (chunks : List ChunkPayloadData) (i o : ℕ) → i < length chunks → piece_of n (left_from chunks i o) ≡ Some (take n (concat (left_from chunks i o)))
+pub piece_some : (n : ℕ) (chunks : List ChunkPayloadData) (i o : ℕ) → i < length chunks
+    → piece_of n (left_from chunks i o) ≡ Some (take n (concat (left_from chunks i o)))
 piece_some n chunks i o lt = head (drop i chunks) (subst (λ k. 0 < k) (sym (length-drop i chunks)) (omega arith))
   where
-    head : (cs : List ChunkPayloadData) → 0 < length cs → piece_of n (cut_first o (map (λ c. c.user_data) cs)) ≡ Some (take n (concat (cut_first o (map (λ c. c.user_data) cs))))
+    head : (cs : List ChunkPayloadData) → 0 < length cs
+        → piece_of n (cut_first o (map (λ c. c.user_data) cs)) ≡ Some (take n (concat (cut_first o (map (λ c. c.user_data) cs))))
     head [] h = absurd (omega arith)
     head (c ∷ cs) h = refl
 
 -- the whole rest of a fragment is a slice of it
-pub slice_rest : (bytes : List ℕ) (o start n : ℕ) → start ≡ min o (length bytes) → length bytes - start ≤ n → take (start + n - start) (drop start bytes) ≡ drop o bytes
+pub slice_rest : (bytes : List ℕ) (o start n : ℕ) → start ≡ min o (length bytes) → length bytes - start ≤ n
+    → take (start + n - start) (drop start bytes) ≡ drop o bytes
 slice_rest bytes o start n e le =
     let len = length-drop start bytes in
     take_all (start + n - start) (drop start bytes) (omega arith)
@@ -69,13 +83,16 @@ slice_rest bytes o start n e le =
     ]
 
 -- a whole fragment was taken
-pub taken_more : (taken piece first : List ℕ) (rest : List (List ℕ)) (room n : ℕ) → piece ≡ first → length first ≤ room → n ≡ length first → (taken ++ piece) ++ take (room - n) (concat rest) ≡ taken ++ take room (first ++ concat rest)
+pub taken_more : (taken piece first : List ℕ) (rest : List (List ℕ)) (room n : ℕ) → piece ≡ first → length first ≤ room → n ≡ length first
+    → (taken ++ piece) ++ take (room - n) (concat rest) ≡ taken ++ take room (first ++ concat rest)
 taken_more taken piece first rest room n e le same =
     ap (λ xs. (taken ++ xs) ++ take (room - n) (concat rest)) e
     ∙ append_assoc taken first (take (room - n) (concat rest))
-    ∙ ap (λ xs. taken ++ xs) (sym (ap (λ i. take i (first ++ concat rest)) {x = room} {y = length first + (room - n)} (omega arith) ∙ take-append-add first (concat rest) (room - n)))
+    ∙ ap (λ xs. taken ++ xs) (sym (ap (λ i. take i (first ++ concat rest)) {x = room} {y = length first + (room - n)} (omega arith)
+    ∙ take-append-add first (concat rest) (room - n)))
 
-pub left_more : (first : List ℕ) (rest : List (List ℕ)) (room n : ℕ) → length first ≤ room → n ≡ length first → left_after (room - n) rest ≡ left_after room (first ∷ rest)
+pub left_more : (first : List ℕ) (rest : List (List ℕ)) (room n : ℕ) → length first ≤ room → n ≡ length first
+    → left_after (room - n) rest ≡ left_after room (first ∷ rest)
 left_more first rest room n le same =
     let fits : nat_le (length first) room ≡ true = grind (arith, nat_tests) in
     ap (λ i. left_after (room - i) rest) same ∙ ap (λ b. if b then left_after (room - length first) rest else drop room first ∷ rest) (sym fits)
@@ -130,7 +147,8 @@ whole_payload (x ∷ xs) = ap (λ ys. x.user_data ++ ys) (joined xs)
     joined (c ∷ cs) = ap (λ ys. c.user_data ++ ys) (joined cs)
 
 -- one more is taken to its end
-pub taken_more_of : (n rest : ℕ) (chunks : List ChunkPayloadData) (i o : ℕ) (d : ChunkPayloadData) → i < length chunks → rest ≡ length (drop o (get_or chunks i d).user_data) → rest ≤ n → taken_whole n (left_from chunks i o) ≡ taken_whole (n - rest) (left_from chunks (i + 1) 0) + 1
+pub taken_more_of : (n rest : ℕ) (chunks : List ChunkPayloadData) (i o : ℕ) (d : ChunkPayloadData) → i < length chunks → rest
+    ≡ length (drop o (get_or chunks i d).user_data) → rest ≤ n → taken_whole n (left_from chunks i o) ≡ taken_whole (n - rest) (left_from chunks (i + 1) 0) + 1
 taken_more_of n rest chunks i o d lt e le =
     let fits : nat_le (length (drop o (get_or chunks i d).user_data)) n ≡ true = grind (arith, nat_tests) in
     ap (taken_whole n) (left_head chunks i o d lt)

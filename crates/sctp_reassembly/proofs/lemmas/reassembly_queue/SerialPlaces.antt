@@ -1,5 +1,6 @@
 -- Chunks in serial order: where a number goes, and when they stay so.
-use Rattle.std.proofs.Common.{◌≡◌, ◌≢◌, ℕ, zero, suc, ◌+◌, ◌-◌, ◌^◌, ◌<◌, ◌≤◌, Bool, true, false, not, IsTrue, List, [], ◌∷◌, ◌++◌, length, get_or, take, drop, get_or-drop, length-drop, length-take-le, ◌∙◌, inl, inr, refl, sym, ap, subst, arith}
+use Rattle.std.proofs.Common.{◌≡◌, ◌≢◌, ℕ, zero, suc, ◌+◌, ◌-◌, ◌^◌, ◌<◌, ◌≤◌, Bool, true, false, not, IsTrue, List, [], ◌∷◌, ◌++◌, length, get_or, take, drop}
+use Rattle.std.proofs.Common.{get_or-drop, length-drop, length-take-le, ◌∙◌, inl, inr, refl, sym, ap, subst, arith}
 use Rattle.std.specs.List.{list_any, position_or_len, insert}
 use Rattle.std.proofs.Math.ListN.{take-append-drop}
 use Rattle.std.proofs.lemmas.Bool.{cases_lt, cases_eq, false≢true}
@@ -41,7 +42,8 @@ unfolding distance
 after_one n h = omega arith
 
 -- from a first number on: what comes after the nearest and the first comes after those between
-on_front : (f x p n : ℕ) → f < 2 ^ 32 → x < 2 ^ 32 → p < 2 ^ 32 → n < 2 ^ 32 → distance f x < 2 ^ 31 → distance f p < 2 ^ 31 → IsTrue (comes_before x p) → IsTrue (comes_before p n) → IsTrue (comes_before f n) → comes_before x n ≡ true
+on_front : (f x p n : ℕ) → f < 2 ^ 32 → x < 2 ^ 32 → p < 2 ^ 32 → n < 2 ^ 32 → distance f x < 2 ^ 31 → distance f p < 2 ^ 31 → IsTrue (comes_before x p)
+    → IsTrue (comes_before p n) → IsTrue (comes_before f n) → comes_before x n ≡ true
 on_front f x p n hf hx hp hn dfx dfp xp pn fn =
     let a = before_is x p xp in
     let b = before_is p n pn in
@@ -52,7 +54,8 @@ on_front f x p n hf hx hp hn dfx dfp xp pn fn =
     comes_before_from x n (omega (arith, a)) (omega (arith, c))
 
 -- up to a last number: what comes before the nearest and the last comes before those between
-on_back : (n q x l : ℕ) → n < 2 ^ 32 → q < 2 ^ 32 → x < 2 ^ 32 → l < 2 ^ 32 → distance x l < 2 ^ 31 → distance q l < 2 ^ 31 → IsTrue (comes_before q x) → IsTrue (comes_before n q) → IsTrue (comes_before n l) → comes_before n x ≡ true
+on_back : (n q x l : ℕ) → n < 2 ^ 32 → q < 2 ^ 32 → x < 2 ^ 32 → l < 2 ^ 32 → distance x l < 2 ^ 31 → distance q l < 2 ^ 31 → IsTrue (comes_before q x)
+    → IsTrue (comes_before n q) → IsTrue (comes_before n l) → comes_before n x ≡ true
 on_back n q x l hn hq hx hl dxl dql qx nq nl =
     let a = before_is q x qx in
     let b = before_is n q nq in
@@ -63,7 +66,8 @@ on_back n q x l hn hq hx hl dxl dql qx nq nl =
     comes_before_from n x (omega (arith, b)) (omega (arith, c))
 
 -- a number that does not come before the first, but before one behind it, comes before what lies behind that one
-pub on_after : (n f a b : ℕ) → n < 2 ^ 32 → f < 2 ^ 32 → a < 2 ^ 32 → b < 2 ^ 32 → comes_before n f ≡ false → IsTrue (comes_before f a) → IsTrue (comes_before f b) → IsTrue (comes_before a b) → IsTrue (comes_before n a) → comes_before n b ≡ true
+pub on_after : (n f a b : ℕ) → n < 2 ^ 32 → f < 2 ^ 32 → a < 2 ^ 32 → b < 2 ^ 32 → comes_before n f ≡ false → IsTrue (comes_before f a)
+    → IsTrue (comes_before f b) → IsTrue (comes_before a b) → IsTrue (comes_before n a) → comes_before n b ≡ true
 on_after n f a b hn hf ha hb not_first fa fb ab na =
     let d_fa = before_is f a fa in
     let d_fb = before_is f b fb in
@@ -103,13 +107,17 @@ cut_place xs n place some cut =
 
 module _ (xs : List ChunkPayloadData) (s : IsSerial xs) (n : ℕ) (small : n < 2 ^ 32) where
   -- once the number comes before one, it comes before all behind
-  pub stepped : ((d : ChunkPayloadData) → comes_before n (get_or xs 0 d).tsn ≡ false) → (i j : ℕ) (d : ChunkPayloadData) → i < j → j < length xs → IsTrue (comes_before n (get_or xs i d).tsn) → comes_before n (get_or xs j d).tsn ≡ true
+  pub stepped : ((d : ChunkPayloadData) → comes_before n (get_or xs 0 d).tsn ≡ false) → (i j : ℕ) (d : ChunkPayloadData) → i < j → j < length xs
+      → IsTrue (comes_before n (get_or xs i d).tsn) → comes_before n (get_or xs j d).tsn ≡ true
   stepped not_first i j d lt short h = elim (cases_eq i 0) [
     | inl first ↦ absurd (false≢true (sym (not_first d) ∙ subst (λ k. IsTrue (comes_before n (get_or xs k d).tsn)) first h))
-    | inr later ↦ on_after n (get_or xs 0 d).tsn (get_or xs i d).tsn (get_or xs j d).tsn small (s.in_range 0 d (omega arith)) (s.in_range i d (omega arith)) (s.in_range j d short) (not_first d) (s.ascending 0 i d (omega arith) (omega arith)) (s.ascending 0 j d (omega arith) short) (s.ascending i j d lt short) h
+    | inr later ↦ on_after n (get_or xs 0 d).tsn (get_or xs i d).tsn (get_or xs j d).tsn small (s.in_range 0 d (omega arith)) (s.in_range i d (omega arith))
+        (s.in_range j d short) (not_first d) (s.ascending 0 i d (omega arith) (omega arith)) (s.ascending 0 j d (omega arith) short)
+        (s.ascending i j d lt short) h
   ]
 
-  module _ (not_first : (d : ChunkPayloadData) → comes_before n (get_or xs 0 d).tsn ≡ false) (low high middle : ℕ) (cut : Cut xs n low high) (chunk : ChunkPayloadData) (at_least : low ≤ middle) (beyond : middle < high) (read : chunk ≡ get_or xs middle chunk) where
+  module _ (not_first : (d : ChunkPayloadData) → comes_before n (get_or xs 0 d).tsn ≡ false) (low high middle : ℕ) (cut : Cut xs n low high)
+      (chunk : ChunkPayloadData) (at_least : low ≤ middle) (beyond : middle < high) (read : chunk ≡ get_or xs middle chunk) where
     here : (d : ChunkPayloadData) → (get_or xs middle d).tsn ≡ chunk.tsn
     here d = ap (λ (c : ChunkPayloadData). c.tsn) (get_or_default xs middle d chunk (omega (arith, cut.in_range)) ∙ sym read)
 
@@ -130,16 +138,20 @@ module _ (xs : List ChunkPayloadData) (s : IsSerial xs) (n : ℕ) (small : n < 2
       in_range = cut.in_range;
       below = λ k d lt. elim (cases_eq k middle) [
         | inl same ↦ ap (λ i. comes_before n (get_or xs i d).tsn) same ∙ ap (comes_before n) (here d) ∙ h
-        | inr apart ↦ fails (comes_before n (get_or xs k d).tsn) (λ is. false≢true (sym h ∙ sym (ap (comes_before n) (here d)) ∙ stepped not_first k middle d (omega arith) (omega (arith, cut.in_range)) is))
+        | inr apart ↦ fails (comes_before n (get_or xs k d).tsn)
+            (λ is. false≢true (sym h ∙ sym (ap (comes_before n) (here d)) ∙ stepped not_first k middle d (omega arith) (omega (arith, cut.in_range)) is))
       ];
       above = cut.above;
     }
 
   -- what does not come before both ends goes to the end
-  pub place_at_end : (first last : ChunkPayloadData) → 0 < length xs → first ≡ get_or xs 0 first → comes_before n first.tsn ≡ false → last ≡ get_or xs (length xs - 1) last → comes_before n last.tsn ≡ false → length xs ≡ position_or_len (λ e. comes_before n e.tsn) xs
+  pub place_at_end : (first last : ChunkPayloadData) → 0 < length xs → first ≡ get_or xs 0 first → comes_before n first.tsn ≡ false
+      → last ≡ get_or xs (length xs - 1) last → comes_before n last.tsn ≡ false → length xs ≡ position_or_len (λ e. comes_before n e.tsn) xs
   place_at_end first last some read_first not_first read not_last =
-      let front = λ (d : ChunkPayloadData). ap (λ (c : ChunkPayloadData). comes_before n c.tsn) (get_or_default xs 0 d first some ∙ sym read_first) ∙ not_first in
-      cut_place xs n (length xs) some (subst (λ i. Cut xs n i (length xs)) {x = length xs - 1 + 1} (omega arith) (cut_right front 0 (length xs) (length xs - 1) (cut_none xs n) last (omega arith) (omega arith) read not_last))
+      let front = λ (d : ChunkPayloadData). ap (λ (c : ChunkPayloadData). comes_before n c.tsn) (get_or_default xs 0 d first some ∙ sym read_first)
+      ∙ not_first in
+      cut_place xs n (length xs) some (subst (λ i. Cut xs n i (length xs)) {x = length xs - 1 + 1} (omega arith)
+      (cut_right front 0 (length xs) (length xs - 1) (cut_none xs n) last (omega arith) (omega arith) read not_last))
 
   -- what stands behind where the number goes lies within half a circle after it, or has it for the half
   module _ (place : ℕ) (at : place ≡ place_among n xs) where
@@ -159,10 +171,12 @@ module _ (xs : List ChunkPayloadData) (s : IsSerial xs) (n : ℕ) (small : n < 2
             let self_m = distance_self m small_m in
             let near = before_is n (get_or xs place d).tsn (there d (omega arith)) in
             elim (cases_eq k place) [
-              | inl here ↦ let e : (get_or xs place d).tsn ≡ m = subst (λ i. (get_or xs i d).tsn ≡ m) here same in let f : distance n (get_or xs place d).tsn ≡ distance n m = ap (distance n) e in absurd (omega arith)
+              | inl here ↦ let e : (get_or xs place d).tsn ≡ m = subst (λ i. (get_or xs i d).tsn ≡ m) here same in
+                  let f : distance n (get_or xs place d).tsn ≡ distance n m = ap (distance n) e in absurd (omega arith)
               | inr later ↦
                   let up = before_is (get_or xs place d).tsn (get_or xs k d).tsn (s.ascending place k d (omega arith) lt) in
-                  let e : distance (get_or xs place d).tsn (get_or xs k d).tsn ≡ distance (get_or xs place d).tsn m = ap (distance (get_or xs place d).tsn) same in
+                  let e : distance (get_or xs place d).tsn (get_or xs k d).tsn ≡ distance (get_or xs place d).tsn m =
+                  ap (distance (get_or xs place d).tsn) same in
                   let sum = distance_sum n (get_or xs place d).tsn m small (s.in_range place d (omega arith)) small_m (omega arith) in
                   absurd (omega arith)
             ]
@@ -180,7 +194,8 @@ module _ (xs : List ChunkPayloadData) (s : IsSerial xs) (n : ℕ) (small : n < 2
             | inr none ↦ same_distance n n x small small (s.in_range j d short) (omega arith)
           ]
 
-      pub absent_before : ((d : ChunkPayloadData) → 0 < place → (get_or xs (place - 1) d).tsn ≢ m) → ((d : ChunkPayloadData) → 1 < place → (get_or xs (place - 1) d).tsn ≡ n → (get_or xs (place - 2) d).tsn ≢ m) → list_any (has_tsn m) xs ≡ false
+      pub absent_before : ((d : ChunkPayloadData) → 0 < place → (get_or xs (place - 1) d).tsn ≢ m)
+          → ((d : ChunkPayloadData) → 1 < place → (get_or xs (place - 1) d).tsn ≡ n → (get_or xs (place - 2) d).tsn ≢ m) → list_any (has_tsn m) xs ≡ false
       absent_before nearest second =
           list_any_none (has_tsn m) xs (λ k d lt. fails (has_tsn m (get_or xs k d)) (λ is.
           let same : (get_or xs k d).tsn ≡ m = grind (arith, nat_tests) in
@@ -191,15 +206,18 @@ module _ (xs : List ChunkPayloadData) (s : IsSerial xs) (n : ℕ) (small : n < 2
             | inr apart ↦
                 let e = between k (k + 1) d lt same (omega arith) (omega arith) (omega arith) in
                 elim (cases_eq (k + 2) place) [
-                  | inl second_next ↦ second d (omega arith) (subst (λ i. (get_or xs i d).tsn ≡ n) {x = k + 1} (omega arith) (sym e)) (subst (λ i. (get_or xs i d).tsn ≡ m) {x = k} (omega arith) same)
+                  | inl second_next ↦ second d (omega arith) (subst (λ i. (get_or xs i d).tsn ≡ n) {x = k + 1} (omega arith) (sym e))
+                      (subst (λ i. (get_or xs i d).tsn ≡ m) {x = k} (omega arith) same)
                   | inr farther ↦
                       let f = between k (k + 2) d lt same (omega arith) (omega arith) (omega arith) in
-                      false≢true (sym (before_irrefl n small) ∙ subst (λ t. IsTrue (comes_before n t)) (sym f) (subst (λ t. IsTrue (comes_before t (get_or xs (k + 2) d).tsn)) (sym e) (s.ascending (k + 1) (k + 2) d (omega arith) (omega arith))))
+                      false≢true (sym (before_irrefl n small) ∙ subst (λ t. IsTrue (comes_before n t)) (sym f)
+                      (subst (λ t. IsTrue (comes_before t (get_or xs (k + 2) d).tsn)) (sym e) (s.ascending (k + 1) (k + 2) d (omega arith) (omega arith))))
                 ]
           ]))
 
     -- the number after it stands there
-    pub absent_after : (m : ℕ) → m < 2 ^ 32 → distance n m ≡ 1 → ((d : ChunkPayloadData) → place < length xs → (get_or xs place d).tsn ≢ m) → list_any (has_tsn m) xs ≡ false
+    pub absent_after : (m : ℕ) → m < 2 ^ 32 → distance n m ≡ 1 → ((d : ChunkPayloadData) → place < length xs → (get_or xs place d).tsn ≢ m)
+        → list_any (has_tsn m) xs ≡ false
     absent_after m small_m one other =
         list_any_none (has_tsn m) xs (λ k d lt. fails (has_tsn m (get_or xs k d)) (λ is.
         let same : (get_or xs k d).tsn ≡ m = grind (arith, nat_tests) in
@@ -225,18 +243,23 @@ module _ (xs : List ChunkPayloadData) (s : IsSerial xs) (n : ℕ) (small : n < 2
       let there : (get_or xs (suc k + j) e).tsn ≡ n = ap (λ (c : ChunkPayloadData). c.tsn) (sym (get_or-drop (suc k) xs j e)) ∙ again in
       let here_e : (get_or xs k e).tsn ≡ n = ap (λ (c : ChunkPayloadData). c.tsn) (get_or_default xs k e d lt) ∙ same in
       let up : IsTrue (comes_before (get_or xs k e).tsn (get_or xs (suc k + j) e).tsn) = s.ascending k (suc k + j) e (omega arith) (omega arith) in
-      false≢true (sym (before_irrefl n small) ∙ subst (λ t. IsTrue (comes_before t n)) here_e (subst (λ t. IsTrue (comes_before (get_or xs k e).tsn t)) there up))))
+      false≢true (sym (before_irrefl n small)
+      ∙ subst (λ t. IsTrue (comes_before t n)) here_e (subst (λ t. IsTrue (comes_before (get_or xs k e).tsn t)) there up))))
 
 -- ## What keeps the order
 
 -- a number at a place, after what is in front of it and before what is behind
-pub serial_insert_at : (xs : List ChunkPayloadData) (place : ℕ) (x : ChunkPayloadData) → place ≤ length xs → x.tsn < 2 ^ 32 → IsSerial xs → ((k : ℕ) (d : ChunkPayloadData) → k < place → IsTrue (comes_before (get_or xs k d).tsn x.tsn)) → ((k : ℕ) (d : ChunkPayloadData) → place ≤ k → k < length xs → IsTrue (comes_before x.tsn (get_or xs k d).tsn)) → IsSerial (insert xs place x)
+pub serial_insert_at : (xs : List ChunkPayloadData) (place : ℕ) (x : ChunkPayloadData) → place ≤ length xs → x.tsn < 2 ^ 32 → IsSerial xs
+    → ((k : ℕ) (d : ChunkPayloadData) → k < place → IsTrue (comes_before (get_or xs k d).tsn x.tsn))
+    → ((k : ℕ) (d : ChunkPayloadData) → place ≤ k → k < length xs → IsTrue (comes_before x.tsn (get_or xs k d).tsn)) → IsSerial (insert xs place x)
 serial_insert_at xs place x le small s before after = record {
   in_range = λ k d short. let n = length-insert xs place x le in elim (cases_lt k place) [
     | inl low ↦ subst (λ (c : ChunkPayloadData). c.tsn < 2 ^ 32) (sym (get_or-insert_below xs place x d k low le)) (s.in_range k d (omega arith))
     | inr high ↦ elim (cases_eq k place) [
-      | inl same ↦ subst (λ (c : ChunkPayloadData). c.tsn < 2 ^ 32) (sym (ap (λ i. get_or (insert xs place x) i d) same ∙ get_or-insert_at xs place x d le)) small
-      | inr apart ↦ subst (λ i. (get_or (insert xs place x) i d).tsn < 2 ^ 32) {x = k - 1 + 1} (omega arith) (subst (λ (c : ChunkPayloadData). c.tsn < 2 ^ 32) (sym (get_or-insert_above xs place x d (k - 1) (omega arith) le)) (s.in_range (k - 1) d (omega arith)))
+      | inl same ↦
+          subst (λ (c : ChunkPayloadData). c.tsn < 2 ^ 32) (sym (ap (λ i. get_or (insert xs place x) i d) same ∙ get_or-insert_at xs place x d le)) small
+      | inr apart ↦ subst (λ i. (get_or (insert xs place x) i d).tsn < 2 ^ 32) {x = k - 1 + 1} (omega arith) (subst (λ (c : ChunkPayloadData). c.tsn < 2 ^ 32)
+          (sym (get_or-insert_above xs place x d (k - 1) (omega arith) le)) (s.in_range (k - 1) d (omega arith)))
     ]
   ];
   ascending = pairs_insert (λ a b. IsTrue (comes_before a.tsn b.tsn)) xs place x le s.ascending before after;
@@ -251,13 +274,15 @@ module _ (xs : List ChunkPayloadData) (place : ℕ) (x : ChunkPayloadData) (le :
   was_behind k d lt =
       let n = length-insert xs place x le in
       subst (λ (c : ChunkPayloadData). IsTrue (comes_before c.tsn x.tsn)) (get_or-insert_below xs place x d k lt le)
-      (subst (λ (c : ChunkPayloadData). IsTrue (comes_before (get_or (insert xs place x) k d).tsn c.tsn)) (get_or-insert_at xs place x d le) (s.ascending k place d lt (omega arith)))
+      (subst (λ (c : ChunkPayloadData). IsTrue (comes_before (get_or (insert xs place x) k d).tsn c.tsn)) (get_or-insert_at xs place x d le)
+      (s.ascending k place d lt (omega arith)))
 
   pub was_ahead : (k : ℕ) (d : ChunkPayloadData) → place ≤ k → k < length xs → IsTrue (comes_before x.tsn (get_or xs k d).tsn)
   was_ahead k d ge lt =
       let n = length-insert xs place x le in
       subst (λ (c : ChunkPayloadData). IsTrue (comes_before x.tsn c.tsn)) (get_or-insert_above xs place x d k ge le)
-      (subst (λ (c : ChunkPayloadData). IsTrue (comes_before c.tsn (get_or (insert xs place x) (k + 1) d).tsn)) (get_or-insert_at xs place x d le) (s.ascending place (k + 1) d (omega arith) (omega arith)))
+      (subst (λ (c : ChunkPayloadData). IsTrue (comes_before c.tsn (get_or (insert xs place x) (k + 1) d).tsn)) (get_or-insert_at xs place x d le)
+      (s.ascending place (k + 1) d (omega arith) (omega arith)))
 
 -- a mark that goes out
 pub mark_off : (mark : Bool) (xs : List ChunkPayloadData) → mark ≡ false → (IsSerial xs → ⊥) → IsOrderMark mark xs
@@ -274,50 +299,68 @@ mark_of true xs on off = on refl
 mark_of false xs on off = off refl
 
 -- what stands in front of a number, seen from the first and the nearest
-pub all_behind : (xs : List ChunkPayloadData) → IsSerial xs → (n place : ℕ) (first nearest : ChunkPayloadData) → n < 2 ^ 32 → 0 < place → place ≤ length xs → first ≡ get_or xs 0 first → nearest ≡ get_or xs (place - 1) nearest → IsTrue (comes_before nearest.tsn n) → IsTrue (comes_before first.tsn n) → (k : ℕ) (d : ChunkPayloadData) → k < place → IsTrue (comes_before (get_or xs k d).tsn n)
+pub all_behind : (xs : List ChunkPayloadData) → IsSerial xs → (n place : ℕ) (first nearest : ChunkPayloadData) → n < 2 ^ 32 → 0 < place → place ≤ length xs
+    → first ≡ get_or xs 0 first → nearest ≡ get_or xs (place - 1) nearest → IsTrue (comes_before nearest.tsn n) → IsTrue (comes_before first.tsn n)
+    → (k : ℕ) (d : ChunkPayloadData) → k < place → IsTrue (comes_before (get_or xs k d).tsn n)
 all_behind xs s n place first nearest small some le read_first read near from_first k d lt =
-    let near_d : IsTrue (comes_before (get_or xs (place - 1) d).tsn n) = subst (λ (c : ChunkPayloadData). IsTrue (comes_before c.tsn n)) (read ∙ get_or_default xs (place - 1) nearest d (omega arith)) near in
-    let first_d : IsTrue (comes_before (get_or xs 0 d).tsn n) = subst (λ (c : ChunkPayloadData). IsTrue (comes_before c.tsn n)) (read_first ∙ get_or_default xs 0 first d (omega arith)) from_first in
+    let near_d : IsTrue (comes_before (get_or xs (place - 1) d).tsn n) = subst (λ (c : ChunkPayloadData). IsTrue (comes_before c.tsn n))
+    (read ∙ get_or_default xs (place - 1) nearest d (omega arith)) near in
+    let first_d : IsTrue (comes_before (get_or xs 0 d).tsn n) = subst (λ (c : ChunkPayloadData). IsTrue (comes_before c.tsn n))
+    (read_first ∙ get_or_default xs 0 first d (omega arith)) from_first in
     elim (cases_eq k (place - 1)) [
       | inl same ↦ subst (λ i. IsTrue (comes_before (get_or xs i d).tsn n)) (sym same) near_d
-      | inr apart ↦ on_front (get_or xs 0 d).tsn (get_or xs k d).tsn (get_or xs (place - 1) d).tsn n (s.in_range 0 d (omega arith)) (s.in_range k d (omega arith)) (s.in_range (place - 1) d (omega arith)) small
-          (near_first xs s k d (omega arith)) (near_first xs s (place - 1) d (omega arith)) (s.ascending k (place - 1) d (omega arith) (omega arith)) near_d first_d
+      | inr apart ↦ on_front (get_or xs 0 d).tsn (get_or xs k d).tsn (get_or xs (place - 1) d).tsn n (s.in_range 0 d (omega arith))
+          (s.in_range k d (omega arith)) (s.in_range (place - 1) d (omega arith)) small
+          (near_first xs s k d (omega arith)) (near_first xs s (place - 1) d (omega arith))
+          (s.ascending k (place - 1) d (omega arith) (omega arith)) near_d first_d
     ]
   where
-    near_first : (xs : List ChunkPayloadData) → IsSerial xs → (k : ℕ) (d : ChunkPayloadData) → k < length xs → distance (get_or xs 0 d).tsn (get_or xs k d).tsn < 2 ^ 31
+    near_first : (xs : List ChunkPayloadData) → IsSerial xs → (k : ℕ) (d : ChunkPayloadData) → k < length xs
+        → distance (get_or xs 0 d).tsn (get_or xs k d).tsn < 2 ^ 31
     near_first xs s k d lt = elim (cases_eq k 0) [
-      | inl zero_k ↦ subst (λ i. distance (get_or xs 0 d).tsn (get_or xs i d).tsn < 2 ^ 31) (sym zero_k) (omega (arith, distance_self (get_or xs 0 d).tsn (s.in_range 0 d (omega arith))))
+      | inl zero_k ↦ subst (λ i. distance (get_or xs 0 d).tsn (get_or xs i d).tsn < 2 ^ 31) (sym zero_k)
+          (omega (arith, distance_self (get_or xs 0 d).tsn (s.in_range 0 d (omega arith))))
       | inr later ↦ (before_is (get_or xs 0 d).tsn (get_or xs k d).tsn (s.ascending 0 k d (omega arith) lt)).1
     ]
 
 -- and what stands behind it, seen from the last and the nearest
-pub all_ahead : (xs : List ChunkPayloadData) → IsSerial xs → (n place : ℕ) (nearest last : ChunkPayloadData) → n < 2 ^ 32 → place < length xs → nearest ≡ get_or xs place nearest → last ≡ get_or xs (length xs - 1) last → IsTrue (comes_before n nearest.tsn) → IsTrue (comes_before n last.tsn) → (k : ℕ) (d : ChunkPayloadData) → place ≤ k → k < length xs → IsTrue (comes_before n (get_or xs k d).tsn)
+pub all_ahead : (xs : List ChunkPayloadData) → IsSerial xs → (n place : ℕ) (nearest last : ChunkPayloadData) → n < 2 ^ 32 → place < length xs
+    → nearest ≡ get_or xs place nearest → last ≡ get_or xs (length xs - 1) last → IsTrue (comes_before n nearest.tsn) → IsTrue (comes_before n last.tsn)
+    → (k : ℕ) (d : ChunkPayloadData) → place ≤ k → k < length xs → IsTrue (comes_before n (get_or xs k d).tsn)
 all_ahead xs s n place nearest last small within read read_last near to_last k d ge lt =
-    let near_d : IsTrue (comes_before n (get_or xs place d).tsn) = subst (λ (c : ChunkPayloadData). IsTrue (comes_before n c.tsn)) (read ∙ get_or_default xs place nearest d within) near in
-    let last_d : IsTrue (comes_before n (get_or xs (length xs - 1) d).tsn) = subst (λ (c : ChunkPayloadData). IsTrue (comes_before n c.tsn)) (read_last ∙ get_or_default xs (length xs - 1) last d (omega arith)) to_last in
+    let near_d : IsTrue (comes_before n (get_or xs place d).tsn) = subst (λ (c : ChunkPayloadData). IsTrue (comes_before n c.tsn))
+    (read ∙ get_or_default xs place nearest d within) near in
+    let last_d : IsTrue (comes_before n (get_or xs (length xs - 1) d).tsn) = subst (λ (c : ChunkPayloadData). IsTrue (comes_before n c.tsn))
+    (read_last ∙ get_or_default xs (length xs - 1) last d (omega arith)) to_last in
     elim (cases_eq k place) [
       | inl same ↦ subst (λ i. IsTrue (comes_before n (get_or xs i d).tsn)) (sym same) near_d
-      | inr apart ↦ on_back n (get_or xs place d).tsn (get_or xs k d).tsn (get_or xs (length xs - 1) d).tsn small (s.in_range place d within) (s.in_range k d lt) (s.in_range (length xs - 1) d (omega arith))
+      | inr apart ↦ on_back n (get_or xs place d).tsn (get_or xs k d).tsn (get_or xs (length xs - 1) d).tsn small (s.in_range place d within)
+          (s.in_range k d lt) (s.in_range (length xs - 1) d (omega arith))
           (near_last k d lt) (near_last place d within) (s.ascending place k d (omega arith) lt) near_d last_d
     ]
   where
     near_last : (k : ℕ) (d : ChunkPayloadData) → k < length xs → distance (get_or xs k d).tsn (get_or xs (length xs - 1) d).tsn < 2 ^ 31
     near_last k d lt = elim (cases_eq k (length xs - 1)) [
-      | inl same ↦ subst (λ i. distance (get_or xs i d).tsn (get_or xs (length xs - 1) d).tsn < 2 ^ 31) (sym same) (omega (arith, distance_self (get_or xs (length xs - 1) d).tsn (s.in_range (length xs - 1) d (omega arith))))
+      | inl same ↦ subst (λ i. distance (get_or xs i d).tsn (get_or xs (length xs - 1) d).tsn < 2 ^ 31) (sym same)
+          (omega (arith, distance_self (get_or xs (length xs - 1) d).tsn (s.in_range (length xs - 1) d (omega arith))))
       | inr earlier ↦ (before_is (get_or xs k d).tsn (get_or xs (length xs - 1) d).tsn (s.ascending k (length xs - 1) d (omega arith) (omega arith))).1
     ]
 
 -- without neighbours that are taken out
 pub serial_cut : (xs : List ChunkPayloadData) (first count : ℕ) → first + count ≤ length xs → IsSerial xs → IsSerial (take first xs ++ drop (first + count) xs)
-serial_cut xs first zero le s = subst IsSerial (sym (ap (λ i. take first xs ++ drop i xs) {x = first + 0} {y = first} (omega arith) ∙ take-append-drop first xs)) s
+serial_cut xs first zero le s =
+    subst IsSerial (sym (ap (λ i. take first xs ++ drop i xs) {x = first + 0} {y = first} (omega arith) ∙ take-append-drop first xs)) s
 serial_cut xs first (suc count) le s =
     let d = an_element xs first (omega arith) in
     let front = length-take-le first xs (omega arith) in
     let ys = drop (first + count + 1) xs in
-    let split : take first xs ++ drop (first + count) xs ≡ take first xs ++ get_or xs (first + count) d ∷ ys = ap (λ zs. take first xs ++ zs) (drop_more xs (first + count) d (omega arith)) in
+    let split : take first xs ++ drop (first + count) xs ≡ take first xs ++ get_or xs (first + count) d ∷ ys = ap (λ zs. take first xs ++ zs)
+    (drop_more xs (first + count) d (omega arith)) in
     let before = subst IsSerial split (serial_cut xs first count (omega arith) s) in
-    let out = serial_remove (take first xs ++ get_or xs (first + count) d ∷ ys) first (omega (arith, front, length-seam (take first xs) (get_or xs (first + count) d) ys)) before in
-    subst IsSerial (remove_seam (take first xs) (get_or xs (first + count) d) ys first front ∙ ap (λ i. take first xs ++ drop i xs) {x = first + count + 1} {y = first + suc count} (omega arith)) out
+    let out = serial_remove (take first xs ++ get_or xs (first + count) d ∷ ys) first
+    (omega (arith, front, length-seam (take first xs) (get_or xs (first + count) d) ys)) before in
+    subst IsSerial (remove_seam (take first xs) (get_or xs (first + count) d) ys first front
+    ∙ ap (λ i. take first xs ++ drop i xs) {x = first + count + 1} {y = first + suc count} (omega arith)) out
   where
     length-seam : (ys : List ChunkPayloadData) (a : ChunkPayloadData) (zs : List ChunkPayloadData) → length ys < length (ys ++ a ∷ zs)
     length-seam [] a zs = omega arith
@@ -333,7 +376,8 @@ pub record SerialUpto (xs : List ChunkPayloadData) (place : ℕ) : Type 0 where
 
 pub upto_one : (xs : List ChunkPayloadData) (first : ChunkPayloadData) → first.tsn < 2 ^ 32 → 0 < length xs → first ≡ get_or xs 0 first → SerialUpto xs 1
 upto_one xs first small some read = record {
-  in_range = λ k d lt. subst (λ i. (get_or xs i d).tsn < 2 ^ 32) {x = 0} (omega arith) (subst (λ (c : ChunkPayloadData). c.tsn < 2 ^ 32) (read ∙ get_or_default xs 0 first d some) small);
+  in_range = λ k d lt. subst (λ i. (get_or xs i d).tsn < 2 ^ 32) {x = 0} (omega arith)
+      (subst (λ (c : ChunkPayloadData). c.tsn < 2 ^ 32) (read ∙ get_or_default xs 0 first d some) small);
   ascending = λ i j d lt short. absurd (omega arith);
 }
 
@@ -343,17 +387,21 @@ upto_all xs place le s = record {
   ascending = λ i j d lt short. s.ascending i j d lt (omega arith);
 }
 
-module _ (xs : List ChunkPayloadData) (place f l n : ℕ) (some : 0 < place) (small : n < 2 ^ 32) (at_first : (d : ChunkPayloadData) → (get_or xs 0 d).tsn ≡ f) (at_last : (d : ChunkPayloadData) → (get_or xs (place - 1) d).tsn ≡ l) (here : (d : ChunkPayloadData) → (get_or xs place d).tsn ≡ n) (s : SerialUpto xs place) (ln : IsTrue (comes_before l n)) (fn : IsTrue (comes_before f n)) where
+module _ (xs : List ChunkPayloadData) (place f l n : ℕ) (some : 0 < place) (small : n < 2 ^ 32) (at_first : (d : ChunkPayloadData) → (get_or xs 0 d).tsn ≡ f)
+    (at_last : (d : ChunkPayloadData) → (get_or xs (place - 1) d).tsn ≡ l) (here : (d : ChunkPayloadData) → (get_or xs place d).tsn ≡ n)
+    (s : SerialUpto xs place) (ln : IsTrue (comes_before l n)) (fn : IsTrue (comes_before f n)) where
   near_first : (k : ℕ) (d : ChunkPayloadData) → k < place → distance f (get_or xs k d).tsn < 2 ^ 31
   near_first k d lt = subst (λ t. distance t (get_or xs k d).tsn < 2 ^ 31) (at_first d) (elim (cases_eq k 0) [
-    | inl zero_k ↦ subst (λ i. distance (get_or xs 0 d).tsn (get_or xs i d).tsn < 2 ^ 31) (sym zero_k) (omega (arith, distance_self (get_or xs 0 d).tsn (s.in_range 0 d some)))
+    | inl zero_k ↦ subst (λ i. distance (get_or xs 0 d).tsn (get_or xs i d).tsn < 2 ^ 31) (sym zero_k)
+        (omega (arith, distance_self (get_or xs 0 d).tsn (s.in_range 0 d some)))
     | inr later ↦ (before_is (get_or xs 0 d).tsn (get_or xs k d).tsn (s.ascending 0 k d (omega arith) lt)).1
   ])
 
   behind_all : (i : ℕ) (d : ChunkPayloadData) → i < place → IsTrue (comes_before (get_or xs i d).tsn n)
   behind_all i d lt = elim (cases_eq i (place - 1)) [
     | inl same ↦ subst (λ t. IsTrue (comes_before t n)) (sym (ap (λ k. (get_or xs k d).tsn) same ∙ at_last d)) ln
-    | inr apart ↦ on_front f (get_or xs i d).tsn l n (subst (λ t. t < 2 ^ 32) (at_first d) (s.in_range 0 d some)) (s.in_range i d lt) (subst (λ t. t < 2 ^ 32) (at_last d) (s.in_range (place - 1) d (omega arith))) small
+    | inr apart ↦ on_front f (get_or xs i d).tsn l n (subst (λ t. t < 2 ^ 32) (at_first d) (s.in_range 0 d some)) (s.in_range i d lt)
+        (subst (λ t. t < 2 ^ 32) (at_last d) (s.in_range (place - 1) d (omega arith))) small
         (near_first i d lt) (subst (λ t. distance f t < 2 ^ 31) (at_last d) (near_first (place - 1) d (omega arith)))
         (subst (λ t. IsTrue (comes_before (get_or xs i d).tsn t)) (at_last d) (s.ascending i (place - 1) d (omega arith) (omega arith))) ln fn
   ]
@@ -372,7 +420,8 @@ module _ (xs : List ChunkPayloadData) (place f l n : ℕ) (some : 0 < place) (sm
 
 -- ## What is read
 
-pub number_at : (xs : List ChunkPayloadData) (i : ℕ) (x y : ChunkPayloadData) → i < length xs → x ≡ get_or xs i x → y ≡ x → (d : ChunkPayloadData) → (get_or xs i d).tsn ≡ y.tsn
+pub number_at : (xs : List ChunkPayloadData) (i : ℕ) (x y : ChunkPayloadData) → i < length xs → x ≡ get_or xs i x → y ≡ x → (d : ChunkPayloadData)
+    → (get_or xs i d).tsn ≡ y.tsn
 number_at xs i x y lt read e d = ap (λ (c : ChunkPayloadData). c.tsn) (get_or_default xs i d x lt ∙ sym read ∙ sym e)
 
 pub read_on : (xs : List ChunkPayloadData) (i : ℕ) (x y : ChunkPayloadData) → x ≡ get_or xs i x → y ≡ x → y ≡ get_or xs i y
@@ -382,5 +431,6 @@ pub place_upto : (n : ℕ) (xs : List ChunkPayloadData) (place : ℕ) → place 
 place_upto n xs place at = subst (λ i. i ≤ length xs) (sym at) (prefix_len-le-length (λ e. not (comes_before n e.tsn)) xs)
 
 -- what is read at a place has another number
-pub other_at : (xs : List ChunkPayloadData) (i m : ℕ) (x : ChunkPayloadData) → i < length xs → x ≡ get_or xs i x → x.tsn ≢ m → (d : ChunkPayloadData) → (get_or xs i d).tsn ≢ m
+pub other_at : (xs : List ChunkPayloadData) (i m : ℕ) (x : ChunkPayloadData) → i < length xs → x ≡ get_or xs i x → x.tsn ≢ m → (d : ChunkPayloadData)
+    → (get_or xs i d).tsn ≢ m
 other_at xs i m x lt read differs d same = differs (ap (λ (c : ChunkPayloadData). c.tsn) (read ∙ get_or_default xs i x d lt) ∙ same)

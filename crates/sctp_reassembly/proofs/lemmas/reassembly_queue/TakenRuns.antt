@@ -1,5 +1,6 @@
 -- In serial order no run arises where another was taken out.
-use Rattle.std.proofs.Common.{◌≡◌, ℕ, ◌+◌, ◌-◌, ◌<◌, ◌≤◌, Bool, true, false, ◌&&◌, List, length, get_or, take, drop, remove, ◌++◌, length-append, length-drop, length-take-le, sym, ap, ◌∙◌, inl, inr, arith}
+use Rattle.std.proofs.Common.{◌≡◌, ℕ, ◌+◌, ◌-◌, ◌<◌, ◌≤◌, Bool, true, false, ◌&&◌, List, length, get_or, take, drop, remove, ◌++◌, length-append, length-drop}
+use Rattle.std.proofs.Common.{length-take-le, sym, ap, ◌∙◌, inl, inr, arith}
 use Rattle.std.proofs.lemmas.Bool.{cases_lt}
 use Rattle.std.proofs.lemmas.List.{get_or-drop, get_or-take, get_or_append_left}
 use Rattle.std.proofs.Math.Seq.{get_or-append_right}
@@ -41,7 +42,8 @@ module _ (xs : List ChunkPayloadData) (first count : ℕ) (within : first + coun
     in_range = omega arith;
     begins = λ d. ap (λ (c : ChunkPayloadData). c.beginning_fragment) (sym (low f d (omega (arith, r.some)))) ∙ r.begins d;
     no_other = λ k d lt in_run. ap (λ (c : ChunkPayloadData). c.beginning_fragment) (sym (low k d (omega arith))) ∙ r.no_other k d lt in_run;
-    rising = λ k d ge lt. ap (λ (c : ChunkPayloadData). c.tsn) (sym (low (k + 1) d (omega arith))) ∙ r.rising k d ge lt ∙ ap (λ (c : ChunkPayloadData). following_tsn c.tsn) (low k d (omega arith));
+    rising = λ k d ge lt. ap (λ (c : ChunkPayloadData). c.tsn) (sym (low (k + 1) d (omega arith))) ∙ r.rising k d ge lt
+        ∙ ap (λ (c : ChunkPayloadData). following_tsn c.tsn) (low k d (omega arith));
     ends = λ d. ap (λ (c : ChunkPayloadData). c.ending_fragment) (sym (low (f + n - 1) d (omega (arith, r.some)))) ∙ r.ends d;
   }
 
@@ -50,9 +52,13 @@ module _ (xs : List ChunkPayloadData) (first count : ℕ) (within : first + coun
     some = r.some;
     in_range = omega (arith, r.in_range, rest_long);
     begins = λ d. ap (λ (c : ChunkPayloadData). c.beginning_fragment) (sym (high (f + count) f d from (omega arith))) ∙ r.begins d;
-    no_other = λ k d lt in_run. ap (λ (c : ChunkPayloadData). c.beginning_fragment) (sym (high k (k - count) d (omega arith) (omega arith))) ∙ r.no_other (k - count) d (omega arith) (omega arith);
-    rising = λ k d ge lt. ap (λ (c : ChunkPayloadData). c.tsn) (sym (high (k + 1) (k - count + 1) d (omega arith) (omega arith))) ∙ r.rising (k - count) d (omega arith) (omega arith) ∙ ap (λ (c : ChunkPayloadData). following_tsn c.tsn) (high k (k - count) d (omega arith) (omega arith));
-    ends = λ d. ap (λ (c : ChunkPayloadData). c.ending_fragment) (sym (high (f + count + n - 1) (f + n - 1) d (omega (arith, r.some)) (omega (arith, r.some)))) ∙ r.ends d;
+    no_other = λ k d lt in_run. ap (λ (c : ChunkPayloadData). c.beginning_fragment) (sym (high k (k - count) d (omega arith) (omega arith)))
+        ∙ r.no_other (k - count) d (omega arith) (omega arith);
+    rising = λ k d ge lt. ap (λ (c : ChunkPayloadData). c.tsn) (sym (high (k + 1) (k - count + 1) d (omega arith) (omega arith)))
+        ∙ r.rising (k - count) d (omega arith) (omega arith)
+        ∙ ap (λ (c : ChunkPayloadData). following_tsn c.tsn) (high k (k - count) d (omega arith) (omega arith));
+    ends = λ d. ap (λ (c : ChunkPayloadData). c.ending_fragment) (sym (high (f + count + n - 1) (f + n - 1) d (omega (arith, r.some)) (omega (arith, r.some))))
+        ∙ r.ends d;
   }
 
   -- and none goes over it
@@ -84,7 +90,8 @@ module _ (xs : List ChunkPayloadData) (first count : ℕ) (within : first + coun
     | inr short ↦ let around = all_around xs place d (omega arith) none f n (run_low f n r short) in omega (arith, around.2)
   ]
 
-pub mark_after_take : (searched serial : Bool) (xs : List ChunkPayloadData) (place first count : ℕ) → place < length xs → IsMark searched (remove xs place) → IsOrderMark serial xs → IsRun xs first count → IsMark (searched && serial) (take first xs ++ drop (first + count) xs)
+pub mark_after_take : (searched serial : Bool) (xs : List ChunkPayloadData) (place first count : ℕ) → place < length xs → IsMark searched (remove xs place)
+    → IsOrderMark serial xs → IsRun xs first count → IsMark (searched && serial) (take first xs ++ drop (first + count) xs)
 mark_after_take true true xs place first count lt none order run =
     let d = an_element xs place lt in
     let around = all_around xs place d lt none first count run in

@@ -14,5 +14,6 @@ pub same_places : {p q : Unassembled} → p ≡ q → p.places ≡ q.places
 same_places e = ap (λ (p : Unassembled). p.places) e
 
 -- and with both they are equal
-pub same_parts : {xs ys : List ChunkPayloadData} {m n : ℕ} → xs ≡ ys → m ≡ n → (let p : Unassembled = record { chunks = xs; places = m } in p) ≡ record { chunks = ys; places = n }
+pub same_parts : {xs ys : List ChunkPayloadData} {m n : ℕ} → xs ≡ ys → m ≡ n
+    → (let p : Unassembled = record { chunks = xs; places = m } in p) ≡ record { chunks = ys; places = n }
 same_parts e f = ap₂ (λ cs k. let p : Unassembled = record { chunks = cs; places = k } in p) e f

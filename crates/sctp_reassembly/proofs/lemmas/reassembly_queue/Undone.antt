@@ -1,5 +1,6 @@
 -- What is put among sets, and taken out again.
-use Rattle.std.proofs.Common.{◌≡◌, ℕ, zero, suc, ◌-◌, ◌<◌, ◌++◌, remove, append-nil, length-append, Option, Some, None, MatchOption, List, [], ◌∷◌, map, length, get_or, set, refl, sym, ap, subst, ◌∙◌, arith}
+use Rattle.std.proofs.Common.{◌≡◌, ℕ, zero, suc, ◌-◌, ◌<◌, ◌++◌, remove, append-nil, length-append, Option, Some, None, MatchOption, List, [], ◌∷◌, map, length}
+use Rattle.std.proofs.Common.{get_or, set, refl, sym, ap, subst, ◌∙◌, arith}
 use Rattle.std.proofs.lemmas.List.{set-get_or, get_or-set_same}
 use Rattle.sctp_list_lemmas.specs.Lists.{change_at}
 use Rattle.sctp_serial.proofs.lemmas.ListEdits.{remove_seam}

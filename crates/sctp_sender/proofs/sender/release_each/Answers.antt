@@ -20,7 +20,8 @@ loop-one-preserved c =
     let is : r ≡ get_or rs i r = get_or_default rs i any_one r lt in
     let x : Released = record r { is_low = c.release-one.result } in
     record {
-      less = c.loop-one.invariant.less ∙ next-less i c.loop-one.streams rs r c.release-one.result lt is ∙ ap (λ (ls : List StreamState). after_releases (drop (i + 1) (set rs i x)) ls) (sym c.release-one.ensures.less);
+      less = c.loop-one.invariant.less ∙ next-less i c.loop-one.streams rs r c.release-one.result lt is
+          ∙ ap (λ (ls : List StreamState). after_releases (drop (i + 1) (set rs i x)) ls) (sym c.release-one.ensures.less);
       lows =
           c.loop-one.invariant.lows ∙ next-low i c.loop-one.streams rs r c.release-one.result lt is c.release-one.ensures.low
           ∙ ap (λ (ls : List StreamState). take (i + 1) (set rs i x) ++ with_lows (drop (i + 1) (set rs i x)) ls) (sym c.release-one.ensures.less);

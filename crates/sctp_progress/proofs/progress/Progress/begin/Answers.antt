@@ -44,7 +44,8 @@ invariant_of-self c =
 pub returns-clause-index : goal.returns-clause-index
 returns-clause-index c =
     let h = c.self.inside in
-    rw (← c.self.view_is) (sym (ap begun_in (found-at h.numbers h.streams.items c.self.invariant c.args.stream c.in-Some.place c.in-Some.ensures c.index.result.now c.index.ensures)))
+    rw (← c.self.view_is) (sym
+    (ap begun_in (found-at h.numbers h.streams.items c.self.invariant c.args.stream c.in-Some.place c.in-Some.ensures c.index.result.now c.index.ensures)))
 
 pub returns-clause-rest : goal.returns-clause-rest
 returns-clause-rest c =

@@ -11,11 +11,13 @@ pub invariant_of-self-in_err-arrivals : goal.invariant_of-self-in_err-arrivals
 invariant_of-self-in_err-arrivals c = c.self.invariant ∙ sym (numbers-alike c.self.inside.streams.items c.make_room.new.streams.items c.make_room.ensures.kept)
 
 pub record_complete-requires-clause-numbers : goal.record_complete-requires-clause-numbers
-record_complete-requires-clause-numbers c = c.self.invariant ∙ sym (numbers-alike c.self.inside.streams.items c.make_room.new.streams.items c.make_room.ensures.kept)
+record_complete-requires-clause-numbers c = c.self.invariant
+    ∙ sym (numbers-alike c.self.inside.streams.items c.make_room.new.streams.items c.make_room.ensures.kept)
 
 pub record_complete-requires-clause-arrivals : goal.record_complete-requires-clause-arrivals
 record_complete-requires-clause-arrivals c =
-    ap length c.deref.ensures.value ∙ answered c.args.chunks.now c.in_ok-arrivals.arrivals.items c.args.receiver.now c.data_each_with_any_ssn.new.self c.in_ok-arrivals.ensures.ok
+    ap length c.deref.ensures.value
+    ∙ answered c.args.chunks.now c.in_ok-arrivals.arrivals.items c.args.receiver.now c.data_each_with_any_ssn.new.self c.in_ok-arrivals.ensures.ok
 
 pub invariant_of-self-2 : goal.invariant_of-self-2
 invariant_of-self-2 c =

@@ -7,7 +7,8 @@ use Rattle.sctp_progress.proofs.progress.Progress.next_index.Goals as goal
 pub returns-in_default : goal.returns-in_default
 returns-in_default c =
     let h = c.self.inside in
-    rw (← c.self.view_is) (ap (option_map (λ (p : Standing). p.next)) (sym (absent-found h.numbers h.streams.items c.self.invariant c.args.stream c.in_default.ensures)))
+    rw (← c.self.view_is)
+    (ap (option_map (λ (p : Standing). p.next)) (sym (absent-found h.numbers h.streams.items c.self.invariant c.args.stream c.in_default.ensures)))
 
 pub index-requires : goal.index-requires
 index-requires c =
@@ -18,4 +19,5 @@ index-requires c =
 pub returns : goal.returns
 returns c =
     let h = c.self.inside in
-    rw (← c.self.view_is) (ap (option_map (λ (p : Standing). p.next)) (sym (found-at h.numbers h.streams.items c.self.invariant c.args.stream c.in-Some.place c.in-Some.ensures c.index.result.now c.index.ensures)))
+    rw (← c.self.view_is) (ap (option_map (λ (p : Standing). p.next))
+    (sym (found-at h.numbers h.streams.items c.self.invariant c.args.stream c.in-Some.place c.in-Some.ensures c.index.result.now c.index.ensures)))

@@ -18,5 +18,6 @@ returns c = λ d.
     let h = c.self.inside in
     let p = c.index.result.now in
     let lt : c.args.place < length (map standing_of h.streams.items) = rw (← c.self.view_is) at c.requires in
-    let at' : standing_of p ≡ slice_index_or (map standing_of h.streams.items) c.args.place (standing_of p) = ap standing_of c.index.ensures ∙ sym (mapped-at standing_of h.streams.items c.args.place p) in
+    let at' : standing_of p ≡ slice_index_or (map standing_of h.streams.items) c.args.place (standing_of p) = ap standing_of c.index.ensures
+    ∙ sym (mapped-at standing_of h.streams.items c.args.place p) in
     rw (← c.self.view_is) (ap (λ (x : Standing). x.number) (at' ∙ get_or_default (map standing_of h.streams.items) c.args.place (standing_of p) d lt))

@@ -17,4 +17,5 @@ index-requires c =
 pub returns : goal.returns
 returns c =
     let h = c.self.inside in
-    rw (← c.self.view_is) (ap ordered_in (sym (found-at h.numbers h.streams.items c.self.invariant c.args.stream c.in-Some.place c.in-Some.ensures c.index.result.now c.index.ensures)))
+    rw (← c.self.view_is) (ap ordered_in
+    (sym (found-at h.numbers h.streams.items c.self.invariant c.args.stream c.in-Some.place c.in-Some.ensures c.index.result.now c.index.ensures)))

@@ -30,7 +30,8 @@ pub invariant_of-self : goal.invariant_of-self
 invariant_of-self c =
     let h = c.self.inside in
     let p : StreamProgress = c.index_mut.result.now in
-    numbered h.numbers h.streams.items c.self.invariant c.in-Some.place p (record p { ordered = c.saturating_sub-ordered.result }) c.index_mut.ensures.value refl
+    numbered h.numbers h.streams.items c.self.invariant c.in-Some.place p
+    (record p { ordered = c.saturating_sub-ordered.result }) c.index_mut.ensures.value refl
 
 pub returns : goal.returns
 returns c =
@@ -40,7 +41,9 @@ returns c =
     let lt = place-inside h.numbers h.streams.items c.self.invariant c.args.stream c.in-Some.place c.in-Some.ensures in
     let same = same-place h.streams.items c.in-Some.place c.index.result.now p lt c.index.ensures c.index_mut.ensures.value in
     let fewer : c.saturating_sub-ordered.result ≡ (if c.args.unordered then p.ordered else p.ordered - 1) =
-    c.saturating_sub-ordered.ensures ∙ ap (λ (x : StreamProgress). x.ordered - c.one_if-less.result) same ∙ ap (λ n. p.ordered - n) c.one_if-less.ensures ∙ less c.args.unordered p.ordered in
+    c.saturating_sub-ordered.ensures ∙ ap (λ (x : StreamProgress). x.ordered - c.one_if-less.result) same ∙ ap (λ n. p.ordered - n) c.one_if-less.ensures
+    ∙ less c.args.unordered p.ordered in
     rw (← c.self.view_is)
-    (put-on h.numbers h.streams.items c.self.invariant c.args.stream c.in-Some.place c.in-Some.ensures p q c.index_mut.ensures.value (with_expiry c.args.unordered)
+    (put-on h.numbers h.streams.items c.self.invariant c.args.stream c.in-Some.place c.in-Some.ensures p q c.index_mut.ensures.value
+    (with_expiry c.args.unordered)
     (ap (λ n. let z : StreamProgress = record p { ordered = n } in standing_of z) fewer))

@@ -41,7 +41,8 @@ pub invariant_of-self : goal.invariant_of-self
 invariant_of-self c =
     let h = c.self.inside in
     let p : StreamProgress = c.index_mut.result.now in
-    numbered h.numbers h.streams.items c.self.invariant c.in-Some.place p (record p { ordered = c.index.result.now.ordered + c.one_if.result }) c.index_mut.ensures.value refl
+    numbered h.numbers h.streams.items c.self.invariant c.in-Some.place p
+    (record p { ordered = c.index.result.now.ordered + c.one_if.result }) c.index_mut.ensures.value refl
 
 pub returns : goal.returns
 returns c =
@@ -50,7 +51,8 @@ returns c =
     let q : StreamProgress = record p { ordered = c.index.result.now.ordered + c.one_if.result } in
     let lt = place-inside h.numbers h.streams.items c.self.invariant c.args.stream c.in-Some.place c.in-Some.ensures in
     let same = same-place h.streams.items c.in-Some.place c.index.result.now p lt c.index.ensures c.index_mut.ensures.value in
-    let more : c.index.result.now.ordered + c.one_if.result ≡ (if c.args.ordered then p.ordered + 1 else p.ordered) = ap (λ (x : StreamProgress). x.ordered + c.one_if.result) same ∙ one c.args.ordered p.ordered c.one_if.result c.one_if.ensures in
+    let more : c.index.result.now.ordered + c.one_if.result ≡ (if c.args.ordered then p.ordered + 1 else p.ordered) =
+    ap (λ (x : StreamProgress). x.ordered + c.one_if.result) same ∙ one c.args.ordered p.ordered c.one_if.result c.one_if.ensures in
     rw (← c.self.view_is)
     (put-on h.numbers h.streams.items c.self.invariant c.args.stream c.in-Some.place c.in-Some.ensures p q c.index_mut.ensures.value (with_write c.args.ordered)
     (ap (λ n. let z : StreamProgress = record p { ordered = n } in standing_of z) more))

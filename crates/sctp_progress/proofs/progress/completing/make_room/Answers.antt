@@ -17,6 +17,8 @@ loop-at-preserved c =
     let new = c.make_room_on.new.streams.items in
     record {
       kept = c.make_room_on.ensures.kept ∙ c.loop-at.invariant.kept;
-      room = room-next c.loop-at.at (length c.args.chunks.now) c.args.numbers.now c.args.chunks.now old new c.index-chunks-at.result c.index-chunks-at.is c.loop-at-test.true
-          (λ k. c.make_room_on.ensures.rest k (length c.args.chunks.now)) (λ k only. c.in_ok-make_room_on.ensures.room k (subst (λ (x : ChunkPayloadData). IsOnlyPlace x.stream_identifier c.args.numbers.now k) c.index-chunks-at.is only)) c.loop-at.invariant.room;
+      room = room-next c.loop-at.at
+          (length c.args.chunks.now) c.args.numbers.now c.args.chunks.now old new c.index-chunks-at.result c.index-chunks-at.is c.loop-at-test.true
+          (λ k. c.make_room_on.ensures.rest k (length c.args.chunks.now)) (λ k only. c.in_ok-make_room_on.ensures.room k
+          (subst (λ (x : ChunkPayloadData). IsOnlyPlace x.stream_identifier c.args.numbers.now k) c.index-chunks-at.is only)) c.loop-at.invariant.room;
     }

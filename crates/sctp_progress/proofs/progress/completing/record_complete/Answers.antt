@@ -15,7 +15,8 @@ record_one-requires-clause-numbers c =
     let ps = c.args.streams.now.items in
     let i = c.loop-at.at in
     c.requires.numbers ∙ numbers-shown ps
-    ∙ sym (numbers-shown c.loop-at.streams.items ∙ ap numbers_of c.loop-at.invariant.complete ∙ each-numbers (take i c.args.chunks.now) c.args.messages.now (take i c.args.arrivals.now) (map standing_of ps))
+    ∙ sym (numbers-shown c.loop-at.streams.items ∙ ap numbers_of c.loop-at.invariant.complete
+    ∙ each-numbers (take i c.args.chunks.now) c.args.messages.now (take i c.args.arrivals.now) (map standing_of ps))
 
 pub loop-at-preserved : goal.loop-at-preserved
 loop-at-preserved c =
@@ -47,7 +48,9 @@ loop-at-preserved c =
 pub returns : goal.returns
 returns c =
     let chunks : take c.loop-at.at c.args.chunks.now ≡ c.args.chunks.now = take_all c.loop-at.at c.args.chunks.now (omega (arith, c.loop-at-test.false)) in
-    let answers : take c.loop-at.at c.args.arrivals.now ≡ c.args.arrivals.now = take_all c.loop-at.at c.args.arrivals.now (omega (arith, c.loop-at-test.false, c.requires.arrivals)) in
+    let answers : take c.loop-at.at c.args.arrivals.now ≡ c.args.arrivals.now =
+    take_all c.loop-at.at c.args.arrivals.now (omega (arith, c.loop-at-test.false, c.requires.arrivals)) in
     let ps = map standing_of c.args.streams.now.items in
     c.loop-at.invariant.complete
-    ∙ ap (λ xs. after_each xs c.args.messages.now (take c.loop-at.at c.args.arrivals.now) ps) chunks ∙ ap (λ xs. after_each c.args.chunks.now c.args.messages.now xs ps) answers
+    ∙ ap (λ xs. after_each xs c.args.messages.now (take c.loop-at.at c.args.arrivals.now) ps) chunks
+    ∙ ap (λ xs. after_each c.args.chunks.now c.args.messages.now xs ps) answers

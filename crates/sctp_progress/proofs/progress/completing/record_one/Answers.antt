@@ -17,7 +17,10 @@ returns-in_default-clause-complete c =
 
 pub index_mut-requires : goal.index_mut-requires
 index_mut-requires c =
-    omega (arith, place-inside c.args.numbers.now c.args.streams.now.items c.requires.numbers c.args.chunk.now.stream_identifier c.in-Some.place c.in-Some.ensures)
+    omega (
+      arith,
+      place-inside c.args.numbers.now c.args.streams.now.items c.requires.numbers c.args.chunk.now.stream_identifier c.in-Some.place c.in-Some.ensures,
+    )
 
 pub push_back_reserved-requires : goal.push_back_reserved-requires
 push_back_reserved-requires c =
@@ -27,7 +30,8 @@ push_back_reserved-requires c =
 pub returns-then-completes-clause-rest : goal.returns-then-completes-clause-rest
 returns-then-completes-clause-rest c = λ k n h.
     let p = c.index_mut.result.now in
-    room-put c.in-Some.place p (record p { complete = c.push_back_reserved.new.self }) c.args.streams.now.items k (n + 1) n c.index_mut.ensures.value (omega arith)
+    room-put c.in-Some.place p (record p { complete = c.push_back_reserved.new.self }) c.args.streams.now.items k (n + 1) n c.index_mut.ensures.value
+    (omega arith)
     (λ room. omega (arith, room, c.push_back_reserved.ensures.len, c.push_back_reserved.ensures.capacity)) h
 
 pub returns-then-completes-clause-complete : goal.returns-then-completes-clause-complete
@@ -35,7 +39,8 @@ returns-then-completes-clause-complete c =
     let p = c.index_mut.result.now in
     let q : StreamProgress = record p { complete = c.push_back_reserved.new.self } in
     let ps = c.args.streams.now.items in
-    put-on c.args.numbers.now ps c.requires.numbers c.args.chunk.now.stream_identifier c.in-Some.place c.in-Some.ensures p q c.index_mut.ensures.value (with_complete c.args.message)
+    put-on c.args.numbers.now ps c.requires.numbers c.args.chunk.now.stream_identifier c.in-Some.place c.in-Some.ensures p q c.index_mut.ensures.value
+    (with_complete c.args.message)
     (ap (λ ws. let x : Standing = record (standing_of p) { complete = ws } in x) c.push_back_reserved.ensures.items)
     ∙ sym (one-complete c.args.chunk.now c.args.message c.args.arrival (map standing_of ps) (sym c.completes.ensures ∙ c.if-completes.true))
 
@@ -43,4 +48,5 @@ pub returns-else-completes-clause-rest : goal.returns-else-completes-clause-rest
 returns-else-completes-clause-rest c = λ k n h p lt e. omega (arith, h p lt e)
 
 pub returns-else-completes-clause-complete : goal.returns-else-completes-clause-complete
-returns-else-completes-clause-complete c = sym (one-more c.args.chunk.now c.args.message c.args.arrival (map standing_of c.args.streams.now.items) (sym c.completes.ensures ∙ c.if-completes.false))
+returns-else-completes-clause-complete c =
+    sym (one-more c.args.chunk.now c.args.message c.args.arrival (map standing_of c.args.streams.now.items) (sym c.completes.ensures ∙ c.if-completes.false))

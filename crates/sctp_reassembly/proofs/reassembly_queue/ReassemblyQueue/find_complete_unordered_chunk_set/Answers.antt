@@ -14,12 +14,16 @@ pub returns-in_default-clause-ok : goal.returns-in_default-clause-ok
 returns-in_default-clause-ok c =
     let q = c.self.inside in
     let h = rw c.in_default.is at c.in_ok-chunks.ensures.ok in
-    rw (← c.self.view_is) (subst HasNoRun (same_list h.1) h.0, ap (λ (p : Unassembled). state_of q.si q.next_ssn q.ordered q.unordered.items p.chunks q.n_bytes q.max_message_size p.places) h.1)
+    rw (← c.self.view_is) (
+      subst HasNoRun (same_list h.1) h.0,
+      ap (λ (p : Unassembled). state_of q.si q.next_ssn q.ordered q.unordered.items p.chunks q.n_bytes q.max_message_size p.places) h.1,
+    )
 
 pub returns-clause-counted : goal.returns-clause-counted
 returns-clause-counted c counted =
     let taken = rw c.in-Some.is at c.in_ok-chunks.ensures.ok in
     let bytes = taken_bytes c.self.inside.unordered_chunks.chunks c.take_run.new.self.chunks c.in-Some.chunks.items taken.0 in
     let old = subst IsCounted (sym c.self.view_is) counted in
-    let given = ap (λ (x : Chunks). bytes_of x.set.chunks) c.of.ensures ∙ ap (λ (s : ChunkSet). bytes_of s.chunks) c.set_of_run.ensures ∙ run_bytes c.in-Some.chunks.items in
+    let given = ap (λ (x : Chunks). bytes_of x.set.chunks) c.of.ensures ∙ ap (λ (s : ChunkSet). bytes_of s.chunks) c.set_of_run.ensures
+    ∙ run_bytes c.in-Some.chunks.items in
     omega (arith, old, bytes, given)

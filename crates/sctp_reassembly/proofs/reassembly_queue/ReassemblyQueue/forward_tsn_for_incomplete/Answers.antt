@@ -12,13 +12,16 @@ returns-clause-value c =
     let t = c.args.new_cumulative_tsn in
     let n = set_bytes (filter (cannot_complete t) q.ordered) in
     rw (← c.self.view_is) (c.release.ensures n c.discard-gone.ensures.bytes
-    ∙ ap₂ (λ next sets. state_of q.si next sets q.unordered.items q.unordered_chunks.chunks (q.n_bytes - n) q.max_message_size q.unordered_chunks.places) (c.ssn_past_sets-self-inside.ensures ∙ ap (λ sets. ssn_past_sets q.next_ssn (filter (cannot_complete t) sets)) c.as_deque.ensures) c.discard-gone.ensures.rest)
+    ∙ ap₂ (λ next sets. state_of q.si next sets q.unordered.items q.unordered_chunks.chunks (q.n_bytes - n) q.max_message_size q.unordered_chunks.places)
+    (c.ssn_past_sets-self-inside.ensures
+    ∙ ap (λ sets. ssn_past_sets q.next_ssn (filter (cannot_complete t) sets)) c.as_deque.ensures) c.discard-gone.ensures.rest)
 
 pub returns-clause-counted : goal.returns-clause-counted
 returns-clause-counted c h = subst IsCounted (sym (returns-clause-value c)) (incomplete_counted c.args.new_cumulative_tsn c.args.self.now h)
 
 pub returns-clause-complete : goal.returns-clause-complete
-returns-clause-complete c = ap (λ (q : ReassemblyState). complete_sets q.held) (returns-clause-value c) ∙ incomplete_complete c.args.new_cumulative_tsn c.args.self.now.held
+returns-clause-complete c = ap (λ (q : ReassemblyState). complete_sets q.held) (returns-clause-value c)
+    ∙ incomplete_complete c.args.new_cumulative_tsn c.args.self.now.held
 
 pub returns-clause-agrees : goal.returns-clause-agrees
 returns-clause-agrees c h = returns-clause-value c ∙ incomplete_agrees c.args.new_cumulative_tsn c.args.self.now h

@@ -11,7 +11,8 @@ returns-clause-value c =
     let q = c.self.inside in
     let n = set_bytes (filter (is_passed c.args.last_ssn) q.ordered) in
     rw (← c.self.view_is) (c.release.ensures n c.discard-gone.ensures.bytes
-    ∙ ap₂ (λ next sets. state_of q.si next sets q.unordered.items q.unordered_chunks.chunks (q.n_bytes - n) q.max_message_size q.unordered_chunks.places) c.ssn_past-self-inside.ensures c.discard-gone.ensures.rest)
+    ∙ ap₂ (λ next sets. state_of q.si next sets q.unordered.items q.unordered_chunks.chunks (q.n_bytes - n) q.max_message_size q.unordered_chunks.places)
+    c.ssn_past-self-inside.ensures c.discard-gone.ensures.rest)
 
 pub returns-clause-counted : goal.returns-clause-counted
 returns-clause-counted c h = subst IsCounted (sym (returns-clause-value c)) (skip_counted c.args.last_ssn c.args.self.now h)

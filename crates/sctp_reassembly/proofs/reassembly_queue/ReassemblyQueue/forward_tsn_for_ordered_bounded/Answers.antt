@@ -13,10 +13,13 @@ returns-clause-value c =
     let q = c.self.inside in
     let n = set_bytes (filter (is_abandoned c.args.last_ssn c.args.new_cumulative_tsn) q.ordered) in
     rw (← c.self.view_is) (c.release.ensures n c.discard-gone.ensures.bytes
-    ∙ ap₂ (λ next sets. state_of q.si next sets q.unordered.items q.unordered_chunks.chunks (q.n_bytes - n) q.max_message_size q.unordered_chunks.places) (c.ssn_upto-self-inside.ensures ∙ ap (λ g. if comes_before16 q.next_ssn g then g else q.next_ssn) (c.goal-goal.ensures ∙ ap (goal_of c.args.last_ssn c.args.new_cumulative_tsn) c.as_deque.ensures)) c.discard-gone.ensures.rest)
+    ∙ ap₂ (λ next sets. state_of q.si next sets q.unordered.items q.unordered_chunks.chunks (q.n_bytes - n) q.max_message_size q.unordered_chunks.places)
+    (c.ssn_upto-self-inside.ensures ∙ ap (λ g. if comes_before16 q.next_ssn g then g else q.next_ssn) (c.goal-goal.ensures
+    ∙ ap (goal_of c.args.last_ssn c.args.new_cumulative_tsn) c.as_deque.ensures)) c.discard-gone.ensures.rest)
 
 pub returns-clause-counted : goal.returns-clause-counted
 returns-clause-counted c h = subst IsCounted (sym (returns-clause-value c)) (bounded_counted c.args.last_ssn c.args.new_cumulative_tsn c.args.self.now h)
 
 pub returns-clause-complete : goal.returns-clause-complete
-returns-clause-complete c = ap (λ (q : ReassemblyState). complete_sets q.held) (returns-clause-value c) ∙ bounded_complete c.args.last_ssn c.args.new_cumulative_tsn c.args.self.now.held
+returns-clause-complete c = ap (λ (q : ReassemblyState). complete_sets q.held) (returns-clause-value c)
+    ∙ bounded_complete c.args.last_ssn c.args.new_cumulative_tsn c.args.self.now.held

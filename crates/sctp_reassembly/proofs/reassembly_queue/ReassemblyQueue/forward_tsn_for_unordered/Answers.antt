@@ -16,13 +16,16 @@ returns-clause-value c =
     let t = c.args.new_cumulative_tsn in
     let xs = q.unordered_chunks.chunks in
     let k = c.front_upto-count.result in
-    let at : k ≡ position_or_len (λ x. not (at_or_before x.tsn t)) xs = c.front_upto-count.ensures.place ∙ ap (position_or_len (λ x. not (at_or_before x.tsn t))) (same_list c.unassembled-unassembled.ensures) in
-    let left : c.drop_front.new.self.chunks ≡ after_leading (λ x. at_or_before x.tsn t) xs = same_list c.drop_front.ensures ∙ ap (λ i. drop i xs) at ∙ sym (after_leading-position (λ x. at_or_before x.tsn t) xs) in
+    let at : k ≡ position_or_len (λ x. not (at_or_before x.tsn t)) xs = c.front_upto-count.ensures.place
+    ∙ ap (position_or_len (λ x. not (at_or_before x.tsn t))) (same_list c.unassembled-unassembled.ensures) in
+    let left : c.drop_front.new.self.chunks ≡ after_leading (λ x. at_or_before x.tsn t) xs = same_list c.drop_front.ensures ∙ ap (λ i. drop i xs) at
+    ∙ sym (after_leading-position (λ x. at_or_before x.tsn t) xs) in
     let gone = ap (λ i. take i xs) at ∙ leading_upto-position t xs in
     let counted = rw c.unassembled-unassembled.ensures at c.bytes_of_front-gone.ensures in
     rw (← c.self.view_is) (c.release.ensures (bytes_of (take k xs)) counted
-    ∙ ap (λ ds. state_of q.si q.next_ssn q.ordered q.unordered.items c.drop_front.new.self.chunks (q.n_bytes - bytes_of ds) q.max_message_size c.drop_front.new.self.places) gone
-    ∙ ap₂ (λ ls n. state_of q.si q.next_ssn q.ordered q.unordered.items ls (q.n_bytes - bytes_of (leading_upto t xs)) q.max_message_size n) left (same_places c.drop_front.ensures))
+    ∙ ap (λ ds. state_of q.si q.next_ssn q.ordered q.unordered.items c.drop_front.new.self.chunks
+    (q.n_bytes - bytes_of ds) q.max_message_size c.drop_front.new.self.places) gone ∙ ap₂ (λ ls n. state_of q.si q.next_ssn q.ordered q.unordered.items ls
+    (q.n_bytes - bytes_of (leading_upto t xs)) q.max_message_size n) left (same_places c.drop_front.ensures))
 
 pub returns-clause-counted : goal.returns-clause-counted
 returns-clause-counted c h = subst IsCounted (sym (returns-clause-value c)) (drop_counted c.args.new_cumulative_tsn c.args.self.now h)

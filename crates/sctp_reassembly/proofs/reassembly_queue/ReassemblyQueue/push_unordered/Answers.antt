@@ -17,9 +17,11 @@ returns-in-None-clause-ok c =
     rw (← c.self.view_is) (
       (
         subst HasNoRun h.1 h.0,
-        ap₂ (λ us ls. let r : Reassembly = record { next_ssn = q.next_ssn; ordered = q.ordered; unordered = us; unassembled = ls } in r) c.in_ok-reserve.ensures.items h.1,
+        ap₂ (λ us ls. let r : Reassembly = record { next_ssn = q.next_ssn; ordered = q.ordered; unordered = us; unassembled = ls } in
+            r) c.in_ok-reserve.ensures.items h.1,
       ),
-      ap₂ (λ b n. state_of q.si q.next_ssn q.ordered c.reserve.new.self.items c.put_undoable.new.self.chunks b q.max_message_size n) counted c.in_ok-run.ensures.places,
+      ap₂ (λ b n.
+          state_of q.si q.next_ssn q.ordered c.reserve.new.self.items c.put_undoable.new.self.chunks b q.max_message_size n) counted c.in_ok-run.ensures.places,
     )
 
 pub returns-in-Some-clause-ok : goal.returns-in-Some-clause-ok
@@ -36,7 +38,8 @@ returns-in-Some-clause-ok c =
         run = h.run;
         moved = ap₂ (λ us ls. let r : Reassembly = record { next_ssn = q.next_ssn; ordered = q.ordered; unordered = us; unassembled = ls } in r) more h.rest;
       },
-      ap₂ (λ b n. state_of q.si q.next_ssn q.ordered c.push_back_reserved.new.self.items c.put_undoable.new.self.chunks b q.max_message_size n) counted c.in_ok-run.ensures.places,
+      ap₂ (λ b n. state_of q.si q.next_ssn q.ordered c.push_back_reserved.new.self.items c.put_undoable.new.self.chunks b q.max_message_size n) counted
+          c.in_ok-run.ensures.places,
     )
 
 -- a message has the fragments of its run

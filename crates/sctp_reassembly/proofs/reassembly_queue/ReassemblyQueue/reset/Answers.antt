@@ -11,7 +11,8 @@ pub returns-in_err-reserve-clause-no_memory : goal.returns-in_err-reserve-clause
 returns-in_err-reserve-clause-no_memory c = λ none.
     let p = is_old_message c.args.last_tsn in
     let here = rw (← c.self.view_is) at none in
-    let count : c.old_messages-count.result ≡ 0 = c.old_messages-count.ensures ∙ ap (λ xs. length (filter p xs)) c.as_deque.ensures ∙ ap length (none_there p c.self.inside.ordered here) in
+    let count : c.old_messages-count.result ≡ 0 = c.old_messages-count.ensures ∙ ap (λ xs. length (filter p xs)) c.as_deque.ensures
+    ∙ ap length (none_there p c.self.inside.ordered here) in
     let bad = c.in_err-reserve.ensures.none count in
     search rules
 
@@ -21,7 +22,8 @@ returns-clause-ok c =
     let last = c.args.last_tsn in
     let n = dropped_bytes last q.ordered in
     rw (← c.self.view_is) (c.release.ensures n c.end_use-gone.ensures.bytes
-    ∙ ap₂ (λ ord unord. state_of q.si 0 ord unord q.unordered_chunks.chunks (q.n_bytes - n) q.max_message_size q.unordered_chunks.places) c.end_use-gone.ensures.rest (c.end_use-gone.ensures.moved ∙ ap (λ us. us ++ filter (is_old_message last) q.ordered) c.in_ok-reserve.ensures.items))
+    ∙ ap₂ (λ ord unord. state_of q.si 0 ord unord q.unordered_chunks.chunks (q.n_bytes - n) q.max_message_size q.unordered_chunks.places)
+    c.end_use-gone.ensures.rest (c.end_use-gone.ensures.moved ∙ ap (λ us. us ++ filter (is_old_message last) q.ordered) c.in_ok-reserve.ensures.items))
 
 pub returns-clause-counted : goal.returns-clause-counted
 returns-clause-counted c h = subst IsCounted (sym (returns-clause-ok c)) (reset_counted c.args.last_tsn c.args.self.now h)

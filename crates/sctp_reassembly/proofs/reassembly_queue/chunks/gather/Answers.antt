@@ -24,7 +24,9 @@ loop-index-preserved c =
     let same : n ≡ length first = omega (arith, c.min-n.ensures, c.min-start.ensures) in
     let fits' : n ≤ room = omega arith in
     record {
-      bytes = ap (λ xs. xs ++ take (room - n) (concat rest)) c.in_ok-extend_from_slice.ensures.ok ∙ taken_more c.loop-index.buf.items _ first rest room n piece fits same ∙ ap (λ xss. c.loop-index.buf.items ++ take room (concat xss)) (sym head) ∙ c.loop-index.invariant.bytes;
+      bytes = ap (λ xs. xs ++ take (room - n) (concat rest)) c.in_ok-extend_from_slice.ensures.ok
+          ∙ taken_more c.loop-index.buf.items _ first rest room n piece fits same ∙ ap (λ xss. c.loop-index.buf.items ++ take room (concat xss)) (sym head)
+          ∙ c.loop-index.invariant.bytes;
       left = left_more first rest room n fits same ∙ ap (left_after room) (sym head) ∙ c.loop-index.invariant.left;
       not_back = omega (arith, c.loop-index.invariant.not_back, c.look.ensures.turn);
       cost_left = omega (arith, c.loop-index.invariant.cost_left, c.look.ensures.turn, taken_more_of room n chunks i o x (omega arith) same fits');

@@ -8,7 +8,8 @@ invariant-loop-index l = record {
   bytes : l.buf.items ++ take l.room (concat (left_from l.chunks l.index l.offset)) ≡ take l.max_length (concat (left_from l.chunks l.fn.index l.fn.offset));
   left : left_after l.room (left_from l.chunks l.index l.offset) ≡ left_after l.max_length (left_from l.chunks l.fn.index l.fn.offset);
   not_back : l.initial.turns ≤ l.turns;
-  cost_left : l.turns + taken_whole l.room (left_from l.chunks l.index l.offset) ≤ l.initial.turns + taken_whole l.max_length (left_from l.chunks l.fn.index l.fn.offset);
+  cost_left : l.turns + taken_whole l.room (left_from l.chunks l.index l.offset)
+      ≤ l.initial.turns + taken_whole l.max_length (left_from l.chunks l.fn.index l.fn.offset);
 }
 
 abbrev pub decreases-loop-index : goal.decreases-loop-index

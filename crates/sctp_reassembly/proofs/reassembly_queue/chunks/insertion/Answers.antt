@@ -5,7 +5,8 @@ use Rattle.std.proofs.lemmas.List.{get_or_default}
 use Rattle.sctp_data.specs.declared.chunk.chunk_payload_data.ChunkPayloadData.{ChunkPayloadData}
 use Rattle.sctp_list_lemmas.specs.Serial.{distance, comes_before}
 use Rattle.sctp_serial.specs.DataChunks.{has_tsn, chunk_before}
-use Rattle.sctp_serial.proofs.lemmas.AscendingEdits.{before_half, first_small, sorted, place_from_split, place_positive, order_on, insertion_between, insertion_in_front}
+use Rattle.sctp_serial.proofs.lemmas.AscendingEdits.{before_half, first_small, sorted, place_from_split, place_positive, order_on, insertion_between}
+use Rattle.sctp_serial.proofs.lemmas.AscendingEdits.{insertion_in_front}
 use Rattle.sctp_reassembly.proofs.reassembly_queue.chunks.insertion.Goals as goal
 
 pub returns-then-far-2-clause-free : goal.returns-then-far-2-clause-free
@@ -20,10 +21,12 @@ returns-then-far-2-clause-free c =
     let first = c.tsn_of-first.result in
     let is_first = λ (d : ChunkPayloadData). ap num (get_or_default xs 0 d x some ∙ sym c.index-chunks-0.is) ∙ sym c.tsn_of-first.ensures.value in
     let small = first_small num xs s first is_first some in
-    insertion_in_front (has_tsn n) num chunk_before n c.ranges.tsn.fits (λ y. refl) (λ y e same lt. ap (λ t. comes_before t e.tsn) same) xs s first is_first some _ last c.index-chunks-len.is
+    insertion_in_front (has_tsn n) num chunk_before n c.ranges.tsn.fits (λ y. refl)
+    (λ y e same lt. ap (λ t. comes_before t e.tsn) same) xs s first is_first some _ last c.index-chunks-len.is
     (before_half first n small c.ranges.tsn.fits (omega (arith, c.distance-far.ensures.value, c.if-far-2.true)))
     (λ on.
-    let end : distance n (slice_index_or xs (length xs - 1) last).tsn ≡ distance n last.tsn = ap (λ (y : ChunkPayloadData). distance n y.tsn) (sym c.index-chunks-len.is) in
+    let end : distance n (slice_index_or xs (length xs - 1) last).tsn ≡ distance n last.tsn = ap (λ (y : ChunkPayloadData). distance n y.tsn)
+    (sym c.index-chunks-len.is) in
     grind (arith, nat_tests, c.distance.ensures.value, c.tsn_of.ensures.value))
 
 pub place_within-place-requires : goal.place_within-place-requires
@@ -46,7 +49,8 @@ overflow_sub-place c =
     let s = order_on num c.args.ascending xs c.if-not-ascending.false c.requires in
     let first = c.tsn_of-first.result in
     let is_first = λ (d : ChunkPayloadData). ap num (get_or_default xs 0 d x some ∙ sym c.index-chunks-0.is) ∙ sym c.tsn_of-first.ensures.value in
-    let split = subst (λ far. IsPartitionPoint (λ (y : ChunkPayloadData). distance first y.tsn ≤ far) (λ (y : ChunkPayloadData). far < distance first y.tsn) xs place) c.distance-far.ensures.value c.place_within-place.ensures.split in
+    let split = subst (λ far. IsPartitionPoint (λ (y : ChunkPayloadData). distance first y.tsn ≤ far)
+    (λ (y : ChunkPayloadData). far < distance first y.tsn) xs place) c.distance-far.ensures.value c.place_within-place.ensures.split in
     place_positive num xs s first is_first some n place (place_from_split num xs s first is_first some n place c.place_within-place.ensures.in_range split)
 
 pub returns-clause-free : goal.returns-clause-free
@@ -60,10 +64,11 @@ returns-clause-free c =
     let s = order_on num c.args.ascending xs c.if-not-ascending.false c.requires in
     let first = c.tsn_of-first.result in
     let is_first = λ (d : ChunkPayloadData). ap num (get_or_default xs 0 d x some ∙ sym c.index-chunks-0.is) ∙ sym c.tsn_of-first.ensures.value in
-    let split = subst (λ far. IsPartitionPoint (λ (y : ChunkPayloadData). distance first y.tsn ≤ far) (λ (y : ChunkPayloadData). far < distance first y.tsn) xs place) c.distance-far.ensures.value c.place_within-place.ensures.split in
+    let split = subst (λ far. IsPartitionPoint (λ (y : ChunkPayloadData). distance first y.tsn ≤ far)
+    (λ (y : ChunkPayloadData). far < distance first y.tsn) xs place) c.distance-far.ensures.value c.place_within-place.ensures.split in
     let near : distance first n < 2 ^ 31 = omega (arith, c.distance-far.ensures.value, c.if-far.false, c.if-far-2.false) in
-    insertion_between (has_tsn n) num chunk_before n c.ranges.tsn.fits (λ y. refl) (λ y e same lt. ap (λ t. comes_before t e.tsn) same) xs s first is_first some place near
+    insertion_between (has_tsn n) num chunk_before n c.ranges.tsn.fits (λ y. refl)
+    (λ y e same lt. ap (λ t. comes_before t e.tsn) same) xs s first is_first some place near
     (place_from_split num xs s first is_first some n place c.place_within-place.ensures.in_range split)
-    (λ d pos e.
-    let there = get_or_default xs (place - 1) c.index-chunks-place.result d (omega (arith, c.place_within-place.ensures.in_range)) in
-    c.if-deref-tsn.false (ap num (c.deref.ensures ∙ c.index-chunks-place.is ∙ there) ∙ e))
+    (λ d pos e. c.if-deref-tsn.false (ap num (c.deref.ensures ∙ c.index-chunks-place.is)
+    ∙ ap num (get_or_default xs (place - 1) c.index-chunks-place.result d (omega (arith, c.place_within-place.ensures.in_range))) ∙ e))

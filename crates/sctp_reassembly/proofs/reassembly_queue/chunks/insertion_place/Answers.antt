@@ -8,4 +8,5 @@ use Rattle.sctp_reassembly.proofs.reassembly_queue.chunks.insertion_place.Goals 
 pub returns-clause-inserted : goal.returns-clause-inserted
 returns-clause-inserted c x e =
     let xs = c.args.chunks.now in
-    ap (λ i. insert xs i x) (c.first_after.ensures.place ∙ ap (λ t. position_or_len (λ y. comes_before t y.tsn) xs) (sym e)) ∙ sym (inserted-position chunk_before x xs)
+    ap (λ i. insert xs i x) (c.first_after.ensures.place ∙ ap (λ t. position_or_len (λ y. comes_before t y.tsn) xs) (sym e))
+    ∙ sym (inserted-position chunk_before x xs)

@@ -22,10 +22,8 @@ returns-clause-no c h =
     c.chunk-last.ensures ∙ c.index-chunks-len.is ∙ get_or_default xs (length xs - 1) _ last (omega arith) in
     let small : (get_or xs 0 last).tsn < 2 ^ 32 = subst (λ (x : ChunkPayloadData). x.tsn < 2 ^ 32) begin c.tsn_after.ensures.fits in
     not_apart last xs small (λ e.
-    let same : last.tsn ≡ c.tsn_after.result =
-    ap (λ (x : ChunkPayloadData). x.tsn) end ∙ e
-    ∙ ap (λ (x : ChunkPayloadData). (x.tsn + (length xs - 1) % 2 ^ 32) % 2 ^ 32) (sym begin)
-    ∙ sym c.tsn_after.ensures.value in
+    let same : last.tsn ≡ c.tsn_after.result = ap (λ (x : ChunkPayloadData). x.tsn) end ∙ e
+    ∙ ap (λ (x : ChunkPayloadData). (x.tsn + (length xs - 1) % 2 ^ 32) % 2 ^ 32) (sym begin) ∙ sym c.tsn_after.ensures.value in
     grind (arith, nat_tests))
 
 pub returns-clause-yes : goal.returns-clause-yes

@@ -11,10 +11,9 @@ returns-then-distance-far-clause-split c =
     let xs = c.args.chunks.now in
     let last = c.index-chunks-len.result in (
       (λ k d low high.
-          let far = (λ (x : ChunkPayloadData). distance c.args.first x.tsn) in
-          let read = c.distance.ensures.value ∙ ap far (c.deref.ensures ∙ c.index-chunks-len.is) in
           let end : distance c.args.first (slice_index_or xs (length xs - 1) d).tsn ≡ c.distance.result =
-          ap far (get_or_default xs (length xs - 1) d last (omega arith)) ∙ sym read in
+          ap (λ (x : ChunkPayloadData). distance c.args.first x.tsn) (get_or_default xs (length xs - 1) d last (omega arith))
+          ∙ sym (c.distance.ensures.value ∙ ap (λ (x : ChunkPayloadData). distance c.args.first x.tsn) (c.deref.ensures ∙ c.index-chunks-len.is)) in
           let le = c.requires k (length xs - 1) d (omega arith) (omega arith) in
           omega (arith, c.if-distance-far.true)),
       (λ k d low high. absurd (omega arith)),
@@ -24,5 +23,6 @@ pub returns-clause-split : goal.returns-clause-split
 returns-clause-split c =
     let num = (λ (x : ChunkPayloadData). distance c.args.first x.tsn) in
     let parted = IsPartitionedBy-leb num c.args.chunks.now c.args.far c.requires in
-    let point = IsPartitionPoint-from_clause (λ x. leb (num x) c.args.far) c.args.chunks.now _ c.partition_point.ensures.partitioned parted (λ a r q k. search rules) in
+    let point =
+    IsPartitionPoint-from_clause (λ x. leb (num x) c.args.far) c.args.chunks.now _ c.partition_point.ensures.partitioned parted (λ a r q k. search rules) in
     ((λ k d low high. let h = point.0 k d low high in leb-true _ _ h), (λ k d low high. let h = point.1 k d low high in grind (arith, nat_tests)))

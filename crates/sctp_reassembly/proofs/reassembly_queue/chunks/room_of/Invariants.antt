@@ -6,10 +6,12 @@ use Rattle.sctp_reassembly.proofs.reassembly_queue.chunks.room_of.Given as goal
 abbrev pub invariant-loop-index : goal.invariant-loop-index
 invariant-loop-index l = record {
   within : l.wanted ≤ l.limit;
-  room : min l.limit (length (concat (left_from l.chunks l.fn.index l.fn.offset))) ≡ (l.limit - l.wanted) + min l.wanted (length (concat (left_from l.chunks l.index l.offset)));
+  room : min l.limit (length (concat (left_from l.chunks l.fn.index l.fn.offset)))
+      ≡ (l.limit - l.wanted) + min l.wanted (length (concat (left_from l.chunks l.index l.offset)));
   not_back : l.initial.turns ≤ l.turns;
   cost : l.turns ≤ l.initial.turns + taken_whole l.limit (left_from l.chunks l.fn.index l.fn.offset) + 1;
-  cost_left : 0 < l.wanted → l.turns + taken_whole l.wanted (left_from l.chunks l.index l.offset) ≤ l.initial.turns + taken_whole l.limit (left_from l.chunks l.fn.index l.fn.offset);
+  cost_left : 0 < l.wanted → l.turns + taken_whole l.wanted (left_from l.chunks l.index l.offset)
+      ≤ l.initial.turns + taken_whole l.limit (left_from l.chunks l.fn.index l.fn.offset);
 }
 
 abbrev pub decreases-loop-index : goal.decreases-loop-index

@@ -15,6 +15,7 @@ returns-in-None-clause-free c =
       in_range = c.set_gap.ensures.in_range;
       goes = λ x h.
           let same : c.args.ssn ≡ x.ssn = grind (arith, nat_tests) in
-          ap (λ i. insert xs i x) (c.set_gap.ensures.place ∙ ap (λ n. position_or_len (λ (s : ChunkSet). comes_before16 n s.ssn) xs) same) ∙ sym (inserted-position set_before x xs);
+          ap (λ i. insert xs i x) (c.set_gap.ensures.place ∙ ap (λ n. position_or_len (λ (s : ChunkSet). comes_before16 n s.ssn) xs) same)
+          ∙ sym (inserted-position set_before x xs);
       order = λ x h. tt;
     }

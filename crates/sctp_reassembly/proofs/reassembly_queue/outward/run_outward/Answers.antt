@@ -19,7 +19,18 @@ returns-in_err-back-clause-cost c s t w =
     let f = c.in_ok-front.ensures.found in
     let from = stretch_from xs c.args.place s t w c.in_ok-front.front.place d f.at_or_before f.rising in
     let to = stretch_to xs c.args.place s t w c.loop-front.back.place d i.back.at_or_after i.back.in_range i.back.rising in
-    omega (arith, from, to, i.turns, c.look-here.ensures.turn, c.in_ok-front.ensures.step.moved, c.in_ok-front.ensures.step.turns, c.in_err-back.ensures.cost, f.at_or_before, i.back.at_or_after)
+    omega (
+      arith,
+      from,
+      to,
+      i.turns,
+      c.look-here.ensures.turn,
+      c.in_ok-front.ensures.step.moved,
+      c.in_ok-front.ensures.step.turns,
+      c.in_err-back.ensures.cost,
+      f.at_or_before,
+      i.back.at_or_after,
+    )
 
 pub returns-in_err-back-clause-no_beginning : goal.returns-in_err-back-clause-no_beginning
 returns-in_err-back-clause-no_beginning c s t w plain =
@@ -30,7 +41,18 @@ returns-in_err-back-clause-no_beginning c s t w plain =
     let from = stretch_from xs c.args.place s t w c.in_ok-front.front.place d f.at_or_before f.rising in
     let at = stretch_from xs c.args.place s t w c.loop-front.front.place d i.front.at_or_before i.front.rising in
     let open_side = i.behind (sym (i.front.begins d) ∙ plain c.loop-front.front.place d at i.front.at_or_before) in
-    omega (arith, from, open_side, i.turns, c.look-here.ensures.turn, c.in_ok-front.ensures.step.moved, c.in_ok-front.ensures.step.turns, c.in_err-back.ensures.cost, f.at_or_before, i.back.at_or_after)
+    omega (
+      arith,
+      from,
+      open_side,
+      i.turns,
+      c.look-here.ensures.turn,
+      c.in_ok-front.ensures.step.moved,
+      c.in_ok-front.ensures.step.turns,
+      c.in_err-back.ensures.cost,
+      f.at_or_before,
+      i.back.at_or_after,
+    )
 
 pub returns-in_err-back-clause-no_ending : goal.returns-in_err-back-clause-no_ending
 returns-in_err-back-clause-no_ending c s t w plain =
@@ -40,7 +62,19 @@ returns-in_err-back-clause-no_ending c s t w plain =
     let f = c.in_ok-front.ensures.found in
     let to = stretch_to xs c.args.place s t w c.loop-front.back.place d i.back.at_or_after i.back.in_range i.back.rising in
     let open_side = i.ahead c.in_err-back.ensures.open in
-    omega (arith, to, open_side, i.turns, c.look-here.ensures.turn, c.in_ok-front.ensures.step.moved, c.in_ok-front.ensures.step.turns, one_at_most c.loop-front.front.done, c.in_err-back.ensures.cost, f.at_or_before, i.back.at_or_after)
+    omega (
+      arith,
+      to,
+      open_side,
+      i.turns,
+      c.look-here.ensures.turn,
+      c.in_ok-front.ensures.step.moved,
+      c.in_ok-front.ensures.step.turns,
+      one_at_most c.loop-front.front.done,
+      c.in_err-back.ensures.cost,
+      f.at_or_before,
+      i.back.at_or_after,
+    )
 
 pub returns-clause-found : goal.returns-clause-found
 returns-clause-found c =

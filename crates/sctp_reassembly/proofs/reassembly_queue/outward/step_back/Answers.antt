@@ -11,7 +11,8 @@ returns-then-side-eq0-clause-none c f n r =
     let d = an_element xs c.args.place c.requires.in_range in
     let x = get_or xs c.args.side.place d in
     let read = get_or_default xs c.args.side.place d x (omega (arith, s.at_or_before, c.requires.in_range)) in
-    none_at_zero xs c.args.place c.args.side.place x read (s.begins d ∙ c.if-side.false) s.at_or_before c.requires.in_range s.no_other c.if-side-eq0.true f (start_of xs c.args.place f n r)
+    none_at_zero xs c.args.place c.args.side.place x read (s.begins d
+    ∙ c.if-side.false) s.at_or_before c.requires.in_range s.no_other c.if-side-eq0.true f (start_of xs c.args.place f n r)
 
 pub returns-then-before-clause-none : goal.returns-then-before-clause-none
 returns-then-before-clause-none c f n r =
@@ -20,7 +21,8 @@ returns-then-before-clause-none c f n r =
     let d = an_element xs c.args.place c.requires.in_range in
     let x = get_or xs c.args.side.place d in
     let read = get_or_default xs c.args.side.place d x (omega (arith, s.at_or_before, c.requires.in_range)) in
-    cut_before xs c.args.place c.args.side.place x read (s.begins d ∙ c.if-side.false) s.at_or_before c.requires.in_range s.no_other c.requires.alone c.look-before.result.now (omega (arith, c.if-side-eq0.false)) c.look-before.ensures.value c.if-before.true f n r
+    cut_before xs c.args.place c.args.side.place x read (s.begins d ∙ c.if-side.false) s.at_or_before c.requires.in_range s.no_other c.requires.alone
+    c.look-before.result.now (omega (arith, c.if-side-eq0.false)) c.look-before.ensures.value c.if-before.true f n r
 
 pub returns-then-side-before-clause-none : goal.returns-then-side-before-clause-none
 returns-then-side-before-clause-none c f n r =
@@ -29,4 +31,5 @@ returns-then-side-before-clause-none c f n r =
     let d = an_element xs c.args.place c.requires.in_range in
     let x = get_or xs c.args.side.place d in
     let read = get_or_default xs c.args.side.place d x (omega (arith, s.at_or_before, c.requires.in_range)) in
-    none_at_break xs c.args.place c.args.side.place x read (s.begins d ∙ c.if-side.false) s.at_or_before c.requires.in_range s.no_other c.look-before.result.now (omega (arith, c.if-side-eq0.false)) c.look-before.ensures.value (λ e. c.if-side-before.true (sym (s.number d) ∙ e)) f (start_of xs c.args.place f n r)
+    none_at_break xs c.args.place c.args.side.place x read (s.begins d ∙ c.if-side.false) s.at_or_before c.requires.in_range s.no_other c.look-before.result.now
+    (omega (arith, c.if-side-eq0.false)) c.look-before.ensures.value (λ e. c.if-side-before.true (sym (s.number d) ∙ e)) f (start_of xs c.args.place f n r)

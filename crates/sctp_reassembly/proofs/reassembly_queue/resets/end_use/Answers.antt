@@ -27,7 +27,14 @@ loop-place-preserved c =
           ∙ append_assoc c.args.moved.now.items (filter p (take k xs)) (filter p (x ∷ []))
           ∙ ap (λ ys. c.args.moved.now.items ++ ys) (sym (filter-append p (take k xs) (x ∷ [])) ∙ ap (filter p) (sym more));
       moved_room = c.end_use_of.ensures.moved_room ∙ c.loop-place.invariant.moved_room;
-      counted = omega (arith, c.saturating_add-gone.ensures, c.loop-place.invariant.counted, c.end_use_of.ensures.bytes, dropped_bytes-append last (take k xs) (x ∷ []), ap (dropped_bytes last) more);
+      counted = omega (
+        arith,
+        c.saturating_add-gone.ensures,
+        c.loop-place.invariant.counted,
+        c.end_use_of.ensures.bytes,
+        dropped_bytes-append last (take k xs) (x ∷ []),
+        ap (dropped_bytes last) more,
+      );
     }
 
 pub unreachable-requires : goal.unreachable-requires
@@ -36,7 +43,15 @@ unreachable-requires c =
     let k = c.loop-place._place in
     let done = of_new_use c.args.last_tsn (take k xs) in
     let same = ap length (c.in-None.ensures.items ∙ c.in-None.ensures.rest) in
-    omega (arith, c.len-place-end.ensures, same, length-drop 1 c.loop-place.sets.items, ap length c.loop-place.invariant.left, length-append (drop k xs) done, length-drop k xs)
+    omega (
+      arith,
+      c.len-place-end.ensures,
+      same,
+      length-drop 1 c.loop-place.sets.items,
+      ap length c.loop-place.invariant.left,
+      length-append (drop k xs) done,
+      length-drop k xs,
+    )
 
 pub end_use_of-requires-clause-moved : goal.end_use_of-requires-clause-moved
 end_use_of-requires-clause-moved c = λ old.
@@ -49,5 +64,12 @@ end_use_of-requires-clause-moved c = λ old.
     let lt : k < length xs = omega (arith, c.len-place-end.ensures) in
     let at = first_left xs new done k x lt (sym c.in-Some.ensures.items ∙ c.loop-place.invariant.left) in
     let fits : length c.loop-place.moved.items < c.loop-place.moved.capacity =
-    omega (arith, c.requires, c.loop-place.invariant.moved_room, ap length c.loop-place.invariant.moved, length-append c.args.moved.now.items (filter p (take k xs)), more_passes p xs k x lt at old) in
+    omega (
+      arith,
+      c.requires,
+      c.loop-place.invariant.moved_room,
+      ap length c.loop-place.invariant.moved,
+      length-append c.args.moved.now.items (filter p (take k xs)),
+      more_passes p xs k x lt at old,
+    ) in
     fits

@@ -6,7 +6,8 @@ abbrev pub invariant-loop-end : goal.invariant-loop-end
 invariant-loop-end l = record {
   in_range : l.end ≤ length l.unassembled.chunks;
   small : l.total ≤ 2 ^ 64 - 1;
-  counted : min (l.total + bytes_down l.next (reverse (take l.end l.unassembled.chunks))) (2 ^ 64 - 1) ≡ min (bytes_down l.tsn (reverse (take l.initial.end l.unassembled.chunks))) (2 ^ 64 - 1);
+  counted : min (l.total + bytes_down l.next (reverse (take l.end l.unassembled.chunks)))
+      (2 ^ 64 - 1) ≡ min (bytes_down l.tsn (reverse (take l.initial.end l.unassembled.chunks))) (2 ^ 64 - 1);
 }
 
 abbrev pub decreases-loop-end : goal.decreases-loop-end

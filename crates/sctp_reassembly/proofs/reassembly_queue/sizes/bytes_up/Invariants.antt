@@ -5,7 +5,8 @@ use Rattle.sctp_reassembly.proofs.reassembly_queue.sizes.bytes_up.Given as goal
 abbrev pub invariant-loop-place : goal.invariant-loop-place
 invariant-loop-place l = record {
   small : l.total ≤ 2 ^ 64 - 1;
-  counted : min (l.total + bytes_up l.last (drop l.place l.unassembled.chunks)) (2 ^ 64 - 1) ≡ min (bytes_up l.tsn (drop l.from l.unassembled.chunks)) (2 ^ 64 - 1);
+  counted : min (l.total + bytes_up l.last (drop l.place l.unassembled.chunks)) (2 ^ 64 - 1) ≡ min (bytes_up l.tsn (drop l.from l.unassembled.chunks))
+      (2 ^ 64 - 1);
 }
 
 abbrev pub decreases-loop-place : goal.decreases-loop-place

@@ -25,8 +25,20 @@ loop-place-preserved c =
       in_range = omega arith;
       kept = removed_step (λ s. not (is_discarded c.args.last_ssn c.args.bound s)) xs i x within c.index.ensures (ap not passed) ∙ c.loop-place.invariant.kept;
       small = omega (arith, c.saturating_add-gone.ensures);
-      counted = omega (arith, c.loop-place.invariant.counted, sums, taken, sum_by-cons (λ (s : ChunkSet). bytes_of s.chunks) x (filter (is_discarded c.args.last_ssn c.args.bound) (drop i (remove xs i))), c.len-in-Some.ensures, c.saturating_add-gone.ensures);
+      counted = omega (
+        arith,
+        c.loop-place.invariant.counted,
+        sums,
+        taken,
+        sum_by-cons (λ (s : ChunkSet). bytes_of s.chunks) x (filter (is_discarded c.args.last_ssn c.args.bound) (drop i (remove xs i))),
+        c.len-in-Some.ensures,
+        c.saturating_add-gone.ensures,
+      );
     }
 
 pub returns-clause-bytes : goal.returns-clause-bytes
-returns-clause-bytes c = omega (arith, c.loop-place.invariant.counted, at_drop_all (λ xs. set_bytes (filter (is_discarded c.args.last_ssn c.args.bound) xs)) c.loop-place.sets.items c.loop-place.place (omega arith))
+returns-clause-bytes c = omega (
+  arith,
+  c.loop-place.invariant.counted,
+  at_drop_all (λ xs. set_bytes (filter (is_discarded c.args.last_ssn c.args.bound) xs)) c.loop-place.sets.items c.loop-place.place (omega arith),
+)

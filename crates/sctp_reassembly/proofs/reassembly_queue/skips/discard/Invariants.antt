@@ -7,9 +7,11 @@ use Rattle.sctp_reassembly.proofs.reassembly_queue.skips.discard.Given as goal
 abbrev pub invariant-loop-place : goal.invariant-loop-place
 invariant-loop-place l = record {
   in_range : l.place ≤ length l.sets.items;
-  kept : take l.place l.sets.items ++ filter (λ s. not (is_discarded l.last_ssn l.bound s)) (drop l.place l.sets.items) ≡ filter (λ s. not (is_discarded l.last_ssn l.bound s)) l.initial.sets.items;
+  kept : take l.place l.sets.items ++ filter (λ s. not (is_discarded l.last_ssn l.bound s))
+      (drop l.place l.sets.items) ≡ filter (λ s. not (is_discarded l.last_ssn l.bound s)) l.initial.sets.items;
   small : l.gone ≤ 2 ^ 64 - 1;
-  counted : min (l.gone + set_bytes (filter (is_discarded l.last_ssn l.bound) (drop l.place l.sets.items))) (2 ^ 64 - 1) ≡ min (set_bytes (filter (is_discarded l.last_ssn l.bound) l.initial.sets.items)) (2 ^ 64 - 1);
+  counted : min (l.gone + set_bytes (filter (is_discarded l.last_ssn l.bound) (drop l.place l.sets.items)))
+      (2 ^ 64 - 1) ≡ min (set_bytes (filter (is_discarded l.last_ssn l.bound) l.initial.sets.items)) (2 ^ 64 - 1);
 }
 
 abbrev pub decreases-loop-place : goal.decreases-loop-place

@@ -4,4 +4,5 @@ use Rattle.sctp_reassembly.specs.reassembly_queue.Skips.{settles}
 use Rattle.sctp_reassembly.proofs.reassembly_queue.skips.has_settled.Given as goal
 
 abbrev pub invariant-loop-place : goal.invariant-loop-place
-invariant-loop-place l = list_any (settles l.next_ssn l.last_ssn l.tsn) (drop l.place l.sets.items) ≡ list_any (settles l.next_ssn l.last_ssn l.tsn) l.sets.items
+invariant-loop-place l =
+    list_any (settles l.next_ssn l.last_ssn l.tsn) (drop l.place l.sets.items) ≡ list_any (settles l.next_ssn l.last_ssn l.tsn) l.sets.items

@@ -12,9 +12,11 @@ returns-clause-value c =
     let zs = c.loop-fragment.chunks.items in
     let front = length-take-le f xs c.requires.in_range in
     let none : c.loop-fragment.kept.items ≡ [] = search rules in
-    let all : zs ≡ (ks ++ drop f xs) ++ take f xs = ap (λ ys. ys ++ zs) (sym none) ∙ c.loop-fragment.invariant.value ∙ ap (λ ys. ks ++ ys) c.rotate_left.ensures.items ∙ sym (append_assoc ks (drop f xs) (take f xs)) in
+    let all : zs ≡ (ks ++ drop f xs) ++ take f xs = ap (λ ys. ys ++ zs) (sym none) ∙ c.loop-fragment.invariant.value
+    ∙ ap (λ ys. ks ++ ys) c.rotate_left.ensures.items ∙ sym (append_assoc ks (drop f xs) (take f xs)) in
     let long : deque_len c.loop-fragment.chunks ≡ length zs = search rules in
-    let at : deque_len c.loop-fragment.chunks - f ≡ length (ks ++ drop f xs) = omega (arith, long, ap length all, length-append (ks ++ drop f xs) (take f xs), front) in
+    let at : deque_len c.loop-fragment.chunks - f ≡ length (ks ++ drop f xs) =
+    omega (arith, long, ap length all, length-append (ks ++ drop f xs) (take f xs), front) in
     c.rotate_right.ensures.items
     ∙ ap₂ (λ i ys. drop i ys ++ take i ys) at all
     ∙ ap₂ (λ us vs. us ++ vs) (drop-append_seam (ks ++ drop f xs) (take f xs)) (take-append_seam (ks ++ drop f xs) (take f xs))

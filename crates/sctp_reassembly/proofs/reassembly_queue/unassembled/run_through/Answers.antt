@@ -17,10 +17,18 @@ returns-in_err-first-clause-none c = rw c.from_residual-in_err-first.ensures (λ
 pub returns-in_err-first-clause-cost : goal.returns-in_err-first-clause-cost
 returns-in_err-first-clause-cost c s t w =
     let e = c.in_ok-last.ensures.found.0 in
-    omega (arith, w.holds_from, w.holds_to, c.in_ok-last.ensures.spent, stretch_to _ c.args.place s t w c.in_ok-last.last c.args.here.now e.at_or_after e.in_range e.rising, c.in_err-first.ensures.cost s t w)
+    omega (
+      arith,
+      w.holds_from,
+      w.holds_to,
+      c.in_ok-last.ensures.spent,
+      stretch_to _ c.args.place s t w c.in_ok-last.last c.args.here.now e.at_or_after e.in_range e.rising,
+      c.in_err-first.ensures.cost s t w,
+    )
 
 pub returns-in_err-first-clause-at_back : goal.returns-in_err-first-clause-at_back
-returns-in_err-first-clause-at_back c s w open_end = absurd (not_at_back _ c.args.place c.args.here.now c.requires.value open_end s w c.in_ok-last.last c.in_ok-last.ensures.found.0)
+returns-in_err-first-clause-at_back c s w open_end =
+    absurd (not_at_back _ c.args.place c.args.here.now c.requires.value open_end s w c.in_ok-last.last c.in_ok-last.ensures.found.0)
 
 pub returns-clause-found : goal.returns-clause-found
 returns-clause-found c = joined _ c.args.place c.args.here.now _ _ c.in_ok-first.ensures.found c.in_ok-last.ensures.found.0 c.in_ok-last.ensures.found.1
@@ -28,7 +36,15 @@ returns-clause-found c = joined _ c.args.place c.args.here.now _ _ c.in_ok-first
 pub returns-clause-cost : goal.returns-clause-cost
 returns-clause-cost c s t w =
     let e = c.in_ok-last.ensures.found.0 in
-    omega (arith, w.holds_from, w.holds_to, c.in_ok-last.ensures.spent, stretch_to _ c.args.place s t w c.in_ok-last.last c.args.here.now e.at_or_after e.in_range e.rising, c.in_ok-first.ensures.cost s t w)
+    omega (
+      arith,
+      w.holds_from,
+      w.holds_to,
+      c.in_ok-last.ensures.spent,
+      stretch_to _ c.args.place s t w c.in_ok-last.last c.args.here.now e.at_or_after e.in_range e.rising,
+      c.in_ok-first.ensures.cost s t w,
+    )
 
 pub returns-clause-at_back : goal.returns-clause-at_back
-returns-clause-at_back c s w open_end = absurd (not_at_back _ c.args.place c.args.here.now c.requires.value open_end s w c.in_ok-last.last c.in_ok-last.ensures.found.0)
+returns-clause-at_back c s w open_end =
+    absurd (not_at_back _ c.args.place c.args.here.now c.requires.value open_end s w c.in_ok-last.last c.in_ok-last.ensures.found.0)

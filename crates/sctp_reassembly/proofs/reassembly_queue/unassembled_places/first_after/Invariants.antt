@@ -5,6 +5,7 @@ use Rattle.sctp_reassembly.proofs.reassembly_queue.unassembled_places.first_afte
 
 abbrev pub invariant-loop-place : goal.invariant-loop-place
 invariant-loop-place l = record {
-  place : position_or_len (λ e. comes_before l.tsn e.tsn) l.unassembled.chunks ≡ l.place + position_or_len (λ e. comes_before l.tsn e.tsn) (drop l.place l.unassembled.chunks);
+  place : position_or_len (λ e. comes_before l.tsn e.tsn) l.unassembled.chunks ≡ l.place + position_or_len (λ e. comes_before l.tsn e.tsn)
+      (drop l.place l.unassembled.chunks);
   not_back : l.initial.turns ≤ l.turns;
 }

@@ -5,6 +5,7 @@ use Rattle.sctp_reassembly.proofs.reassembly_queue.unassembled_places.front_upto
 
 abbrev pub invariant-loop-place : goal.invariant-loop-place
 invariant-loop-place l = record {
-  place : position_or_len (λ c. not (at_or_before c.tsn l.tsn)) l.unassembled.chunks ≡ l.place + position_or_len (λ c. not (at_or_before c.tsn l.tsn)) (drop l.place l.unassembled.chunks);
+  place : position_or_len (λ c. not (at_or_before c.tsn l.tsn)) l.unassembled.chunks ≡ l.place + position_or_len (λ c. not (at_or_before c.tsn l.tsn))
+      (drop l.place l.unassembled.chunks);
   cost : l.turns ≡ l.initial.turns + l.place;
 }

@@ -14,14 +14,16 @@ returns-then-place-len-clause-none c =
     let xs = c.args.unassembled.now.chunks in
     let n = c.args.tsn in
     let serial = mark_is_on _ xs c.if-not-is_serial.false c.is_serial.ensures in
-    on_none (following_tsn n) xs (absent_after xs serial n c.ranges.tsn.fits c.args.place c.requires (following_tsn n) (small_next n) (after_one n c.ranges.tsn.fits) (λ d lt. absurd (omega arith)))
+    on_none (following_tsn n) xs (absent_after xs serial n c.ranges.tsn.fits c.args.place c.requires (following_tsn n) (small_next n)
+    (after_one n c.ranges.tsn.fits) (λ d lt. absurd (omega arith)))
 
 pub returns-then-look-wanted-clause-none : goal.returns-then-look-wanted-clause-none
 returns-then-look-wanted-clause-none c =
     let xs = c.args.unassembled.now.chunks in
     let n = c.args.tsn in
     let serial = mark_is_on _ xs c.if-not-is_serial.false c.is_serial.ensures in
-    on_none (following_tsn n) xs (absent_after xs serial n c.ranges.tsn.fits c.args.place c.requires (following_tsn n) (small_next n) (after_one n c.ranges.tsn.fits)
+    on_none (following_tsn n) xs
+    (absent_after xs serial n c.ranges.tsn.fits c.args.place c.requires (following_tsn n) (small_next n) (after_one n c.ranges.tsn.fits)
     (λ d lt. other_at xs c.args.place (following_tsn n) c.look.result.now lt c.look.ensures.value c.if-look-wanted.true d))
 
 pub returns-clause-on : goal.returns-clause-on

@@ -4,7 +4,8 @@ use Rattle.sctp_data.specs.declared.chunk.chunk_payload_data.ChunkPayloadData.{C
 use Rattle.sctp_reassembly.proofs.lemmas.reassembly_queue.LastFragments.{back_at, back_none}
 use Rattle.sctp_reassembly.proofs.lemmas.reassembly_queue.SerialPlaces.{mark_is_on, absent_before, absent_behind, before_one, other_at, place_upto}
 use Rattle.sctp_reassembly.proofs.reassembly_queue.unassembled_places.place_before.Goals as goal
-use Rattle.sctp_reassembly.proofs.reassembly_queue.unassembled_places.place_before.Goals.{then-near-tsn-via-then-near-tsn, then-near-tsn-via-else-near-tsn+then-place-eq1}
+use Rattle.sctp_reassembly.proofs.reassembly_queue.unassembled_places.place_before.Goals.{then-near-tsn-via-then-near-tsn}
+use Rattle.sctp_reassembly.proofs.reassembly_queue.unassembled_places.place_before.Goals.{then-near-tsn-via-else-near-tsn+then-place-eq1}
 use Rattle.sctp_serial.specs.DataChunks.{preceding_tsn}
 
 small_previous : (n : ℕ) → preceding_tsn n < 2 ^ 32
@@ -15,7 +16,8 @@ returns-then-place-eq0-clause-none c =
     let xs = c.args.unassembled.now.chunks in
     let n = c.args.tsn in
     let serial = mark_is_on _ xs c.if-not-is_serial.false c.is_serial.ensures in
-    back_none (preceding_tsn n) xs (absent_before xs serial n c.ranges.tsn.fits c.args.place c.requires (preceding_tsn n) (small_previous n) (before_one n c.ranges.tsn.fits) (λ d some. absurd (omega arith)) (λ d more is. absurd (omega arith)))
+    back_none (preceding_tsn n) xs (absent_before xs serial n c.ranges.tsn.fits c.args.place c.requires (preceding_tsn n) (small_previous n)
+    (before_one n c.ranges.tsn.fits) (λ d some. absurd (omega arith)) (λ d more is. absurd (omega arith)))
 
 pub look-requires : goal.look-requires
 look-requires c = omega (arith, place_upto c.args.tsn c.args.unassembled.now.chunks c.args.place c.requires)
@@ -42,7 +44,8 @@ returns-then-near-tsn-clause-none c =
     let x = c.look.result.now in
     let k = c.args.place - 1 in
     let lt : k < length xs = omega (arith, place_upto n xs c.args.place c.requires) in
-    back_none (preceding_tsn n) xs (absent_before xs serial n c.ranges.tsn.fits c.args.place c.requires (preceding_tsn n) (small_previous n) (before_one n c.ranges.tsn.fits)
+    back_none (preceding_tsn n) xs
+    (absent_before xs serial n c.ranges.tsn.fits c.args.place c.requires (preceding_tsn n) (small_previous n) (before_one n c.ranges.tsn.fits)
     (λ d some. other_at xs k (preceding_tsn n) x lt c.look.ensures.value c.if-near-wanted.false d)
     (λ d more is. elim c.then-near-tsn.branch [
       | then-near-tsn-via-then-near-tsn w ↦ absurd (other_at xs k n x lt c.look.ensures.value w.if-near-tsn.true d is)
@@ -58,7 +61,8 @@ returns-then-look-wanted-clause-none c =
     let n = c.args.tsn in
     let serial = mark_is_on _ xs c.if-not-is_serial.false c.is_serial.ensures in
     let within = place_upto n xs c.args.place c.requires in
-    back_none (preceding_tsn n) xs (absent_before xs serial n c.ranges.tsn.fits c.args.place c.requires (preceding_tsn n) (small_previous n) (before_one n c.ranges.tsn.fits)
+    back_none (preceding_tsn n) xs
+    (absent_before xs serial n c.ranges.tsn.fits c.args.place c.requires (preceding_tsn n) (small_previous n) (before_one n c.ranges.tsn.fits)
     (λ d some. other_at xs (c.args.place - 1) (preceding_tsn n) c.look.result.now (omega arith) c.look.ensures.value c.if-near-wanted.false d)
     (λ d more is. other_at xs (c.args.place - 2) (preceding_tsn n) c.look-2.result.now (omega arith) c.look-2.ensures.value c.if-look-wanted.true d))
 

@@ -10,8 +10,12 @@ use Rattle.sctp_sender.proofs.sender.Sender.abandon.Goals as goal
 
 pub invariant_of-self-2 : goal.invariant_of-self-2
 invariant_of-self-2 c =
-    let f : Flight = c.self.inside.flight in
-    (c.self.invariant.0, c.self.invariant.1, subst (λ (g : Flight). IsAllSettled g.queue) (sym c.in_ok-stream.ensures.ok) (abandoned-settled (to_abandon (find (has_tsn c.args.tsn) f.queue.inflight.chunks)) f.next_tsn f.queue c.self.invariant.2))
+    let f : Flight = c.self.inside.flight in (
+      c.self.invariant.0,
+      c.self.invariant.1,
+      subst (λ (g : Flight). IsAllSettled g.queue) (sym c.in_ok-stream.ensures.ok)
+          (abandoned-settled (to_abandon (find (has_tsn c.args.tsn) f.queue.inflight.chunks)) f.next_tsn f.queue c.self.invariant.2),
+    )
 
 pub returns-clause-low : goal.returns-clause-low
 returns-clause-low c = rw (← c.self.view_is) (release-told _ _ _ _ _ c.release-is_low.ensures.low c.release-is_low.ensures.less)

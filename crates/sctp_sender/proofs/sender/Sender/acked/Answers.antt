@@ -8,8 +8,11 @@ use Rattle.sctp_sender.proofs.sender.Sender.acked.Goals as goal
 
 pub invariant_of-self-2 : goal.invariant_of-self-2
 invariant_of-self-2 c =
-    let f : Flight = c.self.inside.flight in
-    (c.self.invariant.0, c.self.invariant.1, subst (λ (g : Flight). IsAllSettled g.queue) (sym c.in_ok-released.ensures.ok) (sack-settled (sack_of c.args.sack.now) f c.self.invariant.2))
+    let f : Flight = c.self.inside.flight in (
+      c.self.invariant.0,
+      c.self.invariant.1,
+      subst (λ (g : Flight). IsAllSettled g.queue) (sym c.in_ok-released.ensures.ok) (sack-settled (sack_of c.args.sack.now) f c.self.invariant.2),
+    )
 
 pub returns-clause-low : goal.returns-clause-low
 returns-clause-low c = λ s. rw (← c.self.view_is) (chunks-tell s _ _ _ _ c.release_each.ensures.lows c.release_each.ensures.less)
@@ -18,4 +21,5 @@ pub returns-clause-once : goal.returns-clause-once
 returns-clause-once c = λ s. one-chunk-tells s _ _ _ _ c.release_each.ensures.lows c.release_each.ensures.less
 
 pub returns-clause-released : goal.returns-clause-released
-returns-clause-released c = rw (← c.self.view_is) (released-same _ _ _ _ _ c.release_each.ensures.lows (c.in_ok-released.ensures.released c.self.invariant.2.inflight))
+returns-clause-released c =
+    rw (← c.self.view_is) (released-same _ _ _ _ _ c.release_each.ensures.lows (c.in_ok-released.ensures.released c.self.invariant.2.inflight))

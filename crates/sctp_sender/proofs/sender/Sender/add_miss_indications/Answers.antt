@@ -7,5 +7,9 @@ use Rattle.sctp_sender.proofs.sender.Sender.add_miss_indications.Goals as goal
 
 pub invariant_of-self : goal.invariant_of-self
 invariant_of-self c =
-    let f : Flight = c.self.inside.flight in
-    (c.self.invariant.0, c.self.invariant.1, subst (λ (g : Flight). IsAllSettled g.queue) (sym c.add_miss_indications.ensures.missed) (misses-settled (count_before c.args.before f) f c.self.invariant.2))
+    let f : Flight = c.self.inside.flight in (
+      c.self.invariant.0,
+      c.self.invariant.1,
+      subst (λ (g : Flight). IsAllSettled g.queue) (sym c.add_miss_indications.ensures.missed)
+          (misses-settled (count_before c.args.before f) f c.self.invariant.2),
+    )

@@ -20,8 +20,10 @@ unreachable-requires c =
     let e : next_pending f.queue.pending ≡ Some c.in-Some.chunk = sym c.in_ok-chunk.ensures.ok ∙ c.in-Some.is in
     let noted = c.in_ok-send_next_tsn_unbounded-2.ensures.noted (λ n. none-some c.in-Some.chunk (sym n ∙ e)) in
     let tsn : c.next_tsn-tsn.result ≡ f.next_tsn = c.next_tsn-tsn.ensures ∙ ap (λ (t : Transmission). t.flight.next_tsn) c.self.view_is in
-    let queue : c.queue.result.now ≡ c.send_next_tsn_unbounded-2.new.self.flight.queue = c.queue.ensures ∙ ap (λ (t : Transmission). t.flight.queue) c.self-2.view_is in
-    let none = c.in_default-get.ensures ∙ ap (λ (n : ℕ). find (has_tsn n) c.queue.result.now.inflight.chunks) tsn ∙ ap (λ (o : Outbound). find (has_tsn f.next_tsn) o.inflight.chunks) queue ∙ noted in
+    let queue : c.queue.result.now ≡ c.send_next_tsn_unbounded-2.new.self.flight.queue = c.queue.ensures
+    ∙ ap (λ (t : Transmission). t.flight.queue) c.self-2.view_is in
+    let none = c.in_default-get.ensures ∙ ap (λ (n : ℕ). find (has_tsn n) c.queue.result.now.inflight.chunks) tsn
+    ∙ ap (λ (o : Outbound). find (has_tsn f.next_tsn) o.inflight.chunks) queue ∙ noted in
     some-noted f.queue f.next_tsn c.args.now c.in-Some.chunk e none
 
 pub returns-clause-answer : goal.returns-clause-answer
@@ -32,8 +34,10 @@ returns-clause-answer c =
     let e : next_pending f.queue.pending ≡ Some x = sym c.in_ok-chunk.ensures.ok ∙ c.in-Some.is in
     let noted = c.in_ok-send_next_tsn_unbounded-2.ensures.noted (λ none. none-some x (sym none ∙ e)) in
     let tsn : c.next_tsn-tsn.result ≡ f.next_tsn = c.next_tsn-tsn.ensures ∙ ap (λ (t : Transmission). t.flight.next_tsn) c.self.view_is in
-    let queue : c.queue.result.now ≡ c.send_next_tsn_unbounded-2.new.self.flight.queue = c.queue.ensures ∙ ap (λ (t : Transmission). t.flight.queue) c.self-2.view_is in
-    let is = c.in-Some-get.ensures ∙ ap (λ (m : ℕ). find (has_tsn m) c.queue.result.now.inflight.chunks) tsn ∙ ap (λ (o : Outbound). find (has_tsn f.next_tsn) o.inflight.chunks) queue ∙ noted in
+    let queue : c.queue.result.now ≡ c.send_next_tsn_unbounded-2.new.self.flight.queue = c.queue.ensures
+    ∙ ap (λ (t : Transmission). t.flight.queue) c.self-2.view_is in
+    let is = c.in-Some-get.ensures ∙ ap (λ (m : ℕ). find (has_tsn m) c.queue.result.now.inflight.chunks) tsn
+    ∙ ap (λ (o : Outbound). find (has_tsn f.next_tsn) o.inflight.chunks) queue ∙ noted in
     ap (λ (m : ℕ). let r : ChunkPayloadData = record x { tsn = m; since = n.since; nsent = n.nsent; deadline = n.deadline } in Some r) tsn
     ∙ ap Some (as-noted f.queue f.next_tsn c.args.now x n e is) ∙ is
 
@@ -45,7 +49,9 @@ returns-clause-noted c =
     let e : next_pending f.queue.pending ≡ Some x = sym c.in_ok-chunk.ensures.ok ∙ c.in-Some.is in
     let noted = c.in_ok-send_next_tsn_unbounded-2.ensures.noted (λ none. none-some x (sym none ∙ e)) in
     let tsn : c.next_tsn-tsn.result ≡ f.next_tsn = c.next_tsn-tsn.ensures ∙ ap (λ (t : Transmission). t.flight.next_tsn) c.self.view_is in
-    let queue : c.queue.result.now ≡ c.send_next_tsn_unbounded-2.new.self.flight.queue = c.queue.ensures ∙ ap (λ (t : Transmission). t.flight.queue) c.self-2.view_is in
-    let found = c.in-Some-get.ensures ∙ ap (λ (m : ℕ). find (has_tsn m) c.queue.result.now.inflight.chunks) tsn ∙ ap (λ (o : Outbound). find (has_tsn f.next_tsn) o.inflight.chunks) queue in
+    let queue : c.queue.result.now ≡ c.send_next_tsn_unbounded-2.new.self.flight.queue = c.queue.ensures
+    ∙ ap (λ (t : Transmission). t.flight.queue) c.self-2.view_is in
+    let found = c.in-Some-get.ensures ∙ ap (λ (m : ℕ). find (has_tsn m) c.queue.result.now.inflight.chunks) tsn
+    ∙ ap (λ (o : Outbound). find (has_tsn f.next_tsn) o.inflight.chunks) queue in
     sym found ∙ sym (ap (λ (m : ℕ). let r : ChunkPayloadData = record x { tsn = m; since = n.since; nsent = n.nsent; deadline = n.deadline } in Some r) tsn
     ∙ ap Some (as-noted f.queue f.next_tsn c.args.now x n e (found ∙ noted)))

@@ -8,8 +8,11 @@ use Rattle.sctp_sender.proofs.sender.Sender.expire.Goals as goal
 
 pub invariant_of-self-2 : goal.invariant_of-self-2
 invariant_of-self-2 c =
-    let f : Flight = c.self.inside.flight in
-    (c.self.invariant.0, c.self.invariant.1, subst (λ (g : Flight). IsAllSettled g.queue) (sym c.expire.ensures.expired) (expired-settled (expiring c.args.now f.queue) f.queue c.self.invariant.2))
+    let f : Flight = c.self.inside.flight in (
+      c.self.invariant.0,
+      c.self.invariant.1,
+      subst (λ (g : Flight). IsAllSettled g.queue) (sym c.expire.ensures.expired) (expired-settled (expiring c.args.now f.queue) f.queue c.self.invariant.2),
+    )
 
 pub returns-clause-low : goal.returns-clause-low
 returns-clause-low c = rw (← c.self.view_is) (expiry-told _ _ _ _ _ _ c.expire-is_low.ensures.low c.expire-is_low.ensures.less)

@@ -8,8 +8,11 @@ use Rattle.sctp_sender.proofs.sender.Sender.expire_late.Goals as goal
 
 pub invariant_of-self-2 : goal.invariant_of-self-2
 invariant_of-self-2 c =
-    let f : Flight = c.self.inside.flight in
-    (c.self.invariant.0, c.self.invariant.1, subst (λ (g : Flight). IsAllSettled g.queue) (sym c.in_ok-abandoned.ensures.ok) (each-settled (late_order c.args.now f) f c.self.invariant.2))
+    let f : Flight = c.self.inside.flight in (
+      c.self.invariant.0,
+      c.self.invariant.1,
+      subst (λ (g : Flight). IsAllSettled g.queue) (sym c.in_ok-abandoned.ensures.ok) (each-settled (late_order c.args.now f) f c.self.invariant.2),
+    )
 
 pub returns-clause-low : goal.returns-clause-low
 returns-clause-low c = λ s. rw (← c.self.view_is) (messages-tell s _ _ _ _ c.release_abandoned.ensures.lows c.release_abandoned.ensures.less)

@@ -8,8 +8,12 @@ use Rattle.sctp_sender.proofs.sender.Sender.expire_tail.Goals as goal
 
 pub invariant_of-self-2 : goal.invariant_of-self-2
 invariant_of-self-2 c =
-    let f : Flight = c.self.inside.flight in
-    (c.self.invariant.0, c.self.invariant.1, subst (λ (g : Flight). IsAllSettled g.queue) (sym c.in_ok-stream.ensures.ok) (abandoned-settled (message_of (expiring_tail c.args.now f.queue)) f.next_tsn f.queue c.self.invariant.2))
+    let f : Flight = c.self.inside.flight in (
+      c.self.invariant.0,
+      c.self.invariant.1,
+      subst (λ (g : Flight). IsAllSettled g.queue) (sym c.in_ok-stream.ensures.ok)
+          (abandoned-settled (message_of (expiring_tail c.args.now f.queue)) f.next_tsn f.queue c.self.invariant.2),
+    )
 
 pub returns-clause-low : goal.returns-clause-low
 returns-clause-low c = rw (← c.self.view_is) (release-told _ _ _ _ _ c.release-is_low.ensures.low c.release-is_low.ensures.less)

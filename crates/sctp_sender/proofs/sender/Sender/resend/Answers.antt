@@ -4,5 +4,9 @@ use Rattle.sctp_sender.proofs.sender.Sender.resend.Goals as goal
 
 pub invariant_of-self : goal.invariant_of-self
 invariant_of-self c =
-    let f : Flight = c.self.inside.flight in
-    (c.self.invariant.0, c.self.invariant.1, resend-settled c.args.tsn c.args.now f c.resend.new.self c.resend.result c.resend.ensures.ok c.resend.ensures.accepted c.resend.ensures.err c.self.invariant.2)
+    let f : Flight = c.self.inside.flight in (
+      c.self.invariant.0,
+      c.self.invariant.1,
+      resend-settled c.args.tsn c.args.now f c.resend.new.self c.resend.result c.resend.ensures.ok c.resend.ensures.accepted c.resend.ensures.err
+          c.self.invariant.2,
+    )

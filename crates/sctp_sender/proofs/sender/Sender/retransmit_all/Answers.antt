@@ -6,5 +6,8 @@ use Rattle.sctp_sender.proofs.sender.Sender.retransmit_all.Goals as goal
 
 pub invariant_of-self : goal.invariant_of-self
 invariant_of-self c =
-    let f : Flight = c.self.inside.flight in
-    (c.self.invariant.0, c.self.invariant.1, subst (λ (g : Flight). IsAllSettled g.queue) (sym c.retransmit_all.ensures) (all-marked-settled f c.self.invariant.2))
+    let f : Flight = c.self.inside.flight in (
+      c.self.invariant.0,
+      c.self.invariant.1,
+      subst (λ (g : Flight). IsAllSettled g.queue) (sym c.retransmit_all.ensures) (all-marked-settled f c.self.invariant.2),
+    )

@@ -16,18 +16,27 @@ use Rattle.sctp_serial.specs.DataChunks.{following_tsn}
 pub returns-in_default-clause-ok : goal.returns-in_default-clause-ok
 returns-in_default-clause-ok c =
     let f : Flight = c.self.inside.flight in
-    let t : Transmission = record { streams = c.self.inside.streams; flight = c.self.inside.flight; fragment_size = c.self.inside.fragment_size; max_message_size = c.self.inside.max_message_size; kept = option_map (λ k. k.items) c.self.inside.kept } in
+    let t : Transmission = record {
+      streams = c.self.inside.streams;
+      flight = c.self.inside.flight;
+      fragment_size = c.self.inside.fragment_size;
+      max_message_size = c.self.inside.max_message_size;
+      kept = option_map (λ k. k.items) c.self.inside.kept;
+    } in
     let none : None ≡ next_pending f.queue.pending = c.in_default.ensures.value ∙ ap (λ (o : Outbound). next_pending o.pending) c.queue-2.ensures in
-    let same : (if is_some (next_pending f.queue.pending) then following_tsn f.next_tsn else f.next_tsn) ≡ f.next_tsn = ap (λ o. if is_some o then following_tsn f.next_tsn else f.next_tsn) (sym none) in
+    let same : (if is_some (next_pending f.queue.pending) then following_tsn f.next_tsn else f.next_tsn) ≡ f.next_tsn =
+    ap (λ o. if is_some o then following_tsn f.next_tsn else f.next_tsn) (sym none) in
     rw (← c.self.view_is)
-    (ap (λ (g : Flight). with_flight g t) (c.start.ensures ∙ ap (with_queue f) (sent_none f.next_tsn c.args.now f.queue none) ∙ ap (λ (n : ℕ). let g : Flight = record f { queue = sent_next f.queue f.next_tsn c.args.now; next_tsn = n } in g) (sym same)))
+    (ap (λ (g : Flight). with_flight g t) (c.start.ensures ∙ ap (with_queue f) (sent_none f.next_tsn c.args.now f.queue none)
+    ∙ ap (λ (n : ℕ). let g : Flight = record f { queue = sent_next f.queue f.next_tsn c.args.now; next_tsn = n } in g) (sym same)))
 
 module _ (f : Flight) (q : Outbound) (is : q ≡ f.queue) (s : IsSendable q.pending q.inflight.chunks q.next_message_id) (now : ℕ) where
   abbrev after : Flight
   after = record f { queue = sent_next f.queue f.next_tsn now; next_tsn = next_after_send f }
 
   same-bytes : (g : Flight) → g ≡ after → total_bytes g.queue ≡ total_bytes f.queue
-  same-bytes g e = ap (λ (h : Flight). total_bytes h.queue) e ∙ sent-bytes f.next_tsn now f.queue (subst (λ (r : Outbound). IsSendable r.pending r.inflight.chunks r.next_message_id) is s)
+  same-bytes g e = ap (λ (h : Flight). total_bytes h.queue) e
+      ∙ sent-bytes f.next_tsn now f.queue (subst (λ (r : Outbound). IsSendable r.pending r.inflight.chunks r.next_message_id) is s)
 
 pub returns-clause-bytes : goal.returns-clause-bytes
 returns-clause-bytes c =
@@ -35,14 +44,21 @@ returns-clause-bytes c =
     rw (← c.self.view_is) (same-bytes f c.queue.result.now c.queue.ensures c.are_whole.ensures c.args.now c.send_next.new.self c.in_ok-sent.ensures.ok)
 
 pub returns-in_default-clause-bytes : goal.returns-in_default-clause-bytes
-returns-in_default-clause-bytes c = rw (← c.self.view_is) (ap (λ (g : Flight). total_bytes g.queue) c.start.ensures ∙ started-bytes c.args.now c.self.inside.flight.queue)
+returns-in_default-clause-bytes c =
+    rw (← c.self.view_is) (ap (λ (g : Flight). total_bytes g.queue) c.start.ensures ∙ started-bytes c.args.now c.self.inside.flight.queue)
 
 pub invariant_of-self : goal.invariant_of-self
 invariant_of-self c =
-    let f : Flight = c.self.inside.flight in
-    (c.self.invariant.0, c.self.invariant.1, subst (λ (g : Flight). IsAllSettled g.queue) (sym c.start.ensures) (started-settled c.args.now f.queue c.self.invariant.2))
+    let f : Flight = c.self.inside.flight in (
+      c.self.invariant.0,
+      c.self.invariant.1,
+      subst (λ (g : Flight). IsAllSettled g.queue) (sym c.start.ensures) (started-settled c.args.now f.queue c.self.invariant.2),
+    )
 
 pub invariant_of-self-2 : goal.invariant_of-self-2
 invariant_of-self-2 c =
-    let f : Flight = c.self.inside.flight in
-    (c.self.invariant.0, c.self.invariant.1, subst (λ (g : Flight). IsAllSettled g.queue) (sym c.in_ok-sent.ensures.ok) (sent-settled f.queue f.next_tsn c.args.now c.self.invariant.2))
+    let f : Flight = c.self.inside.flight in (
+      c.self.invariant.0,
+      c.self.invariant.1,
+      subst (λ (g : Flight). IsAllSettled g.queue) (sym c.in_ok-sent.ensures.ok) (sent-settled f.queue f.next_tsn c.args.now c.self.invariant.2),
+    )

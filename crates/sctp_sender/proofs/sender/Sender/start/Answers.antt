@@ -6,5 +6,8 @@ use Rattle.sctp_sender.proofs.sender.Sender.start.Goals as goal
 
 pub invariant_of-self : goal.invariant_of-self
 invariant_of-self c =
-    let f : Flight = c.self.inside.flight in
-    (c.self.invariant.0, c.self.invariant.1, subst (λ (g : Flight). IsAllSettled g.queue) (sym c.start.ensures) (started-settled c.args.now f.queue c.self.invariant.2))
+    let f : Flight = c.self.inside.flight in (
+      c.self.invariant.0,
+      c.self.invariant.1,
+      subst (λ (g : Flight). IsAllSettled g.queue) (sym c.start.ensures) (started-settled c.args.now f.queue c.self.invariant.2),
+    )

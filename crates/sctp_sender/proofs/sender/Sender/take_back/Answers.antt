@@ -12,8 +12,11 @@ use Rattle.sctp_sender.proofs.sender.Sender.take_back.Goals as goal
 
 pub invariant_of-self : goal.invariant_of-self
 invariant_of-self c =
-    let f : Flight = c.self.inside.flight in
-    (c.self.invariant.0, c.self.invariant.1, subst (λ (g : Flight). IsAllSettled g.queue) (sym c.restore.ensures.restored) (restored-all-settled c.in_ok-backs.backs.items f c.self.invariant.2))
+    let f : Flight = c.self.inside.flight in (
+      c.self.invariant.0,
+      c.self.invariant.1,
+      subst (λ (g : Flight). IsAllSettled g.queue) (sym c.restore.ensures.restored) (restored-all-settled c.in_ok-backs.backs.items f c.self.invariant.2),
+    )
 
 pub returns-clause-bytes : goal.returns-clause-bytes
 returns-clause-bytes c =
@@ -22,12 +25,13 @@ returns-clause-bytes c =
     let s = sack_of c.args.sack.now in
     let bs = c.in_ok-backs.backs.items in
     let is : bs ≡ back_each s cs c.in-Some.kept.items =
-    c.in_ok-backs.ensures.ok ∙ ap (λ (o : Outbound). back_each s o.inflight.chunks c.deref.result.now) c.queue.ensures ∙ ap (back_each s cs) c.deref.ensures.value in
+    c.in_ok-backs.ensures.ok ∙ ap (λ (o : Outbound). back_each s o.inflight.chunks c.deref.result.now) c.queue.ensures
+    ∙ ap (back_each s cs) c.deref.ensures.value in
     let count = ap (λ (o : Outbound). length o.inflight.chunks) c.queue.ensures in
     let within : length bs ≤ length cs = omega (arith, count, c.in_ok-backs.ensures.within) in
     let told : bytes_back c.in_ok-told.told.items ≡ weight bs =
-    ap bytes_back (c.in_ok-told.ensures.ok ∙ ap (λ (o : Outbound). told_back c.deref-2.result.now o.inflight.chunks) c.queue-2.ensures ∙ ap (λ ks. told_back ks cs) c.deref-2.ensures.value)
-    ∙ told-weight bs cs within in
+    ap bytes_back (c.in_ok-told.ensures.ok ∙ ap (λ (o : Outbound). told_back c.deref-2.result.now o.inflight.chunks) c.queue-2.ensures
+    ∙ ap (λ ks. told_back ks cs) c.deref-2.ensures.value) ∙ told-weight bs cs within in
     let back : bytes_of (restored bs cs) ≡ bytes_of cs + weight bs =
     subst (λ ks. bytes_of (restored ks cs) ≡ bytes_of cs + weight ks) (sym is) (back-bytes s cs c.in-Some.kept.items c.self.invariant.2.inflight) in
     let new = ap (λ (g : Flight). total_bytes g.queue) c.restore.ensures.restored in
@@ -39,6 +43,8 @@ returns-clause-outstanding c =
     let cs = c.self.inside.flight.queue.inflight.chunks in
     let s = sack_of c.args.sack.now in
     let ks = c.in-Some.kept.items in
-    let is = c.in_ok-backs.ensures.ok ∙ ap (λ (o : Outbound). back_each s o.inflight.chunks c.deref.result.now) c.queue.ensures ∙ ap (back_each s cs) c.deref.ensures.value in
-    let told = c.in_ok-told.ensures.ok ∙ ap (λ (o : Outbound). told_back c.deref-2.result.now o.inflight.chunks) c.queue-2.ensures ∙ ap (λ bs. told_back bs cs) c.deref-2.ensures.value in
+    let is = c.in_ok-backs.ensures.ok ∙ ap (λ (o : Outbound). back_each s o.inflight.chunks c.deref.result.now) c.queue.ensures
+    ∙ ap (back_each s cs) c.deref.ensures.value in
+    let told = c.in_ok-told.ensures.ok ∙ ap (λ (o : Outbound). told_back c.deref-2.result.now o.inflight.chunks) c.queue-2.ensures
+    ∙ ap (λ bs. told_back bs cs) c.deref-2.ensures.value in
     subst (λ ts. All (λ (b : TakenBack). can_resend b.tsn c.restore.new.self ≡ true) ts) (sym told) (c.restore.ensures.outstanding s ks is)

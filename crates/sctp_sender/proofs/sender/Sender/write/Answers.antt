@@ -12,39 +12,74 @@ use Rattle.sctp_sender.proofs.sender.Sender.write.Goals as goal
 
 pub returns-in_default-clause-refused : goal.returns-in_default-clause-refused
 returns-in_default-clause-refused c =
-    let t : Transmission = record { streams = c.self.inside.streams; flight = c.self.inside.flight; fragment_size = c.self.inside.fragment_size; max_message_size = c.self.inside.max_message_size; kept = option_map (λ k. k.items) c.self.inside.kept } in
+    let t : Transmission = record {
+      streams = c.self.inside.streams;
+      flight = c.self.inside.flight;
+      fragment_size = c.self.inside.fragment_size;
+      max_message_size = c.self.inside.max_message_size;
+      kept = option_map (λ k. k.items) c.self.inside.kept;
+    } in
     inr (rw (← c.self.view_is) (unknown c.args.stream (length c.args.bytes.now) t (closed c.self.inside.streams c.args.stream c.in_default.ensures)))
 
 pub returns-then-len-self-clause-refused : goal.returns-then-len-self-clause-refused
 returns-then-len-self-clause-refused c =
-    let t : Transmission = record { streams = c.self.inside.streams; flight = c.self.inside.flight; fragment_size = c.self.inside.fragment_size; max_message_size = c.self.inside.max_message_size; kept = option_map (λ k. k.items) c.self.inside.kept } in
+    let t : Transmission = record {
+      streams = c.self.inside.streams;
+      flight = c.self.inside.flight;
+      fragment_size = c.self.inside.fragment_size;
+      max_message_size = c.self.inside.max_message_size;
+      kept = option_map (λ k. k.items) c.self.inside.kept;
+    } in
     let open' : is_open c.args.stream t ≡ true = open-at c.self.inside.streams c.args.stream c.in-Some.place c.in-Some.ensures in
     inr (rw (← c.self.view_is) (too-large c.args.stream (length c.args.bytes.now) t open' (omega (arith, c.if-len-self.true, c.len-len.ensures.value))))
 
 pub returns-then-is_full-clause-refused : goal.returns-then-is_full-clause-refused
 returns-then-is_full-clause-refused c =
-    let t : Transmission = record { streams = c.self.inside.streams; flight = c.self.inside.flight; fragment_size = c.self.inside.fragment_size; max_message_size = c.self.inside.max_message_size; kept = option_map (λ k. k.items) c.self.inside.kept } in
+    let t : Transmission = record {
+      streams = c.self.inside.streams;
+      flight = c.self.inside.flight;
+      fragment_size = c.self.inside.fragment_size;
+      max_message_size = c.self.inside.max_message_size;
+      kept = option_map (λ k. k.items) c.self.inside.kept;
+    } in
     let open' : is_open c.args.stream t ≡ true = open-at c.self.inside.streams c.args.stream c.in-Some.place c.in-Some.ensures in
     let le : length c.args.bytes.now ≤ t.max_message_size = omega (arith, c.if-len-self.false, c.len-len.ensures.value) in
-    let room : is_full (length c.args.bytes.now) t ≡ true = ap (λ n. is_full_of n t.flight.queue) (sym c.len-len.ensures.value) ∙ ap (is_full_of c.len-len.result) (sym c.queue.ensures) ∙ sym c.is_full.ensures ∙ c.if-is_full.true in
+    let room : is_full (length c.args.bytes.now) t ≡ true = ap (λ n. is_full_of n t.flight.queue) (sym c.len-len.ensures.value)
+    ∙ ap (is_full_of c.len-len.result) (sym c.queue.ensures) ∙ sym c.is_full.ensures ∙ c.if-is_full.true in
     inr (rw (← c.self.view_is) (full c.args.stream (length c.args.bytes.now) t open' le room))
 
 pub returns-then-len-eq0-clause-accepted : goal.returns-then-len-eq0-clause-accepted
 returns-then-len-eq0-clause-accepted c =
-    let t : Transmission = record { streams = c.self.inside.streams; flight = c.self.inside.flight; fragment_size = c.self.inside.fragment_size; max_message_size = c.self.inside.max_message_size; kept = option_map (λ k. k.items) c.self.inside.kept } in
+    let t : Transmission = record {
+      streams = c.self.inside.streams;
+      flight = c.self.inside.flight;
+      fragment_size = c.self.inside.fragment_size;
+      max_message_size = c.self.inside.max_message_size;
+      kept = option_map (λ k. k.items) c.self.inside.kept;
+    } in
     let open' : is_open c.args.stream t ≡ true = open-at c.self.inside.streams c.args.stream c.in-Some.place c.in-Some.ensures in
     let le : length c.args.bytes.now ≤ t.max_message_size = omega (arith, c.if-len-self.false, c.len-len.ensures.value) in
-    let room : is_full (length c.args.bytes.now) t ≡ false = ap (λ n. is_full_of n t.flight.queue) (sym c.len-len.ensures.value) ∙ ap (is_full_of c.len-len.result) (sym c.queue.ensures) ∙ sym c.is_full.ensures ∙ c.if-is_full.false in
-    let none : write_refusal c.args.stream (length c.args.bytes.now) c.args.self.now ≡ None = rw (← c.self.view_is) (fine c.args.stream (length c.args.bytes.now) t open' le room) in
+    let room : is_full (length c.args.bytes.now) t ≡ false = ap (λ n. is_full_of n t.flight.queue) (sym c.len-len.ensures.value)
+    ∙ ap (is_full_of c.len-len.result) (sym c.queue.ensures) ∙ sym c.is_full.ensures ∙ c.if-is_full.false in
+    let none : write_refusal c.args.stream (length c.args.bytes.now) c.args.self.now ≡ None = rw (← c.self.view_is)
+    (fine c.args.stream (length c.args.bytes.now) t open' le room) in
     λ _. none
 
 pub returns-in_err-chunks-clause-refused : goal.returns-in_err-chunks-clause-refused
 returns-in_err-chunks-clause-refused c =
-    let t : Transmission = record { streams = c.self.inside.streams; flight = c.self.inside.flight; fragment_size = c.self.inside.fragment_size; max_message_size = c.self.inside.max_message_size; kept = option_map (λ k. k.items) c.self.inside.kept } in
+    let t : Transmission = record {
+      streams = c.self.inside.streams;
+      flight = c.self.inside.flight;
+      fragment_size = c.self.inside.fragment_size;
+      max_message_size = c.self.inside.max_message_size;
+      kept = option_map (λ k. k.items) c.self.inside.kept;
+    } in
     let open' : is_open c.args.stream t ≡ true = open-at c.self.inside.streams c.args.stream c.in-Some.place c.in-Some.ensures in
     let le : length c.args.bytes.now ≤ t.max_message_size = omega (arith, c.if-len-self.false, c.len-len.ensures.value) in
-    let room : is_full (length c.args.bytes.now) t ≡ false = ap (λ n. is_full_of n t.flight.queue) (sym c.len-len.ensures.value) ∙ ap (is_full_of c.len-len.result) (sym c.queue.ensures) ∙ sym c.is_full.ensures ∙ c.if-is_full.false in
-    let none : write_refusal c.args.stream (length c.args.bytes.now) c.args.self.now ≡ None = rw (← c.self.view_is) (fine c.args.stream (length c.args.bytes.now) t open' le room) in
+    let room : is_full (length c.args.bytes.now) t ≡ false = ap (λ n. is_full_of n t.flight.queue) (sym c.len-len.ensures.value)
+    ∙ ap (is_full_of c.len-len.result) (sym c.queue.ensures) ∙ sym c.is_full.ensures ∙ c.if-is_full.false in
+    let none : write_refusal c.args.stream (length c.args.bytes.now) c.args.self.now ≡ None = rw (← c.self.view_is)
+    (fine c.args.stream (length c.args.bytes.now) t open' le room) in
     search rules
 
 pub push-requires-clause-message : goal.push-requires-clause-message
@@ -55,37 +90,67 @@ push-requires-clause-message c =
 
 pub returns-in_err-push-clause-refused : goal.returns-in_err-push-clause-refused
 returns-in_err-push-clause-refused c =
-    let t : Transmission = record { streams = c.self.inside.streams; flight = c.self.inside.flight; fragment_size = c.self.inside.fragment_size; max_message_size = c.self.inside.max_message_size; kept = option_map (λ k. k.items) c.self.inside.kept } in
+    let t : Transmission = record {
+      streams = c.self.inside.streams;
+      flight = c.self.inside.flight;
+      fragment_size = c.self.inside.fragment_size;
+      max_message_size = c.self.inside.max_message_size;
+      kept = option_map (λ k. k.items) c.self.inside.kept;
+    } in
     let open' : is_open c.args.stream t ≡ true = open-at c.self.inside.streams c.args.stream c.in-Some.place c.in-Some.ensures in
     let le : length c.args.bytes.now ≤ t.max_message_size = omega (arith, c.if-len-self.false, c.len-len.ensures.value) in
-    let room : is_full (length c.args.bytes.now) t ≡ false = ap (λ n. is_full_of n t.flight.queue) (sym c.len-len.ensures.value) ∙ ap (is_full_of c.len-len.result) (sym c.queue.ensures) ∙ sym c.is_full.ensures ∙ c.if-is_full.false in
-    let none : write_refusal c.args.stream (length c.args.bytes.now) c.args.self.now ≡ None = rw (← c.self.view_is) (fine c.args.stream (length c.args.bytes.now) t open' le room) in
+    let room : is_full (length c.args.bytes.now) t ≡ false = ap (λ n. is_full_of n t.flight.queue) (sym c.len-len.ensures.value)
+    ∙ ap (is_full_of c.len-len.result) (sym c.queue.ensures) ∙ sym c.is_full.ensures ∙ c.if-is_full.false in
+    let none : write_refusal c.args.stream (length c.args.bytes.now) c.args.self.now ≡ None = rw (← c.self.view_is)
+    (fine c.args.stream (length c.args.bytes.now) t open' le room) in
     search rules
 
 pub returns-clause-accepted : goal.returns-clause-accepted
 returns-clause-accepted c =
-    let t : Transmission = record { streams = c.self.inside.streams; flight = c.self.inside.flight; fragment_size = c.self.inside.fragment_size; max_message_size = c.self.inside.max_message_size; kept = option_map (λ k. k.items) c.self.inside.kept } in
+    let t : Transmission = record {
+      streams = c.self.inside.streams;
+      flight = c.self.inside.flight;
+      fragment_size = c.self.inside.fragment_size;
+      max_message_size = c.self.inside.max_message_size;
+      kept = option_map (λ k. k.items) c.self.inside.kept;
+    } in
     let open' : is_open c.args.stream t ≡ true = open-at c.self.inside.streams c.args.stream c.in-Some.place c.in-Some.ensures in
     let le : length c.args.bytes.now ≤ t.max_message_size = omega (arith, c.if-len-self.false, c.len-len.ensures.value) in
-    let room : is_full (length c.args.bytes.now) t ≡ false = ap (λ n. is_full_of n t.flight.queue) (sym c.len-len.ensures.value) ∙ ap (is_full_of c.len-len.result) (sym c.queue.ensures) ∙ sym c.is_full.ensures ∙ c.if-is_full.false in
-    let none : write_refusal c.args.stream (length c.args.bytes.now) c.args.self.now ≡ None = rw (← c.self.view_is) (fine c.args.stream (length c.args.bytes.now) t open' le room) in
+    let room : is_full (length c.args.bytes.now) t ≡ false = ap (λ n. is_full_of n t.flight.queue) (sym c.len-len.ensures.value)
+    ∙ ap (is_full_of c.len-len.result) (sym c.queue.ensures) ∙ sym c.is_full.ensures ∙ c.if-is_full.false in
+    let none : write_refusal c.args.stream (length c.args.bytes.now) c.args.self.now ≡ None = rw (← c.self.view_is)
+    (fine c.args.stream (length c.args.bytes.now) t open' le room) in
     λ _. none
 
 pub returns-in_default-clause-idle : goal.returns-in_default-clause-idle
 returns-in_default-clause-idle c = λ len none.
-    let t : Transmission = record { streams = c.self.inside.streams; flight = c.self.inside.flight; fragment_size = c.self.inside.fragment_size; max_message_size = c.self.inside.max_message_size; kept = option_map (λ k. k.items) c.self.inside.kept } in
+    let t : Transmission = record {
+      streams = c.self.inside.streams;
+      flight = c.self.inside.flight;
+      fragment_size = c.self.inside.fragment_size;
+      max_message_size = c.self.inside.max_message_size;
+      kept = option_map (λ k. k.items) c.self.inside.kept;
+    } in
     let here : write_refusal c.args.stream 0 t ≡ None = rw (← c.self.view_is) at none in
-    refused-not c.args.stream (length c.args.bytes.now) t _ (unknown c.args.stream (length c.args.bytes.now) t (closed c.self.inside.streams c.args.stream c.in_default.ensures)) len here
+    refused-not c.args.stream (length c.args.bytes.now) t _
+    (unknown c.args.stream (length c.args.bytes.now) t (closed c.self.inside.streams c.args.stream c.in_default.ensures)) len here
 
 pub returns-then-len-self-clause-idle : goal.returns-then-len-self-clause-idle
 returns-then-len-self-clause-idle c = λ len none. absurd (omega (arith, c.if-len-self.true, c.len-len.ensures.value, len))
 
 pub returns-then-is_full-clause-idle : goal.returns-then-is_full-clause-idle
 returns-then-is_full-clause-idle c = λ len none.
-    let t : Transmission = record { streams = c.self.inside.streams; flight = c.self.inside.flight; fragment_size = c.self.inside.fragment_size; max_message_size = c.self.inside.max_message_size; kept = option_map (λ k. k.items) c.self.inside.kept } in
+    let t : Transmission = record {
+      streams = c.self.inside.streams;
+      flight = c.self.inside.flight;
+      fragment_size = c.self.inside.fragment_size;
+      max_message_size = c.self.inside.max_message_size;
+      kept = option_map (λ k. k.items) c.self.inside.kept;
+    } in
     let open' : is_open c.args.stream t ≡ true = open-at c.self.inside.streams c.args.stream c.in-Some.place c.in-Some.ensures in
     let le : length c.args.bytes.now ≤ t.max_message_size = omega (arith, c.if-len-self.false, c.len-len.ensures.value) in
-    let room : is_full (length c.args.bytes.now) t ≡ true = ap (λ n. is_full_of n t.flight.queue) (sym c.len-len.ensures.value) ∙ ap (is_full_of c.len-len.result) (sym c.queue.ensures) ∙ sym c.is_full.ensures ∙ c.if-is_full.true in
+    let room : is_full (length c.args.bytes.now) t ≡ true = ap (λ n. is_full_of n t.flight.queue) (sym c.len-len.ensures.value)
+    ∙ ap (is_full_of c.len-len.result) (sym c.queue.ensures) ∙ sym c.is_full.ensures ∙ c.if-is_full.true in
     let here : write_refusal c.args.stream 0 t ≡ None = rw (← c.self.view_is) at none in
     refused-not c.args.stream (length c.args.bytes.now) t _ (full c.args.stream (length c.args.bytes.now) t open' le room) len here
 
@@ -99,11 +164,15 @@ pub returns-clause-bytes : goal.returns-clause-bytes
 returns-clause-bytes c =
     let f = c.self.inside.flight in
     rw (← c.self.view_is)
-    (ap (λ (g : Flight). total_bytes g.queue) c.in_ok-push.ensures.ok ∙ message-bytes c.in_ok-chunks.chunks.items f.queue ∙ ap (λ n. total_bytes f.queue + n) c.in_ok-chunks.ensures.length)
+    (ap (λ (g : Flight). total_bytes g.queue) c.in_ok-push.ensures.ok ∙ message-bytes c.in_ok-chunks.chunks.items f.queue
+    ∙ ap (λ n. total_bytes f.queue + n) c.in_ok-chunks.ensures.length)
 
 pub invariant_of-self-2 : goal.invariant_of-self-2
 invariant_of-self-2 c =
     let f : Flight = c.self.inside.flight in
     let l = found-at c.self.inside.streams c.args.stream c.in-Some.place c.in-Some.ensures in
-    let new = subst AreSettled (sym (c.in_ok-chunks.ensures.ok l.0 l.1)) (fragments-settled l.0 c.args.ppi c.args.bytes.now) in
-    (c.self.invariant.0, c.self.invariant.1, subst (λ (g : Flight). IsAllSettled g.queue) (sym c.in_ok-push.ensures.ok) (message-settled c.in_ok-chunks.chunks.items f.queue new c.self.invariant.2))
+    let new = subst AreSettled (sym (c.in_ok-chunks.ensures.ok l.0 l.1)) (fragments-settled l.0 c.args.ppi c.args.bytes.now) in (
+      c.self.invariant.0,
+      c.self.invariant.1,
+      subst (λ (g : Flight). IsAllSettled g.queue) (sym c.in_ok-push.ensures.ok) (message-settled c.in_ok-chunks.chunks.items f.queue new c.self.invariant.2),
+    )

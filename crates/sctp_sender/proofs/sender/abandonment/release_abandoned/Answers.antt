@@ -20,7 +20,8 @@ loop-one-preserved c =
     let is : g ≡ get_or gs i g = get_or_default gs i any_one g lt in
     let x : AbandonedMessage = record g { is_low = c.release-one.result } in
     record {
-      less = c.loop-one.invariant.less ∙ next-message-less i c.loop-one.streams gs g c.release-one.result lt is ∙ ap (λ (ls : List StreamState). after_leaving (drop (i + 1) (set gs i x)) ls) (sym c.release-one.ensures.less);
+      less = c.loop-one.invariant.less ∙ next-message-less i c.loop-one.streams gs g c.release-one.result lt is
+          ∙ ap (λ (ls : List StreamState). after_leaving (drop (i + 1) (set gs i x)) ls) (sym c.release-one.ensures.less);
       lows =
           c.loop-one.invariant.lows ∙ next-message-low i c.loop-one.streams gs g c.release-one.result lt is c.release-one.ensures.low
           ∙ ap (λ (ls : List StreamState). take (i + 1) (set gs i x) ++ with_message_lows (drop (i + 1) (set gs i x)) ls) (sym c.release-one.ensures.less);

@@ -13,7 +13,8 @@ pub loop-one-preserved : goal.loop-one-preserved
 loop-one-preserved c =
     let rs = c.args.told.now in
     let i = c.loop-one.one-index in
-    c.loop-one.invariant ∙ at_drop_more (λ ts. after_returns ts c.loop-one.streams) rs i any_one c.loop-one-test.true ∙ ap (λ (ls : List StreamState). after_returns (drop (i + 1) rs) ls) (sym c.raise.ensures)
+    c.loop-one.invariant ∙ at_drop_more (λ ts. after_returns ts c.loop-one.streams) rs i any_one c.loop-one-test.true
+    ∙ ap (λ (ls : List StreamState). after_returns (drop (i + 1) rs) ls) (sym c.raise.ensures)
 
 pub returns : goal.returns
 returns c =

@@ -10,6 +10,7 @@ loop-place-preserved c =
     let i = c.loop-place.place in
     let lt : i < length c.args.streams.now.items = search rules in
     record {
-      so_far = ap (λ y. set ls i y) c.set_max_payload_size.ensures ∙ map_over_more (with_size c.args.size) c.args.streams.now.items ls i x lt c.loop-place.invariant.so_far c.index_mut.ensures.value;
+      so_far = ap (λ y. set ls i y) c.set_max_payload_size.ensures
+          ∙ map_over_more (with_size c.args.size) c.args.streams.now.items ls i x lt c.loop-place.invariant.so_far c.index_mut.ensures.value;
       count = ap (λ y. length (set ls i y)) c.set_max_payload_size.ensures ∙ length-set ls i (with_size c.args.size x) ∙ c.loop-place.invariant.count;
     }

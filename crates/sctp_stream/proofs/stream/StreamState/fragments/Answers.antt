@@ -1,4 +1,5 @@
-use Rattle.std.proofs.Common.{◌≡◌, ◌+◌, ◌-◌, ◌*◌, ◌<◌, ◌≤◌, ◌==◌, ◌++◌, ◌∷◌, [], List, suc, min, map, length, length-append, take, drop, refl, sym, ap, ap₂, ◌∙◌, arith}
+use Rattle.std.proofs.Common.{◌≡◌, ◌+◌, ◌-◌, ◌*◌, ◌<◌, ◌≤◌, ◌==◌, ◌++◌, ◌∷◌, [], List, suc, min, map, length, length-append, take, drop, refl, sym, ap, ap₂}
+use Rattle.std.proofs.Common.{◌∙◌, arith}
 use Rattle.std.proofs.Math.Nat.{suc-mul}
 use Rattle.std.proofs.lemmas.List.{map-append, append-nil, take_all}
 use Rattle.std.proofs.Math.Seq.{take-add}
@@ -33,7 +34,8 @@ loop-at-preserved c =
     let ppi = c.args.ppi in
     let bytes = c.in_ok-bytes.bytes in
     let first = begins size xs k at pos place lt in
-    let last : (end == c.len-len.result) ≡ (k + 1 == length (pieces_of s xs)) = ap (λ n. end == n) c.len-len.ensures.value ∙ ends size xs k at pos place lt end (ap (λ n. at + n) step) in
+    let last : (end == c.len-len.result) ≡ (k + 1 == length (pieces_of s xs)) = ap (λ n. end == n) c.len-len.ensures.value
+    ∙ ends size xs k at pos place lt end (ap (λ n. at + n) step) in
     let piece = c.in_ok-bytes.ensures.ok ∙ slice_is size xs k at pos place lt (end - at) (omega arith) in
     let made : c.fragment.result ≡ f k =
     c.fragment.ensures
@@ -44,8 +46,8 @@ loop-at-preserved c =
       place = omega (arith, ap (λ n. n * size) count);
       joined = ap payload_of c.in_ok-push.ensures.items
           ∙ payload-append old (c.fragment.result ∷ [])
-          ∙ ap₂ (λ a b. a ++ b) c.loop-at.invariant.joined (ap (λ (x : ChunkPayloadData). x.user_data ++ []) c.fragment.ensures ∙ append-nil bytes ∙ c.in_ok-bytes.ensures.ok ∙ ap (λ n. take n (drop at xs)) {x = end - at} {y = c.min.result} (omega arith))
-          ∙ sym (take-add at c.min.result xs);
+          ∙ ap₂ (λ a b. a ++ b) c.loop-at.invariant.joined (ap (λ (x : ChunkPayloadData). x.user_data ++ []) c.fragment.ensures ∙ append-nil bytes
+          ∙ c.in_ok-bytes.ensures.ok ∙ ap (λ n. take n (drop at xs)) {x = end - at} {y = c.min.result} (omega arith)) ∙ sym (take-add at c.min.result xs);
       within = omega arith;
       made = c.in_ok-push.ensures.items
           ∙ ap₂ (λ (fs : List ChunkPayloadData) (x : ChunkPayloadData). fs ++ x ∷ []) c.loop-at.invariant.made made

@@ -10,4 +10,6 @@ invariant_of-self-2 c =
     let ns = c.self.inside.numbers.items in
     let absent : IsAbsent c.args.stream ns = rw (← c.self.view_is) at c.requires in
     let count : c.len-place.result ≡ length ns = search rules in
-    more c.self.inside.places c.insert.new.self ns c.put.new.items.items c.args.stream c.self.invariant absent (subst (λ k. Updates nat_cmp c.self.inside.places c.insert.new.self c.args.stream (Some k)) count c.in_ok-insert.ensures.updates) (c.put.ensures.items ∙ ap (λ ls. ls ++ c.args.stream ∷ []) c.reserve.ensures.items)
+    more c.self.inside.places c.insert.new.self ns c.put.new.items.items c.args.stream c.self.invariant absent
+    (subst (λ k. Updates nat_cmp c.self.inside.places c.insert.new.self c.args.stream (Some k)) count c.in_ok-insert.ensures.updates)
+    (c.put.ensures.items ∙ ap (λ ls. ls ++ c.args.stream ∷ []) c.reserve.ensures.items)

@@ -9,7 +9,8 @@ use Rattle.sctp_stream.proofs.Removals.{begun, without, without-none, written, l
 use Rattle.sctp_stream.proofs.stream_numbers.StreamNumbers.remove.Goals as goal
 
 pub returns-in_default : goal.returns-in_default
-returns-in_default c = without-none c.self.inside.places c.self.inside.numbers.items c.args.stream c.self.invariant (sym c.remove.ensures.value ∙ c.in_default.is) ∙ ap (filter (is_other c.args.stream)) c.self.view_is
+returns-in_default c = without-none c.self.inside.places c.self.inside.numbers.items c.args.stream c.self.invariant (sym c.remove.ensures.value
+    ∙ c.in_default.is) ∙ ap (filter (is_other c.args.stream)) c.self.view_is
 
 pub remove-requires-2 : goal.remove-requires-2
 remove-requires-2 c =
@@ -33,7 +34,8 @@ loop-later-init c =
     }
 
 pub invariant_of-self-in-loop-later : goal.invariant_of-self-in-loop-later
-invariant_of-self-in-loop-later c = all-right c.loop-later.self-inside.places c.loop-later.self-inside.numbers.items c.loop-later.later (omega (arith, c.loop-later.invariant.end, c.loop-later-test.false)) c.loop-later.invariant.lowered
+invariant_of-self-in-loop-later c = all-right c.loop-later.self-inside.places c.loop-later.self-inside.numbers.items c.loop-later.later
+    (omega (arith, c.loop-later.invariant.end, c.loop-later-test.false)) c.loop-later.invariant.lowered
 
 pub loop-later-preserved : goal.loop-later-preserved
 loop-later-preserved c =
@@ -45,7 +47,8 @@ loop-later-preserved c =
     let lt : i < length ns = omega (arith, c.loop-later-test.true, c.loop-later.invariant.end) in
     let here : slice_get ns i ≡ Some n = stands ns i n lt ∙ ap (λ j. Some j) (sym c.index.ensures) in
     record {
-      lowered = lowered m c.insert.new.self ns i n low here (written m c.insert.new.self ns i n low here c.insert.result c.insert.ensures.updates c.insert.ensures.absent);
+      lowered = lowered m c.insert.new.self ns i n low here
+          (written m c.insert.new.self ns i n low here c.insert.result c.insert.ensures.updates c.insert.ensures.absent);
       rest = c.loop-later.invariant.rest;
       end = c.loop-later.invariant.end;
     }

@@ -8,4 +8,5 @@ use Rattle.sctp_reassembly.proofs.reassembly_queue.chunks.Chunks.new.Goals as go
 
 pub returns-clause-left : goal.returns-clause-left
 returns-clause-left c =
-    ap (λ (x : Chunks). concat (left_of x)) c.of.ensures ∙ ap (λ (s : ChunkSet). concat (left_from s.chunks 0 0)) c.new.ensures ∙ whole_payload c.args.chunks.items
+    ap (λ (x : Chunks). concat (left_of x)) c.of.ensures ∙ ap (λ (s : ChunkSet). concat (left_from s.chunks 0 0)) c.new.ensures
+    ∙ whole_payload c.args.chunks.items

@@ -24,7 +24,8 @@ returns-clause-asked c lt =
     let old = left_of c.args.self.now in
     let left = rw c.fragments-chunks.ensures at c.in_ok-index.ensures.left in
     let given = rw c.fragments-chunks.ensures at c.in_ok-index.ensures.bytes in
-    ap length (c.in_ok-bytes.ensures.ok ∙ given) ∙ length-take-le c.args.max_length (concat old) (piece_full c.args.max_length old (subst (λ xs. 0 < length xs) left lt))
+    ap length (c.in_ok-bytes.ensures.ok ∙ given)
+    ∙ length-take-le c.args.max_length (concat old) (piece_full c.args.max_length old (subst (λ xs. 0 < length xs) left lt))
 
 pub returns-clause-ends : goal.returns-clause-ends
 returns-clause-ends c le =

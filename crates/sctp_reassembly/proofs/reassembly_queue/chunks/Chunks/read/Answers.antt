@@ -18,16 +18,18 @@ returns-then-n-data-clause-short c =
     let rest = payload_of (drop (i + 1) chunks) in
     let lt : i < length chunks = omega (arith, ap length c.fragments-chunk-items.ensures) in
     let split = payload_split chunks i x lt in
-    let read = c.deref.ensures ∙ c.chunk-item.is ∙ ap (λ cs. get_or cs i x) c.fragments-chunk-items.ensures in
-    let item = c.as_slice-data.ensures ∙ ap (λ (d : ChunkPayloadData). d.user_data) read in
+    let item = c.as_slice-data.ensures
+    ∙ ap (λ (d : ChunkPayloadData). d.user_data) (c.deref.ensures ∙ c.chunk-item.is ∙ ap (λ cs. get_or cs i x) c.fragments-chunk-items.ensures) in
     let same = ap length item in
     let long : n ≤ length bytes = omega arith in
     let long_all = ap length split in
     let full : written + n ≡ length c.args.buf.now = omega (arith, c.min-n.ensures) in
-    let shorter : length c.args.buf.now < length (payload_of chunks) = omega (arith, c.loop-chunk.invariant.written, length-append front bytes, length-append (front ++ bytes) rest) in (
+    let shorter : length c.args.buf.now < length (payload_of chunks) =
+    omega (arith, c.loop-chunk.invariant.written, length-append front bytes, length-append (front ++ bytes) rest) in (
       refl,
       shorter,
-      rw item at c.put_at.ensures ∙ filled_short c.loop-chunk.buf c.args.buf.now front bytes rest (payload_of chunks) written n c.loop-chunk.invariant.written c.loop-chunk.invariant.filled full long split,
+      rw item at c.put_at.ensures ∙ filled_short c.loop-chunk.buf c.args.buf.now front bytes rest
+          (payload_of chunks) written n c.loop-chunk.invariant.written c.loop-chunk.invariant.filled full long split,
     )
 
 pub loop-chunk-preserved : goal.loop-chunk-preserved
@@ -41,8 +43,8 @@ loop-chunk-preserved c =
     let bytes = (get_or chunks i x).user_data in
     let lt : i < length chunks = omega (arith, ap length c.fragments-chunk-items.ensures) in
     let more = payload_more chunks i x lt in
-    let read = c.deref.ensures ∙ c.chunk-item.is ∙ ap (λ cs. get_or cs i x) c.fragments-chunk-items.ensures in
-    let item = c.as_slice-data.ensures ∙ ap (λ (d : ChunkPayloadData). d.user_data) read in
+    let item = c.as_slice-data.ensures
+    ∙ ap (λ (d : ChunkPayloadData). d.user_data) (c.deref.ensures ∙ c.chunk-item.is ∙ ap (λ cs. get_or cs i x) c.fragments-chunk-items.ensures) in
     let same = ap length item in
     let whole : n ≡ length bytes = omega (arith, c.min-n.ensures) in
     let all : length bytes ≤ n = omega arith in

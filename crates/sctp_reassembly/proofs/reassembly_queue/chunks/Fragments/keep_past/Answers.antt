@@ -18,10 +18,12 @@ invariant_of-self c =
     let kept : c.retain.new.self.items ≡ filter p xs = filter_same _ _ _ (λ x b f' k. search rules) _ _ c.retain.ensures.filtered in
     record {
       counted = c.bytes_in-self-inside.ensures ∙ ap (λ cs. min (bytes_of cs) (2 ^ 64 - 1)) c.deref-2.ensures.value;
-      order = subst (λ ys. IsOrder c.self.inside.ascending (map num ys)) (sym kept) (order_kept num c.self.inside.ascending xs (filter p xs) (ascends_those num p xs) c.self.invariant.order);
+      order = subst (λ ys. IsOrder c.self.inside.ascending (map num ys)) (sym kept)
+          (order_kept num c.self.inside.ascending xs (filter p xs) (ascends_those num p xs) c.self.invariant.order);
     }
 
 pub returns-clause-rest : goal.returns-clause-rest
 returns-clause-rest c =
-    let kept : c.retain.new.self.items ≡ chunks_past c.args.tsn c.self.inside.chunks.items = filter_same _ _ _ (λ x b f' k. search rules) _ _ c.retain.ensures.filtered in
+    let kept : c.retain.new.self.items ≡ chunks_past c.args.tsn c.self.inside.chunks.items =
+    filter_same _ _ _ (λ x b f' k. search rules) _ _ c.retain.ensures.filtered in
     rw (← c.self.view_is) (same_but_chunks kept)

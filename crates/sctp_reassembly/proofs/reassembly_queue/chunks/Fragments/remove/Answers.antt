@@ -17,12 +17,12 @@ invariant_of-self c =
     let lt : place < length xs = omega (arith, ap (λ (s : ChunkSet). length s.chunks) c.self.view_is, c.requires) in
     let rest = c.remove-chunk.ensures.items in
     let all = one_out xs c.remove-chunk.new.self.items place y lt rest c.remove-chunk.ensures.value in
-    let same = ap (λ (x : ChunkPayloadData). length x.user_data) c.deref.ensures in
     let left = ap bytes_of c.deref-2.ensures.value in
     let mark = c.self.inside.ascending in
     let kept = order_kept num mark xs (remove xs place) (ascends_remove num xs place lt) c.self.invariant.order in
     record {
-      counted = c.bytes_without-self-inside.ensures (omega (arith, c.self.invariant.counted, all, c.len.ensures.value, same, left))
+      counted = c.bytes_without-self-inside.ensures
+          (omega (arith, c.self.invariant.counted, all, c.len.ensures.value, ap (λ (x : ChunkPayloadData). length x.user_data) c.deref.ensures, left))
           ∙ ap (λ n. min n (2 ^ 64 - 1)) left;
       order = subst (λ ys. IsOrder mark (map num ys)) (sym rest) kept;
     }

@@ -13,4 +13,5 @@ invariant_of-self c =
     let left = (λ (s : ChunkSet). is_some_left s.chunks) in
     let xs = c.self.inside.sets.items in
     let rests = map (rest_past c.args.last_tsn) xs in
-    rw c.end_use.ensures.rest (order_kept num c.self.inside.ascending rests (filter left rests) (ascends_those num left rests) (subst (IsOrder c.self.inside.ascending) (sym (numbers_of_rests c.args.last_tsn xs)) c.self.invariant))
+    rw c.end_use.ensures.rest (order_kept num c.self.inside.ascending rests (filter left rests) (ascends_those num left rests)
+    (subst (IsOrder c.self.inside.ascending) (sym (numbers_of_rests c.args.last_tsn xs)) c.self.invariant))

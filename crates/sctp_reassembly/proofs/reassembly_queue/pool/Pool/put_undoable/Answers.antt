@@ -29,8 +29,8 @@ within : {p q : Unassembled} → p ≡ q → (n place : ℕ) → place ≡ place
 within {q} e n place at = omega (arith, same_long e, place_upto n q.chunks place at)
 
 -- an undo of the fragments is one of the pool, where the mark was on for a reason
-can_undo : {u : InsertionUndo} {ks : List ChunkPayloadData} {old new : Unassembled}
-    → Undoes u ks old new → (b : Bool) → IsMark b old.chunks → CanUndoPut (record { put = u; searched = b }) ks new
+can_undo : {u : InsertionUndo} {ks : List ChunkPayloadData} {old new : Unassembled} → Undoes u ks old new → (b : Bool) → IsMark b old.chunks
+    → CanUndoPut (record { put = u; searched = b }) ks new
 can_undo h b mark = record { put = h.can; mark = subst (λ (p : Unassembled). IsMark b p.chunks) (sym h.done) mark }
 
 pub insert-requires : goal.insert-requires

@@ -10,7 +10,9 @@ use Rattle.sctp_reassembly.proofs.reassembly_queue.unassembled.Loose.drop_front.
 pub is_still_serial-self-inside-requires : goal.is_still_serial-self-inside-requires
 is_still_serial-self-inside-requires c on =
     let xs = c.self.inside.chunks.items in
-    subst IsSerial (sym c.loop-gone.invariant.rest) (serial_drop xs c.loop-gone._gone (omega (arith, same_long c.self.view_is, c.requires, c.loop-gone.auto._gone-end)) (mark_is_on _ xs (sym c.loop-gone.invariant.serial ∙ on) c.self.invariant.order))
+    subst IsSerial (sym c.loop-gone.invariant.rest)
+    (serial_drop xs c.loop-gone._gone (omega (arith, same_long c.self.view_is, c.requires, c.loop-gone.auto._gone-end))
+    (mark_is_on _ xs (sym c.loop-gone.invariant.serial ∙ on) c.self.invariant.order))
 
 pub invariant_of-self : goal.invariant_of-self
 invariant_of-self c =
@@ -18,10 +20,12 @@ invariant_of-self c =
     let rest = c.loop-gone.invariant.rest ∙ ap (λ n. drop n xs) {x = c.loop-gone._gone} {y = c.args.count} (omega (arith, c.loop-gone.auto._gone-end)) in
     let all = sum_by-take-drop (λ (x : ChunkPayloadData). length x.user_data) xs c.args.count in
     record {
-      counted = c.bytes_without-self-inside.ensures (bytes_of (take c.args.count xs)) (c.loop-gone.invariant.counted ∙ omega (arith, c.self.invariant.counted, all, ap bytes_of rest)) c.bytes_from-gone.ensures;
+      counted = c.bytes_without-self-inside.ensures (bytes_of (take c.args.count xs))
+          (c.loop-gone.invariant.counted ∙ omega (arith, c.self.invariant.counted, all, ap bytes_of rest)) c.bytes_from-gone.ensures;
       order = c.is_still_serial-self-inside.ensures;
       room = omega (arith, c.self.invariant.room, c.loop-gone.invariant.capacity, c.loop-gone.invariant.places);
     }
 
 pub returns : goal.returns
-returns c = same_parts (c.loop-gone.invariant.rest ∙ ap₂ drop {x = c.loop-gone._gone} {y = c.args.count} (omega (arith, c.loop-gone.auto._gone-end)) (same_list c.self.view_is)) (c.loop-gone.invariant.places ∙ same_places c.self.view_is)
+returns c = same_parts (c.loop-gone.invariant.rest ∙ ap₂ drop {x = c.loop-gone._gone} {y = c.args.count} (omega (arith, c.loop-gone.auto._gone-end))
+    (same_list c.self.view_is)) (c.loop-gone.invariant.places ∙ same_places c.self.view_is)

@@ -8,10 +8,12 @@ use Rattle.sctp_stream.proofs.StreamPlaces.{absent-those, inside, without, numbe
 use Rattle.sctp_receiver.proofs.receiver.inbound_streams.InboundStreams.close.Goals as goal
 
 pub returns-in_default : goal.returns-in_default
-returns-in_default c = rw (← c.self.view_is) (absent-those number c.self.inside.items.items c.self.inside.numbers c.self.invariant.numbers c.args.stream c.in_default.ensures)
+returns-in_default c =
+    rw (← c.self.view_is) (absent-those number c.self.inside.items.items c.self.inside.numbers c.self.invariant.numbers c.args.stream c.in_default.ensures)
 
 pub remove-closed-requires : goal.remove-closed-requires
-remove-closed-requires c = let lt = inside number c.self.inside.items.items c.self.inside.numbers c.self.invariant.numbers c.args.stream c.in-Some.place c.in-Some.ensures in search rules
+remove-closed-requires c = let lt =
+    inside number c.self.inside.items.items c.self.inside.numbers c.self.invariant.numbers c.args.stream c.in-Some.place c.in-Some.ensures in search rules
 
 pub invariant_of-self : goal.invariant_of-self
 invariant_of-self c =
@@ -21,9 +23,12 @@ invariant_of-self c =
     let h = removed-sum ls c.in-Some.place c.remove-closed.result lt at in
     let items = ap (sum_by cost_within) c.remove-closed.ensures.items in
     record {
-      numbers = c.remove.ensures ∙ numbers-without number c.self.inside.items.items c.self.inside.numbers c.self.invariant.numbers c.args.stream c.in-Some.place c.in-Some.ensures ∙ ap numbers_of (sym c.remove-closed.ensures.items);
+      numbers = c.remove.ensures
+          ∙ numbers-without number c.self.inside.items.items c.self.inside.numbers c.self.invariant.numbers c.args.stream c.in-Some.place c.in-Some.ensures
+          ∙ ap numbers_of (sym c.remove-closed.ensures.items);
       cost = omega (arith, h, items, c.self.invariant.cost, c.cost_of.ensures);
     }
 
 pub returns : goal.returns
-returns c = rw (← c.self.view_is) (c.remove-closed.ensures.items ∙ without number c.self.inside.items.items c.self.inside.numbers c.self.invariant.numbers c.args.stream c.in-Some.place c.in-Some.ensures)
+returns c = rw (← c.self.view_is) (c.remove-closed.ensures.items
+    ∙ without number c.self.inside.items.items c.self.inside.numbers c.self.invariant.numbers c.args.stream c.in-Some.place c.in-Some.ensures)

@@ -8,6 +8,7 @@ use Rattle.sctp_receiver.proofs.receiver.inbound_streams.InboundStreams.forward_
 
 pub invariant_of-self : goal.invariant_of-self
 invariant_of-self c = record {
-  numbers = c.self.invariant.numbers ∙ sym (ap numbers_of c.forward_incomplete_each.ensures ∙ stays-mapped number (incomplete_forwarded c.args.tsn) (λ l. refl) c.self.inside.items.items);
+  numbers = c.self.invariant.numbers
+      ∙ sym (ap numbers_of c.forward_incomplete_each.ensures ∙ stays-mapped number (incomplete_forwarded c.args.tsn) (λ l. refl) c.self.inside.items.items);
   cost = c.cost_of_each-cost.ensures ∙ ap (sum_by cost_within) c.deref.ensures.value;
 }

@@ -7,10 +7,12 @@ use Rattle.sctp_stream.proofs.StreamPlaces.{absent-change, inside, changed, numb
 use Rattle.sctp_receiver.proofs.receiver.inbound_streams.InboundStreams.forward_ordered.Goals as goal
 
 pub returns-in_default : goal.returns-in_default
-returns-in_default c = rw (← c.self.view_is) (absent-change number c.self.inside.items.items c.self.inside.numbers c.self.invariant.numbers c.args.stream (ssn_forwarded c.args.ssn) c.in_default.ensures)
+returns-in_default c = rw (← c.self.view_is) (absent-change number c.self.inside.items.items c.self.inside.numbers c.self.invariant.numbers c.args.stream
+    (ssn_forwarded c.args.ssn) c.in_default.ensures)
 
 pub index_mut-inbound-requires : goal.index_mut-inbound-requires
-index_mut-inbound-requires c = let lt = inside number c.self.inside.items.items c.self.inside.numbers c.self.invariant.numbers c.args.stream c.in-Some.place c.in-Some.ensures in search rules
+index_mut-inbound-requires c = let lt =
+    inside number c.self.inside.items.items c.self.inside.numbers c.self.invariant.numbers c.args.stream c.in-Some.place c.in-Some.ensures in search rules
 
 pub moved-self-inside-requires-clause-part : goal.moved-self-inside-requires-clause-part
 moved-self-inside-requires-clause-part c =
@@ -24,21 +26,27 @@ moved-self-inside-requires-clause-fits c =
     let ls = c.self.inside.items.items in
     let lt = inside number ls c.self.inside.numbers c.self.invariant.numbers c.args.stream c.in-Some.place c.in-Some.ensures in
     let few : length ls < 2 ^ 64 = search rules in
-    let h = changed-fits ls c.in-Some.place c.index_mut-inbound.result.now lt c.index_mut-inbound.ensures.value few (record c.index_mut-inbound.result.now { queue = c.forward_tsn_for_ordered.new.self }) in
+    let h = changed-fits ls c.in-Some.place c.index_mut-inbound.result.now lt c.index_mut-inbound.ensures.value few
+    (record c.index_mut-inbound.result.now { queue = c.forward_tsn_for_ordered.new.self }) in
     omega (arith, h, c.self.invariant.cost, c.cost_of-before.ensures, c.cost_of.ensures)
 
 pub invariant_of-self : goal.invariant_of-self
 invariant_of-self c =
     let ls = c.self.inside.items.items in
     let lt = inside number ls c.self.inside.numbers c.self.invariant.numbers c.args.stream c.in-Some.place c.in-Some.ensures in
-    let h = changed-sum ls c.in-Some.place c.index_mut-inbound.result.now lt c.index_mut-inbound.ensures.value (record c.index_mut-inbound.result.now { queue = c.forward_tsn_for_ordered.new.self }) in
+    let h = changed-sum ls c.in-Some.place c.index_mut-inbound.result.now lt c.index_mut-inbound.ensures.value
+    (record c.index_mut-inbound.result.now { queue = c.forward_tsn_for_ordered.new.self }) in
     record {
-      numbers = numbers-stay number c.self.inside.items.items c.self.inside.numbers c.self.invariant.numbers c.args.stream c.in-Some.place c.in-Some.ensures c.index_mut-inbound.result.now (record c.index_mut-inbound.result.now { queue = c.forward_tsn_for_ordered.new.self }) c.index_mut-inbound.ensures.value (ap (λ (q : ReassemblyState). q.si) c.forward_tsn_for_ordered.ensures.value);
+      numbers = numbers-stay number c.self.inside.items.items c.self.inside.numbers c.self.invariant.numbers c.args.stream c.in-Some.place c.in-Some.ensures
+          c.index_mut-inbound.result.now (record c.index_mut-inbound.result.now { queue = c.forward_tsn_for_ordered.new.self })
+          c.index_mut-inbound.ensures.value (ap (λ (q : ReassemblyState). q.si) c.forward_tsn_for_ordered.ensures.value);
       cost = omega (arith, h, c.moved-self-inside.ensures, c.self.invariant.cost, c.cost_of-before.ensures, c.cost_of.ensures);
     }
 
 pub returns : goal.returns
 returns c =
     rw (← c.self.view_is)
-    (changed number c.self.inside.items.items c.self.inside.numbers c.self.invariant.numbers c.args.stream c.in-Some.place c.in-Some.ensures (ssn_forwarded c.args.ssn) c.index_mut-inbound.result.now (record c.index_mut-inbound.result.now { queue = c.forward_tsn_for_ordered.new.self }) c.index_mut-inbound.ensures.value
+    (changed number c.self.inside.items.items c.self.inside.numbers c.self.invariant.numbers c.args.stream c.in-Some.place c.in-Some.ensures
+    (ssn_forwarded c.args.ssn) c.index_mut-inbound.result.now
+    (record c.index_mut-inbound.result.now { queue = c.forward_tsn_for_ordered.new.self }) c.index_mut-inbound.ensures.value
     (ap (λ (q : ReassemblyState). let l : InboundStream = record c.index_mut-inbound.result.now { queue = q } in l) c.forward_tsn_for_ordered.ensures.value))

@@ -7,6 +7,7 @@ use Rattle.sctp_receiver.proofs.receiver.inbound_streams.InboundStreams.forward_
 
 pub invariant_of-self : goal.invariant_of-self
 invariant_of-self c = record {
-  numbers = c.self.invariant.numbers ∙ sym (ap numbers_of c.forward_each.ensures ∙ stays-mapped number (unassembled_forwarded c.args.tsn) (λ l. refl) c.self.inside.items.items);
+  numbers = c.self.invariant.numbers
+      ∙ sym (ap numbers_of c.forward_each.ensures ∙ stays-mapped number (unassembled_forwarded c.args.tsn) (λ l. refl) c.self.inside.items.items);
   cost = c.cost_of_each-self-inside.ensures ∙ ap (sum_by cost_within) c.deref.ensures.value;
 }

@@ -32,7 +32,8 @@ invariant_of-self c =
     let lt = inside number ls (numbers_of ls) refl c.args.stream c.args.place p in
     let h = changed-sum ls c.args.place c.index_mut-inbound.result.now lt c.index_mut-inbound.ensures.value c.read-message.new.self in
     record {
-      numbers = c.self.invariant.numbers ∙ numbers-stay number ls (numbers_of ls) refl c.args.stream c.args.place p c.index_mut-inbound.result.now c.read-message.new.self c.index_mut-inbound.ensures.value (ap number c.read-message.ensures.rest);
+      numbers = c.self.invariant.numbers ∙ numbers-stay number ls (numbers_of ls) refl c.args.stream c.args.place p c.index_mut-inbound.result.now
+          c.read-message.new.self c.index_mut-inbound.ensures.value (ap number c.read-message.ensures.rest);
       cost = omega (arith, h, c.moved-self-inside.ensures, c.self.invariant.cost, c.cost_of-before.ensures, c.cost_of.ensures);
     }
 
@@ -40,10 +41,12 @@ pub returns-clause-message : goal.returns-clause-message
 returns-clause-message c =
     let ls = c.self.inside.items.items in
     let p : IsOnlyPlace c.args.stream (numbers_of ls) c.args.place = rw (← c.self.view_is) at c.requires in
-    rw (← c.self.view_is) (c.read-message.ensures.message ∙ ap (λ o. option_map at_start (message_of o)) (sym (found number ls (numbers_of ls) refl c.args.stream c.args.place p c.index_mut-inbound.result.now c.index_mut-inbound.ensures.value)))
+    rw (← c.self.view_is) (c.read-message.ensures.message ∙ ap (λ o. option_map at_start (message_of o))
+    (sym (found number ls (numbers_of ls) refl c.args.stream c.args.place p c.index_mut-inbound.result.now c.index_mut-inbound.ensures.value)))
 
 pub returns-clause-rest : goal.returns-clause-rest
 returns-clause-rest c =
     let ls = c.self.inside.items.items in
     let p : IsOnlyPlace c.args.stream (numbers_of ls) c.args.place = rw (← c.self.view_is) at c.requires in
-    rw (← c.self.view_is) (changed number ls (numbers_of ls) refl c.args.stream c.args.place p stream_read c.index_mut-inbound.result.now c.read-message.new.self c.index_mut-inbound.ensures.value c.read-message.ensures.rest)
+    rw (← c.self.view_is) (changed number ls (numbers_of ls) refl c.args.stream c.args.place p stream_read c.index_mut-inbound.result.now
+    c.read-message.new.self c.index_mut-inbound.ensures.value c.read-message.ensures.rest)

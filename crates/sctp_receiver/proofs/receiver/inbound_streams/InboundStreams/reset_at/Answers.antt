@@ -29,9 +29,11 @@ invariant_of-self c =
     let p : IsOnlyPlace c.args.stream (numbers_of ls) c.args.place = rw (← c.self.view_is) at c.requires in
     let lt = inside number ls (numbers_of ls) refl c.args.stream c.args.place p in
     let h = changed-sum ls c.args.place c.index_mut-inbound.result.now lt c.index_mut-inbound.ensures.value c.reset-answer.new.self in
-    let same = number-kept c.args.stream c.args.last_tsn ls c.args.place p c.index_mut-inbound.result.now c.reset-answer.new.self c.index_mut-inbound.ensures.value c.reset-answer.result c.reset-answer.ensures.ok c.reset-answer.ensures.err in
+    let same = number-kept c.args.stream c.args.last_tsn ls c.args.place p c.index_mut-inbound.result.now c.reset-answer.new.self
+    c.index_mut-inbound.ensures.value c.reset-answer.result c.reset-answer.ensures.ok c.reset-answer.ensures.err in
     record {
-      numbers = c.self.invariant.numbers ∙ numbers-stay number ls (numbers_of ls) refl c.args.stream c.args.place p c.index_mut-inbound.result.now c.reset-answer.new.self c.index_mut-inbound.ensures.value same;
+      numbers = c.self.invariant.numbers ∙ numbers-stay number ls
+          (numbers_of ls) refl c.args.stream c.args.place p c.index_mut-inbound.result.now c.reset-answer.new.self c.index_mut-inbound.ensures.value same;
       cost = omega (arith, h, c.moved-self-inside.ensures, c.self.invariant.cost, c.cost_of-before.ensures, c.cost_of.ensures);
     }
 
@@ -39,10 +41,12 @@ pub returns-clause-ok : goal.returns-clause-ok
 returns-clause-ok c =
     let ls = c.self.inside.items.items in
     let p : IsOnlyPlace c.args.stream (numbers_of ls) c.args.place = rw (← c.self.view_is) at c.requires in
-    rw (← c.self.view_is) (resets c.args.stream c.args.last_tsn ls c.args.place p c.index_mut-inbound.result.now c.reset-answer.new.self c.index_mut-inbound.ensures.value c.reset-answer.result c.reset-answer.ensures.ok)
+    rw (← c.self.view_is) (resets c.args.stream c.args.last_tsn ls c.args.place p c.index_mut-inbound.result.now c.reset-answer.new.self
+    c.index_mut-inbound.ensures.value c.reset-answer.result c.reset-answer.ensures.ok)
 
 pub returns-clause-wants : goal.returns-clause-wants
 returns-clause-wants c =
     let ls = c.self.inside.items.items in
     let p : IsOnlyPlace c.args.stream (numbers_of ls) c.args.place = rw (← c.self.view_is) at c.requires in
-    rw (← c.self.view_is) (wanted c.args.stream c.args.last_tsn ls c.args.place p c.index_mut-inbound.result.now c.reset-answer.new.self c.index_mut-inbound.ensures.value c.reset-answer.result c.reset-answer.ensures.wants)
+    rw (← c.self.view_is) (wanted c.args.stream c.args.last_tsn ls c.args.place p c.index_mut-inbound.result.now c.reset-answer.new.self
+    c.index_mut-inbound.ensures.value c.reset-answer.result c.reset-answer.ensures.wants)

@@ -5,8 +5,10 @@ use Rattle.sctp_serial.proofs.lemmas.Serials.{held-any}
 
 pub returns-then-tsn-self : goal.returns-then-tsn-self
 returns-then-tsn-self c =
-    rw (← c.self.view_is, c.if-tsn-self.true) (sym (come-expected c.self.inside.cumulative_tsn c.self.inside.queue c.self.invariant.in_range c.self.invariant.rise))
+    rw (← c.self.view_is, c.if-tsn-self.true)
+    (sym (come-expected c.self.inside.cumulative_tsn c.self.inside.queue c.self.invariant.in_range c.self.invariant.rise))
 
 pub returns-else-sna32lte : goal.returns-else-sna32lte
 returns-else-sna32lte c =
-    rw (← c.self.view_is, ← c.sna32lte.ensures.value, c.if-sna32lte.false) (c.is_some.ensures ∙ c.get_counted.ensures.variant ∙ held-any c.args.tsn c.self.inside.queue.chunks)
+    rw (← c.self.view_is, ← c.sna32lte.ensures.value, c.if-sna32lte.false)
+    (c.is_some.ensures ∙ c.get_counted.ensures.variant ∙ held-any c.args.tsn c.self.inside.queue.chunks)

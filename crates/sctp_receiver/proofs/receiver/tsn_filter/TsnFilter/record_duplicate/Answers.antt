@@ -19,7 +19,8 @@ invariant_of-self-2 c =
     let i = c.self.invariant in
     let is = rw (c.mark.ensures) at c.in_ok-push.ensures.ok in
     let answer = rw (c.mark.ensures) at c.in_ok-push.ensures.answer in
-    let a = after-repeat c.self.inside.cumulative_tsn c.args.tsn c.self.inside.queue c.push.new.self c.args.self.now c.in_ok-push.field-0 c.self.view_is c.requires answer is in
+    let a = after-repeat c.self.inside.cumulative_tsn c.args.tsn c.self.inside.queue c.push.new.self c.args.self.now c.in_ok-push.field-0 c.self.view_is
+    c.requires answer is in
     record {
       in_range = i.in_range;
       marks = a.0 ∙ i.marks ∙ ap (λ cs. map mark (tsns cs)) (sym a.0);
@@ -30,4 +31,5 @@ pub returns-clause-ok : goal.returns-clause-ok
 returns-clause-ok c =
     let is = rw (c.mark.ensures) at c.in_ok-push.ensures.ok in
     let answer = rw (c.mark.ensures) at c.in_ok-push.ensures.answer in
-    (after-repeat c.self.inside.cumulative_tsn c.args.tsn c.self.inside.queue c.push.new.self c.args.self.now c.in_ok-push.field-0 c.self.view_is c.requires answer is).1
+    (after-repeat c.self.inside.cumulative_tsn c.args.tsn c.self.inside.queue c.push.new.self c.args.self.now c.in_ok-push.field-0 c.self.view_is c.requires
+    answer is).1

@@ -22,10 +22,16 @@ abandon_between-requires-clause-window c =
 pub invariant_of-self-2 : goal.invariant_of-self-2
 invariant_of-self-2 c =
     let f : Flight = record { queue = c.self.inside.queue; next_tsn = c.self.inside.next_tsn; acked_tsn = c.self.inside.acked_tsn } in
-    let room : has_tail (to_abandon (find (has_tsn c.args.tsn) f.queue.inflight.chunks)) f.queue ≡ true → may_send f ≡ true = rw (← c.self.view_is) at c.requires in
-    after-abandoning f _ c.abandon_between.new.self c.abandon_between.new.next_tsn c.self.invariant room c.in_ok-abandoned.ensures.ok c.in_ok-abandoned.ensures.raised
-    (abandoned-in-line f.queue (following_tsn f.acked_tsn) (omega arith) c.self.invariant.few c.self.invariant.run c.are_whole.ensures c.self.invariant.side_by_side (to_abandon (find (has_tsn c.args.tsn) f.queue.inflight.chunks)) f.next_tsn (let next = c.self.invariant.next in omega (arith, next)) (found-half f.queue c.are_whole.ensures c.args.tsn (find (has_tsn c.args.tsn) f.queue.inflight.chunks) refl) c.abandon_between.new.self c.in_ok-abandoned.ensures.ok)
+    let room : has_tail (to_abandon (find (has_tsn c.args.tsn) f.queue.inflight.chunks)) f.queue ≡ true
+    → may_send f ≡ true = rw (← c.self.view_is) at c.requires in
+    after-abandoning f _ c.abandon_between.new.self c.abandon_between.new.next_tsn c.self.invariant room c.in_ok-abandoned.ensures.ok
+    c.in_ok-abandoned.ensures.raised
+    (abandoned-in-line f.queue (following_tsn f.acked_tsn) (omega arith) c.self.invariant.few c.self.invariant.run c.are_whole.ensures
+    c.self.invariant.side_by_side (to_abandon (find (has_tsn c.args.tsn) f.queue.inflight.chunks)) f.next_tsn (let next = c.self.invariant.next in
+    omega (arith, next)) (found-half f.queue c.are_whole.ensures c.args.tsn (find (has_tsn c.args.tsn) f.queue.inflight.chunks) refl)
+    c.abandon_between.new.self c.in_ok-abandoned.ensures.ok)
 
 pub abandon_between-requires-clause-between : goal.abandon_between-requires-clause-between
 abandon_between-requires-clause-between c =
-    subst (λ (g : Flight). (x : ChunkPayloadData) → find (has_tsn c.args.tsn) g.queue.inflight.chunks ≡ Some x → IsBetween x.message_id c.places_of-start.result.0 c.places_of-start.result.1 g.queue.inflight.chunks) (sym c.self.view_is) c.places_of-start.ensures
+    subst (λ (g : Flight). (x : ChunkPayloadData) → find (has_tsn c.args.tsn) g.queue.inflight.chunks ≡ Some x
+    → IsBetween x.message_id c.places_of-start.result.0 c.places_of-start.result.1 g.queue.inflight.chunks) (sym c.self.view_is) c.places_of-start.ensures

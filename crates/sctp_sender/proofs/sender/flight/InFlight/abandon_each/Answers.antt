@@ -27,9 +27,11 @@ loop-tsn-preserved c =
       told =
           inv.told ∙ ap (λ xs. items ++ leaving_each xs f) d ∙ sym (append_assoc items (leaving_at t f) (leaving_each rest (abandoned_at t f)))
           ∙ ap (λ xs. (items ++ xs) ++ leaving_each rest (abandoned_at t f)) (sym one)
-          ∙ ap (λ xs. xs ++ leaving_each rest (abandoned_at t f)) (sym c.put_any.ensures.items) ∙ ap (λ g. c.put_any.new.abandoned.items ++ leaving_each rest g) (sym is);
+          ∙ ap (λ xs. xs ++ leaving_each rest (abandoned_at t f)) (sym c.put_any.ensures.items)
+          ∙ ap (λ g. c.put_any.new.abandoned.items ++ leaving_each rest g) (sym is);
       bytes =
-          (let s = ap (sum_by (λ (g : AbandonedMessage). g.bytes)) c.put_any.ensures.items ∙ sum_by-append (λ (g : AbandonedMessage). g.bytes) items (option_to_list c.in-Ok.one) in
+          (let s = ap (sum_by (λ (g : AbandonedMessage). g.bytes)) c.put_any.ensures.items
+          ∙ sum_by-append (λ (g : AbandonedMessage). g.bytes) items (option_to_list c.in-Ok.one) in
           omega (arith, s, c.in-Ok.ensures.released, inv.bytes));
       no_tail = rest-with-no-tail f c.abandon_message.new.self t rest (subst (λ xs. list_all (λ x. not (has_tail_at f x)) xs ≡ true) d inv.no_tail) is;
       room =

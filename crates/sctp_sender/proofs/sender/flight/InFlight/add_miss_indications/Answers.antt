@@ -11,5 +11,7 @@ use Rattle.sctp_sender.proofs.sender.flight.InFlight.add_miss_indications.Goals 
 pub invariant_of-self : goal.invariant_of-self
 invariant_of-self c =
     let f : Flight = record { queue = c.self.inside.queue; next_tsn = c.self.inside.next_tsn; acked_tsn = c.self.inside.acked_tsn } in
-    kept f (record f { queue = c.count_missing.new.queue }) (ap (λ (o : Outbound). tsns o.inflight.chunks) c.count_missing.ensures.missed ∙ part-run can_miss missed (λ d. refl) f.queue.inflight.chunks c.count_before-count.result) refl refl
-    (part-marked-in-line f.queue c.count_missing.new.queue can_miss missed c.count_before-count.result (λ d. refl) c.count_missing.ensures.missed c.self.invariant.side_by_side) c.self.invariant
+    kept f (record f { queue = c.count_missing.new.queue }) (ap (λ (o : Outbound). tsns o.inflight.chunks) c.count_missing.ensures.missed
+    ∙ part-run can_miss missed (λ d. refl) f.queue.inflight.chunks c.count_before-count.result) refl refl
+    (part-marked-in-line f.queue c.count_missing.new.queue can_miss missed c.count_before-count.result
+    (λ d. refl) c.count_missing.ensures.missed c.self.invariant.side_by_side) c.self.invariant

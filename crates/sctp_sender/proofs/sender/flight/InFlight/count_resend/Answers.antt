@@ -11,5 +11,7 @@ use Rattle.sctp_sender.proofs.sender.flight.InFlight.count_resend.Goals as goal
 pub invariant_of-self : goal.invariant_of-self
 invariant_of-self c =
     let f : Flight = record { queue = c.self.inside.queue; next_tsn = c.self.inside.next_tsn; acked_tsn = c.self.inside.acked_tsn } in
-    kept f (record f { queue = c.set_nsent.new.self }) (ap (λ (o : Outbound). tsns o.inflight.chunks) c.set_nsent.ensures.changed ∙ changed-run (has_tsn c.args.tsn) (with_nsent c.saturating_add-nsent.result) (λ d. refl) f.queue.inflight.chunks) refl refl
-    (marked-in-line f.queue c.set_nsent.new.self (has_tsn c.args.tsn) (with_nsent c.saturating_add-nsent.result) (λ d. refl) c.set_nsent.ensures.changed c.self.invariant.side_by_side) c.self.invariant
+    kept f (record f { queue = c.set_nsent.new.self }) (ap (λ (o : Outbound). tsns o.inflight.chunks) c.set_nsent.ensures.changed
+    ∙ changed-run (has_tsn c.args.tsn) (with_nsent c.saturating_add-nsent.result) (λ d. refl) f.queue.inflight.chunks) refl refl
+    (marked-in-line f.queue c.set_nsent.new.self (has_tsn c.args.tsn) (with_nsent c.saturating_add-nsent.result)
+    (λ d. refl) c.set_nsent.ensures.changed c.self.invariant.side_by_side) c.self.invariant

@@ -22,5 +22,9 @@ pub invariant_of-self-2 : goal.invariant_of-self-2
 invariant_of-self-2 c =
     let f : Flight = record { queue = c.self.inside.queue; next_tsn = c.self.inside.next_tsn; acked_tsn = c.self.inside.acked_tsn } in
     let room : is_some (expiring_tail c.args.now f.queue) ≡ true → may_send f ≡ true = rw (← c.self.view_is) at c.requires in
-    after-abandoning f _ c.expire_pending_tail.new.self c.expire_pending_tail.new.next_tsn c.self.invariant (λ tail. room (tail-there (expiring_tail c.args.now f.queue) f.queue tail)) c.in_ok-abandoned.ensures.ok c.in_ok-abandoned.ensures.raised
-    (abandoned-in-line f.queue (following_tsn f.acked_tsn) (omega arith) c.self.invariant.few c.self.invariant.run c.are_whole.ensures c.self.invariant.side_by_side (message_of (expiring_tail c.args.now f.queue)) f.next_tsn (let next = c.self.invariant.next in omega (arith, next)) (λ m h w. tail-half f.queue c.are_whole.ensures c.args.now (next_pending f.queue.pending) refl m h) c.expire_pending_tail.new.self c.in_ok-abandoned.ensures.ok)
+    after-abandoning f _ c.expire_pending_tail.new.self c.expire_pending_tail.new.next_tsn c.self.invariant
+    (λ tail. room (tail-there (expiring_tail c.args.now f.queue) f.queue tail)) c.in_ok-abandoned.ensures.ok c.in_ok-abandoned.ensures.raised
+    (abandoned-in-line f.queue (following_tsn f.acked_tsn)
+    (omega arith) c.self.invariant.few c.self.invariant.run c.are_whole.ensures c.self.invariant.side_by_side
+    (message_of (expiring_tail c.args.now f.queue)) f.next_tsn (let next = c.self.invariant.next in omega (arith, next)) (λ m h w.
+    tail-half f.queue c.are_whole.ensures c.args.now (next_pending f.queue.pending) refl m h) c.expire_pending_tail.new.self c.in_ok-abandoned.ensures.ok)

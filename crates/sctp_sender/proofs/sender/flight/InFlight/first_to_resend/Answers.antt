@@ -7,7 +7,8 @@ pub returns-then-is_to_resend-clause-some : goal.returns-then-is_to_resend-claus
 returns-then-is_to_resend-clause-some c =
     let cs = c.args.self.now.queue.inflight.chunks in
     let x = c.in-Some.chunk.now in
-    sym c.in-Some.ensures ∙ sym (c.loop-place.invariant ∙ find-step is_to_resend cs c.loop-place.place x true (sym c.in-Some.ensures) (sym c.is_to_resend.ensures ∙ c.if-is_to_resend.true))
+    sym c.in-Some.ensures ∙ sym (c.loop-place.invariant
+    ∙ find-step is_to_resend cs c.loop-place.place x true (sym c.in-Some.ensures) (sym c.is_to_resend.ensures ∙ c.if-is_to_resend.true))
 
 pub loop-place-preserved : goal.loop-place-preserved
 loop-place-preserved c =

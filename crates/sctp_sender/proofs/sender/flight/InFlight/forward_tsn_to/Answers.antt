@@ -12,25 +12,29 @@ use Rattle.sctp_sender.proofs.sender.flight.InFlight.forward_tsn_to.Goals as goa
 pub up_to_end-count-requires : goal.up_to_end-count-requires
 up_to_end-count-requires c =
     let f : Flight = record { queue = c.self.inside.queue; next_tsn = c.self.inside.next_tsn; acked_tsn = c.self.inside.acked_tsn } in
-    let point : c.distance.result ≡ ahead f (advanced_ack_point f) = c.distance.ensures.value ∙ ap (distance f.acked_tsn) (rw (← c.self.view_is) at c.advanced_ack_point.ensures) in
+    let point : c.distance.result ≡ ahead f (advanced_ack_point f) = c.distance.ensures.value
+    ∙ ap (distance f.acked_tsn) (rw (← c.self.view_is) at c.advanced_ack_point.ensures) in
     let within = point-within f c.self.invariant in
     omega (arith, c.if-ahead-distance.false, point, within)
 
 pub returns-then-count-eq0-clause-tsn : goal.returns-then-count-eq0-clause-tsn
 returns-then-count-eq0-clause-tsn c =
     let f : Flight = record { queue = c.self.inside.queue; next_tsn = c.self.inside.next_tsn; acked_tsn = c.self.inside.acked_tsn } in
-    let point : c.distance.result ≡ ahead f (advanced_ack_point f) = c.distance.ensures.value ∙ ap (distance f.acked_tsn) (rw (← c.self.view_is) at c.advanced_ack_point.ensures) in
+    let point : c.distance.result ≡ ahead f (advanced_ack_point f) = c.distance.ensures.value
+    ∙ ap (distance f.acked_tsn) (rw (← c.self.view_is) at c.advanced_ack_point.ensures) in
     let within = point-within f c.self.invariant in
     let far : c.distance-ahead.result ≡ ahead f c.args.tsn = c.distance-ahead.ensures.value in
     let can = can-go f c.args.tsn (omega (arith, far, c.if-ahead-eq0.false)) (omega (arith, far, point, c.if-ahead-distance.false)) in
     let near : ahead f c.args.tsn ≤ length f.queue.inflight.chunks = omega (arith, far, point, within, c.if-ahead-distance.false) in
     let last : IsLastEnd c.up_to_end-count.result (ahead f c.args.tsn) f.queue.inflight.chunks = rw (← far) c.up_to_end-count.ensures in
-    rw (← c.self.view_is) (none-ends f c.self.invariant c.args.tsn can near any_chunk (subst (λ n. IsLastEnd n (ahead f c.args.tsn) f.queue.inflight.chunks) c.if-count-eq0.true last))
+    rw (← c.self.view_is) (none-ends f c.self.invariant c.args.tsn can near any_chunk
+    (subst (λ n. IsLastEnd n (ahead f c.args.tsn) f.queue.inflight.chunks) c.if-count-eq0.true last))
 
 pub pairs_of-requires : goal.pairs_of-requires
 pairs_of-requires c =
     let f : Flight = record { queue = c.self.inside.queue; next_tsn = c.self.inside.next_tsn; acked_tsn = c.self.inside.acked_tsn } in
-    let point : c.distance.result ≡ ahead f (advanced_ack_point f) = c.distance.ensures.value ∙ ap (distance f.acked_tsn) (rw (← c.self.view_is) at c.advanced_ack_point.ensures) in
+    let point : c.distance.result ≡ ahead f (advanced_ack_point f) = c.distance.ensures.value
+    ∙ ap (distance f.acked_tsn) (rw (← c.self.view_is) at c.advanced_ack_point.ensures) in
     let within = point-within f c.self.invariant in
     let far : c.distance-ahead.result ≡ ahead f c.args.tsn = c.distance-ahead.ensures.value in
     let can = can-go f c.args.tsn (omega (arith, far, c.if-ahead-eq0.false)) (omega (arith, far, point, c.if-ahead-distance.false)) in
@@ -41,7 +45,8 @@ pairs_of-requires c =
 pub returns-clause-tsn : goal.returns-clause-tsn
 returns-clause-tsn c =
     let f : Flight = record { queue = c.self.inside.queue; next_tsn = c.self.inside.next_tsn; acked_tsn = c.self.inside.acked_tsn } in
-    let point : c.distance.result ≡ ahead f (advanced_ack_point f) = c.distance.ensures.value ∙ ap (distance f.acked_tsn) (rw (← c.self.view_is) at c.advanced_ack_point.ensures) in
+    let point : c.distance.result ≡ ahead f (advanced_ack_point f) = c.distance.ensures.value
+    ∙ ap (distance f.acked_tsn) (rw (← c.self.view_is) at c.advanced_ack_point.ensures) in
     let within = point-within f c.self.invariant in
     let far : c.distance-ahead.result ≡ ahead f c.args.tsn = c.distance-ahead.ensures.value in
     let can = can-go f c.args.tsn (omega (arith, far, c.if-ahead-eq0.false)) (omega (arith, far, point, c.if-ahead-distance.false)) in
@@ -52,7 +57,8 @@ returns-clause-tsn c =
 pub returns-clause-names : goal.returns-clause-names
 returns-clause-names c =
     let f : Flight = record { queue = c.self.inside.queue; next_tsn = c.self.inside.next_tsn; acked_tsn = c.self.inside.acked_tsn } in
-    let point : c.distance.result ≡ ahead f (advanced_ack_point f) = c.distance.ensures.value ∙ ap (distance f.acked_tsn) (rw (← c.self.view_is) at c.advanced_ack_point.ensures) in
+    let point : c.distance.result ≡ ahead f (advanced_ack_point f) = c.distance.ensures.value
+    ∙ ap (distance f.acked_tsn) (rw (← c.self.view_is) at c.advanced_ack_point.ensures) in
     let within = point-within f c.self.invariant in
     let far : c.distance-ahead.result ≡ ahead f c.args.tsn = c.distance-ahead.ensures.value in
     let can = can-go f c.args.tsn (omega (arith, far, c.if-ahead-eq0.false)) (omega (arith, far, point, c.if-ahead-distance.false)) in
@@ -64,10 +70,12 @@ returns-clause-names c =
 pub returns-in_err-streams-clause-idle : goal.returns-in_err-streams-clause-idle
 returns-in_err-streams-clause-idle c =
     let f : Flight = record { queue = c.self.inside.queue; next_tsn = c.self.inside.next_tsn; acked_tsn = c.self.inside.acked_tsn } in
-    let point : c.distance.result ≡ ahead f (advanced_ack_point f) = c.distance.ensures.value ∙ ap (distance f.acked_tsn) (rw (← c.self.view_is) at c.advanced_ack_point.ensures) in
+    let point : c.distance.result ≡ ahead f (advanced_ack_point f) = c.distance.ensures.value
+    ∙ ap (distance f.acked_tsn) (rw (← c.self.view_is) at c.advanced_ack_point.ensures) in
     let within = point-within f c.self.invariant in
     let far : c.distance-ahead.result ≡ ahead f c.args.tsn = c.distance-ahead.ensures.value in
     let can = can-go f c.args.tsn (omega (arith, far, c.if-ahead-eq0.false)) (omega (arith, far, point, c.if-ahead-distance.false)) in
     let near : ahead f c.args.tsn ≤ length f.queue.inflight.chunks = omega (arith, far, point, within, c.if-ahead-distance.false) in
     let last : IsLastEnd c.up_to_end-count.result (ahead f c.args.tsn) f.queue.inflight.chunks = rw (← far) c.up_to_end-count.ensures in
-    rw (← c.self.view_is) (λ none. absurd (none-some _ (sym none ∙ sym (ends-at f c.self.invariant c.args.tsn can near any_chunk c.up_to_end-count.result last (omega (arith, c.if-count-eq0.false))))))
+    rw (← c.self.view_is) (λ none. absurd (none-some _ (sym none
+    ∙ sym (ends-at f c.self.invariant c.args.tsn can near any_chunk c.up_to_end-count.result last (omega (arith, c.if-count-eq0.false))))))

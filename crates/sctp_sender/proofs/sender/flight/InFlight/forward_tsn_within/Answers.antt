@@ -16,39 +16,48 @@ returns-then-bytes-lt8-clause-none c =
 pub pairs_to_end-requires : goal.pairs_to_end-requires
 pairs_to_end-requires c =
     let f : Flight = record { queue = c.self.inside.queue; next_tsn = c.self.inside.next_tsn; acked_tsn = c.self.inside.acked_tsn } in
-    let point : c.distance-most.result ≡ ahead f (advanced_ack_point f) = c.distance-most.ensures.value ∙ ap (distance f.acked_tsn) (rw (← c.self.view_is) at c.advanced_ack_point.ensures) in
+    let point : c.distance-most.result ≡ ahead f (advanced_ack_point f) = c.distance-most.ensures.value
+    ∙ ap (distance f.acked_tsn) (rw (← c.self.view_is) at c.advanced_ack_point.ensures) in
     let within = point-within f c.self.invariant in
     omega (arith, point, within)
 
 pub returns-then-count-eq0-clause-none : goal.returns-then-count-eq0-clause-none
 returns-then-count-eq0-clause-none c =
     let f : Flight = record { queue = c.self.inside.queue; next_tsn = c.self.inside.next_tsn; acked_tsn = c.self.inside.acked_tsn } in
-    let point : c.distance-most.result ≡ ahead f (advanced_ack_point f) = c.distance-most.ensures.value ∙ ap (distance f.acked_tsn) (rw (← c.self.view_is) at c.advanced_ack_point.ensures) in
+    let point : c.distance-most.result ≡ ahead f (advanced_ack_point f) = c.distance-most.ensures.value
+    ∙ ap (distance f.acked_tsn) (rw (← c.self.view_is) at c.advanced_ack_point.ensures) in
     let within = point-within f c.self.invariant in
-    rw (← c.self.view_is) (λ _. all-long f c.self.invariant c.args.bytes ((c.args.bytes - 8) / 4) c.in_ok-count.count c.distance-most.result c.if-bytes-lt8.false refl point c.if-count-eq0.true (later-long f c.self.invariant c.args.bytes ((c.args.bytes - 8) / 4) c.in_ok-count.count c.distance-most.result c.if-bytes-lt8.false refl point c.in_ok-count.ensures.furthest))
+    rw (← c.self.view_is) (λ _. all-long f c.self.invariant c.args.bytes ((c.args.bytes - 8) / 4) c.in_ok-count.count c.distance-most.result
+    c.if-bytes-lt8.false refl point c.if-count-eq0.true (later-long f c.self.invariant c.args.bytes
+    ((c.args.bytes - 8) / 4) c.in_ok-count.count c.distance-most.result c.if-bytes-lt8.false refl point c.in_ok-count.ensures.furthest))
 
 pub returns-clause-past : goal.returns-clause-past
 returns-clause-past c =
     let f : Flight = record { queue = c.self.inside.queue; next_tsn = c.self.inside.next_tsn; acked_tsn = c.self.inside.acked_tsn } in
-    let point : c.distance-most.result ≡ ahead f (advanced_ack_point f) = c.distance-most.ensures.value ∙ ap (distance f.acked_tsn) (rw (← c.self.view_is) at c.advanced_ack_point.ensures) in
+    let point : c.distance-most.result ≡ ahead f (advanced_ack_point f) = c.distance-most.ensures.value
+    ∙ ap (distance f.acked_tsn) (rw (← c.self.view_is) at c.advanced_ack_point.ensures) in
     let within = point-within f c.self.invariant in
     let few : c.in_ok-count.count < 2 ^ 31 = omega (arith, point, within, c.self.invariant.few, c.in_ok-count.ensures.count) in
-    rw (← c.self.view_is) (past f c.self.invariant.in_range c.in_ok-count.count few (omega (arith, point, c.in_ok-count.ensures.count)) (omega (arith, c.if-count-eq0.false)))
+    rw (← c.self.view_is)
+    (past f c.self.invariant.in_range c.in_ok-count.count few (omega (arith, point, c.in_ok-count.ensures.count)) (omega (arith, c.if-count-eq0.false)))
 
 pub returns-clause-ended : goal.returns-clause-ended
 returns-clause-ended c =
     let f : Flight = record { queue = c.self.inside.queue; next_tsn = c.self.inside.next_tsn; acked_tsn = c.self.inside.acked_tsn } in
-    let point : c.distance-most.result ≡ ahead f (advanced_ack_point f) = c.distance-most.ensures.value ∙ ap (distance f.acked_tsn) (rw (← c.self.view_is) at c.advanced_ack_point.ensures) in
+    let point : c.distance-most.result ≡ ahead f (advanced_ack_point f) = c.distance-most.ensures.value
+    ∙ ap (distance f.acked_tsn) (rw (← c.self.view_is) at c.advanced_ack_point.ensures) in
     let within = point-within f c.self.invariant in
     let few : c.in_ok-count.count < 2 ^ 31 = omega (arith, point, within, c.self.invariant.few, c.in_ok-count.ensures.count) in
     let some : 0 < c.in_ok-count.count = omega (arith, c.if-count-eq0.false) in
     let can = past f c.self.invariant.in_range c.in_ok-count.count few (omega (arith, point, c.in_ok-count.ensures.count)) some in
-    rw (← c.self.view_is) (is-end-at f c.self.invariant c.in_ok-count.count any_chunk can some (omega (arith, point, within, c.in_ok-count.ensures.count)) (c.in_ok-count.ensures.ended some any_chunk))
+    rw (← c.self.view_is) (is-end-at f c.self.invariant c.in_ok-count.count any_chunk can some (omega (arith, point, within, c.in_ok-count.ensures.count))
+    (c.in_ok-count.ensures.ended some any_chunk))
 
 pub returns-clause-names : goal.returns-clause-names
 returns-clause-names c =
     let f : Flight = record { queue = c.self.inside.queue; next_tsn = c.self.inside.next_tsn; acked_tsn = c.self.inside.acked_tsn } in
-    let point : c.distance-most.result ≡ ahead f (advanced_ack_point f) = c.distance-most.ensures.value ∙ ap (distance f.acked_tsn) (rw (← c.self.view_is) at c.advanced_ack_point.ensures) in
+    let point : c.distance-most.result ≡ ahead f (advanced_ack_point f) = c.distance-most.ensures.value
+    ∙ ap (distance f.acked_tsn) (rw (← c.self.view_is) at c.advanced_ack_point.ensures) in
     let within = point-within f c.self.invariant in
     let few : c.in_ok-count.count < 2 ^ 31 = omega (arith, point, within, c.self.invariant.few, c.in_ok-count.ensures.count) in
     rw (← c.self.view_is) (names f c.self.invariant.in_range c.in_ok-count.count few c.in_ok-count.streams.items c.in_ok-count.ensures.names)
@@ -56,8 +65,10 @@ returns-clause-names c =
 pub returns-clause-furthest : goal.returns-clause-furthest
 returns-clause-furthest c =
     let f : Flight = record { queue = c.self.inside.queue; next_tsn = c.self.inside.next_tsn; acked_tsn = c.self.inside.acked_tsn } in
-    let point : c.distance-most.result ≡ ahead f (advanced_ack_point f) = c.distance-most.ensures.value ∙ ap (distance f.acked_tsn) (rw (← c.self.view_is) at c.advanced_ack_point.ensures) in
+    let point : c.distance-most.result ≡ ahead f (advanced_ack_point f) = c.distance-most.ensures.value
+    ∙ ap (distance f.acked_tsn) (rw (← c.self.view_is) at c.advanced_ack_point.ensures) in
     let within = point-within f c.self.invariant in
     let few : c.in_ok-count.count < 2 ^ 31 = omega (arith, point, within, c.self.invariant.few, c.in_ok-count.ensures.count) in
     let there = far f c.self.invariant.in_range c.in_ok-count.count few in
-    rw (← c.self.view_is, there) (later-long f c.self.invariant c.args.bytes ((c.args.bytes - 8) / 4) c.in_ok-count.count c.distance-most.result c.if-bytes-lt8.false refl point c.in_ok-count.ensures.furthest)
+    rw (← c.self.view_is, there) (later-long f c.self.invariant c.args.bytes
+    ((c.args.bytes - 8) / 4) c.in_ok-count.count c.distance-most.result c.if-bytes-lt8.false refl point c.in_ok-count.ensures.furthest)

@@ -22,11 +22,24 @@ returns-clause-ok c =
     let end = c.min-end.result in
     let current = ap (is_outdated s) c.self.view_is ∙ c.requires.current in
     let within = taken-within s f (ap (sack_refusal s) c.self.view_is ∙ c.requires.taken) current in
-    let marks : length c.in_ok-marks.marks.items ≡ after_blocks c.args.sack.now.gap_ack_blocks.items = c.in_ok-marks.ensures.count ∙ ap after_blocks c.deref.ensures.value in
+    let marks : length c.in_ok-marks.marks.items ≡ after_blocks c.args.sack.now.gap_ack_blocks.items = c.in_ok-marks.ensures.count
+    ∙ ap after_blocks c.deref.ensures.value in
     let le : count_acked s f ≤ end = omega (arith, within, c.distance-count.ensures.value, c.min-end.ensures, c.max.ensures, c.inflight_len.ensures) in
     let far : (k : ℕ) → end ≤ k → k < length f.queue.inflight.chunks → (length ks ≤ k) × (count_acked s f + after_blocks s.gap_ack_blocks ≤ k) = λ k h lt. (
       omega (arith, h, lt, c.min-end.ensures, c.max.ensures, c.inflight_len.ensures),
-      omega (arith, h, lt, marks, c.in_ok-marks.marks.ok.0, c.len.ensures, c.distance-count.ensures.value, c.min-end.ensures, c.max.ensures, c.inflight_len.ensures),
+      omega (
+        arith,
+        h,
+        lt,
+        marks,
+        c.in_ok-marks.marks.ok.0,
+        c.len.ensures,
+        c.distance-count.ensures.value,
+        c.min-end.ensures,
+        c.max.ensures,
+        c.inflight_len.ensures,
+      ),
     ) in
-    let is = ap (λ n. trimmed (drop n (take end (keep_each s f.queue.inflight.chunks ks)))) c.distance-count.ensures.value ∙ kept-is f c.self.invariant s c.distance-count.ensures.to_fits ks end far current le in
+    let is = ap (λ n. trimmed (drop n (take end (keep_each s f.queue.inflight.chunks ks)))) c.distance-count.ensures.value
+    ∙ kept-is f c.self.invariant s c.distance-count.ensures.to_fits ks end far current le in
     rw (← c.self.view_is) (subst (λ xs. IfOk c.keep_each.result (λ after. after.items ≡ xs)) is c.keep_each.ensures.ok)

@@ -31,4 +31,6 @@ returns c =
     rw (← c.self.view_is) (λ x found.
     let h = place-is f c.self.invariant c.args.tsn x found in
     let far : c.distance-ahead.result ≡ suc h.0 = c.distance-ahead.ensures.value ∙ h.2 in
-    between cs c.message_start-start.result c.message_end-end.result h.0 x (omega (arith, far, c.message_start-start.ensures.to)) (omega (arith, far, c.message_end-end.ensures.from)) c.message_end-end.ensures.to (c.message_start-start.ensures.apart beside) (c.message_end-end.ensures.apart beside) h.3)
+    between cs c.message_start-start.result c.message_end-end.result h.0 x (omega (arith, far, c.message_start-start.ensures.to))
+    (omega (arith, far, c.message_end-end.ensures.from)) c.message_end-end.ensures.to (c.message_start-start.ensures.apart beside)
+    (c.message_end-end.ensures.apart beside) h.3)

@@ -14,13 +14,16 @@ use Rattle.sctp_sender.proofs.sender.flight.InFlight.resend.Goals as goal
 pub invariant_of-self : goal.invariant_of-self
 invariant_of-self c =
     let f : Flight = record { queue = c.self.inside.queue; next_tsn = c.self.inside.next_tsn; acked_tsn = c.self.inside.acked_tsn } in
-    kept f (record f { queue = c.note_sent_again.new.queue }) (ap (λ (o : Outbound). tsns o.inflight.chunks) c.note_sent_again.ensures ∙ changed-run (has_tsn c.args.tsn) (sent_again c.saturating_add-count.result c.args.now) (λ d. refl) f.queue.inflight.chunks) refl refl
-    (marked-in-line f.queue c.note_sent_again.new.queue (has_tsn c.args.tsn) (sent_again c.saturating_add-count.result c.args.now) (λ d. refl) c.note_sent_again.ensures c.self.invariant.side_by_side) c.self.invariant
+    kept f (record f { queue = c.note_sent_again.new.queue }) (ap (λ (o : Outbound). tsns o.inflight.chunks) c.note_sent_again.ensures
+    ∙ changed-run (has_tsn c.args.tsn) (sent_again c.saturating_add-count.result c.args.now) (λ d. refl) f.queue.inflight.chunks) refl refl
+    (marked-in-line f.queue c.note_sent_again.new.queue (has_tsn c.args.tsn) (sent_again c.saturating_add-count.result c.args.now)
+    (λ d. refl) c.note_sent_again.ensures c.self.invariant.side_by_side) c.self.invariant
 
 pub returns-clause-noted : goal.returns-clause-noted
 returns-clause-noted c =
     let f : Flight = record { queue = c.self.inside.queue; next_tsn = c.self.inside.next_tsn; acked_tsn = c.self.inside.acked_tsn } in
     let p = has_tsn c.args.tsn in
     let g = sent_again c.saturating_add-count.result c.args.now in
-    ap (λ (o : Outbound). find p o.inflight.chunks) c.note_sent_again.ensures ∙ found-changed p g (λ x. refl) f.queue.inflight.chunks c.in-Some.chunk.now (sym c.in-Some.ensures)
+    ap (λ (o : Outbound). find p o.inflight.chunks) c.note_sent_again.ensures
+    ∙ found-changed p g (λ x. refl) f.queue.inflight.chunks c.in-Some.chunk.now (sym c.in-Some.ensures)
     ∙ ap (λ (y : ChunkPayloadData). Some (g y)) (sym c.in_ok-again.ensures.ok)

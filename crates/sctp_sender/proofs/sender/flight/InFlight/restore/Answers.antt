@@ -11,7 +11,8 @@ use Rattle.sctp_sender.proofs.sender.flight.InFlight.restore.Goals as goal
 pub invariant_of-self : goal.invariant_of-self
 invariant_of-self c =
     let f : Flight = record { queue = c.self.inside.queue; next_tsn = c.self.inside.next_tsn; acked_tsn = c.self.inside.acked_tsn } in
-    subst (λ (o : Outbound). IsContiguous (record { queue = o; next_tsn = f.next_tsn; acked_tsn = f.acked_tsn })) (sym c.restore_each.ensures) (restored-contiguous c.args.backs.items f c.self.invariant)
+    subst (λ (o : Outbound). IsContiguous (record { queue = o; next_tsn = f.next_tsn; acked_tsn = f.acked_tsn })) (sym c.restore_each.ensures)
+    (restored-contiguous c.args.backs.items f c.self.invariant)
 
 pub returns-clause-outstanding : goal.returns-clause-outstanding
 returns-clause-outstanding c = λ s ks is.
@@ -20,5 +21,6 @@ returns-clause-outstanding c = λ s ks is.
     let bs = c.args.backs.items in
     let new : with_restored bs f ≡ g = ap (λ (o : Outbound). let h : Flight = record f { queue = o } in h) (sym c.restore_each.ensures) in
     let here = is ∙ ap (λ (h : Flight). back_each s h.queue.inflight.chunks ks) (sym c.self.view_is) in
-    let all = subst (λ (h : Flight). All (λ (b : TakenBack). can_resend b.tsn h ≡ true) (told_back bs f.queue.inflight.chunks)) new (outstanding s f c.self.invariant ks bs here) in
+    let all = subst (λ (h : Flight). All (λ (b : TakenBack). can_resend b.tsn h ≡ true) (told_back bs f.queue.inflight.chunks)) new
+    (outstanding s f c.self.invariant ks bs here) in
     subst (λ (h : Flight). All (λ (b : TakenBack). can_resend b.tsn g ≡ true) (told_back bs h.queue.inflight.chunks)) c.self.view_is all

@@ -11,5 +11,7 @@ use Rattle.sctp_sender.proofs.sender.flight.InFlight.retransmit_all.Goals as goa
 pub invariant_of-self : goal.invariant_of-self
 invariant_of-self c =
     let f : Flight = record { queue = c.self.inside.queue; next_tsn = c.self.inside.next_tsn; acked_tsn = c.self.inside.acked_tsn } in
-    kept f (record f { queue = c.mark_all_to_retransmit.new.self }) (ap (λ (o : Outbound). tsns o.inflight.chunks) c.mark_all_to_retransmit.ensures ∙ changed-run is_outstanding (with_retransmit true) (λ d. refl) f.queue.inflight.chunks) refl refl
-    (marked-in-line f.queue c.mark_all_to_retransmit.new.self is_outstanding (with_retransmit true) (λ d. refl) c.mark_all_to_retransmit.ensures c.self.invariant.side_by_side) c.self.invariant
+    kept f (record f { queue = c.mark_all_to_retransmit.new.self }) (ap (λ (o : Outbound). tsns o.inflight.chunks) c.mark_all_to_retransmit.ensures
+    ∙ changed-run is_outstanding (with_retransmit true) (λ d. refl) f.queue.inflight.chunks) refl refl
+    (marked-in-line f.queue c.mark_all_to_retransmit.new.self is_outstanding (with_retransmit true)
+    (λ d. refl) c.mark_all_to_retransmit.ensures c.self.invariant.side_by_side) c.self.invariant

@@ -23,9 +23,11 @@ invariant_of-self-2 c =
     let f : Flight = record { queue = c.self.inside.queue; next_tsn = c.self.inside.next_tsn; acked_tsn = c.self.inside.acked_tsn } in
     let room : may_send f ≡ true = rw (← c.self.view_is) at c.requires in
     sent f c.args.now c.send_next.new.self c.send_next.new.next_tsn c.self.invariant room c.in_ok-sent.ensures.ok c.in_ok-sent.ensures.raised
-    (sent-in-line f.queue (following_tsn f.acked_tsn) (omega arith) c.self.invariant.few c.self.invariant.run c.are_whole.ensures c.self.invariant.side_by_side c.args.now f.next_tsn (let next = c.self.invariant.next in omega (arith, next)) c.send_next.new.self c.in_ok-sent.ensures.ok)
+    (sent-in-line f.queue (following_tsn f.acked_tsn) (omega arith) c.self.invariant.few c.self.invariant.run c.are_whole.ensures c.self.invariant.side_by_side
+    c.args.now f.next_tsn (let next = c.self.invariant.next in omega (arith, next)) c.send_next.new.self c.in_ok-sent.ensures.ok)
 
 pub returns-clause-noted : goal.returns-clause-noted
 returns-clause-noted c =
     let f : Flight = record { queue = c.self.inside.queue; next_tsn = c.self.inside.next_tsn; acked_tsn = c.self.inside.acked_tsn } in
-    rw (← c.self.view_is) (ap (λ (o : Outbound). find (has_tsn f.next_tsn) o.inflight.chunks) c.in_ok-sent.ensures.ok ∙ noted-next f c.self.invariant c.args.now)
+    rw (← c.self.view_is)
+    (ap (λ (o : Outbound). find (has_tsn f.next_tsn) o.inflight.chunks) c.in_ok-sent.ensures.ok ∙ noted-next f c.self.invariant c.args.now)

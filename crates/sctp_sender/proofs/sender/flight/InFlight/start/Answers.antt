@@ -7,5 +7,6 @@ use Rattle.sctp_sender.proofs.sender.flight.InFlight.start.Goals as goal
 pub invariant_of-self : goal.invariant_of-self
 invariant_of-self c =
     let f : Flight = record { queue = c.self.inside.queue; next_tsn = c.self.inside.next_tsn; acked_tsn = c.self.inside.acked_tsn } in
-    kept f (record f { queue = c.start_timed_messages.new.self }) (started-chunks c.args.now f.queue c.start_timed_messages.new.self c.start_timed_messages.ensures) refl refl
+    kept f (record f { queue = c.start_timed_messages.new.self })
+    (started-chunks c.args.now f.queue c.start_timed_messages.new.self c.start_timed_messages.ensures) refl refl
     (started-in-line c.args.now f.queue c.start_timed_messages.new.self c.start_timed_messages.ensures c.self.invariant.side_by_side) c.self.invariant

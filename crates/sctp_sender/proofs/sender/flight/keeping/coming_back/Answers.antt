@@ -24,5 +24,6 @@ loop-place-preserved c =
 
 pub returns-clause-ok : goal.returns-clause-ok
 returns-clause-ok c =
-    let all : min (length c.args.kept.now) (length c.args.queue.now.inflight.chunks) ≤ c.loop-place.place = omega (arith, c.loop-place-test.false, c.min-end.ensures) in
+    let all : min (length c.args.kept.now)
+    (length c.args.queue.now.inflight.chunks) ≤ c.loop-place.place = omega (arith, c.loop-place-test.false, c.min-end.ensures) in
     c.loop-place.invariant.back ∙ back-all (sack_of c.args.sack.now) c.loop-place.place c.args.queue.now.inflight.chunks c.args.kept.now all

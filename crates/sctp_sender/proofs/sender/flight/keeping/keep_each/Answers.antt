@@ -38,12 +38,14 @@ loop-place-preserved c =
     let more = keep-more (sack_of c.args.sack.now) cs ks c.args.places.0 i x k c.loop-place.auto.place at.0 at.1 c.in_ok-bytes.ensures.ok in
     let is : c.if-is_kept.used ≡ (if is_some k then length (ys ++ k ∷ []) else c.loop-place.used) =
     elim c.if-is_kept.branch [
-      | then-is_kept w ↦ w.used-is ∙ w.len-used.ensures ∙ c.put.new.items.ok.0 ∙ ap length put ∙ ap (λ b. if b then length (ys ++ k ∷ []) else c.loop-place.used) (sym (sym c.is_some-is_kept.ensures ∙ w.if-is_kept.true))
+      | then-is_kept w ↦ w.used-is ∙ w.len-used.ensures ∙ c.put.new.items.ok.0 ∙ ap length put
+          ∙ ap (λ b. if b then length (ys ++ k ∷ []) else c.loop-place.used) (sym (sym c.is_some-is_kept.ensures ∙ w.if-is_kept.true))
       | else-is_kept w ↦ w.used-is ∙ ap (λ b. if b then length (ys ++ k ∷ []) else c.loop-place.used) (sym (sym c.is_some-is_kept.ensures ∙ w.if-is_kept.false))
     ] in
     record {
       kept = put ∙ ap (λ zs. zs ++ k ∷ []) inv.kept ∙ sym more;
-      used = subst (λ n. IsUsed n c.put.new.items.items) (sym is) (subst (IsUsed (if is_some k then length (ys ++ k ∷ []) else c.loop-place.used)) (sym put) (used-more c.loop-place.used ys k inv.used));
+      used = subst (λ n. IsUsed n c.put.new.items.items) (sym is)
+          (subst (IsUsed (if is_some k then length (ys ++ k ∷ []) else c.loop-place.used)) (sym put) (used-more c.loop-place.used ys k inv.used));
     }
 
 pub returns-clause-ok : goal.returns-clause-ok

@@ -23,7 +23,8 @@ loop-back-preserved-in_default-back c =
     let m = length-append {A = Option (List ℕ)} bs (None ∷ []) in
     let w = ap weight items ∙ weight-last bs None in
     record {
-      goes_on = ap (with_inflight q) (sym (restored-none bs q.inflight.chunks)) ∙ ap (λ ks. with_inflight q (restored ks q.inflight.chunks)) (sym items) ∙ inv.goes_on;
+      goes_on = ap (with_inflight q) (sym (restored-none bs q.inflight.chunks)) ∙ ap (λ ks. with_inflight q (restored ks q.inflight.chunks)) (sym items)
+          ∙ inv.goes_on;
       within = omega (arith, n, m, inv.within);
       fits = omega (arith, w, inv.fits);
     }

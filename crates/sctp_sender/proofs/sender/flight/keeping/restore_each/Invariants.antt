@@ -6,7 +6,8 @@ use Rattle.sctp_sender.proofs.sender.flight.keeping.restore_each.Given as goal
 
 abbrev pub invariant-loop-back : goal.invariant-loop-back
 invariant-loop-back l = record {
-  goes_on : with_inflight l.queue (restored l.backs.items l.queue.inflight.chunks) ≡ with_inflight l.initial.queue (restored l.initial.backs.items l.initial.queue.inflight.chunks);
+  goes_on : with_inflight l.queue (restored l.backs.items l.queue.inflight.chunks)
+      ≡ with_inflight l.initial.queue (restored l.initial.backs.items l.initial.queue.inflight.chunks);
   within : length l.backs.items ≤ length l.queue.inflight.chunks;
   fits : total_bytes l.queue + weight l.backs.items < 2 ^ 64;
 }

@@ -1,4 +1,5 @@
-use Rattle.std.proofs.Common.{◌≡◌, ℕ, ◌<◌, ◌≤◌, true, false, List, [], ◌∷◌, ◌++◌, length, map, take, drop, set, get_or, slice_get, Some, refl, ap, sym, ◌∙◌, arith, rules}
+use Rattle.std.proofs.Common.{◌≡◌, ℕ, ◌<◌, ◌≤◌, true, false, List, [], ◌∷◌, ◌++◌, length, map, take, drop, set, get_or, slice_get, Some, refl, ap, sym, ◌∙◌}
+use Rattle.std.proofs.Common.{arith, rules}
 use Rattle.std.proofs.lemmas.List.{map-append, append-nil}
 use Rattle.std.specs.Prelude.{◌&&◌, nat_eq, not, vec_capacity}
 use Rattle.std.specs.List.{filter}
@@ -20,7 +21,8 @@ unreachable-requires c =
     let i = c.loop-place.place in
     let ys = c.loop-place.queue.inflight.chunks in
     let lt : i < length cs = omega (arith, c.loop-place-test.true, c.requires.reach) in
-    let e = there (reports_anew (sack_of c.args.sack.now)) as_acknowledged cs ys i lt (ap (λ (o : Outbound). o.inflight.chunks) c.loop-place.invariant.marked) any_chunk in
+    let e = there (reports_anew (sack_of c.args.sack.now)) as_acknowledged cs ys i lt
+    (ap (λ (o : Outbound). o.inflight.chunks) c.loop-place.invariant.marked) any_chunk in
     let none = c.in_default.ensures in
     cc
 
@@ -44,7 +46,8 @@ loop-place-preserved-then-chunk c =
     ] in
     record {
       marked = c.loop-place.invariant.marked ∙ ap (with_inflight q) (sym so_far ∙ unmarked p as_acknowledged cs ys i lt so_far x is nay);
-      told = c.loop-place.invariant.told ∙ ap (map (released_of w)) (sym (told p as_acknowledged cs ys i lt so_far x is false nay ∙ append-nil (filter p (take i cs))));
+      told = c.loop-place.invariant.told
+          ∙ ap (map (released_of w)) (sym (told p as_acknowledged cs ys i lt so_far x is false nay ∙ append-nil (filter p (take i cs))));
       room = c.loop-place.invariant.room;
     }
 
@@ -54,7 +57,11 @@ put-requires c =
     let w = (λ (m : ℕ). not (is_half c.args.half m) && not (contains nat_eq c.args.unfinished.now m)) in
     let i = c.loop-place.place in
     let lt : i < length q.inflight.chunks = omega (arith, c.loop-place-test.true, c.requires.reach) in
-    let short : length c.loop-place.released.items ≤ i = omega (arith, ap length c.loop-place.invariant.told, told-short (reports_anew (sack_of c.args.sack.now)) (released_of w) q.inflight.chunks i (omega (arith, lt))) in
+    let short : length c.loop-place.released.items ≤ i = omega (
+      arith,
+      ap length c.loop-place.invariant.told,
+      told-short (reports_anew (sack_of c.args.sack.now)) (released_of w) q.inflight.chunks i (omega (arith, lt)),
+    ) in
     let wide : i < vec_capacity c.loop-place.released = omega (arith, c.loop-place-test.true, c.requires.room, c.loop-place.invariant.room) in
     let narrow : length c.loop-place.released.items < vec_capacity c.loop-place.released = omega (arith, short, wide) in
     search rules
@@ -74,11 +81,14 @@ loop-place-preserved c =
     let is : slice_get ys i ≡ Some x = sym c.in-Some.ensures in
     let yea : p x ≡ true = sym (c.is_reported.ensures x refl c.if-chunk.false) ∙ c.if-not-is_reported.false in
     record {
-      marked = c.mark_as_acked_at.ensures.acked x ∙ ap (λ (o : Outbound). with_inflight o (set ys i (as_acknowledged (get_or ys i x)))) c.loop-place.invariant.marked ∙ ap (with_inflight q) (marked p as_acknowledged cs ys i lt so_far x is yea);
+      marked = c.mark_as_acked_at.ensures.acked x
+          ∙ ap (λ (o : Outbound). with_inflight o (set ys i (as_acknowledged (get_or ys i x)))) c.loop-place.invariant.marked
+          ∙ ap (with_inflight q) (marked p as_acknowledged cs ys i lt so_far x is yea);
       told =
           c.put.ensures.items ∙ ap (λ (rs : List Released). rs ++ c.released_of.result ∷ []) c.loop-place.invariant.told
           ∙ ap (λ (r : Released). map (released_of w) (filter p (take i cs)) ++ r ∷ []) (c.released_of.ensures w (sym c.is_whole-whole.ensures))
-          ∙ sym (ap (map (released_of w)) (told p as_acknowledged cs ys i lt so_far x is true yea) ∙ map-append (released_of w) (filter p (take i cs)) (x ∷ []));
+          ∙ sym (ap (map (released_of w)) (told p as_acknowledged cs ys i lt so_far x is true yea)
+          ∙ map-append (released_of w) (filter p (take i cs)) (x ∷ []));
       room = omega (arith, c.loop-place.invariant.room, c.put.ensures.capacity);
     }
 
@@ -88,7 +98,8 @@ returns-clause-marked c =
     let cs = q.inflight.chunks in
     let p = reports_anew (sack_of c.args.sack.now) in
     let all : c.loop-place.place ≡ c.args.reach = omega (arith, c.loop-place-test.false, c.loop-place.auto.place-end) in
-    c.loop-place.invariant.marked ∙ ap (λ k. with_inflight q (change_where p as_acknowledged (take k cs) ++ drop k cs)) all ∙ ap (with_inflight q) (all-changed p cs c.args.reach c.requires.beyond as_acknowledged)
+    c.loop-place.invariant.marked ∙ ap (λ k. with_inflight q (change_where p as_acknowledged (take k cs) ++ drop k cs)) all
+    ∙ ap (with_inflight q) (all-changed p cs c.args.reach c.requires.beyond as_acknowledged)
 
 pub returns-clause-told : goal.returns-clause-told
 returns-clause-told c =
@@ -96,4 +107,5 @@ returns-clause-told c =
     let cs = c.args.queue.now.inflight.chunks in
     let p = reports_anew (sack_of c.args.sack.now) in
     let all : c.loop-place.place ≡ c.args.reach = omega (arith, c.loop-place-test.false, c.loop-place.auto.place-end) in
-    c.loop-place.invariant.told ∙ ap (λ k. map (released_of w) (filter p (take k cs))) all ∙ ap (map (released_of w)) (all-told p cs c.args.reach c.requires.beyond)
+    c.loop-place.invariant.told ∙ ap (λ k. map (released_of w) (filter p (take k cs))) all
+    ∙ ap (map (released_of w)) (all-told p cs c.args.reach c.requires.beyond)

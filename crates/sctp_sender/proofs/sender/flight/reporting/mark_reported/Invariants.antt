@@ -11,7 +11,9 @@ use Rattle.sctp_sender.proofs.sender.flight.reporting.mark_reported.Given as goa
 
 abbrev pub invariant-loop-place : goal.invariant-loop-place
 invariant-loop-place l = record {
-  marked : l.queue ≡ with_inflight l.initial.queue (change_where (reports_anew (sack_of l.sack)) as_acknowledged (take l.place l.initial.queue.inflight.chunks) ++ drop l.place l.initial.queue.inflight.chunks);
-  told : l.released.items ≡ map (released_of (λ m. not (is_half l.half m) && not (contains nat_eq l.unfinished m))) (filter (reports_anew (sack_of l.sack)) (take l.place l.initial.queue.inflight.chunks));
+  marked : l.queue ≡ with_inflight l.initial.queue (change_where (reports_anew (sack_of l.sack)) as_acknowledged (take l.place l.initial.queue.inflight.chunks)
+      ++ drop l.place l.initial.queue.inflight.chunks);
+  told : l.released.items ≡ map (released_of (λ m. not (is_half l.half m) && not (contains nat_eq l.unfinished m)))
+      (filter (reports_anew (sack_of l.sack)) (take l.place l.initial.queue.inflight.chunks));
   room : vec_capacity l.initial.released ≤ vec_capacity l.released;
 }

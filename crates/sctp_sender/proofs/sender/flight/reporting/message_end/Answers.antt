@@ -9,4 +9,5 @@ returns-then-begins_another-clause-apart c = λ s.
     let at = c.loop-place.place - 1 in
     let next : suc at ≡ c.loop-place.place = omega (arith, c.loop-place.auto.place, c.if-reach-eq0.false) in
     let differ = c.begins_another.ensures c.if-begins_another.true in
-    subst (λ k. IsApartAt k cs) next (cut-at cs at s (λ d. subst (λ k. (get_or cs at d).message_id ≢ (get_or cs k d).message_id) (sym next) (differ d)) (omega (arith, next, c.loop-place-test.true, c.inflight_len-place-end.ensures)))
+    subst (λ k. IsApartAt k cs) next (cut-at cs at s (λ d. subst (λ k. (get_or cs at d).message_id ≢ (get_or cs k d).message_id) (sym next) (differ d))
+    (omega (arith, next, c.loop-place-test.true, c.inflight_len-place-end.ensures)))

@@ -7,7 +7,8 @@ use Rattle.sctp_sender.proofs.sender.flight.resending.count_missing.Given as goa
 
 abbrev pub invariant-loop-place : goal.invariant-loop-place
 invariant-loop-place l = record {
-  missed : l.queue ≡ with_inflight l.initial.queue (change_where can_miss missed (take l.place l.initial.queue.inflight.chunks) ++ drop l.place l.initial.queue.inflight.chunks);
+  missed : l.queue ≡ with_inflight l.initial.queue
+      (change_where can_miss missed (take l.place l.initial.queue.inflight.chunks) ++ drop l.place l.initial.queue.inflight.chunks);
   thirds : l.thirds ≡ length (filter is_third (take l.place l.initial.queue.inflight.chunks));
   few : l.thirds ≤ l.place;
 }

@@ -16,6 +16,7 @@ returns-clause-noted c =
     let p = has_tsn c.args.tsn in
     let n = c.args.misses in
     let third : (n == 2) ≡ true = eq-eqb n 2 (omega arith) in
-    c.set_retransmit.ensures.changed ∙ ap (λ (o : Outbound). with_inflight o (change_where p (with_retransmit true) o.inflight.chunks)) c.set_miss_indicator.ensures.changed
-    ∙ ap (with_inflight q) (changed-twice p (with_miss_indicator (n + 1)) (λ x. refl) (with_retransmit true) cs)
-    ∙ ap (λ b. with_inflight q (change_where p (λ (x : ChunkPayloadData). let y : ChunkPayloadData = record x { miss_indicator = n + 1; retransmit = b || x.retransmit } in y) cs)) (sym third)
+    c.set_retransmit.ensures.changed
+    ∙ ap (λ (o : Outbound). with_inflight o (change_where p (with_retransmit true) o.inflight.chunks)) c.set_miss_indicator.ensures.changed
+    ∙ ap (with_inflight q) (changed-twice p (with_miss_indicator (n + 1)) (λ x. refl) (with_retransmit true) cs) ∙ ap (λ b. with_inflight q (change_where p
+    (λ (x : ChunkPayloadData). let y : ChunkPayloadData = record x { miss_indicator = n + 1; retransmit = b || x.retransmit } in y) cs)) (sym third)

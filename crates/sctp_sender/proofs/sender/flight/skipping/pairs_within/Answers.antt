@@ -14,7 +14,10 @@ loop-place-preserved-then-not-is_named c =
     let i = c.loop-place.place in
     let nay : is_named x ≡ false = sym c.is_named.ensures ∙ c.if-not-is_named.true in
     let e = more-named cs i x false (sym c.in-Some.ensures) nay ∙ append-nil (filter is_named (take i cs)) in
-    record { names = subst (λ (xs : List ChunkPayloadData). Name c.loop-place.pairs xs) (sym e) c.loop-place.invariant.names; fits = c.loop-place.invariant.fits }
+    record {
+      names = subst (λ (xs : List ChunkPayloadData). Name c.loop-place.pairs xs) (sym e) c.loop-place.invariant.names;
+      fits = c.loop-place.invariant.fits;
+    }
 
 pub loop-place-preserved : goal.loop-place-preserved
 loop-place-preserved c =
@@ -24,7 +27,8 @@ loop-place-preserved c =
     let yea : is_named x ≡ true = sym c.is_named.ensures ∙ c.if-not-is_named.false in
     let e = more-named cs i x true (sym c.in-Some.ensures) yea in
     record {
-      names = subst (λ (xs : List ChunkPayloadData). Name c.name_within.new.pairs xs) (sym e) (c.in_ok-fits.ensures.named c.if-not-fits.false (filter is_named (take i cs)) c.loop-place.invariant.names);
+      names = subst (λ (xs : List ChunkPayloadData). Name c.name_within.new.pairs xs) (sym e)
+          (c.in_ok-fits.ensures.named c.if-not-fits.false (filter is_named (take i cs)) c.loop-place.invariant.names);
       fits = c.in_ok-fits.ensures.room;
     }
 
@@ -40,6 +44,7 @@ returns-then-not-fits-clause-furthest c =
     let n = length-append ps (pair_of x ∷ []) in
     inr (
       ps ++ pair_of x ∷ [],
-      subst (λ (xs : List ChunkPayloadData). Name (ps ++ pair_of x ∷ []) xs) (sym e) (added ps (filter is_named (take i cs)) x full.1 c.loop-place.invariant.names),
+      subst (λ (xs : List ChunkPayloadData). Name (ps ++ pair_of x ∷ []) xs) (sym e)
+          (added ps (filter is_named (take i cs)) x full.1 c.loop-place.invariant.names),
       omega (arith, n, full.2),
     )

@@ -24,4 +24,5 @@ returns-clause-ok c = λ l e.
 
 pub returns-clause-length : goal.returns-clause-length
 returns-clause-length c =
-    ap bytes_of c.set_reliability.ensures ∙ bytes-are c.reliability_type.result c.reliability_value.result c.in_ok-chunks.chunks.items ∙ ap length c.in_ok-chunks.ensures.joined
+    ap bytes_of c.set_reliability.ensures ∙ bytes-are c.reliability_type.result c.reliability_value.result c.in_ok-chunks.chunks.items
+    ∙ ap length c.in_ok-chunks.ensures.joined

@@ -8,10 +8,12 @@ pub invariant_of-self : goal.invariant_of-self
 invariant_of-self c =
     let ls = c.self.inside.items.items in
     let p : IsOnlyPlace c.args.stream (numbers_of ls) c.args.place = rw (← c.self.view_is) at c.requires in
-    c.self.invariant ∙ numbers-stay number ls (numbers_of ls) refl c.args.stream c.args.place p c.index_mut.result.now c.set_sequence_number.new.self c.index_mut.ensures.value (ap number c.set_sequence_number.ensures)
+    c.self.invariant ∙ numbers-stay number ls (numbers_of ls) refl c.args.stream c.args.place p c.index_mut.result.now c.set_sequence_number.new.self
+    c.index_mut.ensures.value (ap number c.set_sequence_number.ensures)
 
 pub returns : goal.returns
 returns c =
     let ls = c.self.inside.items.items in
     let p : IsOnlyPlace c.args.stream (numbers_of ls) c.args.place = rw (← c.self.view_is) at c.requires in
-    rw (← c.self.view_is) (changed number ls (numbers_of ls) refl c.args.stream c.args.place p from_first c.index_mut.result.now c.set_sequence_number.new.self c.index_mut.ensures.value c.set_sequence_number.ensures)
+    rw (← c.self.view_is) (changed number ls (numbers_of ls) refl c.args.stream c.args.place p from_first c.index_mut.result.now c.set_sequence_number.new.self
+    c.index_mut.ensures.value c.set_sequence_number.ensures)
