@@ -1,5 +1,6 @@
 -- Rows that are filled, one after another, and how many there can be.
-use Rattle.std.proofs.Common.{◌≡◌, ℕ, zero, suc, ◌+◌, ◌<◌, ◌≤◌, Bool, true, false, if◌then◌else◌, List, [], ◌∷◌, ◌++◌, length, get_or, set, take, drop, Option, Some, None, refl, ap, ◌∙◌, arith}
+use Rattle.std.proofs.Common.{◌≡◌, ℕ, zero, suc, ◌+◌, ◌<◌, ◌≤◌, Bool, true, false, if◌then◌else◌, List, [], ◌∷◌, ◌++◌, length, get_or, set, take, drop, Option}
+use Rattle.std.proofs.Common.{Some, None, refl, ap, ◌∙◌, arith}
 use Rattle.std.specs.Prelude.{map, not}
 use Rattle.std.specs.List.{filter}
 use Rattle.std.proofs.lemmas.List.{length-map}
@@ -20,26 +21,29 @@ use Rattle.sctp_c.specs.Acks.{released_to}
 abbrev pub filled_to : {A B : Type 0} → (A → B) → ℕ → List A → List B → List B
 filled_to f i xs old = map f (take i xs) ++ drop i old
 
-pub fill-step : {A B : Type 0} (f : A → B) (xs : List A) (old : List B) (i : ℕ) (d : A) → i < length xs → length xs ≤ length old → set (filled_to f i xs old) i (f (get_or xs i d)) ≡ filled_to f (suc i) xs old
+pub fill-step : {A B : Type 0} (f : A → B) (xs : List A) (old : List B) (i : ℕ) (d : A) → i < length xs → length xs ≤ length old
+    → set (filled_to f i xs old) i (f (get_or xs i d)) ≡ filled_to f (suc i) xs old
 fill-step f [] old i d lt le = absurd (omega arith)
 fill-step f (x ∷ xs) [] i d lt le = absurd (omega arith)
 fill-step f (x ∷ xs) (o ∷ old) zero d lt le = refl
 fill-step f (x ∷ xs) (o ∷ old) (suc i) d lt le = ap (λ rest. f x ∷ rest) (fill-step f xs old i d (omega arith) (omega arith))
 
-pub fill-all : {A B : Type 0} (f : A → B) (xs : List A) (old : List B) → length xs ≤ length old → filled_to f (length xs) xs old ≡ map f xs ++ drop (length (map f xs)) old
+pub fill-all : {A B : Type 0} (f : A → B) (xs : List A) (old : List B) → length xs ≤ length old
+    → filled_to f (length xs) xs old ≡ map f xs ++ drop (length (map f xs)) old
 fill-all f [] old le = refl
 fill-all f (x ∷ xs) [] le = absurd (omega arith)
 fill-all f (x ∷ xs) (o ∷ old) le = ap (λ rest. f x ∷ rest) (fill-all f xs old (omega arith))
 
 -- one more row is filled
-pub fill-next : {A B : Type 0} (f : A → B) (xs : List A) (old rows : List B) (i : ℕ) (y : B) (d : A) → i < length xs → length xs ≤ length old → rows ≡ filled_to f i xs old → y ≡ f (get_or xs i d)
-    → set rows i y ≡ filled_to f (i + 1) xs old
+pub fill-next : {A B : Type 0} (f : A → B) (xs : List A) (old rows : List B) (i : ℕ) (y : B) (d : A) → i < length xs → length xs ≤ length old
+    → rows ≡ filled_to f i xs old → y ≡ f (get_or xs i d) → set rows i y ≡ filled_to f (i + 1) xs old
 fill-next f xs old rows i y d lt le e is =
     let next : suc i ≡ i + 1 = omega arith in
     ap (λ r. set r i y) e ∙ ap (λ z. set (filled_to f i xs old) i z) is ∙ fill-step f xs old i d lt le ∙ ap (λ n. filled_to f n xs old) next
 
 -- all are
-pub fill-done : {A B : Type 0} (f : A → B) (xs : List A) (old rows : List B) (i : ℕ) → i ≤ length xs → length xs ≤ i → length xs ≤ length old → rows ≡ filled_to f i xs old → rows ≡ map f xs ++ drop (length (map f xs)) old
+pub fill-done : {A B : Type 0} (f : A → B) (xs : List A) (old rows : List B) (i : ℕ) → i ≤ length xs → length xs ≤ i → length xs ≤ length old
+    → rows ≡ filled_to f i xs old → rows ≡ map f xs ++ drop (length (map f xs)) old
 fill-done f xs old rows i le ge room e =
     let end : i ≡ length xs = omega arith in
     e ∙ ap (λ n. filled_to f n xs old) end ∙ fill-all f xs old room
@@ -68,7 +72,13 @@ released-few s t = step (is_outdated s t.flight) refl
         omega (arith, none, lows-length (released_by s t.flight) t.streams)
     step false e =
         let all : length (released_by s t.flight) ≡ length (told false) = ap (λ b. length (told b)) e in
-        omega (arith, all, lows-length (released_by s t.flight) t.streams, length-map (filter (reports_anew s) chunks) (released_of (is_whole s t.flight)), filter-few (reports_anew s) chunks)
+        omega (
+          arith,
+          all,
+          lows-length (released_by s t.flight) t.streams,
+          length-map (filter (reports_anew s) chunks) (released_of (is_whole s t.flight)),
+          filter-few (reports_anew s) chunks,
+        )
 
 pub told-few : (bs : List (Option (List ℕ))) (cs : List ChunkPayloadData) → length (told_back bs cs) ≤ length cs
 told-few [] cs = omega arith

@@ -19,7 +19,8 @@ forward-size f =
     let v = forward_tsn_value f in
     omega (arith, length_forward_tsn_value f, length-append (be16 (4 + length v)) v, length_be16 (4 + length v))
 
-pub forward-fits : (f : ForwardTsn) (bytes view : List ℕ) (room n : ℕ) → room ≡ min n 65532 → 8 + 4 * length f.streams ≤ room → bytes ≡ encoding_of (forward_tsn_chunk f) → view ≡ bytes → length view ≤ n
+pub forward-fits : (f : ForwardTsn) (bytes view : List ℕ) (room n : ℕ) → room ≡ min n 65532 → 8 + 4 * length f.streams ≤ room
+    → bytes ≡ encoding_of (forward_tsn_chunk f) → view ≡ bytes → length view ≤ n
 forward-fits f bytes view room n is fits e same =
     let below : room ≤ n = grind (arith, is) in
     omega (arith, below, fits, ap (λ (l : List ℕ). length l) e, ap (λ (l : List ℕ). length l) same, forward-size f)
@@ -36,7 +37,8 @@ forward-memory f e room n is fits (inr h) = h.0
 -- so many bytes are wanted for one with so many names
 pub wanted : (r : Option ChunkForwardTsn) (whole : ChunkForwardTsn) (names : ℕ) (f : Flight) → r ≡ Some whole
     → option_map (λ (c : ChunkForwardTsn). c.new_cumulative_tsn) r ≡ skip_end (advanced_ack_point f) f
-    → IfSome r (λ (c : ChunkForwardTsn). Name c.streams.items (named_up_to c.new_cumulative_tsn f)) → names ≡ min (length whole.streams.items) 16381 → IsWanted (8 + 4 * names) f
+    → IfSome r (λ (c : ChunkForwardTsn). Name c.streams.items (named_up_to c.new_cumulative_tsn f)) → names ≡ min (length whole.streams.items) 16381
+    → IsWanted (8 + 4 * names) f
 wanted r whole names f is tsn named many = record {
   forward = forward_tsn_of whole;
   upto = subst (λ (o : Option ChunkForwardTsn). option_map (λ (c : ChunkForwardTsn). c.new_cumulative_tsn) o ≡ skip_end (advanced_ack_point f) f) is tsn;

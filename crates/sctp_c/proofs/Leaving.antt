@@ -1,5 +1,6 @@
 -- How many messages leave, and what is told of one.
-use Rattle.std.proofs.Common.{◌≡◌, ℕ, suc, ◌+◌, ◌-◌, ◌≤◌, Bool, true, false, if◌then◌else◌, List, [], ◌∷◌, ◌++◌, length, Option, Some, None, refl, ap, arith, length-append}
+use Rattle.std.proofs.Common.{◌≡◌, ℕ, suc, ◌+◌, ◌-◌, ◌≤◌, Bool, true, false, if◌then◌else◌, List, [], ◌∷◌, ◌++◌, length, Option, Some, None, refl, ap, arith}
+use Rattle.std.proofs.Common.{length-append}
 use Rattle.std.specs.Prelude.{option_to_list}
 use Rattle.std.specs.List.{filter, find}
 use Rattle.std.proofs.lemmas.List.{length-map}
@@ -45,7 +46,13 @@ first-few (Some t) tsns = omega arith
 
 pub told-few : (tsns : List ℕ) (most : ℕ) (t : Transmission) → length tsns ≤ most → length (leaving_to (tail_first tsns t.flight) t) ≤ most + 1
 told-few tsns most t le =
-    omega (arith, le, first-few (with_tail tsns t.flight) tsns, leaving-few (tail_first tsns t.flight) t.flight, lows-length (leaving_each (tail_first tsns t.flight) t.flight) t.streams)
+    omega (
+      arith,
+      le,
+      first-few (with_tail tsns t.flight) tsns,
+      leaving-few (tail_first tsns t.flight) t.flight,
+      lows-length (leaving_each (tail_first tsns t.flight) t.flight) t.streams,
+    )
 
 pub late-few : (now : ℕ) (t : Transmission) → length (leaving_to (late_order now t.flight) t) ≤ length t.flight.queue.inflight.chunks + 1
 late-few now t =

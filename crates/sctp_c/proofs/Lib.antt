@@ -1,4 +1,6 @@
 pub mod AnyWalk
+mod DataOut
+mod DataSent
 pub mod Filling
 pub mod Forwards
 pub mod Leaving

@@ -36,7 +36,8 @@ pub record NextPlace (packet : List ℕ) (at : ℕ) (cs : List ChunkKind) (i : �
   pub whole : at + padded_length (declared_length (drop at packet)) ≤ length packet
   pub walk : Walks Steps after (drop (at + padded_length (declared_length (drop at packet))) packet) (map wire_of (drop (suc i) cs)) []
 
-pub next_place : (packet : List ℕ) (at : ℕ) (cs : List ChunkKind) (i : ℕ) → i < length cs → Walks Steps after (drop at packet) (map wire_of (drop i cs)) [] → NextPlace packet at cs i
+pub next_place : (packet : List ℕ) (at : ℕ) (cs : List ChunkKind) (i : ℕ) → i < length cs → Walks Steps after (drop at packet) (map wire_of (drop i cs)) []
+    → NextPlace packet at cs i
 unfolding after
 next_place packet at cs i lt walk =
     let next = next_of (drop at packet) cs i lt walk in
@@ -50,7 +51,8 @@ next_place packet at cs i lt walk =
     }
 
 -- the places that are left, after one more
-pub later_places : (packet : List ℕ) (at i n : ℕ) (all : List SctpChunk) → i < n → drop i all ≡ chunks_from packet at (n - i) → drop i all ≡ chunk_at packet at ∷ chunks_from packet (at + padded_length (declared_length (drop at packet))) (n - suc i)
+pub later_places : (packet : List ℕ) (at i n : ℕ) (all : List SctpChunk) → i < n → drop i all ≡ chunks_from packet at (n - i)
+    → drop i all ≡ chunk_at packet at ∷ chunks_from packet (at + padded_length (declared_length (drop at packet))) (n - suc i)
 later_places packet at i n all lt e =
     let one : n - i ≡ suc (n - suc i) = omega arith in
     rw one at e

@@ -19,7 +19,8 @@ filled-step zero (y ∷ ys) (o ∷ os) x rest e lt = search e
 filled-step (suc i) (y ∷ ys) (o ∷ os) x rest e lt = ap (λ r. y ∷ r) (filled-step i ys os x rest e (omega arith))
 
 -- as many rows as there are, or as many items, are filled
-pub filled-done : {T : Type 0} (n : ℕ) (xs old : List T) → n ≡ min (length old) (length xs) → take n xs ++ drop n old ≡ take (length old) xs ++ drop (length xs) old
+pub filled-done : {T : Type 0} (n : ℕ) (xs old : List T) → n ≡ min (length old) (length xs)
+    → take n xs ++ drop n old ≡ take (length old) xs ++ drop (length xs) old
 filled-done n [] old e =
     let none : n ≡ 0 = omega arith in
     rw none (rw take-nil refl)
@@ -30,7 +31,8 @@ filled-done zero (x ∷ xs) (o ∷ os) e = absurd (omega arith)
 filled-done (suc n) (x ∷ xs) (o ∷ os) e = ap (λ r. x ∷ r) (filled-done n xs os (omega arith))
 
 -- the items from one on, each as a function gives it
-pub drop-map : {A B : Type 0} (f : A → B) (i : ℕ) (xs : List A) (d : A) → i < length xs → drop i (map f xs) ≡ f (slice_index_or xs i d) ∷ drop (suc i) (map f xs)
+pub drop-map : {A B : Type 0} (f : A → B) (i : ℕ) (xs : List A) (d : A) → i < length xs
+    → drop i (map f xs) ≡ f (slice_index_or xs i d) ∷ drop (suc i) (map f xs)
 drop-map f i [] d lt = absurd (omega arith)
 drop-map f zero (x ∷ xs) d lt = refl
 drop-map f (suc i) (x ∷ xs) d lt = drop-map f i xs d (omega arith)

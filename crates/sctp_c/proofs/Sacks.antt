@@ -19,7 +19,8 @@ pub within : (n room : ℕ) → 16 ≤ room → n ≤ max 16 room → n ≤ room
 within n room ge le = grind (arith, ge, le)
 
 -- it has an encoding, and there is room for it
-pub not-refused : (s : Sack) (e : Error) (spare room : ℕ) → 16 + 4 * (length s.gap_ack_blocks + length s.duplicate_tsn) ≤ max 16 room → 16 ≤ room → room ≤ 65532 → room ≤ spare → EncodingFault e (sack_chunk s) ⊎ ((e ≡ ErrOutOfMemory) × HasEncoding (sack_chunk s) × (spare < 4 + length (sack_value s))) → ⊥
+pub not-refused : (s : Sack) (e : Error) (spare room : ℕ) → 16 + 4 * (length s.gap_ack_blocks + length s.duplicate_tsn) ≤ max 16 room → 16 ≤ room → room ≤ 65532
+    → room ≤ spare → EncodingFault e (sack_chunk s) ⊎ ((e ≡ ErrOutOfMemory) × HasEncoding (sack_chunk s) × (spare < 4 + length (sack_value s))) → ⊥
 not-refused s e spare room fits ge le free (inl (inl f)) = f
 not-refused s e spare room fits ge le free (inl (inr h)) =
     let most = within (16 + 4 * (length s.gap_ack_blocks + length s.duplicate_tsn)) room ge fits in
@@ -29,8 +30,10 @@ not-refused s e spare room fits ge le free (inr h) =
     absurd (omega (arith, most, free, h.2, length_sack_value s))
 
 -- it fits the buffer
-pub fits-out : (s : Sack) (old bytes view : List ℕ) (room n : ℕ) → 16 + 4 * (length s.gap_ack_blocks + length s.duplicate_tsn) ≤ max 16 room → 16 ≤ room → room ≤ n → old ≡ [] → bytes ≡ old ++ encoding_of (sack_chunk s) → view ≡ bytes → length view ≤ n
+pub fits-out : (s : Sack) (old bytes view : List ℕ) (room n : ℕ) → 16 + 4 * (length s.gap_ack_blocks + length s.duplicate_tsn) ≤ max 16 room → 16 ≤ room
+    → room ≤ n → old ≡ [] → bytes ≡ old ++ encoding_of (sack_chunk s) → view ≡ bytes → length view ≤ n
 fits-out s old bytes view room n fits ge le none e same =
     let most = within (16 + 4 * (length s.gap_ack_blocks + length s.duplicate_tsn)) room ge fits in
-    let size : length bytes ≡ length old + length (encoding_of (sack_chunk s)) = ap (λ (l : List ℕ). length l) e ∙ length-append old (encoding_of (sack_chunk s)) in
+    let size : length bytes ≡ length old + length (encoding_of (sack_chunk s)) = ap (λ (l : List ℕ). length l) e
+    ∙ length-append old (encoding_of (sack_chunk s)) in
     omega (arith, most, le, size, ap (λ (l : List ℕ). length l) none, ap (λ (l : List ℕ). length l) same, sack-size s)

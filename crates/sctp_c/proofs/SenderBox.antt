@@ -13,7 +13,11 @@ use Rattle.sctp_c.specs.contracts.sender.SctpNewSender as New
 use Rattle.sctp_c.specs.contracts.parts.Parts as Parts
 
 abbrev pub E : Bx
-E = record { row = Value.the_row; laws = value.the_row_laws; al = record { row = Heap.the_row; laws = heap.the_row_laws; g = ghosts; d = dict; drops = impl [] tnil dnil } }
+E = record {
+  row = Value.the_row;
+  laws = value.the_row_laws;
+  al = record { row = Heap.the_row; laws = heap.the_row_laws; g = ghosts; d = dict; drops = impl [] tnil dnil };
+}
 
 abbrev pub FromHandle : Slot 0
 FromHandle = plain (λ _. Handle.the_row)

@@ -6,7 +6,9 @@ use Rattle.sctp_base.specs.Padding.{padded_length}
 use Rattle.sctp_base.specs.Walk.{Walks}
 use Rattle.sctp_chunks.specs.Framing.{declared_length, type_at}
 use Rattle.sctp_chunks.specs.Init.{ack_type}
-use Rattle.sctp_chunks.specs.Wire.{Wire, data_chunk, init_chunk, sack_chunk, heartbeat_chunk, heartbeat_ack_chunk, abort_chunk, shutdown_chunk, shutdown_ack_chunk, error_chunk, cookie_echo_chunk, cookie_ack_chunk, shutdown_complete_chunk, reconfig_chunk, forward_tsn_chunk, i_forward_tsn_chunk, type_of}
+use Rattle.sctp_chunks.specs.Wire.{Wire, data_chunk, init_chunk, sack_chunk, heartbeat_chunk, heartbeat_ack_chunk, abort_chunk, shutdown_chunk}
+use Rattle.sctp_chunks.specs.Wire.{shutdown_ack_chunk, error_chunk, cookie_echo_chunk, cookie_ack_chunk, shutdown_complete_chunk, reconfig_chunk}
+use Rattle.sctp_chunks.specs.Wire.{forward_tsn_chunk, i_forward_tsn_chunk, type_of}
 use Rattle.sctp_packets.specs.Packet.{Steps, after}
 use Rattle.sctp_c.specs.AnyChunks.{IsThere, Passes, TellsAll, any_chunk_at, is_read_type, is_stopping}
 use Rattle.sctp_c.specs.declared.packet.any.SctpAnyChunk.{SctpAnyChunk}
@@ -46,7 +48,8 @@ strict-passes packet at [] walk = ([], at, refl, walk)
 strict-passes packet at (w ∷ ws) walk =
     let next = at + padded_length (declared_length (drop at packet)) in
     let there : IsThere (drop at packet) = record { is_framed = walk.0.chunk.is_framed; whole = walk.0.whole; reads = λ _. (w, walk.0.chunk) } in
-    let later = strict-passes packet next ws (subst (λ (b : List ℕ). Walks Steps after b ws []) (drop-drop (padded_length (declared_length (drop at packet))) at packet) walk.1) in
+    let later = strict-passes packet next ws
+    (subst (λ (b : List ℕ). Walks Steps after b ws []) (drop-drop (padded_length (declared_length (drop at packet))) at packet) walk.1) in
     (any_chunk_at packet at ∷ later.0, later.1, (refl, there, goes-on-behind (drop at packet) w walk.0, later.2), later.3)
 
 pub strict-told : (packet : List ℕ) (ws : List Wire) → Walks Steps after (drop 12 packet) ws [] → (rows : List SctpAnyChunk) × TellsAll packet rows

@@ -25,10 +25,13 @@ module _ (now : ℕ) (a : AbandonedMessage) (o : Option AbandonedMessage) (row :
       → IfSome o (λ a. a.is_low ≡ fell a.stream old new) → ExpiresTail now row old new
   tail-told is told after answer released low =
       let f : ChunkPayloadData → ℕ × ℕ = λ c. (c.stream_identifier, c.message_id) in
-      let found = made-of f front (a.stream, a.number) (ap (λ p. option_map {U = ℕ × ℕ} (λ (a : AbandonedMessage). (a.stream, a.number)) p) (sym is) ∙ answer) in
-      let after-is : new ≡ after_abandon (message_of front) a.stream a.bytes old = subst (λ p. IfSome p (λ (a : AbandonedMessage). new ≡ after_abandon (message_of front) a.stream a.bytes old)) is after in
+      let found = made-of f front (a.stream, a.number)
+      (ap (λ p. option_map {U = ℕ × ℕ} (λ (a : AbandonedMessage). (a.stream, a.number)) p) (sym is) ∙ answer) in
+      let after-is : new ≡ after_abandon (message_of front) a.stream a.bytes old =
+      subst (λ p. IfSome p (λ (a : AbandonedMessage). new ≡ after_abandon (message_of front) a.stream a.bytes old)) is after in
       let low-is : a.is_low ≡ fell a.stream old new = subst (λ p. IfSome p (λ (a : AbandonedMessage). a.is_low ≡ fell a.stream old new)) is low in
-      let sum-is : sum_by (λ (g : AbandonedMessage). g.bytes) (option_to_list o) ≡ a.bytes = ap (λ p. sum_by (λ (g : AbandonedMessage). g.bytes) (option_to_list p)) is ∙ one-sum in
+      let sum-is : sum_by (λ (g : AbandonedMessage). g.bytes)
+      (option_to_list o) ≡ a.bytes = ap (λ p. sum_by (λ (g : AbandonedMessage). g.bytes) (option_to_list p)) is ∙ one-sum in
       let released-is : total_bytes new.flight.queue + a.bytes ≡ total_bytes old.flight.queue = omega (arith, released, sum-is) in
       subst (λ r. ExpiresTail now r old new) (sym told) (record {
         chunk = found.0;

@@ -25,11 +25,11 @@ has-bytes n len next e = step (len == 0) refl
     step true z = absurd (none-some n (sym (e ∙ ap (λ (c : Bool). if c then None else Some next) z)))
     step false z = (grind (arith, nat_tests, z), same_Some n next (e ∙ ap (λ (c : Bool). if c then None else Some next) z))
 
-pub writes : (stream payload_type number count : ℕ) (bytes : List ℕ) (ppi : PayloadProtocolIdentifier) (old new : Transmission) → ppi ≡ payload_type_from payload_type → write_refusal stream (length bytes) old ≡ None
+pub writes : (stream payload_type number count : ℕ) (bytes : List ℕ) (ppi : PayloadProtocolIdentifier) (old new : Transmission)
+    → ppi ≡ payload_type_from payload_type → write_refusal stream (length bytes) old ≡ None
     → (0 < length bytes → (l : StreamState) → stream_of stream old ≡ Some l → new ≡ written_to l stream ppi bytes old)
-    → Some number ≡ (if length bytes == 0 then None else Some old.flight.queue.next_message_id)
-    → ((l : StreamState) → stream_of stream old ≡ Some l → 0 < length bytes → count ≡ length (fragments_with_mode l ppi bytes))
-    → (0 < length bytes) × Writes stream payload_type bytes number count old new
+    → Some number ≡ (if length bytes == 0 then None else Some old.flight.queue.next_message_id) → ((l : StreamState) → stream_of stream old ≡ Some l
+    → 0 < length bytes → count ≡ length (fragments_with_mode l ppi bytes)) → (0 < length bytes) × Writes stream payload_type bytes number count old new
 writes stream payload_type number count bytes ppi old new is accepted after told counted =
     let some = has-bytes number (length bytes) old.flight.queue.next_message_id told in
     let found = opened stream (length bytes) old accepted in (

@@ -8,7 +8,8 @@ use Rattle.sctp_c.specs.Out.{padded}
 use Rattle.sctp_c.specs.Written.{IsChunk, IsFlaggedChunk}
 
 -- the encoding of a chunk that was read is that of its type and value
-pub encoding_is_chunk : (r : Result (List ℕ) Error) (typ : ℕ) (value : List ℕ) (w : Wire) → ReadsChunk (chunk_encoding typ 0 value) w → IfOk r (λ b. b ≡ encoding_of w) → IfOk r (λ b. IsChunk typ value (padded b))
+pub encoding_is_chunk : (r : Result (List ℕ) Error) (typ : ℕ) (value : List ℕ) (w : Wire) → ReadsChunk (chunk_encoding typ 0 value) w
+    → IfOk r (λ b. b ≡ encoding_of w) → IfOk r (λ b. IsChunk typ value (padded b))
 encoding_is_chunk (Ok b) typ value w reads e = record { chunk = w; reads = reads; encoding = ap padded e }
 encoding_is_chunk (Err e) typ value w reads _ = tt
 

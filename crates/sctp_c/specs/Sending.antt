@@ -5,7 +5,7 @@ use Rattle.sctp_chunks.specs.Wire.{encoding_of, data_chunk}
 use Rattle.sctp_data.specs.declared.chunk.chunk_payload_data.ChunkPayloadData.{ChunkPayloadData}
 use Rattle.sctp_data.specs.declared.chunk.chunk_payload_data.ReliabilityType.{ReliabilityType}
 use Rattle.sctp_data.specs.declared.chunk.chunk_payload_data.ReliabilityType.TheVariants.{Reliable, Rexmit, Timed}
-use Rattle.sctp_data.specs.PayloadData.{data_of, payload_type_from}
+use Rattle.sctp_data.specs.PayloadData.{Data, data_of, payload_type_from}
 use Rattle.sctp_outbound.specs.outbound_queue.OutboundQueue.{sent_next}
 use Rattle.sctp_outbound.specs.pending_queue.PendingQueue.{next_pending}
 use Rattle.sctp_sender.specs.declared.sender.refusal.SenderRefusal.{SenderRefusal}
@@ -48,9 +48,12 @@ pub record Writes (stream payload_type : ℕ) (bytes : List ℕ) (number fragmen
 
 -- ## Sending
 
--- the chunk as it is written with a TSN
+-- the chunk with a TSN, and as it is written so
+abbrev pub with_tsn : ℕ → ChunkPayloadData → Data
+with_tsn tsn c = record (data_of c) { tsn = tsn }
+
 abbrev pub encoding_with : ℕ → ChunkPayloadData → List ℕ
-encoding_with tsn c = encoding_of (data_chunk (record (data_of c) { tsn = tsn }))
+encoding_with tsn c = encoding_of (data_chunk (with_tsn tsn c))
 
 -- the fragment that is next is in flight under the next TSN, and lifetimes start
 abbrev pub after_send : ℕ → Transmission → Transmission

@@ -33,7 +33,7 @@ fn send_first(
         return None;
     }
     let (mut written, mut tsn) = (0, 0);
-    let code = sctp_sender_send_next(alloc, sender, 0, packet, &mut written, &mut tsn);
+    let code = sctp_sender_send_next(sender, 0, packet, &mut written, &mut tsn);
     if code != SCTP_OK {
         return None;
     }

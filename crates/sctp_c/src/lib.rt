@@ -7,6 +7,7 @@ mod bytes_out;
 pub mod callers;
 pub mod causes;
 pub mod code;
+mod data_out;
 mod fills;
 pub mod names;
 pub mod packet;

@@ -1,9 +1,9 @@
 //! Chunks that go out (RFC 4960 6.1, 6.3.3, 7.2.4).
 
-ghost use Rattle.std.specs.Prelude.{◌≡◌, ◌≢◌, ◌<◌, ◌≤◌, ◌⊎◌, ◌+◌, false, None, Some, find, length, option_map, if◌then◌else◌, IfOk, IfErr};
+ghost use Rattle.std.specs.Prelude.{◌≡◌, ◌≢◌, ◌<◌, ◌≤◌, ◌⊎◌, ◌+◌, false, None, Some, find, length, option_map, if◌then◌else◌, IfOk, IsOkUnless};
 ghost use Rattle.sctp_base.specs.declared.error.Error.TheVariants.{ErrLengthTooLarge, ErrOutOfMemory};
 ghost use Rattle.sctp_c.specs.Out.{padded};
-ghost use Rattle.sctp_c.specs.Sending.{IsSenderCode, Sends, Resends, after_send, encoding_with};
+ghost use Rattle.sctp_c.specs.Sending.{IsSenderCode, Sends, Resends, after_send, encoding_with, with_tsn};
 ghost use Rattle.sctp_chunks.specs.Wire.{data_chunk, encoding_of};
 ghost use Rattle.sctp_data.specs.PayloadData.{data_of};
 ghost use Rattle.sctp_outbound.specs.outbound_queue.OutboundQueue.{all_started};
@@ -15,16 +15,13 @@ ghost use Rattle.sctp_sender.specs.Sender.{with_flight};
 ghost use Rattle.sctp_serial.specs.DataChunks.{has_tsn};
 
 use super::SctpSender;
-use crate::bytes_out::put_padded;
 use crate::code::{
     SCTP_NOT_IN_FLIGHT, SCTP_NOTHING, SCTP_OK, SCTP_SHORT_BUFFER, of_error, of_sender,
 };
-use bytes::Bytes;
-use sctp_base::error::Result;
-use sctp_base::util::get_padding_size;
-use sctp_chunks::chunk::Chunk;
+use crate::data_out::{data_size, put_data};
+use sctp_base::error::{Error, Result};
+use sctp_data::chunk::chunk_payload_data::ChunkPayloadData;
 use sctp_sender::sender::Sender;
-use std::alloc::Global;
 
 /// Starts the lifetimes of the messages written since the last time. `sctp_sender_send_next` does so too. It takes no memory.
 #[unsafe(no_mangle)]
@@ -57,26 +54,19 @@ pub extern "C" fn sctp_sender_add_miss_indications(sender: &mut SctpSender, befo
     sender.get_mut().add_miss_indications(before)
 }
 
-// How many bytes these are with their padding.
-#[tactic(auto, unfolding(crate::specs::Out::padded))]
-fn padded_size(bytes: &[u8]) -> usize
-    ensures { result ≡ length (padded bytes.now) }
-{
-    bytes.len() + get_padding_size(bytes.len())
-}
-
 // The fragment that is next, as it is written once it has the next TSN; None where nothing waits.
-fn next_encoded(alloc: Global, sender: &Sender) -> Result<Option<Bytes>>
-    ensures ok { IfOk result (λ b. b ≡ option_map (encoding_with sender.now.flight.next_tsn)
+fn next_chunk(sender: &Sender) -> Result<Option<ChunkPayloadData>>
+    ensures ok { IfOk result (λ r. option_map data_of r
+        ≡ option_map (with_tsn sender.now.flight.next_tsn)
         (next_pending sender.now.flight.queue.pending)) }
-    ensures refused { IfErr result (λ e. (e ≡ ErrOutOfMemory) ⊎ (e ≡ ErrLengthTooLarge)) }
+    ensures memory { IsOkUnless result ErrOutOfMemory }
 {
     let Some(waiting) = sender.outbound().peek_pending() else {
         return Ok(None);
     };
     let mut chunk = waiting.try_clone()?;
     chunk.tsn = sender.next_tsn();
-    Ok(Some(chunk.marshal(alloc)?))
+    Ok(Some(chunk))
 }
 
 /// Puts the fragment that is next in flight under the next TSN, which `tsn` becomes, and writes its DATA chunk with its padding to the
@@ -85,8 +75,8 @@ fn next_encoded(alloc: Global, sender: &Sender) -> Result<Option<Bytes>>
 /// are in flight, with `SCTP_SSNS_USED_UP`, where the number of the ordered message is 2^14 past that of the first one of its stream in
 /// flight, and with `SCTP_NO_MEMORY`. `out` and `tsn` stay, but with `SCTP_OK`.
 #[unsafe(no_mangle)]
+#[tactic(auto, using(crate::proofs::DataSent::sends))]
 pub extern "C" fn sctp_sender_send_next(
-    alloc: Global,
     sender: &mut SctpSender,
     now: u64,
     out: &mut [u8],
@@ -107,15 +97,17 @@ pub extern "C" fn sctp_sender_send_next(
     ensures kept { result ≢ 0 → (out.new ≡ out.old) × (tsn.new ≡ tsn.old) }
 {
     let own = sender.get_mut();
-    let bytes = match next_encoded(alloc, own) {
-        Ok(Some(bytes)) => bytes,
+    let chunk = match next_chunk(own) {
+        Ok(Some(chunk)) => chunk,
         Ok(None) => {
             let _ = own.send_next_tsn(now);
             return SCTP_NOTHING;
         }
         Err(e) => return of_error(e),
     };
-    let size = padded_size(&bytes);
+    let Some(size) = data_size(&chunk) else {
+        return of_error(Error::ErrLengthTooLarge);
+    };
     if out.len() < size {
         *written = size;
         return SCTP_SHORT_BUFFER;
@@ -123,7 +115,9 @@ pub extern "C" fn sctp_sender_send_next(
     match own.send_next_tsn(now) {
         Ok(Some(sent)) => {
             *tsn = sent;
-            put_padded(out, written, &bytes)
+            *written = size;
+            put_data(out, &chunk);
+            SCTP_OK
         }
         Ok(None) => SCTP_NOTHING,
         Err(e) => of_sender(e),
@@ -136,7 +130,6 @@ pub extern "C" fn sctp_sender_send_next(
 /// but with `SCTP_OK`.
 #[unsafe(no_mangle)]
 pub extern "C" fn sctp_sender_resend(
-    alloc: Global,
     sender: &mut SctpSender,
     tsn: u32,
     now: u64,
@@ -155,20 +148,26 @@ pub extern "C" fn sctp_sender_resend(
     ensures kept { result ≢ 0 → (sender.new.value ≡ sender.old.value) × (out.new ≡ out.old) }
 {
     let own = sender.get_mut();
-    let Some(chunk) = own.outbound().get(tsn) else {
+    let Some(held) = own.outbound().get(tsn) else {
         return SCTP_NOT_IN_FLIGHT;
     };
-    let bytes = match chunk.marshal(alloc) {
-        Ok(bytes) => bytes,
+    let chunk = match held.try_clone() {
+        Ok(chunk) => chunk,
         Err(e) => return of_error(e),
     };
-    let size = padded_size(&bytes);
+    let Some(size) = data_size(&chunk) else {
+        return of_error(Error::ErrLengthTooLarge);
+    };
     if out.len() < size {
         *written = size;
         return SCTP_SHORT_BUFFER;
     }
     match own.resend(tsn, now) {
-        Ok(_) => put_padded(out, written, &bytes),
+        Ok(_) => {
+            *written = size;
+            put_data(out, &chunk);
+            SCTP_OK
+        }
         Err(e) => of_sender(e),
     }
 }

@@ -11,7 +11,8 @@ use base.Logic.{ent, sep, emp, id⊢}
 use base.Fml.{Lft, GName, Share, Fml, ftrue, flft, fsep}
 use types.Logic.{Logic, sem}
 use contract.Running.{tables}
-use types.Kit.{‵, ◌⊛◌, some, at_ret, ◌$◌, ◌∵◌, !, qed, move, keep, use1, drop, split, join, pick, fsplit, fsplit3, fjoin, rewrite, suffices, frame, done, raw, later, await, group, fpack}
+use types.Kit.{‵, ◌⊛◌, some, at_ret, ◌$◌, ◌∵◌, !, qed, move, keep, use1, drop, split, join, pick, fsplit, fsplit3, fjoin, rewrite, suffices, frame, done, raw}
+use types.Kit.{later, await, group, fpack}
 use types.Part.{whole, sub, look_in}
 use types.Run.{stop, fld, load, of_opd, first, blocks, exec, returns, enter, addr}
 use types.ByLocal.{alloc_all, pass_all, free_all, look_at, get, through, sets, env, sets_last}
@@ -84,10 +85,13 @@ get_mut_spec 𝓤 𝓛 𝓜 𝓡 wired =
     exec ! 𝓣.C 𝓣.Λ (env code.Mir.locals l) code.Mir.t-2 (at_ret _ (W.post y)) $
     sets ! (of_opd ! (get ! refl)) refl (tt, tt) $
     move ! (1 ∷ 2 ∷ []) $ fjoin ! $ move ! (2 ∷ 3 ∷ 4 ∷ 1 ∷ 0 ∷ []) $ group ! 5 $
-    use1 𝓛 (later (some (λ (γ' : GName). raw (Part 𝓛 H' T' (with_value h) (named 0) κ q rb ro b o γ (sem 𝓛 (Rest 𝓛 κ q rb ro γ h b o hv)) (back 𝓛 κ q rb ro γ h b o hv at_b) h.value γ'))))
-    (lends_Part 𝓛 H' T' (with_value h) (named 0) κ q rb ro b o γ (sem 𝓛 (Rest 𝓛 κ q rb ro γ h b o hv)) (back 𝓛 κ q rb ro γ h b o hv at_b) (H'.coded.code h) (H'.coded.code h) h.value) $ await ! tt $ pick ! (λ γ'.
+    use1 𝓛 (later (some (λ (γ' : GName).
+    raw (Part 𝓛 H' T' (with_value h) (named 0) κ q rb ro b o γ (sem 𝓛 (Rest 𝓛 κ q rb ro γ h b o hv)) (back 𝓛 κ q rb ro γ h b o hv at_b) h.value γ'))))
+    (lends_Part 𝓛 H' T' (with_value h) (named 0) κ q rb ro b o γ (sem 𝓛 (Rest 𝓛 κ q rb ro γ h b o hv)) (back 𝓛 κ q rb ro γ h b o hv at_b) (H'.coded.code h)
+    (H'.coded.code h) h.value) $ await ! tt $ pick ! (λ γ'.
     returns ! (look_at ! 0 refl) $ free_all ! refl $
     keep ! (0 ∷ []) $
-    use1 𝓛 (‵ ((MutRef (named 0) κ T').own_val (record { ref_ptr = (b, o); ghost_name = γ'; now = h.value }) (vptr b o ∷ [])) ⊛ (‵ (flft κ q) ⊛ ‵ (follows H' T' γ γ' (with_value h)))) (id⊢ 𝓤 _) $ split ! $ move ! (1 ∷ []) $ split ! $ move ! (2 ∷ 0 ∷ 1 ∷ []) $
+    use1 𝓛 (‵ ((MutRef (named 0) κ T').own_val (record { ref_ptr = (b, o); ghost_name = γ'; now = h.value }) (vptr b o ∷ [])) ⊛
+    (‵ (flft κ q) ⊛ ‵ (follows H' T' γ γ' (with_value h)))) (id⊢ 𝓤 _) $ split ! $ move ! (1 ∷ []) $ split ! $ move ! (2 ∷ 0 ∷ 1 ∷ []) $
     suffices ! _ (ends_at 𝓛 F.ended stayed c y (vptr b o) (record { ref_ptr = (b, o); ghost_name = γ'; now = h.value }) (tt, tt) (tt, tt)) $
     nothing ! $ nothing ! $ fjoin ! $ join ! $ nothing ! $ move ! (2 ∷ 0 ∷ []) $ join ! $ join ! $ frame ! $ says ! refl $ done !)))))

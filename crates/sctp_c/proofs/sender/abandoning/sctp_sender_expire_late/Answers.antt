@@ -9,5 +9,6 @@ use Rattle.sctp_c.proofs.sender.abandoning.sctp_sender_expire_late.Goals as goal
 pub fill_abandoned-requires : goal.fill_abandoned-requires
 fill_abandoned-requires c =
     let t : Transmission = c.get_mut-own.result.now in
-    rows-fit c.in-Ok.gone.items (leaving_to (late_order c.args.now t.flight) t) c.deref.result.now (length t.flight.queue.inflight.chunks + 1) (length c.args.rows.now)
+    rows-fit c.in-Ok.gone.items (leaving_to (late_order c.args.now t.flight) t) c.deref.result.now (length t.flight.queue.inflight.chunks + 1)
+    (length c.args.rows.now)
     c.in-Ok.ensures.answer (late-few c.args.now t) c.deref.ensures.value (search rules)

@@ -7,11 +7,15 @@ use Rattle.sctp_c.proofs.sender.forwards.sctp_sender_forward_tsn.Goals as goal
 
 pub put_bytes-requires : goal.put_bytes-requires
 put_bytes-requires c =
-    let fits : 8 + 4 * length c.in-Ok-Some.chunk.streams.items ≤ c.min-room.result = subst (λ o. IfSome o (λ (f : ChunkForwardTsn). 8 + 4 * length f.streams.items ≤ c.min-room.result)) c.in-Ok-Some.field-0-is c.in-Ok-Some.ensures.fits in
-    forward-fits (forward_tsn_of c.in-Ok-Some.chunk) c.in-Ok.bytes c.deref.result.now c.min-room.result (length c.args.out.now) c.min-room.ensures fits c.in-Ok.ensures.ok.1 c.deref.ensures
+    let fits : 8 + 4 * length c.in-Ok-Some.chunk.streams.items ≤ c.min-room.result =
+    subst (λ o. IfSome o (λ (f : ChunkForwardTsn). 8 + 4 * length f.streams.items ≤ c.min-room.result)) c.in-Ok-Some.field-0-is c.in-Ok-Some.ensures.fits in
+    forward-fits (forward_tsn_of c.in-Ok-Some.chunk) c.in-Ok.bytes c.deref.result.now c.min-room.result
+    (length c.args.out.now) c.min-room.ensures fits c.in-Ok.ensures.ok.1 c.deref.ensures
 
 pub returns-clause-reason : goal.returns-clause-reason
 returns-clause-reason c _ =
-    let fits : 8 + 4 * length c.in-Ok-Some.chunk.streams.items ≤ c.min-room.result = subst (λ o. IfSome o (λ (f : ChunkForwardTsn). 8 + 4 * length f.streams.items ≤ c.min-room.result)) c.in-Ok-Some.field-0-is c.in-Ok-Some.ensures.fits in
+    let fits : 8 + 4 * length c.in-Ok-Some.chunk.streams.items ≤ c.min-room.result =
+    subst (λ o. IfSome o (λ (f : ChunkForwardTsn). 8 + 4 * length f.streams.items ≤ c.min-room.result)) c.in-Ok-Some.field-0-is c.in-Ok-Some.ensures.fits in
     inl (c.of_error.ensures.memory
-    (forward-memory (forward_tsn_of c.in-Ok-Some.chunk) c.in-Err-marshal.e c.min-room.result (length c.args.out.now) c.min-room.ensures fits c.in-Err-marshal.ensures.refused))
+    (forward-memory (forward_tsn_of c.in-Ok-Some.chunk) c.in-Err-marshal.e c.min-room.result
+    (length c.args.out.now) c.min-room.ensures fits c.in-Err-marshal.ensures.refused))
