@@ -1,5 +1,6 @@
 -- Which writes were begun: each once, and none of which the first fragment waits.
-use Rattle.std.proofs.Common.{◌≡◌, ℕ, ◌+◌, ◌<◌, Bool, true, false, List, [], ◌∷◌, ◌++◌, map, Option, Some, None, slice_get, inl, inr, refl, ap₂, sym, subst, ◌∙◌, arith}
+use Rattle.std.proofs.Common.{◌≡◌, ℕ, ◌+◌, ◌<◌, Bool, true, false, List, [], ◌∷◌, ◌++◌, map, Option, Some, None, slice_get, inl, inr, refl, ap₂, sym, subst}
+use Rattle.std.proofs.Common.{◌∙◌, arith}
 use Rattle.std.specs.Prelude.{⊤, ◌==◌, ◌&&◌, ◌||◌, if◌then◌else◌}
 use Rattle.std.specs.List.{list_any}
 use Rattle.std.proofs.lemmas.Bool.{cases_lt}
@@ -40,13 +41,15 @@ pub record IsBegun (os us : List ChunkPayloadData) (n : ℕ) (sent : List Entry)
   pub unordered : (m : ℕ) → list_any (begins m) us ≡ true → was_begun m sent ≡ false
   pub below : (m : ℕ) → was_begun m sent ≡ true → m < n
 
-pub begun-less : (os us ps vs : List ChunkPayloadData) (n : ℕ) (sent : List Entry) → ((m : ℕ) → list_any (begins m) ps ≡ true → list_any (begins m) os ≡ true) → ((m : ℕ) → list_any (begins m) vs ≡ true → list_any (begins m) us ≡ true) → IsBegun os us n sent → IsBegun ps vs n sent
+pub begun-less : (os us ps vs : List ChunkPayloadData) (n : ℕ) (sent : List Entry) → ((m : ℕ) → list_any (begins m) ps ≡ true → list_any (begins m) os ≡ true)
+    → ((m : ℕ) → list_any (begins m) vs ≡ true → list_any (begins m) us ≡ true) → IsBegun os us n sent → IsBegun ps vs n sent
 begun-less os us ps vs n sent f g b = record { once = b.once; ordered = λ m h. b.ordered m (f m h); unordered = λ m h. b.unordered m (g m h); below = b.below }
 
 pub begun-ended : (os us : List ChunkPayloadData) (n : ℕ) (sent : List Entry) → IsBegun os us n sent → IsBegun os us n (terminal ∷ sent)
 begun-ended os us n sent b = record { once = b.once; ordered = b.ordered; unordered = b.unordered; below = b.below }
 
-pub begins-changed : (p : ChunkPayloadData → Bool) (f : ChunkPayloadData → ChunkPayloadData) → KeepsMessage f → (m : ℕ) (cs : List ChunkPayloadData) → list_any (begins m) (change_where p f cs) ≡ list_any (begins m) cs
+pub begins-changed : (p : ChunkPayloadData → Bool) (f : ChunkPayloadData → ChunkPayloadData) → KeepsMessage f → (m : ℕ) (cs : List ChunkPayloadData)
+    → list_any (begins m) (change_where p f cs) ≡ list_any (begins m) cs
 begins-changed p f keeps m [] = refl
 begins-changed p f keeps m (c ∷ cs) = ap₂ (λ a b. a || b) (by (p c)) (begins-changed p f keeps m cs)
   where
@@ -60,24 +63,41 @@ begins-of : (m : ℕ) (cs : List ChunkPayloadData) → list_any (begins m) cs �
 begins-of m [] h = h
 begins-of m (c ∷ cs) h = by (c.message_id == m) h (begins-of m cs)
   where
-    by : (b : Bool) → ((b && c.beginning_fragment) || list_any (begins m) cs) ≡ true → (list_any (begins m) cs ≡ true → list_any (is_of m) cs ≡ true) → (b || list_any (is_of m) cs) ≡ true
+    by : (b : Bool) → ((b && c.beginning_fragment) || list_any (begins m) cs) ≡ true → (list_any (begins m) cs ≡ true → list_any (is_of m) cs ≡ true)
+        → (b || list_any (is_of m) cs) ≡ true
     by true h ih = refl
     by false h ih = ih h
 
 not-begun : (os us : List ChunkPayloadData) (n : ℕ) (sent : List Entry) → IsBegun os us n sent → was_begun n sent ≡ false
 not-begun os us n sent b = fails (was_begun n sent) (λ h. let lt = b.below n h in omega (arith, lt))
 
-more-begins : (os us : List ChunkPayloadData) (n : ℕ) (sent : List Entry) → IsBegun os us n sent → (xs ms : List ChunkPayloadData) → ((m : ℕ) → list_any (begins m) xs ≡ true → was_begun m sent ≡ false) → (m : ℕ) → list_any (begins m) (xs ++ map (with_message_id n) ms) ≡ true → was_begun m sent ≡ false
-more-begins os us n sent b xs ms old m h = elim (or-split (list_any (begins m) xs) (list_any (begins m) (map (with_message_id n) ms)) (sym (list_any-append (begins m) xs (map (with_message_id n) ms)) ∙ h)) [
-  | inl l ↦ old m l
-  | inr r ↦ subst (λ k. was_begun k sent ≡ false) (same-is n m (list_any-message m n ms (begins-of m (map (with_message_id n) ms) r))) (not-begun os us n sent b)
-]
+more-begins : (os us : List ChunkPayloadData) (n : ℕ) (sent : List Entry) → IsBegun os us n sent → (xs ms : List ChunkPayloadData)
+    → ((m : ℕ) → list_any (begins m) xs ≡ true → was_begun m sent ≡ false) → (m : ℕ) → list_any (begins m) (xs ++ map (with_message_id n) ms) ≡ true
+    → was_begun m sent ≡ false
+more-begins os us n sent b xs ms old m h = elim (or-split (list_any (begins m) xs) (list_any (begins m) (map (with_message_id n) ms))
+    (sym (list_any-append (begins m) xs (map (with_message_id n) ms)) ∙ h)) [
+      | inl l ↦ old m l
+      | inr r ↦
+          subst (λ k. was_begun k sent ≡ false) (same-is n m (list_any-message m n ms (begins-of m (map (with_message_id n) ms) r))) (not-begun os us n sent b)
+    ]
 
-pub begun-ordered : (os us : List ChunkPayloadData) (n : ℕ) (sent : List Entry) (ms : List ChunkPayloadData) → IsBegun os us n sent → IsBegun (os ++ map (with_message_id n) ms) us (n + 1) sent
-begun-ordered os us n sent ms b = record { once = b.once; ordered = more-begins os us n sent b os ms b.ordered; unordered = b.unordered; below = λ m h. let lt = b.below m h in omega (arith, lt) }
+pub begun-ordered : (os us : List ChunkPayloadData) (n : ℕ) (sent : List Entry) (ms : List ChunkPayloadData) → IsBegun os us n sent
+    → IsBegun (os ++ map (with_message_id n) ms) us (n + 1) sent
+begun-ordered os us n sent ms b = record {
+  once = b.once;
+  ordered = more-begins os us n sent b os ms b.ordered;
+  unordered = b.unordered;
+  below = λ m h. let lt = b.below m h in omega (arith, lt);
+}
 
-pub begun-unordered : (os us : List ChunkPayloadData) (n : ℕ) (sent : List Entry) (ms : List ChunkPayloadData) → IsBegun os us n sent → IsBegun os (us ++ map (with_message_id n) ms) (n + 1) sent
-begun-unordered os us n sent ms b = record { once = b.once; ordered = b.ordered; unordered = more-begins os us n sent b us ms b.unordered; below = λ m h. let lt = b.below m h in omega (arith, lt) }
+pub begun-unordered : (os us : List ChunkPayloadData) (n : ℕ) (sent : List Entry) (ms : List ChunkPayloadData) → IsBegun os us n sent
+    → IsBegun os (us ++ map (with_message_id n) ms) (n + 1) sent
+begun-unordered os us n sent ms b = record {
+  once = b.once;
+  ordered = b.ordered;
+  unordered = more-begins os us n sent b us ms b.unordered;
+  below = λ m h. let lt = b.below m h in omega (arith, lt);
+}
 
 -- ## A fragment is sent
 
@@ -93,14 +113,16 @@ rest-begins kind n m (c ∷ cs) w = or_false (begins m c) (list_any (begins m) c
         one true = w.0.0
         one false = refl
 
-    by : (b : Bool) → IsWhole kind n (if b then free (c.message_id + 1) else begun c.message_id) cs → (IsWhole kind n (begun m) cs → list_any (begins m) cs ≡ false) → list_any (begins m) cs ≡ false
+    by : (b : Bool) → IsWhole kind n (if b then free (c.message_id + 1) else begun c.message_id) cs
+        → (IsWhole kind n (begun m) cs → list_any (begins m) cs ≡ false) → list_any (begins m) cs ≡ false
     by true v ih =
         let past : m < c.message_id + 1 = (let e = w.0.1 in omega (arith, e)) in
         fails (list_any (begins m) cs) (λ h. not_both (sym (none_before kind n m (free (c.message_id + 1)) cs past v) ∙ begins-of m cs h))
     by false v ih = ih (subst (λ j. IsWhole kind n (begun j) cs) w.0.1 v)
 
 -- what is in flight does not begin again
-pub none-again : (os us : List ChunkPayloadData) (sel : Option Selected) (ro ru n : ℕ) (xs : List ChunkPayloadData) → IsSendable (made os us sel ro ru) xs n → (m : ℕ) → list_any (is_of m) xs ≡ true → (list_any (begins m) os ≡ false) × (list_any (begins m) us ≡ false)
+pub none-again : (os us : List ChunkPayloadData) (sel : Option Selected) (ro ru n : ℕ) (xs : List ChunkPayloadData) → IsSendable (made os us sel ro ru) xs n
+    → (m : ℕ) → list_any (is_of m) xs ≡ true → (list_any (begins m) os ≡ false) × (list_any (begins m) us ≡ false)
 none-again os us sel ro ru n xs s m there = by (list_any (is_of m) us || list_any (is_of m) os) refl
   where
     none : (cs : List ChunkPayloadData) → list_any (is_of m) cs ≡ false → list_any (begins m) cs ≡ false
@@ -109,7 +131,8 @@ none-again os us sel ro ru n xs s m there = by (list_any (is_of m) us || list_an
     apart-from : list_any (is_of m) us ≡ true → list_any (is_of m) os ≡ false
     apart-from e = fails (list_any (is_of m) os) (λ h. not_both (sym (s.apart m h) ∙ e))
 
-    half : (o : Option Selected) → IsWhole false n (stage_of false o) os → IsWhole true n (stage_of true o) us → partially_sent (made os us o ro ru) ≡ Some m → (list_any (begins m) os ≡ false) × (list_any (begins m) us ≡ false)
+    half : (o : Option Selected) → IsWhole false n (stage_of false o) os → IsWhole true n (stage_of true o) us → partially_sent (made os us o ro ru) ≡ Some m
+        → (list_any (begins m) os ≡ false) × (list_any (begins m) us ≡ false)
     half None w v h = absurd (none-some m h)
     half (Some t) w v h = kind t.unordered w v
       where
@@ -120,20 +143,25 @@ none-again os us sel ro ru n xs s m there = by (list_any (is_of m) us || list_an
         front k [] w = absurd w
         front k (c ∷ cs) w = or-left (c.message_id == m) (list_any (is_of m) cs) (subst (λ j. (j == m) ≡ true) (sym (w.0.1 ∙ same)) (same-yes m))
 
-        kind : (k : Bool) → IsWhole false n (if k then free 0 else begun t.message_id) os → IsWhole true n (if k then begun t.message_id else free 0) us → (list_any (begins m) os ≡ false) × (list_any (begins m) us ≡ false)
+        kind : (k : Bool) → IsWhole false n (if k then free 0 else begun t.message_id) os → IsWhole true n (if k then begun t.message_id else free 0) us
+            → (list_any (begins m) os ≡ false) × (list_any (begins m) us ≡ false)
         kind true w v = (none os (apart-from (front true us v)), rest-begins true n m us (subst (λ j. IsWhole true n (begun j) us) same v))
         kind false w v = (rest-begins false n m os (subst (λ j. IsWhole false n (begun j) os) same w), none us (s.apart m (front false os w)))
 
     by : (b : Bool) → (list_any (is_of m) us || list_any (is_of m) os) ≡ b → (list_any (begins m) os ≡ false) × (list_any (begins m) us ≡ false)
     by true e = half sel s.ordered s.unordered (s.sent m there e)
-    by false e = (none os (fails (list_any (is_of m) os) (λ h. not_both (sym e ∙ or-right (list_any (is_of m) us) (list_any (is_of m) os) h))), none us (fails (list_any (is_of m) us) (λ h. not_both (sym e ∙ or-left (list_any (is_of m) us) (list_any (is_of m) os) h))))
+    by false e = (
+      none os (fails (list_any (is_of m) os) (λ h. not_both (sym e ∙ or-right (list_any (is_of m) us) (list_any (is_of m) os) h))),
+      none us (fails (list_any (is_of m) us) (λ h. not_both (sym e ∙ or-left (list_any (is_of m) us) (list_any (is_of m) os) h))),
+    )
 
 front-any : (p : ChunkPayloadData → Bool) (xs : List ChunkPayloadData) (c : ChunkPayloadData) → p c ≡ true → slice_get xs 0 ≡ Some c → list_any p xs ≡ true
 front-any p [] c h e = absurd (none-some c e)
 front-any p (x ∷ xs) c h e = or-left (p x) (list_any p xs) (subst (λ y. p y ≡ true) (sym (some-same e)) h)
 
 -- what is next waits
-next-any : (p : ChunkPayloadData → Bool) (os us : List ChunkPayloadData) (sel : Option Selected) (ro ru : ℕ) (c : ChunkPayloadData) → p c ≡ true → next_pending (made os us sel ro ru) ≡ Some c → (list_any p us || list_any p os) ≡ true
+pub next-any : (p : ChunkPayloadData → Bool) (os us : List ChunkPayloadData) (sel : Option Selected) (ro ru : ℕ) (c : ChunkPayloadData) → p c ≡ true
+    → next_pending (made os us sel ro ru) ≡ Some c → (list_any p us || list_any p os) ≡ true
 next-any p os (u ∷ us) None ro ru c h e = or-left (list_any p (u ∷ us)) (list_any p os) (front-any p (u ∷ us) c h e)
 next-any p os [] None ro ru c h e = front-any p os c h e
 next-any p os us (Some s) ro ru c h e = by s.unordered e
@@ -142,18 +170,25 @@ next-any p os us (Some s) ro ru c h e = by s.unordered e
     by true f = or-left (list_any p us) (list_any p os) (front-any p us c h f)
     by false f = or-right (list_any p us) (list_any p os) (front-any p os c h f)
 
-rest-any : (p : ChunkPayloadData → Bool) (k : Option Bool) (os us : List ChunkPayloadData) (sel : Option Selected) (ro ru : ℕ) → (list_any p (rest_from k (made os us sel ro ru)).ordered ≡ true → list_any p os ≡ true) × (list_any p (rest_from k (made os us sel ro ru)).unordered ≡ true → list_any p us ≡ true)
+rest-any : (p : ChunkPayloadData → Bool) (k : Option Bool) (os us : List ChunkPayloadData) (sel : Option Selected) (ro ru : ℕ)
+    → (list_any p (rest_from k (made os us sel ro ru)).ordered ≡ true → list_any p os ≡ true)
+    × (list_any p (rest_from k (made os us sel ro ru)).unordered ≡ true → list_any p us ≡ true)
 rest-any p None os us sel ro ru = (λ h. h, λ h. h)
 rest-any p (Some true) os [] sel ro ru = (λ h. h, λ h. h)
 rest-any p (Some true) os (u ∷ us) sel ro ru = (λ h. h, λ h. or-right (p u) (list_any p us) h)
 rest-any p (Some false) [] us sel ro ru = (λ h. h, λ h. h)
 rest-any p (Some false) (o ∷ os) us sel ro ru = (λ h. or-right (p o) (list_any p os) h, λ h. h)
 
-pub begun-sent : (q : Pending) (xs ys : List ChunkPayloadData) (n : ℕ) (sent : List Entry) (c : ChunkPayloadData) (d : Data) (w : Numbered) (after : List ℕ) → d.beginning_fragment ≡ c.beginning_fragment → (c.beginning_fragment ≡ true → w.place ≡ c.message_id) → next_pending q ≡ Some c → IsSendable q xs n → IsSendable (rest_after c.beginning_fragment c.unordered q) ys n → list_any (is_of c.message_id) ys ≡ true → IsBegun q.ordered q.unordered n sent → IsBegun (rest_after c.beginning_fragment c.unordered q).ordered (rest_after c.beginning_fragment c.unordered q).unordered n (fragment d w after ∷ sent)
+pub begun-sent : (q : Pending) (xs ys : List ChunkPayloadData) (n : ℕ) (sent : List Entry) (c : ChunkPayloadData) (d : Data) (w : Numbered) (after : List ℕ)
+    → d.beginning_fragment ≡ c.beginning_fragment → (c.beginning_fragment ≡ true → w.place ≡ c.message_id) → next_pending q ≡ Some c → IsSendable q xs n
+    → IsSendable (rest_after c.beginning_fragment c.unordered q) ys n → list_any (is_of c.message_id) ys ≡ true → IsBegun q.ordered q.unordered n sent
+    → IsBegun (rest_after c.beginning_fragment c.unordered q).ordered (rest_after c.beginning_fragment c.unordered q).unordered n (fragment d w after ∷ sent)
 begun-sent q xs ys n sent c d w after same placed e s r there b = record {
   once = (λ h. let f = sym same ∙ h in subst (λ k. was_begun k sent ≡ false) (sym (placed f)) (fresh f), b.once);
-  ordered = λ m h. apart m (λ k. not_both (sym (none m k).0 ∙ h)) (b.ordered m ((rest-any (begins m) (list_to_pop q.selected c.beginning_fragment c.unordered) q.ordered q.unordered q.selected q.ordered_room q.unordered_room).0 h));
-  unordered = λ m h. apart m (λ k. not_both (sym (none m k).1 ∙ h)) (b.unordered m ((rest-any (begins m) (list_to_pop q.selected c.beginning_fragment c.unordered) q.ordered q.unordered q.selected q.ordered_room q.unordered_room).1 h));
+  ordered = λ m h. apart m (λ k. not_both (sym (none m k).0 ∙ h)) (b.ordered m
+      ((rest-any (begins m) (list_to_pop q.selected c.beginning_fragment c.unordered) q.ordered q.unordered q.selected q.ordered_room q.unordered_room).0 h));
+  unordered = λ m h. apart m (λ k. not_both (sym (none m k).1 ∙ h)) (b.unordered m
+      ((rest-any (begins m) (list_to_pop q.selected c.beginning_fragment c.unordered) q.ordered q.unordered q.selected q.ordered_room q.unordered_room).1 h));
   below = λ m h. elim (or-split (d.beginning_fragment && (w.place == m)) (was_begun m sent) h) [
     | inl l ↦ small m l
     | inr k ↦ b.below m k
@@ -161,25 +196,29 @@ begun-sent q xs ys n sent c d w after same placed e s r there b = record {
 }
   where
     fresh : c.beginning_fragment ≡ true → was_begun c.message_id sent ≡ false
-    fresh f = elim (or-split (list_any (begins c.message_id) q.unordered) (list_any (begins c.message_id) q.ordered) (next-any (begins c.message_id) q.ordered q.unordered q.selected q.ordered_room q.unordered_room c (and (c.message_id == c.message_id) c.beginning_fragment (same-yes c.message_id) f) e)) [
-      | inl l ↦ b.unordered c.message_id l
-      | inr k ↦ b.ordered c.message_id k
-    ]
+    fresh f = elim (or-split (list_any (begins c.message_id) q.unordered) (list_any (begins c.message_id) q.ordered) (next-any (begins c.message_id) q.ordered
+        q.unordered q.selected q.ordered_room q.unordered_room c (and (c.message_id == c.message_id) c.beginning_fragment (same-yes c.message_id) f) e)) [
+          | inl l ↦ b.unordered c.message_id l
+          | inr k ↦ b.ordered c.message_id k
+        ]
 
     is-it : (m : ℕ) → (d.beginning_fragment && (w.place == m)) ≡ true → c.message_id ≡ m
     is-it m h = let x = both d.beginning_fragment (w.place == m) h in sym (placed (sym same ∙ x.0)) ∙ same-is w.place m x.1
 
-    none : (m : ℕ) → c.message_id ≡ m → (list_any (begins m) (rest_after c.beginning_fragment c.unordered q).ordered ≡ false) × (list_any (begins m) (rest_after c.beginning_fragment c.unordered q).unordered ≡ false)
+    none : (m : ℕ) → c.message_id ≡ m → (list_any (begins m) (rest_after c.beginning_fragment c.unordered q).ordered ≡ false)
+        × (list_any (begins m) (rest_after c.beginning_fragment c.unordered q).unordered ≡ false)
     none m k =
         let p = rest_after c.beginning_fragment c.unordered q in
         none-again p.ordered p.unordered p.selected p.ordered_room p.unordered_room n ys r m (subst (λ j. list_any (is_of j) ys ≡ true) k there)
 
     apart : (m : ℕ) → (c.message_id ≡ m → ⊥) → was_begun m sent ≡ false → ((d.beginning_fragment && (w.place == m)) || was_begun m sent) ≡ false
-    apart m other f = or_false (d.beginning_fragment && (w.place == m)) (was_begun m sent) (fails (d.beginning_fragment && (w.place == m)) (λ h. other (is-it m h))) f
+    apart m other f =
+        or_false (d.beginning_fragment && (w.place == m)) (was_begun m sent) (fails (d.beginning_fragment && (w.place == m)) (λ h. other (is-it m h))) f
 
     small : (m : ℕ) → (d.beginning_fragment && (w.place == m)) ≡ true → m < n
     small m h = elim (cases_lt m n) [
       | inl lt ↦ lt
-      | inr le ↦ absurd (not_both (sym (or_false (list_any (is_of m) q.unordered) (list_any (is_of m) q.ordered) (none_past true n m le (stage_of true q.selected) q.unordered s.unordered) (none_past false n m le (stage_of false q.selected) q.ordered s.ordered))
-          ∙ next-any (is_of m) q.ordered q.unordered q.selected q.ordered_room q.unordered_room c (subst (λ j. (c.message_id == j) ≡ true) (is-it m h) (same-yes c.message_id)) e))
+      | inr le ↦ absurd (not_both (sym (or_false (list_any (is_of m) q.unordered) (list_any (is_of m) q.ordered) (none_past true n m le
+          (stage_of true q.selected) q.unordered s.unordered) (none_past false n m le (stage_of false q.selected) q.ordered s.ordered)) ∙ next-any (is_of m)
+          q.ordered q.unordered q.selected q.ordered_room q.unordered_room c (subst (λ j. (c.message_id == j) ≡ true) (is-it m h) (same-yes c.message_id)) e))
     ]

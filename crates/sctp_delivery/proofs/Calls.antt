@@ -20,7 +20,9 @@ use Rattle.sctp_sender.specs.Resending.{can_miss, count_again, missed, sent_agai
 use Rattle.sctp_sender.specs.Sender.{Transmission, after_expire, written_to}
 use Rattle.sctp_sender.specs.SenderRuns.{Makes}
 use Rattle.sctp_sender.proofs.InLine.{found-half, tail-half}
-use Rattle.sctp_delivery.specs.SenderCalls.{Expires, ExpiresTail, IsAccepted, Made, MakesExactly, SenderCall, abandons, as_run, expires, expires_late, expires_rexmit, expires_tail, forward_tsn, forwards, forwards_within, made_after, marks, misses, next_chunk, opens, resends, reserves, sends, sets_low, sets_mode, sets_size, starts, takes_sack, writes, written_after, Write}
+use Rattle.sctp_delivery.specs.SenderCalls.{Expires, ExpiresTail, IsAccepted, Made, MakesExactly, SenderCall, abandons, as_run, expires, expires_late}
+use Rattle.sctp_delivery.specs.SenderCalls.{expires_rexmit, expires_tail, forward_tsn, forwards, forwards_within, made_after, marks, misses, next_chunk, opens}
+use Rattle.sctp_delivery.specs.SenderCalls.{resends, reserves, sends, sets_low, sets_mode, sets_size, starts, takes_sack, writes, written_after, Write}
 use Rattle.sctp_delivery.proofs.InFlight.{known-found}
 use Rattle.sctp_delivery.proofs.OrderedNames.{names-known}
 use Rattle.sctp_delivery.proofs.Numbers.{all-open, number_of, numbers-sized, opened, sized-all, steady-changed, steady-same, there-sized}
@@ -66,7 +68,8 @@ module _ (ws : List Numbered) (first : ℕ) (t : Transmission) (sent : List Entr
   expires-call now None u x = same u (x.1.1 refl)
   expires-call now (Some e) u x = by (expiring now t.flight.queue) refl x.0 x.1.0
     where
-      by : (o : Option ChunkPayloadData) → expiring now t.flight.queue ≡ o → true ≡ is_some o → IfSome o (λ c. u ≡ after_expire c e.bytes now t) → Result None ws ws first sent u ms ms
+      by : (o : Option ChunkPayloadData) → expiring now t.flight.queue ≡ o → true ≡ is_some o → IfSome o (λ c. u ≡ after_expire c e.bytes now t)
+          → Result None ws ws first sent u ms ms
       by None i f g = absurd (not_both (sym f))
       by (Some c) i f g = subst (λ y. Result None ws ws first sent y ms ms) (sym g) (expires-one ws first t sent ms h now c e.bytes i)
 
@@ -74,18 +77,20 @@ module _ (ws : List Numbered) (first : ℕ) (t : Transmission) (sent : List Entr
   expires-tail-call now None u x = same u (x.1 refl)
   expires-tail-call now (Some a) u x =
       subst (λ y. Result None ws ws first sent y ms ms) (sym x.0)
-      (abandons-message ws first t sent ms h (message_of (expiring_tail now t.flight.queue)) (λ m e _. tail-half t.flight.queue h.stands.sendable now (next_pending t.flight.queue.pending) refl m e) a.stream a.bytes)
+      (abandons-message ws first t sent ms h (message_of (expiring_tail now t.flight.queue))
+      (λ m e _. tail-half t.flight.queue h.stands.sendable now (next_pending t.flight.queue.pending) refl m e) a.stream a.bytes)
 
   again-keeps : (n now : ℕ) → KeepsMessage (sent_again n now)
   again-keeps n now = record { number = λ _. refl; begins = λ _. refl; ends = λ _. refl; kind = λ _. refl }
 
-  resends-call : (tsn now : ℕ) (c : ChunkPayloadData) (u : Transmission) → Makes (as_run (resends tsn now c)) t u → IsAccepted (resends tsn now c) t → Result None ws ws first sent u ms (made_after (resends tsn now c) t ms)
+  resends-call : (tsn now : ℕ) (c : ChunkPayloadData) (u : Transmission) → Makes (as_run (resends tsn now c)) t u → IsAccepted (resends tsn now c) t
+      → Result None ws ws first sent u ms (made_after (resends tsn now c) t ms)
   resends-call tsn now c u m a =
       subst (λ y. Result None ws ws first sent y ms (made_after (resends tsn now c) t ms)) (sym m)
       (record {
         more = sent;
         held = changed ws first t sent (has_tsn tsn) (sent_again (count_again c) now) (again-keeps (count_again c) now)
-            (λ d. (λ o. (o, refl), record { kind = refl; stream = refl; number = refl; tsn = refl })) h;
+            (λ d. (λ o. (o, refl), record { kind = refl; stream = refl; number = refl; tsn = refl; message = refl; ends = refl })) h;
         once = inl refl;
         grown = inl refl;
         made = λ s. (
@@ -105,29 +110,37 @@ module _ (ws : List Numbered) (first : ℕ) (t : Transmission) (sent : List Entr
     made = λ s. (names-known first sent f.streams f.new_cumulative_tsn t.flight h.stands.known n, s);
   })
 
-  pub stepped : (call : SenderCall) (u : Transmission) → Makes (as_run call) t u → MakesExactly call t u → IsAccepted call t → Result (sent_by call t) ws (numbered_after call ws) first sent u ms (made_after call t ms)
+  pub stepped : (call : SenderCall) (u : Transmission) → Makes (as_run call) t u → MakesExactly call t u → IsAccepted call t
+      → Result (sent_by call t) ws (numbered_after call ws) first sent u ms (made_after call t ms)
   stepped (opens stream) u m x a =
       subst (λ y. Result None ws ws first sent y ms ms) (sym m)
-      (calm ws ws first sent _ ms (steady ws first t sent h _ (opened stream t.fragment_size t.max_message_size Unknown h.size t.streams) t.flight sent h.stands))
+      (calm ws ws first sent _ ms
+      (steady ws first t sent h _ (opened stream t.fragment_size t.max_message_size Unknown h.size t.streams) t.flight sent h.stands))
   stepped (sets_mode stream unordered reliability value) u m x a =
       subst (λ y. Result None ws ws first sent y ms ms) (sym m)
-      (calm ws ws first sent _ ms (steady ws first t sent h _ (steady-changed (has_number stream) (with_mode unordered reliability value) (λ l. refl) (λ l. refl) (λ l. refl) t.streams) t.flight sent h.stands))
+      (calm ws ws first sent _ ms (steady ws first t sent h _
+      (steady-changed (has_number stream) (with_mode unordered reliability value) (λ l. refl) (λ l. refl) (λ l. refl) t.streams) t.flight sent h.stands))
   stepped (writes stream ppi []) u m x a = same u (x.0 refl)
   stepped (writes stream ppi (b ∷ bs)) u m x a =
       let l = accepted-stream stream (length (b ∷ bs)) t a in
       subst (λ y. Result None ws (numbered_after (writes stream ppi (b ∷ bs)) ws) first sent y ms ms) (sym (x.1 (omega arith) l.0 l.1))
-      (subst (λ k. let w : Numbered = record { stream = stream; payload_type = ppi; bytes = b ∷ bs; place = k } in Result None ws (w ∷ ws) first sent (written_to l.0 stream ppi (b ∷ bs) t) ms ms) h.stands.ids (writes-some ws first t sent ms h stream ppi b bs l.0 l.1))
+      (subst (λ k. let w : Numbered = record { stream = stream; payload_type = ppi; bytes = b ∷ bs; place = k } in Result None ws (w ∷ ws) first sent
+      (written_to l.0 stream ppi (b ∷ bs) t) ms ms) h.stands.ids (writes-some ws first t sent ms h stream ppi b bs l.0 l.1))
   stepped (starts now) u m x a =
       subst (λ y. Result None ws ws first sent y ms ms) (sym m)
-      (calm ws ws first sent _ ms (steady ws first t sent h t.streams (steady-same t.streams) (with_queue t.flight (all_started now t.flight.queue)) sent (started ws first (λ s. number_of s t.streams) now t.flight.queue t.flight.next_tsn sent h.stands)))
-  stepped (sends now) u m x a = subst (λ y. Result (next_chunk now t) ws ws first sent y ms (made_after (sends now) t ms)) (sym x) (sends-next ws first t sent ms now h)
+      (calm ws ws first sent _ ms (steady ws first t sent h t.streams (steady-same t.streams) (with_queue t.flight (all_started now t.flight.queue)) sent
+      (started ws first (λ s. number_of s t.streams) now t.flight.queue t.flight.next_tsn sent h.stands)))
+  stepped (sends now) u m x a =
+      subst (λ y. Result (next_chunk now t) ws ws first sent y ms (made_after (sends now) t ms)) (sym x) (sends-next ws first t sent ms now h)
   stepped (resends tsn now c) u m x a = resends-call tsn now c u m a
   stepped (abandons tsn a') u m x a =
       subst (λ y. Result None ws ws first sent y ms ms) (sym x)
-      (abandons-message ws first t sent ms h (message_to_abandon tsn t.flight) (found-half t.flight.queue h.stands.sendable tsn (find (has_tsn tsn) t.flight.queue.inflight.chunks) refl) a'.stream a'.bytes)
+      (abandons-message ws first t sent ms h (message_to_abandon tsn t.flight)
+      (found-half t.flight.queue h.stands.sendable tsn (find (has_tsn tsn) t.flight.queue.inflight.chunks) refl) a'.stream a'.bytes)
   stepped (expires now m') u m x a = expires-call now m' u x
   stepped (expires_tail now m') u m x a = expires-tail-call now m' u x
-  stepped (expires_late now gone) u m x a = subst (λ y. Result None ws ws first sent y ms ms) (sym x) (abandons-all ws first t sent ms h (late_order now t.flight))
+  stepped (expires_late now gone) u m x a =
+      subst (λ y. Result None ws ws first sent y ms ms) (sym x) (abandons-all ws first t sent ms h (late_order now t.flight))
   stepped (expires_rexmit gone) u m x a = subst (λ y. Result None ws ws first sent y ms ms) (sym x) (abandons-all ws first t sent ms h (worn_order t.flight))
   stepped (forwards tsn f) u m x a = forwards-call f u x a.1
   stepped (forwards_within bytes f) u m x a = forwards-call f u x a.2
@@ -135,12 +148,12 @@ module _ (ws : List Numbered) (first : ℕ) (t : Transmission) (sent : List Entr
       subst (λ y. Result None ws ws first sent y ms ms) (sym m)
       (calm ws ws first sent _ ms (changed ws first t sent is_outstanding (with_retransmit true)
       (record { number = λ _. refl; begins = λ _. refl; ends = λ _. refl; kind = λ _. refl })
-      (λ d. (λ o. (o, refl), record { kind = refl; stream = refl; number = refl; tsn = refl })) h))
+      (λ d. (λ o. (o, refl), record { kind = refl; stream = refl; number = refl; tsn = refl; message = refl; ends = refl })) h))
   stepped (misses count) u m x a =
       subst (λ y. Result None ws ws first sent y ms ms) (sym m)
       (calm ws ws first sent _ ms (first-changed ws first t sent can_miss missed count
       (record { number = λ _. refl; begins = λ _. refl; ends = λ _. refl; kind = λ _. refl })
-      (λ d. (λ o. (o, refl), record { kind = refl; stream = refl; number = refl; tsn = refl })) h))
+      (λ d. (λ o. (o, refl), record { kind = refl; stream = refl; number = refl; tsn = refl; message = refl; ends = refl })) h))
   stepped (sets_size size) u m x a =
       subst (λ y. Result None ws ws first sent y ms ms) (sym m)
       (calm ws ws first sent _ ms (record {
@@ -151,10 +164,19 @@ module _ (ws : List Numbered) (first : ℕ) (t : Transmission) (sent : List Entr
       }))
   stepped (sets_low stream bytes) u m x a =
       subst (λ y. Result None ws ws first sent y ms ms) (sym m)
-      (calm ws ws first sent _ ms (steady ws first t sent h _ (steady-changed (has_number stream) (with_low bytes) (λ l. refl) (λ l. refl) (λ l. refl) t.streams) t.flight sent h.stands))
+      (calm ws ws first sent _ ms (steady ws first t sent h _
+      (steady-changed (has_number stream) (with_low bytes) (λ l. refl) (λ l. refl) (λ l. refl) t.streams) t.flight sent h.stands))
   stepped (reserves count) u m x a =
       subst (λ y. Result None ws ws first sent y ms ms) (sym m)
-      (calm ws ws first sent _ ms (steady ws first t sent h t.streams (steady-same t.streams) (with_queue t.flight (with_room count t.flight.queue)) sent (record { queued = h.stands.queued; sendable = h.stands.sendable; known = h.stands.known; counted = h.stands.counted; begun' = h.stands.begun'; ids = h.stands.ids })))
+      (calm ws ws first sent _ ms
+      (steady ws first t sent h t.streams (steady-same t.streams) (with_queue t.flight (with_room count t.flight.queue)) sent (record {
+        queued = h.stands.queued;
+        sendable = h.stands.sendable;
+        known = h.stands.known;
+        counted = h.stands.counted;
+        begun' = h.stands.begun';
+        ids = h.stands.ids;
+      })))
   stepped (takes_sack sack gone) u m x a = subst (λ y. Result None ws ws first sent y ms ms) (sym x) (calm ws ws first sent _ ms (acked ws first t sent sack h))
 
 -- ## Writes without their places
@@ -192,7 +214,8 @@ pub length-forgotten : (ns : List Numbered) → length (forgotten ns) ≡ length
 length-forgotten [] = refl
 length-forgotten (n ∷ ns) = ap suc (length-forgotten ns)
 
-pub at-forgotten : (ns : List Numbered) (k : ℕ) (n : Numbered) (w : Write) → k < length ns → slice_index_or ns k n ≡ n → slice_index_or (forgotten ns) k w ≡ forget n
+pub at-forgotten : (ns : List Numbered) (k : ℕ) (n : Numbered) (w : Write) → k < length ns → slice_index_or ns k n ≡ n
+    → slice_index_or (forgotten ns) k w ≡ forget n
 at-forgotten [] k n w lt e = absurd (omega (arith, lt))
 at-forgotten (x ∷ xs) zero n w lt e = ap forget e
 at-forgotten (x ∷ xs) (suc k) n w lt e = at-forgotten xs k n w (omega (arith, lt)) e

@@ -1,5 +1,6 @@
 -- Each message that is read was written.
-use Rattle.std.proofs.Common.{◌≡◌, ℕ, zero, suc, ◌+◌, ◌%◌, ◌^◌, ◌<◌, ◌≤◌, Bool, true, false, not, List, [], ◌∷◌, ◌++◌, length, Option, inl, inr, refl, ap, sym, subst, ◌∙◌, arith}
+use Rattle.std.proofs.Common.{◌≡◌, ℕ, zero, suc, ◌+◌, ◌%◌, ◌^◌, ◌<◌, ◌≤◌, Bool, true, false, not, List, [], ◌∷◌, ◌++◌, length, Option, inl, inr, refl, ap, sym}
+use Rattle.std.proofs.Common.{subst, ◌∙◌, arith}
 use Rattle.std.specs.Prelude.{⊤, All, Contains, ◌==◌, ◌&&◌, if◌then◌else◌, slice_index_or}
 use Rattle.std.specs.List.{list_all}
 use Rattle.std.proofs.lemmas.List.Sums.{AllPass-from_list_all}
@@ -38,7 +39,8 @@ pub record Holds (first : ℕ) (s : Session) (ns : List Numbered) (sent : List E
   pub placed : AreNumbered ns
 
 -- a TSN for each entry
-pub counted : (first : ℕ) (sent more : List Entry) (a b : ℕ) → a ≡ (first + length sent) % 2 ^ 32 → b ≡ (first + length more) % 2 ^ 32 → IsOnceMore sent more → length more ≤ length sent + distance a b
+pub counted : (first : ℕ) (sent more : List Entry) (a b : ℕ) → a ≡ (first + length sent) % 2 ^ 32 → b ≡ (first + length more) % 2 ^ 32 → IsOnceMore sent more
+    → length more ≤ length sent + distance a b
 unfolding distance
 counted first sent more a b e f (inl same) = let n = ap length same in omega (arith, n)
 counted first sent more a b e f (inr x) = let n = ap length x.1 in omega (arith, n, e, f)
@@ -75,11 +77,13 @@ sender-step first call old new ns sent f h =
       grown = r.grown;
     }
 
-pub receiver-step : (first : ℕ) (call : _) (old new : Session) (ns : List Numbered) (sent : List Entry) → ReceiverFollows call old new → Holds first old ns sent → Holds first new ns sent
+pub receiver-step : (first : ℕ) (call : _) (old new : Session) (ns : List Numbered) (sent : List Entry) → ReceiverFollows call old new → Holds first old ns sent
+    → Holds first new ns sent
 receiver-step first call old new ns sent f h =
     subst (λ s. Holds first s ns sent) (sym f.after) (record { held = h.held; made = h.made; writes = h.writes; placed = h.placed })
 
-held-after : (first : ℕ) (cs : List Call) (old new : Session) (ns : List Numbered) (sent : List Entry) (r : RunsTo old cs new) → Holds first old ns sent → After first old cs new r sent
+held-after : (first : ℕ) (cs : List Call) (old new : Session) (ns : List Numbered) (sent : List Entry) (r : RunsTo old cs new) → Holds first old ns sent
+    → After first old cs new r sent
 held-after first [] old new ns sent r h = record { numbered = ns; more = sent; holds = subst (λ s. Holds first s ns sent) (sym r) h; few = omega arith }
 held-after first (of_sender call ∷ cs) old new ns sent r h =
     let x = sender-step first call old r.0 ns sent r.1.0 h in
@@ -144,16 +148,18 @@ abbrev pub EachSent : List Entry → List ChunkPayloadData → Type 0
 EachSent sent [] = ⊤
 EachSent sent (c ∷ cs) = WasSent sent (data_of c) × EachSent sent cs
 
-pub each-sent : (sent : List Entry) (ms : List Made) (cs : List ChunkPayloadData) → AreSent sent ms → All (λ c. Contains ms (data_chunk (data_of c))) cs → EachSent sent cs
+pub each-sent : (sent : List Entry) (ms : List Made) (cs : List ChunkPayloadData) → AreSent sent ms → All (λ c. Contains ms (data_chunk (data_of c))) cs
+    → EachSent sent cs
 each-sent sent ms [] a all = tt
-each-sent sent ms (c ∷ cs) a all = (found-sent sent ms (data_of c) a (all 0 c (omega arith)), each-sent sent ms cs a (λ k d lt. all (suc k) d (omega (arith, lt))))
+each-sent sent ms (c ∷ cs) a all =
+    (found-sent sent ms (data_of c) a (all 0 c (omega arith)), each-sent sent ms cs a (λ k d lt. all (suc k) d (omega (arith, lt))))
 
 -- behind the first one a chunk that begins a message is alike the one before it: ordered, of the same stream and number
 abbrev pub AreInner : ChunkPayloadData → List ChunkPayloadData → Type 0
 AreInner c [] = ⊤
 AreInner c (d ∷ ds) =
-    (d.beginning_fragment ≡ true → (d.unordered ≡ false) × (c.unordered ≡ false) × (d.stream_identifier ≡ c.stream_identifier) × (d.stream_sequence_number ≡ c.stream_sequence_number))
-    × AreInner d ds
+    (d.beginning_fragment ≡ true → (d.unordered ≡ false) × (c.unordered ≡ false) × (d.stream_identifier ≡ c.stream_identifier)
+    × (d.stream_sequence_number ≡ c.stream_sequence_number)) × AreInner d ds
 
 none-begins : (c : ChunkPayloadData) (cs : List ChunkPayloadData) → list_all (λ y. not y.beginning_fragment) cs ≡ true → AreInner c cs
 none-begins c [] e = tt
@@ -167,12 +173,14 @@ record IsOf (stream ssn : ℕ) (c : ChunkPayloadData) : Type 0 where
   same_stream : c.stream_identifier ≡ stream
   same_number : c.stream_sequence_number ≡ ssn
 
-all-like : (x : ChunkPayloadData) → x.unordered ≡ false → (c : ChunkPayloadData) (cs : List ChunkPayloadData) → IsOf x.stream_identifier x.stream_sequence_number c → list_all (is_like x) cs ≡ true → AreInner c cs
+all-like : (x : ChunkPayloadData) → x.unordered ≡ false → (c : ChunkPayloadData) (cs : List ChunkPayloadData)
+    → IsOf x.stream_identifier x.stream_sequence_number c → list_all (is_like x) cs ≡ true → AreInner c cs
 all-like x k c [] i e = tt
 all-like x k c (d ∷ ds) i e =
     let b = both (is_like x d) (list_all (is_like x) ds) e in
     let s = both (d.stream_identifier == x.stream_identifier) _ b.0 in
-    let o = both (not d.unordered) (d.stream_sequence_number == x.stream_sequence_number) (subst (λ u. (if u then d.unordered else not d.unordered && (d.stream_sequence_number == x.stream_sequence_number)) ≡ true) k s.1) in
+    let o = both (not d.unordered) (d.stream_sequence_number == x.stream_sequence_number)
+    (subst (λ u. (if u then d.unordered else not d.unordered && (d.stream_sequence_number == x.stream_sequence_number)) ≡ true) k s.1) in
     let j : IsOf x.stream_identifier x.stream_sequence_number d = record {
       ordered = negated d.unordered o.0;
       same_stream = same-is d.stream_identifier x.stream_identifier s.0;
@@ -186,7 +194,8 @@ inner-of x ys e = let b = both (list_all (is_like x) ys) (rest x.unordered) e in
     rest : Bool → Bool
     rest u = if u then list_all (λ y. not y.beginning_fragment) ys && none_ends_before x ys else true
 
-    by : (b : Bool) → x.unordered ≡ b → list_all (is_like x) ys ≡ true → (if b then list_all (λ y. not y.beginning_fragment) ys && none_ends_before x ys else true) ≡ true → AreInner x ys
+    by : (b : Bool) → x.unordered ≡ b → list_all (is_like x) ys ≡ true
+        → (if b then list_all (λ y. not y.beginning_fragment) ys && none_ends_before x ys else true) ≡ true → AreInner x ys
     by true k like alone = none-begins x ys (both (list_all (λ y. not y.beginning_fragment) ys) (none_ends_before x ys) alone).0
     by false k like alone = all-like x k x ys (record { ordered = k; same_stream = refl; same_number = refl }) like
 
@@ -225,7 +234,9 @@ pub record IsReadSession (s : Session) : Type 0 where
 
 module _ (ws : List Numbered) (first : ℕ) (sent : List Entry) (few : length sent < 2 ^ 32) (line : IsLine ws first sent) where
   -- a chunk, and those that follow it up to the end, are the rest of the write
-  follows : (c : ChunkPayloadData) (cs : List ChunkPayloadData) (w : Numbered) (after : List ℕ) (xs : List Entry) → IsPart (fragment (data_of c) w after ∷ xs) sent → completes c cs ≡ true → EachSent sent cs → AreInner c cs → (payload_of cs ≡ after) × EachTyped w (c ∷ cs)
+  follows : (c : ChunkPayloadData) (cs : List ChunkPayloadData) (w : Numbered) (after : List ℕ) (xs : List Entry)
+      → IsPart (fragment (data_of c) w after ∷ xs) sent → completes c cs ≡ true → EachSent sent cs → AreInner c cs
+      → (payload_of cs ≡ after) × EachTyped w (c ∷ cs)
   follows c [] w after xs p e s i =
       let l = part-line ws first sent (fragment (data_of c) w after ∷ xs) p line in
       (sym (l.0.ends e), (l.0.payload, tt))
@@ -235,20 +246,24 @@ module _ (ws : List Numbered) (first : ℕ) (sent : List Entry) (few : length se
       let rest = s.0.1 in
       let ys = s.0.2 in
       let q = s.0.3 in
-      let behind : ys ≡ fragment (data_of c) w after ∷ xs = stands-behind ws first sent few line (data_of c) (data_of d) w v after rest xs ys p q (same-is d.tsn ((c.tsn + 1) % 2 ^ 32) b.0) in
+      let behind : ys ≡ fragment (data_of c) w after ∷ xs = stands-behind ws first sent few line (data_of c)
+      (data_of d) w v after rest xs ys p q (same-is d.tsn ((c.tsn + 1) % 2 ^ 32) b.0) in
       let l = part-line ws first sent (fragment (data_of d) v rest ∷ ys) q line in
       let on = subst (GoesOn (data_of d) v rest) behind l.1.0 in
       let ih = follows d ds v rest ys q b.1 s.1 i.1 in
       let here = part-line ws first sent (fragment (data_of c) w after ∷ xs) p line in
       by d.beginning_fragment refl on.0 on.1 ih here.0.payload
     where
-      by : (b : Bool) → d.beginning_fragment ≡ b → (d.beginning_fragment ≡ false → (s.0.0 ≡ w) × (after ≡ d.user_data ++ s.0.1)) → (d.beginning_fragment ≡ true → AreApart (data_of d) (data_of c)) → (payload_of ds ≡ s.0.1) × EachTyped s.0.0 (d ∷ ds) → c.payload_type ≡ w.payload_type → (payload_of (d ∷ ds) ≡ after) × EachTyped w (c ∷ d ∷ ds)
+      by : (b : Bool) → d.beginning_fragment ≡ b → (d.beginning_fragment ≡ false → (s.0.0 ≡ w) × (after ≡ d.user_data ++ s.0.1))
+          → (d.beginning_fragment ≡ true → AreApart (data_of d) (data_of c)) → (payload_of ds ≡ s.0.1) × EachTyped s.0.0 (d ∷ ds)
+          → c.payload_type ≡ w.payload_type → (payload_of (d ∷ ds) ≡ after) × EachTyped w (c ∷ d ∷ ds)
       by true k goes apart ih typed = let a = i.0 k in absurd (apart k a.0 a.1 a.2 a.3)
       by false k goes apart ih typed =
           let g = goes k in
           (ap (λ bs. d.user_data ++ bs) ih.0 ∙ sym g.1, (typed, subst (λ v. EachTyped v (d ∷ ds)) g.0 ih.1))
 
-  pub message-is : (m : Message) → is_complete m.fragments ≡ true → is_one_message m.fragments ≡ true → EachSent sent m.fragments → list_all (is_on m.stream) m.fragments ≡ true → IsReadOf ws sent m
+  pub message-is : (m : Message) → is_complete m.fragments ≡ true → is_one_message m.fragments ≡ true → EachSent sent m.fragments
+      → list_all (is_on m.stream) m.fragments ≡ true → IsReadOf ws sent m
   message-is m complete one s on = by m.fragments refl complete one s on
     where
       typed-all : (w : Numbered) (cs : List ChunkPayloadData) → EachTyped w cs → All (λ c. c.payload_type ≡ w.payload_type) cs
@@ -256,7 +271,8 @@ module _ (ws : List Numbered) (first : ℕ) (sent : List Entry) (few : length se
       typed-all w (c ∷ cs) t zero d lt = t.0
       typed-all w (c ∷ cs) t (suc k) d lt = typed-all w cs t.1 k d (omega (arith, lt))
 
-      by : (cs : List ChunkPayloadData) → m.fragments ≡ cs → is_complete cs ≡ true → is_one_message cs ≡ true → EachSent sent cs → list_all (is_on m.stream) cs ≡ true → IsReadOf ws sent m
+      by : (cs : List ChunkPayloadData) → m.fragments ≡ cs → is_complete cs ≡ true → is_one_message cs ≡ true → EachSent sent cs
+          → list_all (is_on m.stream) cs ≡ true → IsReadOf ws sent m
       by [] is e o s on = absurd (not_both e)
       by (c ∷ cs) is e o s on =
           let b = both c.beginning_fragment (completes c cs) e in
@@ -293,15 +309,19 @@ pub parts : AfterEachFitSession AreParts
 parts tsn size max most limits cs s small some r d c =
     let a = held-after tsn cs (at_start tsn size max most limits) s [] [] r (at-first tsn size max most limits small some) in
     let x = found-sent a.more s.made d a.holds.made c in
-    let f = (part-line a.numbered tsn a.more (fragment d x.0 x.1 ∷ x.2) x.3 a.holds.held.stands.queued.line).0 in
-    (forget x.0, subst (λ ws. Contains ws (forget x.0)) a.holds.writes (contains-forgotten a.numbered x.0 f.written), record { stream = f.stream; payload_type = f.payload; bytes = (f.part.0, x.1, f.part.1) })
+    let f = (part-line a.numbered tsn a.more (fragment d x.0 x.1 ∷ x.2) x.3 a.holds.held.stands.queued.line).0 in (
+      forget x.0,
+      subst (λ ws. Contains ws (forget x.0)) a.holds.writes (contains-forgotten a.numbered x.0 f.written),
+      record { stream = f.stream; payload_type = f.payload; bytes = (f.part.0, x.1, f.part.1) },
+    )
 
 -- and the only one with its TSN
 pub same : WhileTsnsLast AreSame
 same tsn size max most limits cs s small some r few d e c k is =
     let a = held-after tsn cs (at_start tsn size max most limits) s [] [] r (at-first tsn size max most limits small some) in
     let n = a.few in
-    same-tsn a.numbered tsn a.more (omega (arith, n, few)) a.holds.held.stands.queued.line d e (found-sent a.more s.made d a.holds.made c) (found-sent a.more s.made e a.holds.made k) is
+    same-tsn a.numbered tsn a.more (omega (arith, n, few)) a.holds.held.stands.queued.line d e (found-sent a.more s.made d a.holds.made c)
+    (found-sent a.more s.made e a.holds.made k) is
 
 -- each message that was read is one of these writes, where they got these entries
 abbrev pub read-in : (tsn size max most : ℕ) (limits : Option Limits) (cs : List Call) (s : Session) → RunsTo (at_start tsn size max most limits) cs s
@@ -327,7 +347,8 @@ read-in tsn size max most limits cs s r ns sent few h =
           (AllPass-from_list_all (λ x. list_all (is_on x.stream) x.fragments) s.receiving.read on k m lt);
     }
 
-pub read-of : (tsn size max most : ℕ) (limits : Option Limits) (cs : List Call) (s : Session) → tsn < 2 ^ 32 → 0 < size → (r : RunsTo (at_start tsn size max most limits) cs s) → tsns_given (at_start tsn size max most limits) cs s r < 2 ^ 32 → IsReadSession s
+pub read-of : (tsn size max most : ℕ) (limits : Option Limits) (cs : List Call) (s : Session) → tsn < 2 ^ 32 → 0 < size
+    → (r : RunsTo (at_start tsn size max most limits) cs s) → tsns_given (at_start tsn size max most limits) cs s r < 2 ^ 32 → IsReadSession s
 read-of tsn size max most limits cs s small some r few =
     let a = held-after tsn cs (at_start tsn size max most limits) s [] [] r (at-first tsn size max most limits small some) in
     let n = a.few in

@@ -1,5 +1,5 @@
--- A worked session, by computation: a message of one byte is written, sent, taken, read and acknowledged.
-use Rattle.std.proofs.Common.{◌≡◌, ℕ, ◌<◌, Bool, true, false, List, [], ◌∷◌, Some, None, refl, ap, arith}
+-- Worked sessions, by computation: a message of one byte is written, sent, taken, read and acknowledged.
+use Rattle.std.proofs.Common.{◌≡◌, ℕ, ◌<◌, Bool, true, false, List, [], ◌∷◌, Some, None, refl, ap, arith, inl}
 use Rattle.std.specs.Prelude.{AllPairs, if◌then◌else◌, ◌==◌, ◌≤◌, ◌^◌, length}
 use Rattle.std.specs.List.{filter, list_all}
 use Rattle.sctp_list_lemmas.specs.Lists.{change_where}
@@ -14,9 +14,12 @@ use Rattle.sctp_data.specs.PayloadData.{Data}
 use Rattle.sctp_data.specs.SelectiveAck.{Sack}
 use Rattle.sctp_outbound.specs.outbound_queue.OutboundQueue.{sent_next}
 use Rattle.sctp_receiver.specs.declared.receiver.arrival.Arrival.TheVariants.{New}
+use Rattle.sctp_receiver.specs.declared.receiver.refusal.ReceiverRefusal.TheVariants.{NamedStreamUnknown, StreamUnknown}
 use Rattle.sctp_receiver.specs.Inbound as inbound
+use Rattle.sctp_receiver.specs.Skips.{skip_refusal}
 use Rattle.sctp_receiver.specs.Receiver as receiver
 use Rattle.sctp_receiver.specs.Receiver.{Reception}
+use Rattle.sctp_receiver.specs.TsnFilter.{has_come}
 use Rattle.sctp_reassembly.specs.reassembly_queue.ReassemblyQueue.{after_ordered_push}
 use Rattle.sctp_outbound.specs.pending_queue.PendingQueue.{last_of}
 use Rattle.sctp_sender.specs.declared.sender.flight.late.AbandonedMessage.{AbandonedMessage}
@@ -31,14 +34,15 @@ use Rattle.sctp_receiver.specs.ReceiverRuns.{Message}
 use Rattle.sctp_delivery.specs.Complete.{fragments_held, holds_nothing, is_exhausted, is_reliable, is_settled, reads_nothing}
 use Rattle.sctp_delivery.specs.Order.{ordered_places}
 use Rattle.sctp_delivery.specs.ReceiverCalls as incoming
-use Rattle.sctp_delivery.specs.ReceiverCalls.{reads, reports, takes}
+use Rattle.sctp_delivery.specs.ReceiverCalls.{follows, reads, reports, takes}
+use Rattle.sctp_delivery.specs.Refused.{IsInFlight, MayMake, is_due_named, is_takable}
 use Rattle.sctp_delivery.specs.Sacks.{is_reported, reports_tsn, tsns_given, was_passed, was_taken}
 use Rattle.sctp_delivery.specs.SenderCalls as outgoing
 use Rattle.sctp_delivery.specs.SenderCalls.{Write, abandons, data_chunk, forward_tsn, forwards, made_after, sends, takes_sack, writes, written_after}
 use Rattle.sctp_delivery.specs.Session.{Call, ReceiverFollows, RunsTo, SenderFollows, Session, at_start, of_receiver, of_sender}
 
 -- a sender of fragments of up to 1,200 bytes, with stream 1 open and one byte written
-abbrev waiting : Transmission
+abbrev pub waiting : Transmission
 waiting =
     written_to (new_stream 1 1200 65536 Unknown) 1 Binary (7 ∷ []) (open_stream 1 (with_nothing 10 1200 65536))
 
@@ -49,7 +53,7 @@ counts = refl
 empty : written_after (writes 1 Binary []) [] ≡ []
 empty = refl
 
-abbrev first_chunk : List ℕ → Data
+abbrev pub first_chunk : List ℕ → Data
 first_chunk bytes = record {
   unordered = false;
   beginning_fragment = true;
@@ -63,7 +67,7 @@ first_chunk bytes = record {
 }
 
 -- the chunk that is sent has the first TSN and the byte
-sent : made_after (sends 5) waiting [] ≡ data_chunk (first_chunk (7 ∷ [])) ∷ []
+pub sent : made_after (sends 5) waiting [] ≡ data_chunk (first_chunk (7 ∷ [])) ∷ []
 sent = refl
 
 -- where nothing waits none is made
@@ -72,28 +76,28 @@ idle = refl
 
 -- ## The session
 
-abbrev start : Session
+abbrev pub start : Session
 start = at_start 10 1200 65536 65536 None
 
-abbrev sending : Transmission → Session → Session
+abbrev pub sending : Transmission → Session → Session
 sending t s = record s { sending = record s.sending { sender = t } }
 
-abbrev receiving : Reception → Session → Session
+abbrev pub receiving : Reception → Session → Session
 receiving r s = record s { receiving = record s.receiving { receiver = r } }
 
-abbrev opened : Session
+abbrev pub opened : Session
 opened = sending (open_stream 1 start.sending.sender) start
 
-opens : SenderFollows (outgoing.opens 1) start opened
+pub opens : SenderFollows (outgoing.opens 1) start opened
 opens = record { handed = tt; step = record { sender = refl; written = refl; released = refl; taken_back = refl }; exact = tt; accepted = refl; after = refl }
 
-abbrev one_write : Write
+abbrev pub one_write : Write
 one_write = record { stream = 1; payload_type = Binary; bytes = 7 ∷ [] }
 
-abbrev written : Session
+abbrev pub written : Session
 written = record opened { sending = record opened.sending { sender = waiting; written = 1 }; written = one_write ∷ [] }
 
-writes-one : SenderFollows (writes 1 Binary (7 ∷ [])) opened written
+pub writes-one : SenderFollows (writes 1 Binary (7 ∷ [])) opened written
 writes-one = record {
   handed = tt;
   step = record { sender = refl; written = refl; released = refl; taken_back = refl };
@@ -102,11 +106,13 @@ writes-one = record {
   after = refl;
 }
 
-abbrev in_flight : Session
-in_flight = record (sending (with_flight (record waiting.flight { queue = sent_next waiting.flight.queue 10 5; next_tsn = 11 }) waiting) written) { made = data_chunk (first_chunk (7 ∷ [])) ∷ [] }
+abbrev pub in_flight : Session
+in_flight = record (sending (with_flight (record waiting.flight { queue = sent_next waiting.flight.queue 10 5; next_tsn = 11 }) waiting) written)
+    { made = data_chunk (first_chunk (7 ∷ [])) ∷ [] }
 
-sends-one : SenderFollows (sends 5) written in_flight
-sends-one = record { handed = tt; step = record { sender = refl; written = refl; released = refl; taken_back = refl }; exact = refl; accepted = refl; after = refl }
+pub sends-one : SenderFollows (sends 5) written in_flight
+sends-one =
+    record { handed = tt; step = record { sender = refl; written = refl; released = refl; taken_back = refl }; exact = refl; accepted = refl; after = refl }
 
 -- the receiver opens the stream too
 abbrev both_open : Session
@@ -119,12 +125,13 @@ opens-too = record { handed = tt; step = record { receiver = (refl, refl); accep
 abbrev chunk : ChunkPayloadData
 chunk = fresh (first_chunk (7 ∷ []))
 
-abbrev taken : Session
+abbrev pub taken : Session
 taken =
     let r = both_open.receiving.receiver in
     record both_open {
       receiving = record both_open.receiving {
-        receiver = receiver.with_filter (record (receiver.filter_of r) { cumulative_tsn = 10 }) (record r { streams = change_where (inbound.has_number 1) (inbound.with_queue (after_ordered_push chunk (inbound.new_stream 1 65536).queue)) r.streams });
+        receiver = receiver.with_filter (record (receiver.filter_of r) { cumulative_tsn = 10 }) (record r
+            { streams = change_where (inbound.has_number 1) (inbound.with_queue (after_ordered_push chunk (inbound.new_stream 1 65536).queue)) r.streams });
         accepted = chunk ∷ [];
       };
     }
@@ -134,7 +141,13 @@ unfolding at_or_before at_or_before16 comes_before comes_before16 distance dista
 takes-one = record {
   handed = (0, omega arith, refl);
   step = record {
-    receiver = record { stream = inbound.new_stream 1 65536; found = refl; queue = after_ordered_push chunk (inbound.new_stream 1 65536).queue; pushed = (refl, refl); after = refl };
+    receiver = record {
+      stream = inbound.new_stream 1 65536;
+      found = refl;
+      queue = after_ordered_push chunk (inbound.new_stream 1 65536).queue;
+      pushed = (refl, refl);
+      after = refl;
+    };
     accepted = refl;
     read = refl;
   };
@@ -143,7 +156,9 @@ takes-one = record {
 }
 
 abbrev has_read : Session
-has_read = record taken { receiving = record taken.receiving { receiver = receiver.after_read 1 taken.receiving.receiver; read = record { stream = 1; fragments = chunk ∷ [] } ∷ [] } }
+has_read = record taken {
+  receiving = record taken.receiving { receiver = receiver.after_read 1 taken.receiving.receiver; read = record { stream = 1; fragments = chunk ∷ [] } ∷ [] };
+}
 
 reads-one : ReceiverFollows (reads 1) taken has_read
 unfolding at_or_before at_or_before16 comes_before comes_before16 distance distance16
@@ -152,16 +167,16 @@ reads-one = record { handed = tt; step = record { receiver = refl; accepted = re
 abbrev one_sack : Sack
 one_sack = record { cumulative_tsn_ack = 10; advertised_receiver_window_credit = 1000; gap_ack_blocks = []; duplicate_tsn = [] }
 
-abbrev reported : Session
+abbrev pub reported : Session
 reported = record has_read { sacks = one_sack ∷ [] }
 
 reports-one : ReceiverFollows (reports 1000) has_read reported
 reports-one = record { handed = tt; step = record { receiver = refl; accepted = refl; read = refl }; accepted = tt; after = refl }
 
-abbrev gone : List Released
+abbrev pub gone : List Released
 gone = with_lows (released_by one_sack in_flight.sending.sender.flight) in_flight.sending.sender.streams
 
-abbrev acknowledged : Session
+abbrev pub acknowledged : Session
 acknowledged = record reported { sending = record reported.sending { sender = after_acked one_sack in_flight.sending.sender; released = 1 } }
 
 takes-sack : SenderFollows (takes_sack one_sack gone) reported acknowledged
@@ -174,13 +189,28 @@ takes-sack = record {
   after = refl;
 }
 
-abbrev calls : List Call
+abbrev pub calls : List Call
 calls =
     of_sender (outgoing.opens 1) ∷ of_sender (writes 1 Binary (7 ∷ [])) ∷ of_sender (sends 5) ∷ of_receiver (incoming.opens 1)
     ∷ of_receiver (takes chunk (New true)) ∷ of_receiver (reads 1) ∷ of_receiver (reports 1000) ∷ of_sender (takes_sack one_sack gone) ∷ []
 
 abbrev session : RunsTo start calls acknowledged
-session = (opened, (opens, (written, (writes-one, (in_flight, (sends-one, (both_open, (opens-too, (taken, (takes-one, (has_read, (reads-one, (reported, (reports-one, (acknowledged, (takes-sack, refl))))))))))))))))
+session = (
+  opened,
+  (
+    opens,
+    (
+      written,
+      (
+        writes-one,
+        (
+          in_flight,
+          (sends-one, (both_open, (opens-too, (taken, (takes-one, (has_read, (reads-one, (reported, (reports-one, (acknowledged, (takes-sack, refl))))))))))),
+        ),
+      ),
+    ),
+  ),
+)
 
 -- nothing is held any more
 drained : held_by_sender acknowledged.sending.sender ≡ 0
@@ -251,21 +281,23 @@ is-reported = refl
 
 -- ## A message is abandoned
 
-abbrev lost : AbandonedMessage
+abbrev pub lost : AbandonedMessage
 lost = record { stream = 1; number = 0; bytes = 1; is_low = true }
 
-abbrev abandoned_one : Session
+abbrev pub abandoned_one : Session
 abandoned_one = record in_flight {
-  sending = record in_flight.sending { sender = after_abandon (message_to_abandon 10 in_flight.sending.sender.flight) 1 1 in_flight.sending.sender; released = 1 };
+  sending =
+      record in_flight.sending { sender = after_abandon (message_to_abandon 10 in_flight.sending.sender.flight) 1 1 in_flight.sending.sender; released = 1 };
 }
 
-abandons-one : SenderFollows (abandons 10 lost) in_flight abandoned_one
-abandons-one = record { handed = tt; step = record { sender = refl; written = refl; released = refl; taken_back = refl }; exact = refl; accepted = refl; after = refl }
+pub abandons-one : SenderFollows (abandons 10 lost) in_flight abandoned_one
+abandons-one =
+    record { handed = tt; step = record { sender = refl; written = refl; released = refl; taken_back = refl }; exact = refl; accepted = refl; after = refl }
 
-abbrev skip : ForwardTsn
+abbrev pub skip : ForwardTsn
 skip = record { new_cumulative_tsn = 10; streams = record { identifier = 1; sequence = 0 } ∷ [] }
 
-abbrev skipped : Session
+abbrev pub skipped : Session
 skipped = record abandoned_one { made = forward_tsn skip ∷ abandoned_one.made }
 
 -- it names the message of stream 1, and none of another
@@ -277,16 +309,23 @@ names s = by (1 == s)
     by true = refl
     by false = refl
 
-makes-skip : SenderFollows (forwards 10 skip) abandoned_one skipped
+pub makes-skip : SenderFollows (forwards 10 skip) abandoned_one skipped
 unfolding at_or_before comes_before distance
-makes-skip = record { handed = tt; step = record { sender = refl; written = refl; released = refl; taken_back = refl }; exact = refl; accepted = (refl, names); after = refl }
+makes-skip = record {
+  handed = tt;
+  step = record { sender = refl; written = refl; released = refl; taken_back = refl };
+  exact = refl;
+  accepted = (refl, names);
+  after = refl;
+}
 
 -- its chunk is passed, and abandoned
 passed : was_passed 10 skipped ≡ true
 unfolding at_or_before distance
 passed = refl
 
-abandoned : skipped.sending.sender.flight.queue.inflight.chunks ≡ record chunk { since = Some 5; nsent = 1; reliability = Some (Reliable, 0); abandoned = true; user_data = [] } ∷ []
+pub abandoned : skipped.sending.sender.flight.queue.inflight.chunks
+    ≡ record chunk { since = Some 5; nsent = 1; reliability = Some (Reliable, 0); abandoned = true; user_data = [] } ∷ []
 abandoned = refl
 
 -- ## The order of what is read
@@ -308,3 +347,51 @@ places-elsewhere = refl
 -- the write at place 2 is older than that at place 0, so it may not be read later
 not-in-order : AllPairs (λ p q. p < q) (2 ∷ 0 ∷ []) → ⊥
 not-in-order h = let lt = h 0 1 0 (omega arith) (omega arith) in omega (arith, lt)
+
+-- ## What is not refused
+
+-- the chunk is in flight; its TSN did not come, its stream is open, and nothing is to be read there
+needed : IsInFlight chunk both_open
+needed = record {
+  chunk = record chunk { since = Some 5; nsent = 1; reliability = Some (Reliable, 0) };
+  sent = (0, omega arith, refl);
+  kept = refl;
+  same = inl refl;
+}
+
+not-come : has_come 10 (receiver.filter_of both_open.receiving.receiver) ≡ false
+unfolding at_or_before distance
+not-come = refl
+
+takable : is_takable chunk both_open.receiving.receiver ≡ true
+unfolding at_or_before16 distance16
+takable = refl
+
+not-refused : receiver.arrival_refusal chunk both_open.receiving.receiver ≡ None
+unfolding at_or_before at_or_before16 comes_before comes_before16 distance distance16
+not-refused = refl
+
+-- before the stream was opened it was refused, and where its message waits to be read the law says nothing of it
+refused-first : receiver.arrival_refusal chunk in_flight.receiving.receiver ≡ Some StreamUnknown
+unfolding at_or_before distance
+refused-first = refl
+
+not-due : is_takable chunk taken.receiving.receiver ≡ false
+unfolding at_or_before at_or_before16 comes_before comes_before16 distance distance16
+not-due = refl
+
+-- the FORWARD-TSN may be made, and is not refused where stream 1 is open and nothing is to be read there
+may-make : MayMake skip abandoned_one.sending.sender
+unfolding at_or_before comes_before distance
+may-make = inl (10, (refl, names))
+
+due-there : is_due_named skip both_open.receiving.receiver ≡ true
+due-there = refl
+
+skip-taken : skip_refusal skip both_open.receiving.receiver ≡ None
+unfolding at_or_before at_or_before16 comes_before comes_before16 distance distance16
+skip-taken = refl
+
+skip-refused : skip_refusal skip in_flight.receiving.receiver ≡ Some NamedStreamUnknown
+unfolding at_or_before comes_before distance
+skip-refused = refl

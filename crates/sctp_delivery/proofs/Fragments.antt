@@ -86,15 +86,22 @@ module _ (ws : List Numbered) (n : ℕ) (l : StreamState) (ppi : PayloadProtocol
         sym (pieces-joined (length bytes) l.max_payload_size bytes some (omega arith)) ∙ ap (λ i. joined (drop i ps)) (sym z) ∙ joined-from ps j lt;
     part = (
       joined (take j ps),
-      sym (pieces-joined (length bytes) l.max_payload_size bytes some (omega arith)) ∙ joined-both ps j ∙ ap (λ bs. joined (take j ps) ++ bs) (joined-from ps j lt),
+      sym (pieces-joined (length bytes) l.max_payload_size bytes some (omega arith)) ∙ joined-both ps j
+          ∙ ap (λ bs. joined (take j ps) ++ bs) (joined-from ps j lt),
     );
     ends = λ e. let z : j + 1 ≡ length ps = same-is (j + 1) (length ps) e in ap joined (drop-all ps (j + 1) (omega (arith, z)));
   }
 
   waits-from : (j k : ℕ) (p : Place) → j + suc k ≡ length ps → Goes p (nth j) write (left j) → Waits (write ∷ ws) (map nth (numbers_where always j (suc k))) p
   waits-from j zero p e g =
-      let last : (j + 1 == length ps) ≡ true = (let z : j + 1 ≡ length ps = omega (arith, e) in grind (arith, nat_tests)) in
-      (write, left j, (fits j (omega (arith, e)), (g, subst (λ b. Waits (write ∷ ws) [] (if b then between else within n l.sequence_number (nth j).unordered write (left j))) (sym last) tt)))
+      let last : (j + 1 == length ps) ≡ true = (let z : j + 1 ≡ length ps = omega (arith, e) in grind (arith, nat_tests)) in (
+        write,
+        left j,
+        (
+          fits j (omega (arith, e)),
+          (g, subst (λ b. Waits (write ∷ ws) [] (if b then between else within n l.sequence_number (nth j).unordered write (left j))) (sym last) tt),
+        ),
+      )
   waits-from j (suc k) p e g =
       let more : (j + 1 == length ps) ≡ false = (let z : j + 1 < length ps = omega (arith, e) in grind (arith, nat_tests)) in
       let rest = waits-from (j + 1) k (within n l.sequence_number (nth j).unordered write (left j)) (omega (arith, e)) (record {
@@ -104,22 +111,37 @@ module _ (ws : List Numbered) (n : ℕ) (l : StreamState) (ppi : PayloadProtocol
         bytes = joined-from ps (j + 1) (omega (arith, e));
         same_number = refl;
         same_kind = refl;
-      }) in
-      (write, left j, (fits j (omega (arith, e)), (g, subst (λ b. Waits (write ∷ ws) (map nth (numbers_where always (j + 1) (suc k))) (if b then between else within n l.sequence_number (nth j).unordered write (left j))) (sym more) rest)))
+      }) in (
+        write,
+        left j,
+        (
+          fits j (omega (arith, e)),
+          (
+            g,
+            subst (λ b. Waits (write ∷ ws) (map nth (numbers_where always (j + 1) (suc k))) (if b then between
+                else within n l.sequence_number (nth j).unordered write (left j))) (sym more) rest,
+          ),
+        ),
+      )
 
   turns-later : (r m j k : ℕ) → 0 < j → Turns r (map nth (numbers_where always j k)) m m
   turns-later r m j zero lt = refl
   turns-later r m j (suc k) lt =
-      let none : counts r (nth j) ≡ false = inner-not r (nth j) (grind (arith, nat_tests)) in
-      (λ h. absurd (cc), subst (λ b. Turns r (map nth (numbers_where always (j + 1) k)) (number_after b m) m) (sym none) (turns-later r m (j + 1) k (omega arith)))
+      let none : counts r (nth j) ≡ false = inner-not r (nth j) (grind (arith, nat_tests)) in (
+        λ h. absurd (cc),
+        subst (λ b. Turns r (map nth (numbers_where always (j + 1) k)) (number_after b m) m) (sym none) (turns-later r m (j + 1) k (omega arith)),
+      )
 
   numbered : (k : ℕ) → length ps ≡ k → map (with_message_id n) (fragments_with_mode l ppi bytes) ≡ map nth (numbers_where always 0 k)
-  numbered k e = ap (map (with_message_id n)) (fragments-made l ppi bytes) ∙ map-twice (with_message_id n) (made l ppi bytes) (numbers_from 0 (length ps)) ∙ ap (λ i. map nth (numbers_from 0 i)) e
+  numbered k e = ap (map (with_message_id n)) (fragments-made l ppi bytes) ∙ map-twice (with_message_id n) (made l ppi bytes) (numbers_from 0 (length ps))
+      ∙ ap (λ i. map nth (numbers_from 0 i)) e
 
   pub fragments-wait : (k : ℕ) → length ps ≡ suc k → Waits (write ∷ ws) (map (with_message_id n) (fragments_with_mode l ppi bytes)) between
   fragments-wait k e = subst (λ cs. Waits (write ∷ ws) cs between) (sym (numbered (suc k) e)) (waits-from 0 k between (omega (arith, e)) (refl, refl))
 
   -- they take one number, where they begin a message of the stream
-  pub fragments-turn : (k r m : ℕ) → length ps ≡ suc k → (counts r (nth 0) ≡ true → l.sequence_number ≡ m) → Turns r (map (with_message_id n) (fragments_with_mode l ppi bytes)) m (number_after (counts r (nth 0)) m)
+  pub fragments-turn : (k r m : ℕ) → length ps ≡ suc k → (counts r (nth 0) ≡ true → l.sequence_number ≡ m)
+      → Turns r (map (with_message_id n) (fragments_with_mode l ppi bytes)) m (number_after (counts r (nth 0)) m)
   fragments-turn k r m e is =
-      subst (λ cs. Turns r cs m (number_after (counts r (nth 0)) m)) (sym (numbered (suc k) e)) (is, turns-later r (number_after (counts r (nth 0)) m) (0 + 1) k (omega arith))
+      subst (λ cs. Turns r cs m (number_after (counts r (nth 0)) m)) (sym (numbered (suc k) e))
+      (is, turns-later r (number_after (counts r (nth 0)) m) (0 + 1) k (omega arith))

@@ -1,5 +1,6 @@
 -- How many TSNs a sender gave out, and which of them are in flight.
-use Rattle.std.proofs.Common.{◌≡◌, ℕ, zero, suc, ◌+◌, ◌-◌, ◌<◌, ◌≤◌, ◌%◌, ◌^◌, Bool, true, false, List, [], ◌∷◌, ◌++◌, length, length-append, length-drop, drop, Option, Some, None, refl, ap, sym, subst, ◌∙◌, arith}
+use Rattle.std.proofs.Common.{◌≡◌, ℕ, zero, suc, ◌+◌, ◌-◌, ◌<◌, ◌≤◌, ◌%◌, ◌^◌, Bool, true, false, List, [], ◌∷◌, ◌++◌, length, length-append, length-drop, drop}
+use Rattle.std.proofs.Common.{Option, Some, None, refl, ap, sym, subst, ◌∙◌, arith}
 use Rattle.std.specs.Prelude.{if◌then◌else◌, is_some, nat_lt}
 use Rattle.std.proofs.lemmas.List.{length-map}
 use Rattle.std.proofs.lemmas.Bool.Decides.{nat_tests}
@@ -18,7 +19,8 @@ use Rattle.sctp_outbound.specs.pending_queue.PendingQueue.{last_removed, next_pe
 use Rattle.sctp_outbound.specs.pending_queue.Whole.{waits}
 use Rattle.sctp_outbound.proofs.lemmas.outbound_queue.Abandoned.{last_removed_none, no_last}
 use Rattle.sctp_outbound.proofs.lemmas.outbound_queue.Outbounds.{peeked_all_started}
-use Rattle.sctp_sender.specs.Flight.{Flight, after_abandonment, after_sack, is_outdated, message_to_abandon, next_after_send, reports_anew, take_sack, tsns_from}
+use Rattle.sctp_sender.specs.Flight.{Flight, after_abandonment, after_sack, is_outdated, message_to_abandon, next_after_send, reports_anew, take_sack}
+use Rattle.sctp_sender.specs.Flight.{tsns_from}
 use Rattle.sctp_sender.specs.Late.{abandoned_at, abandoned_each}
 use Rattle.sctp_sender.proofs.Flights.{put-last, started-inflight}
 use Rattle.sctp_sender.proofs.Runs.{IsRunFrom, changed-run, dropped, past-is}

@@ -11,7 +11,7 @@ use Rattle.sctp_data.specs.PayloadData.{data_of}
 use Rattle.sctp_outbound.specs.Marks.{as_abandoned, as_acknowledged, is_outstanding}
 use Rattle.sctp_delivery.proofs.OrderedEntries.{begun_on}
 use Rattle.sctp_delivery.proofs.Sent.{Entry, WasSent, sent-more}
-use Rattle.sctp_delivery.proofs.SpreadEntries.{IsPlaced, ordered-alike, placed-more, step-alike}
+use Rattle.sctp_delivery.proofs.SpreadEntries.{IsPlaced, for-alike, ordered-alike, placed-more, step-alike}
 
 abbrev pub IsKnown : ℕ → List Entry → ChunkPayloadData → Type 0
 IsKnown first sent c =
@@ -30,12 +30,15 @@ known-more first x sent (c ∷ cs) k = (
   known-more first x sent cs k.1,
 )
 
--- of the same kind, stream, number and TSN
+-- of the same kind, stream, number, TSN and message, and it ends this where the other does
+-- of the same kind, stream, number and TSN, and ending a message alike
 pub record IsAlike (c d : ChunkPayloadData) : Type 0 where
   pub kind : d.unordered ≡ c.unordered
   pub stream : d.stream_identifier ≡ c.stream_identifier
   pub number : d.stream_sequence_number ≡ c.stream_sequence_number
   pub tsn : d.tsn ≡ c.tsn
+  pub message : d.message_id ≡ c.message_id
+  pub ends : d.ending_fragment ≡ c.ending_fragment
 
 -- so it stands where the other did
 placed-alike : (first : ℕ) (sent : List Entry) (c d : ChunkPayloadData) → IsAlike c d → IsPlaced first sent c → IsPlaced first sent d
@@ -46,25 +49,27 @@ placed-alike first sent c d a i = record {
   number = a.tsn ∙ i.number;
   step = λ st. step-alike st (begun_on st i.entries) (begun_on st (i.entry ∷ i.entries)) c d a.stream a.kind a.number (i.step st);
   on = λ st. ordered-alike st c d a.stream a.kind ∙ i.on st;
+  for' = for-alike c d i.entry a.message a.ends i.for';
 }
 
--- a change after which a chunk is outstanding only where it was, with the same wire fields, and is always of the same kind, stream,
--- number and TSN
+-- a change after which a chunk is outstanding only where it was, with the same wire fields, and is always alike
 abbrev pub KeepsData : (ChunkPayloadData → ChunkPayloadData) → Type 0
 KeepsData f =
     (c : ChunkPayloadData)
     → (is_outstanding (f c) ≡ true → (is_outstanding c ≡ true) × (data_of (f c) ≡ data_of c)) × IsAlike c (f c)
 
 pub acknowledged-keeps : KeepsData as_acknowledged
-acknowledged-keeps c = (λ o. absurd (not_both o), record { kind = refl; stream = refl; number = refl; tsn = refl })
+acknowledged-keeps c = (λ o. absurd (not_both o), record { kind = refl; stream = refl; number = refl; tsn = refl; message = refl; ends = refl })
 
 pub abandoned-not : (c : ChunkPayloadData) → c.abandoned ≡ true → is_outstanding c ≡ true → ⊥
 abandoned-not c e o = not_both (ap not (sym e) ∙ (both (not c.acked) (not c.abandoned) o).1)
 
 pub abandoned-keeps : KeepsData as_abandoned
-abandoned-keeps c = (λ o. absurd (abandoned-not (as_abandoned c) refl o), record { kind = refl; stream = refl; number = refl; tsn = refl })
+abandoned-keeps c =
+    (λ o. absurd (abandoned-not (as_abandoned c) refl o), record { kind = refl; stream = refl; number = refl; tsn = refl; message = refl; ends = refl })
 
-pub known-changed : (first : ℕ) (sent : List Entry) (p : ChunkPayloadData → Bool) (f : ChunkPayloadData → ChunkPayloadData) → KeepsData f → (cs : List ChunkPayloadData) → AreKnown first sent cs → AreKnown first sent (change_where p f cs)
+pub known-changed : (first : ℕ) (sent : List Entry) (p : ChunkPayloadData → Bool) (f : ChunkPayloadData → ChunkPayloadData) → KeepsData f
+    → (cs : List ChunkPayloadData) → AreKnown first sent cs → AreKnown first sent (change_where p f cs)
 known-changed first sent p f keeps [] k = tt
 known-changed first sent p f keeps (c ∷ cs) k = (by (p c), known-changed first sent p f keeps cs k.1)
   where
@@ -76,12 +81,15 @@ known-changed first sent p f keeps (c ∷ cs) k = (by (p c), known-changed first
     by false = k.0
 
 -- only the first so many are changed
-pub known-part-changed : (first : ℕ) (sent : List Entry) (p : ChunkPayloadData → Bool) (f : ChunkPayloadData → ChunkPayloadData) → KeepsData f → (i : ℕ) (cs : List ChunkPayloadData) → AreKnown first sent cs → AreKnown first sent (change_where p f (take i cs) ++ drop i cs)
+pub known-part-changed : (first : ℕ) (sent : List Entry) (p : ChunkPayloadData → Bool) (f : ChunkPayloadData → ChunkPayloadData) → KeepsData f
+    → (i : ℕ) (cs : List ChunkPayloadData) → AreKnown first sent cs → AreKnown first sent (change_where p f (take i cs) ++ drop i cs)
 known-part-changed first sent p f keeps zero cs k = k
 known-part-changed first sent p f keeps (suc i) [] k = tt
-known-part-changed first sent p f keeps (suc i) (c ∷ cs) k = ((known-changed first sent p f keeps (c ∷ []) (k.0, tt)).0, known-part-changed first sent p f keeps i cs k.1)
+known-part-changed first sent p f keeps (suc i) (c ∷ cs) k =
+    ((known-changed first sent p f keeps (c ∷ []) (k.0, tt)).0, known-part-changed first sent p f keeps i cs k.1)
 
-pub known-inserted : (first : ℕ) (sent : List Entry) (before : ChunkPayloadData → ChunkPayloadData → Bool) (x : ChunkPayloadData) (cs : List ChunkPayloadData) → IsKnown first sent x → AreKnown first sent cs → AreKnown first sent (insert_before before x cs)
+pub known-inserted : (first : ℕ) (sent : List Entry) (before : ChunkPayloadData → ChunkPayloadData → Bool) (x : ChunkPayloadData) (cs : List ChunkPayloadData)
+    → IsKnown first sent x → AreKnown first sent cs → AreKnown first sent (insert_before before x cs)
 known-inserted first sent before x [] h k = (h, tt)
 known-inserted first sent before x (c ∷ cs) h k = by (before x c) (known-inserted first sent before x cs h k.1)
   where
@@ -89,7 +97,8 @@ known-inserted first sent before x (c ∷ cs) h k = by (before x c) (known-inser
     by true ih = (h, k)
     by false ih = (k.0, ih)
 
-pub known-those : (first : ℕ) (sent : List Entry) (p : ChunkPayloadData → Bool) (cs : List ChunkPayloadData) → AreKnown first sent cs → AreKnown first sent (filter p cs)
+pub known-those : (first : ℕ) (sent : List Entry) (p : ChunkPayloadData → Bool) (cs : List ChunkPayloadData) → AreKnown first sent cs
+    → AreKnown first sent (filter p cs)
 known-those first sent p [] k = tt
 known-those first sent p (c ∷ cs) k = by (p c) (known-those first sent p cs k.1)
   where
@@ -97,7 +106,8 @@ known-those first sent p (c ∷ cs) k = by (p c) (known-those first sent p cs k.
     by true ih = (k.0, ih)
     by false ih = ih
 
-pub known-found : (first : ℕ) (sent : List Entry) (p : ChunkPayloadData → Bool) (cs : List ChunkPayloadData) (c : ChunkPayloadData) → find p cs ≡ Some c → AreKnown first sent cs → IsKnown first sent c
+pub known-found : (first : ℕ) (sent : List Entry) (p : ChunkPayloadData → Bool) (cs : List ChunkPayloadData) (c : ChunkPayloadData) → find p cs ≡ Some c
+    → AreKnown first sent cs → IsKnown first sent c
 known-found first sent p [] c e k = absurd (none-some c e)
 known-found first sent p (x ∷ xs) c e k = by (p x) e (known-found first sent p xs c)
   where

@@ -29,7 +29,8 @@ use Rattle.sctp_receiver.proofs.Weights as weights
 use Rattle.sctp_receiver.proofs.Weights.{message_weight, set_weight, weight}
 use Rattle.sctp_sender.proofs.Lates.{found-passes}
 use Rattle.sctp_serial.specs.DataChunks.{chunk_before, has_tsn, is_on}
-use Rattle.sctp_delivery.specs.Complete.{AfterEachReliableSession, IsHeldOrRead, fragments_of_sets, fragments_on, is_reliable, is_reliable_at_receiver, is_reliable_at_sender}
+use Rattle.sctp_delivery.specs.Complete.{AfterEachReliableSession, IsHeldOrRead, fragments_of_sets, fragments_on, is_reliable, is_reliable_at_receiver}
+use Rattle.sctp_delivery.specs.Complete.{is_reliable_at_sender}
 use Rattle.sctp_delivery.specs.ReceiverCalls as incoming
 use Rattle.sctp_delivery.specs.ReceiverCalls.{ReceiverCall}
 use Rattle.sctp_delivery.specs.Sacks.{are_apart}

@@ -13,7 +13,8 @@ use Rattle.sctp_list_lemmas.proofs.Wraps.{at_or_before16-index, comes_before16-i
 use Rattle.sctp_data.specs.declared.chunk.chunk_payload_data.ChunkPayloadData.{ChunkPayloadData}
 use Rattle.sctp_data.specs.ChunkSet.{ChunkSet}
 use Rattle.sctp_reassembly.specs.reassembly_queue.Fragments.{has_ssn, is_complete, new_set, set_before, sets_with, with_chunk}
-use Rattle.sctp_reassembly.specs.reassembly_queue.ReassemblyQueue.{Reassembly, after_read, front_readable, held_after_ordered_push, is_readable, rest_among, rest_read, without_first}
+use Rattle.sctp_reassembly.specs.reassembly_queue.ReassemblyQueue.{Reassembly, after_read, front_readable, held_after_ordered_push, is_readable, rest_among}
+use Rattle.sctp_reassembly.specs.reassembly_queue.ReassemblyQueue.{rest_read, without_first}
 use Rattle.sctp_receiver.specs.Ssns.{is_ssn_too_far, lowest_among, lowest_ssn}
 use Rattle.sctp_receiver.proofs.Weights.{set_weight}
 use Rattle.sctp_serial.specs.DataChunks.{chunk_before, has_tsn}

@@ -51,7 +51,8 @@ steady-then a b c x y = record { numbers = λ s. y.numbers s ∙ x.numbers s; th
 
 -- ## Changes of some streams
 
-pub there-changed : (p : StreamState → Bool) (f : StreamState → StreamState) → ((l : StreamState) → (f l).stream_identifier ≡ l.stream_identifier) → (s : ℕ) (ls : List StreamState) → is_there s (change_where p f ls) ≡ is_there s ls
+pub there-changed : (p : StreamState → Bool) (f : StreamState → StreamState) → ((l : StreamState) → (f l).stream_identifier ≡ l.stream_identifier)
+    → (s : ℕ) (ls : List StreamState) → is_there s (change_where p f ls) ≡ is_there s ls
 there-changed p f same s [] = refl
 there-changed p f same s (l ∷ ls) = by (p l) (there-changed p f same s ls)
   where
@@ -59,7 +60,8 @@ there-changed p f same s (l ∷ ls) = by (p l) (there-changed p f same s ls)
     by true ih = ap (λ k. (k == s) || is_there s (change_where p f ls)) (same l) ∙ ap (λ b. (l.stream_identifier == s) || b) ih
     by false ih = ap (λ b. (l.stream_identifier == s) || b) ih
 
-pub sized-changed : (p : StreamState → Bool) (f : StreamState → StreamState) → ((l : StreamState) → (f l).max_payload_size ≡ l.max_payload_size) → (ls : List StreamState) → AreSized ls → AreSized (change_where p f ls)
+pub sized-changed : (p : StreamState → Bool) (f : StreamState → StreamState) → ((l : StreamState) → (f l).max_payload_size ≡ l.max_payload_size)
+    → (ls : List StreamState) → AreSized ls → AreSized (change_where p f ls)
 sized-changed p f same [] z = tt
 sized-changed p f same (l ∷ ls) z = (by (p l), sized-changed p f same ls z.1)
   where
@@ -67,7 +69,8 @@ sized-changed p f same (l ∷ ls) z = (by (p l), sized-changed p f same ls z.1)
     by true = subst (λ n. 0 < n) (sym (same l)) z.0
     by false = z.0
 
-numbers-changed : (p : StreamState → Bool) (f : StreamState → StreamState) → ((l : StreamState) → (f l).stream_identifier ≡ l.stream_identifier) → ((l : StreamState) → (f l).sequence_number ≡ l.sequence_number) → (s : ℕ) (ls : List StreamState) → number_of s (change_where p f ls) ≡ number_of s ls
+numbers-changed : (p : StreamState → Bool) (f : StreamState → StreamState) → ((l : StreamState) → (f l).stream_identifier ≡ l.stream_identifier)
+    → ((l : StreamState) → (f l).sequence_number ≡ l.sequence_number) → (s : ℕ) (ls : List StreamState) → number_of s (change_where p f ls) ≡ number_of s ls
 numbers-changed p f same number s [] = refl
 numbers-changed p f same number s (l ∷ ls) = by (p l) (numbers-changed p f same number s ls)
   where
@@ -78,7 +81,9 @@ numbers-changed p f same number s (l ∷ ls) = by (p l) (numbers-changed p f sam
         ∙ ap (λ k. if l.stream_identifier == s then l.sequence_number else k) ih
     by false ih = ap (λ k. if l.stream_identifier == s then l.sequence_number else k) ih
 
-pub steady-changed : (p : StreamState → Bool) (f : StreamState → StreamState) → ((l : StreamState) → (f l).stream_identifier ≡ l.stream_identifier) → ((l : StreamState) → (f l).sequence_number ≡ l.sequence_number) → ((l : StreamState) → (f l).max_payload_size ≡ l.max_payload_size) → (ls : List StreamState) → IsSteady ls (change_where p f ls)
+pub steady-changed : (p : StreamState → Bool) (f : StreamState → StreamState) → ((l : StreamState) → (f l).stream_identifier ≡ l.stream_identifier)
+    → ((l : StreamState) → (f l).sequence_number ≡ l.sequence_number) → ((l : StreamState) → (f l).max_payload_size ≡ l.max_payload_size)
+    → (ls : List StreamState) → IsSteady ls (change_where p f ls)
 steady-changed p f same number size ls = record {
   numbers = λ s. numbers-changed p f same number s ls;
   there = λ s o. there-changed p f same s ls ∙ o;
@@ -131,7 +136,8 @@ opened s size max ppi some ls = record { numbers = λ r. numbers r ls; there = �
     there r [] o = absurd (not_both o)
     there r (l ∷ ls) o = by (l.stream_identifier == r) o (there r ls)
       where
-        by : (b : Bool) → (b || is_there r ls) ≡ true → (is_there r ls ≡ true → is_there r (ls ++ new_stream s size max ppi ∷ []) ≡ true) → (b || is_there r (ls ++ new_stream s size max ppi ∷ [])) ≡ true
+        by : (b : Bool) → (b || is_there r ls) ≡ true → (is_there r ls ≡ true → is_there r (ls ++ new_stream s size max ppi ∷ []) ≡ true)
+            → (b || is_there r (ls ++ new_stream s size max ppi ∷ [])) ≡ true
         by true o ih = refl
         by false o ih = ih o
 
@@ -145,7 +151,8 @@ pub number-is : (s : ℕ) (ls : List StreamState) (l : StreamState) → find (ha
 number-is s [] l e = absurd (none-some l e)
 number-is s (x ∷ xs) l e = by (x.stream_identifier == s) refl e (number-is s xs l)
   where
-    by : (b : Bool) → (x.stream_identifier == s) ≡ b → (if b then Some x else find (has_number s) xs) ≡ Some l → (find (has_number s) xs ≡ Some l → l.stream_identifier ≡ s) → l.stream_identifier ≡ s
+    by : (b : Bool) → (x.stream_identifier == s) ≡ b → (if b then Some x else find (has_number s) xs) ≡ Some l
+        → (find (has_number s) xs ≡ Some l → l.stream_identifier ≡ s) → l.stream_identifier ≡ s
     by true h e ih = ap (λ (y : StreamState). y.stream_identifier) (sym (some-same e)) ∙ same-is x.stream_identifier s h
     by false h e ih = ih e
 
@@ -153,7 +160,8 @@ pub number-found : (s : ℕ) (ls : List StreamState) (l : StreamState) → find 
 number-found s [] l e = absurd (none-some l e)
 number-found s (x ∷ xs) l e = by (x.stream_identifier == s) e (number-found s xs l)
   where
-    by : (b : Bool) → (if b then Some x else find (has_number s) xs) ≡ Some l → (find (has_number s) xs ≡ Some l → number_of s xs ≡ l.sequence_number) → (if b then x.sequence_number else number_of s xs) ≡ l.sequence_number
+    by : (b : Bool) → (if b then Some x else find (has_number s) xs) ≡ Some l → (find (has_number s) xs ≡ Some l → number_of s xs ≡ l.sequence_number)
+        → (if b then x.sequence_number else number_of s xs) ≡ l.sequence_number
     by true e ih = ap (λ (y : StreamState). y.sequence_number) (some-same e)
     by false e ih = ih e
 
@@ -161,7 +169,8 @@ pub size-found : (s : ℕ) (ls : List StreamState) (l : StreamState) → find (h
 size-found s [] l e z = absurd (none-some l e)
 size-found s (x ∷ xs) l e z = by (x.stream_identifier == s) e (size-found s xs l)
   where
-    by : (b : Bool) → (if b then Some x else find (has_number s) xs) ≡ Some l → (find (has_number s) xs ≡ Some l → AreSized xs → 0 < l.max_payload_size) → 0 < l.max_payload_size
+    by : (b : Bool) → (if b then Some x else find (has_number s) xs) ≡ Some l → (find (has_number s) xs ≡ Some l → AreSized xs → 0 < l.max_payload_size)
+        → 0 < l.max_payload_size
     by true e ih = subst (λ (y : StreamState). 0 < y.max_payload_size) (some-same e) z.0
     by false e ih = ih e z.1
 
@@ -169,7 +178,8 @@ pub there-found : (s : ℕ) (ls : List StreamState) (l : StreamState) → find (
 there-found s [] l e = absurd (none-some l e)
 there-found s (x ∷ xs) l e = by (x.stream_identifier == s) e (there-found s xs l)
   where
-    by : (b : Bool) → (if b then Some x else find (has_number s) xs) ≡ Some l → (find (has_number s) xs ≡ Some l → is_there s xs ≡ true) → (b || is_there s xs) ≡ true
+    by : (b : Bool) → (if b then Some x else find (has_number s) xs) ≡ Some l → (find (has_number s) xs ≡ Some l → is_there s xs ≡ true)
+        → (b || is_there s xs) ≡ true
     by true e ih = refl
     by false e ih = ih e
 
@@ -177,16 +187,20 @@ pub found-there : (s : ℕ) (ls : List StreamState) → is_there s ls ≡ true �
 found-there s [] o = absurd (not_both o)
 found-there s (x ∷ xs) o = by (x.stream_identifier == s) o (found-there s xs)
   where
-    by : (b : Bool) → (b || is_there s xs) ≡ true → (is_there s xs ≡ true → (l : StreamState) × (find (has_number s) xs ≡ Some l)) → (l : StreamState) × ((if b then Some x else find (has_number s) xs) ≡ Some l)
+    by : (b : Bool) → (b || is_there s xs) ≡ true → (is_there s xs ≡ true → (l : StreamState) × (find (has_number s) xs ≡ Some l))
+        → (l : StreamState) × ((if b then Some x else find (has_number s) xs) ≡ Some l)
     by true o ih = (x, refl)
     by false o ih = ih o
 
 -- after a change of it
-pub number-changed : (s : ℕ) (f : StreamState → StreamState) → ((l : StreamState) → (f l).stream_identifier ≡ l.stream_identifier) → (ls : List StreamState) (l : StreamState) → find (has_number s) ls ≡ Some l → number_of s (change_where (has_number s) f ls) ≡ (f l).sequence_number
+pub number-changed : (s : ℕ) (f : StreamState → StreamState) → ((l : StreamState) → (f l).stream_identifier ≡ l.stream_identifier)
+    → (ls : List StreamState) (l : StreamState) → find (has_number s) ls ≡ Some l → number_of s (change_where (has_number s) f ls) ≡ (f l).sequence_number
 number-changed s f same [] l e = absurd (none-some l e)
 number-changed s f same (x ∷ xs) l e = by (x.stream_identifier == s) refl e (number-changed s f same xs l)
   where
-    by : (b : Bool) → (x.stream_identifier == s) ≡ b → (if b then Some x else find (has_number s) xs) ≡ Some l → (find (has_number s) xs ≡ Some l → number_of s (change_where (has_number s) f xs) ≡ (f l).sequence_number) → number_of s ((if b then f x else x) ∷ change_where (has_number s) f xs) ≡ (f l).sequence_number
+    by : (b : Bool) → (x.stream_identifier == s) ≡ b → (if b then Some x else find (has_number s) xs) ≡ Some l
+        → (find (has_number s) xs ≡ Some l → number_of s (change_where (has_number s) f xs) ≡ (f l).sequence_number)
+        → number_of s ((if b then f x else x) ∷ change_where (has_number s) f xs) ≡ (f l).sequence_number
     by true h e ih =
         ap (λ k. if k == s then (f x).sequence_number else number_of s (change_where (has_number s) f xs)) (same x)
         ∙ ap (λ b. if b then (f x).sequence_number else number_of s (change_where (has_number s) f xs)) h
@@ -194,13 +208,16 @@ number-changed s f same (x ∷ xs) l e = by (x.stream_identifier == s) refl e (n
     by false h e ih = ap (λ b. if b then x.sequence_number else number_of s (change_where (has_number s) f xs)) h ∙ ih e
 
 -- and of another one
-pub number-elsewhere : (r s : ℕ) → (r ≡ s → ⊥) → (f : StreamState → StreamState) → ((l : StreamState) → (f l).stream_identifier ≡ l.stream_identifier) → (ls : List StreamState) → number_of r (change_where (has_number s) f ls) ≡ number_of r ls
+pub number-elsewhere : (r s : ℕ) → (r ≡ s → ⊥) → (f : StreamState → StreamState) → ((l : StreamState) → (f l).stream_identifier ≡ l.stream_identifier)
+    → (ls : List StreamState) → number_of r (change_where (has_number s) f ls) ≡ number_of r ls
 number-elsewhere r s differ f same [] = refl
 number-elsewhere r s differ f same (x ∷ xs) = by (x.stream_identifier == s) refl (number-elsewhere r s differ f same xs)
   where
-    by : (b : Bool) → (x.stream_identifier == s) ≡ b → number_of r (change_where (has_number s) f xs) ≡ number_of r xs → number_of r ((if b then f x else x) ∷ change_where (has_number s) f xs) ≡ number_of r (x ∷ xs)
+    by : (b : Bool) → (x.stream_identifier == s) ≡ b → number_of r (change_where (has_number s) f xs) ≡ number_of r xs
+        → number_of r ((if b then f x else x) ∷ change_where (has_number s) f xs) ≡ number_of r (x ∷ xs)
     by true h ih =
-        let other : (x.stream_identifier == r) ≡ false = fails (x.stream_identifier == r) (λ e. differ (sym (same-is x.stream_identifier r e) ∙ same-is x.stream_identifier s h)) in
+        let other : (x.stream_identifier == r) ≡ false = fails (x.stream_identifier == r)
+        (λ e. differ (sym (same-is x.stream_identifier r e) ∙ same-is x.stream_identifier s h)) in
         ap (λ k. if k == r then (f x).sequence_number else number_of r (change_where (has_number s) f xs)) (same x)
         ∙ ap (λ b. if b then (f x).sequence_number else number_of r (change_where (has_number s) f xs)) other
         ∙ ih

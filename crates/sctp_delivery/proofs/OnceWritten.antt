@@ -19,14 +19,18 @@ use Rattle.sctp_delivery.proofs.Sent.{Entry, IsPart, Numbered, fragment, termina
 
 -- ## Entries of one write
 
-part-begun : (sent : List Entry) (d : Data) (w : Numbered) (after : List ℕ) (xs : List Entry) → d.beginning_fragment ≡ true → IsPart (fragment d w after ∷ xs) sent → was_begun w.place sent ≡ true
+part-begun : (sent : List Entry) (d : Data) (w : Numbered) (after : List ℕ) (xs : List Entry) → d.beginning_fragment ≡ true
+    → IsPart (fragment d w after ∷ xs) sent → was_begun w.place sent ≡ true
 part-begun [] d w after xs b p = cc
-part-begun (x ∷ ys) d w after xs b (inl e) = subst (λ zs. was_begun w.place zs ≡ true) e (or-left (d.beginning_fragment && (w.place == w.place)) (was_begun w.place xs) (and d.beginning_fragment (w.place == w.place) b (same-yes w.place)))
+part-begun (x ∷ ys) d w after xs b (inl e) = subst (λ zs. was_begun w.place zs ≡ true) e
+    (or-left (d.beginning_fragment && (w.place == w.place)) (was_begun w.place xs) (and d.beginning_fragment (w.place == w.place) b (same-yes w.place)))
 part-begun (terminal ∷ ys) d w after xs b (inr p) = part-begun ys d w after xs b p
-part-begun (fragment e v rest ∷ ys) d w after xs b (inr p) = or-right (e.beginning_fragment && (v.place == w.place)) (was_begun w.place ys) (part-begun ys d w after xs b p)
+part-begun (fragment e v rest ∷ ys) d w after xs b (inr p) =
+    or-right (e.beginning_fragment && (v.place == w.place)) (was_begun w.place ys) (part-begun ys d w after xs b p)
 
 -- two first fragments of one write are one chunk
-pub one-first : (sent : List Entry) → AreOnce sent → (d e : Data) (w v : Numbered) (after rest : List ℕ) (xs ys : List Entry) → d.beginning_fragment ≡ true → e.beginning_fragment ≡ true → w.place ≡ v.place → IsPart (fragment d w after ∷ xs) sent → IsPart (fragment e v rest ∷ ys) sent → d ≡ e
+pub one-first : (sent : List Entry) → AreOnce sent → (d e : Data) (w v : Numbered) (after rest : List ℕ) (xs ys : List Entry) → d.beginning_fragment ≡ true
+    → e.beginning_fragment ≡ true → w.place ≡ v.place → IsPart (fragment d w after ∷ xs) sent → IsPart (fragment e v rest ∷ ys) sent → d ≡ e
 one-first [] o d e w v after rest xs ys b c same p q = cc
 one-first (x ∷ zs) o d e w v after rest xs ys b c same (inl p) (inl q) = let it : fragment d w after ∷ xs ≡ fragment e v rest ∷ ys = p ∙ sym q in cc
 one-first (x ∷ zs) o d e w v after rest xs ys b c same (inl p) (inr q) =
@@ -75,23 +79,29 @@ module _ (ns : List Numbered) (sent : List Entry) (once : AreOnce sent) where
   -- messages at one place begin with one chunk
   one-chunk : (m o : Message) (x : IsReadOf ns sent m) (y : IsReadOf ns sent o) → x.written.0 ≡ y.written.0 → y.chunk.tsn ≡ x.chunk.tsn
   one-chunk m o x y e =
-      let same : x.numbered ≡ y.numbered = same-at ns x.written.0 x.numbered y.numbered x.written.1 x.written.2 (subst (λ k. slice_index_or ns k y.numbered ≡ y.numbered) (sym e) y.written.2) in
-      let it = one-first sent once (data_of x.chunk) (data_of y.chunk) x.numbered y.numbered x.after y.after x.entries y.entries x.begins y.begins (ap (λ (n : Numbered). n.place) same) x.part y.part in
+      let same : x.numbered ≡ y.numbered =
+      same-at ns x.written.0 x.numbered y.numbered x.written.1 x.written.2 (subst (λ k. slice_index_or ns k y.numbered ≡ y.numbered) (sym e) y.written.2) in
+      let it = one-first sent once (data_of x.chunk)
+      (data_of y.chunk) x.numbered y.numbered x.after y.after x.entries y.entries x.begins y.begins (ap (λ (n : Numbered). n.place) same) x.part y.part in
       sym (ap (λ (d : Data). d.tsn) it)
 
   neither : (a b : Bool) → (a || b) ≡ false → (a ≡ false) × (b ≡ false)
   neither true b e = absurd (not_both (sym e))
   neither false b e = (refl, e)
 
-  away : (m : Message) (x : IsReadOf ns sent m) (ms : List Message) (e : EachRead ms) → list_any (has_tsn x.chunk.tsn) (fragments_of_all ms) ≡ false → All (λ q. x.written.0 ≢ q) (places ms e)
+  away : (m : Message) (x : IsReadOf ns sent m) (ms : List Message) (e : EachRead ms) → list_any (has_tsn x.chunk.tsn) (fragments_of_all ms) ≡ false
+      → All (λ q. x.written.0 ≢ q) (places ms e)
   away m x [] e none k d lt = absurd (omega (arith, lt))
   away m x (o ∷ ms) e none zero d lt = λ same.
-      let parts = neither (list_any (has_tsn x.chunk.tsn) o.fragments) (list_any (has_tsn x.chunk.tsn) (fragments_of_all ms)) (sym (list_any-append (has_tsn x.chunk.tsn) o.fragments (fragments_of_all ms)) ∙ none) in
+      let parts = neither (list_any (has_tsn x.chunk.tsn) o.fragments) (list_any (has_tsn x.chunk.tsn) (fragments_of_all ms))
+      (sym (list_any-append (has_tsn x.chunk.tsn) o.fragments (fragments_of_all ms)) ∙ none) in
       let tsn = one-chunk m o x e.0 same in
-      let first = neither (has_tsn x.chunk.tsn e.0.chunk) (list_any (has_tsn x.chunk.tsn) e.0.others) (subst (λ cs. list_any (has_tsn x.chunk.tsn) cs ≡ false) e.0.fragments parts.0) in
+      let first = neither (has_tsn x.chunk.tsn e.0.chunk) (list_any (has_tsn x.chunk.tsn) e.0.others)
+      (subst (λ cs. list_any (has_tsn x.chunk.tsn) cs ≡ false) e.0.fragments parts.0) in
       not_both (sym first.0 ∙ subst (λ k. (k == x.chunk.tsn) ≡ true) (sym tsn) (same-yes x.chunk.tsn))
   away m x (o ∷ ms) e none (suc k) d lt =
-      let parts = neither (list_any (has_tsn x.chunk.tsn) o.fragments) (list_any (has_tsn x.chunk.tsn) (fragments_of_all ms)) (sym (list_any-append (has_tsn x.chunk.tsn) o.fragments (fragments_of_all ms)) ∙ none) in
+      let parts = neither (list_any (has_tsn x.chunk.tsn) o.fragments) (list_any (has_tsn x.chunk.tsn) (fragments_of_all ms))
+      (sym (list_any-append (has_tsn x.chunk.tsn) o.fragments (fragments_of_all ms)) ∙ none) in
       away m x ms e.1 parts.1 k d (omega (arith, lt))
 
   later-apart : (xs ys : List ChunkPayloadData) → are_apart (xs ++ ys) ≡ true → are_apart ys ≡ true
@@ -105,7 +115,8 @@ module _ (ns : List Numbered) (sent : List Entry) (once : AreOnce sent) where
       let all = subst (λ cs. are_apart (cs ++ fragments_of_all ms) ≡ true) x.fragments h in
       let b = both (not (list_any (has_tsn x.chunk.tsn) (x.others ++ fragments_of_all ms))) (are_apart (x.others ++ fragments_of_all ms)) all in
       let none = negated (list_any (has_tsn x.chunk.tsn) (x.others ++ fragments_of_all ms)) b.0 in
-      let parts = neither (list_any (has_tsn x.chunk.tsn) x.others) (list_any (has_tsn x.chunk.tsn) (fragments_of_all ms)) (sym (list_any-append (has_tsn x.chunk.tsn) x.others (fragments_of_all ms)) ∙ none) in
+      let parts = neither (list_any (has_tsn x.chunk.tsn) x.others) (list_any (has_tsn x.chunk.tsn) (fragments_of_all ms))
+      (sym (list_any-append (has_tsn x.chunk.tsn) x.others (fragments_of_all ms)) ∙ none) in
       pairs_cons (λ p q. p ≢ q) x.written.0 (places ms e.1) (away m x ms e.1 parts.1) (apart ms e.1 (later-apart m.fragments (fragments_of_all ms) h))
 
 -- ## The law
@@ -114,5 +125,9 @@ pub of-their-own : WhileFewTsns AreWritesOfTheirOwn
 of-their-own tsn size max most limits cs s small some r few =
     let a = read-of tsn size max most limits cs s small some r (omega (arith, few)) in
     let apart' = read_once.none-twice tsn size max most limits cs s r small few in
-    let e = each-read a.numbered a.sent a.once s.receiving.read a.each in
-    (places a.numbered a.sent a.once s.receiving.read e, subst (λ ws. StandAt ws s.receiving.read (places a.numbered a.sent a.once s.receiving.read e)) a.writes (stand a.numbered a.sent a.once s.receiving.read e), apart a.numbered a.sent a.once s.receiving.read e apart')
+    let e = each-read a.numbered a.sent a.once s.receiving.read a.each in (
+      places a.numbered a.sent a.once s.receiving.read e,
+      subst (λ ws. StandAt ws s.receiving.read (places a.numbered a.sent a.once s.receiving.read e)) a.writes
+          (stand a.numbered a.sent a.once s.receiving.read e),
+      apart a.numbered a.sent a.once s.receiving.read e apart',
+    )

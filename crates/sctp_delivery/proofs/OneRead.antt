@@ -21,7 +21,8 @@ pub run-then : (cs : List Call) (c : Call) (old mid new : Session) → RunsTo ol
 run-then [] c old mid new r f = (new, (subst (λ s. Follows c s new) r f, refl))
 run-then (d ∷ cs) c old mid new r f = (r.0, (r.1.0, run-then cs c r.0 mid new r.1.1 f))
 
-pub given-then : (cs : List Call) (c : Call) (old mid new : Session) (r : RunsTo old cs mid) (f : Follows c mid new) → tsns_given old (cs ++ c ∷ []) new (run-then cs c old mid new r f) ≡ tsns_given old cs mid r + distance (next_tsn mid) (next_tsn new)
+pub given-then : (cs : List Call) (c : Call) (old mid new : Session) (r : RunsTo old cs mid) (f : Follows c mid new)
+    → tsns_given old (cs ++ c ∷ []) new (run-then cs c old mid new r f) ≡ tsns_given old cs mid r + distance (next_tsn mid) (next_tsn new)
 unfolding run-then
 given-then [] c old mid new r f = let e = ap (λ s. distance (next_tsn s) (next_tsn new)) r in omega (arith, e)
 given-then (d ∷ cs) c old mid new r f = let e = given-then cs c r.0 mid new r.1.1 f in omega (arith, e)
@@ -44,16 +45,19 @@ pub reads-on : (stream : ℕ) (s : Session) → is_open stream s.receiving.recei
 unfolding read_of
 reads-on stream s e = record { handed = tt; step = record { receiver = refl; accepted = refl; read = refl }; accepted = e; after = refl }
 
-pub read-next : (r : Reception) (stream : ℕ) (set : ChunkSet) → is_open stream r ≡ true → message_on stream r ≡ Some set → WhileTsnsLast (IsReadIn r stream set.chunks)
+pub read-next : (r : Reception) (stream : ℕ) (set : ChunkSet) → is_open stream r ≡ true → message_on stream r ≡ Some set
+    → WhileTsnsLast (IsReadIn r stream set.chunks)
 unfolding read_of
 read-next r stream set open' message tsn size max most limits cs s small some run few is =
     let start = at_start tsn size max most limits in
     let f = reads-on stream s (ap (is_open stream) is ∙ open') in
     let z = no-way (next_tsn s) (delivered.next-small tsn size max most limits cs s small some run) in
     let given = given-then cs (of_receiver (reads stream)) start s (read_of stream s) run f in
-    let read : (read_of stream s).receiving.read ≡ record { stream = stream; fragments = set.chunks } ∷ s.receiving.read = ap (λ o. with_message stream o s.receiving.read) (ap (message_on stream) is ∙ message) in
+    let read : (read_of stream s).receiving.read ≡ record { stream = stream; fragments = set.chunks } ∷ s.receiving.read =
+    ap (λ o. with_message stream o s.receiving.read) (ap (message_on stream) is ∙ message) in
     let m : Message = record { stream = stream; fragments = set.chunks } in
-    let law = delivered.law tsn size max most limits (cs ++ of_receiver (reads stream) ∷ []) (read_of stream s) small some (run-then cs (of_receiver (reads stream)) start s (read_of stream s) run f) (omega (arith, given, few, z)) in
+    let law = delivered.law tsn size max most limits (cs ++ of_receiver (reads stream) ∷ [])
+    (read_of stream s) small some (run-then cs (of_receiver (reads stream)) start s (read_of stream s) run f) (omega (arith, given, few, z)) in
     (subst (λ ms. delivered.AllWrites s.written ms) read law) 0 m (omega arith)
 
 -- what the call answers
@@ -68,5 +72,7 @@ answers P r stream (Ok v) h m a = by (message_on stream r) refl m
     by None e is = subst (λ x. IfSome x (λ chunks. P chunks.set.chunks)) (sym is) tt
     by (Some set) e is = subst (λ x. IfSome x (λ chunks. P chunks.set.chunks)) (sym is) (h set (a refl) e)
 
-pub answers-write : (r : Reception) (stream : ℕ) (o : Result (Option Chunks) ReceiverRefusal) → IfOk o (λ message. message ≡ option_map start_of (message_on stream r)) → (IsOk o → is_open stream r ≡ true) → IfOk o (λ message. IfSome message (λ chunks. WhileTsnsLast (IsReadIn r stream chunks.set.chunks)))
+pub answers-write : (r : Reception) (stream : ℕ) (o : Result (Option Chunks) ReceiverRefusal)
+    → IfOk o (λ message. message ≡ option_map start_of (message_on stream r)) → (IsOk o → is_open stream r ≡ true)
+    → IfOk o (λ message. IfSome message (λ chunks. WhileTsnsLast (IsReadIn r stream chunks.set.chunks)))
 answers-write r stream o m a = answers (λ cs. WhileTsnsLast (IsReadIn r stream cs)) r stream o (read-next r stream) m a

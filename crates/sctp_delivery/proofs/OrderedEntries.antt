@@ -1,5 +1,6 @@
 -- The ordered messages of a stream that got TSNs: each has the number after that of the one before it, and they were written in this order.
-use Rattle.std.proofs.Common.{◌≡◌, ℕ, ◌+◌, ◌%◌, ◌^◌, ◌<◌, ◌≤◌, Bool, true, false, not, List, [], ◌∷◌, ◌++◌, length, map, Option, Some, None, inl, inr, refl, ap, sym, subst, ◌∙◌, arith}
+use Rattle.std.proofs.Common.{◌≡◌, ℕ, ◌+◌, ◌%◌, ◌^◌, ◌<◌, ◌≤◌, Bool, true, false, not, List, [], ◌∷◌, ◌++◌, length, map, Option, Some, None, inl, inr, refl, ap}
+use Rattle.std.proofs.Common.{sym, subst, ◌∙◌, arith}
 use Rattle.std.specs.Prelude.{⊤, ◌==◌, ◌&&◌, if◌then◌else◌}
 use Rattle.std.specs.List.{filter}
 use Rattle.sctp_list_lemmas.specs.Lists.{change_where}
@@ -102,12 +103,12 @@ AreJoined [] = ⊤
 AreJoined (terminal ∷ xs) = AreJoined xs
 AreJoined (fragment d w after ∷ xs) = Joins d xs × AreJoined xs
 
--- the last fragment ends its message where none is partially sent
+-- the last fragment ends its message where none is partially sent, and else is of the message that is
 abbrev pub IsOpen : List Entry → Option Selected → Type 0
 IsOpen [] sel = ⊤
 IsOpen (terminal ∷ xs) sel = ⊤
 IsOpen (fragment d w after ∷ xs) None = d.ending_fragment ≡ true
-IsOpen (fragment d w after ∷ xs) (Some s) = d.ending_fragment ≡ false
+IsOpen (fragment d w after ∷ xs) (Some s) = (d.ending_fragment ≡ false) × (w.place ≡ s.message_id)
 
 -- ## Places
 

@@ -1,7 +1,8 @@
 -- The place of a write among the writes, from where it stands in their list.
 use Rattle.std.proofs.Common.{◌≡◌, ℕ, zero, suc, ◌+◌, ◌<◌, List, [], ◌∷◌, length, refl, ap, arith}
 use Rattle.std.specs.Prelude.{⊤, slice_index_or}
-use Rattle.sctp_delivery.specs.SenderCalls.{SenderCall, abandons, expires, expires_late, expires_rexmit, expires_tail, forwards, forwards_within, marks, misses, opens, resends, reserves, sends, sets_low, sets_mode, sets_size, starts, takes_sack, writes}
+use Rattle.sctp_delivery.specs.SenderCalls.{SenderCall, abandons, expires, expires_late, expires_rexmit, expires_tail, forwards, forwards_within, marks, misses}
+use Rattle.sctp_delivery.specs.SenderCalls.{opens, resends, reserves, sends, sets_low, sets_mode, sets_size, starts, takes_sack, writes}
 use Rattle.sctp_delivery.proofs.Calls.{numbered_after}
 use Rattle.sctp_delivery.proofs.Sent.{Numbered}
 

@@ -1,5 +1,6 @@
 -- Which chunks in flight a FORWARD-TSN passes: those before the first whose message is kept.
-use Rattle.std.proofs.Common.{◌≡◌, ℕ, zero, suc, ◌+◌, ◌-◌, ◌<◌, ◌≤◌, ◌^◌, Bool, true, false, List, [], ◌∷◌, length, take, Option, Some, None, refl, ap, sym, subst, ◌∙◌, inl, inr, arith}
+use Rattle.std.proofs.Common.{◌≡◌, ℕ, zero, suc, ◌+◌, ◌-◌, ◌<◌, ◌≤◌, ◌^◌, Bool, true, false, List, [], ◌∷◌, length, take, Option, Some, None, refl, ap, sym}
+use Rattle.std.proofs.Common.{subst, ◌∙◌, inl, inr, arith}
 use Rattle.std.specs.Prelude.{if◌then◌else◌, not, nat_lt, nat_le, option_map, unwrap_or}
 use Rattle.std.specs.List.{find, filter}
 use Rattle.std.proofs.lemmas.Bool.{cases_lt}
@@ -75,7 +76,7 @@ abbrev pub lead : List ChunkPayloadData → ℕ
 lead [] = 0
 lead (c ∷ cs) = if is_kept c then 0 else lead cs + 1
 
-lead-within : (cs : List ChunkPayloadData) → lead cs ≤ length cs
+pub lead-within : (cs : List ChunkPayloadData) → lead cs ≤ length cs
 lead-within [] = omega arith
 lead-within (c ∷ cs) = by (is_kept c) (lead-within cs)
   where
@@ -86,7 +87,7 @@ lead-within (c ∷ cs) = by (is_kept c) (lead-within cs)
 preceding : (p k : ℕ) → preceding_tsn (tsn p (k + 1)) ≡ tsn p k
 preceding p k = omega arith
 
-point-is : (p a : ℕ) (cs : List ChunkPayloadData) (next : ℕ) → IsRunFrom (tsn p (a + 1)) cs → next ≡ tsn p (a + length cs + 1) → preceding_tsn
+pub point-is : (p a : ℕ) (cs : List ChunkPayloadData) (next : ℕ) → IsRunFrom (tsn p (a + 1)) cs → next ≡ tsn p (a + length cs + 1) → preceding_tsn
     (unwrap_or (option_map (λ (c : ChunkPayloadData). c.tsn) (find is_kept cs)) next) ≡ tsn p (a + lead cs)
 point-is p a [] next run is = ap preceding_tsn is ∙ preceding p (a + 0)
 point-is p a (c ∷ cs) next run is = by (is_kept c) (point-is p (a + 1) cs next r.1 (is ∙ ap (tsn p) long))
@@ -104,7 +105,7 @@ point-is p a (c ∷ cs) next run is = by (is_kept c) (point-is p (a + 1) cs next
     by false ih = ih ∙ ap (tsn p) {x = a + 1 + lead cs} {y = a + (lead cs + 1)} (omega arith)
 
 module _ (p n : ℕ) (f : Flight) (h : IsNumbered p n f) (few : n < 2 ^ 31) where
-  point-ahead : ahead f (advanced_ack_point f) ≡ lead f.queue.inflight.chunks
+  pub point-ahead : ahead f (advanced_ack_point f) ≡ lead f.queue.inflight.chunks
   point-ahead =
       let cs = f.queue.inflight.chunks in
       let total = h.total in
@@ -149,7 +150,7 @@ module _ (p n : ℕ) (f : Flight) (h : IsNumbered p n f) (few : n < 2 ^ 31) wher
           let k = past-given p h.acked n t g in
           record { given = k; past = g.past; upto = ahead-given t k (can-within t can) }
 
-last-every : (P : ChunkPayloadData → Type 0) (xs : List ChunkPayloadData) (x : ChunkPayloadData) → last_of xs ≡ Some x → Every P xs → P x
+pub last-every : (P : ChunkPayloadData → Type 0) (xs : List ChunkPayloadData) (x : ChunkPayloadData) → last_of xs ≡ Some x → Every P xs → P x
 last-every P [] x e h = absurd (none-some x e)
 last-every P (y ∷ []) x e h = subst P (some-same e) h.0
 last-every P (y ∷ z ∷ zs) x e h = last-every P (z ∷ zs) x e h.1

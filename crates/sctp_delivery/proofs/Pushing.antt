@@ -37,19 +37,22 @@ pushed ws first number number' q next sent s w c cs message stream waits' same t
     p : ℕ
     p = q.pending.ordered_room
 
-    by : (b : Bool) → c.unordered ≡ b → IsMessage b false (c ∷ cs) → Stands (w ∷ ws) first number' (record q { pending = append_chunks b (map (with_message_id q.next_message_id) (c ∷ cs)) q.pending; next_message_id = q.next_message_id + 1 }) next sent
+    by : (b : Bool) → c.unordered ≡ b → IsMessage b false (c ∷ cs) → Stands (w ∷ ws) first number'
+        (record q { pending = append_chunks b (map (with_message_id q.next_message_id) (c ∷ cs)) q.pending; next_message_id = q.next_message_id + 1 }) next sent
     by true e m = record {
       queued = record {
         line = line-more w ws first sent s.queued.line;
         ordered = waits-more w ws q.pending.ordered (place_of false q.pending.selected sent) s.queued.ordered;
-        unordered = waits-behind (w ∷ ws) q.pending.unordered (map (with_message_id q.next_message_id) (c ∷ cs)) (place_of true q.pending.selected sent) (waits-more w ws q.pending.unordered (place_of true q.pending.selected sent) s.queued.unordered) waits';
+        unordered = waits-behind (w ∷ ws) q.pending.unordered (map (with_message_id q.next_message_id) (c ∷ cs)) (place_of true q.pending.selected sent)
+            (waits-more w ws q.pending.unordered (place_of true q.pending.selected sent) s.queued.unordered) waits';
         turns = λ r. let t = s.queued.turns r in (t.0, (subst (Turns r q.pending.ordered t.0) (sym (same e r)) t.1.0, t.1.1, t.1.2));
         indexed = s.queued.indexed;
         ranked = ranked-more w ws q.pending.ordered sent s.queued.ranked;
         joined = s.queued.joined;
         open' = s.queued.open';
       };
-      sendable = sendable-pushed true q.pending.ordered q.pending.unordered q.pending.selected q.pending.ordered_room q.pending.unordered_room q.inflight.chunks (c ∷ cs) q.next_message_id m s.sendable;
+      sendable = sendable-pushed true q.pending.ordered q.pending.unordered q.pending.selected q.pending.ordered_room q.pending.unordered_room q.inflight.chunks
+          (c ∷ cs) q.next_message_id m s.sendable;
       known = s.known;
       counted = s.counted;
       begun' = begun-unordered q.pending.ordered q.pending.unordered q.next_message_id sent (c ∷ cs) s.begun';
@@ -58,7 +61,8 @@ pushed ws first number number' q next sent s w c cs message stream waits' same t
     by false e m = record {
       queued = record {
         line = line-more w ws first sent s.queued.line;
-        ordered = waits-behind (w ∷ ws) q.pending.ordered (map (with_message_id q.next_message_id) (c ∷ cs)) (place_of false q.pending.selected sent) (waits-more w ws q.pending.ordered (place_of false q.pending.selected sent) s.queued.ordered) waits';
+        ordered = waits-behind (w ∷ ws) q.pending.ordered (map (with_message_id q.next_message_id) (c ∷ cs)) (place_of false q.pending.selected sent)
+            (waits-more w ws q.pending.ordered (place_of false q.pending.selected sent) s.queued.ordered) waits';
         unordered = waits-more w ws q.pending.unordered (place_of true q.pending.selected sent) s.queued.unordered;
         turns = λ r. let t = s.queued.turns r in (
           t.0,
@@ -74,7 +78,8 @@ pushed ws first number number' q next sent s w c cs message stream waits' same t
         joined = s.queued.joined;
         open' = s.queued.open';
       };
-      sendable = sendable-pushed false q.pending.ordered q.pending.unordered q.pending.selected q.pending.ordered_room q.pending.unordered_room q.inflight.chunks (c ∷ cs) q.next_message_id m s.sendable;
+      sendable = sendable-pushed false q.pending.ordered q.pending.unordered q.pending.selected q.pending.ordered_room q.pending.unordered_room
+          q.inflight.chunks (c ∷ cs) q.next_message_id m s.sendable;
       known = s.known;
       counted = s.counted;
       begun' = begun-ordered q.pending.ordered q.pending.unordered q.next_message_id sent (c ∷ cs) s.begun';
@@ -101,8 +106,12 @@ module _ (ws : List Numbered) (first : ℕ) (number number' : ℕ → ℕ) (ro r
   abbrev queue : Option Selected → List ChunkPayloadData → List ChunkPayloadData → Outbound
   queue sel os us = record { pending = made os us sel ro ru; inflight = fl; next_message_id = id; next_unstarted = un }
 
-  unordered-expired : (u : ChunkPayloadData) (os us : List ChunkPayloadData) → Stands ws first number (queue None os (u ∷ us)) next sent → ((r : ℕ) → number' r ≡ number r) → Stands ws first number' (expired_of (Some u) (queue None os (u ∷ us))) next sent
-  unordered-expired u os us s same = subst (λ b. Stands ws first number' (record (queue None os (u ∷ us)) { pending = if b then without u.message_id (made os (u ∷ us) None ro ru) else closed_up u.stream_identifier (without u.message_id (made os (u ∷ us) None ro ru)) }) next sent) (sym s.sendable.unordered.1) (record {
+  unordered-expired : (u : ChunkPayloadData) (os us : List ChunkPayloadData) → Stands ws first number (queue None os (u ∷ us)) next sent
+      → ((r : ℕ) → number' r ≡ number r) → Stands ws first number' (expired_of (Some u) (queue None os (u ∷ us))) next sent
+  unordered-expired u os us s same = subst (λ b. Stands ws first number' (record (queue None os (u ∷ us)) {
+    pending =
+        if b then without u.message_id (made os (u ∷ us) None ro ru) else closed_up u.stream_identifier (without u.message_id (made os (u ∷ us) None ro ru));
+  }) next sent) (sym s.sendable.unordered.1) (record {
     queued = record {
       line = s.queued.line;
       ordered = waits-without ws u.message_id os between s.queued.ordered;
@@ -125,18 +134,27 @@ module _ (ws : List Numbered) (first : ℕ) (number number' : ℕ → ℕ) (ro r
     sendable = sendable-without os (u ∷ us) None ro ru fl.chunks id u.message_id s.sendable;
     known = s.known;
     counted = s.counted;
-    begun' = begun-less os (u ∷ us) (without_message u.message_id os) (without_message u.message_id (u ∷ us)) id sent (λ k h. list_any-those (begins k) (λ c. not (is_of u.message_id c)) os h) (λ k h. list_any-those (begins k) (λ c. not (is_of u.message_id c)) (u ∷ us) h) s.begun';
+    begun' = begun-less os (u ∷ us) (without_message u.message_id os)
+        (without_message u.message_id (u ∷ us)) id sent (λ k h. list_any-those (begins k) (λ c. not (is_of u.message_id c)) os h)
+        (λ k h. list_any-those (begins k) (λ c. not (is_of u.message_id c)) (u ∷ us) h) s.begun';
     ids = s.ids;
   })
     where
       none : list_any (is_of u.message_id) os ≡ false
-      none = fails (list_any (is_of u.message_id) os) (λ e. not_both (sym (s.sendable.apart u.message_id e) ∙ or-left (u.message_id == u.message_id) (list_any (is_of u.message_id) us) (same-yes u.message_id)))
+      none = fails (list_any (is_of u.message_id) os) (λ e.
+          not_both (sym (s.sendable.apart u.message_id e) ∙ or-left (u.message_id == u.message_id) (list_any (is_of u.message_id) us) (same-yes u.message_id)))
 
-  ordered-expired : (o : ChunkPayloadData) (os : List ChunkPayloadData) → o.beginning_fragment ≡ true → Stands ws first number (queue None (o ∷ os) []) next sent → IsLower o.stream_identifier number number' → Stands ws first number' (expired_of (Some o) (queue None (o ∷ os) [])) next sent
-  ordered-expired o os begins-it s lowers = subst (λ b. Stands ws first number' (record (queue None (o ∷ os) []) { pending = if b then without o.message_id (made (o ∷ os) [] None ro ru) else closed_up o.stream_identifier (without o.message_id (made (o ∷ os) [] None ro ru)) }) next sent) (sym s.sendable.ordered.1) (record {
+  ordered-expired : (o : ChunkPayloadData) (os : List ChunkPayloadData) → o.beginning_fragment ≡ true
+      → Stands ws first number (queue None (o ∷ os) []) next sent → IsLower o.stream_identifier number number'
+      → Stands ws first number' (expired_of (Some o) (queue None (o ∷ os) [])) next sent
+  ordered-expired o os begins-it s lowers = subst (λ b. Stands ws first number' (record (queue None (o ∷ os) []) {
+    pending =
+        if b then without o.message_id (made (o ∷ os) [] None ro ru) else closed_up o.stream_identifier (without o.message_id (made (o ∷ os) [] None ro ru));
+  }) next sent) (sym s.sendable.ordered.1) (record {
     queued = record {
       line = s.queued.line;
-      ordered = waits-lower ws o.stream_identifier (without_message o.message_id (o ∷ os)) between (waits-without ws o.message_id (o ∷ os) between s.queued.ordered);
+      ordered =
+          waits-lower ws o.stream_identifier (without_message o.message_id (o ∷ os)) between (waits-without ws o.message_id (o ∷ os) between s.queued.ordered);
       unordered = s.queued.unordered;
       turns = λ r. by_same r o.stream_identifier
           (λ e. subst (λ k. (n : ℕ) × (Turns k (lowered o os) n (number' k) × IsAfter k n sent × (n ≡ begun_on k sent % 2 ^ 16))) (sym e) here)
@@ -147,10 +165,12 @@ module _ (ws : List Numbered) (first : ℕ) (number number' : ℕ → ℕ) (ro r
       joined = s.queued.joined;
       open' = s.queued.open';
     };
-    sendable = sendable-ordered_changed (without_message o.message_id (o ∷ os)) [] None ro ru fl.chunks id (is_on o.stream_identifier) one_lower keeps (sendable-without (o ∷ os) [] None ro ru fl.chunks id o.message_id s.sendable);
+    sendable = sendable-ordered_changed (without_message o.message_id (o ∷ os)) [] None ro ru fl.chunks id (is_on o.stream_identifier) one_lower keeps
+        (sendable-without (o ∷ os) [] None ro ru fl.chunks id o.message_id s.sendable);
     known = s.known;
     counted = s.counted;
-    begun' = begun-less (o ∷ os) [] (lowered o os) [] id sent (λ k h. list_any-those (begins k) (λ c. not (is_of o.message_id c)) (o ∷ os) (sym (begins-changed (is_on o.stream_identifier) one_lower keeps k (without_message o.message_id (o ∷ os))) ∙ h)) (λ k h. h) s.begun';
+    begun' = begun-less (o ∷ os) [] (lowered o os) [] id sent (λ k h. list_any-those (begins k) (λ c. not (is_of o.message_id c)) (o ∷ os)
+        (sym (begins-changed (is_on o.stream_identifier) one_lower keeps k (without_message o.message_id (o ∷ os))) ∙ h)) (λ k h. h) s.begun';
     ids = s.ids;
   })
     where
@@ -163,7 +183,8 @@ module _ (ws : List Numbered) (first : ℕ) (number number' : ℕ → ℕ) (ro r
           let st = o.stream_identifier in
           let t = s.queued.turns st in
           let counted : counts st o ≡ true = ap (λ b. b && o.beginning_fragment) (same-yes st) ∙ begins-it in
-          let gone = subst (λ b. Turns st (without_message o.message_id (o ∷ os)) (number_after b t.0) (number st)) counted (turns-first st id false o os t.0 (number st) s.sendable.ordered t.1.0) in (
+          let gone = subst (λ b. Turns st (without_message o.message_id (o ∷ os)) (number_after b t.0) (number st)) counted
+          (turns-first st id false o os t.0 (number st) s.sendable.ordered t.1.0) in (
             lower ((t.0 + 1) % 2 ^ 16),
             (
               subst (Turns st (lowered o os) (lower ((t.0 + 1) % 2 ^ 16))) (sym lowers.here)
@@ -179,7 +200,8 @@ module _ (ws : List Numbered) (first : ℕ) (number number' : ℕ → ℕ) (ro r
           let t = s.queued.turns r in
           let not-on : (o.stream_identifier == r) ≡ false = fails (o.stream_identifier == r) (λ e. differ (sym (same-is o.stream_identifier r e))) in
           let uncounted : counts r o ≡ false = ap (λ b. b && o.beginning_fragment) not-on in
-          let gone = subst (λ b. Turns r (without_message o.message_id (o ∷ os)) (number_after b t.0) (number r)) uncounted (turns-first r id false o os t.0 (number r) s.sendable.ordered t.1.0) in (
+          let gone = subst (λ b. Turns r (without_message o.message_id (o ∷ os)) (number_after b t.0) (number r)) uncounted
+          (turns-first r id false o os t.0 (number r) s.sendable.ordered t.1.0) in (
             t.0,
             (
               subst (Turns r (lowered o os) t.0) (sym (lowers.elsewhere r differ))
@@ -190,8 +212,11 @@ module _ (ws : List Numbered) (first : ℕ) (number number' : ℕ → ℕ) (ro r
           )
 
   -- the message in front, which is unsent
-  front-expired : (sel : Option Selected) (os us : List ChunkPayloadData) (c : ChunkPayloadData) → next_pending (made os us sel ro ru) ≡ Some c → c.beginning_fragment ≡ true → Stands ws first number (queue sel os us) next sent → (c.unordered ≡ true → (r : ℕ) → number' r ≡ number r) → (c.unordered ≡ false → IsLower c.stream_identifier number number') → Stands ws first number' (expired_of (Some c) (queue sel os us)) next sent
-  front-expired (Some t) os us c e begins s same lowers = absurd (on (next_pending (made os us (Some t) ro ru)) e (goes_on (made os us (Some t) ro ru) fl.chunks id t.message_id s.sendable refl))
+  front-expired : (sel : Option Selected) (os us : List ChunkPayloadData) (c : ChunkPayloadData) → next_pending (made os us sel ro ru) ≡ Some c
+      → c.beginning_fragment ≡ true → Stands ws first number (queue sel os us) next sent → (c.unordered ≡ true → (r : ℕ) → number' r ≡ number r)
+      → (c.unordered ≡ false → IsLower c.stream_identifier number number') → Stands ws first number' (expired_of (Some c) (queue sel os us)) next sent
+  front-expired (Some t) os us c e begins s same lowers =
+      absurd (on (next_pending (made os us (Some t) ro ru)) e (goes_on (made os us (Some t) ro ru) fl.chunks id t.message_id s.sendable refl))
     where
       on : (o : Option ChunkPayloadData) → o ≡ Some c → GoesOn t.message_id o → ⊥
       on None h g = g
@@ -204,9 +229,13 @@ module _ (ws : List Numbered) (first : ℕ) (number number' : ℕ → ℕ) (ro r
       let it : o ≡ c = some-same e in
       subst (λ x. Stands ws first number' (expired_of (Some x) (queue None (o ∷ os) [])) next sent) it
       (ordered-expired o os (ap (λ (x : ChunkPayloadData). x.beginning_fragment) it ∙ begins) s
-      (subst (λ (x : ChunkPayloadData). IsLower x.stream_identifier number number') (sym it) (lowers (ap (λ (x : ChunkPayloadData). x.unordered) (sym it) ∙ s.sendable.ordered.1))))
+      (subst (λ (x : ChunkPayloadData). IsLower x.stream_identifier number number') (sym it)
+      (lowers (ap (λ (x : ChunkPayloadData). x.unordered) (sym it) ∙ s.sendable.ordered.1))))
   front-expired None [] [] c e begins s same lowers = absurd (none-some c e)
 
-pub expired : (ws : List Numbered) (first : ℕ) (number number' : ℕ → ℕ) (q : Outbound) (next : ℕ) (sent : List Entry) → Stands ws first number q next sent → (c : ChunkPayloadData) → next_pending q.pending ≡ Some c → c.beginning_fragment ≡ true → (c.unordered ≡ true → (r : ℕ) → number' r ≡ number r) → (c.unordered ≡ false → IsLower c.stream_identifier number number') → Stands ws first number' (expired_of (Some c) q) next sent
+pub expired : (ws : List Numbered) (first : ℕ) (number number' : ℕ → ℕ) (q : Outbound) (next : ℕ) (sent : List Entry) → Stands ws first number q next sent
+    → (c : ChunkPayloadData) → next_pending q.pending ≡ Some c → c.beginning_fragment ≡ true → (c.unordered ≡ true → (r : ℕ) → number' r ≡ number r)
+    → (c.unordered ≡ false → IsLower c.stream_identifier number number') → Stands ws first number' (expired_of (Some c) q) next sent
 expired ws first number number' q next sent s c e begins same lowers =
-    front-expired ws first number number' q.pending.ordered_room q.pending.unordered_room q.inflight q.next_message_id q.next_unstarted next sent q.pending.selected q.pending.ordered q.pending.unordered c e begins s same lowers
+    front-expired ws first number number' q.pending.ordered_room q.pending.unordered_room q.inflight q.next_message_id q.next_unstarted next sent
+    q.pending.selected q.pending.ordered q.pending.unordered c e begins s same lowers

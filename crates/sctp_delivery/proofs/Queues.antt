@@ -1,5 +1,6 @@
 -- The queues of a sender beside all that it gave TSNs to, while chunks come, leave and change.
-use Rattle.std.proofs.Common.{◌≡◌, ℕ, ◌+◌, ◌%◌, ◌^◌, Bool, true, false, List, [], ◌∷◌, length, Option, Some, None, ◌⊎◌, inl, inr, refl, ap, sym, subst, ◌∙◌, arith, not}
+use Rattle.std.proofs.Common.{◌≡◌, ℕ, ◌+◌, ◌%◌, ◌^◌, Bool, true, false, List, [], ◌∷◌, length, Option, Some, None, ◌⊎◌, inl, inr, refl, ap, sym, subst, ◌∙◌}
+use Rattle.std.proofs.Common.{arith, not}
 use Rattle.std.specs.Prelude.{◌==◌, if◌then◌else◌}
 use Rattle.std.specs.List.{list_any}
 use Rattle.std.proofs.lemmas.Option.{none-some}
@@ -10,9 +11,11 @@ use Rattle.sctp_data.specs.declared.chunk.chunk_payload_data.ChunkPayloadData.{C
 use Rattle.sctp_data.specs.PayloadData.{data_of}
 use Rattle.sctp_outbound.specs.declared.pending_queue.Selected.{Selected}
 use Rattle.sctp_outbound.specs.Marks.{as_abandoned, is_of}
-use Rattle.sctp_outbound.specs.outbound_queue.OutboundQueue.{Outbound, abandon_chunks, abandoned_of, all_started, as_sent, sent_of, terminal_chunk, tsn_after_of, with_inflight, with_terminal_chunk}
+use Rattle.sctp_outbound.specs.outbound_queue.OutboundQueue.{Outbound, abandon_chunks, abandoned_of, all_started, as_sent, sent_of, terminal_chunk}
+use Rattle.sctp_outbound.specs.outbound_queue.OutboundQueue.{tsn_after_of, with_inflight, with_terminal_chunk}
 use Rattle.sctp_outbound.specs.payload_queue.PayloadQueue as payload
-use Rattle.sctp_outbound.specs.pending_queue.PendingQueue.{is_to_start, last_removed, next_pending, selected_without, start_pending, with_deadline, without, without_message}
+use Rattle.sctp_outbound.specs.pending_queue.PendingQueue.{is_to_start, last_removed, next_pending, selected_without, start_pending, with_deadline, without}
+use Rattle.sctp_outbound.specs.pending_queue.PendingQueue.{without_message}
 use Rattle.sctp_outbound.specs.pending_queue.Whole.{IsSendable, IsWhole, begun, free, half_of, partially_sent, waits}
 use Rattle.sctp_outbound.proofs.lemmas.outbound_queue.Abandoned.{abandoned_none, last_is_of, no_last, sendable-abandoned}
 use Rattle.sctp_outbound.proofs.lemmas.outbound_queue.Sendable.{half_gone, sendable-changed, sendable-fewer, sendable-marked, sendable-sent}
@@ -40,7 +43,8 @@ pub record Stands (ws : List Numbered) (first : ℕ) (number : ℕ → ℕ) (q :
 
 -- ## Lifetimes
 
-pub started : (ws : List Numbered) (first : ℕ) (number : ℕ → ℕ) (now : ℕ) (q : Outbound) (next : ℕ) (sent : List Entry) → Stands ws first number q next sent → Stands ws first number (all_started now q) next sent
+pub started : (ws : List Numbered) (first : ℕ) (number : ℕ → ℕ) (now : ℕ) (q : Outbound) (next : ℕ) (sent : List Entry) → Stands ws first number q next sent
+    → Stands ws first number (all_started now q) next sent
 started ws first number now q next sent s = by (q.next_unstarted == q.next_message_id)
   where
     keeps : KeepsMessage (with_deadline now)
@@ -49,7 +53,8 @@ started ws first number now q next sent s = by (q.next_unstarted == q.next_messa
     p : ChunkPayloadData → Bool
     p = is_to_start q.next_unstarted
 
-    by : (b : Bool) → Stands ws first number (if b then q else record q { pending = start_pending q.next_unstarted now q.pending; next_unstarted = q.next_message_id }) next sent
+    by : (b : Bool) → Stands ws first number (if b then q
+        else record q { pending = start_pending q.next_unstarted now q.pending; next_unstarted = q.next_message_id }) next sent
     by true = s
     by false = record {
       queued = record {
@@ -64,11 +69,15 @@ started ws first number now q next sent s = by (q.next_unstarted == q.next_messa
         joined = s.queued.joined;
         open' = s.queued.open';
       };
-      sendable = sendable-changed q.pending.ordered q.pending.unordered q.pending.selected q.pending.ordered_room q.pending.unordered_room q.pending.ordered_room q.pending.unordered_room q.inflight.chunks q.next_message_id (is_to_start q.next_unstarted) (is_to_start q.next_unstarted) (with_deadline now) (with_deadline now) keeps keeps s.sendable;
+      sendable = sendable-changed q.pending.ordered q.pending.unordered q.pending.selected q.pending.ordered_room q.pending.unordered_room
+          q.pending.ordered_room q.pending.unordered_room q.inflight.chunks q.next_message_id (is_to_start q.next_unstarted) (is_to_start q.next_unstarted)
+          (with_deadline now) (with_deadline now) keeps keeps s.sendable;
       known = s.known;
       counted = s.counted;
-      begun' = begun-less q.pending.ordered q.pending.unordered (change_where (is_to_start q.next_unstarted) (with_deadline now) q.pending.ordered) (change_where (is_to_start q.next_unstarted) (with_deadline now) q.pending.unordered) q.next_message_id sent
-          (λ m h. sym (begins-changed (is_to_start q.next_unstarted) (with_deadline now) keeps m q.pending.ordered) ∙ h) (λ m h. sym (begins-changed (is_to_start q.next_unstarted) (with_deadline now) keeps m q.pending.unordered) ∙ h) s.begun';
+      begun' = begun-less q.pending.ordered q.pending.unordered (change_where (is_to_start q.next_unstarted) (with_deadline now) q.pending.ordered)
+          (change_where (is_to_start q.next_unstarted) (with_deadline now) q.pending.unordered) q.next_message_id sent
+          (λ m h. sym (begins-changed (is_to_start q.next_unstarted) (with_deadline now) keeps m q.pending.ordered) ∙ h)
+          (λ m h. sym (begins-changed (is_to_start q.next_unstarted) (with_deadline now) keeps m q.pending.unordered) ∙ h) s.begun';
       ids = s.ids;
     }
 
@@ -87,17 +96,20 @@ once-ended sent more (inl e) = inl e
 once-ended sent more (inr e) = inr (terminal, e)
 
 -- the chunk, and what stands after it was sent
-pub record IsSent (ws : List Numbered) (first : ℕ) (number : ℕ → ℕ) (q : Outbound) (next : ℕ) (now : ℕ) (sent : List Entry) (c : ChunkPayloadData) : Type 0 where
+pub record IsSent (ws : List Numbered) (first : ℕ) (number : ℕ → ℕ) (q : Outbound) (next : ℕ) (now : ℕ) (sent : List Entry)
+    (c : ChunkPayloadData) : Type 0 where
   pub write : Numbered
   pub after : List ℕ
   pub stands : Stands ws first number (sent_of (Some c) q next now) (following_tsn next) (fragment (data_of (as_sent next now c)) write after ∷ sent)
-  pub place : c.beginning_fragment ≡ true → write.place ≡ c.message_id
+  pub place : write.place ≡ c.message_id
 
-pub sends : (ws : List Numbered) (first : ℕ) (number : ℕ → ℕ) (now : ℕ) (q : Outbound) (next : ℕ) (sent : List Entry) (c : ChunkPayloadData) → next_pending q.pending ≡ Some c → Stands ws first number q next sent → IsSent ws first number q next now sent c
+pub sends : (ws : List Numbered) (first : ℕ) (number : ℕ → ℕ) (now : ℕ) (q : Outbound) (next : ℕ) (sent : List Entry) (c : ChunkPayloadData)
+    → next_pending q.pending ≡ Some c → Stands ws first number q next sent → IsSent ws first number q next now sent c
 sends ws first number now q next sent c e s =
     let p = q.pending in
     let t = as_sent next now c in
-    let on = queued-sent ws first number sent next now s.counted p.ordered_room p.unordered_room c p.selected p.ordered p.unordered q.inflight.chunks q.next_message_id s.sendable e s.queued in
+    let on = queued-sent ws first number sent next now s.counted p.ordered_room p.unordered_room c p.selected p.ordered p.unordered q.inflight.chunks
+    q.next_message_id s.sendable e s.queued in
     record {
       write = on.0;
       after = on.1;
@@ -113,12 +125,15 @@ sends ws first number now q next sent c e s =
             number = s.counted;
             step = λ st. step-fragment st t on.0 on.1 sent on.2.0.indexed.0;
             on = λ st. refl;
+            for' = (on.2.1, refl);
           },
         )
             (known-more first (fragment (data_of t) on.0 on.1) sent q.inflight.chunks s.known);
         counted = let n = s.counted in omega (arith, n);
-        begun' = begun-sent p q.inflight.chunks (insert_before chunk_before t q.inflight.chunks) q.next_message_id sent c (data_of t) on.0 on.1 refl on.2.1 e s.sendable (sendable-sent p q.inflight.chunks q.next_message_id c t refl s.sendable e).sendable
-            (list_any-inserted (is_of c.message_id) chunk_before t q.inflight.chunks ∙ or-left (c.message_id == c.message_id) (list_any (is_of c.message_id) q.inflight.chunks) (same-yes c.message_id)) s.begun';
+        begun' = begun-sent p q.inflight.chunks (insert_before chunk_before t q.inflight.chunks) q.next_message_id sent c (data_of t) on.0 on.1 refl
+            (λ _. on.2.1) e s.sendable (sendable-sent p q.inflight.chunks q.next_message_id c t refl s.sendable e).sendable
+            (list_any-inserted (is_of c.message_id) chunk_before t q.inflight.chunks
+            ∙ or-left (c.message_id == c.message_id) (list_any (is_of c.message_id) q.inflight.chunks) (same-yes c.message_id)) s.begun';
         ids = s.ids;
       };
       place = on.2.1;
@@ -134,10 +149,12 @@ pub record Abandons (ws : List Numbered) (first : ℕ) (number : ℕ → ℕ) (s
   pub last : (more ≡ sent) ⊎ (partially_sent r.pending ≡ None)
   pub none : partially_sent q.pending ≡ None → (more ≡ sent) × (partially_sent r.pending ≡ None)
 
-pub no-abandons : (ws : List Numbered) (first : ℕ) (number : ℕ → ℕ) (sent : List Entry) (q : Outbound) (next : ℕ) → Stands ws first number q next sent → Abandons ws first number sent q q next
+pub no-abandons : (ws : List Numbered) (first : ℕ) (number : ℕ → ℕ) (sent : List Entry) (q : Outbound) (next : ℕ) → Stands ws first number q next sent
+    → Abandons ws first number sent q q next
 no-abandons ws first number sent q next s = record { more = sent; stands = s; ended = inl refl; last = inl refl; none = λ h. (refl, h) }
 
-pub abandons-then : (ws : List Numbered) (first : ℕ) (number : ℕ → ℕ) (sent : List Entry) (q r o : Outbound) (next last : ℕ) (a : Abandons ws first number sent q r next) → Abandons ws first number a.more r o last → Abandons ws first number sent q o last
+pub abandons-then : (ws : List Numbered) (first : ℕ) (number : ℕ → ℕ) (sent : List Entry) (q r o : Outbound) (next last : ℕ)
+    (a : Abandons ws first number sent q r next) → Abandons ws first number a.more r o last → Abandons ws first number sent q o last
 abandons-then ws first number sent q r o next last a b = record {
   more = b.more;
   stands = b.stands;
@@ -150,24 +167,28 @@ abandons-then ws first number sent q r o next last a b = record {
     ended (inl e) = subst (λ xs. IsEnded xs b.more) e b.ended
     ended (inr h) = subst (IsEnded sent) (sym (b.none h).0) a.ended
 
-    end : (a.more ≡ sent) ⊎ (partially_sent r.pending ≡ None) → (b.more ≡ a.more) ⊎ (partially_sent o.pending ≡ None) → (b.more ≡ sent) ⊎ (partially_sent o.pending ≡ None)
+    end : (a.more ≡ sent) ⊎ (partially_sent r.pending ≡ None) → (b.more ≡ a.more) ⊎ (partially_sent o.pending ≡ None)
+        → (b.more ≡ sent) ⊎ (partially_sent o.pending ≡ None)
     end (inl e) (inl f) = inl (f ∙ e)
     end (inl e) (inr h) = inr h
     end (inr h) f = inr (b.none h).1
 
-nowhere-none : (ws : List Numbered) (cs : List ChunkPayloadData) → Waits ws cs nowhere → ⊥
+pub nowhere-none : (ws : List Numbered) (cs : List ChunkPayloadData) → Waits ws cs nowhere → ⊥
 nowhere-none ws [] h = h
 nowhere-none ws (c ∷ cs) h = h.2.1.0
 
 -- the rest of the message in front is gone
-rest-gone : (ws : List Numbered) (m : ℕ) (cs : List ChunkPayloadData) (sent : List Entry) → Waits ws cs (inside m sent) → Waits ws (without_message m cs) between
+rest-gone : (ws : List Numbered) (m : ℕ) (cs : List ChunkPayloadData) (sent : List Entry) → Waits ws cs (inside m sent)
+    → Waits ws (without_message m cs) between
 rest-gone ws m cs [] h = absurd (nowhere-none ws cs h)
 rest-gone ws m cs (terminal ∷ xs) h = absurd (nowhere-none ws cs h)
 rest-gone ws m cs (fragment d w after ∷ xs) h =
     let g = waits-without ws m cs (inside m (fragment d w after ∷ xs)) h in
     subst (Waits ws (without_message m cs)) (ap (λ b. if b then between else inside m (fragment d w after ∷ xs)) (same-yes m)) g
 
-pub marked : (ws : List Numbered) (first : ℕ) (number : ℕ → ℕ) (q : Outbound) (next : ℕ) (sent : List Entry) (p : ChunkPayloadData → Bool) (f : ChunkPayloadData → ChunkPayloadData) → KeepsMessage f → KeepsData f → Stands ws first number q next sent → Stands ws first number (with_inflight q (change_where p f q.inflight.chunks)) next sent
+pub marked : (ws : List Numbered) (first : ℕ) (number : ℕ → ℕ) (q : Outbound) (next : ℕ) (sent : List Entry) (p : ChunkPayloadData → Bool)
+    (f : ChunkPayloadData → ChunkPayloadData) → KeepsMessage f → KeepsData f → Stands ws first number q next sent
+    → Stands ws first number (with_inflight q (change_where p f q.inflight.chunks)) next sent
 marked ws first number q next sent p f keeps keeps' s = record {
   queued = s.queued;
   sendable = sendable-marked q.pending q.inflight.chunks q.next_message_id p f keeps s.sendable;
@@ -178,7 +199,9 @@ marked ws first number q next sent p f keeps keeps' s = record {
 }
 
 -- with other chunks in flight, of no other messages
-pub refilled : (ws : List Numbered) (first : ℕ) (number : ℕ → ℕ) (q : Outbound) (next : ℕ) (sent : List Entry) (cs : List ChunkPayloadData) → ((m : ℕ) → list_any (is_of m) cs ≡ true → list_any (is_of m) q.inflight.chunks ≡ true) → AreKnown first sent cs → Stands ws first number q next sent → Stands ws first number (with_inflight q cs) next sent
+pub refilled : (ws : List Numbered) (first : ℕ) (number : ℕ → ℕ) (q : Outbound) (next : ℕ) (sent : List Entry) (cs : List ChunkPayloadData)
+    → ((m : ℕ) → list_any (is_of m) cs ≡ true → list_any (is_of m) q.inflight.chunks ≡ true) → AreKnown first sent cs → Stands ws first number q next sent
+    → Stands ws first number (with_inflight q cs) next sent
 refilled ws first number q next sent cs fewer known s = record {
   queued = s.queued;
   sendable = sendable-fewer q.pending q.inflight.chunks cs q.next_message_id fewer s.sendable;
@@ -208,7 +231,11 @@ module _ (ws : List Numbered) (first : ℕ) (number : ℕ → ℕ) (q : Outbound
       })
 
   -- its rest is in front
-  front : (t : Selected) (os us : List ChunkPayloadData) (ro ru n : ℕ) (ys : List ChunkPayloadData) → t.message_id ≡ m → IsSendable (record { ordered = os; unordered = us; selected = Some t; ordered_room = ro; unordered_room = ru }) ys n → Queued ws first number (record { ordered = os; unordered = us; selected = Some t; ordered_room = ro; unordered_room = ru }) sent → Queued ws first number (without m (record { ordered = os; unordered = us; selected = Some t; ordered_room = ro; unordered_room = ru })) (terminal ∷ sent)
+  front : (t : Selected) (os us : List ChunkPayloadData) (ro ru n : ℕ) (ys : List ChunkPayloadData) → t.message_id ≡ m
+      → IsSendable (record { ordered = os; unordered = us; selected = Some t; ordered_room = ro; unordered_room = ru }) ys n
+      → Queued ws first number (record { ordered = os; unordered = us; selected = Some t; ordered_room = ro; unordered_room = ru }) sent
+      → Queued ws first number (without m (record { ordered = os; unordered = us; selected = Some t; ordered_room = ro; unordered_room = ru }))
+      (terminal ∷ sent)
   front t os us ro ru n ys same k h = record {
     line = h.line;
     ordered = at false (kinds-ordered t.unordered h.ordered);
@@ -227,7 +254,8 @@ module _ (ws : List Numbered) (first : ℕ) (number : ℕ → ℕ) (q : Outbound
       list true = us
       list false = os
 
-      at : (kind : Bool) → Waits ws (without_message m (list kind)) between → Waits ws (without_message m (list kind)) (place_of kind (selected_without m (Some t)) (terminal ∷ sent))
+      at : (kind : Bool) → Waits ws (without_message m (list kind)) between
+          → Waits ws (without_message m (list kind)) (place_of kind (selected_without m (Some t)) (terminal ∷ sent))
       at true w = subst (λ o. Waits ws (without_message m us) (place_of true o (terminal ∷ sent))) (sym gone) w
       at false w = subst (λ o. Waits ws (without_message m os) (place_of false o (terminal ∷ sent))) (sym gone) w
 
@@ -243,13 +271,16 @@ module _ (ws : List Numbered) (first : ℕ) (number : ℕ → ℕ) (q : Outbound
       there [] w = absurd w
       there (c ∷ cs) w = or-left (c.message_id == m) (list_any (is_of m) cs) (subst (λ j. (j == m) ≡ true) (sym (w.0.1 ∙ same)) (same-yes m))
 
-      turned : (b : Bool) → IsWhole false n (if b then free 0 else begun t.message_id) os → IsWhole true n (if b then begun t.message_id else free 0) us → (st i : ℕ) → Turns st os i (number st) → Turns st (without_message m os) i (number st)
+      turned : (b : Bool) → IsWhole false n (if b then free 0 else begun t.message_id) os → IsWhole true n (if b then begun t.message_id else free 0) us
+          → (st i : ℕ) → Turns st os i (number st) → Turns st (without_message m os) i (number st)
       turned true w v st i u =
           let none : list_any (is_of m) os ≡ false = fails (list_any (is_of m) os) (λ e. not_both (sym (k.apart m e) ∙ there us v)) in
           subst (λ cs. Turns st cs i (number st)) (sym (without-none m os none)) u
       turned false w v st i u = turns-rest st m n false os i (number st) (subst (λ j. IsWhole false n (begun j) os) same w) u
 
-  rest-abandoned : waits m q.pending ≡ true → partially_sent q.pending ≡ Some m → (o : Option ChunkPayloadData) → last_removed m q.pending ≡ o → Abandons ws first number sent q (record q { pending = without m q.pending; inflight = with_terminal_chunk o next (payload.with_chunks q.inflight xs) }) (following_tsn next)
+  rest-abandoned : waits m q.pending ≡ true → partially_sent q.pending ≡ Some m → (o : Option ChunkPayloadData) → last_removed m q.pending ≡ o
+      → Abandons ws first number sent q (record q { pending = without m q.pending; inflight = with_terminal_chunk o next (payload.with_chunks q.inflight xs) })
+      (following_tsn next)
   rest-abandoned e half None f = absurd (no_last m q.pending e f)
   rest-abandoned e half (Some c) f =
       let t = terminal_chunk next c in
@@ -269,13 +300,16 @@ module _ (ws : List Numbered) (first : ℕ) (number : ℕ → ℕ) (q : Outbound
               number = s.counted;
               step = λ st. step-terminal st t sent rest.0;
               on = rest.1;
+              for' = tt;
             },
           ) (known-more first terminal sent xs
               (known-changed first sent (is_of m) as_abandoned abandoned-keeps q.inflight.chunks s.known));
           counted = let n = s.counted in omega (arith, n);
           begun' = begun-ended (without_message m q.pending.ordered) (without_message m q.pending.unordered) q.next_message_id sent
-              (begun-less q.pending.ordered q.pending.unordered (without_message m q.pending.ordered) (without_message m q.pending.unordered) q.next_message_id sent
-              (λ k h. list_any-those (begins k) (λ c. not (is_of m c)) q.pending.ordered h) (λ k h. list_any-those (begins k) (λ c. not (is_of m c)) q.pending.unordered h) s.begun');
+              (begun-less q.pending.ordered q.pending.unordered (without_message m q.pending.ordered)
+              (without_message m q.pending.unordered) q.next_message_id sent
+              (λ k h. list_any-those (begins k) (λ c. not (is_of m c)) q.pending.ordered h)
+              (λ k h. list_any-those (begins k) (λ c. not (is_of m c)) q.pending.unordered h) s.begun');
           ids = s.ids;
         };
         ended = inr refl;
@@ -283,14 +317,21 @@ module _ (ws : List Numbered) (first : ℕ) (number : ℕ → ℕ) (q : Outbound
         none = λ h. absurd (none-some m (sym h ∙ half));
       }
     where
-      selected : (sel : Option Selected) → half_of sel ≡ Some m → IsSendable (record q.pending { selected = sel }) q.inflight.chunks q.next_message_id → Queued ws first number (record q.pending { selected = sel }) sent → Queued ws first number (without m (record q.pending { selected = sel })) (terminal ∷ sent)
+      selected : (sel : Option Selected) → half_of sel ≡ Some m → IsSendable (record q.pending { selected = sel }) q.inflight.chunks q.next_message_id
+          → Queued ws first number (record q.pending { selected = sel }) sent
+          → Queued ws first number (without m (record q.pending { selected = sel })) (terminal ∷ sent)
       selected None h k r = absurd (none-some m h)
-      selected (Some t) h k r = front t q.pending.ordered q.pending.unordered q.pending.ordered_room q.pending.unordered_room q.next_message_id q.inflight.chunks (some-same h) k r
+      selected (Some t) h k r =
+          front t q.pending.ordered q.pending.unordered q.pending.ordered_room q.pending.unordered_room q.next_message_id q.inflight.chunks (some-same h) k r
 
-pub abandoned : (ws : List Numbered) (first : ℕ) (number : ℕ → ℕ) (q : Outbound) (next : ℕ) (sent : List Entry) → Stands ws first number q next sent → (o : Option ℕ) → ((m : ℕ) → o ≡ Some m → waits m q.pending ≡ true → partially_sent q.pending ≡ Some m) → Abandons ws first number sent q (abandoned_of o next q) (tsn_after_of o next q)
+pub abandoned : (ws : List Numbered) (first : ℕ) (number : ℕ → ℕ) (q : Outbound) (next : ℕ) (sent : List Entry) → Stands ws first number q next sent
+    → (o : Option ℕ) → ((m : ℕ) → o ≡ Some m → waits m q.pending ≡ true → partially_sent q.pending ≡ Some m)
+    → Abandons ws first number sent q (abandoned_of o next q) (tsn_after_of o next q)
 abandoned ws first number q next sent s None half = no-abandons ws first number sent q next s
 abandoned ws first number q next sent s (Some m) half = by (waits m q.pending) refl
   where
     by : (b : Bool) → waits m q.pending ≡ b → Abandons ws first number sent q (abandon_chunks m next q) (if waits m q.pending then following_tsn next else next)
-    by true e = subst (λ b. Abandons ws first number sent q (abandon_chunks m next q) (if b then following_tsn next else next)) (sym e) (rest-abandoned ws first number q next sent s m e (half m refl e) (last_removed m q.pending) refl)
-    by false e = subst (λ b. Abandons ws first number sent q (abandon_chunks m next q) (if b then following_tsn next else next)) (sym e) (whole-abandoned ws first number q next sent s m e)
+    by true e = subst (λ b. Abandons ws first number sent q (abandon_chunks m next q) (if b then following_tsn next else next)) (sym e)
+        (rest-abandoned ws first number q next sent s m e (half m refl e) (last_removed m q.pending) refl)
+    by false e = subst (λ b. Abandons ws first number sent q (abandon_chunks m next q) (if b then following_tsn next else next)) (sym e)
+        (whole-abandoned ws first number q next sent s m e)

@@ -92,7 +92,8 @@ none-there : (t st : ℕ) (cs : List ChunkPayloadData) → list_any (has_tsn t) 
 none-there t st [] e = refl
 none-there t st (c ∷ cs) e = by (has_tsn t c) e (none-there t st cs)
   where
-    by : (b : Bool) → (b || list_any (has_tsn t) cs) ≡ false → (list_any (has_tsn t) cs ≡ false → list_all (is_there t st) cs ≡ true) → ((not b || is_on st c) && list_all (is_there t st) cs) ≡ true
+    by : (b : Bool) → (b || list_any (has_tsn t) cs) ≡ false → (list_any (has_tsn t) cs ≡ false → list_all (is_there t st) cs ≡ true)
+        → ((not b || is_on st c) && list_all (is_there t st) cs) ≡ true
     by true h ih = absurd (not_both (sym h))
     by false h ih = ih h
 
@@ -103,9 +104,11 @@ all-there t (c ∷ cs) e = by (has_tsn t c) refl (all-there t cs b.1)
     b : (not (list_any (has_tsn c.tsn) cs) ≡ true) × (are_apart cs ≡ true)
     b = both (not (list_any (has_tsn c.tsn) cs)) (are_apart cs) e
 
-    by : (k : Bool) → has_tsn t c ≡ k → list_all (is_there t (stream_of t cs)) cs ≡ true → list_all (is_there t (if k then c.stream_identifier else stream_of t cs)) (c ∷ cs) ≡ true
+    by : (k : Bool) → has_tsn t c ≡ k → list_all (is_there t (stream_of t cs)) cs ≡ true
+        → list_all (is_there t (if k then c.stream_identifier else stream_of t cs)) (c ∷ cs) ≡ true
     by true i ih =
-        and (is_there t c.stream_identifier c) (list_all (is_there t c.stream_identifier) cs) (or-right (not (has_tsn t c)) (c.stream_identifier == c.stream_identifier) (same-yes c.stream_identifier))
+        and (is_there t c.stream_identifier c) (list_all (is_there t c.stream_identifier) cs)
+        (or-right (not (has_tsn t c)) (c.stream_identifier == c.stream_identifier) (same-yes c.stream_identifier))
         (none-there t c.stream_identifier cs (subst (λ n. list_any (has_tsn n) cs ≡ false) (same-is c.tsn t i) (negated (list_any (has_tsn c.tsn) cs) b.0)))
     by false i ih = and (is_there t (stream_of t cs) c) (list_all (is_there t (stream_of t cs)) cs) (ap (λ k. not k || is_on (stream_of t cs) c) i) ih
 
@@ -123,7 +126,8 @@ fewer t p (c ∷ cs) = by (p c) (fewer t p cs)
 -- ## Messages
 
 -- of a message on another stream none has the TSN
-none-elsewhere : (t st other : ℕ) → (other == st) ≡ false → (cs : List ChunkPayloadData) → list_all (is_there t st) cs ≡ true → list_all (is_on other) cs ≡ true → count t cs ≡ 0
+none-elsewhere : (t st other : ℕ) → (other == st) ≡ false → (cs : List ChunkPayloadData) → list_all (is_there t st) cs ≡ true → list_all (is_on other) cs ≡ true
+    → count t cs ≡ 0
 none-elsewhere t st other differ [] e f = refl
 none-elsewhere t st other differ (c ∷ cs) e f =
     let a = both (is_there t st c) (list_all (is_there t st) cs) e in
@@ -138,7 +142,8 @@ none-elsewhere t st other differ (c ∷ cs) e f =
     by true h off = absurd (not_both (sym off ∙ h))
     by false h off = refl
 
-count-all : (t st : ℕ) (ms : List Message) → list_all (λ m. list_all (is_there t st) m.fragments) ms ≡ true → list_all (λ m. list_all (is_on m.stream) m.fragments) ms ≡ true → count t (fragments_of_all ms) ≡ count t (fragments_read st ms)
+count-all : (t st : ℕ) (ms : List Message) → list_all (λ m. list_all (is_there t st) m.fragments) ms ≡ true
+    → list_all (λ m. list_all (is_on m.stream) m.fragments) ms ≡ true → count t (fragments_of_all ms) ≡ count t (fragments_read st ms)
 count-all t st [] e f = refl
 count-all t st (m ∷ ms) e f = by (m.stream == st) refl (count-all t st ms a.1 b.1)
   where
@@ -151,7 +156,8 @@ count-all t st (m ∷ ms) e f = by (m.stream == st) refl (count-all t st ms a.1 
     both-sums : count t (m.fragments ++ fragments_of_all ms) ≡ count t m.fragments + count t (fragments_of_all ms)
     both-sums = sum_by-append (one t) m.fragments (fragments_of_all ms)
 
-    by : (k : Bool) → (m.stream == st) ≡ k → count t (fragments_of_all ms) ≡ count t (fragments_read st ms) → count t (m.fragments ++ fragments_of_all ms) ≡ count t (if k then m.fragments ++ fragments_read st ms else fragments_read st ms)
+    by : (k : Bool) → (m.stream == st) ≡ k → count t (fragments_of_all ms) ≡ count t (fragments_read st ms)
+        → count t (m.fragments ++ fragments_of_all ms) ≡ count t (if k then m.fragments ++ fragments_read st ms else fragments_read st ms)
     by true i ih = let s = sum_by-append (one t) m.fragments (fragments_read st ms) in omega (arith, both-sums, s, ih)
     by false i ih = let z = none-elsewhere t st m.stream i m.fragments a.0 b.0 in omega (arith, both-sums, z, ih)
 
@@ -168,7 +174,8 @@ none-twice first size max most limits cs s run small few = apart-where (fragment
         let st = stream_of t s.receiving.accepted in
         let weighs = handed.accepted first most limits (receiver_calls cs) s.receiving (receiver-runs cs (at_start first size max most limits) s run) in
         let there = all-there t s.receiving.accepted apart in
-        let e = each-read (λ _. is_there t st) s.receiving.read (λ r. let w = weighs r (sessions.fails (is_there t st)) in let z = none-fails (is_there t st) (is_on r) s.receiving.accepted there in omega (arith, w, z)) in
+        let e = each-read (λ _. is_there t st) s.receiving.read (λ r. let w = weighs r (sessions.fails (is_there t st)) in
+        let z = none-fails (is_there t st) (is_on r) s.receiving.accepted there in omega (arith, w, z)) in
         let f = sessions.read-on first size max most limits cs s run in
         let all = count-all t st s.receiving.read e f in
         let w = weighs st (one t) in

@@ -1,6 +1,7 @@
--- Chunks in the order of their places: one more put in, some taken out, and a complete message among them.
-use Rattle.std.proofs.Common.{◌≡◌, ℕ, zero, suc, ◌+◌, ◌-◌, ◌<◌, ◌≤◌, ◌%◌, ◌^◌, Bool, true, false, List, [], ◌∷◌, ◌++◌, length, take, drop, inl, inr, refl, ap, sym, subst, ◌∙◌, arith}
-use Rattle.std.specs.Prelude.{⊤, IsTrue, All, ◌==◌, ◌||◌, if◌then◌else◌, nat_lt, slice_index_or}
+-- Chunks in the order of their places: one more put in, some taken out, and the run of one message among them.
+use Rattle.std.proofs.Common.{◌≡◌, ℕ, zero, suc, ◌+◌, ◌-◌, ◌<◌, ◌≤◌, ◌%◌, ◌^◌, Bool, true, false, List, [], ◌∷◌, ◌++◌, length, take, drop, inl, inr, refl, ap}
+use Rattle.std.proofs.Common.{sym, subst, ◌∙◌, arith}
+use Rattle.std.specs.Prelude.{⊤, IsTrue, All, ◌||◌, if◌then◌else◌, nat_lt, slice_index_or}
 use Rattle.std.specs.List.{list_any}
 use Rattle.std.proofs.lemmas.Bool.{cases_lt, eq-eqb}
 use Rattle.std.proofs.lemmas.Bool.Decides.{nat_tests}
@@ -8,11 +9,10 @@ use Rattle.sctp_list_lemmas.specs.Lists.{insert_before}
 use Rattle.sctp_list_lemmas.specs.Serial.{comes_before}
 use Rattle.sctp_list_lemmas.proofs.Cases.{or-split, same-is}
 use Rattle.sctp_list_lemmas.proofs.Edits.{pairs_cons}
-use Rattle.sctp_list_lemmas.proofs.More.{and, fails, not_both}
+use Rattle.sctp_list_lemmas.proofs.More.{fails, not_both}
 use Rattle.sctp_list_lemmas.proofs.Round.{tsn}
 use Rattle.sctp_data.specs.declared.chunk.chunk_payload_data.ChunkPayloadData.{ChunkPayloadData}
 use Rattle.sctp_data.specs.PayloadData.{Data, data_of}
-use Rattle.sctp_reassembly.specs.reassembly_queue.Fragments.{completes, is_complete}
 use Rattle.sctp_serial.specs.DataChunks.{chunk_before, has_tsn}
 use Rattle.sctp_serial.specs.Runs.{IsRun}
 use Rattle.sctp_serial.specs.Window.{IsSerial}
@@ -232,38 +232,3 @@ module _ (p n : ℕ) (few : n < 2 ^ 31) where
 
         is : (j : ℕ) (d : ChunkPayloadData) → a + j ≤ b → data_of (slice_index_or cs (s.first + j) d) ≡ f (a + j)
         is j d to = every-at (IsOf f) cs (s.first + j) d (s.within j to) of (a + j) (omega (arith, some)) (omega (arith, to, top)) (s.tsns j d to)
-
-    -- where nothing else does, it is complete
-    rest-completes : (k : ℕ) (c : ChunkPayloadData) (cs : List ChunkPayloadData) → 0 < k → k ≤ b → c.tsn ≡ tsn p k → IsOf f c → Ascend p n (k + 1) cs
-        → Covers p (k + 1) b cs → Every (λ (y : ChunkPayloadData). (j : ℕ) → j ≤ n → y.tsn ≡ tsn p j → j ≤ b) cs → Every (IsOf f) cs → completes c cs ≡ true
-    rest-completes k c [] pos to e is x covers below of = elim (cases_lt k b) [
-      | inl lt ↦ absurd (not_both (covers (k + 1) (omega arith) (omega (arith, lt))))
-      | inr ge ↦ let last : k ≡ b = omega (arith, to, ge) in ap (λ (y : Data). y.ending_fragment) (is k pos (omega (arith, to, top)) e)
-          ∙ ap (λ i. (f i).ending_fragment) last ∙ ends
-    ]
-    rest-completes k c (y ∷ ys) pos to e is x covers below of =
-        let u = x.1.0 in
-        let within = below.0 x.0 x.1.1 x.1.2 in
-        let h = head-is (k + 1) b y ys x (omega (arith, u, within)) covers in
-        let next : y.tsn ≡ (c.tsn + 1) % 2 ^ 32 = x.1.2 ∙ ap (tsn p) h ∙ sym (next-place p k) ∙ ap (λ t. (t + 1) % 2 ^ 32) (sym e) in
-        and (y.tsn == (c.tsn + 1) % 2 ^ 32) (completes y ys) (eq-eqb y.tsn ((c.tsn + 1) % 2 ^ 32) next)
-        (rest-completes (k + 1) y ys (omega arith) (omega (arith, within, h)) (x.1.2 ∙ ap (tsn p) h) of.0 (subst (λ i. Ascend p n (i + 1) ys) h x.2)
-        (covers-rest (k + 1 + 1) b (k + 1) y ys (x.1.2 ∙ ap (tsn p) h) (omega arith) top (λ i from upto. covers i (omega (arith, from)) upto)) below.1 of.1)
-
-    pub complete-of : (low : ℕ) (cs : List ChunkPayloadData) → Ascend p n low cs → Covers p a b cs
-        → Every (λ (y : ChunkPayloadData). (j : ℕ) → j ≤ n → y.tsn ≡ tsn p j → (a ≤ j) × (j ≤ b)) cs → Every (IsOf f) cs → is_complete cs ≡ true
-    complete-of low [] x covers within of = absurd (not_both (covers a (omega arith) le))
-    complete-of low (c ∷ cs) x covers within of =
-        let in' = within.0 x.0 x.1.1 x.1.2 in
-        let y : Ascend p n a (c ∷ cs) = (x.0, (in'.0, x.1.1, x.1.2), x.2) in
-        let h = head-is a b c cs y le covers in
-        let at : c.tsn ≡ tsn p a = x.1.2 ∙ ap (tsn p) h in
-        and c.beginning_fragment (completes c cs) (ap (λ (z : Data). z.beginning_fragment) (of.0 a some (omega (arith, le, top)) at) ∙ begins)
-        (rest-completes a c cs some le at of.0 (subst (λ i. Ascend p n (i + 1) cs) h x.2)
-        (covers-rest (a + 1) b a c cs at (omega arith) top (λ i from upto. covers i (omega (arith, from)) upto))
-        (uppers cs within.1) of.1)
-      where
-        uppers : (ys : List ChunkPayloadData) → Every (λ (z : ChunkPayloadData). (j : ℕ) → j ≤ n → z.tsn ≡ tsn p j → (a ≤ j) × (j ≤ b)) ys
-            → Every (λ (z : ChunkPayloadData). (j : ℕ) → j ≤ n → z.tsn ≡ tsn p j → j ≤ b) ys
-        uppers [] w = tt
-        uppers (z ∷ zs) w = ((λ j to e. (w.0 j to e).1), uppers zs w.1)

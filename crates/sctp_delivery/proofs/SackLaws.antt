@@ -1,5 +1,6 @@
 -- What SACKs and FORWARD-TSNs say after every session in which fewer than 2^31 TSNs are given out.
-use Rattle.std.proofs.Common.{◌≡◌, ℕ, ◌+◌, ◌<◌, ◌≤◌, ◌%◌, ◌^◌, Bool, true, false, List, [], ◌∷◌, length, map, Option, refl, ap, sym, subst, ◌∙◌, inl, inr, arith, None}
+use Rattle.std.proofs.Common.{◌≡◌, ℕ, ◌+◌, ◌<◌, ◌≤◌, ◌%◌, ◌^◌, Bool, true, false, List, [], ◌∷◌, length, map, Option, refl, ap, sym, subst, ◌∙◌, inl, inr}
+use Rattle.std.proofs.Common.{arith, None}
 use Rattle.std.specs.Prelude.{if◌then◌else◌, ◌||◌, not, nat_le, nat_lt, All}
 use Rattle.std.specs.List.{filter, list_any}
 use Rattle.std.proofs.lemmas.Bool.Decides.{nat_tests}
@@ -17,7 +18,8 @@ use Rattle.sctp_serial.specs.DataChunks.{following_tsn, has_tsn}
 use Rattle.sctp_sender.specs.Flight.{Flight, after_sack, is_outdated, is_whole, released_by, released_of, reports, reports_anew, sack_refusal, take_sack}
 use Rattle.sctp_delivery.specs.ReceiverCalls as incoming
 use Rattle.sctp_delivery.specs.ReceiverCalls.{ReceiverCall}
-use Rattle.sctp_delivery.specs.Sacks.{AcknowledgedCame, AfterEachSessionOfFewTsns, AllReportedLeaves, LeftCame, NextSackTells, NoneIsRefused, NoneIsTakenTwice, PassAbandoned, ReleasedCame, ReportWhatCame, is_reported, passes, reports_tsn, tsns_given, was_passed, was_taken}
+use Rattle.sctp_delivery.specs.Sacks.{AcknowledgedCame, AfterEachSessionOfFewTsns, AllReportedLeaves, LeftCame, NextSackTells, NoneIsRefused, NoneIsTakenTwice}
+use Rattle.sctp_delivery.specs.Sacks.{PassAbandoned, ReleasedCame, ReportWhatCame, is_reported, passes, reports_tsn, tsns_given, was_passed, was_taken}
 use Rattle.sctp_delivery.specs.SenderCalls.{SenderCall}
 use Rattle.sctp_delivery.specs.Session.{Call, ReceiverFollows, RunsTo, SenderFollows, Session, at_start, of_receiver, of_sender}
 use Rattle.sctp_delivery.proofs.Every.{Every, all-of-every, every-of, one-of}
@@ -65,8 +67,9 @@ more-known call old new f t e =
       | inr a ↦ or-right (was_taken t new) (was_passed t new) (ap (was_passed t) f.after ∙ more-made (passes t) call old.sending.sender old.made a)
     ]
 
-pub sender-step : (p n : ℕ) (call : SenderCall) (old new : Session) → n + distance old.sending.sender.flight.next_tsn new.sending.sender.flight.next_tsn < 2 ^ 31
-    → SenderFollows call old new → IsInStep p n old → IsInStep p (n + distance old.sending.sender.flight.next_tsn new.sending.sender.flight.next_tsn) new
+pub sender-step : (p n : ℕ) (call : SenderCall) (old new : Session)
+    → n + distance old.sending.sender.flight.next_tsn new.sending.sender.flight.next_tsn < 2 ^ 31 → SenderFollows call old new → IsInStep p n old
+    → IsInStep p (n + distance old.sending.sender.flight.next_tsn new.sending.sender.flight.next_tsn) new
 sender-step p n call old new few f i =
     let small : n < 2 ^ 31 = omega (arith, few) in
     let after = n + distance old.sending.sender.flight.next_tsn new.sending.sender.flight.next_tsn in
@@ -95,7 +98,7 @@ sender-step p n call old new few f i =
     }
 
 -- what was taken stays so
-more-accepted : (call : ReceiverCall) (old new : Session) → ReceiverFollows call old new → (t : ℕ) → was_taken t old ≡ true → was_taken t new ≡ true
+pub more-accepted : (call : ReceiverCall) (old new : Session) → ReceiverFollows call old new → (t : ℕ) → was_taken t old ≡ true → was_taken t new ≡ true
 more-accepted (incoming.opens stream) old new f t e = ap (list_any (has_tsn t)) f.step.accepted ∙ e
 more-accepted (incoming.takes c Repeat) old new f t e = ap (list_any (has_tsn t)) f.step.accepted ∙ e
 more-accepted (incoming.takes c (New told)) old new f t e = ap (list_any (has_tsn t)) f.step.accepted ∙ or-more (has_tsn t c) (was_taken t old) e
@@ -220,7 +223,7 @@ told-of p n s few k t c g e =
     let r = told-known p n (known s) k g.place few g.some (omega (arith, within, few)) t (subst (λ u. reports_tsn u k ≡ true) g.is e) in
     subst (λ u. known s u ≡ true) (sym g.is) r.0
 
-came : (p n : ℕ) (s : Session) → n < 2 ^ 31 → IsInStep p n s → AcknowledgedCame s
+pub came : (p n : ℕ) (s : Session) → n < 2 ^ 31 → IsInStep p n s → AcknowledgedCame s
 came p n s few i =
     let cs = s.sending.sender.flight.queue.inflight.chunks in
     all-of-every (λ (c : ChunkPayloadData). is_reported s c ≡ true → (was_taken c.tsn s || c.abandoned) ≡ true) cs

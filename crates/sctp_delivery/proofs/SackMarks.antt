@@ -24,7 +24,8 @@ use Rattle.sctp_delivery.proofs.GivenTsns.{IsNumbered}
 use Rattle.sctp_delivery.proofs.PassedTsns.{IsGoneUpTo, IsPassable, flight-given, passable-end, passable-skip, passed-gone}
 use Rattle.sctp_delivery.proofs.ReportedTsns.{IsTruthful, told-known}
 use Rattle.sctp_delivery.proofs.SackSteps.{IsMadeGiven, known, next-unpassed, written-open}
-use Rattle.sctp_delivery.proofs.ValidMarks.{IsValid, abandoned-valid, each-valid, expired-valid, fragments-unmarked, marked-valid, message-valid, missed-valid, more-passed, resent-valid, sack-valid, sent-valid, started-valid}
+use Rattle.sctp_delivery.proofs.ValidMarks.{IsValid, abandoned-valid, each-valid, expired-valid, fragments-unmarked, marked-valid, message-valid, missed-valid}
+use Rattle.sctp_delivery.proofs.ValidMarks.{more-passed, resent-valid, sack-valid, sent-valid, started-valid}
 use Rattle.sctp_delivery.proofs.TsnPlaces.{IsGiven}
 
 -- ## Marks of a call of the sender

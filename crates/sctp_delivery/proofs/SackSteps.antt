@@ -1,5 +1,6 @@
 -- A session in which few TSNs are given out, call by call of the sender: what is given out, and what is made of it.
-use Rattle.std.proofs.Common.{◌≡◌, ℕ, ◌+◌, ◌-◌, ◌<◌, ◌≤◌, ◌^◌, Bool, true, false, List, [], ◌∷◌, ◌++◌, length, length-append, map, Option, Some, None, refl, ap, sym, subst, ◌∙◌, arith}
+use Rattle.std.proofs.Common.{◌≡◌, ℕ, ◌+◌, ◌-◌, ◌<◌, ◌≤◌, ◌^◌, Bool, true, false, List, [], ◌∷◌, ◌++◌, length, length-append, map, Option, Some, None, refl, ap}
+use Rattle.std.proofs.Common.{sym, subst, ◌∙◌, arith}
 use Rattle.std.specs.Prelude.{if◌then◌else◌, ◌||◌, not, is_some, nat_le, nat_lt, option_map, option_to_list, IfSome}
 use Rattle.std.specs.List.{filter, list_any}
 use Rattle.std.proofs.lemmas.Bool.Decides.{nat_tests}
@@ -11,7 +12,8 @@ use Rattle.sctp_list_lemmas.proofs.Round.{tsn, distance-tsn}
 use Rattle.sctp_data.specs.declared.chunk.chunk_payload_data.ChunkPayloadData.{ChunkPayloadData}
 use Rattle.sctp_data.specs.SelectiveAck.{Sack}
 use Rattle.sctp_outbound.specs.Marks.{is_outstanding, with_retransmit}
-use Rattle.sctp_outbound.specs.outbound_queue.OutboundQueue.{Outbound, all_started, as_sent, expired_of, expiring, expiring_tail, is_late, late_tsns, message_of, sent_next, with_message}
+use Rattle.sctp_outbound.specs.outbound_queue.OutboundQueue.{Outbound, all_started, as_sent, expired_of, expiring, expiring_tail, is_late, late_tsns}
+use Rattle.sctp_outbound.specs.outbound_queue.OutboundQueue.{message_of, sent_next, with_message}
 use Rattle.sctp_outbound.specs.payload_queue.PayloadQueue as payload
 use Rattle.sctp_outbound.specs.pending_queue.PendingQueue.{next_pending}
 use Rattle.sctp_outbound.proofs.lemmas.outbound_queue.Outbounds.{peeked_all_started}
@@ -112,7 +114,7 @@ same-moved p n kn f g same next acked h = moved p n 0 kn f g (omega arith) h (ra
 moved-to : (p n : ℕ) (kn : ℕ → Bool) (f g k : Flight) → g ≡ k → IsMoved p n kn f k → IsMoved p n kn f g
 moved-to p n kn f g k e m = subst (IsMoved p n kn f) (sym e) m
 
-message-inflight : (cs : List ChunkPayloadData) (q : Outbound) → (with_message cs q).inflight ≡ q.inflight
+pub message-inflight : (cs : List ChunkPayloadData) (q : Outbound) → (with_message cs q).inflight ≡ q.inflight
 message-inflight [] q = refl
 message-inflight (c ∷ cs) q = refl
 

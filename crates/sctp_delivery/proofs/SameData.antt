@@ -91,9 +91,41 @@ same-data x y e =
     ap (λ v. record x { unordered = v }) unordered
     ∙ (ap (λ v. record x { unordered = y.unordered; beginning_fragment = v }) begins
     ∙ (ap (λ v. record x { unordered = y.unordered; beginning_fragment = y.beginning_fragment; ending_fragment = v }) ends
-    ∙ (ap (λ v. record x { unordered = y.unordered; beginning_fragment = y.beginning_fragment; ending_fragment = y.ending_fragment; immediate_sack = v }) at_once
-    ∙ (ap (λ v. record x { unordered = y.unordered; beginning_fragment = y.beginning_fragment; ending_fragment = y.ending_fragment; immediate_sack = y.immediate_sack; tsn = v }) tsns
-    ∙ (ap (λ v. record x { unordered = y.unordered; beginning_fragment = y.beginning_fragment; ending_fragment = y.ending_fragment; immediate_sack = y.immediate_sack; tsn = y.tsn; stream_identifier = v }) streams
-    ∙ (ap (λ v. record x { unordered = y.unordered; beginning_fragment = y.beginning_fragment; ending_fragment = y.ending_fragment; immediate_sack = y.immediate_sack; tsn = y.tsn; stream_identifier = y.stream_identifier; stream_sequence_number = v }) numbers
-    ∙ (ap (λ v. record x { unordered = y.unordered; beginning_fragment = y.beginning_fragment; ending_fragment = y.ending_fragment; immediate_sack = y.immediate_sack; tsn = y.tsn; stream_identifier = y.stream_identifier; stream_sequence_number = y.stream_sequence_number; payload_type = v }) types
-    ∙ (ap (λ v. record x { unordered = y.unordered; beginning_fragment = y.beginning_fragment; ending_fragment = y.ending_fragment; immediate_sack = y.immediate_sack; tsn = y.tsn; stream_identifier = y.stream_identifier; stream_sequence_number = y.stream_sequence_number; payload_type = y.payload_type; user_data = v }) bytes))))))))
+    ∙ (ap (λ v. record x { unordered = y.unordered; beginning_fragment = y.beginning_fragment; ending_fragment = y.ending_fragment; immediate_sack = v })
+    at_once ∙ (ap (λ v. record x
+    { unordered = y.unordered; beginning_fragment = y.beginning_fragment; ending_fragment = y.ending_fragment; immediate_sack = y.immediate_sack; tsn = v })
+    tsns ∙ (ap (λ v. record x {
+      unordered = y.unordered;
+      beginning_fragment = y.beginning_fragment;
+      ending_fragment = y.ending_fragment;
+      immediate_sack = y.immediate_sack;
+      tsn = y.tsn;
+      stream_identifier = v;
+    }) streams ∙ (ap (λ v. record x {
+      unordered = y.unordered;
+      beginning_fragment = y.beginning_fragment;
+      ending_fragment = y.ending_fragment;
+      immediate_sack = y.immediate_sack;
+      tsn = y.tsn;
+      stream_identifier = y.stream_identifier;
+      stream_sequence_number = v;
+    }) numbers ∙ (ap (λ v. record x {
+      unordered = y.unordered;
+      beginning_fragment = y.beginning_fragment;
+      ending_fragment = y.ending_fragment;
+      immediate_sack = y.immediate_sack;
+      tsn = y.tsn;
+      stream_identifier = y.stream_identifier;
+      stream_sequence_number = y.stream_sequence_number;
+      payload_type = v;
+    }) types ∙ (ap (λ v. record x {
+      unordered = y.unordered;
+      beginning_fragment = y.beginning_fragment;
+      ending_fragment = y.ending_fragment;
+      immediate_sack = y.immediate_sack;
+      tsn = y.tsn;
+      stream_identifier = y.stream_identifier;
+      stream_sequence_number = y.stream_sequence_number;
+      payload_type = y.payload_type;
+      user_data = v;
+    }) bytes))))))))

@@ -26,7 +26,8 @@ use Rattle.sctp_delivery.specs.SenderCalls.{Made, data_chunk, forward_tsn, next_
 use Rattle.sctp_delivery.proofs.InFlight.{KeepsData, acknowledged-keeps, known-changed, known-part-changed, known-those}
 use Rattle.sctp_delivery.proofs.Numbers.{AreOpen, AreSized, IsSteady, all-open, number_of, steady-left, steady-less, steady-released, steady-same}
 use Rattle.sctp_delivery.proofs.OrderedNames.{AreNamed, named-more}
-use Rattle.sctp_delivery.proofs.Queues.{sends as sends-one, Abandons, IsEnded, IsOnceMore, Stands, abandoned, abandons-then, marked, no-abandons, once-ended, refilled, started}
+use Rattle.sctp_delivery.proofs.Queues.{sends as sends-one, Abandons, IsEnded, IsOnceMore, Stands, abandoned, abandons-then, marked, no-abandons, once-ended}
+use Rattle.sctp_delivery.proofs.Queues.{refilled, started}
 use Rattle.sctp_delivery.proofs.Sent.{Entry, Numbered, WasSent, fragment, sent-more}
 use Rattle.sctp_delivery.proofs.Turns.{Turns}
 
@@ -48,10 +49,10 @@ sent-then x sent [] a = tt
 sent-then x sent (data_chunk d ∷ ms) a = (sent-more x sent d a.0, sent-then x sent ms a.1)
 sent-then x sent (forward_tsn f ∷ ms) a = (named-more x sent f.streams a.0, sent-then x sent ms a.1)
 
--- with the entry of this chunk; without one there is at most that of a terminal chunk more
+-- with the entry of this chunk, which is of its message; without one there is at most that of a terminal chunk more
 abbrev pub IsMoreBy : Option ChunkPayloadData → List Entry → List Entry → Type 0
 IsMoreBy None sent more = IsEnded sent more
-IsMoreBy (Some c) sent more = (w : Numbered) × (after : List ℕ) × (more ≡ fragment (data_of c) w after ∷ sent)
+IsMoreBy (Some c) sent more = (w : Numbered) × (after : List ℕ) × (more ≡ fragment (data_of c) w after ∷ sent) × (w.place ≡ c.message_id)
 
 -- what a call makes of it, by which this chunk is sent, if there is one
 pub record Result (o : Option ChunkPayloadData) (ws vs : List Numbered) (first : ℕ) (sent : List Entry) (u : Transmission) (ms ns : List Made) : Type 0 where
@@ -62,10 +63,12 @@ pub record Result (o : Option ChunkPayloadData) (ws vs : List Numbered) (first :
   pub made : AreSent sent ms → AreSent more ns
 
 -- nothing gets a TSN
-pub calm : (ws vs : List Numbered) (first : ℕ) (sent : List Entry) (u : Transmission) (ms : List Made) → IsHeld vs first u sent → Result None ws vs first sent u ms ms
+pub calm : (ws vs : List Numbered) (first : ℕ) (sent : List Entry) (u : Transmission) (ms : List Made) → IsHeld vs first u sent
+    → Result None ws vs first sent u ms ms
 calm ws vs first sent u ms h = record { more = sent; held = h; once = inl refl; grown = inl refl; made = λ a. a }
 
-pub renumbered : (ws : List Numbered) (first : ℕ) (number number' : ℕ → ℕ) (q : Outbound) (next : ℕ) (sent : List Entry) → ((s : ℕ) → number' s ≡ number s) → Stands ws first number q next sent → Stands ws first number' q next sent
+pub renumbered : (ws : List Numbered) (first : ℕ) (number number' : ℕ → ℕ) (q : Outbound) (next : ℕ) (sent : List Entry) → ((s : ℕ) → number' s ≡ number s)
+    → Stands ws first number q next sent → Stands ws first number' q next sent
 renumbered ws first number number' q next sent same s = record {
   queued = record {
     line = s.queued.line;
@@ -85,7 +88,9 @@ renumbered ws first number number' q next sent same s = record {
 }
 
 -- other streams, as steady, and what stands then
-pub steady : (ws : List Numbered) (first : ℕ) (t : Transmission) (sent : List Entry) (h : IsHeld ws first t sent) (ls : List StreamState) → IsSteady t.streams ls → (f : Flight) (more : List Entry) → Stands ws first (λ s. number_of s t.streams) f.queue f.next_tsn more → IsHeld ws first (record t { streams = ls; flight = f }) more
+pub steady : (ws : List Numbered) (first : ℕ) (t : Transmission) (sent : List Entry) (h : IsHeld ws first t sent) (ls : List StreamState)
+    → IsSteady t.streams ls → (f : Flight) (more : List Entry) → Stands ws first (λ s. number_of s t.streams) f.queue f.next_tsn more
+    → IsHeld ws first (record t { streams = ls; flight = f }) more
 steady ws first t sent h ls st f more s = record {
   stands = renumbered ws first (λ r. number_of r t.streams) (λ r. number_of r ls) f.queue f.next_tsn more st.numbers s;
   open' = all-open t.streams ls st.there ws h.open';
@@ -96,20 +101,29 @@ steady ws first t sent h ls st f more s = record {
 -- ## What is in flight changes
 
 -- a change of some chunks in flight
-pub changed : (ws : List Numbered) (first : ℕ) (t : Transmission) (sent : List Entry) (p : ChunkPayloadData → Bool) (f : ChunkPayloadData → ChunkPayloadData) → KeepsMessage f → KeepsData f → IsHeld ws first t sent → IsHeld ws first (record t { flight = record t.flight { queue = with_inflight t.flight.queue (change_where p f t.flight.queue.inflight.chunks) } }) sent
+pub changed : (ws : List Numbered) (first : ℕ) (t : Transmission) (sent : List Entry) (p : ChunkPayloadData → Bool) (f : ChunkPayloadData → ChunkPayloadData)
+    → KeepsMessage f → KeepsData f → IsHeld ws first t sent
+    → IsHeld ws first (record t { flight = record t.flight { queue = with_inflight t.flight.queue (change_where p f t.flight.queue.inflight.chunks) } }) sent
 changed ws first t sent p f keeps keeps' h =
-    steady ws first t sent h t.streams (steady-same t.streams) (record t.flight { queue = with_inflight t.flight.queue (change_where p f t.flight.queue.inflight.chunks) }) sent
+    steady ws first t sent h t.streams (steady-same t.streams)
+    (record t.flight { queue = with_inflight t.flight.queue (change_where p f t.flight.queue.inflight.chunks) }) sent
     (marked ws first (λ s. number_of s t.streams) t.flight.queue t.flight.next_tsn sent p f keeps keeps' h.stands)
 
 -- of the first so many
-pub first-changed : (ws : List Numbered) (first : ℕ) (t : Transmission) (sent : List Entry) (p : ChunkPayloadData → Bool) (f : ChunkPayloadData → ChunkPayloadData) (i : ℕ) → KeepsMessage f → KeepsData f → IsHeld ws first t sent → IsHeld ws first (record t { flight = record t.flight { queue = with_inflight t.flight.queue (change_where p f (take i t.flight.queue.inflight.chunks) ++ drop i t.flight.queue.inflight.chunks) } }) sent
+pub first-changed : (ws : List Numbered) (first : ℕ) (t : Transmission) (sent : List Entry) (p : ChunkPayloadData → Bool)
+    (f : ChunkPayloadData → ChunkPayloadData) (i : ℕ) → KeepsMessage f → KeepsData f → IsHeld ws first t sent → IsHeld ws first (record t {
+      flight = record t.flight
+          { queue = with_inflight t.flight.queue (change_where p f (take i t.flight.queue.inflight.chunks) ++ drop i t.flight.queue.inflight.chunks) };
+    }) sent
 first-changed ws first t sent p f i keeps keeps' h =
     let cs = t.flight.queue.inflight.chunks in
     let ds = change_where p f (take i cs) ++ drop i cs in
     steady ws first t sent h t.streams (steady-same t.streams) (record t.flight { queue = with_inflight t.flight.queue ds }) sent
-    (refilled ws first (λ s. number_of s t.streams) t.flight.queue t.flight.next_tsn sent ds (λ m e. sym (same m) ∙ e) (known-part-changed first sent p f keeps' i cs h.stands.known) h.stands)
+    (refilled ws first (λ s. number_of s t.streams) t.flight.queue t.flight.next_tsn sent ds (λ m e. sym (same m)
+    ∙ e) (known-part-changed first sent p f keeps' i cs h.stands.known) h.stands)
   where
-    same : (m : ℕ) → list_any (is_of m) (change_where p f (take i t.flight.queue.inflight.chunks) ++ drop i t.flight.queue.inflight.chunks) ≡ list_any (is_of m) t.flight.queue.inflight.chunks
+    same : (m : ℕ) → list_any (is_of m)
+        (change_where p f (take i t.flight.queue.inflight.chunks) ++ drop i t.flight.queue.inflight.chunks) ≡ list_any (is_of m) t.flight.queue.inflight.chunks
     same m =
         let cs = t.flight.queue.inflight.chunks in
         list_any-append (is_of m) (change_where p f (take i cs)) (drop i cs)
@@ -121,7 +135,8 @@ pub acked : (ws : List Numbered) (first : ℕ) (t : Transmission) (sent : List E
 acked ws first t sent s h =
     let st = steady-released (released_by s t.flight) t.streams in
     record {
-      stands = renumbered ws first (λ r. number_of r t.streams) (λ r. number_of r (after_acked s t).streams) (after_acked s t).flight.queue (after_acked s t).flight.next_tsn sent st.numbers (stands (is_outdated s t.flight));
+      stands = renumbered ws first (λ r. number_of r t.streams) (λ r. number_of r (after_acked s t).streams)
+          (after_acked s t).flight.queue (after_acked s t).flight.next_tsn sent st.numbers (stands (is_outdated s t.flight));
       open' = all-open t.streams (after_acked s t).streams st.there ws h.open';
       sized = st.sized h.sized;
       size = h.size;
@@ -130,23 +145,31 @@ acked ws first t sent s h =
     keeps : KeepsMessage as_acknowledged
     keeps = record { number = λ _. refl; begins = λ _. refl; ends = λ _. refl; kind = λ _. refl }
 
-    fewer : (m : ℕ) → list_any (is_of m) (past s.cumulative_tsn_ack (change_where (reports_anew s) as_acknowledged t.flight.queue.inflight.chunks)) ≡ true → list_any (is_of m) t.flight.queue.inflight.chunks ≡ true
-    fewer m e = sym (list_any-change_where (reports_anew s) as_acknowledged keeps m t.flight.queue.inflight.chunks) ∙ list_any-those (is_of m) _ (change_where (reports_anew s) as_acknowledged t.flight.queue.inflight.chunks) e
+    fewer : (m : ℕ) → list_any (is_of m) (past s.cumulative_tsn_ack (change_where (reports_anew s) as_acknowledged t.flight.queue.inflight.chunks)) ≡ true
+        → list_any (is_of m) t.flight.queue.inflight.chunks ≡ true
+    fewer m e = sym (list_any-change_where (reports_anew s) as_acknowledged keeps m t.flight.queue.inflight.chunks)
+        ∙ list_any-those (is_of m) _ (change_where (reports_anew s) as_acknowledged t.flight.queue.inflight.chunks) e
 
-    stands : (b : Bool) → Stands ws first (λ r. number_of r t.streams) (if b then t.flight else take_sack s t.flight).queue (if b then t.flight else take_sack s t.flight).next_tsn sent
+    stands : (b : Bool) → Stands ws first (λ r. number_of r t.streams)
+        (if b then t.flight else take_sack s t.flight).queue (if b then t.flight else take_sack s t.flight).next_tsn sent
     stands true = h.stands
     stands false =
-        refilled ws first (λ r. number_of r t.streams) t.flight.queue t.flight.next_tsn sent (past s.cumulative_tsn_ack (change_where (reports_anew s) as_acknowledged t.flight.queue.inflight.chunks)) fewer
-        (known-those first sent _ (change_where (reports_anew s) as_acknowledged t.flight.queue.inflight.chunks) (known-changed first sent (reports_anew s) as_acknowledged acknowledged-keeps t.flight.queue.inflight.chunks h.stands.known))
+        refilled ws first (λ r. number_of r t.streams) t.flight.queue t.flight.next_tsn sent
+        (past s.cumulative_tsn_ack (change_where (reports_anew s) as_acknowledged t.flight.queue.inflight.chunks)) fewer
+        (known-those first sent _ (change_where (reports_anew s) as_acknowledged t.flight.queue.inflight.chunks)
+        (known-changed first sent (reports_anew s) as_acknowledged acknowledged-keeps t.flight.queue.inflight.chunks h.stands.known))
         h.stands
 
 -- ## Messages are abandoned
 
-gone-one : (ws : List Numbered) (first : ℕ) (number : ℕ → ℕ) (f : Flight) (sent : List Entry) → Stands ws first number f.queue f.next_tsn sent → (tsn : ℕ) → Abandons ws first number sent f.queue (abandoned_at tsn f).queue (abandoned_at tsn f).next_tsn
+gone-one : (ws : List Numbered) (first : ℕ) (number : ℕ → ℕ) (f : Flight) (sent : List Entry) → Stands ws first number f.queue f.next_tsn sent → (tsn : ℕ)
+    → Abandons ws first number sent f.queue (abandoned_at tsn f).queue (abandoned_at tsn f).next_tsn
 gone-one ws first number f sent s tsn =
-    abandoned ws first number f.queue f.next_tsn sent s (message_to_abandon tsn f) (found-half f.queue s.sendable tsn (find (has_tsn tsn) f.queue.inflight.chunks) refl)
+    abandoned ws first number f.queue f.next_tsn sent s (message_to_abandon tsn f)
+    (found-half f.queue s.sendable tsn (find (has_tsn tsn) f.queue.inflight.chunks) refl)
 
-gone-each : (ws : List Numbered) (first : ℕ) (number : ℕ → ℕ) (tsns : List ℕ) (f : Flight) (sent : List Entry) → Stands ws first number f.queue f.next_tsn sent → Abandons ws first number sent f.queue (abandoned_each tsns f).queue (abandoned_each tsns f).next_tsn
+gone-each : (ws : List Numbered) (first : ℕ) (number : ℕ → ℕ) (tsns : List ℕ) (f : Flight) (sent : List Entry) → Stands ws first number f.queue f.next_tsn sent
+    → Abandons ws first number sent f.queue (abandoned_each tsns f).queue (abandoned_each tsns f).next_tsn
 gone-each ws first number [] f sent s = no-abandons ws first number sent f.queue f.next_tsn s
 gone-each ws first number (tsn ∷ tsns) f sent s =
     let a = gone-one ws first number f sent s tsn in
@@ -159,7 +182,9 @@ grown sent more ms (inl e) a = subst (λ xs. AreSent xs ms) (sym e) a
 grown sent more ms (inr x) a = subst (λ xs. AreSent xs ms) (sym x.1) (sent-then x.0 sent ms a)
 
 -- the streams have less, and the flight is what is left
-left : (ws : List Numbered) (first : ℕ) (t : Transmission) (sent : List Entry) (ms : List Made) (ls : List StreamState) (f : Flight) → IsHeld ws first t sent → IsSteady t.streams ls → Abandons ws first (λ s. number_of s t.streams) sent t.flight.queue f.queue f.next_tsn → Result None ws ws first sent (record t { streams = ls; flight = f }) ms ms
+left : (ws : List Numbered) (first : ℕ) (t : Transmission) (sent : List Entry) (ms : List Made) (ls : List StreamState) (f : Flight) → IsHeld ws first t sent
+    → IsSteady t.streams ls → Abandons ws first (λ s. number_of s t.streams) sent t.flight.queue f.queue f.next_tsn
+    → Result None ws ws first sent (record t { streams = ls; flight = f }) ms ms
 left ws first t sent ms ls f h st a = record {
   more = a.more;
   held = steady ws first t sent h ls st f a.more a.stands;
@@ -168,34 +193,50 @@ left ws first t sent ms ls f h st a = record {
   made = grown sent a.more ms (once-ended sent a.more a.ended);
 }
 
-pub abandons-message : (ws : List Numbered) (first : ℕ) (t : Transmission) (sent : List Entry) (ms : List Made) → IsHeld ws first t sent → (o : Option ℕ) → ((m : ℕ) → o ≡ Some m → waits m t.flight.queue.pending ≡ true → partially_sent t.flight.queue.pending ≡ Some m) → (stream bytes : ℕ) → Result None ws ws first sent (after_abandon o stream bytes t) ms ms
+pub abandons-message : (ws : List Numbered) (first : ℕ) (t : Transmission) (sent : List Entry) (ms : List Made) → IsHeld ws first t sent → (o : Option ℕ)
+    → ((m : ℕ) → o ≡ Some m → waits m t.flight.queue.pending ≡ true → partially_sent t.flight.queue.pending ≡ Some m) → (stream bytes : ℕ)
+    → Result None ws ws first sent (after_abandon o stream bytes t) ms ms
 abandons-message ws first t sent ms h o half stream bytes =
     left ws first t sent ms (change_where (has_number stream) (less_by bytes) t.streams) (after_abandonment o t.flight) h (steady-less stream bytes t.streams)
     (abandoned ws first (λ s. number_of s t.streams) t.flight.queue t.flight.next_tsn sent h.stands o half)
 
-pub abandons-all : (ws : List Numbered) (first : ℕ) (t : Transmission) (sent : List Entry) (ms : List Made) → IsHeld ws first t sent → (tsns : List ℕ) → Result None ws ws first sent (after_abandoning tsns t) ms ms
+pub abandons-all : (ws : List Numbered) (first : ℕ) (t : Transmission) (sent : List Entry) (ms : List Made) → IsHeld ws first t sent → (tsns : List ℕ)
+    → Result None ws ws first sent (after_abandoning tsns t) ms ms
 abandons-all ws first t sent ms h tsns =
-    left ws first t sent ms (after_leaving (leaving_each tsns t.flight) t.streams) (abandoned_each tsns t.flight) h (steady-left (leaving_each tsns t.flight) t.streams)
+    left ws first t sent ms (after_leaving (leaving_each tsns t.flight) t.streams)
+    (abandoned_each tsns t.flight) h (steady-left (leaving_each tsns t.flight) t.streams)
     (gone-each ws first (λ s. number_of s t.streams) tsns t.flight sent h.stands)
 
 -- ## Sending
 
-sent-of : (ws : List Numbered) (first : ℕ) (t : Transmission) (sent : List Entry) (ms : List Made) (now : ℕ) → IsHeld ws first t sent → (q : Outbound) → Stands ws first (λ s. number_of s t.streams) q t.flight.next_tsn sent → (o : Option ChunkPayloadData) → next_pending q.pending ≡ o → Result (option_map (as_sent t.flight.next_tsn now) o) ws ws first sent (record t { flight = record t.flight { queue = sent_of o q t.flight.next_tsn now; next_tsn = if is_some o then following_tsn t.flight.next_tsn else t.flight.next_tsn } }) ms (with_chunk (option_map (as_sent t.flight.next_tsn now) o) ms)
-sent-of ws first t sent ms now h q s None e = calm ws ws first sent (record t { flight = record t.flight { queue = q } }) ms (steady ws first t sent h t.streams (steady-same t.streams) (record t.flight { queue = q }) sent s)
+sent-of : (ws : List Numbered) (first : ℕ) (t : Transmission) (sent : List Entry) (ms : List Made) (now : ℕ) → IsHeld ws first t sent → (q : Outbound)
+    → Stands ws first (λ s. number_of s t.streams) q t.flight.next_tsn sent → (o : Option ChunkPayloadData) → next_pending q.pending ≡ o
+    → Result (option_map (as_sent t.flight.next_tsn now) o) ws ws first sent (record t {
+      flight =
+          record t.flight { queue = sent_of o q t.flight.next_tsn now; next_tsn = if is_some o then following_tsn t.flight.next_tsn else t.flight.next_tsn };
+    }) ms (with_chunk (option_map (as_sent t.flight.next_tsn now) o) ms)
+sent-of ws first t sent ms now h q s None e = calm ws ws first sent (record t { flight = record t.flight { queue = q } }) ms
+    (steady ws first t sent h t.streams (steady-same t.streams) (record t.flight { queue = q }) sent s)
 sent-of ws first t sent ms now h q s (Some c) e =
     let next = t.flight.next_tsn in
     let x = sends-one ws first (λ r. number_of r t.streams) now q next sent c e s in
     let entry = fragment (data_of (as_sent next now c)) x.write x.after in
     record {
       more = entry ∷ sent;
-      held = steady ws first t sent h t.streams (steady-same t.streams) (record t.flight { queue = sent_of (Some c) q next now; next_tsn = following_tsn next }) (entry ∷ sent) x.stands;
+      held = steady ws first t sent h t.streams (steady-same t.streams) (record t.flight { queue = sent_of (Some c) q next now; next_tsn = following_tsn next })
+          (entry ∷ sent) x.stands;
       once = inr (entry, refl);
-      grown = (x.write, x.after, refl);
+      grown = (x.write, x.after, refl, x.place);
       made = λ a. ((x.write, x.after, sent, inl refl), sent-then entry sent ms a);
     }
 
-pub sends-next : (ws : List Numbered) (first : ℕ) (t : Transmission) (sent : List Entry) (ms : List Made) (now : ℕ) → IsHeld ws first t sent → Result (next_chunk now t) ws ws first sent (with_flight (record t.flight { queue = sent_next t.flight.queue t.flight.next_tsn now; next_tsn = next_after_send t.flight }) t) ms (with_chunk (next_chunk now t) ms)
+pub sends-next : (ws : List Numbered) (first : ℕ) (t : Transmission) (sent : List Entry) (ms : List Made) (now : ℕ) → IsHeld ws first t sent
+    → Result (next_chunk now t) ws ws first sent (with_flight
+    (record t.flight { queue = sent_next t.flight.queue t.flight.next_tsn now; next_tsn = next_after_send t.flight }) t) ms (with_chunk (next_chunk now t) ms)
 sends-next ws first t sent ms now h =
     let r = all_started now t.flight.queue in
-    subst (λ b. Result (next_chunk now t) ws ws first sent (with_flight (record t.flight { queue = sent_next t.flight.queue t.flight.next_tsn now; next_tsn = if b then following_tsn t.flight.next_tsn else t.flight.next_tsn }) t) ms (with_chunk (next_chunk now t) ms)) (peeked_all_started now t.flight.queue)
-    (sent-of ws first t sent ms now h r (started ws first (λ s. number_of s t.streams) now t.flight.queue t.flight.next_tsn sent h.stands) (next_pending r.pending) refl)
+    subst (λ b. Result (next_chunk now t) ws ws first sent (with_flight (record t.flight
+    { queue = sent_next t.flight.queue t.flight.next_tsn now; next_tsn = if b then following_tsn t.flight.next_tsn else t.flight.next_tsn }) t) ms
+    (with_chunk (next_chunk now t) ms)) (peeked_all_started now t.flight.queue)
+    (sent-of ws first t sent ms now h r (started ws first (λ s. number_of s t.streams) now t.flight.queue t.flight.next_tsn sent h.stands)
+    (next_pending r.pending) refl)

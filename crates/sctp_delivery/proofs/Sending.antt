@@ -1,5 +1,6 @@
 -- A fragment is sent: it goes on where the last entry ends, and what waits behind it goes on with it.
-use Rattle.std.proofs.Common.{◌≡◌, ℕ, ◌+◌, ◌%◌, ◌^◌, ◌≤◌, Bool, true, false, not, List, [], ◌∷◌, length, Option, Some, None, slice_get, ◌⊎◌, inl, inr, refl, ap, sym, subst, ◌∙◌, arith}
+use Rattle.std.proofs.Common.{◌≡◌, ℕ, ◌+◌, ◌%◌, ◌^◌, ◌≤◌, Bool, true, false, not, List, [], ◌∷◌, length, Option, Some, None, slice_get, ◌⊎◌, inl, inr, refl, ap}
+use Rattle.std.proofs.Common.{sym, subst, ◌∙◌, arith}
 use Rattle.std.specs.Prelude.{⊤, ◌==◌, ◌&&◌, if◌then◌else◌}
 use Rattle.std.proofs.lemmas.Option.{none-some}
 use Rattle.sctp_list_lemmas.proofs.Cases.{some-same, same-yes}
@@ -11,7 +12,8 @@ use Rattle.sctp_outbound.specs.outbound_queue.OutboundQueue.{as_sent}
 use Rattle.sctp_outbound.specs.pending_queue.PendingQueue.{Pending, list_of, list_to_pop, next_pending, rest_after, rest_from, selected_after}
 use Rattle.sctp_outbound.specs.pending_queue.Whole.{IsSendable, IsWhole, begun, free}
 use Rattle.sctp_outbound.proofs.lemmas.outbound_queue.Sendable.{made}
-use Rattle.sctp_delivery.proofs.OrderedEntries.{AreIndexed, AreJoined, AreRanked, AreRising, IsIndexed, IsOpen, IsUnder, Joins, begins-inner, begins-ordered, begins-unordered, begins_on, begun_on, one, ranked-ordered, ranked-unordered, under-more}
+use Rattle.sctp_delivery.proofs.OrderedEntries.{AreIndexed, AreJoined, AreRanked, AreRising, IsIndexed, IsOpen, IsUnder, Joins, begins-inner, begins-ordered}
+use Rattle.sctp_delivery.proofs.OrderedEntries.{begins-unordered, begins_on, begun_on, one, ranked-ordered, ranked-unordered, under-more}
 use Rattle.sctp_delivery.proofs.Sent.{AreApart, Entry, Fits, GoesOn, IsLine, Numbered, fragment, terminal}
 use Rattle.sctp_delivery.proofs.Waiting.{Goes, Place, Waits, between, inside, nowhere, place_after, place_of, within}
 use Rattle.sctp_delivery.proofs.Turns.{IsAfter, Turns, counts, inner-not, number_after}
@@ -38,36 +40,43 @@ module _ (c : ChunkPayloadData) (tsn now : ℕ) (w : Numbered) (after : List ℕ
   abbrev sent_entry : Entry
   sent_entry = fragment (data_of (as_sent tsn now c)) w after
 
-  ends-or-not : (kind : Bool) (s : Selected) → s.unordered ≡ kind → c.message_id ≡ s.message_id → selected_after (Some s) kind c ≡ (if c.ending_fragment then None else Some (record { message_id = c.message_id; unordered = kind }))
+  ends-or-not : (kind : Bool) (s : Selected) → s.unordered ≡ kind → c.message_id ≡ s.message_id
+      → selected_after (Some s) kind c ≡ (if c.ending_fragment then None else Some (record { message_id = c.message_id; unordered = kind }))
   ends-or-not kind s k same = by c.ending_fragment
     where
       it : (c.message_id == s.message_id) ≡ true
       it = subst (λ j. (c.message_id == j) ≡ true) same (same-yes c.message_id)
 
       whole : s ≡ record { message_id = c.message_id; unordered = kind }
-      whole = ap (λ b. let r : Selected = record { message_id = s.message_id; unordered = b } in r) k ∙ ap (λ j. let r : Selected = record { message_id = j; unordered = kind } in r) (sym same)
+      whole = ap (λ b. let r : Selected = record { message_id = s.message_id; unordered = b } in r) k
+          ∙ ap (λ j. let r : Selected = record { message_id = j; unordered = kind } in r) (sym same)
 
-      by : (b : Bool) → (if b && (c.message_id == s.message_id) then None else Some s) ≡ (if b then None else Some (record { message_id = c.message_id; unordered = kind }))
+      by : (b : Bool)
+          → (if b && (c.message_id == s.message_id) then None else Some s) ≡ (if b then None else Some (record { message_id = c.message_id; unordered = kind }))
       by true = ap (λ b. if b then None else Some s) it
       by false = ap Some whole
 
-  selects : (kind : Bool) (sel : Option Selected) → OnTurn sel kind c → selected_after sel kind c ≡ (if c.ending_fragment then None else Some (record { message_id = c.message_id; unordered = kind }))
+  selects : (kind : Bool) (sel : Option Selected) → OnTurn sel kind c
+      → selected_after sel kind c ≡ (if c.ending_fragment then None else Some (record { message_id = c.message_id; unordered = kind }))
   selects kind None t = refl
   selects kind (Some s) t = ends-or-not kind s t.0 t.1
 
   own-place : (kind : Bool) (sel : Option Selected) → OnTurn sel kind c → place_of kind (selected_after sel kind c) (sent_entry ∷ sent) ≡ place_after c w after
   own-place true sel t = ap (λ o. place_of true o (sent_entry ∷ sent)) (selects true sel t) ∙ by c.ending_fragment
     where
-      by : (b : Bool) → place_of true (if b then None else Some (record { message_id = c.message_id; unordered = true })) (sent_entry ∷ sent) ≡ (if b then between else within c.message_id c.stream_sequence_number c.unordered w after)
+      by : (b : Bool) → place_of true (if b then None else Some (record { message_id = c.message_id; unordered = true }))
+          (sent_entry ∷ sent) ≡ (if b then between else within c.message_id c.stream_sequence_number c.unordered w after)
       by true = refl
       by false = refl
   own-place false sel t = ap (λ o. place_of false o (sent_entry ∷ sent)) (selects false sel t) ∙ by c.ending_fragment
     where
-      by : (b : Bool) → place_of false (if b then None else Some (record { message_id = c.message_id; unordered = false })) (sent_entry ∷ sent) ≡ (if b then between else within c.message_id c.stream_sequence_number c.unordered w after)
+      by : (b : Bool) → place_of false (if b then None else Some (record { message_id = c.message_id; unordered = false }))
+          (sent_entry ∷ sent) ≡ (if b then between else within c.message_id c.stream_sequence_number c.unordered w after)
       by true = refl
       by false = refl
 
-  other-place : (kind : Bool) (sel : Option Selected) (xs : List Entry) → OnTurn sel kind c → place_of (not kind) (selected_after sel kind c) xs ≡ place_of (not kind) sel sent
+  other-place : (kind : Bool) (sel : Option Selected) (xs : List Entry) → OnTurn sel kind c
+      → place_of (not kind) (selected_after sel kind c) xs ≡ place_of (not kind) sel sent
   other-place kind sel xs t = ap (λ o. place_of (not kind) o xs) (selects kind sel t) ∙ by kind c.ending_fragment ∙ sym (before kind sel t)
     where
       by : (k b : Bool) → place_of (not k) (if b then None else Some (record { message_id = c.message_id; unordered = k })) xs ≡ between
@@ -101,7 +110,8 @@ module _ (c : ChunkPayloadData) (tsn now : ℕ) (w : Numbered) (after : List ℕ
   IsNew (terminal ∷ xs) = ⊤
   IsNew (fragment e v rest ∷ xs) = AreApart (data_of (as_sent tsn now c)) e
 
-  goes-behind : (xs : List Entry) → (c.beginning_fragment ≡ true → IsNew xs) → (c.beginning_fragment ≡ true) ⊎ ((m : ℕ) × Goes (inside m xs) c w after) → GoesOn (data_of (as_sent tsn now c)) w after xs
+  goes-behind : (xs : List Entry) → (c.beginning_fragment ≡ true → IsNew xs) → (c.beginning_fragment ≡ true) ⊎ ((m : ℕ) × Goes (inside m xs) c w after)
+      → GoesOn (data_of (as_sent tsn now c)) w after xs
   goes-behind [] new s = tt
   goes-behind (terminal ∷ xs) new s = tt
   goes-behind (fragment e v rest ∷ xs) new (inl b) = (λ h. absurd (not_both (sym h ∙ b)), new)
@@ -123,12 +133,23 @@ module _ (c : ChunkPayloadData) (tsn now : ℕ) (w : Numbered) (after : List ℕ
   -- ## Messages
 
   -- nothing is partially sent where it ends its message
-  stays-open : (kind : Bool) (sel : Option Selected) → OnTurn sel kind c → IsOpen (sent_entry ∷ sent) (selected_after sel kind c)
-  stays-open kind sel t = subst (IsOpen (sent_entry ∷ sent)) (sym (selects kind sel t)) (by c.ending_fragment refl)
+  stays-open : (kind : Bool) (sel : Option Selected) → OnTurn sel kind c → w.place ≡ c.message_id → IsOpen (sent_entry ∷ sent) (selected_after sel kind c)
+  stays-open kind sel t own = subst (IsOpen (sent_entry ∷ sent)) (sym (selects kind sel t)) (by c.ending_fragment refl)
     where
       by : (b : Bool) → c.ending_fragment ≡ b → IsOpen (sent_entry ∷ sent) (if b then None else Some (record { message_id = c.message_id; unordered = kind }))
       by true e = e
-      by false e = e
+      by false e = (e, own)
+
+  -- its write has the number of its message
+  of-inside : (s : Selected) (xs : List Entry) → IsOpen xs (Some s) → Goes (inside s.message_id xs) c w after → w.place ≡ c.message_id
+  of-inside s [] o g = absurd g
+  of-inside s (terminal ∷ xs) o g = absurd g
+  of-inside s (fragment e v rest ∷ xs) o g = ap (λ (x : Numbered). x.place) g.write ∙ o.1 ∙ sym g.message
+
+  of-message : (kind : Bool) (sel : Option Selected) → OnTurn sel kind c → IsOpen sent sel → Goes (place_of kind sel sent) c w after → w.place ≡ c.message_id
+  of-message kind None t o g = g.1
+  of-message true (Some s) t o g = of-inside s sent o (subst (λ b. Goes (if b then inside s.message_id sent else between) c w after) t.0 g)
+  of-message false (Some s) t o g = of-inside s sent o (subst (λ b. Goes (if b then between else inside s.message_id sent) c w after) t.0 g)
 
   joins-between : (xs : List Entry) → IsOpen xs None → c.beginning_fragment ≡ true → Joins (data_of (as_sent tsn now c)) xs
   joins-between [] o b = b
@@ -141,7 +162,7 @@ module _ (c : ChunkPayloadData) (tsn now : ℕ) (w : Numbered) (after : List ℕ
   joins-inside ws first m s (terminal ∷ xs) f l o g = absurd g
   joins-inside ws first m s (fragment e v rest ∷ xs) f l o g = (
     λ b. absurd (not_both (sym g.inner ∙ b)),
-    λ _. (o, sym g.same_kind, l.0.stream ∙ ap (λ (x : Numbered). x.stream) (sym g.write) ∙ sym f.stream),
+    λ _. (o.0, sym g.same_kind, l.0.stream ∙ ap (λ (x : Numbered). x.stream) (sym g.write) ∙ sym f.stream),
   )
 
   joins-sent : (ws : List Numbered) (first : ℕ) (kind : Bool) (sel : Option Selected) → OnTurn sel kind c → Fits ws c.tsn (data_of c) w after
@@ -155,13 +176,16 @@ module _ (c : ChunkPayloadData) (tsn now : ℕ) (w : Numbered) (after : List ℕ
   -- ## Numbers
 
   -- the number after the chunk, where it begins a message
-  after-first : (s n : ℕ) → (counts s c ≡ true → c.stream_sequence_number ≡ n) → c.beginning_fragment ≡ true → c.stream_identifier ≡ s → (c.stream_sequence_number + 1) % 2 ^ 16 ≡ number_after (counts s c) n
+  after-first : (s n : ℕ) → (counts s c ≡ true → c.stream_sequence_number ≡ n) → c.beginning_fragment ≡ true → c.stream_identifier ≡ s
+      → (c.stream_sequence_number + 1) % 2 ^ 16 ≡ number_after (counts s c) n
   after-first s n is b on =
-      let it : counts s c ≡ true = and (c.stream_identifier == s) c.beginning_fragment (subst (λ j. (c.stream_identifier == j) ≡ true) on (same-yes c.stream_identifier)) b in
+      let it : counts s c ≡ true =
+      and (c.stream_identifier == s) c.beginning_fragment (subst (λ j. (c.stream_identifier == j) ≡ true) on (same-yes c.stream_identifier)) b in
       ap (λ k. (k + 1) % 2 ^ 16) (is it) ∙ ap (λ k. number_after k n) (sym it)
 
   -- and where it goes on
-  after-inner : (ws : List Numbered) (first s n m : ℕ) (xs : List Entry) → Fits ws c.tsn (data_of c) w after → IsLine ws first xs → IsAfter s n xs → Goes (inside m xs) c w after → c.unordered ≡ false → c.stream_identifier ≡ s → (c.stream_sequence_number + 1) % 2 ^ 16 ≡ number_after (counts s c) n
+  after-inner : (ws : List Numbered) (first s n m : ℕ) (xs : List Entry) → Fits ws c.tsn (data_of c) w after → IsLine ws first xs → IsAfter s n xs
+      → Goes (inside m xs) c w after → c.unordered ≡ false → c.stream_identifier ≡ s → (c.stream_sequence_number + 1) % 2 ^ 16 ≡ number_after (counts s c) n
   after-inner ws first s n m [] f l a g k on = absurd g
   after-inner ws first s n m (terminal ∷ xs) f l a g k on = absurd g
   after-inner ws first s n m (fragment e v rest ∷ xs) f l a g k on =
@@ -206,13 +230,18 @@ module _ (c : ChunkPayloadData) (tsn now : ℕ) (w : Numbered) (after : List ℕ
 -- the entry of a chunk that is sent, and what is queued behind it
 abbrev pub SendsOn : List Numbered → ℕ → (ℕ → ℕ) → Pending → List Entry → ChunkPayloadData → ℕ → ℕ → Type 0
 SendsOn ws first number q sent c tsn now =
-    (w : Numbered) × (after : List ℕ) × (Queued ws first number (rest_after c.beginning_fragment c.unordered q) (fragment (data_of (as_sent tsn now c)) w after ∷ sent) × (c.beginning_fragment ≡ true → w.place ≡ c.message_id))
+    (w : Numbered) × (after : List ℕ)
+    × (Queued ws first number (rest_after c.beginning_fragment c.unordered q) (fragment (data_of (as_sent tsn now c)) w after ∷ sent)
+    × (w.place ≡ c.message_id))
 
-module _ (ws : List Numbered) (first : ℕ) (number : ℕ → ℕ) (sent : List Entry) (tsn now : ℕ) (next : tsn ≡ (first + length sent) % 2 ^ 32) (ro ru : ℕ) (c : ChunkPayloadData) where
-  in-line : (w : Numbered) (after : List ℕ) → Fits ws c.tsn (data_of c) w after → GoesOn (data_of (as_sent tsn now c)) w after sent → IsLine ws first sent → IsLine ws first (fragment (data_of (as_sent tsn now c)) w after ∷ sent)
+module _ (ws : List Numbered) (first : ℕ) (number : ℕ → ℕ) (sent : List Entry) (tsn now : ℕ) (next : tsn ≡ (first + length sent) % 2 ^ 32) (ro ru : ℕ)
+    (c : ChunkPayloadData) where
+  in-line : (w : Numbered) (after : List ℕ) → Fits ws c.tsn (data_of c) w after → GoesOn (data_of (as_sent tsn now c)) w after sent → IsLine ws first sent
+      → IsLine ws first (fragment (data_of (as_sent tsn now c)) w after ∷ sent)
   in-line w after f g l = (subst (λ k. Fits ws k (data_of (as_sent tsn now c)) w after) next (fits-sent c tsn now w after sent ws f), (g, l))
 
-  from-ordered : (sel : Option Selected) (os us : List ChunkPayloadData) → list_to_pop sel c.beginning_fragment c.unordered ≡ Some false → c.unordered ≡ false → OnTurn sel false c → Queued ws first number (made (c ∷ os) us sel ro ru) sent → SendsOn ws first number (made (c ∷ os) us sel ro ru) sent c tsn now
+  from-ordered : (sel : Option Selected) (os us : List ChunkPayloadData) → list_to_pop sel c.beginning_fragment c.unordered ≡ Some false → c.unordered ≡ false
+      → OnTurn sel false c → Queued ws first number (made (c ∷ os) us sel ro ru) sent → SendsOn ws first number (made (c ∷ os) us sel ro ru) sent c tsn now
   from-ordered sel os us pops kind turn q =
       let w = q.ordered.0 in
       let after = q.ordered.1 in
@@ -220,21 +249,26 @@ module _ (ws : List Numbered) (first : ℕ) (number : ℕ → ℕ) (sent : List 
         w,
         after,
         (
-          subst (λ k. Queued ws first number (rest_from k (made (c ∷ os) us sel ro ru)) (fragment (data_of (as_sent tsn now c)) w after ∷ sent)) (sym pops) (record {
-            line = in-line w after fits (goes-behind c tsn now w after sent sent new start) q.line;
-            ordered = subst (Waits ws os) (sym (own-place c tsn now w after sent false sel turn)) q.ordered.2.1.1;
-            unordered = subst (Waits ws us) (sym (other-place c tsn now w after sent false sel (fragment (data_of (as_sent tsn now c)) w after ∷ sent) turn)) q.unordered;
-            turns = λ s. (number_after (counts s c) (q.turns s).0, ((q.turns s).1.0.1, (λ dk on. numbered s on start), begun-so s));
-            indexed = (index start, q.indexed);
-            ranked = ranked-ordered (data_of (as_sent tsn now c)) w after ws c os sent q.ranked (under start) (at-most start)
-                (λ s. begins-ordered s (data_of (as_sent tsn now c)) kind);
-            joined = (joins-sent c tsn now w after sent ws first false sel turn fits q.line q.open' q.ordered.2.1.0, q.joined);
-            open' = stays-open c tsn now w after sent false sel turn;
-          }),
-          placed c tsn now w after sent (place_of false sel sent) q.ordered.2.1.0,
+          subst (λ k. Queued ws first number (rest_from k (made (c ∷ os) us sel ro ru)) (fragment (data_of (as_sent tsn now c)) w after ∷ sent)) (sym pops)
+              (record {
+                line = in-line w after fits (goes-behind c tsn now w after sent sent new start) q.line;
+                ordered = subst (Waits ws os) (sym (own-place c tsn now w after sent false sel turn)) q.ordered.2.1.1;
+                unordered = subst (Waits ws us)
+                    (sym (other-place c tsn now w after sent false sel (fragment (data_of (as_sent tsn now c)) w after ∷ sent) turn)) q.unordered;
+                turns = λ s. (number_after (counts s c) (q.turns s).0, ((q.turns s).1.0.1, (λ dk on. numbered s on start), begun-so s));
+                indexed = (index start, q.indexed);
+                ranked = ranked-ordered (data_of (as_sent tsn now c)) w after ws c os sent q.ranked (under start) (at-most start)
+                    (λ s. begins-ordered s (data_of (as_sent tsn now c)) kind);
+                joined = (joins-sent c tsn now w after sent ws first false sel turn fits q.line q.open' q.ordered.2.1.0, q.joined);
+                open' = stays-open c tsn now w after sent false sel turn own;
+              }),
+          own,
         ),
       )
     where
+      own : q.ordered.0.place ≡ c.message_id
+      own = of-message c tsn now q.ordered.0 q.ordered.1 sent false sel turn q.open' q.ordered.2.1.0
+
       starts : (o : Option Selected) → OnTurn o false c → Goes (place_of false o sent) c q.ordered.0 q.ordered.1 → Starts c tsn now q.ordered.0 q.ordered.1 sent
       starts None t g = inl g.0
       starts (Some s) t g = inr (s.message_id, subst (λ b. Goes (if b then between else inside s.message_id sent) c q.ordered.0 q.ordered.1) t.0 g)
@@ -273,14 +307,18 @@ module _ (ws : List Numbered) (first : ℕ) (number : ℕ → ℕ) (sent : List 
       new : c.beginning_fragment ≡ true → IsNew c tsn now q.ordered.0 q.ordered.1 sent sent
       new b =
           let t = q.turns c.stream_identifier in
-          let it : counts c.stream_identifier c ≡ true = and (c.stream_identifier == c.stream_identifier) c.beginning_fragment (same-yes c.stream_identifier) b in
+          let it : counts c.stream_identifier c ≡ true =
+          and (c.stream_identifier == c.stream_identifier) c.beginning_fragment (same-yes c.stream_identifier) b in
           new-number c tsn now q.ordered.0 q.ordered.1 sent c.stream_identifier t.0 refl (t.1.0.0 it) sent t.1.1
 
-      numbered : (s : ℕ) → c.stream_identifier ≡ s → Starts c tsn now q.ordered.0 q.ordered.1 sent → (c.stream_sequence_number + 1) % 2 ^ 16 ≡ number_after (counts s c) (q.turns s).0
+      numbered : (s : ℕ) → c.stream_identifier ≡ s → Starts c tsn now q.ordered.0 q.ordered.1 sent
+          → (c.stream_sequence_number + 1) % 2 ^ 16 ≡ number_after (counts s c) (q.turns s).0
       numbered s on (inl b) = after-first c tsn now q.ordered.0 q.ordered.1 sent s (q.turns s).0 (q.turns s).1.0.0 b on
-      numbered s on (inr g) = after-inner c tsn now q.ordered.0 q.ordered.1 sent ws first s (q.turns s).0 g.0 sent q.ordered.2.0 q.line (q.turns s).1.1 g.1 kind on
+      numbered s on (inr g) =
+          after-inner c tsn now q.ordered.0 q.ordered.1 sent ws first s (q.turns s).0 g.0 sent q.ordered.2.0 q.line (q.turns s).1.1 g.1 kind on
 
-  from-unordered : (sel : Option Selected) (os us : List ChunkPayloadData) → list_to_pop sel c.beginning_fragment c.unordered ≡ Some true → c.unordered ≡ true → OnTurn sel true c → Queued ws first number (made os (c ∷ us) sel ro ru) sent → SendsOn ws first number (made os (c ∷ us) sel ro ru) sent c tsn now
+  from-unordered : (sel : Option Selected) (os us : List ChunkPayloadData) → list_to_pop sel c.beginning_fragment c.unordered ≡ Some true → c.unordered ≡ true
+      → OnTurn sel true c → Queued ws first number (made os (c ∷ us) sel ro ru) sent → SendsOn ws first number (made os (c ∷ us) sel ro ru) sent c tsn now
   from-unordered sel os us pops kind turn q =
       let w = q.unordered.0 in
       let after = q.unordered.1 in
@@ -288,21 +326,29 @@ module _ (ws : List Numbered) (first : ℕ) (number : ℕ → ℕ) (sent : List 
         w,
         after,
         (
-          subst (λ k. Queued ws first number (rest_from k (made os (c ∷ us) sel ro ru)) (fragment (data_of (as_sent tsn now c)) w after ∷ sent)) (sym pops) (record {
-            line = in-line w after fits (goes-behind c tsn now w after sent sent (λ b. new-unordered c tsn now w after sent kind sent) (starts sel turn q.unordered.2.1.0)) q.line;
-            ordered = subst (Waits ws os) (sym (other-place c tsn now w after sent true sel (fragment (data_of (as_sent tsn now c)) w after ∷ sent) turn)) q.ordered;
-            unordered = subst (Waits ws us) (sym (own-place c tsn now w after sent true sel turn)) q.unordered.2.1.1;
-            turns = λ s. ((q.turns s).0, ((q.turns s).1.0, after-unordered c tsn now w after sent s (q.turns s).0 sent kind, begun-so s));
-            indexed = ((λ k. absurd (not_both (sym k ∙ kind))), q.indexed);
-            ranked = ranked-unordered (data_of (as_sent tsn now c)) w after ws os sent kind q.ranked;
-            joined = (joins-sent c tsn now w after sent ws first true sel turn fits q.line q.open' q.unordered.2.1.0, q.joined);
-            open' = stays-open c tsn now w after sent true sel turn;
-          }),
-          placed c tsn now w after sent (place_of true sel sent) q.unordered.2.1.0,
+          subst (λ k. Queued ws first number (rest_from k (made os (c ∷ us) sel ro ru)) (fragment (data_of (as_sent tsn now c)) w after ∷ sent)) (sym pops)
+              (record {
+                line = in-line w after fits
+                    (goes-behind c tsn now w after sent sent (λ b. new-unordered c tsn now w after sent kind sent) (starts sel turn q.unordered.2.1.0)) q.line;
+                ordered =
+                    subst (Waits ws os)
+                    (sym (other-place c tsn now w after sent true sel (fragment (data_of (as_sent tsn now c)) w after ∷ sent) turn)) q.ordered;
+                unordered = subst (Waits ws us) (sym (own-place c tsn now w after sent true sel turn)) q.unordered.2.1.1;
+                turns = λ s. ((q.turns s).0, ((q.turns s).1.0, after-unordered c tsn now w after sent s (q.turns s).0 sent kind, begun-so s));
+                indexed = ((λ k. absurd (not_both (sym k ∙ kind))), q.indexed);
+                ranked = ranked-unordered (data_of (as_sent tsn now c)) w after ws os sent kind q.ranked;
+                joined = (joins-sent c tsn now w after sent ws first true sel turn fits q.line q.open' q.unordered.2.1.0, q.joined);
+                open' = stays-open c tsn now w after sent true sel turn own;
+              }),
+          own,
         ),
       )
     where
-      starts : (o : Option Selected) → OnTurn o true c → Goes (place_of true o sent) c q.unordered.0 q.unordered.1 → Starts c tsn now q.unordered.0 q.unordered.1 sent
+      own : q.unordered.0.place ≡ c.message_id
+      own = of-message c tsn now q.unordered.0 q.unordered.1 sent true sel turn q.open' q.unordered.2.1.0
+
+      starts : (o : Option Selected) → OnTurn o true c → Goes (place_of true o sent) c q.unordered.0 q.unordered.1
+          → Starts c tsn now q.unordered.0 q.unordered.1 sent
       starts None t g = inl g.0
       starts (Some s) t g = inr (s.message_id, subst (λ b. Goes (if b then inside s.message_id sent else between) c q.unordered.0 q.unordered.1) t.0 g)
 
@@ -310,25 +356,32 @@ module _ (ws : List Numbered) (first : ℕ) (number : ℕ → ℕ) (sent : List 
       begun-so s = let z = ap one (begins-unordered s (data_of (as_sent tsn now c)) kind) in let e = (q.turns s).1.2 in omega (arith, z, e)
 
   -- what is next is sent
-  pub queued-sent : (sel : Option Selected) (os us xs : List ChunkPayloadData) (n : ℕ) → IsSendable (made os us sel ro ru) xs n → next_pending (made os us sel ro ru) ≡ Some c → Queued ws first number (made os us sel ro ru) sent → SendsOn ws first number (made os us sel ro ru) sent c tsn now
+  pub queued-sent : (sel : Option Selected) (os us xs : List ChunkPayloadData) (n : ℕ) → IsSendable (made os us sel ro ru) xs n
+      → next_pending (made os us sel ro ru) ≡ Some c → Queued ws first number (made os us sel ro ru) sent
+      → SendsOn ws first number (made os us sel ro ru) sent c tsn now
   queued-sent None os (u ∷ us) xs n k e q = at u (some-same e) k.unordered q
     where
-      at : (x : ChunkPayloadData) → x ≡ c → IsWhole true n (free 0) (x ∷ us) → Queued ws first number (made os (x ∷ us) None ro ru) sent → SendsOn ws first number (made os (x ∷ us) None ro ru) sent c tsn now
+      at : (x : ChunkPayloadData) → x ≡ c → IsWhole true n (free 0) (x ∷ us) → Queued ws first number (made os (x ∷ us) None ro ru) sent
+          → SendsOn ws first number (made os (x ∷ us) None ro ru) sent c tsn now
       at x same v r =
           let whole = subst (λ y. IsWhole true n (free 0) (y ∷ us)) same v in
           subst (λ y. SendsOn ws first number (made os (y ∷ us) None ro ru) sent c tsn now) (sym same)
-          (from-unordered None os us (ap (λ b. if b then Some c.unordered else None) whole.0.0 ∙ ap Some whole.1) whole.1 tt (subst (λ y. Queued ws first number (made os (y ∷ us) None ro ru) sent) same r))
+          (from-unordered None os us (ap (λ b. if b then Some c.unordered else None) whole.0.0
+          ∙ ap Some whole.1) whole.1 tt (subst (λ y. Queued ws first number (made os (y ∷ us) None ro ru) sent) same r))
   queued-sent None (o ∷ os) [] xs n k e q = at o (some-same e) k.ordered q
     where
-      at : (x : ChunkPayloadData) → x ≡ c → IsWhole false n (free 0) (x ∷ os) → Queued ws first number (made (x ∷ os) [] None ro ru) sent → SendsOn ws first number (made (x ∷ os) [] None ro ru) sent c tsn now
+      at : (x : ChunkPayloadData) → x ≡ c → IsWhole false n (free 0) (x ∷ os) → Queued ws first number (made (x ∷ os) [] None ro ru) sent
+          → SendsOn ws first number (made (x ∷ os) [] None ro ru) sent c tsn now
       at x same v r =
           let whole = subst (λ y. IsWhole false n (free 0) (y ∷ os)) same v in
           subst (λ y. SendsOn ws first number (made (y ∷ os) [] None ro ru) sent c tsn now) (sym same)
-          (from-ordered None os [] (ap (λ b. if b then Some c.unordered else None) whole.0.0 ∙ ap Some whole.1) whole.1 tt (subst (λ y. Queued ws first number (made (y ∷ os) [] None ro ru) sent) same r))
+          (from-ordered None os [] (ap (λ b. if b then Some c.unordered else None) whole.0.0
+          ∙ ap Some whole.1) whole.1 tt (subst (λ y. Queued ws first number (made (y ∷ os) [] None ro ru) sent) same r))
   queued-sent None [] [] xs n k e q = absurd (none-some c e)
   queued-sent (Some s) os us xs n k e q = by s.unordered refl
     where
-      unordered : s.unordered ≡ true → (us : List ChunkPayloadData) → IsWhole true n (begun s.message_id) us → slice_get us 0 ≡ Some c → Queued ws first number (made os us (Some s) ro ru) sent → SendsOn ws first number (made os us (Some s) ro ru) sent c tsn now
+      unordered : s.unordered ≡ true → (us : List ChunkPayloadData) → IsWhole true n (begun s.message_id) us → slice_get us 0 ≡ Some c
+          → Queued ws first number (made os us (Some s) ro ru) sent → SendsOn ws first number (made os us (Some s) ro ru) sent c tsn now
       unordered h [] v f r = absurd v
       unordered h (u ∷ us) v f r =
           let same : u ≡ c = some-same f in
@@ -336,7 +389,8 @@ module _ (ws : List Numbered) (first : ℕ) (number : ℕ → ℕ) (sent : List 
           subst (λ y. SendsOn ws first number (made os (y ∷ us) (Some s) ro ru) sent c tsn now) (sym same)
           (from-unordered (Some s) os us (ap Some h) whole.1 (h, whole.0.1) (subst (λ y. Queued ws first number (made os (y ∷ us) (Some s) ro ru) sent) same r))
 
-      ordered : s.unordered ≡ false → (os : List ChunkPayloadData) → IsWhole false n (begun s.message_id) os → slice_get os 0 ≡ Some c → Queued ws first number (made os us (Some s) ro ru) sent → SendsOn ws first number (made os us (Some s) ro ru) sent c tsn now
+      ordered : s.unordered ≡ false → (os : List ChunkPayloadData) → IsWhole false n (begun s.message_id) os → slice_get os 0 ≡ Some c
+          → Queued ws first number (made os us (Some s) ro ru) sent → SendsOn ws first number (made os us (Some s) ro ru) sent c tsn now
       ordered h [] v f r = absurd v
       ordered h (o ∷ os) v f r =
           let same : o ≡ c = some-same f in
@@ -345,8 +399,10 @@ module _ (ws : List Numbered) (first : ℕ) (number : ℕ → ℕ) (sent : List 
           (from-ordered (Some s) os us (ap Some h) whole.1 (h, whole.0.1) (subst (λ y. Queued ws first number (made (y ∷ os) us (Some s) ro ru) sent) same r))
 
       by : (b : Bool) → s.unordered ≡ b → SendsOn ws first number (made os us (Some s) ro ru) sent c tsn now
-      by true h = unordered h us (subst (λ b. IsWhole true n (if b then begun s.message_id else free 0) us) h k.unordered) (subst (λ b. slice_get (list_of b (made os us (Some s) ro ru)) 0 ≡ Some c) h e) q
-      by false h = ordered h os (subst (λ b. IsWhole false n (if b then free 0 else begun s.message_id) os) h k.ordered) (subst (λ b. slice_get (list_of b (made os us (Some s) ro ru)) 0 ≡ Some c) h e) q
+      by true h = unordered h us (subst (λ b. IsWhole true n (if b then begun s.message_id else free 0) us) h k.unordered)
+          (subst (λ b. slice_get (list_of b (made os us (Some s) ro ru)) 0 ≡ Some c) h e) q
+      by false h = ordered h os (subst (λ b. IsWhole false n (if b then free 0 else begun s.message_id) os) h k.ordered)
+          (subst (λ b. slice_get (list_of b (made os us (Some s) ro ru)) 0 ≡ Some c) h e) q
 
 -- ## What is next
 
@@ -358,10 +414,12 @@ first-fits : (ws : List Numbered) (cs : List ChunkPayloadData) (p : Place) (c : 
 first-fits ws [] p c e h = absurd (none-some c e)
 first-fits ws (x ∷ xs) p c e h = subst (IsOfWrite ws) (some-same e) (h.0, h.1, h.2.0)
 
-pub next-fits : (ws : List Numbered) (first : ℕ) (number : ℕ → ℕ) (q : Pending) (sent : List Entry) (c : ChunkPayloadData) → next_pending q ≡ Some c → Queued ws first number q sent → IsOfWrite ws c
+pub next-fits : (ws : List Numbered) (first : ℕ) (number : ℕ → ℕ) (q : Pending) (sent : List Entry) (c : ChunkPayloadData) → next_pending q ≡ Some c
+    → Queued ws first number q sent → IsOfWrite ws c
 next-fits ws first number q sent c e h = by q.selected q.unordered e h.ordered h.unordered
   where
-    by : (sel : Option Selected) (us : List ChunkPayloadData) → next_pending (record q { selected = sel; unordered = us }) ≡ Some c → Waits ws q.ordered (place_of false sel sent) → Waits ws us (place_of true sel sent) → IsOfWrite ws c
+    by : (sel : Option Selected) (us : List ChunkPayloadData) → next_pending (record q { selected = sel; unordered = us }) ≡ Some c
+        → Waits ws q.ordered (place_of false sel sent) → Waits ws us (place_of true sel sent) → IsOfWrite ws c
     by None [] f w v = first-fits ws q.ordered between c f w
     by None (u ∷ us) f w v = first-fits ws (u ∷ us) between c f v
     by (Some s) us f w v = kind s.unordered f

@@ -109,7 +109,9 @@ pub sent-more : (x : Entry) (sent : List Entry) (d : Data) → WasSent sent d �
 sent-more x sent d s = (s.0, s.1, s.2, inr s.3)
 
 -- what has the next TSN stands behind it, while fewer than 2^32 were given out
-pub stands-behind : (ws : List Numbered) (first : ℕ) (sent : List Entry) → length sent < 2 ^ 32 → IsLine ws first sent → (d e : Data) (w v : Numbered) (after rest : List ℕ) (xs ys : List Entry) → IsPart (fragment d w after ∷ xs) sent → IsPart (fragment e v rest ∷ ys) sent → e.tsn ≡ (d.tsn + 1) % 2 ^ 32 → ys ≡ fragment d w after ∷ xs
+pub stands-behind : (ws : List Numbered) (first : ℕ) (sent : List Entry) → length sent < 2 ^ 32 → IsLine ws first sent
+    → (d e : Data) (w v : Numbered) (after rest : List ℕ) (xs ys : List Entry) → IsPart (fragment d w after ∷ xs) sent → IsPart (fragment e v rest ∷ ys) sent
+    → e.tsn ≡ (d.tsn + 1) % 2 ^ 32 → ys ≡ fragment d w after ∷ xs
 stands-behind ws first sent few line d e w v after rest xs ys p q next =
     let a = part-line ws first sent (fragment d w after ∷ xs) p line in
     let b = part-line ws first sent (fragment e v rest ∷ ys) q line in
@@ -121,7 +123,8 @@ stands-behind ws first sent few line d e w v after rest xs ys p q next =
     same-parts sent ys (fragment d w after ∷ xs) (tail-part sent ys (fragment e v rest) q) p same
 
 -- what has the same TSN is the same chunk
-pub same-tsn : (ws : List Numbered) (first : ℕ) (sent : List Entry) → length sent < 2 ^ 32 → IsLine ws first sent → (d e : Data) → WasSent sent d → WasSent sent e → d.tsn ≡ e.tsn → d ≡ e
+pub same-tsn : (ws : List Numbered) (first : ℕ) (sent : List Entry) → length sent < 2 ^ 32 → IsLine ws first sent → (d e : Data) → WasSent sent d
+    → WasSent sent e → d.tsn ≡ e.tsn → d ≡ e
 same-tsn ws first sent few line d e s r same =
     let a = part-line ws first sent (fragment d s.0 s.1 ∷ s.2) s.3 line in
     let b = part-line ws first sent (fragment e r.0 r.1 ∷ r.2) r.3 line in

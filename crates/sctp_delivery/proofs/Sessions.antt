@@ -21,8 +21,11 @@ use Rattle.sctp_delivery.proofs.SameData.{is_same, same-data, same-itself}
 use Rattle.sctp_delivery.specs.ReceiverCalls as incoming
 use Rattle.sctp_delivery.specs.ReceiverCalls.{ReceiverCall}
 use Rattle.sctp_delivery.specs.SenderCalls as outgoing
-use Rattle.sctp_delivery.specs.SenderCalls.{Made, SenderCall, Write, abandons, data_chunk, expires, expires_late, expires_rexmit, expires_tail, forward_tsn, forwards, forwards_within, made_after, marks, misses, next_chunk, opens, resends, reserves, sends, sets_low, sets_mode, sets_size, starts, takes_sack, with_chunk, writes, written_after}
-use Rattle.sctp_delivery.specs.Session.{AfterEachSession, AreMade, AreMessages, AreRuns, Call, IsAccounted, ReceiverFollows, RunsTo, SenderFollows, Session, at_start, bytes_written, of_receiver, of_sender}
+use Rattle.sctp_delivery.specs.SenderCalls.{Made, SenderCall, Write, abandons, data_chunk, expires, expires_late, expires_rexmit, expires_tail, forward_tsn}
+use Rattle.sctp_delivery.specs.SenderCalls.{forwards, forwards_within, made_after, marks, misses, next_chunk, opens, resends, reserves, sends, sets_low}
+use Rattle.sctp_delivery.specs.SenderCalls.{sets_mode, sets_size, starts, takes_sack, with_chunk, writes, written_after}
+use Rattle.sctp_delivery.specs.Session.{AfterEachSession, AreMade, AreMessages, AreRuns, Call, IsAccounted, ReceiverFollows, RunsTo, SenderFollows, Session}
+use Rattle.sctp_delivery.specs.Session.{at_start, bytes_written, of_receiver, of_sender}
 
 -- ## Each host by itself
 
@@ -55,7 +58,8 @@ runs tsn size max most limits cs s r =
 
 -- ## Bytes
 
-written-more : (call : SenderCall) (ws : List Write) → sum_by (λ (w : Write). length w.bytes) (written_after call ws) ≡ sum_by (λ (w : Write). length w.bytes) ws + written_by (outgoing.as_run call)
+written-more : (call : SenderCall) (ws : List Write)
+    → sum_by (λ (w : Write). length w.bytes) (written_after call ws) ≡ sum_by (λ (w : Write). length w.bytes) ws + written_by (outgoing.as_run call)
 written-more (writes stream ppi []) ws = omega arith
 written-more (writes stream ppi (b ∷ bs)) ws =
     let e = sum_by-cons (λ (w : Write). length w.bytes) (record { stream = stream; payload_type = ppi; bytes = b ∷ bs }) ws in omega (arith, e)
@@ -170,17 +174,20 @@ all-pass p (c ∷ cs) e = by (p c) refl (all-pass p cs)
     by false h rest = let one : fails p c ≡ 1 = ap (λ b. if b then 0 else 1) h in absurd (omega (arith, e, more, one))
 
 -- what every fragment that was read on a stream passes, each message passes
-pub each-read : (p : ℕ → ChunkPayloadData → Bool) (ms : List Message) → ((st : ℕ) → sum_by (fails (p st)) (fragments_read st ms) ≡ 0) → list_all (λ m. list_all (p m.stream) m.fragments) ms ≡ true
+pub each-read : (p : ℕ → ChunkPayloadData → Bool) (ms : List Message) → ((st : ℕ) → sum_by (fails (p st)) (fragments_read st ms) ≡ 0)
+    → list_all (λ m. list_all (p m.stream) m.fragments) ms ≡ true
 each-read p [] h = refl
 each-read p (m ∷ ms) h = and (list_all (p m.stream) m.fragments) (list_all (λ x. list_all (p x.stream) x.fragments) ms) first (each-read p ms rest)
   where
     joined : sum_by (fails (p m.stream)) (m.fragments ++ fragments_read m.stream ms) ≡ 0
-    joined = ap (λ b. sum_by (fails (p m.stream)) (if b then m.fragments ++ fragments_read m.stream ms else fragments_read m.stream ms)) (sym (same-yes m.stream)) ∙ h m.stream
+    joined = ap (λ b. sum_by (fails (p m.stream)) (if b then m.fragments ++ fragments_read m.stream ms else fragments_read m.stream ms))
+        (sym (same-yes m.stream)) ∙ h m.stream
 
     first : list_all (p m.stream) m.fragments ≡ true
     first = let s = sum_by-append (fails (p m.stream)) m.fragments (fragments_read m.stream ms) in all-pass (p m.stream) m.fragments (omega (arith, joined, s))
 
-    by : (st : ℕ) (b : Bool) → sum_by (fails (p st)) (if b then m.fragments ++ fragments_read st ms else fragments_read st ms) ≡ 0 → sum_by (fails (p st)) (fragments_read st ms) ≡ 0
+    by : (st : ℕ) (b : Bool) → sum_by (fails (p st)) (if b then m.fragments ++ fragments_read st ms else fragments_read st ms) ≡ 0
+        → sum_by (fails (p st)) (fragments_read st ms) ≡ 0
     by st true e = let s = sum_by-append (fails (p st)) m.fragments (fragments_read st ms) in omega (arith, e, s)
     by st false e = e
 
@@ -230,7 +237,8 @@ more-made p (takes_sack sack gone) t ms e = e
 abbrev pub IsTakenMade : Session → Type 0
 IsTakenMade s = list_all (made_among s.made) s.receiving.accepted ≡ true
 
-kept-made : (call : ReceiverCall) (old new : Session) → ReceiverFollows call old new → new.receiving.accepted ≡ old.receiving.accepted → IsTakenMade old → IsTakenMade new
+kept-made : (call : ReceiverCall) (old new : Session) → ReceiverFollows call old new → new.receiving.accepted ≡ old.receiving.accepted → IsTakenMade old
+    → IsTakenMade new
 kept-made call old new f e h =
     ap (λ ms. list_all (made_among ms) new.receiving.accepted) (ap (λ (s : Session). s.made) f.after)
     ∙ (ap (list_all (made_among old.made)) e ∙ h)
@@ -249,7 +257,8 @@ taken-made (incoming.reads stream) old new f h = kept-made (incoming.reads strea
 sent-made : (call : SenderCall) (old new : Session) → SenderFollows call old new → IsTakenMade old → IsTakenMade new
 sent-made call old new f h =
     ap (λ (s : Session). list_all (made_among s.made) s.receiving.accepted) f.after
-    ∙ every (made_among old.made) (made_among (made_after call old.sending.sender old.made)) (λ c. more-made (is_made_so (data_of c)) call old.sending.sender old.made) old.receiving.accepted h
+    ∙ every (made_among old.made) (made_among (made_after call old.sending.sender old.made))
+    (λ c. more-made (is_made_so (data_of c)) call old.sending.sender old.made) old.receiving.accepted h
 
 pub all-made : (cs : List Call) (old new : Session) → RunsTo old cs new → IsTakenMade old → IsTakenMade new
 all-made [] old new r h = subst IsTakenMade (sym r) h
@@ -265,7 +274,8 @@ found-made ms d e =
     let a = Any-from_list_any (is_made_so d) ms e in
     subst (Contains ms) (so-made d a.1 a.4) (a.0, a.2, a.3)
 
-all-found : (ms : List Made) (read : List Message) → list_all (λ m. list_all (made_among ms) m.fragments) read ≡ true → All (λ m. All (λ c. Contains ms (data_chunk (data_of c))) m.fragments) read
+all-found : (ms : List Made) (read : List Message) → list_all (λ m. list_all (made_among ms) m.fragments) read ≡ true
+    → All (λ m. All (λ c. Contains ms (data_chunk (data_of c))) m.fragments) read
 all-found ms read e k d l =
     let m = slice_index_or read k d in
     let h = AllPass-from_list_all (λ (x : Message). list_all (made_among ms) x.fragments) read e k d l in
@@ -276,7 +286,8 @@ made tsn size max most limits cs s r =
     let start = at_start tsn size max most limits in
     let law = handed.accepted tsn most limits (receiver_calls cs) s.receiving (receiver-runs cs start s r) in
     let taken = all-made cs start s r refl in
-    all-found s.made s.receiving.read (each-read (λ _. made_among s.made) s.receiving.read (λ st. let l = law st (fails (made_among s.made)) in let z = none-fails (made_among s.made) (is_on st) s.receiving.accepted taken in omega (arith, l, z)))
+    all-found s.made s.receiving.read (each-read (λ _. made_among s.made) s.receiving.read (λ st. let l = law st (fails (made_among s.made)) in
+    let z = none-fails (made_among s.made) (is_on st) s.receiving.accepted taken in omega (arith, l, z)))
 
 pub messages : AfterEachSession AreMessages
 messages tsn size max most limits cs s r =
@@ -287,7 +298,8 @@ none-off : (st : ℕ) (cs : List ChunkPayloadData) → sum_by (fails (is_on st))
 none-off st [] = refl
 none-off st (c ∷ cs) = by (is_on st c) refl (none-off st cs)
   where
-    by : (b : Bool) → is_on st c ≡ b → sum_by (fails (is_on st)) (filter (is_on st) cs) ≡ 0 → sum_by (fails (is_on st)) (if b then c ∷ filter (is_on st) cs else filter (is_on st) cs) ≡ 0
+    by : (b : Bool) → is_on st c ≡ b → sum_by (fails (is_on st)) (filter (is_on st) cs) ≡ 0
+        → sum_by (fails (is_on st)) (if b then c ∷ filter (is_on st) cs else filter (is_on st) cs) ≡ 0
     by true e ih =
         let more = sum_by-cons (fails (is_on st)) c (filter (is_on st) cs) in
         let one : fails (is_on st) c ≡ 0 = ap (λ b. if b then 0 else 1) e in

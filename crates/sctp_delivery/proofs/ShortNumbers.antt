@@ -1,6 +1,7 @@
 -- Stream sequence numbers are numbers of 16 bits, in every reliable session: those of the streams, of what waits, of what is in flight,
 -- and of each DATA chunk that was made.
-use Rattle.std.proofs.Common.{◌≡◌, ℕ, ◌+◌, ◌%◌, ◌^◌, ◌<◌, Bool, true, false, List, [], ◌∷◌, length, map, take, drop, Option, Some, None, refl, sym, subst, arith}
+use Rattle.std.proofs.Common.{◌≡◌, ℕ, ◌+◌, ◌%◌, ◌^◌, ◌<◌, Bool, true, false, List, [], ◌∷◌, length, map, take, drop, Option, Some, None, refl, sym, subst}
+use Rattle.std.proofs.Common.{arith}
 use Rattle.std.specs.Prelude.{⊤, ◌==◌, ◌&&◌, if◌then◌else◌, nat_lt, not, option_map, slice_get}
 use Rattle.std.proofs.lemmas.Option.{none-some}
 use Rattle.sctp_list_lemmas.specs.Lists.{change_where}
@@ -11,7 +12,8 @@ use Rattle.sctp_data.specs.declared.chunk.chunk_payload_data.PayloadProtocolIden
 use Rattle.sctp_data.specs.PayloadTypes.{is_ordered}
 use Rattle.sctp_outbound.specs.Marks.{as_acknowledged, is_outstanding, with_retransmit}
 use Rattle.sctp_outbound.specs.outbound_queue.OutboundQueue.{Outbound, all_started, append_chunks, as_sent, sent_of, with_message, with_message_id}
-use Rattle.sctp_outbound.specs.pending_queue.PendingQueue.{Pending, front_of, is_to_start, list_of, list_to_pop, next_pending, next_pending_of, rest_from, rest_of, start_pending, with_deadline}
+use Rattle.sctp_outbound.specs.pending_queue.PendingQueue.{Pending, front_of, is_to_start, list_of, list_to_pop, next_pending, next_pending_of, rest_from}
+use Rattle.sctp_outbound.specs.pending_queue.PendingQueue.{rest_of, start_pending, with_deadline}
 use Rattle.sctp_serial.specs.DataChunks.{chunk_before, has_tsn}
 use Rattle.sctp_stream.specs.declared.stream.StreamState.{StreamState}
 use Rattle.sctp_stream.specs.Stream.{fragment_at, fragments_of}

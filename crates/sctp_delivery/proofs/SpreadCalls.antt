@@ -1,6 +1,7 @@
 -- In each session of few TSNs: how many more ordered messages of a stream were begun than up to the place acknowledged, and what each
 -- FORWARD-TSN names.
-use Rattle.std.proofs.Common.{◌≡◌, ℕ, ◌+◌, ◌-◌, ◌%◌, ◌^◌, ◌<◌, ◌≤◌, Bool, true, false, not, List, [], ◌∷◌, length, inl, inr, Option, Some, None, refl, ap, sym, subst, ◌∙◌, arith}
+use Rattle.std.proofs.Common.{◌≡◌, ℕ, ◌+◌, ◌-◌, ◌%◌, ◌^◌, ◌<◌, ◌≤◌, Bool, true, false, not, List, [], ◌∷◌, length, inl, inr, Option, Some, None, refl, ap, sym}
+use Rattle.std.proofs.Common.{subst, ◌∙◌, arith}
 use Rattle.std.specs.Prelude.{◌==◌, ◌&&◌, if◌then◌else◌, nat_le}
 use Rattle.std.proofs.lemmas.Option.{none-some}
 use Rattle.sctp_list_lemmas.specs.Serial.{distance}
@@ -57,7 +58,7 @@ same-past None c d e = refl
 same-past (Some x) c d e = ap (λ k. (k + (2 ^ 16 - x.stream_sequence_number)) % 2 ^ 16) e
 
 -- it is not too far, as what was found in front was not
-not-far : (t : Transmission) (now : ℕ) (c : ChunkPayloadData) → Some c ≡ next_chunk now t → send_refusal t.flight ≡ None → is_too_far t.flight c ≡ false
+pub not-far : (t : Transmission) (now : ℕ) (c : ChunkPayloadData) → Some c ≡ next_chunk now t → send_refusal t.flight ≡ None → is_too_far t.flight c ≡ false
 not-far t now c is none = by (next_pending t.flight.queue.pending) refl
   where
     allowed : (x : ChunkPayloadData) (m far : Bool) → (if not m then Some TsnsUsedUp else (if far then Some SsnsUsedUp else None)) ≡ None → far ≡ false
@@ -157,6 +158,7 @@ pub record Spreads (first n : ℕ) (call : SenderCall) (old new : Session) (ns :
   pub more : List Entry
   pub spread : IsSpread first (n + distance (next_tsn old) (next_tsn new)) new (numbered_after call ns) more
   pub once : IsOnceMore sent more
+  pub grown : IsMoreBy (sent_by call old.sending.sender) sent more
   pub rises : i.step.numbered.acked ≤ spread.step.numbered.acked
 
 pub sender-spreads : (first n : ℕ) (call : SenderCall) (old new : Session) (ns : List Numbered) (sent : List Entry) (i : IsSpread first n old ns sent)
@@ -197,6 +199,7 @@ sender-spreads first n call old new ns sent i few f =
             (names-after first n old ns sent i small call f.accepted st));
       };
       once = x.once;
+      grown = x.grown;
       rises = rises;
     }
 

@@ -1,6 +1,6 @@
 -- How many ordered messages of a stream were begun by the entries up to a place; and the entry that each chunk in flight stands for.
 use Rattle.std.proofs.Common.{◌≡◌, ℕ, ◌+◌, ◌%◌, ◌^◌, ◌<◌, ◌≤◌, Bool, true, false, not, List, [], ◌∷◌, length, inl, inr, refl, ap, sym, subst, ◌∙◌, arith}
-use Rattle.std.specs.Prelude.{◌==◌, ◌&&◌, if◌then◌else◌, nat_le}
+use Rattle.std.specs.Prelude.{⊤, ◌==◌, ◌&&◌, if◌then◌else◌, nat_le}
 use Rattle.std.proofs.lemmas.Bool.{cases_lt}
 use Rattle.std.proofs.lemmas.Bool.Decides.{nat_tests}
 use Rattle.sctp_list_lemmas.proofs.Cases.{negated, same-is, same-yes}
@@ -9,7 +9,8 @@ use Rattle.sctp_list_lemmas.proofs.Round.{tsn}
 use Rattle.sctp_data.specs.declared.chunk.chunk_payload_data.ChunkPayloadData.{ChunkPayloadData}
 use Rattle.sctp_data.specs.PayloadData.{Data, data_of}
 use Rattle.sctp_sender.specs.Numbers.{is_ordered_on}
-use Rattle.sctp_delivery.proofs.OrderedEntries.{AreIndexed, AreJoined, IsIndexed, IsLatest, IsNumberOf, Joins, begins-inner, begins_on, begun_on, ends_on, latest-here, one, part-fewer, part-indexed}
+use Rattle.sctp_delivery.proofs.OrderedEntries.{AreIndexed, AreJoined, IsIndexed, IsLatest, IsNumberOf, Joins, begins-inner, begins_on, begun_on, ends_on}
+use Rattle.sctp_delivery.proofs.OrderedEntries.{latest-here, one, part-fewer, part-indexed}
 use Rattle.sctp_delivery.proofs.Sent.{Entry, IsLine, IsPart, Numbered, WasSent, fragment, part-itself, part-length, part-line, same-parts, tail-part, terminal}
 use Rattle.sctp_delivery.proofs.TsnPlaces.{base}
 
@@ -23,6 +24,21 @@ pub record IsStep (st before upto : ℕ) (c : ChunkPayloadData) : Type 0 where
   pub other : is_ordered_on st c ≡ false → upto ≡ before
   pub number : is_ordered_on st c ≡ true → IsLatest upto c.stream_sequence_number
 
+-- the entry is a terminal chunk, or a fragment of the chunk's message that ends it where the chunk does
+abbrev pub IsFor : ChunkPayloadData → Entry → Type 0
+IsFor c terminal = ⊤
+IsFor c (fragment d w after) = (w.place ≡ c.message_id) × (d.ending_fragment ≡ c.ending_fragment)
+
+-- it is a terminal chunk, or a fragment that ends its message
+abbrev pub ends_message : Entry → Bool
+ends_message terminal = true
+ends_message (fragment d w after) = d.ending_fragment
+
+-- so where the chunk ends its message
+pub ends-for : (c : ChunkPayloadData) (e : Entry) → IsFor c e → c.ending_fragment ≡ true → ends_message e ≡ true
+ends-for c terminal for ends = refl
+ends-for c (fragment d w after) for ends = for.1 ∙ ends
+
 -- the chunk stands for the entry with its TSN
 pub record IsPlaced (first : ℕ) (sent : List Entry) (c : ChunkPayloadData) : Type 0 where
   pub entry : Entry
@@ -31,6 +47,7 @@ pub record IsPlaced (first : ℕ) (sent : List Entry) (c : ChunkPayloadData) : T
   pub number : c.tsn ≡ (first + length entries) % 2 ^ 32
   pub step : (st : ℕ) → IsStep st (begun_on st entries) (begun_on st (entry ∷ entries)) c
   pub on : (st : ℕ) → is_ordered_on st c ≡ ends_on st (entry ∷ entries)
+  pub for' : IsFor c entry
 
 one-most : (b : Bool) → one b ≤ 1
 one-most true = omega arith
@@ -80,8 +97,12 @@ step-alike st before upto c d on kind same s =
       number = λ e. subst (IsLatest upto) (sym same) (s.number (is ∙ e));
     }
 
+pub for-alike : (c d : ChunkPayloadData) (x : Entry) → d.message_id ≡ c.message_id → d.ending_fragment ≡ c.ending_fragment → IsFor c x → IsFor d x
+for-alike c d terminal m e f = tt
+for-alike c d (fragment x w after) m e f = (f.0 ∙ sym m, f.1 ∙ sym e)
+
 pub placed-more : (first : ℕ) (x : Entry) (sent : List Entry) (c : ChunkPayloadData) → IsPlaced first sent c → IsPlaced first (x ∷ sent) c
-placed-more first x sent c i = record { entry = i.entry; entries = i.entries; part = inr i.part; number = i.number; step = i.step; on = i.on }
+placed-more first x sent c i = record { entry = i.entry; entries = i.entries; part = inr i.part; number = i.number; step = i.step; on = i.on; for' = i.for' }
 
 -- an ordered one has the number of a message that was begun
 pub number-of : (first : ℕ) (sent : List Entry) (c : ChunkPayloadData) → IsPlaced first sent c → c.unordered ≡ false
@@ -178,7 +199,7 @@ pub joined-rest : (y : Entry) (ys : List Entry) → AreJoined (y ∷ ys) → Are
 joined-rest terminal ys j = j
 joined-rest (fragment d w after) ys j = j.1
 
-part-joined : (xs ys : List Entry) → IsPart ys xs → AreJoined xs → AreJoined ys
+pub part-joined : (xs ys : List Entry) → IsPart ys xs → AreJoined xs → AreJoined ys
 part-joined [] ys p j = subst AreJoined (sym p) j
 part-joined (x ∷ xs) ys (inl e) j = subst AreJoined (sym e) j
 part-joined (x ∷ xs) ys (inr p) j = part-joined xs ys p (joined-rest x xs j)

@@ -1,5 +1,6 @@
 -- What is in flight, place by place: how far the numbers of ordered messages are apart, and which of them a FORWARD-TSN names.
-use Rattle.std.proofs.Common.{◌≡◌, ℕ, zero, suc, ◌+◌, ◌-◌, ◌%◌, ◌^◌, ◌<◌, ◌≤◌, Bool, true, false, not, List, [], ◌∷◌, length, take, ◌⊎◌, inl, inr, Option, Some, None, refl, ap, sym, subst, ◌∙◌, arith}
+use Rattle.std.proofs.Common.{◌≡◌, ℕ, zero, suc, ◌+◌, ◌-◌, ◌%◌, ◌^◌, ◌<◌, ◌≤◌, Bool, true, false, not, List, [], ◌∷◌, length, take, ◌⊎◌, inl, inr, Option, Some}
+use Rattle.std.proofs.Common.{None, refl, ap, sym, subst, ◌∙◌, arith}
 use Rattle.std.specs.Prelude.{⊤, ◌&&◌, if◌then◌else◌, nat_le}
 use Rattle.std.specs.List.{filter, find}
 use Rattle.std.proofs.lemmas.Bool.{cases_lt}
@@ -279,8 +280,8 @@ IsMadeNaming st p a sent (data_chunk d) = ⊤
 IsMadeNaming st p a sent (forward_tsn g) = IsNaming st p a sent g
 
 pub named : (st p n : ℕ) (sent : List Entry) (f : Flight) (h : IsNumbered p n f) (few : n < 2 ^ 31) → length sent ≡ n
-    → AreSteps st sent h.acked f.queue.inflight.chunks → AreOn st sent h.acked f.queue.inflight.chunks → (g : ForwardTsn) → IsPassable p n f h few g.new_cumulative_tsn
-    → Name g.streams (named_up_to g.new_cumulative_tsn f) → IsNaming st p h.acked sent g
+    → AreSteps st sent h.acked f.queue.inflight.chunks → AreOn st sent h.acked f.queue.inflight.chunks → (g : ForwardTsn)
+    → IsPassable p n f h few g.new_cumulative_tsn → Name g.streams (named_up_to g.new_cumulative_tsn f) → IsNaming st p h.acked sent g
 named st p n sent f h few long s o g i name = record {
   place = i.given.place;
   within = let w = i.given.within in omega (arith, w, long);
@@ -326,18 +327,22 @@ pub naming-later : (st p a b : ℕ) (sent more : List Entry) → a ≤ b → a �
 naming-later st p a b sent more le within once (data_chunk d) i = tt
 naming-later st p a b sent more le within once (forward_tsn g) i = by once
   where
-    tells : (ys : List Entry) → ((k : ℕ) → k ≤ i.place → is_at st k ys ≡ is_at st k sent) → begun_to st i.place ys ≡ begun_to st i.place sent → begun_to st a ys ≡ begun_to st a sent → Tells st b i.place ys g.streams
+    tells : (ys : List Entry) → ((k : ℕ) → k ≤ i.place → is_at st k ys ≡ is_at st k sent) → begun_to st i.place ys ≡ begun_to st i.place sent
+        → begun_to st a ys ≡ begun_to st a sent → Tells st b i.place ys g.streams
     tells ys z x y = on i.tells
       where
         on : Tells st a i.place sent g.streams → Tells st b i.place ys g.streams
-        on (inl t) = let up = to-up st a b ys le in let w = t.1 in inl (t.0, omega (arith, up, w, x, y), λ k lt most. z k most ∙ t.2 k (omega (arith, lt, le)) most)
+        on (inl t) = let up = to-up st a b ys le in let w = t.1 in
+            inl (t.0, omega (arith, up, w, x, y), λ k lt most. z k most ∙ t.2 k (omega (arith, lt, le)) most)
         on (inr t) = let w = t.1 in inr (t.0, omega (arith, w, x), t.2)
 
     by : IsOnceMore sent more → IsNaming st p b more g
-    by (inl e) = subst (λ ys. IsNaming st p b ys g) (sym e) (record { place = i.place; within = i.within; is = i.is; tells = tells sent (λ k most. refl) refl refl })
+    by (inl e) =
+        subst (λ ys. IsNaming st p b ys g) (sym e) (record { place = i.place; within = i.within; is = i.is; tells = tells sent (λ k most. refl) refl refl })
     by (inr x) = subst (λ ys. IsNaming st p b ys g) (sym x.1) (record {
       place = i.place;
       within = let w = i.within in omega (arith, w);
       is = i.is;
-      tells = tells (x.0 ∷ sent) (λ k most. at-more st k x.0 sent (let w = i.within in omega (arith, most, w))) (to-more st i.place x.0 sent i.within) (to-more st a x.0 sent within);
+      tells = tells (x.0 ∷ sent) (λ k most. at-more st k x.0 sent (let w = i.within in omega (arith, most, w))) (to-more st i.place x.0 sent i.within)
+          (to-more st a x.0 sent within);
     })

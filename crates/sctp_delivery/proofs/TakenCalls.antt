@@ -43,7 +43,7 @@ more-come p m n r cs le t = record {
 }
 
 -- one that did not come is not among them
-not-among : (p n : ℕ) (r : Reception) (cs : List ChunkPayloadData) (t : ℕ) → come t r.cumulative_tsn r.beyond ≡ false → Every (HasCome p n r) cs → list_any
+pub not-among : (p n : ℕ) (r : Reception) (cs : List ChunkPayloadData) (t : ℕ) → come t r.cumulative_tsn r.beyond ≡ false → Every (HasCome p n r) cs → list_any
     (has_tsn t) cs ≡ false
 not-among p n r cs t fresh h =
     fails (list_any (has_tsn t) cs) (λ e. let one = one-of (HasCome p n r) (has_tsn t) cs e h in not_both
@@ -57,7 +57,7 @@ fresh-new t told r e = by (has_come t (filter_of r)) e
     by false i = refl
 
 module _ (p n : ℕ) (r : Reception) (kn : ℕ → Bool) (few : n < 2 ^ 31) (h : IsHeard p n kn r.cumulative_tsn r.beyond) where
-  beyond-given : Every (IsGiven p n) r.beyond
+  pub beyond-given : Every (IsGiven p n) r.beyond
   beyond-given = every-of (IsKnown p n kn) (IsGiven p n) (λ t k. record { place = k.place; some = k.some; within = k.within; is = k.is }) r.beyond h.each
 
   module _ (t : ℕ) (g : IsGiven p n t) where

@@ -1,19 +1,20 @@
--- What a receiver holds of a reliable session stands in order: ordered fragments by TSNs in each set, and unordered ones, of which no
+-- What a receiver holds stands in order: ordered fragments by TSNs in each set, and unordered ones, of which no
 -- message is whole.
-use Rattle.std.proofs.Common.{◌≡◌, ℕ, suc, ◌+◌, ◌^◌, ◌<◌, Bool, true, false, List, [], ◌∷◌, length, take, drop, Some, None, refl, ap, sym, subst, ◌∙◌, arith}
+use Rattle.std.proofs.Common.{◌≡◌, ℕ, suc, ◌+◌, ◌^◌, ◌<◌, Bool, true, false, List, [], ◌∷◌, length, take, drop, Some, None, refl, ap, sym, subst, arith}
 use Rattle.std.specs.Prelude.{if◌then◌else◌, remove}
 use Rattle.std.specs.List.{list_any}
 use Rattle.sctp_list_lemmas.specs.Lists.{change_first, insert_before}
+use Rattle.sctp_list_lemmas.specs.Serial.{comes_before16}
 use Rattle.sctp_data.specs.declared.chunk.chunk_payload_data.ChunkPayloadData.{ChunkPayloadData}
 use Rattle.sctp_data.specs.ChunkSet.{ChunkSet}
 use Rattle.sctp_reassembly.specs.reassembly_queue.Fragments.{has_ssn, new_set, set_before, sets_with, with_chunk}
-use Rattle.sctp_reassembly.specs.reassembly_queue.ReassemblyQueue.{BecomesComplete, Reassembly, ReassemblyState, after_read, front_readable, held_after_ordered_push, is_readable, rest_among, rest_read, set_of_run, without_first}
+use Rattle.sctp_reassembly.specs.reassembly_queue.ReassemblyQueue.{BecomesComplete, Reassembly, ReassemblyState, after_read, front_readable}
+use Rattle.sctp_reassembly.specs.reassembly_queue.ReassemblyQueue.{held_after_ordered_push, is_readable, rest_among, rest_read, set_of_run, without_first}
 use Rattle.sctp_reassembly.proofs.lemmas.reassembly_queue.TakenRuns.{mark_after_take}
 use Rattle.sctp_receiver.specs.Inbound.{Pushes, PushesAs}
 use Rattle.sctp_serial.specs.DataChunks.{chunk_before, has_tsn}
 use Rattle.sctp_serial.specs.Runs.{HasNoRun}
 use Rattle.sctp_delivery.proofs.Every.{Every, every-inserted, every-joined, every-left, every-taken}
-use Rattle.sctp_delivery.proofs.KeptSets.{IsInTurn, IsNear, put-in}
 use Rattle.sctp_delivery.proofs.Rising.{Ascend, IsPlaced, ascend-cut, ascend-inserted, ascend-serial}
 
 abbrev pub IsOrdered : ChunkPayloadData → Type 0
@@ -28,6 +29,10 @@ IsTidySet p n s = Ascend p n 0 s.chunks × Every IsOrdered s.chunks
 abbrev IsWhole : ChunkSet → Type 0
 IsWhole s = Every IsUnordered s.chunks
 
+-- a chunk with the TSN of a place
+abbrev pub IsFit : ℕ → ℕ → ChunkPayloadData → Type 0
+IsFit p n c = (k : ℕ) × IsPlaced p n 0 k c
+
 pub record IsTidy (p n : ℕ) (q : Reassembly) : Type 0 where
   pub sets : Every (IsTidySet p n) q.ordered
   pub whole : Every IsWhole q.unordered
@@ -37,7 +42,7 @@ pub record IsTidy (p n : ℕ) (q : Reassembly) : Type 0 where
 
 -- ## A fragment comes
 
-every-first : {A : Type 0} (P : A → Type 0) (p : A → Bool) (f : A → A) (xs : List A) → Every (λ x. P x × (p x ≡ true → P (f x))) xs
+pub every-first : {A : Type 0} (P : A → Type 0) (p : A → Bool) (f : A → A) (xs : List A) → Every (λ x. P x × (p x ≡ true → P (f x))) xs
     → Every P (change_first p f xs)
 every-first P p f [] e = tt
 every-first P p f (x ∷ xs) e = by (p x) refl (every-first P p f xs e.1)
@@ -113,22 +118,25 @@ module _ (p n : ℕ) (few : n < 2 ^ 31) where
           none = mark_after_take true true xs i.0 b.first b.count i.1 (subst HasNoRun (sym i.2) t.none) (ascend-serial p n few 0 xs up) b.run.run;
         })
 
-    pub pushed-tidy : (told : Bool) (old new : ReassemblyState) → Pushes x told old new → (t : IsInTurn old.held)
-        → (x.unordered ≡ false → IsNear t.index x.stream_sequence_number)
+    pub pushed-tidy : (told : Bool) (old new : ReassemblyState) → Pushes x told old new
         → Every (λ (s : ChunkSet). list_any (has_tsn x.tsn) s.chunks ≡ false) old.held.ordered → list_any (has_tsn x.tsn) old.held.unassembled ≡ false
         → IsTidy p n old.held → IsTidy p n new.held
-    pushed-tidy told old new h t near fresh none y = by x.unordered refl h
+    pushed-tidy told old new h fresh none y = by x.unordered refl h
       where
+        put-or-not : x.unordered ≡ false → (b : Bool) → IsTidy p n (if b then old.held else record old.held { ordered = sets_with x old.held.ordered })
+        put-or-not u true = y
+        put-or-not u false = record {
+          sets = sets-tidy u old.held.ordered fresh y.sets;
+          whole = y.whole;
+          unassembled = y.unassembled;
+          kinds = y.kinds;
+          none = y.none;
+        }
+
         by : (b : Bool) → x.unordered ≡ b → PushesAs b x told old new → IsTidy p n new.held
         by false u e =
             let held : new.held ≡ held_after_ordered_push x old.held = ap (λ (q : ReassemblyState). q.held) e.0 in
-            subst (IsTidy p n) (sym (held ∙ put-in x old.held t (near u))) (record {
-              sets = sets-tidy u old.held.ordered fresh y.sets;
-              whole = y.whole;
-              unassembled = y.unassembled;
-              kinds = y.kinds;
-              none = y.none;
-            })
+            subst (IsTidy p n) (sym held) (put-or-not u (comes_before16 x.stream_sequence_number old.held.next_ssn))
         by true u e = unassembled-tidy old.held new.held told u none e.0 y
 
   -- ## A message is read

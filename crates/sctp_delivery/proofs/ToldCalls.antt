@@ -42,7 +42,7 @@ IsInOrder r = IsAscending (filter_of r)
 
 module _ (p n : ℕ) (r : Reception) (kn : ℕ → Bool) (few : n < 2 ^ 31) (h : IsHeard p n kn r.cumulative_tsn r.beyond) (a : IsInOrder r) where
   -- one that was given out is not half the circle away
-  near : (t : ℕ) → IsGiven p n t → is_opposite t (filter_of r) ≡ false
+  pub near : (t : ℕ) → IsGiven p n t → is_opposite t (filter_of r) ≡ false
   near t g =
       let in' = g.within in
       let within = h.within in

@@ -36,11 +36,13 @@ pub turns-behind : (s : ℕ) (xs ys : List ChunkPayloadData) (n m next : ℕ) �
 turns-behind s [] ys n m next t u = subst (λ k. Turns s ys k next) (sym t) u
 turns-behind s (c ∷ cs) ys n m next t u = (t.0, turns-behind s cs ys (number_after (counts s c) n) m next t.1 u)
 
-pub turns-started : (s now : ℕ) (p : ChunkPayloadData → Bool) (cs : List ChunkPayloadData) (n next : ℕ) → Turns s cs n next → Turns s (change_where p (with_deadline now) cs) n next
+pub turns-started : (s now : ℕ) (p : ChunkPayloadData → Bool) (cs : List ChunkPayloadData) (n next : ℕ) → Turns s cs n next
+    → Turns s (change_where p (with_deadline now) cs) n next
 turns-started s now p [] n next t = t
 turns-started s now p (c ∷ cs) n next t = by (p c) (turns-started s now p cs (number_after (counts s c) n) next t.1)
   where
-    by : (b : Bool) → Turns s (change_where p (with_deadline now) cs) (number_after (counts s c) n) next → Turns s ((if b then with_deadline now c else c) ∷ change_where p (with_deadline now) cs) n next
+    by : (b : Bool) → Turns s (change_where p (with_deadline now) cs) (number_after (counts s c) n) next
+        → Turns s ((if b then with_deadline now c else c) ∷ change_where p (with_deadline now) cs) n next
     by true ih = (t.0, ih)
     by false ih = (t.0, ih)
 
@@ -61,33 +63,41 @@ pub without-none : (m : ℕ) (cs : List ChunkPayloadData) → list_any (is_of m)
 without-none m [] e = refl
 without-none m (c ∷ cs) e = by (c.message_id == m) e (without-none m cs)
   where
-    by : (b : Bool) → (b || list_any (is_of m) cs) ≡ false → (list_any (is_of m) cs ≡ false → without_message m cs ≡ cs) → (if not b then c ∷ without_message m cs else without_message m cs) ≡ c ∷ cs
+    by : (b : Bool) → (b || list_any (is_of m) cs) ≡ false → (list_any (is_of m) cs ≡ false → without_message m cs ≡ cs)
+        → (if not b then c ∷ without_message m cs else without_message m cs) ≡ c ∷ cs
     by true h ih = absurd (not_both (sym h))
     by false h ih = ap (λ ds. c ∷ ds) (ih h)
 
-pub turns-rest : (s m below : ℕ) (kind : Bool) (cs : List ChunkPayloadData) (n next : ℕ) → IsWhole kind below (begun m) cs → Turns s cs n next → Turns s (without_message m cs) n next
+pub turns-rest : (s m below : ℕ) (kind : Bool) (cs : List ChunkPayloadData) (n next : ℕ) → IsWhole kind below (begun m) cs → Turns s cs n next
+    → Turns s (without_message m cs) n next
 turns-rest s m below kind [] n next w t = absurd w
 turns-rest s m below kind (c ∷ cs) n next w t =
     let here : (c.message_id == m) ≡ true = subst (λ j. (j == m) ≡ true) (sym w.0.1) (same-yes m) in
     let later = turns-past s c cs n next (inner-not s c w.0.0) t in
-    subst (λ b. Turns s (if not b then c ∷ without_message m cs else without_message m cs) n next) (sym here) (by c.ending_fragment w.3 later (λ v. turns-rest s m below kind cs n next v later))
+    subst (λ b. Turns s (if not b then c ∷ without_message m cs else without_message m cs) n next) (sym here)
+    (by c.ending_fragment w.3 later (λ v. turns-rest s m below kind cs n next v later))
   where
-    by : (b : Bool) → IsWhole kind below (if b then free (c.message_id + 1) else begun c.message_id) cs → Turns s cs n next → (IsWhole kind below (begun m) cs → Turns s (without_message m cs) n next) → Turns s (without_message m cs) n next
+    by : (b : Bool) → IsWhole kind below (if b then free (c.message_id + 1) else begun c.message_id) cs → Turns s cs n next
+        → (IsWhole kind below (begun m) cs → Turns s (without_message m cs) n next) → Turns s (without_message m cs) n next
     by true v u ih =
         let past : m < c.message_id + 1 = omega (arith, w.0.1) in
         subst (λ ds. Turns s ds n next) (sym (without-none m cs (none_before kind below m (free (c.message_id + 1)) cs past v))) u
     by false v u ih = ih (subst (λ j. IsWhole kind below (begun j) cs) w.0.1 v)
 
 -- a message in front leaves as a whole
-pub turns-first : (s below : ℕ) (kind : Bool) (c : ChunkPayloadData) (cs : List ChunkPayloadData) (n next : ℕ) → IsWhole kind below (free 0) (c ∷ cs) → Turns s (c ∷ cs) n next → Turns s (without_message c.message_id (c ∷ cs)) (number_after (counts s c) n) next
+pub turns-first : (s below : ℕ) (kind : Bool) (c : ChunkPayloadData) (cs : List ChunkPayloadData) (n next : ℕ) → IsWhole kind below (free 0) (c ∷ cs)
+    → Turns s (c ∷ cs) n next → Turns s (without_message c.message_id (c ∷ cs)) (number_after (counts s c) n) next
 turns-first s below kind c cs n next w t =
     let here : (c.message_id == c.message_id) ≡ true = same-yes c.message_id in
-    subst (λ b. Turns s (if not b then c ∷ without_message c.message_id cs else without_message c.message_id cs) (number_after (counts s c) n) next) (sym here) (by c.ending_fragment w.3)
+    subst (λ b. Turns s (if not b then c ∷ without_message c.message_id cs else without_message c.message_id cs) (number_after (counts s c) n) next) (sym here)
+    (by c.ending_fragment w.3)
   where
-    by : (b : Bool) → IsWhole kind below (if b then free (c.message_id + 1) else begun c.message_id) cs → Turns s (without_message c.message_id cs) (number_after (counts s c) n) next
+    by : (b : Bool) → IsWhole kind below (if b then free (c.message_id + 1) else begun c.message_id) cs
+        → Turns s (without_message c.message_id cs) (number_after (counts s c) n) next
     by true v =
         let past : c.message_id < c.message_id + 1 = omega arith in
-        subst (λ ds. Turns s ds (number_after (counts s c) n) next) (sym (without-none c.message_id cs (none_before kind below c.message_id (free (c.message_id + 1)) cs past v))) t.1
+        subst (λ ds. Turns s ds (number_after (counts s c) n) next)
+        (sym (without-none c.message_id cs (none_before kind below c.message_id (free (c.message_id + 1)) cs past v))) t.1
     by false v = turns-rest s c.message_id below kind cs (number_after (counts s c) n) next v t.1
 
 -- ## Numbers one lower
@@ -103,10 +113,12 @@ turns-lower s (c ∷ cs) n next t = by (c.stream_identifier == s) refl (turns-lo
     numbered : counts s c ≡ true → lower c.stream_sequence_number ≡ lower n
     numbered e = ap lower (t.0 e)
 
-    moved : Turns s (change_where (is_on s) one_lower cs) (lower (number_after (counts s c) n)) (lower next) → Turns s (change_where (is_on s) one_lower cs) (number_after (counts s c) (lower n)) (lower next)
+    moved : Turns s (change_where (is_on s) one_lower cs) (lower (number_after (counts s c) n)) (lower next)
+        → Turns s (change_where (is_on s) one_lower cs) (number_after (counts s c) (lower n)) (lower next)
     moved ih = subst (λ k. Turns s (change_where (is_on s) one_lower cs) k (lower next)) (lower-after (counts s c) n) ih
 
-    by : (b : Bool) → (c.stream_identifier == s) ≡ b → Turns s (change_where (is_on s) one_lower cs) (lower (number_after (counts s c) n)) (lower next) → Turns s ((if b then one_lower c else c) ∷ change_where (is_on s) one_lower cs) (lower n) (lower next)
+    by : (b : Bool) → (c.stream_identifier == s) ≡ b → Turns s (change_where (is_on s) one_lower cs) (lower (number_after (counts s c) n)) (lower next)
+        → Turns s ((if b then one_lower c else c) ∷ change_where (is_on s) one_lower cs) (lower n) (lower next)
     by true e ih = (numbered, moved ih)
     by false e ih = (λ h. absurd (not_both (sym e ∙ (both (c.stream_identifier == s) c.beginning_fragment h).0)), moved ih)
 
@@ -115,6 +127,10 @@ pub turns-other : (r s : ℕ) → (r ≡ s → ⊥) → (cs : List ChunkPayloadD
 turns-other r s differ [] n next t = t
 turns-other r s differ (c ∷ cs) n next t = by (c.stream_identifier == s) refl (turns-other r s differ cs (number_after (counts r c) n) next t.1)
   where
-    by : (b : Bool) → (c.stream_identifier == s) ≡ b → Turns r (change_where (is_on s) one_lower cs) (number_after (counts r c) n) next → Turns r ((if b then one_lower c else c) ∷ change_where (is_on s) one_lower cs) n next
-    by true e ih = (λ h. absurd (differ (sym (same-is c.stream_identifier r (both (c.stream_identifier == r) c.beginning_fragment h).0) ∙ same-is c.stream_identifier s e)), ih)
+    by : (b : Bool) → (c.stream_identifier == s) ≡ b → Turns r (change_where (is_on s) one_lower cs) (number_after (counts r c) n) next
+        → Turns r ((if b then one_lower c else c) ∷ change_where (is_on s) one_lower cs) n next
+    by true e ih = (
+      λ h. absurd (differ (sym (same-is c.stream_identifier r (both (c.stream_identifier == r) c.beginning_fragment h).0) ∙ same-is c.stream_identifier s e)),
+      ih,
+    )
     by false e ih = (t.0, ih)

@@ -1,5 +1,6 @@
 -- In each session the indexes of the ordered messages that are read on a stream rise: a call of the receiver.
-use Rattle.std.proofs.Common.{◌≡◌, ℕ, ◌+◌, ◌%◌, ◌^◌, ◌<◌, ◌≤◌, Bool, true, false, not, List, [], ◌∷◌, ◌++◌, map, Option, Some, None, inl, inr, refl, ap, sym, subst, ◌∙◌, arith}
+use Rattle.std.proofs.Common.{◌≡◌, ℕ, ◌+◌, ◌%◌, ◌^◌, ◌<◌, ◌≤◌, Bool, true, false, not, List, [], ◌∷◌, ◌++◌, map, Option, Some, None, inl, inr, refl, ap, sym}
+use Rattle.std.proofs.Common.{subst, ◌∙◌, arith}
 use Rattle.std.specs.Prelude.{◌⊎◌, ◌==◌, ◌&&◌, if◌then◌else◌, find, is_some, nat_le, nat_lt, option_map}
 use Rattle.std.specs.List.{filter, list_any}
 use Rattle.std.specs.Option.{option_or}
@@ -36,23 +37,25 @@ use Rattle.sctp_sender.proofs.Lates.{found-passes}
 use Rattle.sctp_delivery.proofs.Every.{Every, every-inserted, every-of, every-passing}
 use Rattle.sctp_delivery.proofs.TakenTsns.{come}
 use Rattle.sctp_delivery.proofs.TsnPlaces.{at-or-before, before, same-place}
-use Rattle.sctp_delivery.proofs.UnwrappedReads.{AreSets, Gone, IsDue, IsKeptAt, has_place, in-window, incomplete-due, name-due, push-ordered, push-unordered, read-due, recame, unassembled-due}
+use Rattle.sctp_delivery.proofs.UnwrappedReads.{AreSets, Gone, IsDue, IsKeptAt, has_place, in-window, incomplete-due, name-due, push-ordered, push-unordered}
+use Rattle.sctp_delivery.proofs.UnwrappedReads.{read-due, recame, unassembled-due}
 use Rattle.sctp_delivery.proofs.UnwrappedHolds as holds
 use Rattle.sctp_delivery.proofs.UnwrappedHolds.{advance-back, advanced, at-in, beyond-more, misses-upto, neither, on-of, rises-put, turn-more}
 use Rattle.sctp_delivery.proofs.OrderedMessages.{starts_ordered}
 
 -- ## Streams by their numbers
 
-module _ (s : ℕ) (f : InboundStream → InboundStream) (keeps : (l : InboundStream) → has_number s l ≡ true → number (f l) ≡ number l) (ls : List InboundStream) where
-  changed-here : (x : InboundStream) → find (has_number s) ls ≡ Some x → find (has_number s) (change_where (has_number s) f ls) ≡ Some (f x)
+module _ (s : ℕ) (f : InboundStream → InboundStream) (keeps : (l : InboundStream) → has_number s l ≡ true → number (f l) ≡ number l)
+    (ls : List InboundStream) where
+  pub changed-here : (x : InboundStream) → find (has_number s) ls ≡ Some x → find (has_number s) (change_where (has_number s) f ls) ≡ Some (f x)
   changed-here x e =
       found-changed s s f keeps ls ∙ ap (option_map (λ l. if has_number s l then f l else l)) e
       ∙ ap (λ b. Some (if b then f x else x)) (found-passes (has_number s) ls x e)
 
-  changed-none : find (has_number s) ls ≡ None → find (has_number s) (change_where (has_number s) f ls) ≡ None
+  pub changed-none : find (has_number s) ls ≡ None → find (has_number s) (change_where (has_number s) f ls) ≡ None
   changed-none e = found-changed s s f keeps ls ∙ ap (option_map (λ l. if has_number s l then f l else l)) e
 
-  changed-elsewhere : (st : ℕ) → (s == st) ≡ false → find (has_number st) (change_where (has_number s) f ls) ≡ find (has_number st) ls
+  pub changed-elsewhere : (st : ℕ) → (s == st) ≡ false → find (has_number st) (change_where (has_number s) f ls) ≡ find (has_number st) ls
   changed-elsewhere st differ = found-changed s st f keeps ls ∙ by (find (has_number st) ls) refl
     where
       by : (o : Option InboundStream) → find (has_number st) ls ≡ o → option_map (λ l. if has_number s l then f l else l) o ≡ o
@@ -242,7 +245,8 @@ module _ (p st n : ℕ) (B : ℕ → ℕ) (E : ℕ → Bool) (M : ChunkPayloadDa
           most = most;
           heard =
               subst (λ (r : Reception). Covers more d.heard.place r.cumulative_tsn r.beyond) (sym acc.after)
-              (advanced p st n B E M few up more d.heard.place old.receiver.cumulative_tsn (insert_before comes_before c.tsn old.receiver.beyond) (inserted more le so));
+              (advanced p st n B E M few up more d.heard.place old.receiver.cumulative_tsn (insert_before comes_before c.tsn old.receiver.beyond)
+              (inserted more le so));
         }
 
         ordered : is_ordered_on st c ≡ true → AreDue d.heard.place new
@@ -281,7 +285,8 @@ module _ (p st n : ℕ) (B : ℕ → ℕ) (E : ℕ → Bool) (M : ChunkPayloadDa
                 let z = h.covered in
                 let m = d.most in
                 let b = o.1 in
-                in-window p n B Fits Old (at-in p st n B E M few up) d.k d.reach i c.stream_sequence_number acc.stream.queue.held dd o.2 (omega (arith, m, near, y, x, b))
+                in-window p n B Fits Old (at-in p st n B E M few up) d.k d.reach i c.stream_sequence_number acc.stream.queue.held dd o.2
+                (omega (arith, m, near, y, x, b))
                 (omega (arith, top, near, y, z, b))
                 (ap (λ b. not b && is_ssn_too_far c.stream_sequence_number acc.stream.queue.held) (sym kind) ∙ (ap (is_too_far_on c) (sym acc.found) ∙ close))
 
@@ -292,7 +297,8 @@ module _ (p st n : ℕ) (B : ℕ → ℕ) (E : ℕ → Bool) (M : ChunkPayloadDa
             put more le lt far most =
                 let b = o.1 in
                 let at : has_tsn (tsn p (g.before + 1)) c ≡ true = eq-eqb c.tsn (tsn p (g.before + 1)) g.is in
-                let x = push-ordered p n B Fits Old (at-in p st n B E M few up) d.k d.reach more i (g.before + 1) c told acc.stream.queue acc.queue dd kind (of, omega arith, tt)
+                let x = push-ordered p n B Fits Old (at-in p st n B E M few up) d.k d.reach more i (g.before + 1) c told acc.stream.queue acc.queue dd kind
+                (of, omega arith, tt)
                 (λ cs none r. rises-put p st n B E M few up i 0 c cs of (omega arith) none r) o.2 at o.1 window.0 window.1 le lt far acc.pushed in
                 build more le most
                 (subst (DueOn (Came new.receiver.cumulative_tsn new.receiver.beyond) d.k more) (sym (streams-here same))
@@ -303,7 +309,8 @@ module _ (p st n : ℕ) (B : ℕ → ℕ) (E : ℕ → Bool) (M : ChunkPayloadDa
 
         other : is_ordered_on st c ≡ false → AreDue d.heard.place new
         other e = build d.reach (omega arith) d.most
-            (on-of p st n B E M few up Old (Came new.receiver.cumulative_tsn new.receiver.beyond) less d.k d.reach (stream_of st new.receiver) (by (sid == st) refl e))
+            (on-of p st n B E M few up Old (Came new.receiver.cumulative_tsn new.receiver.beyond) less d.k d.reach (stream_of st new.receiver)
+            (by (sid == st) refl e))
             (inl (let x = g.other e in omega (arith, x)))
           where
             less : (y : ℕ) → y ≤ n → Came new.receiver.cumulative_tsn new.receiver.beyond y → Old y
@@ -317,7 +324,8 @@ module _ (p st n : ℕ) (B : ℕ → ℕ) (E : ℕ → Bool) (M : ChunkPayloadDa
             by true on h =
                 let same = same-is sid st on in
                 subst (DueOn Old d.k d.reach) (sym (streams-here same))
-                (push-unordered p n B Fits Old (at-in p st n B E M few up) d.k d.reach c told acc.stream.queue acc.queue (kind c.unordered h) acc.pushed (held same))
+                (push-unordered p n B Fits Old (at-in p st n B E M few up) d.k d.reach c told acc.stream.queue acc.queue (kind c.unordered h) acc.pushed
+                (held same))
             by false on h = subst (DueOn Old d.k d.reach) (sym (streams-elsewhere on)) d.due
 
         pub taken-due : AreDue d.heard.place new
@@ -409,7 +417,7 @@ module _ (p st n : ℕ) (B : ℕ → ℕ) (E : ℕ → Bool) (M : ChunkPayloadDa
     flip : (x y : ℕ) → (x == y) ≡ (y == x)
     flip x y = same_test (x == y) (y == x) (λ e. eq-eqb y x (sym (same-is x y e))) (λ e. eq-eqb x y (sym (same-is y x e)))
 
-    own-names : (ns : List ChunkForwardTsnStream) → ssns_of st ns ≡ map (λ x. x.sequence) (filter (is_pair_of st) ns)
+    pub own-names : (ns : List ChunkForwardTsnStream) → ssns_of st ns ≡ map (λ x. x.sequence) (filter (is_pair_of st) ns)
     own-names [] = refl
     own-names (x ∷ xs) =
         ap (λ b. map (λ (y : ChunkForwardTsnStream). y.sequence) (if b then x ∷ filter (λ y. st == y.identifier) xs else filter (λ y. st == y.identifier) xs))
@@ -426,7 +434,7 @@ module _ (p st n : ℕ) (B : ℕ → ℕ) (E : ℕ → Bool) (M : ChunkPayloadDa
         (naming : IsNamingTo a m f.streams) (told : names_too_far f old.receiver ≡ false) (shut : names_closed f old.receiver ≡ false)
         (missing : (i : ℕ) (cs : List ChunkPayloadData) → Fits i cs → misses (tsn p m) cs ≡ true
         → (z : ℕ) × (z ≤ m) × (E z ≡ true) × (B z ≡ i + 1) × (list_any (has_tsn (tsn p z)) cs ≡ false)) where
-      ahead-is : is_stale f old.receiver ≡ false → d.heard.place < m
+      pub ahead-is : is_stale f old.receiver ≡ false → d.heard.place < m
       ahead-is e =
           let h = d.heard in
           let v = h.within in
@@ -435,7 +443,7 @@ module _ (p st n : ℕ) (B : ℕ → ℕ) (E : ℕ → Bool) (M : ChunkPayloadDa
           ∙ ap (at_or_before f.new_cumulative_tsn) (sym h.is) ∙ e in
           grind (arith, nat_tests, t)
 
-      is-ahead : d.heard.place < m → is_ahead f old.receiver ≡ true
+      pub is-ahead : d.heard.place < m → is_ahead f old.receiver ≡ true
       is-ahead lt =
           let h = d.heard in
           let v = h.within in
@@ -443,18 +451,18 @@ module _ (p st n : ℕ) (B : ℕ → ℕ) (E : ℕ → Bool) (M : ChunkPayloadDa
           ap (λ u. comes_before u f.new_cumulative_tsn) h.is ∙ ap (comes_before (tsn p h.place)) is
           ∙ before p h.place m (omega (arith, v, few)) (omega (arith, le, few)) ∙ t
 
-      none-among : (q : ChunkForwardTsnStream → Bool) → (is_ahead f old.receiver && list_any q f.streams) ≡ false → d.heard.place < m → (x : ChunkForwardTsnStream)
-          → filter (is_pair_of st) f.streams ≡ x ∷ [] → q x ≡ false
+      pub none-among : (q : ChunkForwardTsnStream → Bool) → (is_ahead f old.receiver && list_any q f.streams) ≡ false → d.heard.place < m
+          → (x : ChunkForwardTsnStream) → filter (is_pair_of st) f.streams ≡ x ∷ [] → q x ≡ false
       none-among q e lt x only =
           let any : list_any q f.streams ≡ false = ap (λ b. b && list_any q f.streams) (sym (is-ahead lt)) ∙ e in
           let those : list_any q (filter (is_pair_of st) f.streams) ≡ false = fails (list_any q (filter (is_pair_of st) f.streams))
           (λ h. not_both (sym any ∙ list_any-those q (is_pair_of st) f.streams h)) in
           (neither (q x) false (ap (list_any q) (sym only) ∙ those)).0
 
-      abbrev changed : InboundStream → InboundStream
+      abbrev pub changed : InboundStream → InboundStream
       changed l = incomplete_forwarded f.new_cumulative_tsn (unassembled_forwarded f.new_cumulative_tsn (stream_forwarded f.streams l))
 
-      found-after : is_stale f old.receiver ≡ false → stream_of st new.receiver ≡ option_map changed (stream_of st old.receiver)
+      pub found-after : is_stale f old.receiver ≡ false → stream_of st new.receiver ≡ option_map changed (stream_of st old.receiver)
       found-after e =
           ap (stream_of st) after
           ∙ ap (λ b. stream_of st (if b then old.receiver else without_incomplete f.new_cumulative_tsn
@@ -489,7 +497,7 @@ module _ (p st n : ℕ) (B : ℕ → ℕ) (E : ℕ → Bool) (M : ChunkPayloadDa
                 (every-passing (IsBeyond d.reach) (λ u. not (at_or_before u f.new_cumulative_tsn)) old.receiver.beyond d.heard.each);
           }
 
-      now-is : is_stale f old.receiver ≡ false → new.receiver ≡ without_incomplete f.new_cumulative_tsn (follow_forward_tsn f old.receiver)
+      pub now-is : is_stale f old.receiver ≡ false → new.receiver ≡ without_incomplete f.new_cumulative_tsn (follow_forward_tsn f old.receiver)
       now-is e =
           after ∙ ap (λ b. if b then old.receiver else without_incomplete f.new_cumulative_tsn
           (if b then old.receiver else follow_forward_tsn f old.receiver)) e
@@ -527,12 +535,14 @@ module _ (p st n : ℕ) (B : ℕ → ℕ) (E : ℕ → Bool) (M : ChunkPayloadDa
       }
 
       -- the queue of the stream, by its names
-      skipped : (l : InboundStream) → stream_of st old.receiver ≡ Some l → ssns_of l.queue.si f.streams ≡ map (λ x. x.sequence) (filter (is_pair_of st) f.streams)
+      pub skipped : (l : InboundStream) → stream_of st old.receiver ≡ Some l
+          → ssns_of l.queue.si f.streams ≡ map (λ x. x.sequence) (filter (is_pair_of st) f.streams)
       skipped l e =
           ap (λ s. ssns_of s f.streams) (same-is (number l) st (found-passes (has_number st) old.receiver.streams l e)) ∙ own-names f.streams
 
       -- sets of later messages have no chunk of the place
-      later-none : (low top z : ℕ) (ss : List ChunkSet) → AreSets p n B Fits Prior low top ss → z ≤ n → B z ≤ low → list_any (has_place p n B Fits Prior z) ss ≡ true → ⊥
+      pub later-none : (low top z : ℕ) (ss : List ChunkSet) → AreSets p n B Fits Prior low top ss → z ≤ n → B z ≤ low
+          → list_any (has_place p n B Fits Prior z) ss ≡ true → ⊥
       later-none low top z [] r most lo h = not_both h
       later-none low top z (s ∷ ss) r most lo h =
           elim (or-split (has_place p n B Fits Prior z s) (list_any (has_place p n B Fits Prior z) ss) h) [
@@ -544,13 +554,13 @@ module _ (p st n : ℕ) (B : ℕ → ℕ) (E : ℕ → Bool) (M : ChunkPayloadDa
       unnot true e = refl
       unnot false e = absurd (not_both (sym e))
 
-      misses-it : (s : ChunkSet) → not (cannot_complete f.new_cumulative_tsn s) ≡ false → misses (tsn p m) s.chunks ≡ true
+      pub misses-it : (s : ChunkSet) → not (cannot_complete f.new_cumulative_tsn s) ≡ false → misses (tsn p m) s.chunks ≡ true
       misses-it s e =
           subst (λ t. misses t s.chunks ≡ true) is
           (both (not (is_complete s.chunks)) (misses f.new_cumulative_tsn s.chunks) (unnot (cannot_complete f.new_cumulative_tsn s) e)).1
 
       -- where each place up to m of a message from the index on is held, no such message misses one
-      gone-held : (index low top : ℕ) (ss : List ChunkSet) (r : AreSets p n B Fits Prior low top ss)
+      pub gone-held : (index low top : ℕ) (ss : List ChunkSet) (r : AreSets p n B Fits Prior low top ss)
           → ((z : ℕ) → z ≤ m → E z ≡ true → low + 1 ≤ B z → index + 1 ≤ B z → list_any (has_place p n B Fits Prior z) ss ≡ true)
           → Gone p n B Fits Prior (λ set. not (cannot_complete f.new_cumulative_tsn set)) index low top ss r
       gone-held index low top [] r hold = tt
@@ -577,7 +587,7 @@ module _ (p st n : ℕ) (B : ℕ → ℕ) (E : ℕ → Bool) (M : ChunkPayloadDa
       )
 
       -- where the index is past all messages begun up to m
-      gone-begun : (index low top : ℕ) (ss : List ChunkSet) (r : AreSets p n B Fits Prior low top ss) → B m ≤ index
+      pub gone-begun : (index low top : ℕ) (ss : List ChunkSet) (r : AreSets p n B Fits Prior low top ss) → B m ≤ index
           → Gone p n B Fits Prior (λ set. not (cannot_complete f.new_cumulative_tsn set)) index low top ss r
       gone-begun index low top [] r past = tt
       gone-begun index low top (s ∷ ss) r past = (
@@ -624,11 +634,12 @@ module _ (p st n : ℕ) (B : ℕ → ℕ) (E : ℕ → Bool) (M : ChunkPayloadDa
               let names : ssns_of l.queue.si f.streams ≡ [] = skipped l g ∙ ap (map (λ (x : ChunkForwardTsnStream). x.sequence)) none in
               subst (λ ssns. IsDue p n B Fits New d.k d.reach
               (incomplete_forwarded f.new_cumulative_tsn (unassembled_forwarded f.new_cumulative_tsn (with_queue (skipped_each ssns l.queue) l))).queue.held)
-              (sym names) (incomplete-due p n B Fits New (at-in p st n B E M few up) d.k d.reach f.new_cumulative_tsn (held_after_unordered_skip f.new_cumulative_tsn l.queue.held) u
+              (sym names) (incomplete-due p n B Fits New (at-in p st n B E M few up) d.k d.reach f.new_cumulative_tsn
+              (held_after_unordered_skip f.new_cumulative_tsn l.queue.held) u
               gone)
 
-      named : is_stale f old.receiver ≡ false → (j : ℕ) → j + 1 ≡ B m → filter (is_pair_of st) f.streams ≡ record { identifier = st; sequence = j % 2 ^ 16 } ∷ []
-          → AreDue d.heard.place new
+      named : is_stale f old.receiver ≡ false → (j : ℕ) → j + 1 ≡ B m
+          → filter (is_pair_of st) f.streams ≡ record { identifier = st; sequence = j % 2 ^ 16 } ∷ [] → AreDue d.heard.place new
       named e j last only = by (stream_of st old.receiver) refl
         where
           lt : d.heard.place < m
@@ -649,7 +660,8 @@ module _ (p st n : ℕ) (B : ℕ → ℕ) (E : ℕ → Bool) (M : ChunkPayloadDa
               let z = h.covered in
               let w = d.most in
               let top = up m n le in
-              let s = name-due p n B Fits Prior (at-in p st n B E M few up) d.k d.reach j (j % 2 ^ 16) (B n) l.queue.held held refl (omega (arith, w, near, y, x, last))
+              let s = name-due p n B Fits Prior (at-in p st n B E M few up) d.k d.reach j (j % 2 ^ 16)
+              (B n) l.queue.held held refl (omega (arith, w, near, y, x, last))
               (omega (arith, top, near, y, z, last)) w (omega (arith, top, last)) close in
               let q = held_after_ordered_skip (j % 2 ^ 16) l.queue.held in
               let v = s.passed in
@@ -664,7 +676,8 @@ module _ (p st n : ℕ) (B : ℕ → ℕ) (E : ℕ → Bool) (M : ChunkPayloadDa
               leads-to e s.more s.up s.within (omega (arith, upto, last)) (subst (λ o. DueOn New d.k s.more (option_map changed o)) (sym g)
               (subst (λ ssns. IsDue p n B Fits New d.k s.more
               (incomplete_forwarded f.new_cumulative_tsn (unassembled_forwarded f.new_cumulative_tsn (with_queue (skipped_each ssns l.queue) l))).queue.held)
-              (sym names) (incomplete-due p n B Fits New (at-in p st n B E M few up) d.k s.more f.new_cumulative_tsn (held_after_unordered_skip f.new_cumulative_tsn q) u past)))
+              (sym names) (incomplete-due p n B Fits New (at-in p st n B E M few up) d.k s.more f.new_cumulative_tsn
+              (held_after_unordered_skip f.new_cumulative_tsn q) u past)))
 
       pub followed-due : AreDue d.heard.place new
       followed-due = by (is_stale f old.receiver) refl
@@ -672,7 +685,8 @@ module _ (p st n : ℕ) (B : ℕ → ℕ) (E : ℕ → Bool) (M : ChunkPayloadDa
           by : (b : Bool) → is_stale f old.receiver ≡ b → AreDue d.heard.place new
           by true e =
               let same : new.receiver ≡ old.receiver = after
-              ∙ ap (λ b. if b then old.receiver else without_incomplete f.new_cumulative_tsn (if b then old.receiver else follow_forward_tsn f old.receiver)) e in
+              ∙ ap (λ b. if b then old.receiver
+              else without_incomplete f.new_cumulative_tsn (if b then old.receiver else follow_forward_tsn f old.receiver)) e in
               quiet a old new d read (subst (λ (r : Reception). DueOn Prior d.k d.reach (stream_of st r)) (sym same) d.due)
               (ap (λ (r : Reception). r.cumulative_tsn) same) (ap (λ (r : Reception). r.beyond) same)
           by false e = elim naming [ inl x ↦ unnamed e x.0 x.1 x.2 | inr x ↦ named e x.0 x.1 x.2 ]

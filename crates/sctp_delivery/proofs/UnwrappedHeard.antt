@@ -156,7 +156,7 @@ module _ (p n : ℕ) (few : n < 2 ^ 31) where
 
 -- ## What is missing is of the message
 
-at-within : (st k : ℕ) (sent : List Entry) → is_at st k sent ≡ true → k ≤ length sent
+pub at-within : (st k : ℕ) (sent : List Entry) → is_at st k sent ≡ true → k ≤ length sent
 at-within st k [] e = absurd (not_both e)
 at-within st k (x ∷ xs) e = by (length (x ∷ xs) == k) refl e (at-within st k xs)
   where

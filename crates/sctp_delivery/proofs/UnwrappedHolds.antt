@@ -173,7 +173,8 @@ module _ (p st n : ℕ) (B : ℕ → ℕ) (E : ℕ → Bool) (M : ChunkPayloadDa
             let next : t ≡ tsn p (h.place + 1) = same-is t ((c + 1) % 2 ^ 32) e ∙ ap (λ u. (u + 1) % 2 ^ 32) h.is ∙ next-place p h.place in
             let w = x.within in
             let v = h.within in
-            let one : x.before + 1 ≡ h.place + 1 = same-place p (x.before + 1) (h.place + 1) (omega (arith, w, few)) (omega (arith, v, few)) (sym x.is ∙ next) in
+            let one : x.before + 1 ≡ h.place + 1 = same-place p (x.before + 1) (h.place + 1) (omega (arith, w, few)) (omega (arith, v, few))
+            (sym x.is ∙ next) in
             let same : x.before ≡ h.place = omega (arith, one) in
             let a = ap B same in
             let b = ap B one in
@@ -217,7 +218,8 @@ module _ (p st n : ℕ) (B : ℕ → ℕ) (E : ℕ → Bool) (M : ChunkPayloadDa
             let next : t ≡ tsn p (h.place + 1) = same-is t ((c + 1) % 2 ^ 32) f ∙ ap (λ u. (u + 1) % 2 ^ 32) h.is ∙ next-place p h.place in
             let w = x.within in
             let v = h.within in
-            let one : x.before + 1 ≡ h.place + 1 = same-place p (x.before + 1) (h.place + 1) (omega (arith, w, few)) (omega (arith, v, few)) (sym x.is ∙ next) in
+            let one : x.before + 1 ≡ h.place + 1 = same-place p (x.before + 1) (h.place + 1) (omega (arith, w, few)) (omega (arith, v, few))
+            (sym x.is ∙ next) in
             let same : x.before ≡ h.place = omega (arith, one) in
             let a = ap B same in
             let b = ap B one in

@@ -69,7 +69,8 @@ module _ (st first n : ℕ) (ns : List Numbered) (sent : List Entry) (few : n < 
     away k (o ∷ os) e le t = by (is_ordered_on st o) refl (is_in_order st o) refl t (λ j l u. away j os e.1 l u)
       where
         by : (b : Bool) → is_ordered_on st o ≡ b → (c : Bool) → is_in_order st o ≡ c
-            → Where (base first) st n (λ k. begun_to st k sent) (λ k. is_at st k sent) (λ c. WasSent sent (data_of c)) c ((j : ℕ) × (j < k) × Piece j o.fragments × InTurn j os) (InTurn k os)
+            → Where (base first) st n (λ k. begun_to st k sent) (λ k. is_at st k sent)
+            (λ c. WasSent sent (data_of c)) c ((j : ℕ) × (j < k) × Piece j o.fragments × InTurn j os) (InTurn k os)
             → ((j : ℕ) → j ≤ i → InTurn j os → All (λ q. x.written.0 < q) (ordered_places st os (places ns sent once os e.1)))
             → All (λ q. x.written.0 < q) (if b then e.0.written.0 ∷ ordered_places st os (places ns sent once os e.1) else ordered_places st os
             (places ns sent once os e.1))
@@ -88,8 +89,8 @@ module _ (st first n : ℕ) (ns : List Numbered) (sent : List Entry) (few : n < 
   in-order-of k (m ∷ ms) e t = by (is_ordered_on st m) refl (is_in_order st m) refl t (λ j u. in-order-of j ms e.1 u)
     where
       by : (b : Bool) → is_ordered_on st m ≡ b → (c : Bool) → is_in_order st m ≡ c
-          → Where (base first) st n (λ k. begun_to st k sent) (λ k. is_at st k sent) (λ c. WasSent sent (data_of c)) c ((j : ℕ) × (j < k) × Piece j m.fragments × InTurn j ms) (InTurn k ms)
-          → ((j : ℕ) → InTurn j ms → AllPairs (λ p q. p < q) (ordered_places st ms (places ns sent once ms e.1)))
+          → Where (base first) st n (λ k. begun_to st k sent) (λ k. is_at st k sent) (λ c. WasSent sent (data_of c)) c ((j : ℕ) × (j < k) × Piece j m.fragments
+          × InTurn j ms) (InTurn k ms) → ((j : ℕ) → InTurn j ms → AllPairs (λ p q. p < q) (ordered_places st ms (places ns sent once ms e.1)))
           → AllPairs (λ p q. p < q) (if b then e.0.written.0 ∷ ordered_places st ms (places ns sent once ms e.1) else ordered_places st ms
           (places ns sent once ms e.1))
       by true f false g u ih = absurd (not_both (sym g ∙ (starts st m e.0.chunk e.0.others e.0.fragments f).2))

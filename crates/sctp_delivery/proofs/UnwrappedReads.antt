@@ -1,6 +1,7 @@
 -- What a stream holds of ordered messages, each by its index: so many were begun before it. Its number is the index modulo 2^16, and all
 -- that is held lies less than half the circle past the lowest message that is still to be read.
-use Rattle.std.proofs.Common.{◌≡◌, ℕ, ◌+◌, ◌-◌, ◌%◌, ◌^◌, ◌<◌, ◌≤◌, Bool, true, false, not, List, [], ◌∷◌, ◌++◌, take, drop, Option, Some, None, inl, inr, refl, ap, sym, subst, ◌∙◌, arith}
+use Rattle.std.proofs.Common.{◌≡◌, ℕ, ◌+◌, ◌-◌, ◌%◌, ◌^◌, ◌<◌, ◌≤◌, Bool, true, false, not, List, [], ◌∷◌, ◌++◌, take, drop, Option, Some, None, inl, inr, refl}
+use Rattle.std.proofs.Common.{ap, sym, subst, ◌∙◌, arith}
 use Rattle.std.specs.Prelude.{⊤, ◌⊎◌, ◌==◌, ◌&&◌, ◌||◌, if◌then◌else◌, is_some, nat_le, nat_lt}
 use Rattle.std.specs.List.{filter, list_any}
 use Rattle.std.proofs.lemmas.Bool.{cases_lt}
@@ -16,7 +17,9 @@ use Rattle.sctp_data.specs.declared.chunk.chunk_payload_data.ChunkPayloadData.{C
 use Rattle.sctp_data.specs.ChunkSet.{ChunkSet}
 use Rattle.sctp_serial.specs.DataChunks.{chunk_before, has_tsn}
 use Rattle.sctp_reassembly.specs.reassembly_queue.Fragments.{has_ssn, is_complete, new_set, set_before, sets_with, with_chunk}
-use Rattle.sctp_reassembly.specs.reassembly_queue.ReassemblyQueue.{BecomesComplete, Reassembly, ReassemblyState, TakesRun, after_read, front_readable, held_after_ordered_skip, held_after_unordered_skip, is_passed, is_readable, message_among, message_read, rest_among, rest_read, set_of_run, without_first}
+use Rattle.sctp_reassembly.specs.reassembly_queue.ReassemblyQueue.{BecomesComplete, Reassembly, ReassemblyState, TakesRun, after_read, front_readable}
+use Rattle.sctp_reassembly.specs.reassembly_queue.ReassemblyQueue.{held_after_ordered_skip, held_after_unordered_skip, is_passed, is_readable, message_among}
+use Rattle.sctp_reassembly.specs.reassembly_queue.ReassemblyQueue.{message_read, rest_among, rest_read, set_of_run, without_first}
 use Rattle.sctp_reassembly.specs.reassembly_queue.Skips.{cannot_complete, held_after_incomplete_skip, ssn_past_sets}
 use Rattle.sctp_receiver.specs.Inbound.{Pushes, PushesAs}
 use Rattle.sctp_receiver.specs.Ssns.{is_name_too_far, is_ssn_too_far, lowest_among, lowest_ssn}
@@ -31,7 +34,7 @@ unfolding distance16
 window low j x y z = (omega (arith, x, y, z), omega (arith, x, y, z))
 
 -- how far it lies
-sides : (low j : ℕ) → low ≤ j + 2 ^ 15 → j < low + 2 ^ 16
+pub sides : (low j : ℕ) → low ≤ j + 2 ^ 15 → j < low + 2 ^ 16
     → ((low ≤ j) × (low + distance16 (low % 2 ^ 16) (j % 2 ^ 16) ≡ j)) ⊎ ((j < low) × (low + distance16 (low % 2 ^ 16) (j % 2 ^ 16) ≡ j + 2 ^ 16))
 unfolding distance16
 sides low j x y = elim (cases_lt j low) [ inl lt ↦ inr (lt, omega (arith, x, lt)) | inr ge ↦ inl (ge, omega (arith, ge, y)) ]
@@ -155,7 +158,7 @@ module _ (p n : ℕ) (B : ℕ → ℕ) (Fits : ℕ → List ChunkPayloadData →
                 build index (ap (lowest_among q.next_ssn) e ∙ ap (λ b. if b then s.ssn else q.next_ssn) f ∙ next) from (omega arith)
                 (subst (AreSets index reach) (sym e) (i, ((omega (arith, lt), a.1.0.1, a.1.0.2), a.1.1), a.2))
 
-    sets-those : (p : ChunkSet → Bool) (low top : ℕ) (ss : List ChunkSet) → AreSets low top ss → AreSets low top (filter p ss)
+    pub sets-those : (p : ChunkSet → Bool) (low top : ℕ) (ss : List ChunkSet) → AreSets low top ss → AreSets low top (filter p ss)
     sets-those p low top [] r = tt
     sets-those p low top (s ∷ ss) r = by (p s) (sets-those p (r.0 + 1) top ss r.2)
       where
@@ -345,7 +348,8 @@ module _ (p n : ℕ) (B : ℕ → ℕ) (Fits : ℕ → List ChunkPayloadData →
           by : (b : Bool) → (has_place y s ≡ true) ⊎ (list_any (has_place y) ss ≡ true)
               → (list_any (has_place y) ss ≡ true → list_any (has_place y) (change_first r (with_chunk x) ss) ≡ true)
               → list_any (has_place y) (if b then with_chunk x s ∷ ss else s ∷ change_first r (with_chunk x) ss) ≡ true
-          by true (inl g) ih = or-left (has_place y (with_chunk x s)) (list_any (has_place y) ss) (with-place s (or-right (has_tsn (tsn p y) x) (has_place y s) g))
+          by true (inl g) ih =
+              or-left (has_place y (with_chunk x s)) (list_any (has_place y) ss) (with-place s (or-right (has_tsn (tsn p y) x) (has_place y s) g))
           by true (inr g) ih = or-right (has_place y (with_chunk x s)) (list_any (has_place y) ss) g
           by false (inl g) ih = or-left (has_place y s) (list_any (has_place y) (change_first r (with_chunk x) ss)) g
           by false (inr g) ih = or-right (has_place y s) (list_any (has_place y) (change_first r (with_chunk x) ss)) (ih g)
@@ -451,7 +455,8 @@ module _ (p n : ℕ) (B : ℕ → ℕ) (Fits : ℕ → List ChunkPayloadData →
           build n next e from at most within =
               let f = d.far in
               let g = d.near in
-              (settled (i + 1) (i + 1) n reach (record q { ordered = without_first q.ordered; next_ssn = next }) e (omega arith) from (omega (arith, most, g, low))
+              (settled (i + 1) (i + 1) n reach (record q { ordered = without_first q.ordered; next_ssn = next }) e (omega arith) from
+              (omega (arith, most, g, low))
               within (omega (arith, f, low)) (subst (λ os. AreSets (i + 1) reach (without_first os)) (sym is) a.2) (kept n from at) d.unordered
               d.unassembled).0
 
@@ -564,7 +569,7 @@ module _ (p n : ℕ) (B : ℕ → ℕ) (Fits : ℕ → List ChunkPayloadData →
             (sym is) (subst (λ n. AreSets (n + 1) top (filter (λ set. not (is_passed last set)) ss)) same
             (sets-those (λ set. not (is_passed last set)) (r.0 + 1) top ss r.2))
 
-    neither : (a b : Bool) → (a || b) ≡ false → (a ≡ false) × (b ≡ false)
+    pub neither : (a b : Bool) → (a || b) ≡ false → (a ≡ false) × (b ≡ false)
     neither true b e = absurd (not_both (sym e))
     neither false b e = (refl, e)
 
@@ -586,7 +591,7 @@ module _ (p n : ℕ) (B : ℕ → ℕ) (Fits : ℕ → List ChunkPayloadData →
 
       -- from another lowest index on
       -- the sets that go are of no later message
-      passed-gone : (low top : ℕ) (ss : List ChunkSet) (r : AreSets low top ss) → top ≤ j + 2 ^ 15 → j < low + 2 ^ 15
+      pub passed-gone : (low top : ℕ) (ss : List ChunkSet) (r : AreSets low top ss) → top ≤ j + 2 ^ 15 → j < low + 2 ^ 15
           → Gone (λ set. not (is_passed last set)) (j + 1) low top ss r
       passed-gone low top [] r far near = tt
       passed-gone low top (s ∷ ss) r far near = (
@@ -613,7 +618,8 @@ module _ (p n : ℕ) (B : ℕ → ℕ) (Fits : ℕ → List ChunkPayloadData →
             ]
       ]
 
-      module _ (wide : j < d.low + 2 ^ 15) (low more : ℕ) (a : d.index < j + 2 ^ 15) (b : j < d.index + 2 ^ 15) (due : k ≤ low) (from : low ≤ d.index ⊎ (d.index ≤ j) × (low ≤ j + 1))
+      module _ (wide : j < d.low + 2 ^ 15) (low more : ℕ) (a : d.index < j + 2 ^ 15) (b : j < d.index + 2 ^ 15) (due : k ≤ low)
+          (from : low ≤ d.index ⊎ (d.index ≤ j) × (low ≤ j + 1))
           (near : d.index < low + 2 ^ 15) (top : d.index ≤ j → j + 1 < low + 2 ^ 15) (up : reach ≤ more) (upto : j + 1 ≤ more) (within : more ≤ most)
           (far : more ≤ low + 2 ^ 15) (sets : AreSets low more left) where
         skips : IsSkipped k reach j most (held_after_ordered_skip last q)
@@ -639,7 +645,8 @@ module _ (p n : ℕ) (B : ℕ → ℕ) (Fits : ℕ → List ChunkPayloadData →
             by true e =
                 let t : nat_le d.index j ≡ true = sym (next-order a b) ∙ e in
                 let upto' : d.index ≤ j = grind (arith, nat_tests, t) in
-                build (j + 1) ((last + 1) % 2 ^ 16) (ap (λ m. (m + 1) % 2 ^ 16) is ∙ next16 j) (omega (arith, upto')) (low-on from upto') (top upto') upto (omega arith)
+                build (j + 1) ((last + 1) % 2 ^ 16) (ap (λ m. (m + 1) % 2 ^ 16) is ∙ next16 j) (omega (arith, upto')) (low-on from upto')
+                (top upto') upto (omega arith)
             by false e =
                 let t : nat_le d.index j ≡ false = sym (next-order a b) ∙ e in
                 let past : j < d.index = grind (arith, nat_tests, t) in
@@ -651,7 +658,8 @@ module _ (p n : ℕ) (B : ℕ → ℕ) (Fits : ℕ → List ChunkPayloadData →
       old-name x =
           let f = d.from in
           let w = d.within in
-          skips (omega (arith, x)) d.low reach (omega (arith, w, back)) (omega (arith, x, f)) d.due (inl f) d.near (λ y. absurd (omega (arith, x, f, y))) (omega arith)
+          skips (omega (arith, x)) d.low reach (omega (arith, w, back)) (omega (arith, x, f)) d.due (inl f) d.near (λ y. absurd (omega (arith, x, f, y)))
+          (omega arith)
           (omega (arith, x, f, w)) le d.far (sets-those (λ set. not (is_passed last set)) d.low reach q.ordered d.sets)
 
       -- or lies in the window
@@ -737,7 +745,7 @@ module _ (p n : ℕ) (B : ℕ → ℕ) (Fits : ℕ → List ChunkPayloadData →
     }
 
     -- what can't become complete lies below the next index
-    past-sets : (base low top t index next : ℕ) (ss : List ChunkSet) (r : AreSets low top ss) → next ≡ index % 2 ^ 16 → index < base + 2 ^ 15
+    pub past-sets : (base low top t index next : ℕ) (ss : List ChunkSet) (r : AreSets low top ss) → next ≡ index % 2 ^ 16 → index < base + 2 ^ 15
         → base ≤ low → Gone (λ set. not (cannot_complete t set)) index low top ss r → ssn_past_sets next (filter (cannot_complete t) ss) ≡ next
     past-sets base low top t index next [] r e f g h = refl
     past-sets base low top t index next (s ∷ ss) r e f g h =

@@ -1,5 +1,6 @@
 -- In each session in which every FORWARD-TSN names a stream, the indexes of the ordered messages that are read on it rise.
-use Rattle.std.proofs.Common.{◌≡◌, ℕ, ◌+◌, ◌^◌, ◌<◌, ◌≤◌, Bool, true, false, List, [], ◌∷◌, length, Option, Some, None, inl, inr, refl, ap, sym, subst, ◌∙◌, arith}
+use Rattle.std.proofs.Common.{◌≡◌, ℕ, ◌+◌, ◌^◌, ◌<◌, ◌≤◌, Bool, true, false, List, [], ◌∷◌, length, Option, Some, None, inl, inr, refl, ap, sym, subst, ◌∙◌}
+use Rattle.std.proofs.Common.{arith}
 use Rattle.std.specs.Prelude.{Contains, IfSome, find, if◌then◌else◌, is_some, nat_le, ◌==◌, ◌⊎◌}
 use Rattle.std.specs.List.{list_any}
 use Rattle.std.proofs.lemmas.Option.{none-some}
@@ -212,7 +213,8 @@ acked-by (outgoing.abandons u a) old new f =
 acked-by (outgoing.expires now None) old new f = inl (ap (λ (u : Transmission). u.flight.acked_tsn) (f.exact.1.1 refl))
 acked-by (outgoing.expires now (Some e)) old new f = by (expiring now (flight_of old).queue) f.exact.0 f.exact.1.0
   where
-    by : (o : Option ChunkPayloadData) → true ≡ is_some o → IfSome o (λ c. new.sending.sender ≡ after_expire c e.bytes now old.sending.sender) → IsAckedBy old new
+    by : (o : Option ChunkPayloadData) → true ≡ is_some o → IfSome o (λ c. new.sending.sender ≡ after_expire c e.bytes now old.sending.sender)
+        → IsAckedBy old new
     by None s i = absurd (not_both (sym s))
     by (Some c) s i = inl (ap (λ (u : Transmission). u.flight.acked_tsn) i)
 acked-by (outgoing.expires_tail now None) old new f = inl (ap (λ (u : Transmission). u.flight.acked_tsn) (f.exact.1 refl))
@@ -264,11 +266,11 @@ module _ (st first : ℕ) where
   was-more sent more (inl e) c w = subst (λ xs. Was xs c) (sym e) w
   was-more sent more (inr x) c w = subst (λ xs. Was xs c) (sym x.1) (sent-more x.0 sent (data_of c) w)
 
-  same-to : (n : ℕ) (sent more : List Entry) → length sent ≡ n → IsOnceMore sent more → (k : ℕ) → k ≤ n → to more k ≡ to sent k
+  pub same-to : (n : ℕ) (sent more : List Entry) → length sent ≡ n → IsOnceMore sent more → (k : ℕ) → k ≤ n → to more k ≡ to sent k
   same-to n sent more long (inl e) k le = ap (begun_to st k) e
   same-to n sent more long (inr x) k le = ap (begun_to st k) x.1 ∙ to-more st k x.0 sent (omega (arith, le, long))
 
-  sender-told : (n : ℕ) (call : SenderCall) (old new : Session) (ns : List Numbered) (sent : List Entry) (i : IsSpread first n old ns sent)
+  pub sender-told : (n : ℕ) (call : SenderCall) (old new : Session) (ns : List Numbered) (sent : List Entry) (i : IsSpread first n old ns sent)
       → (few : n + distance (next_tsn old) (next_tsn new) < 2 ^ 31) → (f : SenderFollows call old new) → (x : Spreads first n call old new ns sent i)
       → IsTold n sent i.step.numbered.acked old → IsTold (n + distance (next_tsn old) (next_tsn new)) x.more x.spread.step.numbered.acked new
   sender-told n call old new ns sent i few f x t =
@@ -300,22 +302,22 @@ module _ (st first : ℕ) where
   -- ## A call of the receiver
 
   module _ (n : ℕ) (old : Session) (ns : List Numbered) (sent : List Entry) (i : IsSpread first n old ns sent) (few : n < 2 ^ 31) where
-    abbrev acked : ℕ
+    abbrev pub acked : ℕ
     acked = i.step.numbered.acked
 
-    grows : (j k : ℕ) → j ≤ k → to sent j ≤ to sent k
+    pub grows : (j k : ℕ) → j ≤ k → to sent j ≤ to sent k
     grows j k le = to-up st j k sent le
 
-    near : to sent n ≤ to sent acked + 2 ^ 14
+    pub near : to sent n ≤ to sent acked + 2 ^ 14
     near = let long = i.long in let all = to-all st n sent (omega (arith, long)) in let h = i.near st in omega (arith, all, h)
 
     -- a chunk that was made
-    entry-of : (c : ChunkPayloadData) → Was sent c → IsEntry st first sent c
+    pub entry-of : (c : ChunkPayloadData) → Was sent c → IsEntry st first sent c
     entry-of c w =
         let q = i.holds.held.stands.queued in
         made-entry ns first sent q.line q.indexed q.joined st c w
 
-    step-of : (c : ChunkPayloadData) → Contains old.made (data_chunk (data_of c)) → IsStepOf (base first) st n (to sent) (at sent) (Was sent) c
+    pub step-of : (c : ChunkPayloadData) → Contains old.made (data_chunk (data_of c)) → IsStepOf (base first) st n (to sent) (at sent) (Was sent) c
     step-of c in' =
         let w = found-sent sent old.made (data_of c) i.holds.made in' in
         let e = entry-of c w in
@@ -355,7 +357,7 @@ module _ (st first : ℕ) where
           (record { place = r.0.before + 1; past = omega (arith, le); within = r.0.within; is = r.0.is }, ih.1),
         )
 
-    missed : (m j : ℕ) (cs : List ChunkPayloadData) → m ≤ n → Fits (base first) st n (to sent) (at sent) (Was sent) j cs
+    pub missed : (m j : ℕ) (cs : List ChunkPayloadData) → m ≤ n → Fits (base first) st n (to sent) (at sent) (Was sent) j cs
         → misses (tsn (base first) m) cs ≡ true
         → (z : ℕ) × (z ≤ m) × (at sent z ≡ true) × (to sent z ≡ j + 1) × (list_any (has_tsn (tsn (base first) z)) cs ≡ false)
     missed m j cs le r e =
@@ -365,7 +367,7 @@ module _ (st first : ℕ) where
         let of = missing-of st first n few sent i.long i.holds.held.stands.queued.joined j g.place (omega (arith, upto, le)) g.beside in
         (g.place, g.upto, of.0, of.1, g.absent)
 
-    refused : (f : _) (r : Reception) → skip_refusal f r ≡ None → (names_too_far f r ≡ false) × (names_closed f r ≡ false)
+    pub refused : (f : _) (r : Reception) → skip_refusal f r ≡ None → (names_too_far f r ≡ false) × (names_closed f r ≡ false)
     refused f r e = by (names_closed f r) refl (names_too_far f r) refl e
       where
         by : (a : Bool) → names_closed f r ≡ a → (b : Bool) → names_too_far f r ≡ b
@@ -401,21 +403,24 @@ module _ (st first : ℕ) where
           (ap (λ (r : Reception). r.beyond) f.step.receiver)
       due-after (incoming.takes c (New told)) f =
           let fresh = fresh-new c.tsn told old.receiving.receiver f.accepted.1 in
-          taken-due (base first) st n (to sent) (at sent) (Was sent) few grows acked near c told old.receiving new.receiving d (step-of c f.handed) f.step.receiver f.step.read
+          taken-due (base first) st n (to sent) (at sent)
+          (Was sent) few grows acked near c told old.receiving new.receiving d (step-of c f.handed) f.step.receiver f.step.read
           fresh (not-far c old.receiving.receiver fresh f.accepted.0)
       due-after (incoming.follows g) f =
           let x = every-contained (IsMadeNaming st (base first) acked sent) old.made (forward_tsn g) f.handed (i.names st) in
           let r = refused g old.receiving.receiver f.accepted in
           let w = x.within in
           let long = i.long in
-          followed-due (base first) st n (to sent) (at sent) (Was sent) few grows acked near g x.place old.receiving new.receiving d (omega (arith, w, long)) x.is f.step.receiver
+          followed-due (base first) st n (to sent) (at sent)
+          (Was sent) few grows acked near g x.place old.receiving new.receiving d (omega (arith, w, long)) x.is f.step.receiver
           f.step.read x.tells r.0 r.1
           (λ j cs fits e. missed x.place j cs (omega (arith, w, long)) fits e)
       due-after (incoming.reports credit) f =
           same-streams f.step.read (ap (λ (r : Reception). r.streams) f.step.receiver) (ap (λ (r : Reception). r.cumulative_tsn) f.step.receiver)
           (ap (λ (r : Reception). r.beyond) f.step.receiver)
       due-after (incoming.reads stream) f =
-          read-on-due (base first) st n (to sent) (at sent) (Was sent) few grows acked stream old.receiving new.receiving d (ap (λ (r : Reception). r.streams) f.step.receiver)
+          read-on-due (base first) st n (to sent) (at sent)
+          (Was sent) few grows acked stream old.receiving new.receiving d (ap (λ (r : Reception). r.streams) f.step.receiver)
           (ap (λ (r : Reception). r.cumulative_tsn) f.step.receiver) (ap (λ (r : Reception). r.beyond) f.step.receiver) f.step.read
 
   -- the SACKs that were made
@@ -427,7 +432,7 @@ module _ (st first : ℕ) where
   told-after place more old (incoming.follows f) is le h = upto-more place more old.sacks le h
   told-after place more old (incoming.reads stream) is le h = upto-more place more old.sacks le h
 
-  receiver-told : (n : ℕ) (call : ReceiverCall) (old new : Session) (ns : List Numbered) (sent : List Entry) (i : IsSpread first n old ns sent)
+  pub receiver-told : (n : ℕ) (call : ReceiverCall) (old new : Session) (ns : List Numbered) (sent : List Entry) (i : IsSpread first n old ns sent)
       → (few : n < 2 ^ 31) → (f : ReceiverFollows call old new) → (spread : IsSpread first n new ns sent)
       → IsTold n sent i.step.numbered.acked old → IsTold n sent spread.step.numbered.acked new
   receiver-told n call old new ns sent i few f spread t =
@@ -461,7 +466,7 @@ pub record HasUnwrapped (first n : ℕ) (s : Session) : Type 0 where
   pub sent : List Entry
   pub unwrapped : IsUnwrapped first n s numbered sent
 
-sender-unwrapped : (first n : ℕ) (call : SenderCall) (old new : Session) (ns : List Numbered) (sent : List Entry) → IsUnwrapped first n old ns sent
+pub sender-unwrapped : (first n : ℕ) (call : SenderCall) (old new : Session) (ns : List Numbered) (sent : List Entry) → IsUnwrapped first n old ns sent
     → n + distance (next_tsn old) (next_tsn new) < 2 ^ 31 → SenderFollows call old new
     → (more : List Entry) × IsUnwrapped first (n + distance (next_tsn old) (next_tsn new)) new (numbered_after call ns) more
 sender-unwrapped first n call old new ns sent i few f =
@@ -473,7 +478,7 @@ sender-unwrapped first n call old new ns sent i few f =
       },
     )
 
-receiver-unwrapped : (first n : ℕ) (call : ReceiverCall) (old new : Session) (ns : List Numbered) (sent : List Entry) → n < 2 ^ 31
+pub receiver-unwrapped : (first n : ℕ) (call : ReceiverCall) (old new : Session) (ns : List Numbered) (sent : List Entry) → n < 2 ^ 31
     → ReceiverFollows call old new → IsUnwrapped first n old ns sent → IsUnwrapped first n new ns sent
 receiver-unwrapped first n call old new ns sent few f i =
     let spread = receiver-spreads first n call old new ns sent few f i.spread in
@@ -500,15 +505,12 @@ unwrapped-after first n (of_receiver call ∷ cs) old new ns sent r few i =
     subst (λ k. HasUnwrapped first k new) sum
     (unwrapped-after first n cs r.0 new ns sent r.1.1 (omega (arith, few)) (receiver-unwrapped first n call old r.0 ns sent (omega (arith, few)) r.1.0 i))
 
-pub unwrapped : (tsn size max most : ℕ) (limits : Option Limits) (cs : List Call) (s : Session) → tsn < 2 ^ 32 → 0 < size
-    → (r : RunsTo (at_start tsn size max most limits) cs s) → tsns_given (at_start tsn size max most limits) cs s r < 2 ^ 31
-    → HasUnwrapped tsn (tsns_given (at_start tsn size max most limits) cs s r) s
-unwrapped first size max most limits cs s small some r few =
-    let n = tsns_given (at_start first size max most limits) cs s r in
+pub unwrapped-first : (first size max most : ℕ) (limits : Option Limits) → first < 2 ^ 32 → 0 < size
+    → IsUnwrapped first 0 (at_start first size max most limits) [] []
+unwrapped-first first size max most limits small some =
     let start = spread-first first size max most limits small some in
     let total = start.step.numbered.total in
-    subst (λ k. HasUnwrapped first k s) {x = 0 + n} {y = n} (omega arith)
-    (unwrapped-after first 0 cs (at_start first size max most limits) s [] [] r (omega (arith, few)) (record {
+    record {
       spread = start;
       told = λ st. (
         record {
@@ -521,4 +523,12 @@ unwrapped first size max most limits cs s small some r few =
         },
         tt,
       );
-    }))
+    }
+
+pub unwrapped : (tsn size max most : ℕ) (limits : Option Limits) (cs : List Call) (s : Session) → tsn < 2 ^ 32 → 0 < size
+    → (r : RunsTo (at_start tsn size max most limits) cs s) → tsns_given (at_start tsn size max most limits) cs s r < 2 ^ 31
+    → HasUnwrapped tsn (tsns_given (at_start tsn size max most limits) cs s r) s
+unwrapped first size max most limits cs s small some r few =
+    let n = tsns_given (at_start first size max most limits) cs s r in
+    subst (λ k. HasUnwrapped first k s) {x = 0 + n} {y = n} (omega arith)
+    (unwrapped-after first 0 cs (at_start first size max most limits) s [] [] r (omega (arith, few)) (unwrapped-first first size max most limits small some))

@@ -9,10 +9,13 @@ use Rattle.sctp_list_lemmas.proofs.More.{both, not_both}
 use Rattle.sctp_data.specs.declared.chunk.chunk_payload_data.ChunkPayloadData.{ChunkPayloadData}
 use Rattle.sctp_data.specs.declared.chunk.chunk_payload_data.PayloadProtocolIdentifier.{PayloadProtocolIdentifier}
 use Rattle.sctp_data.specs.SelectiveAck.{Sack}
+use Rattle.sctp_outbound.specs.declared.pending_queue.Selected.{Selected}
 use Rattle.sctp_outbound.specs.Marks.{as_abandoned, as_acknowledged, is_of, is_outstanding, with_retransmit}
-use Rattle.sctp_outbound.specs.outbound_queue.OutboundQueue.{Outbound, abandoned_of, all_started, append_chunks, as_sent, expired_of, sent_next, sent_of, terminal_chunk, with_message, with_message_id, with_terminal_chunk}
+use Rattle.sctp_outbound.specs.outbound_queue.OutboundQueue.{Outbound, abandoned_of, all_started, append_chunks, as_sent, expired_of, sent_next, sent_of}
+use Rattle.sctp_outbound.specs.outbound_queue.OutboundQueue.{terminal_chunk, with_message, with_message_id, with_terminal_chunk}
 use Rattle.sctp_outbound.specs.payload_queue.PayloadQueue as payload
-use Rattle.sctp_outbound.specs.pending_queue.PendingQueue.{Pending, closed_up, front_of, is_to_start, last_removed, list_of, list_to_pop, next_pending, next_pending_of, one_lower, rest_from, rest_of, start_pending, with_deadline, without}
+use Rattle.sctp_outbound.specs.pending_queue.PendingQueue.{Pending, closed_up, front_of, is_to_start, last_removed, list_of, list_to_pop, next_pending}
+use Rattle.sctp_outbound.specs.pending_queue.PendingQueue.{next_pending_of, one_lower, rest_from, rest_of, start_pending, with_deadline, without}
 use Rattle.sctp_serial.specs.DataChunks.{chunk_before, has_tsn, is_on}
 use Rattle.sctp_stream.specs.declared.stream.StreamState.{StreamState}
 use Rattle.sctp_stream.specs.Stream.{fragment_at, fragments_of}
@@ -53,14 +56,14 @@ pub record IsValid (taken passed : ℕ → Bool) (q : Outbound) : Type 0 where
 
 -- ## What waits
 
-abbrev Waits : Pending → Type 0
+abbrev pub Waits : Pending → Type 0
 Waits q = Every IsUnmarked q.ordered × Every IsUnmarked q.unordered
 
 front : (xs : List ChunkPayloadData) (c : ChunkPayloadData) → slice_get xs 0 ≡ Some c → Every IsUnmarked xs → IsUnmarked c
 front [] c e h = absurd (none-some c e)
 front (x ∷ xs) c e h = let same : x ≡ c = cc in subst IsUnmarked same h.0
 
-peeked : (sel : Option _) (q : Pending) (c : ChunkPayloadData) → next_pending_of sel q ≡ Some c → Waits q → IsUnmarked c
+pub peeked : (sel : Option Selected) (q : Pending) (c : ChunkPayloadData) → next_pending_of sel q ≡ Some c → Waits q → IsUnmarked c
 peeked (Some s) q c e w = by s.unordered e
   where
     by : (b : Bool) → slice_get (list_of b q) 0 ≡ Some c → IsUnmarked c

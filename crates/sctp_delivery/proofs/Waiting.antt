@@ -69,16 +69,19 @@ waits-behind ws [] ys (within m ssn kind w left) h k = absurd h
 waits-behind ws [] ys nowhere h k = absurd h
 waits-behind ws (c ∷ cs) ys p h k = (h.0, h.1, (h.2.0, (h.2.1.0, waits-behind ws cs ys (place_after c h.0 h.1) h.2.1.1 k)))
 
-pub waits-started : (ws : List Numbered) (now : ℕ) (t : ChunkPayloadData → Bool) (cs : List ChunkPayloadData) (p : Place) → Waits ws cs p → Waits ws (change_where t (with_deadline now) cs) p
+pub waits-started : (ws : List Numbered) (now : ℕ) (t : ChunkPayloadData → Bool) (cs : List ChunkPayloadData) (p : Place) → Waits ws cs p
+    → Waits ws (change_where t (with_deadline now) cs) p
 waits-started ws now t [] p h = h
 waits-started ws now t (c ∷ cs) p h = by (t c) (waits-started ws now t cs (place_after c h.0 h.1) h.2.1.1)
   where
     goes : (p : Place) → Goes p c h.0 h.1 → Goes p (with_deadline now c) h.0 h.1
     goes between g = g
     goes nowhere g = g
-    goes (within m ssn kind w left) g = record { message = g.message; inner = g.inner; write = g.write; bytes = g.bytes; same_number = g.same_number; same_kind = g.same_kind }
+    goes (within m ssn kind w left) g =
+        record { message = g.message; inner = g.inner; write = g.write; bytes = g.bytes; same_number = g.same_number; same_kind = g.same_kind }
 
-    by : (b : Bool) → Waits ws (change_where t (with_deadline now) cs) (place_after c h.0 h.1) → Waits ws ((if b then with_deadline now c else c) ∷ change_where t (with_deadline now) cs) p
+    by : (b : Bool) → Waits ws (change_where t (with_deadline now) cs) (place_after c h.0 h.1)
+        → Waits ws ((if b then with_deadline now c else c) ∷ change_where t (with_deadline now) cs) p
     by true ih = (h.0, h.1, (h.2.0, (goes p h.2.1.0, ih)))
     by false ih = (h.0, h.1, (h.2.0, (h.2.1.0, ih)))
 
@@ -96,11 +99,13 @@ waits-without ws m [] (within k ssn kind w left) h = absurd h
 waits-without ws m [] nowhere h = absurd h
 waits-without ws m (c ∷ cs) p h = by (c.message_id == m) refl (waits-without ws m cs (place_after c h.0 h.1) h.2.1.1)
   where
-    gone : (e : Bool) (ssn : ℕ) (kind : Bool) (w : Numbered) (left : List ℕ) → (c.message_id == m) ≡ true → place_without m (if e then between else within c.message_id ssn kind w left) ≡ between
+    gone : (e : Bool) (ssn : ℕ) (kind : Bool) (w : Numbered) (left : List ℕ) → (c.message_id == m) ≡ true
+        → place_without m (if e then between else within c.message_id ssn kind w left) ≡ between
     gone true ssn kind w left i = refl
     gone false ssn kind w left i = ap (λ b. if b then between else within c.message_id ssn kind w left) i
 
-    stays : (e : Bool) (ssn : ℕ) (kind : Bool) (w : Numbered) (left : List ℕ) → (c.message_id == m) ≡ false → place_without m (if e then between else within c.message_id ssn kind w left) ≡ (if e then between else within c.message_id ssn kind w left)
+    stays : (e : Bool) (ssn : ℕ) (kind : Bool) (w : Numbered) (left : List ℕ) → (c.message_id == m) ≡ false
+        → place_without m (if e then between else within c.message_id ssn kind w left) ≡ (if e then between else within c.message_id ssn kind w left)
     stays true ssn kind w left i = refl
     stays false ssn kind w left i = ap (λ b. if b then between else within c.message_id ssn kind w left) i
 
@@ -118,9 +123,14 @@ waits-without ws m (c ∷ cs) p h = by (c.message_id == m) refl (waits-without w
         let other : (k == m) ≡ false = subst (λ j. (j == m) ≡ false) g.message i in
         subst (λ b. Goes (if b then between else within k ssn kind w left) c h.0 h.1) (sym other) g
 
-    by : (b : Bool) → (c.message_id == m) ≡ b → Waits ws (without_message m cs) (place_without m (place_after c h.0 h.1)) → Waits ws (if not b then c ∷ without_message m cs else without_message m cs) (place_without m p)
+    by : (b : Bool) → (c.message_id == m) ≡ b → Waits ws (without_message m cs) (place_without m (place_after c h.0 h.1))
+        → Waits ws (if not b then c ∷ without_message m cs else without_message m cs) (place_without m p)
     by true i ih = subst (Waits ws (without_message m cs)) (gone c.ending_fragment c.stream_sequence_number c.unordered h.0 h.1 i ∙ sym (out p h.2.1.0 i)) ih
-    by false i ih = (h.0, h.1, (h.2.0, (goes p h.2.1.0 i, subst (Waits ws (without_message m cs)) (stays c.ending_fragment c.stream_sequence_number c.unordered h.0 h.1 i) ih)))
+    by false i ih = (
+      h.0,
+      h.1,
+      (h.2.0, (goes p h.2.1.0 i, subst (Waits ws (without_message m cs)) (stays c.ending_fragment c.stream_sequence_number c.unordered h.0 h.1 i) ih)),
+    )
 
 -- ## Numbers one lower
 
@@ -133,7 +143,8 @@ place_lower s between = between
 place_lower s (within k ssn kind w left) = within k (if w.stream == s then lower ssn else ssn) kind w left
 place_lower s nowhere = nowhere
 
-pub waits-lower : (ws : List Numbered) (s : ℕ) (cs : List ChunkPayloadData) (p : Place) → Waits ws cs p → Waits ws (change_where (is_on s) one_lower cs) (place_lower s p)
+pub waits-lower : (ws : List Numbered) (s : ℕ) (cs : List ChunkPayloadData) (p : Place) → Waits ws cs p
+    → Waits ws (change_where (is_on s) one_lower cs) (place_lower s p)
 waits-lower ws s [] between h = tt
 waits-lower ws s [] (within k ssn kind w left) h = absurd h
 waits-lower ws s [] nowhere h = absurd h
@@ -148,19 +159,44 @@ waits-lower ws s (c ∷ cs) p h = by (c.stream_identifier == s) refl (waits-lowe
     goes b e nowhere g = absurd g
     goes true e (within k ssn kind w left) g =
         let same : (w.stream == s) ≡ true = subst (λ (v : Numbered). (v.stream == s) ≡ true) g.write e in
-        record { message = g.message; inner = g.inner; write = g.write; bytes = g.bytes; same_number = ap lower g.same_number ∙ ap (λ b. if b then lower ssn else ssn) (sym same); same_kind = g.same_kind }
+        record {
+          message = g.message;
+          inner = g.inner;
+          write = g.write;
+          bytes = g.bytes;
+          same_number = ap lower g.same_number ∙ ap (λ b. if b then lower ssn else ssn) (sym same);
+          same_kind = g.same_kind;
+        }
     goes false e (within k ssn kind w left) g =
         let same : (w.stream == s) ≡ false = subst (λ (v : Numbered). (v.stream == s) ≡ false) g.write e in
-        record { message = g.message; inner = g.inner; write = g.write; bytes = g.bytes; same_number = g.same_number ∙ ap (λ b. if b then lower ssn else ssn) (sym same); same_kind = g.same_kind }
+        record {
+          message = g.message;
+          inner = g.inner;
+          write = g.write;
+          bytes = g.bytes;
+          same_number = g.same_number ∙ ap (λ b. if b then lower ssn else ssn) (sym same);
+          same_kind = g.same_kind;
+        }
 
-    next : (b e : Bool) → (h.0.stream == s) ≡ b → place_lower s (if e then between else within c.message_id c.stream_sequence_number c.unordered h.0 h.1) ≡ (if e then between else within c.message_id (if b then lower c.stream_sequence_number else c.stream_sequence_number) c.unordered h.0 h.1)
+    next : (b e : Bool) → (h.0.stream == s) ≡ b → place_lower s (if e then between else within c.message_id c.stream_sequence_number c.unordered h.0 h.1)
+        ≡ (if e then between else within c.message_id (if b then lower c.stream_sequence_number else c.stream_sequence_number) c.unordered h.0 h.1)
     next b true i = refl
     next b false i = ap (λ k. within c.message_id (if k then lower c.stream_sequence_number else c.stream_sequence_number) c.unordered h.0 h.1) i
 
     fits : (b : Bool) → Fits ws c.tsn (data_of (if b then one_lower c else c)) h.0 h.1
-    fits true = let f = h.2.0 in record { written = f.written; number = f.number; stream = f.stream; payload = f.payload; begins = f.begins; ends = f.ends; part = f.part }
+    fits true = let f = h.2.0 in
+        record { written = f.written; number = f.number; stream = f.stream; payload = f.payload; begins = f.begins; ends = f.ends; part = f.part }
     fits false = h.2.0
 
-    by : (b : Bool) → (c.stream_identifier == s) ≡ b → Waits ws (change_where (is_on s) one_lower cs) (place_lower s (place_after c h.0 h.1)) → Waits ws ((if b then one_lower c else c) ∷ change_where (is_on s) one_lower cs) (place_lower s p)
-    by true i ih = (h.0, h.1, (fits true, (goes true (on true i) p h.2.1.0, subst (Waits ws (change_where (is_on s) one_lower cs)) (next true c.ending_fragment (on true i)) ih)))
-    by false i ih = (h.0, h.1, (fits false, (goes false (on false i) p h.2.1.0, subst (Waits ws (change_where (is_on s) one_lower cs)) (next false c.ending_fragment (on false i)) ih)))
+    by : (b : Bool) → (c.stream_identifier == s) ≡ b → Waits ws (change_where (is_on s) one_lower cs) (place_lower s (place_after c h.0 h.1))
+        → Waits ws ((if b then one_lower c else c) ∷ change_where (is_on s) one_lower cs) (place_lower s p)
+    by true i ih = (
+      h.0,
+      h.1,
+      (fits true, (goes true (on true i) p h.2.1.0, subst (Waits ws (change_where (is_on s) one_lower cs)) (next true c.ending_fragment (on true i)) ih)),
+    )
+    by false i ih = (
+      h.0,
+      h.1,
+      (fits false, (goes false (on false i) p h.2.1.0, subst (Waits ws (change_where (is_on s) one_lower cs)) (next false c.ending_fragment (on false i)) ih)),
+    )

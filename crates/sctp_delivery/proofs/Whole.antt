@@ -15,7 +15,7 @@ use Rattle.sctp_serial.specs.DataChunks.{has_tsn}
 use Rattle.sctp_delivery.proofs.Delivered.{EachSent, inner-of}
 use Rattle.sctp_delivery.proofs.EachRead.{none-begins}
 use Rattle.sctp_delivery.proofs.Every.{Every}
-use Rattle.sctp_delivery.proofs.Ranges.{Agrees, part-place}
+use Rattle.sctp_delivery.proofs.FragmentPlaces.{Shows, part-place}
 use Rattle.sctp_delivery.proofs.ReadOnce.{count-none, none-count, one}
 use Rattle.sctp_delivery.proofs.Sent.{Entry, IsLine, Numbered, WasSent, fragment, part-length, part-line}
 use Rattle.sctp_delivery.proofs.TsnPlaces.{base, next-place, same-place}
@@ -28,7 +28,7 @@ pub record IsOn (p n : ℕ) (f : ℕ → Data) (c : ChunkPayloadData) (j : ℕ) 
   pub data' : data_of c ≡ f j
 
 module _ (ws : List Numbered) (first : ℕ) (sent : List Entry) (few : length sent < 2 ^ 31) (line : IsLine ws first sent) (f : ℕ → Data)
-    (agr : Agrees f sent) where
+    (agr : Shows f sent) where
   abbrev p : ℕ
   p = base first
 
@@ -108,7 +108,7 @@ module _ (ws : List Numbered) (first : ℕ) (sent : List Entry) (few : length se
   module _ (a j k : ℕ) (begins : (f a).beginning_fragment ≡ true) (upto : a ≤ j) (inner : (l : ℕ) → a < l → l ≤ j → (f l).beginning_fragment ≡ false)
       (within : j ≤ n)
       (to : a ≤ k) (open' : (l : ℕ) → a ≤ l → l < k → (f l).ending_fragment ≡ false) where
-    whole-of : (fs : List ChunkPayloadData) → is_complete fs ≡ true → is_one_message fs ≡ true → EachSent sent fs → list_any (has_tsn (tsn p j)) fs ≡ true
+    pub whole-of : (fs : List ChunkPayloadData) → is_complete fs ≡ true → is_one_message fs ≡ true → EachSent sent fs → list_any (has_tsn (tsn p j)) fs ≡ true
         → list_any (has_tsn (tsn p k)) fs ≡ true
     whole-of [] e o s there = absurd (not_both there)
     whole-of (c ∷ cs) e o s there =

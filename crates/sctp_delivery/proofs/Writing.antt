@@ -1,5 +1,6 @@
 -- A write, and a message that expires: what the calls make of the queues and the streams.
-use Rattle.std.proofs.Common.{◌≡◌, ℕ, ◌+◌, ◌%◌, ◌^◌, ◌<◌, Bool, true, false, not, List, ◌∷◌, length, map, drop, Option, Some, None, refl, ap, sym, subst, ◌∙◌, arith}
+use Rattle.std.proofs.Common.{◌≡◌, ℕ, ◌+◌, ◌%◌, ◌^◌, ◌<◌, Bool, true, false, not, List, ◌∷◌, length, map, drop, Option, Some, None, refl, ap, sym, subst, ◌∙◌}
+use Rattle.std.proofs.Common.{arith}
 use Rattle.std.specs.Prelude.{◌==◌, ◌&&◌, if◌then◌else◌, nat_lt}
 use Rattle.std.proofs.lemmas.Bool.Decides.{nat_tests}
 use Rattle.std.proofs.lemmas.Option.{none-some}
@@ -19,7 +20,8 @@ use Rattle.sctp_stream.specs.declared.stream.StreamState.{StreamState}
 use Rattle.sctp_stream.specs.Stream.{fragment_at}
 use Rattle.sctp_delivery.specs.SenderCalls.{Made}
 use Rattle.sctp_delivery.proofs.Fragments.{fragments-turn, fragments-wait, nth}
-use Rattle.sctp_delivery.proofs.Numbers.{all-open, found-there, is_there, number-changed, number-elsewhere, number-found, number-is, number_of, open-of, size-found, steady-changed, sized-changed, there-changed, there-found}
+use Rattle.sctp_delivery.proofs.Numbers.{all-open, found-there, is_there, number-changed, number-elsewhere, number-found, number-is, number_of, open-of}
+use Rattle.sctp_delivery.proofs.Numbers.{size-found, steady-changed, sized-changed, there-changed, there-found}
 use Rattle.sctp_delivery.proofs.Pushing.{IsLower, expired, pushed}
 use Rattle.sctp_delivery.proofs.Senders.{IsHeld, Result, calm}
 use Rattle.sctp_delivery.proofs.Sending.{next-fits}
@@ -29,7 +31,8 @@ use Rattle.sctp_delivery.proofs.Waiting.{Waits, between, lower}
 
 -- ## A write
 
-module _ (ws : List Numbered) (first : ℕ) (t : Transmission) (sent : List Entry) (ms : List Made) (h : IsHeld ws first t sent) (stream : ℕ) (ppi : PayloadProtocolIdentifier) (b : ℕ) (bs : List ℕ) (l : StreamState) (found : stream_of stream t ≡ Some l) where
+module _ (ws : List Numbered) (first : ℕ) (t : Transmission) (sent : List Entry) (ms : List Made) (h : IsHeld ws first t sent) (stream : ℕ)
+    (ppi : PayloadProtocolIdentifier) (b : ℕ) (bs : List ℕ) (l : StreamState) (found : stream_of stream t ≡ Some l) where
   abbrev next_id : ℕ
   next_id = t.flight.queue.next_message_id
 
@@ -51,18 +54,21 @@ module _ (ws : List Numbered) (first : ℕ) (t : Transmission) (sent : List Entr
   some : 0 < l.max_payload_size
   some = size-found stream t.streams l found h.sized
 
-  numbers-after : number_of stream after ≡ (if is_ordered l.unordered ppi && nat_lt 0 (length (b ∷ bs)) then (l.sequence_number + 1) % 2 ^ 16 else l.sequence_number)
+  numbers-after : number_of stream after
+      ≡ (if is_ordered l.unordered ppi && nat_lt 0 (length (b ∷ bs)) then (l.sequence_number + 1) % 2 ^ 16 else l.sequence_number)
   numbers-after = number-changed stream (wrote ppi (b ∷ bs)) (λ x. refl) t.streams l found
 
   waits : Waits (write ∷ ws) (map (with_message_id next_id) (fragments_with_mode l ppi (b ∷ bs))) between
   waits =
-      subst (λ (k : ℕ). let w : Numbered = record { stream = k; payload_type = ppi; bytes = b ∷ bs; place = next_id } in Waits (w ∷ ws) (map (with_message_id next_id) (fragments_with_mode l ppi (b ∷ bs))) between) is-stream
+      subst (λ (k : ℕ). let w : Numbered = record { stream = k; payload_type = ppi; bytes = b ∷ bs; place = next_id } in
+      Waits (w ∷ ws) (map (with_message_id next_id) (fragments_with_mode l ppi (b ∷ bs))) between) is-stream
       (fragments-wait ws next_id l ppi (b ∷ bs) some later refl)
 
   unordered-same : not (is_ordered l.unordered ppi) ≡ true → (r : ℕ) → number_of r after ≡ number_of r t.streams
   unordered-same e r = by_same r stream
       (λ same. subst (λ k. number_of k after ≡ number_of k t.streams) (sym same)
-      (numbers-after ∙ ap (λ k. if k && nat_lt 0 (length (b ∷ bs)) then (l.sequence_number + 1) % 2 ^ 16 else l.sequence_number) (negated (is_ordered l.unordered ppi) e) ∙ sym (number-found stream t.streams l found)))
+      (numbers-after ∙ ap (λ k. if k && nat_lt 0 (length (b ∷ bs)) then (l.sequence_number + 1) % 2 ^ 16
+      else l.sequence_number) (negated (is_ordered l.unordered ppi) e) ∙ sym (number-found stream t.streams l found)))
       (λ differ _. number-elsewhere r stream differ (wrote ppi (b ∷ bs)) (λ x. refl) t.streams)
 
   ordered-is : (k : Bool) → not k ≡ false → k ≡ true
@@ -73,8 +79,10 @@ module _ (ws : List Numbered) (first : ℕ) (t : Transmission) (sent : List Entr
   counts-are r true e = ap (λ k. k && (0 == 0)) e
   counts-are r false e = ap (λ k. k && (0 == 0)) e
 
-  ordered-turns : not (is_ordered l.unordered ppi) ≡ false → (r : ℕ) → Turns r (map (with_message_id next_id) (fragments_with_mode l ppi (b ∷ bs))) (number_of r t.streams) (number_of r after)
-  ordered-turns e r = subst (Turns r (map (with_message_id next_id) (fragments_with_mode l ppi (b ∷ bs))) (number_of r t.streams)) (sym next) (fragments-turn ws next_id l ppi (b ∷ bs) some later r (number_of r t.streams) refl first-number)
+  ordered-turns : not (is_ordered l.unordered ppi) ≡ false → (r : ℕ)
+      → Turns r (map (with_message_id next_id) (fragments_with_mode l ppi (b ∷ bs))) (number_of r t.streams) (number_of r after)
+  ordered-turns e r = subst (Turns r (map (with_message_id next_id) (fragments_with_mode l ppi (b ∷ bs))) (number_of r t.streams)) (sym next)
+      (fragments-turn ws next_id l ppi (b ∷ bs) some later r (number_of r t.streams) refl first-number)
     where
       there : (r : ℕ) → r ≡ stream → (l.stream_identifier == r) ≡ true
       there r same = subst (λ k. (l.stream_identifier == k) ≡ true) (is-stream ∙ sym same) (same-yes l.stream_identifier)
@@ -88,8 +96,8 @@ module _ (ws : List Numbered) (first : ℕ) (t : Transmission) (sent : List Entr
       rises =
           let longer : nat_lt 0 (length (b ∷ bs)) ≡ true = grind (arith, nat_tests) in
           numbers-after
-          ∙ ap (λ k. if k && nat_lt 0 (length (b ∷ bs)) then (l.sequence_number + 1) % 2 ^ 16 else l.sequence_number) (ordered-is (is_ordered l.unordered ppi) e)
-          ∙ ap (λ k. if k then (l.sequence_number + 1) % 2 ^ 16 else l.sequence_number) longer
+          ∙ ap (λ k. if k && nat_lt 0 (length (b ∷ bs)) then (l.sequence_number + 1) % 2 ^ 16 else l.sequence_number)
+          (ordered-is (is_ordered l.unordered ppi) e) ∙ ap (λ k. if k then (l.sequence_number + 1) % 2 ^ 16 else l.sequence_number) longer
 
       next : number_of r after ≡ number_after (counts r (nth ws next_id l ppi (b ∷ bs) some 0)) (number_of r t.streams)
       next = by_same r stream
@@ -97,16 +105,20 @@ module _ (ws : List Numbered) (first : ℕ) (t : Transmission) (sent : List Entr
           let it : counts r (nth ws next_id l ppi (b ∷ bs) some 0) ≡ true = counts-are r true (there r same) in
           ap (λ k. number_of k after) same ∙ rises ∙ ap (λ k. (k + 1) % 2 ^ 16) (first-number it) ∙ ap (λ k. number_after k (number_of r t.streams)) (sym it))
           (λ differ _.
-          let off : (l.stream_identifier == r) ≡ false = fails (l.stream_identifier == r) (λ c. differ (sym (sym is-stream ∙ same-is l.stream_identifier r c))) in
-          number-elsewhere r stream differ (wrote ppi (b ∷ bs)) (λ x. refl) t.streams ∙ ap (λ k. number_after k (number_of r t.streams)) (sym (counts-are r false off)))
+          let off : (l.stream_identifier == r) ≡ false = fails (l.stream_identifier == r)
+          (λ c. differ (sym (sym is-stream ∙ same-is l.stream_identifier r c))) in
+          number-elsewhere r stream differ (wrote ppi (b ∷ bs)) (λ x. refl) t.streams
+          ∙ ap (λ k. number_after k (number_of r t.streams)) (sym (counts-are r false off)))
 
   pub writes-some : Result None ws (write ∷ ws) first sent (written_to l stream ppi (b ∷ bs) t) ms ms
   writes-some = calm ws (write ∷ ws) first sent (written_to l stream ppi (b ∷ bs) t) ms (record {
     stands = pushed ws first (λ s. number_of s t.streams) (λ s. number_of s after) t.flight.queue t.flight.next_tsn sent h.stands write
-        (made l ppi (b ∷ bs) 0) (map (with_reliability l.reliability_type l.reliability_value) (map (fragment_at l ppi (b ∷ bs)) (numbers_where always (0 + 1) later)))
+        (made l ppi (b ∷ bs) 0)
+        (map (with_reliability l.reliability_type l.reliability_value) (map (fragment_at l ppi (b ∷ bs)) (numbers_where always (0 + 1) later)))
         (one-message l ppi (b ∷ bs) (omega arith)) is-stream waits unordered-same ordered-turns;
     open' =
-        let kept : (s : ℕ) → is_there s t.streams ≡ true → is_there s after ≡ true = λ s o. there-changed (has_number stream) (wrote ppi (b ∷ bs)) (λ x. refl) s t.streams ∙ o in
+        let kept : (s : ℕ) → is_there s t.streams ≡ true
+        → is_there s after ≡ true = λ s o. there-changed (has_number stream) (wrote ppi (b ∷ bs)) (λ x. refl) s t.streams ∙ o in
         (kept stream (there-found stream t.streams l found), all-open t.streams after kept ws h.open');
     sized = sized-changed (has_number stream) (wrote ppi (b ∷ bs)) (λ x. refl) t.streams h.sized;
     size = h.size;
@@ -123,7 +135,8 @@ accepted-stream stream len t e = by (stream_of stream t) refl
 -- ## A message expires
 
 -- an unsent message in front, past its deadline
-in-front : (now : ℕ) (o : Option ChunkPayloadData) (c : ChunkPayloadData) → passing (is_expired now) o ≡ Some c → (o ≡ Some c) × (c.beginning_fragment ≡ true)
+pub in-front : (now : ℕ) (o : Option ChunkPayloadData) (c : ChunkPayloadData) → passing (is_expired now) o ≡ Some c
+    → (o ≡ Some c) × (c.beginning_fragment ≡ true)
 in-front now None c e = absurd (none-some c e)
 in-front now (Some x) c e = by (is_expired now x) refl e
   where
@@ -131,7 +144,8 @@ in-front now (Some x) c e = by (is_expired now x) refl e
     by true h f = (f, subst (λ (y : ChunkPayloadData). y.beginning_fragment ≡ true) (some-same f) (both x.beginning_fragment _ h).0)
     by false h f = absurd (none-some c f)
 
-pub expires-one : (ws : List Numbered) (first : ℕ) (t : Transmission) (sent : List Entry) (ms : List Made) → IsHeld ws first t sent → (now : ℕ) (c : ChunkPayloadData) (bytes : ℕ) → expiring now t.flight.queue ≡ Some c → Result None ws ws first sent (after_expire c bytes now t) ms ms
+pub expires-one : (ws : List Numbered) (first : ℕ) (t : Transmission) (sent : List Entry) (ms : List Made) → IsHeld ws first t sent
+    → (now : ℕ) (c : ChunkPayloadData) (bytes : ℕ) → expiring now t.flight.queue ≡ Some c → Result None ws ws first sent (after_expire c bytes now t) ms ms
 expires-one ws first t sent ms h now c bytes e = calm ws ws first sent (after_expire c bytes now t) ms (record {
   stands = expired ws first (λ s. number_of s t.streams) (λ s. number_of s after) t.flight.queue t.flight.next_tsn sent h.stands c front.0 front.1 same lowers;
   open' = all-open t.streams after (λ s o. there-changed (has_number c.stream_identifier) (after_expiry c.unordered bytes) keeps s t.streams ∙ o) ws h.open';

@@ -5,3 +5,6 @@ pub mod Sacks
 pub mod Messages
 pub mod Order
 pub mod Complete
+pub mod Abandoned
+pub mod Rounds
+pub mod Refused

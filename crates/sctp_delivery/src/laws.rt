@@ -2,6 +2,8 @@
 
 pub mod complete;
 pub mod messages;
+pub mod progress;
+pub mod rounds;
 
 ghost use Rattle.sctp_delivery.specs.Session.{AfterEachSession, AreMade, AreMessages, AreRuns, IsAccounted};
 

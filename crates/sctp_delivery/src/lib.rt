@@ -3,9 +3,12 @@
 
 pub mod arrived;
 pub mod drained;
+pub mod emptied;
+pub mod forwarded;
 pub mod in_order;
 pub mod laws;
 pub mod receiver_steps;
+pub mod refusals;
 pub mod sacks;
 pub mod sender_steps;
 pub mod settled;

@@ -1,0 +1,199 @@
+-- What each call of a sender makes of the chunks in flight and of how many are left, in a session of few TSNs.
+use Rattle.std.proofs.Common.{◌≡◌, ℕ, ◌+◌, ◌-◌, ◌%◌, ◌^◌, ◌<◌, ◌≤◌, Bool, true, false, List, [], ◌∷◌, length, drop, map, Option, Some, None, is_some, inr, refl}
+use Rattle.std.proofs.Common.{ap, sym, subst, ◌∙◌, arith}
+use Rattle.std.specs.Prelude.{if◌then◌else◌, nat_lt, find, IfSome}
+use Rattle.std.proofs.lemmas.Bool.Decides.{nat_tests}
+use Rattle.sctp_list_lemmas.specs.Lists.{change_where}
+use Rattle.sctp_list_lemmas.specs.Serial.{comes_before, distance}
+use Rattle.sctp_list_lemmas.proofs.Edits.{length-change_where}
+use Rattle.sctp_list_lemmas.proofs.More.{not_both}
+use Rattle.sctp_list_lemmas.proofs.Round.{distance-tsn, tsn}
+use Rattle.sctp_data.specs.declared.chunk.chunk_payload_data.ChunkPayloadData.{ChunkPayloadData}
+use Rattle.sctp_data.specs.SelectiveAck.{Sack}
+use Rattle.sctp_outbound.specs.Marks.{as_acknowledged, is_outstanding, with_retransmit}
+use Rattle.sctp_outbound.specs.outbound_queue.OutboundQueue.{Outbound, abandoned_of, all_started, expiring, expiring_tail, message_of, sent_next, with_inflight}
+use Rattle.sctp_outbound.specs.outbound_queue.OutboundQueue.{with_message, with_message_id}
+use Rattle.sctp_outbound.specs.payload_queue.PayloadQueue as payload
+use Rattle.sctp_outbound.specs.pending_queue.PendingQueue.{next_pending}
+use Rattle.sctp_outbound.specs.pending_queue.Whole.{partially_sent, waits}
+use Rattle.sctp_outbound.proofs.lemmas.outbound_queue.SideBySide.{half_appended}
+use Rattle.sctp_serial.specs.DataChunks.{has_tsn}
+use Rattle.sctp_stream.specs.declared.stream.StreamState.{StreamState}
+use Rattle.sctp_sender.specs.Flight.{Flight, after_sack, is_outdated, message_to_abandon, reports_anew, take_sack, tsns_from}
+use Rattle.sctp_sender.specs.Late.{abandoned_at, abandoned_each, late_order, worn_order}
+use Rattle.sctp_sender.specs.Outgoing.{fragments_with_mode}
+use Rattle.sctp_sender.specs.Resending.{after_misses, all_marked, can_miss, count_again, missed, resent_at, sent_again}
+use Rattle.sctp_sender.specs.Sender.{Transmission, after_expire, stream_of}
+use Rattle.sctp_sender.proofs.Flights.{started-inflight}
+use Rattle.sctp_sender.proofs.InLine.{found-half, tail-half}
+use Rattle.sctp_sender.proofs.Runs.{IsRunFrom, changed-run, past-is}
+use Rattle.sctp_delivery.specs.Rounds.{flight_of, is_exchange}
+use Rattle.sctp_delivery.specs.SenderCalls as outgoing
+use Rattle.sctp_delivery.specs.SenderCalls.{SenderCall}
+use Rattle.sctp_delivery.specs.Session.{SenderFollows, Session, of_sender}
+use Rattle.sctp_delivery.proofs.Continued.{facts-changed, facts-part-changed}
+use Rattle.sctp_delivery.proofs.Every.{Every, every-contained}
+use Rattle.sctp_delivery.proofs.GivenTsns.{IsNumbered}
+use Rattle.sctp_delivery.proofs.Queues.{Stands, abandoned, started}
+use Rattle.sctp_delivery.proofs.QueuesLeft.{CanPut, Goes, HasPlace, abandoned-goes, dropped-goes, expired-goes, goes-none, goes-then, same-goes, sent-goes}
+use Rattle.sctp_delivery.proofs.QueuesLeft.{started-goes}
+use Rattle.sctp_delivery.proofs.ReportedTsns.{IsTruthful}
+use Rattle.sctp_delivery.proofs.SackMarks.{IsValidIn}
+use Rattle.sctp_delivery.proofs.SackSteps.{known, written-open}
+use Rattle.sctp_delivery.proofs.Senders.{IsHeld}
+use Rattle.sctp_delivery.proofs.Numbers.{number_of}
+use Rattle.sctp_delivery.proofs.Sent.{Entry, Numbered}
+use Rattle.sctp_delivery.proofs.TsnPlaces.{before, tsn-small}
+use Rattle.sctp_delivery.proofs.ValidMarks.{peeked, started-valid}
+use Rattle.sctp_delivery.proofs.Writing.{in-front}
+
+-- ## A SACK
+
+-- a SACK that is not out of date takes the first so many out
+pub sack-leaves : (p n place : ℕ) (s : Sack) (f : Flight) → n < 2 ^ 31 → place ≤ n → s.cumulative_tsn_ack ≡ tsn p place → (h : IsNumbered p n f)
+    → is_outdated s f ≡ false
+    → (take_sack s f).queue.inflight.chunks ≡ drop (place - h.acked) (change_where (reports_anew s) as_acknowledged f.queue.inflight.chunks)
+sack-leaves p n place s f few within is h e =
+    let cs = change_where (reports_anew s) as_acknowledged f.queue.inflight.chunks in
+    let long = length-change_where (reports_anew s) as_acknowledged f.queue.inflight.chunks in
+    let total = h.total in
+    let order : nat_lt place h.acked ≡ false =
+    sym (before p place h.acked (omega (arith, within, few)) (omega (arith, total, few))) ∙ ap (λ t. comes_before t (tsn p h.acked)) (sym is)
+    ∙ ap (comes_before s.cumulative_tsn_ack) (sym h.acked_is) ∙ e in
+    let le : h.acked ≤ place = grind (arith, nat_tests, order) in
+    let far : distance f.acked_tsn s.cumulative_tsn_ack ≡ place - h.acked =
+    ap (λ t. distance t s.cumulative_tsn_ack) h.acked_is ∙ ap (distance (tsn p h.acked)) is ∙ distance-tsn p h.acked place le (omega (arith, within, few)) in
+    let small : f.acked_tsn < 2 ^ 32 = let t = tsn-small p h.acked in let a = h.acked_is in omega (arith, t, a) in
+    let fits : s.cumulative_tsn_ack < 2 ^ 32 = let t = tsn-small p place in omega (arith, t, is) in
+    let run : IsRunFrom (tsn p (h.acked + 1)) cs =
+    changed-run (reports_anew s) as_acknowledged (λ c. refl) f.queue.inflight.chunks ∙ h.run ∙ ap (tsns_from (tsn p (h.acked + 1))) (sym long) in
+    let first : (f.acked_tsn + 1) % 2 ^ 32 ≡ tsn p (h.acked + 1) = let a = h.acked_is in omega (arith, a) in
+    past-is cs f.acked_tsn s.cumulative_tsn_ack small fits (omega (arith, long, total, few)) (omega (arith, far, long, total, within))
+    (subst (λ t. IsRunFrom t cs) (sym first) run)
+    ∙ ap (λ k. drop k cs) far
+
+sack-goes : (p n : ℕ) (kn : ℕ → Bool) (k : Sack) (f : Flight) → n < 2 ^ 31 → IsNumbered p n f → IsTruthful p n kn k → Goes true f.queue (after_sack k f).queue
+sack-goes p n kn k f few h t = by (is_outdated k f) refl
+  where
+    by : (b : Bool) → is_outdated k f ≡ b → Goes true f.queue (if b then f else take_sack k f).queue
+    by true e = goes-none true f.queue
+    by false e =
+        let cs = change_where (reports_anew k) as_acknowledged f.queue.inflight.chunks in
+        subst (λ ds. Goes true f.queue (with_inflight f.queue ds)) (sym (sack-leaves p n t.place k f few t.within t.is h e))
+        (dropped-goes f.queue cs (t.place - h.acked) (facts-changed (reports_anew k) as_acknowledged (λ c. refl) f.queue.inflight.chunks))
+
+-- ## Messages are abandoned
+
+gone-each : (ws : List Numbered) (first : ℕ) (number : ℕ → ℕ) (tsns : List ℕ) (f : Flight) (sent : List Entry)
+    → Stands ws first number f.queue f.next_tsn sent → HasPlace f.queue f.next_tsn → Goes true f.queue (abandoned_each tsns f).queue
+gone-each ws first number [] f sent s place = goes-none true f.queue
+gone-each ws first number (t ∷ ts) f sent s place =
+    let o = message_to_abandon t f in
+    let half = found-half f.queue s.sendable t (find (has_tsn t) f.queue.inflight.chunks) refl in
+    let a = abandoned-goes f.queue f.next_tsn s.sendable o half place in
+    let b = abandoned ws first number f.queue f.next_tsn sent s o half in
+    goes-then f.queue (abandoned_at t f).queue (abandoned_each ts (abandoned_at t f)).queue a.goes
+    (gone-each ws first number ts (abandoned_at t f) b.more b.stands a.place)
+
+-- ## A write
+
+message-same : (cs : List ChunkPayloadData) (q : Outbound) → Goes false q (with_message cs q)
+message-same [] q = goes-none false q
+message-same (c ∷ cs) q =
+    same-goes false q (with_message (c ∷ cs) q) refl (half_appended c.unordered (map (with_message_id q.next_message_id) (c ∷ cs)) q.pending)
+    (λ e. absurd (not_both e))
+
+-- ## The calls
+
+module _ (p n : ℕ) (old new : Session) (few : n < 2 ^ 31) (h : IsNumbered p n old.sending.sender.flight) (v : IsValidIn old) (ws : List Numbered) (first : ℕ)
+    (sent : List Entry) (held : IsHeld ws first old.sending.sender sent) where
+  abbrev queue : Outbound
+  queue = old.sending.sender.flight.queue
+
+  abbrev GoesOn : Bool → Type 0
+  GoesOn b = Goes b old.sending.sender.flight.queue new.sending.sender.flight.queue
+
+  goes-to : (b : Bool) (t : Transmission) → new.sending.sender ≡ t → Goes b old.sending.sender.flight.queue t.flight.queue → GoesOn b
+  goes-to b t e g = subst (λ (u : Transmission). Goes b queue u.flight.queue) (sym e) g
+
+  stays : (t : Transmission) → new.sending.sender ≡ t → t.flight.queue ≡ old.sending.sender.flight.queue → GoesOn true
+  stays t e same = goes-to true t e (subst (Goes true queue) (sym same) (goes-none true queue))
+
+  place : CanPut old.sending.sender.flight.queue.inflight.chunks old.sending.sender.flight.next_tsn
+  place = record {
+    first = tsn p (h.acked + 1);
+    small = tsn-small p (h.acked + 1);
+    few = let total = h.total in omega (arith, total, few);
+    run = h.run;
+    is = let total = h.total in let next = h.next_is in omega (arith, total, next);
+  }
+
+  abandons : (o : Option ℕ)
+      → ((m : ℕ) → o ≡ Some m → waits m old.sending.sender.flight.queue.pending ≡ true → partially_sent old.sending.sender.flight.queue.pending ≡ Some m)
+      → (t : Transmission) → new.sending.sender ≡ t
+      → t.flight.queue ≡ abandoned_of o old.sending.sender.flight.next_tsn old.sending.sender.flight.queue → GoesOn true
+  abandons o half t e is =
+      goes-to true t e (subst (Goes true queue) (sym is)
+      (abandoned-goes queue old.sending.sender.flight.next_tsn held.stands.sendable o half (inr place)).goes)
+
+  sends : (now : ℕ) → Goes true old.sending.sender.flight.queue (sent_next old.sending.sender.flight.queue old.sending.sender.flight.next_tsn now)
+  sends now =
+      let q = all_started now queue in
+      let next = old.sending.sender.flight.next_tsn in
+      let s = started ws first (λ st. number_of st old.sending.sender.streams) now queue next sent held.stands in
+      let w = started-valid _ _ now queue v in
+      goes-then queue q (sent_next queue next now) (started-goes now queue)
+      (sent-goes q next now s.sendable (subst (λ (i : payload.Payload). CanPut i.chunks next) (sym (started-inflight now queue)) place)
+      (next_pending q.pending) refl (λ c e. peeked q.pending.selected q.pending c e (w.ordered, w.unordered)))
+
+  pub calls-go : (call : SenderCall) → Every (IsTruthful p n (known old)) old.sacks → SenderFollows call old new → GoesOn (is_exchange (of_sender call))
+  calls-go (outgoing.opens stream) t f = stays _ f.step.sender refl
+  calls-go (outgoing.sets_mode stream unordered reliability value) t f = stays _ f.step.sender refl
+  calls-go (outgoing.sets_size size) t f = stays _ f.step.sender refl
+  calls-go (outgoing.sets_low stream bytes) t f = stays _ f.step.sender refl
+  calls-go (outgoing.forwards u c) t f = stays _ f.exact refl
+  calls-go (outgoing.forwards_within bytes c) t f = stays _ f.exact refl
+  calls-go (outgoing.writes stream ppi []) t f = goes-to false _ (f.exact.0 refl) (goes-none false queue)
+  calls-go (outgoing.writes stream ppi (b ∷ bs)) t f = by (stream_of stream old.sending.sender) refl
+    where
+      by : (o : Option StreamState) → stream_of stream old.sending.sender ≡ o → GoesOn false
+      by None e = absurd (written-open stream (length (b ∷ bs)) old.sending.sender f.accepted e)
+      by (Some l) e = goes-to false _ (f.exact.1 (omega arith) l e) (message-same (fragments_with_mode l ppi (b ∷ bs)) queue)
+  calls-go (outgoing.starts now) t f = goes-to true _ f.step.sender (started-goes now queue)
+  calls-go (outgoing.reserves more) t f = goes-to true _ f.step.sender (same-goes true queue _ refl refl (λ _. omega arith))
+  calls-go (outgoing.sends now) t f = goes-to true _ f.exact (sends now)
+  calls-go (outgoing.resends u now c) t f =
+      goes-to true _ f.step.sender
+      (same-goes true queue (resent_at u now c (flight_of old)).queue
+      (facts-changed (has_tsn u) (sent_again (count_again c) now) (λ d. refl) queue.inflight.chunks) refl (λ _. omega arith))
+  calls-go outgoing.marks t f =
+      goes-to true _ f.step.sender
+      (same-goes true queue (all_marked (flight_of old)).queue
+      (facts-changed is_outstanding (with_retransmit true) (λ d. refl) queue.inflight.chunks) refl (λ _. omega arith))
+  calls-go (outgoing.misses count) t f =
+      goes-to true _ f.step.sender
+      (same-goes true queue (after_misses count (flight_of old)).queue
+      (facts-part-changed can_miss missed (λ d. refl) queue.inflight.chunks count) refl (λ _. omega arith))
+  calls-go (outgoing.abandons u a) t f =
+      abandons (message_to_abandon u (flight_of old)) (found-half queue held.stands.sendable u (find (has_tsn u) queue.inflight.chunks) refl) _ f.exact refl
+  calls-go (outgoing.expires now None) t f = stays _ (f.exact.1.1 refl) refl
+  calls-go (outgoing.expires now (Some e)) t f = by (expiring now queue) refl f.exact.0 f.exact.1.0
+    where
+      by : (o : Option ChunkPayloadData) → expiring now old.sending.sender.flight.queue ≡ o → true ≡ is_some o
+          → IfSome o (λ c. new.sending.sender ≡ after_expire c e.bytes now old.sending.sender) → GoesOn true
+      by None g k i = absurd (not_both (sym k))
+      by (Some c) g k i =
+          let front = in-front now (next_pending queue.pending) c g in
+          goes-to true _ i (expired-goes queue held.stands.sendable c front.0 front.1)
+  calls-go (outgoing.expires_tail now None) t f = stays _ (f.exact.1 refl) refl
+  calls-go (outgoing.expires_tail now (Some a)) t f =
+      abandons (message_of (expiring_tail now queue))
+      (λ m e _. tail-half queue held.stands.sendable now (next_pending queue.pending) refl m e) _ f.exact.0 refl
+  calls-go (outgoing.expires_late now gone) t f =
+      goes-to true _ f.exact
+      (gone-each ws first (λ s. number_of s old.sending.sender.streams) (late_order now (flight_of old)) (flight_of old) sent held.stands (inr place))
+  calls-go (outgoing.expires_rexmit gone) t f =
+      goes-to true _ f.exact
+      (gone-each ws first (λ s. number_of s old.sending.sender.streams) (worn_order (flight_of old)) (flight_of old) sent held.stands (inr place))
+  calls-go (outgoing.takes_sack k gone) t f =
+      goes-to true _ f.exact (sack-goes p n (known old) k (flight_of old) few h (every-contained (IsTruthful p n (known old)) old.sacks k f.handed t))

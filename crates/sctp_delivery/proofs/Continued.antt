@@ -1,0 +1,212 @@
+-- Behind a chunk in flight that does not end its message stands one of it, abandoned where it is: whatever is sent, abandoned, marked or
+-- taken out.
+use Rattle.std.proofs.Common.{◌≡◌, ℕ, zero, suc, ◌+◌, Bool, true, false, not, List, [], ◌∷◌, ◌++◌, map, take, drop, Option, Some, refl, ap, ap₂, sym, subst}
+use Rattle.std.proofs.Common.{◌∙◌, arith}
+use Rattle.std.specs.Prelude.{if◌then◌else◌, ◌==◌}
+use Rattle.std.specs.List.{filter}
+use Rattle.std.proofs.lemmas.List.{map-append, take-append-drop}
+use Rattle.std.proofs.lemmas.Option.{none-some}
+use Rattle.sctp_list_lemmas.specs.Lists.{change_where}
+use Rattle.sctp_list_lemmas.proofs.Cases.{same-is, same-yes, some-same}
+use Rattle.sctp_list_lemmas.proofs.More.{fails, not_both}
+use Rattle.sctp_list_lemmas.proofs.Round.{tsn}
+use Rattle.sctp_data.specs.declared.chunk.chunk_payload_data.ChunkPayloadData.{ChunkPayloadData}
+use Rattle.sctp_outbound.specs.Marks.{as_abandoned, is_of}
+use Rattle.sctp_outbound.specs.outbound_queue.OutboundQueue.{Outbound}
+use Rattle.sctp_outbound.specs.pending_queue.PendingQueue.{last_of}
+use Rattle.sctp_outbound.specs.pending_queue.Whole.{ends, partially_sent}
+use Rattle.sctp_sender.proofs.Runs.{IsRunFrom}
+use Rattle.sctp_delivery.specs.Rounds.{is_first_abandoned}
+use Rattle.sctp_delivery.proofs.PassedTsns.{lead, rest-run}
+
+-- ## What is so of the chunks in flight
+
+-- of a chunk: its message, whether it ends it, and whether that is abandoned
+abbrev pub Facts : Type 0
+Facts = ℕ × Bool × Bool
+
+abbrev pub facts : ChunkPayloadData → Facts
+facts c = (c.message_id, c.ending_fragment, c.abandoned)
+
+abbrev pub facts_of : List ChunkPayloadData → List Facts
+facts_of cs = map facts cs
+
+-- behind each that does not end its message stands one of it, abandoned or not as it is; the last of all ends its message, or that is
+-- the partially sent one, and not abandoned
+abbrev pub AreContinued : Option ℕ → List Facts → Type 0
+AreContinued half [] = Unit {0}
+AreContinued half (x ∷ []) = x.1 ≡ false → (half ≡ Some x.0) × (x.2 ≡ false)
+AreContinued half (x ∷ y ∷ ys) = (x.1 ≡ false → (y.0 ≡ x.0) × (y.2 ≡ x.2)) × AreContinued half (y ∷ ys)
+
+abbrev pub IsContinued : Outbound → Type 0
+IsContinued q = AreContinued (partially_sent q.pending) (facts_of q.inflight.chunks)
+
+-- ## Without the first, and with a further one
+
+pub rest-continued : (half : Option ℕ) (x : Facts) (xs : List Facts) → AreContinued half (x ∷ xs) → AreContinued half xs
+rest-continued half x [] a = tt
+rest-continued half x (y ∷ ys) a = a.1
+
+pub left-continued : (half : Option ℕ) (n : ℕ) (xs : List Facts) → AreContinued half xs → AreContinued half (drop n xs)
+left-continued half zero xs a = a
+left-continued half (suc n) [] a = tt
+left-continued half (suc n) (x ∷ xs) a = left-continued half n xs (rest-continued half x xs a)
+
+-- a chunk of the message that is partially sent, or of a new one, is sent
+pub sent-continued : (half next : Option ℕ) (m : ℕ) (e : Bool) (xs : List Facts) → ((j : ℕ) → half ≡ Some j → m ≡ j) → (e ≡ false → next ≡ Some m)
+    → AreContinued half xs → AreContinued next (xs ++ (m, e, false) ∷ [])
+sent-continued half next m e [] on goes a = λ f. (goes f, refl)
+sent-continued half next m e (x ∷ []) on goes a = (λ f. let h = a f in (on x.0 h.0, sym h.1), λ f. (goes f, refl))
+sent-continued half next m e (x ∷ y ∷ ys) on goes a = (a.0, sent-continued half next m e (y ∷ ys) on goes a.1)
+
+-- ## A message is abandoned
+
+abbrev pub gone_at : ℕ → Facts → Facts
+gone_at m x = if x.0 == m then (x.0, x.1, true) else x
+
+pub facts-abandoned : (m : ℕ) (cs : List ChunkPayloadData) → facts_of (change_where (is_of m) as_abandoned cs) ≡ map (gone_at m) (facts_of cs)
+facts-abandoned m [] = refl
+facts-abandoned m (c ∷ cs) = ap₂ (λ x xs. x ∷ xs) (by (c.message_id == m)) (facts-abandoned m cs)
+  where
+    by : (b : Bool) → facts (if b then as_abandoned c else c) ≡ (if b then (c.message_id, c.ending_fragment, true) else facts c)
+    by true = refl
+    by false = refl
+
+same-number : (m : ℕ) (x : Facts) → (gone_at m x).0 ≡ x.0
+same-number m x = by (x.0 == m)
+  where
+    by : (b : Bool) → (if b then (x.0, x.1, true) else x).0 ≡ x.0
+    by true = refl
+    by false = refl
+
+same-end : (m : ℕ) (x : Facts) → (gone_at m x).1 ≡ x.1
+same-end m x = by (x.0 == m)
+  where
+    by : (b : Bool) → (if b then (x.0, x.1, true) else x).1 ≡ x.1
+    by true = refl
+    by false = refl
+
+gone : (m : ℕ) (x : Facts) → x.0 ≡ m → (gone_at m x).2 ≡ true
+gone m x same = ap (λ b. (if b then (x.0, x.1, true) else x).2) (subst (λ j. (j == m) ≡ true) (sym same) (same-yes m))
+
+kept : (m : ℕ) (x : Facts) → (x.0 ≡ m → ⊥) → (gone_at m x).2 ≡ x.2
+kept m x other = ap (λ b. (if b then (x.0, x.1, true) else x).2) (fails (x.0 == m) (λ e. other (same-is x.0 m e)))
+
+-- two of one message stay alike
+alike : (m : ℕ) (x y : Facts) → y.0 ≡ x.0 → y.2 ≡ x.2 → (gone_at m y).2 ≡ (gone_at m x).2
+alike m x y same both = by (x.0 == m) refl
+  where
+    by : (b : Bool) → (x.0 == m) ≡ b → (gone_at m y).2 ≡ (gone_at m x).2
+    by true e = let is = same-is x.0 m e in gone m y (same ∙ is) ∙ sym (gone m x is)
+    by false e =
+        let off : x.0 ≡ m → ⊥ = λ is. not_both (sym e ∙ subst (λ j. (j == m) ≡ true) (sym is) (same-yes m)) in
+        kept m y (λ is. off (sym same ∙ is)) ∙ both ∙ sym (kept m x off)
+
+pair-gone : (m : ℕ) (x y : Facts) → (x.1 ≡ false → (y.0 ≡ x.0) × (y.2 ≡ x.2))
+    → (gone_at m x).1 ≡ false → ((gone_at m y).0 ≡ (gone_at m x).0) × ((gone_at m y).2 ≡ (gone_at m x).2)
+pair-gone m x y p e = let h = p (sym (same-end m x) ∙ e) in (same-number m y ∙ h.0 ∙ sym (same-number m x), alike m x y h.0 h.1)
+
+-- one that is not partially sent
+pub abandoned-continued : (half : Option ℕ) (m : ℕ) (xs : List Facts) → (half ≡ Some m → ⊥) → AreContinued half xs → AreContinued half (map (gone_at m) xs)
+abandoned-continued half m [] other a = tt
+abandoned-continued half m (x ∷ []) other a =
+    λ e. let h = a (sym (same-end m x) ∙ e) in (
+      h.0 ∙ ap Some (sym (same-number m x)),
+      kept m x (λ is. other (h.0 ∙ ap Some is)) ∙ h.1,
+    )
+abandoned-continued half m (x ∷ y ∷ ys) other a = (pair-gone m x y a.0, abandoned-continued half m (y ∷ ys) other a.1)
+
+-- the one that is: its terminal chunk stands behind its chunks
+pub ended-continued : (half next : Option ℕ) (m : ℕ) (xs : List Facts) → half ≡ Some m → AreContinued half xs
+    → AreContinued next (map (gone_at m) xs ++ (m, true, true) ∷ [])
+ended-continued half next m [] is a = λ e. absurd (not_both (sym e))
+ended-continued half next m (x ∷ []) is a = (
+  λ e. let h = a (sym (same-end m x) ∙ e) in
+      let same : m ≡ x.0 = some-same (sym is ∙ h.0) in
+      (same ∙ sym (same-number m x), sym (gone m x (sym same))),
+  λ e. absurd (not_both (sym e)),
+)
+ended-continued half next m (x ∷ y ∷ ys) is a = (pair-gone m x y a.0, ended-continued half next m (y ∷ ys) is a.1)
+
+-- ## Other changes
+
+pub facts-changed : (p : ChunkPayloadData → Bool) (f : ChunkPayloadData → ChunkPayloadData) → ((c : ChunkPayloadData) → facts (f c) ≡ facts c)
+    → (cs : List ChunkPayloadData) → facts_of (change_where p f cs) ≡ facts_of cs
+facts-changed p f same [] = refl
+facts-changed p f same (c ∷ cs) = ap₂ (λ x xs. x ∷ xs) (by (p c)) (facts-changed p f same cs)
+  where
+    by : (b : Bool) → facts (if b then f c else c) ≡ facts c
+    by true = same c
+    by false = refl
+
+-- of the first so many
+pub facts-part-changed : (p : ChunkPayloadData → Bool) (f : ChunkPayloadData → ChunkPayloadData) → ((c : ChunkPayloadData) → facts (f c) ≡ facts c)
+    → (cs : List ChunkPayloadData) (i : ℕ) → facts_of (change_where p f (take i cs) ++ drop i cs) ≡ facts_of cs
+facts-part-changed p f same cs i =
+    map-append facts (change_where p f (take i cs)) (drop i cs) ∙ ap (λ xs. xs ++ facts_of (drop i cs)) (facts-changed p f same (take i cs))
+    ∙ sym (map-append facts (take i cs) (drop i cs)) ∙ ap facts_of (take-append-drop i cs)
+
+-- ## The chunks in front that are of abandoned messages
+
+-- the last of them ends its message
+pub record EndsThere (p place : ℕ) (cs : List ChunkPayloadData) : Type 0 where
+  pub chunk : ChunkPayloadData
+  pub last : last_of (filter ends (take (lead cs) cs)) ≡ Some chunk
+  pub is : chunk.tsn ≡ tsn p (place + lead cs)
+
+last-more : (c e : ChunkPayloadData) (cs : List ChunkPayloadData) → last_of cs ≡ Some e → last_of (c ∷ cs) ≡ Some e
+last-more c e [] h = absurd (none-some e h)
+last-more c e (d ∷ ds) h = h
+
+pub lead-ends : (half : Option ℕ) (p place : ℕ) (cs : List ChunkPayloadData) → AreContinued half (facts_of cs) → IsRunFrom (tsn p (place + 1)) cs
+    → is_first_abandoned cs ≡ true → EndsThere p place cs
+lead-ends half p place [] a run first = absurd (not_both first)
+lead-ends half p place (c ∷ cs) a run first = by cs refl a r.1 (λ b. lead-ends half p (place + 1) cs (rest-continued half (facts c) (facts_of cs) a) r.1 b)
+  where
+    r : (c.tsn ≡ tsn p (place + 1)) × IsRunFrom (tsn p (place + 1 + 1)) cs
+    r = rest-run p place c cs run
+
+    is-lead : (k : ℕ) → lead cs ≡ k → lead (c ∷ cs) ≡ suc k
+    is-lead k e = ap (λ b. if not b then 0 else lead cs + 1) first ∙ (let n : lead cs + 1 ≡ suc k = omega (arith, e) in n)
+
+    -- the chunk in front ends it, and is the only one
+    alone : lead cs ≡ 0 → c.ending_fragment ≡ true → EndsThere p place (c ∷ cs)
+    alone none e =
+        let n = is-lead 0 none in
+        record {
+          chunk = c;
+          last = ap (λ k. last_of (filter ends (take k (c ∷ cs)))) n ∙ ap (λ b. last_of (if b then c ∷ [] else [])) e;
+          is = r.0 ∙ ap (λ k. tsn p (place + k)) (sym n);
+        }
+
+    -- one behind it does
+    behind : EndsThere p (place + 1) cs → EndsThere p place (c ∷ cs)
+    behind i =
+        let n = is-lead (lead cs) refl in
+        let sum : place + 1 + lead cs ≡ place + lead (c ∷ cs) = omega (arith, n) in
+        record {
+          chunk = i.chunk;
+          last = ap (λ k. last_of (filter ends (take k (c ∷ cs)))) n ∙ more c.ending_fragment;
+          is = i.is ∙ ap (tsn p) sum;
+        }
+      where
+        more : (b : Bool) → last_of (if b then c ∷ filter ends (take (lead cs) cs) else filter ends (take (lead cs) cs)) ≡ Some i.chunk
+        more true = last-more c i.chunk (filter ends (take (lead cs) cs)) i.last
+        more false = i.last
+
+    by : (ds : List ChunkPayloadData) → cs ≡ ds → AreContinued half (facts c ∷ facts_of ds) → IsRunFrom (tsn p (place + 1 + 1)) ds
+        → (is_first_abandoned cs ≡ true → EndsThere p (place + 1) cs) → EndsThere p place (c ∷ cs)
+    by [] e k run' ih = alone (ap lead e) (end c.ending_fragment refl)
+      where
+        end : (b : Bool) → c.ending_fragment ≡ b → b ≡ true
+        end true h = refl
+        end false h = absurd (not_both (sym (k h).1 ∙ first))
+    by (d ∷ ds) e k run' ih = on d.abandoned refl
+      where
+        on : (b : Bool) → d.abandoned ≡ b → EndsThere p place (c ∷ cs)
+        on true g = behind (ih (ap is_first_abandoned e ∙ g))
+        on false g = alone (ap lead e ∙ ap (λ b. if not b then 0 else lead ds + 1) g) (end c.ending_fragment refl)
+          where
+            end : (b : Bool) → c.ending_fragment ≡ b → b ≡ true
+            end true h = refl
+            end false h = absurd (not_both (sym g ∙ (k.0 h).1 ∙ first))

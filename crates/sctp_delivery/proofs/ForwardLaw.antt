@@ -1,0 +1,288 @@
+-- A receiver that is read refuses no FORWARD-TSN that the sender may make now.
+use Rattle.std.proofs.Common.{◌≡◌, ℕ, zero, suc, ◌+◌, ◌-◌, ◌%◌, ◌^◌, ◌<◌, ◌≤◌, Bool, true, false, not, List, [], ◌∷◌, take, Option, Some, None, inl, inr, refl}
+use Rattle.std.proofs.Common.{ap, sym, subst, ◌∙◌, arith}
+use Rattle.std.specs.Prelude.{◌⊎◌, ◌==◌, ◌&&◌, ◌||◌, if◌then◌else◌, is_some, nat_le, nat_lt}
+use Rattle.std.specs.List.{filter, list_all, list_any}
+use Rattle.std.proofs.lemmas.Bool.{cases_lt}
+use Rattle.std.proofs.lemmas.Bool.Decides.{nat_tests}
+use Rattle.sctp_list_lemmas.specs.Serial.{comes_before, distance, distance16}
+use Rattle.sctp_list_lemmas.proofs.Cases.{same-yes}
+use Rattle.sctp_list_lemmas.proofs.More.{both, not_both}
+use Rattle.sctp_list_lemmas.proofs.Round.{distance-tsn, tsn}
+use Rattle.sctp_data.specs.declared.chunk.chunk_payload_data.ChunkPayloadData.{ChunkPayloadData}
+use Rattle.sctp_data.specs.declared.chunk.chunk_forward_tsn.ChunkForwardTsnStream.{ChunkForwardTsnStream}
+use Rattle.sctp_data.specs.ChunkSet.{ChunkSet}
+use Rattle.sctp_data.specs.ForwardTsn.{ForwardTsn}
+use Rattle.sctp_data.specs.PayloadData.{data_of}
+use Rattle.sctp_outbound.specs.pending_queue.PendingQueue.{last_of}
+use Rattle.sctp_serial.specs.DataChunks.{is_on}
+use Rattle.sctp_reassembly.specs.reassembly_queue.ReassemblyQueue.{message_read}
+use Rattle.sctp_receiver.specs.declared.receiver.inbound_streams.InboundStream.{InboundStream}
+use Rattle.sctp_receiver.specs.declared.receiver.refusal.ReceiverRefusal.TheVariants.{NamedSsnTooFar, NamedStreamUnknown, TsnOpposite}
+use Rattle.sctp_receiver.specs.Receiver.{Reception, forward_refusal, is_open, message_of, stream_of}
+use Rattle.sctp_receiver.specs.Skips.{is_ahead, names_too_far, skip_refusal}
+use Rattle.sctp_receiver.specs.Ssns.{is_lowest_complete, is_name_too_far, is_named_too_far, lowest_ssn}
+use Rattle.sctp_sender.specs.Abandonment.{Name, ahead, is_named, is_pair_of, named_up_to, pairs_of}
+use Rattle.sctp_sender.specs.Flight.{Flight}
+use Rattle.sctp_delivery.specs.Refused.{AfterEachUnlimitedSession, MayMake, NoneMadeIsRefused, is_due_named, reads_nothing_on}
+use Rattle.sctp_delivery.specs.Sacks.{tsns_given}
+use Rattle.sctp_delivery.specs.Session.{Session, at_start}
+use Rattle.sctp_delivery.proofs.NotRefused.{begun-low}
+use Rattle.sctp_delivery.proofs.PassedTsns.{IsPassable, passable-end, passable-skip}
+use Rattle.sctp_delivery.proofs.SackSteps.{known}
+use Rattle.sctp_delivery.proofs.Sent.{Entry, WasSent}
+use Rattle.sctp_delivery.proofs.ValidSessions.{HasValid, valid-session}
+use Rattle.sctp_delivery.proofs.ValidStreams.{ValidIn, index_in}
+use Rattle.sctp_delivery.proofs.SpreadCalls.{IsSpread}
+use Rattle.sctp_delivery.proofs.SpreadEntries.{begun_to, is_at, to-all}
+use Rattle.sctp_delivery.proofs.SpreadFlight.{AreOn, AreSteps, IsNaming, are-on, are-steps, named}
+use Rattle.sctp_delivery.proofs.TightFlight.{last-at}
+use Rattle.sctp_delivery.proofs.ToldCalls as told
+use Rattle.sctp_delivery.proofs.TsnPlaces.{base, before, same-place}
+use Rattle.sctp_delivery.proofs.UnwrappedHolds.{AreDue, Came, DueOn}
+use Rattle.sctp_delivery.proofs.UnwrappedSessions as sessions
+
+-- ## Names
+
+-- one of these names
+abbrev In : ChunkForwardTsnStream → List ChunkForwardTsnStream → Type 0
+In x [] = ⊥
+In x (y ∷ ys) = (y ≡ x) ⊎ In x ys
+
+in-those : (q : ChunkForwardTsnStream → Bool) (x : ChunkForwardTsnStream) (ys : List ChunkForwardTsnStream) → q x ≡ true → In x ys → In x (filter q ys)
+in-those q x [] h i = i
+in-those q x (y ∷ ys) h i = by (q y) refl i (in-those q x ys h)
+  where
+    by : (b : Bool) → q y ≡ b → (y ≡ x) ⊎ In x ys → (In x ys → In x (filter q ys)) → In x (if b then y ∷ filter q ys else filter q ys)
+    by true e (inl k) ih = inl k
+    by true e (inr k) ih = inr (ih k)
+    by false e (inl k) ih = absurd (not_both (sym e ∙ ap q k ∙ h))
+    by false e (inr k) ih = ih k
+
+all-in : (q : ChunkForwardTsnStream → Bool) (x : ChunkForwardTsnStream) (ys : List ChunkForwardTsnStream) → list_all q ys ≡ true → In x ys → q x ≡ true
+all-in q x [] h i = absurd i
+all-in q x (y ∷ ys) h i =
+    let b = both (q y) (list_all q ys) h in
+    elim i [ inl k ↦ ap q (sym k) ∙ b.0 | inr k ↦ all-in q x ys b.1 k ]
+
+none-in : (q : ChunkForwardTsnStream → Bool) (ys : List ChunkForwardTsnStream) → ((x : ChunkForwardTsnStream) → In x ys → q x ≡ false) → list_any q ys ≡ false
+none-in q [] h = refl
+none-in q (y ∷ ys) h = ap (λ b. b || list_any q ys) (h y (inl refl)) ∙ none-in q ys (λ x i. h x (inr i))
+
+-- no ordered chunk of the stream, none that is named
+none-named : (st : ℕ) (sent : List Entry) (a j : ℕ) (cs : List ChunkPayloadData) → AreOn st sent a cs → ((k : ℕ) → a < k → k ≤ a + j → is_at st k sent ≡ false)
+    → filter (is_on st) (filter is_named (take j cs)) ≡ []
+none-named st sent a zero cs o none = refl
+none-named st sent a (suc j) [] o none = refl
+none-named st sent a (suc j) (c ∷ cs) o none =
+    by c.abandoned (not c.unordered) (is_on st c) refl (o.0 ∙ none (a + 1) (omega arith) (omega arith))
+    (none-named st sent (a + 1) j cs o.1 (λ k lt le. none k (omega (arith, lt)) (omega (arith, le))))
+  where
+    by : (b u v : Bool) → is_on st c ≡ v → (v && u) ≡ false → filter (is_on st) (filter is_named (take j cs)) ≡ []
+        → filter (is_on st) (if b && u then c ∷ filter is_named (take j cs) else filter is_named (take j cs)) ≡ []
+    by true true true e h ih = absurd (not_both (sym h))
+    by true true false e h ih =
+        ap (λ k. if k then c ∷ filter (is_on st) (filter is_named (take j cs)) else filter (is_on st) (filter is_named (take j cs))) e ∙ ih
+    by true false v e h ih = ih
+    by false u v e h ih = ih
+
+-- ## Numbers
+
+-- near the lowest number, before it or behind
+not-between : (low j : ℕ) → low ≤ j + 2 ^ 14 → j ≤ low + 2 ^ 14
+    → (distance16 (low % 2 ^ 16) (j % 2 ^ 16) < 2 ^ 15 - 1) ⊎ (2 ^ 15 + 2 ^ 14 ≤ distance16 (low % 2 ^ 16) (j % 2 ^ 16))
+unfolding distance16
+not-between low j a b = elim (cases_lt j low) [ inl lt ↦ inr (omega (arith, lt, a)) | inr ge ↦ inl (omega (arith, ge, b)) ]
+
+not-far : (k : ℕ) → (k < 2 ^ 15 - 1) ⊎ (2 ^ 15 + 2 ^ 14 ≤ k) → (c : Bool)
+    → ((nat_le (2 ^ 15) k && nat_lt k (2 ^ 15 + 2 ^ 14)) || ((k == 2 ^ 15 - 1) && c)) ≡ false
+not-far k (inl lt) c =
+    let a : nat_le (2 ^ 15) k ≡ false = grind (arith, nat_tests, lt) in
+    let b : (k == 2 ^ 15 - 1) ≡ false = grind (arith, nat_tests, lt) in
+    ap (λ x. (x && nat_lt k (2 ^ 15 + 2 ^ 14)) || ((k == 2 ^ 15 - 1) && c)) a ∙ ap (λ x. x && c) b
+not-far k (inr ge) c =
+    let a : nat_lt k (2 ^ 15 + 2 ^ 14) ≡ false = grind (arith, nat_tests, ge) in
+    let d : nat_le (2 ^ 15) k ≡ true = grind (arith, nat_tests, ge) in
+    let b : (k == 2 ^ 15 - 1) ≡ false = grind (arith, nat_tests, ge) in
+    ap (λ x. (x && nat_lt k (2 ^ 15 + 2 ^ 14)) || ((k == 2 ^ 15 - 1) && c)) d ∙ ap (λ x. x || ((k == 2 ^ 15 - 1) && c)) a ∙ ap (λ x. x && c) b
+
+-- ## A FORWARD-TSN that may be made
+
+module _ (first n : ℕ) (few : n < 2 ^ 31) (s : Session) (h : HasValid first n s) (f : ForwardTsn) (may : MayMake f s.sending.sender)
+    (due : is_due_named f s.receiving.receiver ≡ true) where
+  abbrev p : ℕ
+  p = base first
+
+  abbrev r : Reception
+  r = s.receiving.receiver
+
+  abbrev sent : List Entry
+  sent = h.sent
+
+  abbrev t : ℕ
+  t = f.new_cumulative_tsn
+
+  abbrev flight : Flight
+  flight = s.sending.sender.flight
+
+  abbrev spread : IsSpread first n s h.numbered h.sent
+  spread = h.valid.unwrapped.spread
+
+  abbrev a : ℕ
+  a = spread.step.numbered.acked
+
+  passable : IsPassable p n flight spread.step.numbered few t
+  passable = elim may [
+    | inl x ↦ passable-skip p n flight spread.step.numbered few x.0 t x.1.0
+    | inr x ↦ passable-end p n flight spread.step.numbered few t x.1.0 x.1.1
+  ]
+
+  name : Name f.streams (named_up_to t flight)
+  name = elim may [ inl x ↦ x.1.1 | inr x ↦ x.1.2 ]
+
+  abbrev m : ℕ
+  m = passable.given.place
+
+  steps : (st : ℕ) → AreSteps st sent a flight.queue.inflight.chunks
+  steps st =
+      are-steps first n sent spread.long few st a flight.queue.inflight.chunks spread.step.numbered.total spread.step.numbered.run
+      spread.holds.held.stands.known
+
+  on : (st : ℕ) → AreOn st sent a flight.queue.inflight.chunks
+  on st =
+      are-on first n sent spread.long few st a flight.queue.inflight.chunks spread.step.numbered.total spread.step.numbered.run
+      spread.holds.held.stands.known
+
+  far : ahead flight t ≡ m - a
+  far =
+      let past = passable.past in
+      let within = passable.given.within in
+      ap (λ u. distance u t) spread.step.numbered.acked_is ∙ ap (distance (tsn p a)) passable.given.is
+      ∙ distance-tsn p a m (omega (arith, past)) (omega (arith, within, few))
+
+  module _ (x : ChunkForwardTsnStream) (in' : In x f.streams) (lead : is_ahead f r ≡ true) where
+    abbrev st : ℕ
+    st = x.identifier
+
+    abbrev B : ℕ → ℕ
+    B k = begun_to st k sent
+
+    abbrev E : ℕ → Bool
+    E k = is_at st k sent
+
+    abbrev M : ChunkPayloadData → Type 0
+    M c = WasSent sent (data_of c)
+
+    abbrev d : AreDue p st n B E M a s.receiving
+    d = (h.valid.unwrapped.told st).0
+
+    abbrev Prior : ℕ → Type 0
+    Prior = Came p st n B E M r.cumulative_tsn r.beyond
+
+    abbrev Both : Option InboundStream → Type 0
+    Both o = (e : DueOn p st n B E M Prior d.k d.reach o) × ValidIn st first n sent r (index_in p st n B E M Prior d.k d.reach o e) o
+
+    own : In x (filter (is_pair_of st) f.streams)
+    own = in-those (is_pair_of st) x f.streams (same-yes st) in'
+
+    -- a chunk that it passes is an ordered one of the stream
+    fragment-there : (z : ℕ) × (a < z) × (z ≤ m) × (is_at st z sent ≡ true) × (B z ≡ B m)
+    fragment-there = elim (last-at st a m sent) [
+      | inr z ↦ z
+      | inl none ↦
+          let past = passable.past in
+          let nothing : filter (is_on st) (named_up_to t flight) ≡ [] =
+          none-named st sent a (ahead flight t) flight.queue.inflight.chunks (on st) (λ k lt le. none k lt (omega (arith, le, far, past))) in
+          absurd (subst (In x) (name st ∙ ap (λ cs. pairs_of (last_of cs)) nothing) own)
+    ]
+
+    -- its number is that of the last message begun up to there
+    number-is : (k : ℕ) × (k + 1 ≡ B m) × (x.sequence ≡ k % 2 ^ 16)
+    number-is = by (named st p n sent flight spread.step.numbered few spread.long (steps st) (on st) f passable name)
+      where
+        by : IsNaming st p a sent f → (k : ℕ) × (k + 1 ≡ B m) × (x.sequence ≡ k % 2 ^ 16)
+        by i = elim i.tells [
+          | inl y ↦ absurd (subst (In x) y.0 own)
+          | inr y ↦
+              let w = i.within in
+              let long = spread.long in
+              let v = passable.given.within in
+              let same : i.place ≡ m = same-place p i.place m (omega (arith, w, long, few)) (omega (arith, v, few)) (sym i.is ∙ passable.given.is) in
+              (y.0, y.1 ∙ ap B same, one (y.0 % 2 ^ 16) (subst (In x) y.2 own))
+        ]
+          where
+            one : (k : ℕ) → In x (record { identifier = st; sequence = k } ∷ []) → x.sequence ≡ k
+            one k (inl e) = sym (ap (λ (y : ChunkForwardTsnStream). y.sequence) e)
+            one k (inr e) = absurd e
+
+    past-heard : d.heard.place < m
+    past-heard =
+        let w = d.heard.within in
+        let v = passable.given.within in
+        let order : nat_lt d.heard.place m ≡ true = sym (before p d.heard.place m (omega (arith, w, few)) (omega (arith, v, few)))
+        ∙ ap (λ u. comes_before u (tsn p m)) (sym d.heard.is) ∙ ap (comes_before r.cumulative_tsn) (sym passable.given.is) ∙ lead in
+        grind (arith, nat_tests, order)
+
+    near-name : (l : InboundStream) → stream_of st r ≡ Some l → message_read l.queue.held ≡ None → is_name_too_far x.sequence l.queue.held ≡ false
+    near-name l there none =
+        let b : Both (Some l) = subst Both there (d.due, h.valid.valid st) in
+        let e = b.0 in
+        let up = sessions.grows st first n s h.numbered sent spread few in
+        let low = begun-low st first n few s h.numbered sent spread d l.queue.held e b.1 none in
+        let near = sessions.near st first n s h.numbered sent spread few in
+        let least = up a d.heard.place d.heard.least_is in
+        let v = passable.given.within in
+        let top = up m n v in
+        let k = number-is.1 in
+        let z = fragment-there in
+        let zm = z.4 in
+        let tight = h.valid.tight st z.0 z.1 z.3 in
+        let long = spread.long in
+        let all = to-all st n sent (omega (arith, long)) in
+        let from = e.from in
+        let within = e.within in
+        let most = d.most in
+        let close = not-between e.low number-is.0 (omega (arith, from, within, most, tight, all, zm, k)) (omega (arith, k, top, near, least, low)) in
+        let same : distance16 (lowest_ssn l.queue.held) x.sequence ≡ distance16 (e.low % 2 ^ 16) (number-is.0 % 2 ^ 16) =
+        ap (λ j. distance16 j x.sequence) e.lowest ∙ ap (distance16 (e.low % 2 ^ 16)) number-is.2 in
+        not-far (distance16 (lowest_ssn l.queue.held) x.sequence) (elim close [
+          | inl lt ↦ inl (omega (arith, same, lt))
+          | inr ge ↦ inr (omega (arith, same, ge))
+        ]) (is_lowest_complete l.queue.held)
+
+    not-named-far : is_named_too_far x (stream_of st r) ≡ false
+    not-named-far = by (stream_of st r) refl (all-in (λ y. is_open y.identifier r && reads_nothing_on y.identifier r) x f.streams due in')
+      where
+        none-of : (o : Option ChunkSet) → not (is_some o) ≡ true → o ≡ None
+        none-of None e = refl
+        none-of (Some y) e = absurd (not_both e)
+
+        by : (o : Option InboundStream) → stream_of st r ≡ o → (is_open st r && reads_nothing_on st r) ≡ true → is_named_too_far x o ≡ false
+        by None there e = refl
+        by (Some l) there e =
+            near-name l there (none-of (message_read l.queue.held)
+            (ap (λ o. not (is_some (message_of o))) (sym there) ∙ (both (is_open st r) (reads_nothing_on st r) e).1))
+
+  open-all : list_any (λ y. not (is_open y.identifier r)) f.streams ≡ false
+  open-all = none-in (λ y. not (is_open y.identifier r)) f.streams (λ y i.
+      ap not (both (is_open y.identifier r) (reads_nothing_on y.identifier r)
+      (all-in (λ z. is_open z.identifier r && reads_nothing_on z.identifier r) y f.streams due i)).0)
+
+  near-all : (b : Bool) → is_ahead f r ≡ b → (b && list_any (λ y. is_named_too_far y (stream_of y.identifier r)) f.streams) ≡ false
+  near-all false e = refl
+  near-all true e = none-in (λ y. is_named_too_far y (stream_of y.identifier r)) f.streams (λ y i. not-named-far y i e)
+
+  pub made-taken : skip_refusal f r ≡ None
+  made-taken =
+      let near = told.near p n r (known s) few spread.step.heard spread.step.order t passable.given in
+      ap (λ b. if b then Some NamedStreamUnknown else (if names_too_far f r then Some NamedSsnTooFar else forward_refusal f r)) (closed (is_ahead f r))
+      ∙ ap (λ b. if b then Some NamedSsnTooFar else forward_refusal f r) (near-all (is_ahead f r) refl)
+      ∙ ap (λ b. if b then Some TsnOpposite else None) near
+    where
+      closed : (b : Bool) → (b && list_any (λ y. not (is_open y.identifier r)) f.streams) ≡ false
+      closed true = open-all
+      closed false = refl
+
+pub none-made : AfterEachUnlimitedSession NoneMadeIsRefused
+none-made tsn size max most cs s small some run few f may due =
+    made-taken tsn (tsns_given (at_start tsn size max most None) cs s run) few s (valid-session tsn size max most None cs s small some run few) f may due

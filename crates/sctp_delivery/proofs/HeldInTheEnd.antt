@@ -1,0 +1,375 @@
+-- Where nothing waits, nothing is in flight and nothing is to be read, a receiver holds no fragment of a message that is not gone.
+use Rattle.std.proofs.Common.{◌≡◌, ℕ, suc, ◌+◌, ◌%◌, ◌^◌, ◌<◌, ◌≤◌, Bool, true, false, not, List, [], ◌∷◌, length, Option, Some, None, inl, inr, refl, ap, sym}
+use Rattle.std.proofs.Common.{subst, ◌∙◌, arith}
+use Rattle.std.specs.Prelude.{All, ◌⊎◌, ◌==◌, ◌&&◌, if◌then◌else◌, nat_le}
+use Rattle.std.specs.List.{list_all, list_any, sum_by}
+use Rattle.std.proofs.lemmas.Bool.{cases_lt}
+use Rattle.std.proofs.lemmas.Bool.Decides.{nat_tests}
+use Rattle.std.proofs.lemmas.Option.{none-some}
+use Rattle.sctp_list_lemmas.specs.Serial.{at_or_before, at_or_before16}
+use Rattle.sctp_list_lemmas.proofs.Cases.{or-left, or-split, same-is}
+use Rattle.sctp_list_lemmas.proofs.More.{and, both, not_both}
+use Rattle.sctp_list_lemmas.proofs.Round.{tsn}
+use Rattle.sctp_list_lemmas.proofs.Wraps.{at_or_before16-index}
+use Rattle.sctp_data.specs.declared.chunk.chunk_payload_data.ChunkPayloadData.{ChunkPayloadData}
+use Rattle.sctp_data.specs.ChunkSet.{ChunkSet}
+use Rattle.sctp_data.specs.PayloadData.{Data, data_of}
+use Rattle.sctp_reassembly.specs.reassembly_queue.Fragments.{is_complete}
+use Rattle.sctp_reassembly.specs.reassembly_queue.ReassemblyQueue.{Reassembly, front_readable, is_readable, message_among, message_read}
+use Rattle.sctp_receiver.specs.declared.receiver.inbound_streams.InboundStream.{InboundStream}
+use Rattle.sctp_receiver.specs.declared.receiver.limits.Limits.{Limits}
+use Rattle.sctp_receiver.specs.Receiver.{Reception, stream_of}
+use Rattle.sctp_receiver.specs.ReceiverRuns.{fragments_read, is_one_message}
+use Rattle.sctp_receiver.proofs.Handed.{held_weight}
+use Rattle.sctp_receiver.proofs.Weights.{set_weight}
+use Rattle.sctp_serial.specs.DataChunks.{has_tsn}
+use Rattle.sctp_delivery.specs.Complete.{reads_nothing}
+use Rattle.sctp_delivery.specs.Sacks.{was_taken}
+use Rattle.sctp_delivery.specs.Session.{Call, RunsTo, Session, at_start}
+use Rattle.sctp_delivery.proofs.InTheEnd.{any-of, none-selected, unread-of}
+use Rattle.sctp_delivery.proofs.CurrentSets.{IsSome, IsWholeAt, whole-below}
+use Rattle.sctp_delivery.proofs.Delivered.{EachSent}
+use Rattle.sctp_delivery.proofs.EachRead.{IsIdle, complete-messages}
+use Rattle.sctp_delivery.proofs.Every.{Every, one-of}
+use Rattle.sctp_delivery.proofs.GoneMessages.{IsGone}
+use Rattle.sctp_delivery.proofs.KeptCalls as calls
+use Rattle.sctp_delivery.proofs.KeptOrGone.{HeldWell, IsHeldWell, IsLate, at-in, place-in}
+use Rattle.sctp_delivery.proofs.KeptSessions.{IsKeptIn}
+use Rattle.sctp_delivery.proofs.MessagePlaces.{IsEntryAt, same-entry}
+use Rattle.sctp_delivery.proofs.MessageSets.{misses-one, place-tsn}
+use Rattle.sctp_delivery.proofs.OrderedEntries.{AreJoined, IsOpen, begins_on, begun_on, one as counted}
+use Rattle.sctp_delivery.proofs.PassedMessages.{AreTakenOrGone, EndsMessage, is_gone}
+use Rattle.sctp_delivery.proofs.PassingCalls.{all-taken-or-gone}
+use Rattle.sctp_delivery.proofs.ReadOnce.{one}
+use Rattle.sctp_delivery.proofs.Sent.{Entry, IsLine, IsPart, Numbered, WasSent, fragment, part-itself, part-length, terminal}
+use Rattle.sctp_delivery.proofs.Sessions as made_in
+use Rattle.sctp_delivery.proofs.SpreadEntries.{at-here, at-more, begun_to, is_at, to-all, to-more, to-up}
+use Rattle.sctp_delivery.proofs.TsnPlaces.{at-or-before, base, same-place}
+use Rattle.sctp_delivery.proofs.UnassembledGone as unassembled
+use Rattle.sctp_delivery.proofs.UnwrappedHolds as holds
+use Rattle.sctp_delivery.proofs.UnwrappedReads as reads
+use Rattle.sctp_delivery.proofs.UnwrappedReads.{IsDue}
+use Rattle.sctp_delivery.proofs.UnwrappedSessions as sessions
+
+-- where more than so many ordered messages of a stream were begun, the next one was, at some place
+begun-at : (st index : ℕ) (sent : List Entry) → index < begun_on st sent
+    → (x : ℕ) × (x ≤ length sent) × (is_at st x sent ≡ true) × (begun_to st x sent ≡ index + 1)
+begun-at st index [] lt = absurd (omega (arith, lt))
+begun-at st index (terminal ∷ xs) lt =
+    let r = begun-at st index xs lt in
+    let le = r.1 in
+    (r.0, omega (arith, le), at-more st r.0 terminal xs le ∙ r.2, to-more st r.0 terminal xs le ∙ r.3)
+begun-at st index (fragment d w after ∷ xs) lt = elim (cases_lt index (begun_on st xs)) [
+  | inl less ↦
+      let r = begun-at st index xs less in
+      let le = r.1 in
+      (r.0, omega (arith, le), at-more st r.0 (fragment d w after) xs le ∙ r.2, to-more st r.0 (fragment d w after) xs le ∙ r.3)
+  | inr ge ↦ by (begins_on st d) refl lt ge
+]
+  where
+    by : (b : Bool) → begins_on st d ≡ b → index < counted b + begun_on st xs → begun_on st xs ≤ index
+        → (x : ℕ) × (x ≤ length (fragment d w after ∷ xs)) × (is_at st x (fragment d w after ∷ xs) ≡ true)
+        × (begun_to st x (fragment d w after ∷ xs) ≡ index + 1)
+    by false e l g = absurd (omega (arith, l, g))
+    by true e l g =
+        let n = length (fragment d w after ∷ xs) in
+        let on = both (d.stream_identifier == st) (d.beginning_fragment && not d.unordered) e in
+        let kind = (both d.beginning_fragment (not d.unordered) on.1).1 in
+        let c = ap counted e in
+        let t = to-all st n (fragment d w after ∷ xs) (omega arith) in (
+          n,
+          omega arith,
+          at-here st (fragment d w after) xs n refl ∙ and (d.stream_identifier == st) (not d.unordered) on.0 kind,
+          omega (arith, t, c, l, g),
+        )
+
+-- sets of later messages have no chunk of the place
+module _ (p n : ℕ) (B : ℕ → ℕ) (Fits : ℕ → List ChunkPayloadData → Type 0) (Came : ℕ → Type 0)
+    (in-set : (i y : ℕ) (cs : List ChunkPayloadData) → y ≤ n → Fits i cs → list_any (has_tsn (tsn p y)) cs ≡ true → B y ≡ i + 1) where
+  none-later : (low top z : ℕ) (ss : List ChunkSet) → reads.AreSets p n B Fits Came low top ss → z ≤ n → B z ≤ low
+      → list_any (λ (s : ChunkSet). list_any (has_tsn (tsn p z)) s.chunks) ss ≡ true → ⊥
+  none-later low top z [] r le lo h = not_both h
+  none-later low top z (s ∷ ss) r le lo h =
+      elim (or-split (list_any (has_tsn (tsn p z)) s.chunks) (list_any (λ (x : ChunkSet). list_any (has_tsn (tsn p z)) x.chunks) ss) h) [
+        | inl g ↦ let b = in-set r.0 z s.chunks le r.1.1 g in let x = r.1.0.0 in absurd (omega (arith, b, x, lo))
+        | inr g ↦ let x = r.1.0.0 in none-later (r.0 + 1) top z ss r.2 le (omega (arith, lo, x)) g
+      ]
+
+module _ (first size max most : ℕ) (limits : Option Limits) (cs : List Call) (s : Session) (run : RunsTo (at_start first size max most limits) cs s)
+    (n : ℕ) (few : n < 2 ^ 31) (gone : List ℕ) (ns : List Numbered) (sent : List Entry) (k : IsKeptIn first n gone s ns sent) (idle : IsIdle s)
+    (unread : reads_nothing s.receiving.receiver ≡ true) where
+  abbrev p : ℕ
+  p = base first
+
+  abbrev r : Reception
+  r = s.receiving.receiver
+
+  abbrev a : ℕ
+  a = k.unwrapped.spread.step.numbered.acked
+
+  long : length sent ≡ n
+  long = k.unwrapped.spread.long
+
+  line : IsLine ns first sent
+  line = k.unwrapped.spread.holds.held.stands.queued.line
+
+  joined : AreJoined sent
+  joined = k.unwrapped.spread.holds.held.stands.queued.joined
+
+  made : list_all (made_in.made_among s.made) s.receiving.accepted ≡ true
+  made = made_in.all-made cs (at_start first size max most limits) s run refl
+
+  whole : All (λ m. (is_complete m.fragments ≡ true) × (is_one_message m.fragments ≡ true) × EachSent sent m.fragments) s.receiving.read
+  whole = complete-messages first size max most limits cs s run sent k.unwrapped.spread.holds.made
+
+  came : AreTakenOrGone gone s sent
+  came = all-taken-or-gone first n s ns sent gone k.unwrapped.spread few k.passed.passing idle.inflight
+
+  -- the last message was sent whole, or cut short
+  ends : 0 < n → EndsMessage sent
+  ends some = by sent long
+      (none-selected ns first _ s.sending.sender.flight.queue.pending sent k.unwrapped.spread.holds.held.stands.queued idle.ordered idle.unordered)
+      k.unwrapped.spread.holds.held.stands.queued.open'
+    where
+      by : (xs : List Entry) → length xs ≡ n → s.sending.sender.flight.queue.pending.selected ≡ None → IsOpen xs s.sending.sender.flight.queue.pending.selected
+          → EndsMessage xs
+      by [] e none o = absurd (omega (arith, e, some))
+      by (terminal ∷ xs) e none o = tt
+      by (fragment d w after ∷ xs) e none o = subst (IsOpen (fragment d w after ∷ xs)) none o
+
+  module _ (st : ℕ) where
+    abbrev to : ℕ → ℕ
+    to y = begun_to st y sent
+
+    abbrev Fits : ℕ → List ChunkPayloadData → Type 0
+    Fits = holds.Fits p st n (λ y. begun_to st y sent) (λ y. is_at st y sent) (λ c. WasSent sent (data_of c))
+
+    abbrev Came : ℕ → Type 0
+    Came = holds.Came p st n (λ y. begun_to st y sent) (λ y. is_at st y sent) (λ c. WasSent sent (data_of c)) r.cumulative_tsn r.beyond
+
+    abbrev told : holds.AreDue p st n (λ y. begun_to st y sent) (λ y. is_at st y sent) (λ c. WasSent sent (data_of c)) a s.receiving
+    told = calls.told first n few s s ns sent k.unwrapped gone st
+
+    -- all that got TSNs has come
+    all-came : (y : ℕ) → y ≤ n → is_at st y sent ≡ true → Came y
+    all-came y le on =
+        let empty = ap length idle.inflight in
+        let total = k.unwrapped.spread.step.numbered.total in
+        let v = told.heard.within in
+        let x = told.heard.least_is in
+        let b : nat_le y told.heard.place ≡ true = (let h : y ≤ told.heard.place = omega (arith, le, x, total, empty) in grind (arith, nat_tests, h)) in (
+          on,
+          or-left (at_or_before (tsn p y) r.cumulative_tsn) (list_any (λ u. u == tsn p y) r.beyond)
+              (ap (at_or_before (tsn p y)) told.heard.is ∙ at-or-before p y told.heard.place (omega (arith, le, few)) (omega (arith, v, few)) ∙ b),
+        )
+
+    in-set : (i y : ℕ) (cs : List ChunkPayloadData) → y ≤ n → Fits i cs → list_any (has_tsn (tsn p y)) cs ≡ true → begun_to st y sent ≡ i + 1
+    in-set = at-in ns first sent line joined n long few st
+
+    module _ (l : InboundStream) (found : stream_of st r ≡ Some l) (none : message_read l.queue.held ≡ None) where
+      abbrev q : Reassembly
+      q = l.queue.held
+
+      well : IsHeldWell first sent st n a (IsLate first sent st r.cumulative_tsn r.beyond) l.queue
+      well = subst (HeldWell first sent st n a (IsLate first sent st r.cumulative_tsn r.beyond)) found (k.kept st).holds
+
+      d : IsDue p n (λ y. begun_to st y sent) Fits Came told.k told.reach q
+      d = calls.due-on first n few s s ns sent k.unwrapped gone st l found
+
+      index : well.current.index ≡ d.index
+      index = calls.index-due first n few s s ns sent k.unwrapped gone st (IsLate first sent st r.cumulative_tsn r.beyond) l found well d
+
+      none-unordered : q.unordered ≡ []
+      none-unordered = by q.unordered refl none
+        where
+          by : (us : List ChunkSet) → q.unordered ≡ us → message_among us q ≡ None → us ≡ []
+          by [] e m = refl
+          by (u ∷ us) e m = absurd (none-some u (sym m))
+
+      none-front : front_readable q.next_ssn q.ordered ≡ None
+      none-front = ap (λ us. message_among us q) (sym none-unordered) ∙ none
+
+      -- ## Ordered sets
+
+      module _ (F : ChunkSet) (rest : List ChunkSet) (is : q.ordered ≡ F ∷ rest) where
+        sets : reads.AreSets p n (λ y. begun_to st y sent) Fits Came d.low told.reach (F ∷ rest)
+        sets = subst (reads.AreSets p n (λ y. begun_to st y sent) Fits Came d.low told.reach) is d.sets
+
+        whole-front : IsWholeAt p n (λ y. begun_to st y sent) well.current.index F
+        whole-front = (subst (Every (IsWholeAt p n (λ y. begun_to st y sent) well.current.index)) is well.current.whole).0
+
+        some : IsSome F
+        some = (subst (Every IsSome) is well.current.some).0
+
+        -- its number is at or before the next one where its index is
+        order : at_or_before16 F.ssn q.next_ssn ≡ nat_le sets.0 d.index
+        order =
+            let x = sets.1.0.0 in
+            let y = sets.1.0.1 in
+            let from = d.from in
+            let near = d.near in
+            let far = d.far in
+            ap (λ m. at_or_before16 m q.next_ssn) sets.1.0.2 ∙ ap (at_or_before16 (sets.0 % 2 ^ 16)) d.next
+            ∙ at_or_before16-index sets.0 d.index (omega (arith, y, far, from)) (omega (arith, x, near))
+
+        not-due : is_complete F.chunks ≡ true → sets.0 ≤ d.index → ⊥
+        not-due c le =
+            let b : nat_le sets.0 d.index ≡ true = grind (arith, nat_tests, le) in
+            let readable : is_readable q.next_ssn F ≡ true = and (is_complete F.chunks) (at_or_before16 F.ssn q.next_ssn) c (order ∙ b) in
+            let e = ap (front_readable q.next_ssn) (sym is) ∙ none-front in
+            none-some F (sym (ap (λ x. if x then Some F else None) (sym readable) ∙ e))
+
+        place : (y : ℕ) × (y ≤ n) × (list_any (has_tsn (tsn p y)) F.chunks ≡ true)
+        place = place-in ns first sent line joined n long few st sets.0 F.chunks sets.1.1 some
+
+        count : begun_to st place.0 sent ≡ sets.0 + 1
+        count = in-set sets.0 place.0 F.chunks place.1 sets.1.1 place.2
+
+        least : sets.0 + 1 ≤ begun_to st n sent
+        least = let u = to-up st place.0 n sent place.1 in let c = count in omega (arith, u, c)
+
+        -- a place of a message from the next one on is held
+        is-held : (z : ℕ) → z ≤ n → is_at st z sent ≡ true → d.index < begun_to st z sent
+            → (list_any (has_tsn (tsn p z)) F.chunks ≡ true) ⊎ (list_any (λ (x : ChunkSet). list_any (has_tsn (tsn p z)) x.chunks) rest ≡ true)
+        is-held z le on lt = elim (d.kept z le (all-came z le on)) [
+          | inl h ↦ absurd (omega (arith, h, lt))
+          | inr h ↦
+              or-split (list_any (has_tsn (tsn p z)) F.chunks) (list_any (λ (x : ChunkSet). list_any (has_tsn (tsn p z)) x.chunks) rest)
+              (subst (λ o. list_any (λ (x : ChunkSet). list_any (has_tsn (tsn p z)) x.chunks) o ≡ true) is h)
+        ]
+
+        -- it is not incomplete
+        not-open : is_complete F.chunks ≡ false → d.index ≤ sets.0 → ⊥
+        not-open c ge =
+            let most' : 0 < n = (let y = least in let u = to-most' in omega (arith, y, u)) in
+            let miss = misses-one ns first sent line joined n long few st sets.0 n (omega arith)
+            (sent, part-itself sent, long, ends most') least F.chunks sets.1.1 some c in
+            let z = sessions.missed st first n s ns sent k.unwrapped.spread few n sets.0 F.chunks (omega arith) sets.1.1 miss in
+            let at = z.3 in
+            elim (is-held z.0 z.1 z.2 (omega (arith, at, ge))) [
+              | inl h ↦ not_both (sym z.4 ∙ h)
+              | inr h ↦
+                  none-later p n (λ y. begun_to st y sent) Fits Came in-set (sets.0 + 1) told.reach z.0 rest sets.2 z.1 (omega (arith, at)) h
+            ]
+          where
+            to-most' : begun_to st n sent ≤ n
+            to-most' = let e = to-all st n sent (let h = long in omega (arith, h)) in let c' = fewer sent in let h = long in omega (arith, e, c', h)
+              where
+                fewer : (xs : List Entry) → begun_on st xs ≤ length xs
+                fewer [] = omega arith
+                fewer (terminal ∷ xs) = let h = fewer xs in omega (arith, h)
+                fewer (fragment d' w after ∷ xs) = let h = fewer xs in let b = at-most (begins_on st d') in omega (arith, h, b)
+                  where
+                    at-most : (b : Bool) → counted b ≤ 1
+                    at-most true = omega arith
+                    at-most false = omega arith
+
+        -- nor of a message past the next one
+        not-past : d.index < sets.0 → ⊥
+        not-past lt =
+            let all = to-all st n sent (let h = long in omega (arith, h)) in
+            let l' = least in
+            let x = begun-at st d.index sent (omega (arith, all, l', lt)) in
+            let within : x.0 ≤ n = (let h = x.1 in let e = long in omega (arith, h, e)) in
+            let at = x.3 in
+            elim (is-held x.0 within x.2 (omega (arith, at))) [
+              | inl h ↦ let c = in-set sets.0 x.0 F.chunks within sets.1.1 h in omega (arith, c, at, lt)
+              | inr h ↦ none-later p n (λ y. begun_to st y sent) Fits Came in-set (sets.0 + 1) told.reach x.0 rest sets.2 within (omega (arith, at, lt)) h
+            ]
+
+        no-front : ⊥
+        no-front = elim (cases_lt d.index sets.0) [
+          | inl lt ↦ not-past lt
+          | inr le ↦ by (is_complete F.chunks) refl le
+        ]
+          where
+            by : (b : Bool) → is_complete F.chunks ≡ b → sets.0 ≤ d.index → ⊥
+            by true c le = not-due c le
+            by false c le = elim (cases_lt sets.0 d.index) [
+              | inr ge ↦ not-open c ge
+              | inl lt ↦
+                  let i' = index in
+                  not_both (sym c ∙ whole-below p n (λ y. begun_to st y sent) Fits Came in-set (place-in ns first sent line joined n long few st)
+                  well.current.index sets.0 F sets.1.1 some whole-front (omega (arith, lt, i')))
+            ]
+
+      none-ordered : q.ordered ≡ []
+      none-ordered = by q.ordered refl
+        where
+          by : (ss : List ChunkSet) → q.ordered ≡ ss → ss ≡ []
+          by [] e = refl
+          by (F ∷ rest) e = absurd (no-front F rest e)
+
+      -- ## Unassembled fragments
+
+      none-unassembled : (y : ℕ) (e : Data) (w : Numbered) → IsEntryAt sent y e w → y ≤ n → is_gone gone w.place ≡ false
+          → sum_by (one (tsn p y)) q.unassembled ≡ 0
+      none-unassembled y e w i le alive = elim (cases_lt 0 (sum_by (one (tsn p y)) q.unassembled)) [
+        | inr none' ↦ omega (arith, none')
+        | inl more ↦ absurd (held more)
+      ]
+        where
+          held : 0 < sum_by (one (tsn p y)) q.unassembled → ⊥
+          held more =
+              let at = i.place in
+              let o = one-of (λ c. WasSent sent (data_of c) × (c.unordered ≡ true)) (has_tsn (tsn p y)) q.unassembled (any-of (tsn p y) q.unassembled more)
+              (pair q.unassembled
+              (unassembled.was-unassembled ns first sent line joined n long few gone k.passed.cut s k.unwrapped.spread.holds.made made
+              k.unwrapped.spread.step.taken.apart whole st a (k.kept st) l found) well.tidy.kinds) in
+              let is = same-is o.0.tsn (tsn p y) o.1 in
+              let b : nat_le y n ≡ true = grind (arith, nat_tests, le) in
+              let g = unassembled.gone-unassembled ns first sent line joined n long few gone k.passed.cut s k.unwrapped.spread.holds.made made
+              k.unwrapped.spread.step.taken.apart whole st a (k.kept st) l found sent (part-itself sent) (ends (omega (arith, at, le))) came o.0 o.2.0 o.2.1
+              (subst (λ t. 0 < sum_by (one t) q.unassembled) (sym is) more)
+              (ap (λ t. at_or_before t (tsn p (length sent))) is ∙ ap (λ m. at_or_before (tsn p y) (tsn p m)) long
+              ∙ at-or-before p y n (omega (arith, le, few)) few ∙ b) in
+              clash o.0 g is
+            where
+              clash : (c : ChunkPayloadData) (g : IsGone gone sent c) → c.tsn ≡ tsn p y → ⊥
+              clash c g is =
+                  let v = g.2.place in
+                  let size' = part-length sent (fragment (data_of c) g.1 g.2.after ∷ g.2.entries) g.2.part in
+                  let l' = long in
+                  let same : g.0 ≡ y = same-place p g.0 y (omega (arith, v, size', l', few)) (omega (arith, le, few))
+                  (sym (place-tsn ns first sent line joined n long few g.0 (data_of c) g.1 g.2) ∙ is) in
+                  let x = same-entry ns first sent line joined y e (data_of c) w g.1 i (subst (λ z. IsEntryAt sent z (data_of c) g.1) same g.2) in
+                  not_both (sym alive ∙ ap (λ (u : Numbered). is_gone gone u.place) x.1 ∙ g.3)
+
+              pair : (xs : List ChunkPayloadData) → Every (λ c. WasSent sent (data_of c)) xs → Every (λ c. c.unordered ≡ true) xs
+                  → Every (λ c. WasSent sent (data_of c) × (c.unordered ≡ true)) xs
+              pair [] u v = tt
+              pair (c ∷ cs') u v = ((u.0, v.0), pair cs' u.1 v.1)
+
+    -- of a message that is not gone nothing is held
+    pub none-held : (y : ℕ) (e : Data) (w : Numbered) → IsEntryAt sent y e w → y ≤ n → is_gone gone w.place ≡ false
+        → held_weight (one (tsn p y)) (stream_of st r) ≡ 0
+    none-held y e w i le alive = by (stream_of st r) refl
+      where
+        by : (o : Option InboundStream) → stream_of st r ≡ o → held_weight (one (tsn p y)) o ≡ 0
+        by None f = refl
+        by (Some l) f =
+            let m = unread-of st r.streams l unread f in
+            let x = ap (λ ss. sum_by (set_weight (one (tsn p y))) ss) (none-ordered l f m) in
+            let u = ap (λ ss. sum_by (set_weight (one (tsn p y))) ss) (none-unordered l f m) in
+            let z = none-unassembled l f m y e w i le alive in
+            omega (arith, x, u, z)
+
+  -- so each fragment of such a message that was taken was read
+  pub taken-read : (d : Data) (w : Numbered) (after : List ℕ) (xs : List Entry) → IsPart (fragment d w after ∷ xs) sent → is_gone gone w.place ≡ false
+      → was_taken d.tsn s ≡ true → (st : ℕ) × (0 < sum_by (one d.tsn) (fragments_read st s.receiving.read))
+  taken-read d w after xs part alive taken =
+      let st = d.stream_identifier in
+      let i : IsEntryAt sent (suc (length xs)) d w = record { after = after; entries = xs; part = part; place = refl } in
+      let is = place-tsn ns first sent line joined n long few (suc (length xs)) d w i in
+      let m = part-length sent (fragment d w after ∷ xs) part in
+      let l = long in
+      let le : suc (length xs) ≤ n = omega (arith, m, l) in
+      let law = (k.kept st).weighs (one (tsn p (suc (length xs)))) in
+      let held = none-held st (suc (length xs)) d w i le alive in
+      let lost = unassembled.none-lost ns first sent line joined n long few gone k.passed.cut s k.unwrapped.spread.holds.made made
+      k.unwrapped.spread.step.taken.apart whole st a (k.kept st) (suc (length xs)) d w i alive in
+      let on = unassembled.taken-there ns first sent line joined n long few gone k.passed.cut s k.unwrapped.spread.holds.made made
+      k.unwrapped.spread.step.taken.apart whole st a (k.kept st) (suc (length xs)) d w i refl (subst (λ t. was_taken t s ≡ true) is taken) in (
+        st,
+        subst (λ t. 0 < sum_by (one t) (fragments_read st s.receiving.read)) (sym is) (omega (arith, law, held, lost, on)),
+      )

@@ -1,0 +1,212 @@
+-- What was taken on a stream is held or was read, but for fragments of messages that are gone: what holds of the stream after each call.
+use Rattle.std.proofs.Common.{◌≡◌, ℕ, ◌+◌, ◌%◌, ◌^◌, ◌<◌, ◌≤◌, Bool, true, false, List, [], ◌∷◌, length, Option, Some, None, refl, ap, sym, subst, ◌∙◌, arith}
+use Rattle.std.specs.Prelude.{⊤}
+use Rattle.std.specs.List.{filter, list_any, sum_by}
+use Rattle.std.proofs.lemmas.Bool.{eq-eqb}
+use Rattle.sctp_list_lemmas.proofs.Cases.{or-left}
+use Rattle.sctp_list_lemmas.proofs.Edits.{sum_by-inserted}
+use Rattle.sctp_list_lemmas.proofs.More.{and, both}
+use Rattle.sctp_list_lemmas.proofs.Round.{tsn}
+use Rattle.sctp_list_lemmas.specs.Lists.{insert_before}
+use Rattle.sctp_data.specs.declared.chunk.chunk_payload_data.ChunkPayloadData.{ChunkPayloadData}
+use Rattle.sctp_data.specs.ChunkSet.{ChunkSet}
+use Rattle.sctp_data.specs.PayloadData.{data_of}
+use Rattle.sctp_reassembly.specs.reassembly_queue.Fragments.{sets_with}
+use Rattle.sctp_reassembly.specs.reassembly_queue.ReassemblyQueue.{BecomesComplete, Reassembly, ReassemblyState, rest_among, rest_read, state_read}
+use Rattle.sctp_receiver.specs.declared.receiver.inbound_streams.InboundStream.{InboundStream}
+use Rattle.sctp_receiver.specs.Inbound.{Pushes, PushesAs}
+use Rattle.sctp_receiver.specs.Receiver.{stream_of}
+use Rattle.sctp_receiver.specs.ReceiverRuns.{Stand, fragments_read}
+use Rattle.sctp_receiver.proofs.CompleteMessages.{all_complete, pushed-complete, rest-complete}
+use Rattle.sctp_receiver.proofs.Handed.{held_weight, is_orderly}
+use Rattle.sctp_receiver.proofs.Inbounds.{pushed-number}
+use Rattle.sctp_receiver.proofs.OneMessage.{is_unmixed, pushed-unmixed, rest-unmixed}
+use Rattle.sctp_receiver.proofs.Weights as weights
+use Rattle.sctp_receiver.proofs.Weights.{weight}
+use Rattle.sctp_serial.specs.DataChunks.{chunk_before, has_tsn, is_on}
+use Rattle.sctp_delivery.specs.Sacks.{passes}
+use Rattle.sctp_delivery.specs.SenderCalls.{Made}
+use Rattle.sctp_delivery.proofs.CurrentSets.{IsCurrent, current-put, current-same, front-current, put-in}
+use Rattle.sctp_delivery.proofs.Every.{Every}
+use Rattle.sctp_delivery.proofs.GoneMessages.{IsGone}
+use Rattle.sctp_delivery.proofs.KeptSets.{sets-more}
+use Rattle.sctp_delivery.proofs.MessagePlaces.{IsWanted}
+use Rattle.sctp_delivery.proofs.MessageSets.{has-all}
+use Rattle.sctp_delivery.proofs.OrderedEntries.{AreJoined}
+use Rattle.sctp_delivery.proofs.Sent.{Entry, IsLine, Numbered, WasSent}
+use Rattle.sctp_delivery.proofs.SpreadEntries.{begun_to, is_at, to-up}
+use Rattle.sctp_delivery.proofs.TakenTsns.{come}
+use Rattle.sctp_delivery.proofs.Tidy.{IsFit, IsTidy, pushed-tidy, read-tidy}
+use Rattle.sctp_delivery.proofs.TsnPlaces.{base}
+use Rattle.sctp_delivery.proofs.UnwrappedHolds as holds
+use Rattle.sctp_delivery.proofs.UnwrappedReads as reads
+use Rattle.sctp_delivery.proofs.UnwrappedReads.{IsDue}
+
+-- the chunk is of a message that is gone, and a FORWARD-TSN that was made passes it
+abbrev pub IsPassedBy : List ℕ → List Entry → List Made → ChunkPayloadData → Type 0
+IsPassedBy gone sent made c = IsGone gone sent c × (list_any (passes c.tsn) made ≡ true)
+
+module _ (first : ℕ) (sent : List Entry) (st : ℕ) where
+  -- an ordered fragment of the stream at the place is still to come
+  abbrev pub IsLate : ℕ → List ℕ → ℕ → Type 0
+  IsLate cumulative beyond y = IsWanted st sent y × (come (tsn (base first) y) cumulative beyond ≡ false)
+
+  -- where n TSNs were given out, and those up to the place a are acknowledged
+  pub record IsHeldWell (n a : ℕ) (L : ℕ → Type 0) (q : ReassemblyState) : Type 0 where
+    pub current : IsCurrent (base first) n (λ k. begun_to st k sent) (begun_to st a sent) (begun_to st n sent) L q.held
+    pub tidy : IsTidy (base first) n q.held
+    pub orderly : is_orderly q ≡ true
+
+  abbrev pub HeldWell : ℕ → ℕ → (ℕ → Type 0) → Option InboundStream → Type 0
+  HeldWell n a L None = ⊤
+  HeldWell n a L (Some l) = IsHeldWell n a L l.queue
+
+  -- however chunks are weighed: those that were taken on the stream weigh as much as the fragments that were read there, those that are held
+  -- there, and some that FORWARD-TSNs pass, of messages that are gone
+  pub record IsKeptBut (n a : ℕ) (gone : List ℕ) (made : List Made) (s : Stand) : Type 0 where
+    pub lost : List ChunkPayloadData
+    pub of-gone : Every (IsPassedBy gone sent made) lost
+    pub weighs : (w : ChunkPayloadData → ℕ) → sum_by w (filter (is_on st) s.accepted)
+        ≡ sum_by w (fragments_read st s.read) + held_weight w (stream_of st s.receiver) + sum_by w lost
+    pub holds : HeldWell n a (IsLate s.receiver.cumulative_tsn s.receiver.beyond) (stream_of st s.receiver)
+
+module _ (ws : List Numbered) (first : ℕ) (sent : List Entry) (line : IsLine ws first sent) (joined : AreJoined sent) (n : ℕ)
+    (long : length sent ≡ n) (few : n < 2 ^ 31) (st : ℕ) where
+  abbrev p : ℕ
+  p = base first
+
+  abbrev B : ℕ → ℕ
+  B k = begun_to st k sent
+
+  abbrev pub Pieces : ℕ → List ChunkPayloadData → Type 0
+  Pieces = holds.Fits p st n (λ k. begun_to st k sent) (λ k. is_at st k sent) (λ c. WasSent sent (data_of c))
+
+  abbrev pub Due : (ℕ → Type 0) → ℕ → ℕ → Reassembly → Type 0
+  Due C = IsDue p n (λ k. begun_to st k sent) (holds.Fits p st n (λ k. begun_to st k sent) (λ k. is_at st k sent) (λ c. WasSent sent (data_of c))) C
+
+  pub at-in : (i y : ℕ) (cs : List ChunkPayloadData) → y ≤ n → Pieces i cs → list_any (has_tsn (tsn p y)) cs ≡ true → begun_to st y sent ≡ i + 1
+  at-in = holds.at-in p st n (λ k. begun_to st k sent) (λ k. is_at st k sent) (λ c. WasSent sent (data_of c)) few (λ j k le. to-up st j k sent le)
+
+  pub place-in : (i : ℕ) (cs : List ChunkPayloadData) → Pieces i cs → 0 < length cs → (y : ℕ) × (y ≤ n) × (list_any (has_tsn (tsn p y)) cs ≡ true)
+  place-in i [] f some = absurd (omega (arith, some))
+  place-in i (c ∷ cs) f some =
+      let o = f.0 in
+      let t = tsn p (o.before + 1) in
+      (o.before + 1, o.within, or-left (has_tsn t c) (list_any (has_tsn t) cs) (eq-eqb c.tsn t o.is))
+
+  module _ (a : ℕ) (L : ℕ → Type 0) where
+    abbrev Well : ReassemblyState → Type 0
+    Well = IsHeldWell first sent st n a L
+
+    orderly-both : (q : ReassemblyState) → is_orderly q ≡ true → (all_complete q.held.unordered ≡ true) × (is_unmixed q.si q.held ≡ true)
+    orderly-both q h = both (all_complete q.held.unordered) (is_unmixed q.si q.held) h
+
+    -- ## A fragment comes
+
+    -- of which message an ordered one is, and that it is near the next index
+    pub record IsComing (index : ℕ) (x : ChunkPayloadData) : Type 0 where
+      pub place : ℕ
+      pub of : ℕ
+      pub within : place ≤ n
+      pub is : x.tsn ≡ tsn p place
+      pub begun : begun_to st place sent ≡ of + 1
+      pub number : x.stream_sequence_number ≡ of % 2 ^ 16
+      pub late : L place
+      pub near : of < index + 2 ^ 15
+
+    module _ (x : ChunkPayloadData) (told : Bool) (old new : ReassemblyState) (pushes : Pushes x told old new) (h : Well old)
+        (fresh : Every (λ (s : ChunkSet). list_any (has_tsn x.tsn) s.chunks ≡ false) old.held.ordered) (C : ℕ → Type 0) where
+      abbrev Now : Type 0
+      Now = IsCurrent (base first) n (λ k. begun_to st k sent) (begun_to st a sent) (begun_to st n sent) L new.held
+
+      abbrev Weighs : Type 0
+      Weighs = (w : ChunkPayloadData → ℕ) → weight w new.held ≡ w x + weight w old.held
+
+      put-ordered : (u : x.unordered ≡ false) → IsComing h.current.index x → (low top : ℕ)
+          → reads.AreSets p n (λ k. begun_to st k sent) Pieces C low top new.held.ordered → Now × Weighs
+      put-ordered u e low top sets = (
+        subst (λ q. IsCurrent (base first) n (λ k. begun_to st k sent) (begun_to st a sent) (begun_to st n sent) L q) (sym held)
+            (current-put p n (λ k. begun_to st k sent) Pieces C at-in place-in x (begun_to st a sent) (begun_to st n sent) L old.held h.current e.place low top
+            e.within e.is after (subst (λ (q : Reassembly). reads.AreSets p n (λ k. begun_to st k sent) Pieces C low top q.ordered) held sets)),
+        λ w.
+            let m = sets-more w x old.held.ordered fresh in
+            let is = ap (weight w) held in
+            omega (arith, m, is),
+      )
+        where
+          after : h.current.index < begun_to st e.place sent
+          after = h.current.late e.place (let le = e.within in omega (arith, le)) e.late
+
+          held : new.held ≡ record old.held { ordered = sets_with x old.held.ordered }
+          held =
+              ap (λ (q : ReassemblyState). q.held) (subst (λ b. PushesAs b x told old new) u pushes).0
+              ∙ put-in p n (λ k. begun_to st k sent) Pieces C at-in place-in x h.current.index e.of old.held h.current.next e.number
+              (let b = e.begun in omega (arith, after, b)) e.near
+
+      put-unordered : x.unordered ≡ true → Now × Weighs
+      put-unordered u = (same told b, weighs)
+        where
+          b : BecomesComplete (insert_before chunk_before x old.held.unassembled) old.held new.held told
+          b = (subst (λ k. PushesAs k x told old new) u pushes).0
+
+          same : (k : Bool) → BecomesComplete (insert_before chunk_before x old.held.unassembled) old.held new.held k → Now
+          same true t =
+              current-same p n (λ k. begun_to st k sent) Pieces C at-in place-in (begun_to st a sent) (begun_to st n sent) L old.held new.held
+              (ap (λ (q : Reassembly). q.next_ssn) t.moved) (ap (λ (q : Reassembly). q.ordered) t.moved) h.current
+          same false t =
+              current-same p n (λ k. begun_to st k sent) Pieces C at-in place-in (begun_to st a sent) (begun_to st n sent) L old.held new.held
+              (ap (λ (q : Reassembly). q.next_ssn) t.1) (ap (λ (q : Reassembly). q.ordered) t.1) h.current
+
+          weighs : (w : ChunkPayloadData → ℕ) → weight w new.held ≡ w x + weight w old.held
+          weighs w =
+              let e = weights.becomes w (insert_before chunk_before x old.held.unassembled) old.held new.held told b in
+              let m = sum_by-inserted w chunk_before x old.held.unassembled in
+              omega (arith, e, m)
+
+      pub pushed-well : is_on old.si x ≡ true → IsFit p n x → list_any (has_tsn x.tsn) old.held.unassembled ≡ false
+          → (x.unordered ≡ false → IsComing h.current.index x × ((low : ℕ) × (top : ℕ)
+          × reads.AreSets p n (λ k. begun_to st k sent) Pieces C low top new.held.ordered)) → Well new × Weighs
+      pushed-well on fit bare ordered = by x.unordered refl
+        where
+          build : Now × Weighs → Well new × Weighs
+          build r =
+              let o = orderly-both old h.orderly in (
+                record {
+                  current = r.0;
+                  tidy = pushed-tidy p n few x fit.0 fit.1 told old new pushes fresh bare h.tidy;
+                  orderly =
+                      and (all_complete new.held.unordered) (is_unmixed new.si new.held) (pushed-complete x told old new pushes o.0)
+                      (ap (λ k. is_unmixed k new.held) (pushed-number x told old new pushes) ∙ pushed-unmixed x told old new on pushes o.1);
+                },
+                r.1,
+              )
+
+          by : (k : Bool) → x.unordered ≡ k → Well new × Weighs
+          by false u = let e = ordered u in build (put-ordered u e.0 e.1.0 e.1.1 e.1.2)
+          by true u = build (put-unordered u)
+
+    -- ## A message is read
+
+    module _ (q : ReassemblyState) (h : Well q) (C : ℕ → Type 0) (k reach : ℕ) (d : Due C k reach q.held) (same : h.current.index ≡ d.index)
+        (most : reach ≤ begun_to st n sent) (wanted : (y : ℕ) → L y → IsWanted st sent y)
+        (came : (y : ℕ) → list_any (λ (s : ChunkSet). list_any (has_tsn (tsn p y)) s.chunks) q.held.ordered ≡ true → L y → ⊥) where
+      pub read-well : Well (state_read q)
+      read-well =
+          let o = orderly-both q h.orderly in
+          record {
+            current = by q.held.unordered refl;
+            tidy = read-tidy p n few q.held h.tidy;
+            orderly =
+                and (all_complete (rest_read q.held).unordered) (is_unmixed q.si (rest_read q.held)) (rest-complete q.held o.0)
+                (rest-unmixed q.si q.held o.1);
+          }
+        where
+          by : (us : List ChunkSet) → q.held.unordered ≡ us
+              → IsCurrent (base first) n (λ k. begun_to st k sent) (begun_to st a sent) (begun_to st n sent) L (rest_among us q.held)
+          by [] e =
+              front-current p n (λ k. begun_to st k sent) Pieces C at-in place-in (begun_to st a sent) (begun_to st n sent) L q.held k reach d
+              (λ i y cs fits whole l count. has-all ws first sent line joined n long few st i cs fits whole y (wanted y l) count) came most h.current same
+              q.held.ordered refl
+          by (u ∷ us) e =
+              current-same p n (λ k. begun_to st k sent) Pieces C at-in place-in (begun_to st a sent) (begun_to st n sent) L q.held
+              (record q.held { unordered = us }) refl refl h.current

@@ -1,0 +1,307 @@
+-- A chunk in flight is not refused where nothing is to be read on its stream.
+use Rattle.std.proofs.Common.{◌≡◌, ℕ, ◌+◌, ◌%◌, ◌^◌, ◌<◌, ◌≤◌, Bool, true, false, not, List, [], ◌∷◌, length, Some, None, inl, inr, refl, ap, sym, subst, ◌∙◌}
+use Rattle.std.proofs.Common.{arith}
+use Rattle.std.specs.Prelude.{◌⊎◌, ◌==◌, ◌&&◌, ◌||◌, if◌then◌else◌, nat_le, nat_lt}
+use Rattle.std.specs.List.{list_any}
+use Rattle.std.proofs.lemmas.Bool.{cases_lt}
+use Rattle.std.proofs.lemmas.Bool.Decides.{nat_tests}
+use Rattle.std.proofs.lemmas.Option.{none-some}
+use Rattle.sctp_list_lemmas.specs.Serial.{at_or_before, at_or_before16, comes_before16, distance16}
+use Rattle.sctp_list_lemmas.proofs.Cases.{or-left, or-split}
+use Rattle.sctp_list_lemmas.proofs.More.{and, both, not_both}
+use Rattle.sctp_list_lemmas.proofs.Round.{tsn}
+use Rattle.sctp_list_lemmas.proofs.Wraps.{at_or_before16-index, comes_before16-index}
+use Rattle.sctp_data.specs.declared.chunk.chunk_payload_data.ChunkPayloadData.{ChunkPayloadData}
+use Rattle.sctp_data.specs.ChunkSet.{ChunkSet}
+use Rattle.sctp_data.specs.PayloadData.{data_of}
+use Rattle.sctp_serial.specs.DataChunks.{following_tsn, has_tsn, preceding_tsn}
+use Rattle.sctp_reassembly.specs.reassembly_queue.Fragments.{completes, is_complete}
+use Rattle.sctp_reassembly.specs.reassembly_queue.ReassemblyQueue.{Reassembly, front_readable, is_readable, message_among, message_read}
+use Rattle.sctp_reassembly.specs.reassembly_queue.Skips.{misses, misses_behind}
+use Rattle.sctp_receiver.specs.Receiver.{Reception}
+use Rattle.sctp_receiver.specs.Ssns.{lowest_among}
+use Rattle.sctp_delivery.specs.Session.{Session}
+use Rattle.sctp_delivery.proofs.Every.{Every}
+use Rattle.sctp_delivery.proofs.OrderedEntries.{begins_on, begun_on, one}
+use Rattle.sctp_delivery.proofs.Sent.{Entry, Numbered, WasSent, fragment, terminal}
+use Rattle.sctp_delivery.proofs.ValidStreams.{IsValidHeld, IsValidSet}
+use Rattle.sctp_delivery.proofs.SpreadCalls.{IsSpread}
+use Rattle.sctp_delivery.proofs.SpreadEntries.{at-here, at-more, begun_to, is_at, to-all, to-more}
+use Rattle.sctp_delivery.proofs.TakenTsns.{come}
+use Rattle.sctp_delivery.proofs.TsnPlaces.{at-or-before, base, next-place}
+use Rattle.sctp_delivery.proofs.UnwrappedHolds.{AreDue, Came, Fits, IsOf, Rises, at-in}
+use Rattle.sctp_delivery.proofs.UnwrappedReads.{AreSets, IsDue, has_place}
+use Rattle.sctp_delivery.proofs.UnwrappedSessions as sessions
+
+-- ## Entries
+
+-- the place at which a message was begun
+pub begin-place : (st k i : ℕ) (sent : List Entry) → i + 1 ≤ begun_to st k sent
+    → (z : ℕ) × (z ≤ k) × (is_at st z sent ≡ true) × (begun_to st z sent ≡ i + 1)
+begin-place st k i [] le = absurd (omega (arith, le))
+begin-place st k i (x ∷ xs) le = elim (cases_lt k (length (x ∷ xs))) [
+  | inl lt ↦
+      let e = to-more st k x xs (omega (arith, lt)) in
+      let d = begin-place st k i xs (omega (arith, e, le)) in
+      let h = d.1 in
+      deeper d (omega (arith, h, lt))
+  | inr ge ↦
+      let e = to-all st k (x ∷ xs) ge in
+      elim (cases_lt (begun_on st xs) (i + 1)) [
+        | inl lt ↦ top x (omega (arith, e, le)) lt ge
+        | inr more ↦
+            let all = to-all st (length xs) xs (omega arith) in
+            let d = begin-place st (length xs) i xs (omega (arith, all, more)) in
+            let h = d.1 in
+            deeper (d.0, omega (arith, h, ge), d.2, d.3) (omega (arith, h))
+      ]
+]
+  where
+    deeper : (d : (z : ℕ) × (z ≤ k) × (is_at st z xs ≡ true) × (begun_to st z xs ≡ i + 1)) → d.0 ≤ length xs
+        → (z : ℕ) × (z ≤ k) × (is_at st z (x ∷ xs) ≡ true) × (begun_to st z (x ∷ xs) ≡ i + 1)
+    deeper d most = (d.0, d.1, at-more st d.0 x xs most ∙ d.2, to-more st d.0 x xs most ∙ d.3)
+
+    top : (y : Entry) → i + 1 ≤ begun_on st (y ∷ xs) → begun_on st xs < i + 1 → length (y ∷ xs) ≤ k
+        → (z : ℕ) × (z ≤ k) × (is_at st z (y ∷ xs) ≡ true) × (begun_to st z (y ∷ xs) ≡ i + 1)
+    top terminal up lt ge = absurd (omega (arith, up, lt))
+    top (fragment d w after) up lt ge = by (begins_on st d) refl
+      where
+        by : (b : Bool) → begins_on st d ≡ b → (z : ℕ) × (z ≤ k) × (is_at st z (fragment d w after ∷ xs) ≡ true)
+            × (begun_to st z (fragment d w after ∷ xs) ≡ i + 1)
+        by false e = let n = ap one e in absurd (omega (arith, up, lt, n))
+        by true e =
+            let n = ap one e in
+            let c = both (d.stream_identifier == st) (d.beginning_fragment && not d.unordered) e in
+            let f = both d.beginning_fragment (not d.unordered) c.1 in
+            let all = to-all st (length (fragment d w after ∷ xs)) (fragment d w after ∷ xs) (omega arith) in (
+              length (fragment d w after ∷ xs),
+              ge,
+              at-here st (fragment d w after) xs (length (fragment d w after ∷ xs)) refl ∙ and (d.stream_identifier == st) (not d.unordered) c.0 f.1,
+              omega (arith, all, n, up, lt),
+            )
+
+-- ## Sets
+
+front-same : (x : ChunkSet) (xs : List ChunkSet) (y : ChunkSet) (ys : List ChunkSet) → x ∷ xs ≡ y ∷ ys → x ≡ y
+front-same x xs y ys e = cc
+
+-- the distance of a number by its index
+pub near-distance : (low i : ℕ) → low ≤ i → i < low + 2 ^ 15 → distance16 (low % 2 ^ 16) (i % 2 ^ 16) < 2 ^ 15
+unfolding distance16
+near-distance low i le lt = omega (arith, le, lt)
+
+module _ (st first n : ℕ) (few : n < 2 ^ 31) (s : Session) (ns : List Numbered) (sent : List Entry) (i : IsSpread first n s ns sent) where
+  abbrev p : ℕ
+  p = base first
+
+  abbrev B : ℕ → ℕ
+  B k = begun_to st k sent
+
+  abbrev E : ℕ → Bool
+  E k = is_at st k sent
+
+  abbrev M : ChunkPayloadData → Type 0
+  M c = WasSent sent (data_of c)
+
+  abbrev Of : ℕ → ChunkPayloadData → Type 0
+  Of = IsOf p st n B E M
+
+  abbrev Rising : ℕ → ℕ → List ChunkPayloadData → Type 0
+  Rising = Rises p st n B E M
+
+  up : (j k : ℕ) → j ≤ k → B j ≤ B k
+  up = sessions.grows st first n s ns sent i few
+
+  near : B n ≤ B i.step.numbered.acked + 2 ^ 14
+  near = sessions.near st first n s ns sent i few
+
+  -- an incomplete set misses a TSN of its message, where all its chunks stand before the place
+  upto : (j m : ℕ) → j ≤ m → m ≤ n → at_or_before (tsn p j) (tsn p m) ≡ true
+  upto j m le most =
+      let t : nat_le j m ≡ true = grind (arith, nat_tests, le) in
+      at-or-before p j m (omega (arith, le, most, few)) (omega (arith, most, few)) ∙ t
+
+  following : (m j : ℕ) (x : ChunkPayloadData) (o : Of j x) → o.before + 2 ≤ m → m ≤ n → at_or_before (following_tsn x.tsn) (tsn p m) ≡ true
+  following m j x o lt most =
+      let is : following_tsn x.tsn ≡ tsn p (o.before + 1 + 1) = ap following_tsn o.is ∙ next-place p (o.before + 1) in
+      ap (λ t. at_or_before t (tsn p m)) is ∙ upto (o.before + 1 + 1) m (omega (arith, lt)) most
+
+  inside : (m j : ℕ) (x : ChunkPayloadData) (o : Of j x) → j + 2 ≤ B m → o.before + 2 ≤ m
+  inside m j x o past = elim (cases_lt (o.before + 1) m) [
+    | inl lt ↦ omega (arith, lt)
+    | inr ge ↦ let le = up m (o.before + 1) ge in let b = o.begun in absurd (omega (arith, le, b, past))
+  ]
+
+  behind-misses : (m j : ℕ) (x : ChunkPayloadData) (xs : List ChunkPayloadData) (o : Of j x) → j + 2 ≤ B m → m ≤ n → Rising j (o.before + 1) xs
+      → completes x xs ≡ false → misses_behind (tsn p m) x xs ≡ true
+  behind-misses m j x [] o past most r e = and (not x.ending_fragment) (at_or_before (following_tsn x.tsn) (tsn p m)) (ap not e)
+      (following m j x o (inside m j x o past) most)
+  behind-misses m j x (y ∷ ys) o past most r e = by (y.tsn == following_tsn x.tsn) e (λ h. behind-misses m j y ys r.0 past most r.2 h)
+    where
+      by : (b : Bool) → (b && completes y ys) ≡ false → (completes y ys ≡ false → misses_behind (tsn p m) y ys ≡ true)
+          → ((not b && at_or_before (following_tsn x.tsn) (tsn p m)) || misses_behind (tsn p m) y ys) ≡ true
+      by true h ih = ih h
+      by false h ih = or-left (at_or_before (following_tsn x.tsn) (tsn p m)) (misses_behind (tsn p m) y ys) (following m j x o (inside m j x o past) most)
+
+  incomplete-misses : (m j : ℕ) (cs : List ChunkPayloadData) → j + 2 ≤ B m → m ≤ n → Rising j 0 cs → is_complete cs ≡ false → list_any (λ c. true) cs ≡ true
+      → misses (tsn p m) cs ≡ true
+  incomplete-misses m j [] past most r e some = absurd (not_both some)
+  incomplete-misses m j (x ∷ xs) past most r e some = by x.beginning_fragment e (λ h. behind-misses m j x xs r.0 past most r.2 h)
+    where
+      o : Of j x
+      o = r.0
+
+      prior : at_or_before (preceding_tsn x.tsn) (tsn p m) ≡ true
+      prior =
+          let lt = inside m j x o past in
+          let is : preceding_tsn (tsn p (o.before + 1)) ≡ tsn p o.before = omega arith in
+          ap (λ t. at_or_before t (tsn p m)) (ap preceding_tsn o.is ∙ is) ∙ upto o.before m (omega (arith, lt)) most
+
+      by : (b : Bool) → (b && completes x xs) ≡ false → (completes x xs ≡ false → misses_behind (tsn p m) x xs ≡ true)
+          → ((not b && at_or_before (preceding_tsn x.tsn) (tsn p m)) || misses_behind (tsn p m) x xs) ≡ true
+      by true h ih = ih h
+      by false h ih = or-left (at_or_before (preceding_tsn x.tsn) (tsn p m)) (misses_behind (tsn p m) x xs) prior
+
+  -- ## A stream on which nothing is to be read
+
+  module _ (d : AreDue p st n B E M i.step.numbered.acked s.receiving) where
+    abbrev r : Reception
+    r = s.receiving.receiver
+
+    abbrev Prior : ℕ → Type 0
+    Prior = Came p st n B E M r.cumulative_tsn r.beyond
+
+    module _ (held : Reassembly) (due : IsDue p n B (Fits p st n B E M) Prior d.k d.reach held) (valid : IsValidHeld st first n sent r due.index held)
+        (none : message_read held ≡ None) where
+      abbrev Sets : ℕ → List ChunkSet → Type 0
+      Sets low ss = AreSets p n B (Fits p st n B E M) Prior low d.reach ss
+
+      abbrev has : ℕ → ChunkSet → Bool
+      has z x = has_place p n B (Fits p st n B E M) Prior z x
+
+      pub front-none : front_readable held.next_ssn held.ordered ≡ None
+      front-none = by held.unordered none
+        where
+          by : (us : List ChunkSet) → message_among us held ≡ None → front_readable held.next_ssn held.ordered ≡ None
+          by [] e = e
+          by (u ∷ us) e = absurd (none-some u (sym e))
+
+      not-readable : (x : ChunkSet) (xs : List ChunkSet) → held.ordered ≡ x ∷ xs → is_complete x.chunks ≡ true → at_or_before16 x.ssn held.next_ssn ≡ true → ⊥
+      not-readable x xs is whole at =
+          let e : is_readable held.next_ssn x ≡ true = and (is_complete x.chunks) (at_or_before16 x.ssn held.next_ssn) whole at in
+          none-some x (sym (sym (ap (front_readable held.next_ssn) is ∙ ap (λ b. if b then Some x else None) e) ∙ front-none))
+
+      -- the lowest message is the next one
+      lowest-next : due.low ≡ due.index
+      lowest-next = by held.ordered refl
+        where
+          near' : due.index < due.low + 2 ^ 15
+          near' = due.near
+
+          alike : held.next_ssn ≡ due.low % 2 ^ 16 → due.low ≡ due.index
+          alike e =
+              let same : due.index % 2 ^ 16 ≡ due.low % 2 ^ 16 = sym due.next ∙ e in
+              let from = due.from in
+              omega (arith, same, from, near')
+
+          by : (ss : List ChunkSet) → held.ordered ≡ ss → due.low ≡ due.index
+          by [] is = alike (sym (ap (lowest_among held.next_ssn) is) ∙ due.lowest)
+          by (x ∷ xs) is = at (at_or_before16 x.ssn held.next_ssn) refl
+            where
+              a : Sets due.low (x ∷ xs)
+              a = subst (Sets due.low) is due.sets
+
+              at : (b : Bool) → at_or_before16 x.ssn held.next_ssn ≡ b → due.low ≡ due.index
+              at false f = alike (sym (ap (lowest_among held.next_ssn) is ∙ ap (λ b. if b then x.ssn else held.next_ssn) f) ∙ due.lowest)
+              at true f =
+                  let number : a.0 % 2 ^ 16 ≡ due.low % 2 ^ 16 =
+                  sym a.1.0.2 ∙ sym (ap (lowest_among held.next_ssn) is ∙ ap (λ b. if b then x.ssn else held.next_ssn) f) ∙ due.lowest in
+                  let from = a.1.0.0 in
+                  let top = a.1.0.1 in
+                  let far = due.far in
+                  let same : a.0 ≡ due.low = omega (arith, number, from, top, far) in
+                  elim (cases_lt due.low due.index) [
+                    | inl lt ↦
+                        let order : comes_before16 x.ssn held.next_ssn ≡ nat_lt a.0 due.index = ap (λ k. comes_before16 k held.next_ssn) a.1.0.2
+                        ∙ ap (comes_before16 (a.0 % 2 ^ 16)) due.next ∙ comes_before16-index a.0 due.index (omega (arith, same, lt))
+                        (omega (arith, same, near')) in
+                        let before : nat_lt a.0 due.index ≡ true = grind (arith, nat_tests, same, lt) in
+                        let whole = (subst (Every (IsValidSet p n r held.next_ssn)) is valid.sets).0.whole (order ∙ before) in
+                        absurd (not-readable x xs is whole f)
+                    | inr ge ↦ let le = due.from in omega (arith, ge, le)
+                  ]
+
+      later-none : (low z : ℕ) (ss : List ChunkSet) → Sets low ss → z ≤ n → B z ≤ low → list_any (has z) ss ≡ true → ⊥
+      later-none low z [] a most lo h = not_both h
+      later-none low z (x ∷ xs) a most lo h = elim (or-split (has z x) (list_any (has z) xs) h) [
+        | inl g ↦ let b = at-in p st n B E M few up a.0 z x.chunks most a.1.1 g in let from = a.1.0.0 in absurd (omega (arith, b, from, lo))
+        | inr g ↦ let from = a.1.0.0 in later-none (a.0 + 1) z xs a.2 most (omega (arith, lo, from)) g
+      ]
+
+      -- a place of the lowest message, up to the cumulative TSN, is of the front set
+      in-front : (z : ℕ) → z ≤ d.heard.place → E z ≡ true → B z ≡ due.low + 1
+          → (x : ChunkSet) × (xs : List ChunkSet) × (held.ordered ≡ x ∷ xs) × (has z x ≡ true)
+      in-front z le on begun = by held.ordered refl (kept (due.kept z (omega (arith, le, w)) (on, come-upto)))
+        where
+          w : d.heard.place ≤ n
+          w = d.heard.within
+
+          come-upto : come (tsn p z) r.cumulative_tsn r.beyond ≡ true
+          come-upto = or-left (at_or_before (tsn p z) r.cumulative_tsn) (list_any (λ u. u == tsn p z) r.beyond)
+              (ap (at_or_before (tsn p z)) d.heard.is ∙ upto z d.heard.place le w)
+
+          kept : (B z ≤ due.index) ⊎ (list_any (has z) held.ordered ≡ true) → list_any (has z) held.ordered ≡ true
+          kept (inl h) = absurd (omega (arith, h, begun, lowest-next))
+          kept (inr h) = h
+
+          by : (ss : List ChunkSet) → held.ordered ≡ ss → list_any (has z) held.ordered ≡ true
+              → (x : ChunkSet) × (xs : List ChunkSet) × (held.ordered ≡ x ∷ xs) × (has z x ≡ true)
+          by [] is h = absurd (not_both (sym (ap (list_any (has z)) is) ∙ h))
+          by (x ∷ xs) is h =
+              let a = subst (Sets due.low) is due.sets in
+              let from = a.1.0.0 in
+              elim (or-split (has z x) (list_any (has z) xs) (sym (ap (list_any (has z)) is) ∙ h)) [
+                | inl g ↦ (x, xs, is, g)
+                | inr g ↦ absurd (later-none (a.0 + 1) z xs a.2 (omega (arith, le, w)) (omega (arith, begun, from)) g)
+              ]
+
+      some-there : (z : ℕ) (cs : List ChunkPayloadData) → list_any (has_tsn (tsn p z)) cs ≡ true → list_any (λ c. true) cs ≡ true
+      some-there z [] h = h
+      some-there z (c ∷ cs) h = refl
+
+      -- so no message but it was begun up to the cumulative TSN, from it on
+      pub begun-low : B d.heard.place ≤ due.low + 1
+      begun-low = elim (cases_lt (due.low + 1) (B d.heard.place)) [
+        | inr ge ↦ ge
+        | inl lt ↦ absurd (stuck lt)
+      ]
+        where
+          stuck : due.low + 1 < B d.heard.place → ⊥
+          stuck lt =
+              let z = begin-place st d.heard.place due.low sent (omega (arith, lt)) in
+              let f = in-front z.0 z.1 z.2 z.3 in
+              let a = subst (Sets due.low) f.2 due.sets in
+              let le = due.from in
+              let w = d.heard.within in
+              let l = z.1 in
+              let b = at-in p st n B E M few up a.0 z.0 f.0.chunks (omega (arith, l, w)) a.1.1 f.3 in
+              let begun = z.3 in
+              let same : a.0 ≡ due.low = omega (arith, b, begun) in
+              let order : nat_le a.0 due.index ≡ true = grind (arith, nat_tests, same, le) in
+              let close = due.near in
+              let at : at_or_before16 f.0.ssn held.next_ssn ≡ true = ap (λ k. at_or_before16 k held.next_ssn) a.1.0.2
+              ∙ ap (at_or_before16 (a.0 % 2 ^ 16)) due.next
+              ∙ at_or_before16-index a.0 due.index (omega (arith, same, le)) (omega (arith, same, close)) ∙ order in
+              by f.0 f.1 f.2 a same at (is_complete f.0.chunks) refl (some-there z.0 f.0.chunks f.3)
+            where
+              by : (x : ChunkSet) (xs : List ChunkSet) → held.ordered ≡ x ∷ xs → (a : Sets due.low (x ∷ xs)) → a.0 ≡ due.low
+                  → at_or_before16 x.ssn held.next_ssn ≡ true → (b : Bool) → is_complete x.chunks ≡ b → list_any (λ c. true) x.chunks ≡ true → ⊥
+              by x xs is a same at true whole some = not-readable x xs is whole at
+              by x xs is a same at false open' some =
+                  let w = d.heard.within in
+                  let e = incomplete-misses d.heard.place a.0 x.chunks (omega (arith, same, lt)) w a.1.1 open' some in
+                  let z = sessions.missed st first n s ns sent i few d.heard.place a.0 x.chunks w a.1.1 e in
+                  let begun = z.3 in
+                  let f = in-front z.0 z.1 z.2 (omega (arith, begun, same)) in
+                  let head : f.0 ≡ x = front-same f.0 f.1 x xs (sym f.2 ∙ is) in
+                  not_both (sym z.4 ∙ subst (λ (y : ChunkSet). list_any (has_tsn (tsn p z.0)) y.chunks ≡ true) head f.3)

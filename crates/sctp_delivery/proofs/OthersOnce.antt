@@ -1,0 +1,85 @@
+-- In the end each write is read exactly once, but for those whose messages were abandoned; in a reliable session none was.
+use Rattle.std.proofs.Common.{length, ap, arith, ◌≡◌, ◌<◌, true, subst, sym, ◌∙◌}
+use Rattle.std.specs.Prelude.{All}
+use Rattle.sctp_list_lemmas.proofs.More.{both}
+use Rattle.sctp_receiver.specs.Receiver.{stream_of}
+use Rattle.sctp_delivery.specs.Abandoned.{AfterEachSessionOfMessages, AreOfWrites, EachOtherIsReadOnce, IsEachOtherReadInTheEnd, IsHeldReadOrPassed}
+use Rattle.sctp_delivery.specs.Abandoned.{OnlyTheirsAreMarked, abandoned_in}
+use Rattle.sctp_delivery.specs.Complete.{AfterEachReliableSession, IsAllReadInTheEnd, IsAllReadWhereSettled, holds_nothing, is_all_acknowledged, reads_nothing}
+use Rattle.sctp_delivery.specs.Messages.{WhileFewTsns}
+use Rattle.sctp_delivery.specs.Sacks.{was_passed}
+use Rattle.sctp_delivery.specs.Session.{at_start}
+use Rattle.sctp_delivery.proofs.AbandonedMessages.{IsMarkedGone}
+use Rattle.sctp_delivery.proofs.Calls.{length-forgotten}
+use Rattle.sctp_delivery.proofs.EachRead.{idle-of, none-held}
+use Rattle.sctp_delivery.proofs.Every.{all-of-every, every-of}
+use Rattle.sctp_delivery.proofs.HeldInTheEnd.{taken-read}
+use Rattle.sctp_delivery.proofs.Kept.{held-weighs}
+use Rattle.sctp_delivery.proofs.KeptOrGone.{IsPassedBy}
+use Rattle.sctp_delivery.proofs.KeptSessions.{kept-in}
+use Rattle.sctp_delivery.proofs.NoneAbandoned.{each-of-others, none-in}
+use Rattle.sctp_delivery.proofs.OthersRead.{others-once, read-whole}
+use Rattle.sctp_delivery.proofs.ReadOnce.{one}
+
+pub others-read : AfterEachSessionOfMessages (λ size gone s. 0 < size → IsEachOtherReadInTheEnd gone s)
+others-read first size max most limits cs s run small few some exhausted =
+    let b = both (is_all_acknowledged s.sending.sender) (reads_nothing s.receiving.receiver) exhausted in
+    let h = kept-in first size max most limits cs s small some run few in
+    let idle = idle-of s b.0 in
+    others-once first size max most limits cs s run small few _ h.numbered h.sent h.kept.unwrapped.spread h.kept.passed idle
+    (taken-read first size max most limits cs s run _ few _ h.numbered h.sent h.kept idle b.1)
+
+-- and where nothing is held
+others-settled : AfterEachSessionOfMessages (λ size gone s. 0 < size → is_all_acknowledged s.sending.sender ≡ true
+    → holds_nothing s.receiving.receiver ≡ true → EachOtherIsReadOnce gone s)
+others-settled first size max most limits cs s run small few some acknowledged empty =
+    let h = kept-in first size max most limits cs s small some run few in
+    let idle = idle-of s acknowledged in
+    let i = h.kept.unwrapped.spread in
+    others-once first size max most limits cs s run small few _ h.numbered h.sent i h.kept.passed idle
+    (read-whole first size max most limits cs s run small few _ h.numbered h.sent i h.kept.passed idle i.step.numbered.acked h.kept.kept
+    (λ d w after xs p off st. sym (held-weighs (one d.tsn) (stream_of st s.receiving.receiver)) ∙ none-held st d.tsn s.receiving.receiver empty))
+
+-- what is taken is held, was read, or is passed
+pub held-read-or-passed : WhileFewTsns IsHeldReadOrPassed
+held-read-or-passed first size max most limits cs s small some run few st =
+    let h = kept-in first size max most limits cs s small some run few in
+    let k = h.kept.kept st in
+    let gone = abandoned_in (at_start first size max most limits) cs s run in (
+      k.lost,
+      all-of-every (λ c. was_passed c.tsn s ≡ true) k.lost
+          (every-of (IsPassedBy gone h.sent s.made) (λ c. was_passed c.tsn s ≡ true) (λ c g. g.1) k.lost k.of-gone),
+      λ w.
+          let law = k.weighs w in
+          let held = held-weighs w (stream_of st s.receiving.receiver) in
+          omega (arith, law, held),
+    )
+
+-- where no message was abandoned, each
+pub all-read : AfterEachReliableSession (λ size s. 0 < size → IsAllReadInTheEnd s)
+all-read first size max most limits cs s run small few all some exhausted =
+    each-of-others s (subst (λ gone. EachOtherIsReadOnce gone s) (none-in cs (at_start first size max most limits) s run all)
+    (others-read first size max most limits cs s run small few some exhausted))
+
+pub all-settled : AfterEachReliableSession (λ size s. 0 < size → IsAllReadWhereSettled s)
+all-settled first size max most limits cs s run small few all some settled =
+    let b = both (is_all_acknowledged s.sending.sender) (holds_nothing s.receiving.receiver) settled in
+    each-of-others s (subst (λ gone. EachOtherIsReadOnce gone s) (none-in cs (at_start first size max most limits) s run all)
+    (others-settled first size max most limits cs s run small few some b.0 b.1))
+
+-- ## What is abandoned
+
+pub of-writes : AfterEachSessionOfMessages (λ size gone s. 0 < size → AreOfWrites gone s)
+of-writes first size max most limits cs s run small few some =
+    let h = kept-in first size max most limits cs s small some run few in
+    let e = ap length h.kept.unwrapped.spread.holds.writes in
+    let f = length-forgotten h.numbered in
+    let same : length h.numbered ≡ length s.written = omega (arith, e, f) in
+    subst (λ n. All (λ m. m < n) (abandoned_in (at_start first size max most limits) cs s run)) same
+    (all-of-every (λ m. m < length h.numbered) (abandoned_in (at_start first size max most limits) cs s run) h.kept.passed.below)
+
+pub theirs-marked : AfterEachSessionOfMessages (λ size gone s. 0 < size → OnlyTheirsAreMarked gone s)
+theirs-marked first size max most limits cs s run small few some =
+    let h = kept-in first size max most limits cs s small some run few in
+    all-of-every (IsMarkedGone (abandoned_in (at_start first size max most limits) cs s run)) s.sending.sender.flight.queue.inflight.chunks
+    h.kept.passed.marked

@@ -1,0 +1,381 @@
+-- In each session of few TSNs: each FORWARD-TSN passes abandoned messages, and what was taken, alone (RFC 3758 3.5).
+use Rattle.std.proofs.Common.{◌≡◌, ℕ, ◌+◌, ◌<◌, ◌≤◌, ◌^◌, Bool, true, false, not, List, [], ◌∷◌, ◌++◌, length, take, Option, Some, None, inl, inr, refl, ap}
+use Rattle.std.proofs.Common.{sym, subst, ◌∙◌, arith}
+use Rattle.std.specs.Prelude.{◌||◌, if◌then◌else◌, nat_le, option_map}
+use Rattle.std.specs.List.{filter, find, list_any}
+use Rattle.std.proofs.lemmas.Bool.{cases_lt}
+use Rattle.std.proofs.lemmas.Bool.Decides.{nat_tests}
+use Rattle.std.proofs.lemmas.Option.{none-some}
+use Rattle.sctp_list_lemmas.specs.Serial.{at_or_before, distance}
+use Rattle.sctp_list_lemmas.proofs.Cases.{or-left, or-right, or-split, same-is, some-same}
+use Rattle.sctp_list_lemmas.proofs.More.{both, not_both}
+use Rattle.sctp_list_lemmas.proofs.Round.{tsn}
+use Rattle.sctp_data.specs.declared.chunk.chunk_payload_data.ChunkPayloadData.{ChunkPayloadData}
+use Rattle.sctp_data.specs.ForwardTsn.{ForwardTsn}
+use Rattle.sctp_data.specs.PayloadData.{Data}
+use Rattle.sctp_outbound.specs.pending_queue.Whole.{ends}
+use Rattle.sctp_serial.specs.DataChunks.{has_tsn}
+use Rattle.sctp_receiver.specs.declared.receiver.limits.Limits.{Limits}
+use Rattle.sctp_sender.specs.Abandonment.{ahead, can_skip_to, ends_in, is_end, last_end, skip_end}
+use Rattle.sctp_sender.specs.Flight.{Flight}
+use Rattle.sctp_sender.proofs.Lates.{found-passes}
+use Rattle.sctp_sender.proofs.Runs.{IsRunFrom}
+use Rattle.sctp_delivery.specs.Abandoned.{abandoned_by}
+use Rattle.sctp_delivery.specs.ReceiverCalls.{ReceiverCall}
+use Rattle.sctp_delivery.specs.Sacks.{passes, was_passed, was_taken}
+use Rattle.sctp_delivery.specs.SenderCalls as outgoing
+use Rattle.sctp_delivery.specs.SenderCalls.{IsAccepted, Made, SenderCall, data_chunk, forward_tsn, made_after, next_chunk, with_chunk}
+use Rattle.sctp_delivery.specs.Session.{ReceiverFollows, SenderFollows, Session, at_start}
+use Rattle.sctp_delivery.proofs.AbandonedMessages.{AreAmong, AreMarkedGone, cut-later, flight_of, gone-left, gone-right, marked-later, stays-cut, stays-marked}
+use Rattle.sctp_delivery.proofs.AbandonedWrites.{AreBelow, below-after, by-below}
+use Rattle.sctp_delivery.proofs.BegunOrAbandoned.{AreBegunOrGone, begun-later, stays-begun-or-gone}
+use Rattle.sctp_delivery.proofs.Calls.{numbered_after}
+use Rattle.sctp_delivery.proofs.Delivered.{next_tsn}
+use Rattle.sctp_delivery.proofs.Every.{Every, every-joined, every-of, every-taken, one-of}
+use Rattle.sctp_delivery.proofs.InFlight.{AreKnown, known-found}
+use Rattle.sctp_delivery.proofs.Numbers.{number_of}
+use Rattle.sctp_delivery.proofs.PassedMessages.{AreCutGone, ArePassing, AreTakenOrGone, EndsMessage, IsMadePassing, IsPassing, is_gone}
+use Rattle.sctp_delivery.proofs.PassedTsns.{IsPassable, last-every, lead, passable-end, passable-skip, rest-run}
+use Rattle.sctp_delivery.proofs.Queues.{IsOnceMore}
+use Rattle.sctp_delivery.proofs.SackLaws.{more-accepted}
+use Rattle.sctp_delivery.proofs.Sent.{Entry, IsPart, Numbered, fragment, part-length, part-line, same-parts, terminal}
+use Rattle.sctp_delivery.proofs.SpreadCalls.{IsSpread, Spreads}
+use Rattle.sctp_delivery.proofs.SpreadEntries.{IsFor, IsPlaced}
+use Rattle.sctp_delivery.proofs.TsnPlaces.{at-or-before, base, same-place}
+
+-- ## Parts
+
+-- as many entries as that
+pub part-of-length : (sent : List Entry) (k : ℕ) → k ≤ length sent → (ys : List Entry) × IsPart ys sent × (length ys ≡ k)
+part-of-length [] k le = ([], refl, omega (arith, le))
+part-of-length (x ∷ xs) k le = elim (cases_lt k (length (x ∷ xs))) [
+  | inl lt ↦ let r = part-of-length xs k (omega (arith, lt)) in (r.0, inr r.1, r.2)
+  | inr ge ↦ (x ∷ xs, inl refl, omega (arith, le, ge))
+]
+
+-- the shorter of two parts is one of the longer
+pub shorter-part : (sent ys zs : List Entry) → IsPart ys sent → IsPart zs sent → length ys ≤ length zs → IsPart ys zs
+shorter-part [] ys zs p q le = subst (IsPart ys) (sym q) p
+shorter-part (x ∷ xs) ys zs p (inl q) le = subst (IsPart ys) (sym q) p
+shorter-part (x ∷ xs) ys zs (inr p) (inr q) le = shorter-part xs ys zs p q le
+shorter-part (x ∷ xs) ys zs (inl p) (inr q) le = let a = ap length p in let b = part-length xs zs q in absurd (omega (arith, a, b, le))
+
+pub part-then : (xs ys zs : List Entry) → IsPart ys xs → IsPart zs ys → IsPart zs xs
+part-then [] ys zs p q = subst (IsPart zs) p q
+part-then (x ∷ xs) ys zs (inl e) q = subst (IsPart zs) e q
+part-then (x ∷ xs) ys zs (inr p) q = inr (part-then xs ys zs p q)
+
+module _ (gone : List ℕ) (s : Session) where
+  pub came-at : (zs : List Entry) → AreTakenOrGone gone s zs → (d : Data) (w : Numbered) (after : List ℕ) (xs : List Entry)
+      → IsPart (fragment d w after ∷ xs) zs → (was_taken d.tsn s || is_gone gone w.place) ≡ true
+  came-at [] c d w after xs p = absurd (let n = ap length p in omega (arith, n))
+  came-at (z ∷ zs) c d w after xs (inl p) = (subst (AreTakenOrGone gone s) (sym p) c).0
+  came-at (terminal ∷ zs) c d w after xs (inr p) = came-at zs c d w after xs p
+  came-at (fragment e v rest ∷ zs) c d w after xs (inr p) = came-at zs c.1 d w after xs p
+
+  pub all-came : (zs : List Entry) → ((d : Data) (w : Numbered) (after : List ℕ) (xs : List Entry) → IsPart (fragment d w after ∷ xs) zs
+      → (was_taken d.tsn s || is_gone gone w.place) ≡ true) → AreTakenOrGone gone s zs
+  all-came [] h = tt
+  all-came (terminal ∷ zs) h = all-came zs (λ d w after xs p. h d w after xs (inr p))
+  all-came (fragment d w after ∷ zs) h = (h d w after zs (inl refl), all-came zs (λ e v rest xs p. h e v rest xs (inr p)))
+
+-- ## Later
+
+pub came-later : (gone more : List ℕ) (s t : Session) → AreAmong gone more → ((k : ℕ) → was_taken k s ≡ true → was_taken k t ≡ true)
+    → (zs : List Entry) → AreTakenOrGone gone s zs → AreTakenOrGone more t zs
+came-later gone more s t a grows zs c = all-came more t zs (λ d w after xs p.
+    elim (or-split (was_taken d.tsn s) (is_gone gone w.place) (came-at gone s zs c d w after xs p)) [
+      | inl e ↦ or-left (was_taken d.tsn t) (is_gone more w.place) (grows d.tsn e)
+      | inr e ↦ or-right (was_taken d.tsn t) (is_gone more w.place) (a w.place e)
+    ])
+
+pub passing-later : (p : ℕ) (gone more : List ℕ) (s t : Session) (sent xs : List Entry) → AreAmong gone more
+    → ((k : ℕ) → was_taken k s ≡ true → was_taken k t ≡ true) → IsOnceMore sent xs → (ms : List Made) → Every (IsMadePassing p gone s sent) ms
+    → Every (IsMadePassing p more t xs) ms
+passing-later p gone more s t sent xs a grows once ms h = every-of (IsMadePassing p gone s sent) (IsMadePassing p more t xs) one ms h
+  where
+    part : (ys : List Entry) → IsPart ys sent → IsOnceMore sent xs → IsPart ys xs
+    part ys i (inl e) = subst (IsPart ys) (sym e) i
+    part ys i (inr e) = subst (IsPart ys) (sym e.1) (inr i)
+
+    one : (m : Made) → IsMadePassing p gone s sent m → IsMadePassing p more t xs m
+    one (data_chunk d) i = tt
+    one (forward_tsn g) i = record {
+      passed = i.passed;
+      part = part i.passed i.part once;
+      is = i.is;
+      ends = i.ends;
+      came = came-later gone more s t a grows i.passed i.came;
+    }
+
+-- ## What is acknowledged
+
+module _ (first n : ℕ) (s : Session) (ns : List Numbered) (sent : List Entry) (gone : List ℕ) (i : IsSpread first n s ns sent) (few : n < 2 ^ 31)
+    (passing : ArePassing (base first) gone s sent) where
+  abbrev IsHere : Data → Numbered → List ℕ → List Entry → Type 0
+  IsHere d w after xs = IsPart (fragment d w after ∷ xs) sent
+
+  within : (d : Data) (w : Numbered) (after : List ℕ) (xs : List Entry) → IsHere d w after xs → length xs + 1 ≤ n
+  within d w after xs p = let a = part-length sent (fragment d w after ∷ xs) p in let b = i.long in omega (arith, a, b)
+
+  number : (d : Data) (w : Numbered) (after : List ℕ) (xs : List Entry) → IsHere d w after xs → d.tsn ≡ tsn (base first) (length xs + 1)
+  number d w after xs p =
+      let l = part-line ns first sent (fragment d w after ∷ xs) p i.holds.held.stands.queued.line in
+      let e = l.0.number in
+      omega (arith, e)
+
+  -- what a FORWARD-TSN passes was taken, or is gone
+  passed-came : (d : Data) (w : Numbered) (after : List ℕ) (xs : List Entry) → IsHere d w after xs → was_passed d.tsn s ≡ true
+      → (was_taken d.tsn s || is_gone gone w.place) ≡ true
+  passed-came d w after xs p e =
+      let one = one-of (IsMadePassing (base first) gone s sent) (passes d.tsn) s.made e passing in
+      by one.0 one.1 one.2
+    where
+      by : (m : Made) → passes d.tsn m ≡ true → IsMadePassing (base first) gone s sent m → (was_taken d.tsn s || is_gone gone w.place) ≡ true
+      by (data_chunk x) h g = absurd (not_both h)
+      by (forward_tsn f) h g =
+          let long = part-length sent g.passed g.part in
+          let all = i.long in
+          let here = within d w after xs p in
+          let order : nat_le (length xs + 1) (length g.passed) ≡ true =
+          sym (at-or-before (base first) (length xs + 1) (length g.passed) (omega (arith, here, few)) (omega (arith, long, all, few)))
+          ∙ ap (λ t. at_or_before t (tsn (base first) (length g.passed))) (sym (number d w after xs p)) ∙ ap (at_or_before d.tsn) (sym g.is) ∙ h in
+          let le : length xs + 1 ≤ length g.passed = grind (arith, nat_tests, order) in
+          came-at gone s g.passed g.came d w after xs
+          (shorter-part sent (fragment d w after ∷ xs) g.passed p g.part (omega (arith, le)))
+
+  -- up to the place acknowledged
+  pub acknowledged-came : (d : Data) (w : Numbered) (after : List ℕ) (xs : List Entry) → IsHere d w after xs → length xs + 1 ≤ i.step.numbered.acked
+      → (was_taken d.tsn s || is_gone gone w.place) ≡ true
+  acknowledged-came d w after xs p le =
+      let a = i.step.settled in
+      let m = i.step.numbered in
+      let total = m.total in
+      let far = a.within in
+      let same : a.place ≡ m.acked = same-place (base first) a.place m.acked (omega (arith, far, few)) (omega (arith, total, few)) (sym a.is ∙ m.acked_is) in
+      let known = subst (λ t. (was_taken t s || was_passed t s) ≡ true) (sym (number d w after xs p))
+      (a.so_far (length xs + 1) (omega arith) (omega (arith, le, same))) in
+      elim (or-split (was_taken d.tsn s) (was_passed d.tsn s) known) [
+        | inl e ↦ or-left (was_taken d.tsn s) (is_gone gone w.place) e
+        | inr e ↦ passed-came d w after xs p e
+      ]
+
+  -- where nothing is in flight, each fragment
+  pub all-taken-or-gone : (flight_of s).queue.inflight.chunks ≡ [] → AreTakenOrGone gone s sent
+  all-taken-or-gone none = all-came gone s sent (λ d w after xs p.
+      let total = i.step.numbered.total in
+      let empty = ap length none in
+      let le = within d w after xs p in
+      acknowledged-came d w after xs p (omega (arith, total, empty, le)))
+
+-- ## A FORWARD-TSN is made
+
+every-filtered : {A : Type 0} (P : A → Type 0) (p : A → Bool) (xs : List A) → Every P xs → Every (λ x. P x × (p x ≡ true)) (filter p xs)
+every-filtered P p [] h = tt
+every-filtered P p (x ∷ xs) h = by (p x) refl (every-filtered P p xs h.1)
+  where
+    by : (b : Bool) → p x ≡ b → Every (λ x. P x × (p x ≡ true)) (filter p xs)
+        → Every (λ x. P x × (p x ≡ true)) (if b then x ∷ filter p xs else filter p xs)
+    by true e ih = ((h.0, e), ih)
+    by false e ih = ih
+
+placed-each : (first : ℕ) (sent : List Entry) (cs : List ChunkPayloadData) → AreKnown first sent cs → Every (IsPlaced first sent) cs
+placed-each first sent [] k = tt
+placed-each first sent (c ∷ cs) k = (k.0.1, placed-each first sent cs k.1)
+
+module _ (first n : ℕ) (sent : List Entry) (long : length sent ≡ n) (few : n < 2 ^ 31) where
+  -- the entry of a chunk is the last of as many entries
+  entry-at : (c : ChunkPayloadData) (place : ℕ) (i : IsPlaced first sent c) → c.tsn ≡ tsn (base first) place → 0 < place → place ≤ n → (ys : List Entry)
+      → IsPart ys sent → length ys ≡ place → i.entry ∷ i.entries ≡ ys
+  entry-at c place i is some le ys p same =
+      let number = i.number in
+      let within = part-length sent (i.entry ∷ i.entries) i.part in
+      same-parts sent (i.entry ∷ i.entries) ys i.part p (omega (arith, number, within, is, some, le, same, long, few))
+
+  -- what is in flight in front, up to the first that is kept, is gone
+  lead-gone : (gone : List ℕ) (a : ℕ) (cs : List ChunkPayloadData) → a + length cs ≤ n → IsRunFrom (tsn (base first) (a + 1)) cs
+      → Every (IsPlaced first sent) cs → AreMarkedGone gone cs → (d : Data) (w : Numbered) (after : List ℕ) (xs : List Entry)
+      → IsPart (fragment d w after ∷ xs) sent → a < length xs + 1 → length xs + 1 ≤ a + lead cs → is_gone gone w.place ≡ true
+  lead-gone gone a [] total run placed marked d w after xs p lt le = absurd (omega (arith, lt, le))
+  lead-gone gone a (c ∷ cs) total run placed marked d w after xs p lt le =
+      by c.abandoned refl (lead-gone gone (a + 1) cs (omega (arith, total)) r.1 placed.1 marked.1 d w after xs p)
+    where
+      r : (c.tsn ≡ tsn (base first) (a + 1)) × IsRunFrom (tsn (base first) (a + 1 + 1)) cs
+      r = rest-run (base first) a c cs run
+
+      own : (x : Entry) (ys : List Entry) → IsFor c x → x ∷ ys ≡ fragment d w after ∷ xs → w.place ≡ c.message_id
+      own terminal ys f e = cc
+      own (fragment e v rest) ys f same = let it : v ≡ w = cc in ap (λ (u : Numbered). u.place) (sym it) ∙ f.0
+
+      by : (b : Bool) → c.abandoned ≡ b → (a + 1 < length xs + 1 → length xs + 1 ≤ a + 1 + lead cs → is_gone gone w.place ≡ true)
+          → is_gone gone w.place ≡ true
+      by false e ih =
+          let none = ap (λ b. if not b then 0 else lead cs + 1) e in
+          absurd (omega (arith, none, lt, le))
+      by true e ih = elim (cases_lt (a + 1) (length xs + 1)) [
+        | inl up ↦
+            let more = ap (λ b. if not b then 0 else lead cs + 1) e in
+            ih up (omega (arith, more, le))
+        | inr ge ↦
+            let i = placed.0 in
+            let same = entry-at c (a + 1) i r.0 (omega arith) (omega (arith, total)) (fragment d w after ∷ xs) p (omega (arith, lt, ge)) in
+            ap (is_gone gone) (own i.entry i.entries i.for' same) ∙ marked.0 e
+      ]
+
+-- a chunk in flight has the TSN, and ends its message
+record EndsThere (first : ℕ) (sent : List Entry) (t : ℕ) : Type 0 where
+  chunk : ChunkPayloadData
+  is : chunk.tsn ≡ t
+  ends' : chunk.ending_fragment ≡ true
+  placed : IsPlaced first sent chunk
+
+ends-end : (first : ℕ) (sent : List Entry) (t : ℕ) (f : Flight) → is_end t f ≡ true → AreKnown first sent f.queue.inflight.chunks → EndsThere first sent t
+ends-end first sent t f e known = by (find (has_tsn t) f.queue.inflight.chunks) refl
+    (both (can_skip_to t f) (ends_in (find (has_tsn t) f.queue.inflight.chunks)) e).1
+  where
+    by : (o : Option ChunkPayloadData) → find (has_tsn t) f.queue.inflight.chunks ≡ o → ends_in o ≡ true → EndsThere first sent t
+    by None h g = absurd (not_both g)
+    by (Some c) h g = record {
+      chunk = c;
+      is = same-is c.tsn t (found-passes (has_tsn t) f.queue.inflight.chunks c h);
+      ends' = g;
+      placed = (known-found first sent (has_tsn t) f.queue.inflight.chunks c h known).1;
+    }
+
+ends-skip : (first : ℕ) (sent : List Entry) (t u : ℕ) (f : Flight) → Some u ≡ skip_end t f → AreKnown first sent f.queue.inflight.chunks
+    → EndsThere first sent u
+ends-skip first sent t u f is known = by (can_skip_to t f) is
+  where
+    front : List ChunkPayloadData
+    front = take (ahead f t) f.queue.inflight.chunks
+
+    each : Every (λ (c : ChunkPayloadData). IsPlaced first sent c × (ends c ≡ true)) (filter ends front)
+    each = every-filtered (IsPlaced first sent) ends front
+        (every-taken (IsPlaced first sent) (ahead f t) f.queue.inflight.chunks (placed-each first sent f.queue.inflight.chunks known))
+
+    found : (o : Option ChunkPayloadData) → last_end t f ≡ o → Some u ≡ option_map (λ (c : ChunkPayloadData). c.tsn) o → EndsThere first sent u
+    found None e i = absurd (none-some u (sym i))
+    found (Some c) e i =
+        let x = last-every (λ (d : ChunkPayloadData). IsPlaced first sent d × (ends d ≡ true)) (filter ends front) c e each in
+        record { chunk = c; is = sym (some-same i); ends' = x.1; placed = x.0 }
+
+    by : (b : Bool) → Some u ≡ (if b then option_map (λ (c : ChunkPayloadData). c.tsn) (last_end t f) else None) → EndsThere first sent u
+    by true i = found (last_end t f) refl i
+    by false i = absurd (none-some u (sym i))
+
+module _ (first n : ℕ) (s : Session) (ns : List Numbered) (sent : List Entry) (gone : List ℕ) (i : IsSpread first n s ns sent) (few : n < 2 ^ 31)
+    (passing : ArePassing (base first) gone s sent) (marked : AreMarkedGone gone (flight_of s).queue.inflight.chunks) where
+  passes-gone : (g : ForwardTsn) → IsPassable (base first) n (flight_of s) i.step.numbered few g.new_cumulative_tsn
+      → EndsThere first sent g.new_cumulative_tsn → IsPassing (base first) gone s sent g
+  passes-gone g h end =
+      let given = h.given in
+      let le = given.within in
+      let some = given.some in
+      let long = i.long in
+      let part = part-of-length sent given.place (omega (arith, le, long)) in
+      let same = entry-at first n sent long few end.chunk given.place end.placed (end.is ∙ given.is) some le part.0 part.1 part.2 in
+      record {
+        passed = part.0;
+        part = part.1;
+        is = given.is ∙ ap (tsn (base first)) (sym part.2);
+        ends = subst EndsMessage same (at end.chunk end.placed.entry end.placed.entries end.placed.for' end.ends');
+        came = all-came gone s part.0 (λ d w after xs p. here d w after xs (in-all part.0 part.1 d w after xs p)
+            (let m = part-length part.0 (fragment d w after ∷ xs) p in let k = part.2 in omega (arith, m, k)));
+      }
+    where
+      at : (c : ChunkPayloadData) (x : Entry) (xs : List Entry) → IsFor c x → c.ending_fragment ≡ true → EndsMessage (x ∷ xs)
+      at c terminal xs f e = tt
+      at c (fragment d w after) xs f e = f.1 ∙ e
+
+      in-all : (ys : List Entry) → IsPart ys sent → (d : Data) (w : Numbered) (after : List ℕ) (xs : List Entry) → IsPart (fragment d w after ∷ xs) ys
+          → IsPart (fragment d w after ∷ xs) sent
+      in-all ys q d w after xs p = part-then sent ys (fragment d w after ∷ xs) q p
+
+      here : (d : Data) (w : Numbered) (after : List ℕ) (xs : List Entry) → IsPart (fragment d w after ∷ xs) sent → length xs + 1 ≤ h.given.place
+          → (was_taken d.tsn s || is_gone gone w.place) ≡ true
+      here d w after xs p most = elim (cases_lt i.step.numbered.acked (length xs + 1)) [
+        | inr le ↦ acknowledged-came first n s ns sent gone i few passing d w after xs p le
+        | inl lt ↦
+            let total = i.step.numbered.total in
+            let upto = h.upto in
+            or-right (was_taken d.tsn s) (is_gone gone w.place)
+            (lead-gone first n sent i.long few gone i.step.numbered.acked (flight_of s).queue.inflight.chunks (omega (arith, total)) i.step.numbered.run
+            (placed-each first sent (flight_of s).queue.inflight.chunks i.holds.held.stands.known) marked d w after xs p lt (omega (arith, most, upto)))
+      ]
+
+  -- what a call makes
+  pub made-passing : (call : SenderCall) → IsAccepted call s.sending.sender
+      → Every (IsMadePassing (base first) gone s sent) (made_after call s.sending.sender s.made)
+  made-passing (outgoing.sends now) accepted = by (next_chunk now s.sending.sender)
+    where
+      by : (o : Option ChunkPayloadData) → Every (IsMadePassing (base first) gone s sent) (with_chunk o s.made)
+      by None = passing
+      by (Some c) = (tt, passing)
+  made-passing (outgoing.resends u now c) accepted = (tt, passing)
+  made-passing (outgoing.forwards u g) accepted = (
+    passes-gone g (passable-skip (base first) n (flight_of s) i.step.numbered few u g.new_cumulative_tsn accepted.0)
+        (ends-skip first sent u g.new_cumulative_tsn (flight_of s) accepted.0 i.holds.held.stands.known),
+    passing,
+  )
+  made-passing (outgoing.forwards_within bytes g) accepted = (
+    passes-gone g (passable-end (base first) n (flight_of s) i.step.numbered few g.new_cumulative_tsn accepted.0 accepted.1)
+        (ends-end first sent g.new_cumulative_tsn (flight_of s) accepted.1 i.holds.held.stands.known),
+    passing,
+  )
+  made-passing call accepted = passing
+
+-- ## A call
+
+-- what is so of a session in which the messages with these numbers were abandoned
+pub record IsPassed (first : ℕ) (gone : List ℕ) (s : Session) (ns : List Numbered) (sent : List Entry) : Type 0 where
+  pub marked : AreMarkedGone gone (flight_of s).queue.inflight.chunks
+  pub cut : AreCutGone gone sent
+  pub begun' : AreBegunOrGone gone (length ns) sent (flight_of s).queue.pending
+  pub below : AreBelow (length ns) gone
+  pub passing : ArePassing (base first) gone s sent
+
+pub sender-passes : (first n : ℕ) (gone : List ℕ) (call : SenderCall) (old new : Session) (ns : List Numbered) (sent : List Entry)
+    (i : IsSpread first n old ns sent) → n + distance (next_tsn old) (next_tsn new) < 2 ^ 31 → SenderFollows call old new
+    → (x : Spreads first n call old new ns sent i) → IsPassed first gone old ns sent
+    → IsPassed first (gone ++ abandoned_by call old.sending.sender) new (numbered_after call ns) x.more
+sender-passes first n gone call old new ns sent i few f x h =
+    let small : n < 2 ^ 31 = omega (arith, few) in
+    let told = abandoned_by call old.sending.sender in
+    let more = gone ++ told in
+    let later : AreAmong gone more = gone-left gone told in
+    let among : AreAmong told more = gone-right gone told in
+    let valid = i.step.valid in
+    let marked = marked-later gone more later (flight_of old).queue.inflight.chunks h.marked in
+    let before = passing-later (base first) gone more old old sent sent later (λ k e. e) (inl refl) old.made h.passing in
+    record {
+      marked = stays-marked more old new (λ t. was_taken t old) (λ t. list_any (passes t) old.made) valid marked call among f;
+      cut = stays-cut more first old new ns sent x.more i.holds x.spread.holds.held.stands.counted (cut-later gone more later sent h.cut) call among f x.grown;
+      begun' =
+          stays-begun-or-gone more first old new ns sent x.more i.holds x.once
+          (begun-later gone more later (length ns) sent (flight_of old).queue.pending h.begun') call among f x.grown;
+      below =
+          below-after call ns more
+          (every-joined (λ m. m < length ns) gone told h.below
+          (by-below ns first (λ s. number_of s old.sending.sender.streams) call old.sending.sender sent i.holds.held.stands));
+      passing =
+          subst (Every (IsMadePassing (base first) more new x.more)) (sym (ap (λ (s : Session). s.made) f.after))
+          (passing-later (base first) more more old new sent x.more (λ m e. e) (λ k e. ap (was_taken k) f.after ∙ e) x.once
+          (made_after call old.sending.sender old.made) (made-passing first n old ns sent more i small before marked call f.accepted));
+    }
+
+pub receiver-passes : (first : ℕ) (gone : List ℕ) (call : ReceiverCall) (old new : Session) (ns : List Numbered) (sent : List Entry)
+    → ReceiverFollows call old new → IsPassed first gone old ns sent → IsPassed first gone new ns sent
+receiver-passes first gone call old new ns sent f h =
+    let sender : new.sending ≡ old.sending = ap (λ (s : Session). s.sending) f.after in
+    record {
+      marked = subst (λ l. AreMarkedGone gone l.sender.flight.queue.inflight.chunks) (sym sender) h.marked;
+      cut = h.cut;
+      begun' = subst (λ l. AreBegunOrGone gone (length ns) sent l.sender.flight.queue.pending) (sym sender) h.begun';
+      below = h.below;
+      passing =
+          subst (Every (IsMadePassing (base first) gone new sent)) (sym (ap (λ (s : Session). s.made) f.after))
+          (passing-later (base first) gone gone old new sent sent (λ m e. e) (more-accepted call old new f) (inl refl) old.made h.passing);
+    }
+
+pub passed-first : (tsn size max most : ℕ) (limits : Option Limits) → IsPassed tsn [] (at_start tsn size max most limits) [] []
+passed-first tsn size max most limits = record { marked = tt; cut = tt; begun' = λ m lt e. absurd (omega (arith, lt)); below = tt; passing = tt }

@@ -1,0 +1,353 @@
+-- What each change of a sender's queues makes of the chunks in flight and of how many are left.
+use Rattle.std.proofs.Common.{◌≡◌, ℕ, suc, ◌+◌, ◌%◌, ◌^◌, ◌<◌, ◌≤◌, Bool, true, false, not, List, [], ◌∷◌, ◌++◌, length, length-append, length-drop, map, drop}
+use Rattle.std.proofs.Common.{Option, Some, None, ◌⊎◌, inl, inr, refl, ap, sym, subst, ◌∙◌, arith}
+use Rattle.std.specs.Prelude.{if◌then◌else◌, ◌==◌, ◌&&◌, ◌||◌}
+use Rattle.std.specs.List.{list_any}
+use Rattle.std.proofs.lemmas.List.{drop-map, length-map, map-append}
+use Rattle.std.proofs.lemmas.Option.{none-some}
+use Rattle.sctp_list_lemmas.specs.Lists.{change_where, insert_before}
+use Rattle.sctp_list_lemmas.specs.Serial.{comes_before}
+use Rattle.sctp_list_lemmas.proofs.Cases.{or-split, some-same}
+use Rattle.sctp_list_lemmas.proofs.Edits.{length-change_where}
+use Rattle.sctp_list_lemmas.proofs.More.{not_both}
+use Rattle.sctp_data.specs.declared.chunk.chunk_payload_data.ChunkPayloadData.{ChunkPayloadData}
+use Rattle.sctp_outbound.specs.declared.pending_queue.Selected.{Selected}
+use Rattle.sctp_outbound.specs.Marks.{as_abandoned, is_of}
+use Rattle.sctp_outbound.specs.outbound_queue.OutboundQueue.{Outbound, abandon_chunks, abandoned_of, all_started, as_sent, expired_of, sent_of, terminal_chunk}
+use Rattle.sctp_outbound.specs.outbound_queue.OutboundQueue.{tsn_after_of, with_inflight, with_terminal_chunk}
+use Rattle.sctp_outbound.specs.payload_queue.PayloadQueue as payload
+use Rattle.sctp_outbound.specs.pending_queue.PendingQueue.{Pending, chunk_count, chunk_to_pop_from, closed_up, is_to_start, last_removed, list_to_pop}
+use Rattle.sctp_outbound.specs.pending_queue.PendingQueue.{next_pending, one_lower, rest_after, rest_from, selected_after, start_pending, with_deadline}
+use Rattle.sctp_outbound.specs.pending_queue.PendingQueue.{without, without_message}
+use Rattle.sctp_outbound.specs.pending_queue.Whole.{GoesOn, IsSendable, half_of, partially_sent, waits}
+use Rattle.sctp_outbound.proofs.lemmas.outbound_queue.Abandoned.{abandoned_none, half_waits, last_is_of, no_last}
+use Rattle.sctp_outbound.proofs.lemmas.outbound_queue.Sendable.{goes_on, half_gone, made, sendable-sent}
+use Rattle.sctp_outbound.proofs.lemmas.outbound_queue.SideBySide.{half_before}
+use Rattle.sctp_serial.specs.DataChunks.{chunk_before, following_tsn, is_on}
+use Rattle.sctp_sender.specs.Flight.{tsns_from}
+use Rattle.sctp_sender.proofs.Flights.{behind}
+use Rattle.sctp_sender.proofs.Runs.{IsRunFrom, changed-run}
+use Rattle.sctp_delivery.proofs.Continued.{AreContinued, IsContinued, abandoned-continued, ended-continued, facts, facts-abandoned, facts_of, gone_at}
+use Rattle.sctp_delivery.proofs.Continued.{left-continued, sent-continued}
+use Rattle.sctp_delivery.proofs.ValidMarks.{IsUnmarked}
+
+-- how many chunks wait or are in flight
+abbrev pub left : Outbound → ℕ
+left q = chunk_count q.pending + length q.inflight.chunks
+
+-- what a call makes of the queues: no more chunks are left, where it is one of an exchange
+pub record Goes (exchange : Bool) (q r : Outbound) : Type 0 where
+  pub continued : IsContinued q → IsContinued r
+  pub fewer : exchange ≡ true → left r ≤ left q
+
+pub goes-none : (b : Bool) (q : Outbound) → Goes b q q
+goes-none b q = record { continued = λ c. c; fewer = λ e. omega arith }
+
+pub goes-then : (q r o : Outbound) → Goes true q r → Goes true r o → Goes true q o
+goes-then q r o a b = record {
+  continued = λ c. b.continued (a.continued c);
+  fewer = λ e. let x = a.fewer e in let y = b.fewer e in omega (arith, x, y);
+}
+
+count-facts : (cs : List ChunkPayloadData) → length (facts_of cs) ≡ length cs
+count-facts cs = length-map cs facts
+
+-- the same is so of the chunks in flight, the same message is partially sent, and no more chunks wait
+pub same-goes : (b : Bool) (q r : Outbound) → facts_of r.inflight.chunks ≡ facts_of q.inflight.chunks
+    → partially_sent r.pending ≡ partially_sent q.pending → (b ≡ true → chunk_count r.pending ≤ chunk_count q.pending) → Goes b q r
+same-goes b q r same half fewer = record {
+  continued = λ c. subst (λ o. AreContinued o (facts_of r.inflight.chunks)) (sym half) (subst (AreContinued (partially_sent q.pending)) (sym same) c);
+  fewer = λ e.
+      let le = fewer e in
+      let n = ap length same in
+      let x = count-facts q.inflight.chunks in
+      let y = count-facts r.inflight.chunks in
+      omega (arith, le, n, x, y);
+}
+
+-- ## Lifetimes
+
+pub started-goes : (now : ℕ) (q : Outbound) → Goes true q (all_started now q)
+started-goes now q = by (q.next_unstarted == q.next_message_id)
+  where
+    by : (b : Bool)
+        → Goes true q (if b then q else record q { pending = start_pending q.next_unstarted now q.pending; next_unstarted = q.next_message_id })
+    by true = goes-none true q
+    by false = same-goes true q (record q { pending = start_pending q.next_unstarted now q.pending; next_unstarted = q.next_message_id }) refl refl
+        (λ e.
+        let a = length-change_where (is_to_start q.next_unstarted) (with_deadline now) q.pending.ordered in
+        let b = length-change_where (is_to_start q.next_unstarted) (with_deadline now) q.pending.unordered in
+        omega (arith, a, b))
+
+-- ## Sending
+
+-- a chunk with this TSN goes behind those in flight
+pub record CanPut (cs : List ChunkPayloadData) (tsn : ℕ) : Type 0 where
+  pub first : ℕ
+  pub small : first < 2 ^ 32
+  pub few : length cs < 2 ^ 31
+  pub run : IsRunFrom first cs
+  pub is : tsn ≡ (first + length cs) % 2 ^ 32
+
+put-behind : (x : ChunkPayloadData) (cs : List ChunkPayloadData) (first : ℕ) → first < 2 ^ 32 → length cs < 2 ^ 31 → IsRunFrom first cs
+    → x.tsn ≡ (first + length cs) % 2 ^ 32 → insert_before chunk_before x cs ≡ cs ++ x ∷ []
+put-behind x [] first small few run is = refl
+put-behind x (c ∷ cs) first small few run is =
+    let head : c.tsn ≡ first = cc in
+    let tail : IsRunFrom (following_tsn first) cs = cc in
+    let late : comes_before x.tsn c.tsn ≡ false =
+    ap (λ t. comes_before t c.tsn) is ∙ ap (comes_before ((first + suc (length cs)) % 2 ^ 32)) head
+    ∙ behind first (suc (length cs)) small (omega arith) (omega (arith, few)) in
+    let same : x.tsn ≡ (following_tsn first + length cs) % 2 ^ 32 = omega (arith, is) in
+    ap (λ b. if b then x ∷ c ∷ cs else c ∷ insert_before chunk_before x cs) late
+    ∙ ap (λ ds. c ∷ ds) (put-behind x cs (following_tsn first) (omega arith) (omega (arith, few)) tail same)
+
+-- a chunk that is taken leaves one fewer
+popped : (k : Option Bool) (os us : List ChunkPayloadData) (sel : Option Selected) (ro ru : ℕ) (c : ChunkPayloadData)
+    → chunk_to_pop_from k (made os us sel ro ru) ≡ Some c → chunk_count (rest_from k (made os us sel ro ru)) + 1 ≡ chunk_count (made os us sel ro ru)
+popped None os us sel ro ru c h = absurd (none-some c h)
+popped (Some true) os [] sel ro ru c h = absurd (none-some c h)
+popped (Some true) os (u ∷ us) sel ro ru c h = omega arith
+popped (Some false) [] us sel ro ru c h = absurd (none-some c h)
+popped (Some false) (o ∷ os) us sel ro ru c h = omega arith
+
+-- and where it does not end its message, that is partially sent
+on-sel : (kind : Bool) (c : ChunkPayloadData) (sel : Option Selected) → c.ending_fragment ≡ false → ((m : ℕ) → half_of sel ≡ Some m → c.message_id ≡ m)
+    → half_of (selected_after sel kind c) ≡ Some c.message_id
+on-sel kind c None e on = ap (λ b. half_of (if b then None else Some (let s : Selected = record { message_id = c.message_id; unordered = kind } in s))) e
+on-sel kind c (Some s) e on = ap (λ b. half_of (if b && (c.message_id == s.message_id) then None else Some s)) e ∙ ap Some (sym (on s.message_id refl))
+
+half-on : (k : Option Bool) (os us : List ChunkPayloadData) (sel : Option Selected) (ro ru : ℕ) (c : ChunkPayloadData)
+    → chunk_to_pop_from k (made os us sel ro ru) ≡ Some c → c.ending_fragment ≡ false → ((m : ℕ) → half_of sel ≡ Some m → c.message_id ≡ m)
+    → partially_sent (rest_from k (made os us sel ro ru)) ≡ Some c.message_id
+half-on None os us sel ro ru c h e on = absurd (none-some c h)
+half-on (Some true) os [] sel ro ru c h e on = absurd (none-some c h)
+half-on (Some true) os (u ∷ us) sel ro ru c h e on =
+    let same : u ≡ c = some-same h in
+    ap (λ x. half_of (selected_after sel true x)) same ∙ on-sel true c sel e on
+half-on (Some false) [] us sel ro ru c h e on = absurd (none-some c h)
+half-on (Some false) (o ∷ os) us sel ro ru c h e on =
+    let same : o ≡ c = some-same h in
+    ap (λ x. half_of (selected_after sel false x)) same ∙ on-sel false c sel e on
+
+goes-with : (m : ℕ) (c : ChunkPayloadData) (o : Option ChunkPayloadData) → o ≡ Some c → GoesOn m o → c.message_id ≡ m
+goes-with m c None e g = absurd g
+goes-with m c (Some d) e g = ap (λ (x : ChunkPayloadData). x.message_id) (sym (some-same e)) ∙ g.0
+
+-- the fragment that is next is sent
+pub sent-goes : (q : Outbound) (tsn now : ℕ) → IsSendable q.pending q.inflight.chunks q.next_message_id → CanPut q.inflight.chunks tsn
+    → (o : Option ChunkPayloadData) → next_pending q.pending ≡ o → ((c : ChunkPayloadData) → o ≡ Some c → IsUnmarked c) → Goes true q (sent_of o q tsn now)
+sent-goes q tsn now k can None e unmarked = goes-none true q
+sent-goes q tsn now k can (Some c) e unmarked = record {
+  continued = λ s.
+      subst (AreContinued (partially_sent (rest_after c.beginning_fragment c.unordered p))) (sym all)
+      (sent-continued (partially_sent p) (partially_sent (rest_after c.beginning_fragment c.unordered p)) c.message_id c.ending_fragment
+      (facts_of q.inflight.chunks) half (λ f. half-on (list_to_pop p.selected c.beginning_fragment c.unordered) p.ordered p.unordered p.selected
+      p.ordered_room p.unordered_room c on f half) s);
+  fewer = λ _.
+      let n = popped (list_to_pop p.selected c.beginning_fragment c.unordered) p.ordered p.unordered p.selected p.ordered_room p.unordered_room c on in
+      let m = ap length at-end in
+      let l = length-append q.inflight.chunks (as_sent tsn now c ∷ []) in
+      omega (arith, n, m, l);
+}
+  where
+    p : Pending
+    p = q.pending
+
+    on : chunk_to_pop_from (list_to_pop q.pending.selected c.beginning_fragment c.unordered) q.pending ≡ Some c
+    on = (sendable-sent q.pending q.inflight.chunks q.next_message_id c (as_sent tsn now c) refl k e).taken
+
+    half : (m : ℕ) → half_of q.pending.selected ≡ Some m → c.message_id ≡ m
+    half m h = goes-with m c (next_pending q.pending) e (goes_on q.pending q.inflight.chunks q.next_message_id m k h)
+
+    at-end : insert_before chunk_before (as_sent tsn now c) q.inflight.chunks ≡ q.inflight.chunks ++ as_sent tsn now c ∷ []
+    at-end = put-behind (as_sent tsn now c) q.inflight.chunks can.first can.small can.few can.run can.is
+
+    open' : c.abandoned ≡ false
+    open' = (unmarked c refl).1
+
+    all : facts_of (insert_before chunk_before (as_sent tsn now c) q.inflight.chunks)
+        ≡ facts_of q.inflight.chunks ++ (c.message_id, c.ending_fragment, false) ∷ []
+    all = ap facts_of at-end ∙ map-append facts q.inflight.chunks (as_sent tsn now c ∷ [])
+        ∙ ap (λ b. facts_of q.inflight.chunks ++ (c.message_id, c.ending_fragment, b) ∷ []) open'
+
+-- ## A message is abandoned
+
+few-without : (m : ℕ) (cs : List ChunkPayloadData) → length (without_message m cs) ≤ length cs
+few-without m [] = omega arith
+few-without m (c ∷ cs) = by (is_of m c) (few-without m cs)
+  where
+    by : (b : Bool) → length (without_message m cs) ≤ length cs
+        → length (if not b then c ∷ without_message m cs else without_message m cs) ≤ length (c ∷ cs)
+    by true ih = omega (arith, ih)
+    by false ih = omega (arith, ih)
+
+fewer-without : (m : ℕ) (cs : List ChunkPayloadData) → list_any (is_of m) cs ≡ true → length (without_message m cs) + 1 ≤ length cs
+fewer-without m [] e = absurd (not_both e)
+fewer-without m (c ∷ cs) e = by (is_of m c) e (fewer-without m cs)
+  where
+    by : (b : Bool) → (b || list_any (is_of m) cs) ≡ true → (list_any (is_of m) cs ≡ true → length (without_message m cs) + 1 ≤ length cs)
+        → length (if not b then c ∷ without_message m cs else without_message m cs) + 1 ≤ length (c ∷ cs)
+    by true f ih = let le = few-without m cs in omega (arith, le)
+    by false f ih = let le = ih f in omega (arith, le)
+
+waiting-gone : (m : ℕ) (p : Pending) → waits m p ≡ true → chunk_count (without m p) + 1 ≤ chunk_count p
+waiting-gone m p w = elim (or-split (list_any (is_of m) p.unordered) (list_any (is_of m) p.ordered) w) [
+  | inl e ↦ let a = fewer-without m p.unordered e in let b = few-without m p.ordered in omega (arith, a, b)
+  | inr e ↦ let a = few-without m p.unordered in let b = fewer-without m p.ordered e in omega (arith, a, b)
+]
+
+-- nothing is partially sent, or a terminal chunk has its place
+abbrev pub HasPlace : Outbound → ℕ → Type 0
+HasPlace q tsn = (partially_sent q.pending ≡ None) ⊎ CanPut q.inflight.chunks tsn
+
+pub record Abandons (q r : Outbound) (tsn : ℕ) : Type 0 where
+  pub goes : Goes true q r
+  pub place : HasPlace r tsn
+
+module _ (q : Outbound) (tsn : ℕ) (k : IsSendable q.pending q.inflight.chunks q.next_message_id) (m : ℕ) where
+  abbrev xs : List ChunkPayloadData
+  xs = change_where (is_of m) as_abandoned q.inflight.chunks
+
+  abbrev marked : Outbound
+  marked = record q { inflight = payload.with_chunks q.inflight (change_where (is_of m) as_abandoned q.inflight.chunks) }
+
+  abbrev ended : Option ChunkPayloadData → Outbound
+  ended o = record q {
+    pending = without m q.pending;
+    inflight = with_terminal_chunk o tsn (payload.with_chunks q.inflight (change_where (is_of m) as_abandoned q.inflight.chunks));
+  }
+
+  long : length (change_where (is_of m) as_abandoned q.inflight.chunks) ≡ length q.inflight.chunks
+  long = length-change_where (is_of m) as_abandoned q.inflight.chunks
+
+  run-on : (first : ℕ) → IsRunFrom first q.inflight.chunks → IsRunFrom first (change_where (is_of m) as_abandoned q.inflight.chunks)
+  run-on first run = changed-run (is_of m) as_abandoned (λ c. refl) q.inflight.chunks ∙ run ∙ ap (tsns_from first) (sym long)
+
+  marked-place : HasPlace q tsn → HasPlace marked tsn
+  marked-place (inl none) = inl none
+  marked-place (inr can) = inr (record {
+    first = can.first;
+    small = can.small;
+    few = let few = can.few in omega (arith, long, few);
+    run = run-on can.first can.run;
+    is = let is = can.is in omega (arith, is, long);
+  })
+
+  -- none of it waits
+  whole-goes : waits m q.pending ≡ false → Goes true q marked
+  whole-goes w = record {
+    continued = λ s.
+        subst (AreContinued (partially_sent q.pending)) (sym (facts-abandoned m q.inflight.chunks))
+        (abandoned-continued (partially_sent q.pending) m (facts_of q.inflight.chunks) (λ half. not_both (sym w ∙ waiting half)) s);
+    fewer = λ _. omega (arith, long);
+  }
+    where
+      waiting : partially_sent q.pending ≡ Some m → waits m q.pending ≡ true
+      waiting half =
+          let p = q.pending in
+          half_waits p.ordered p.unordered p.selected p.ordered_room p.unordered_room q.next_message_id m q.inflight.chunks k half
+
+  -- its terminal chunk stands behind those in flight
+  ended-goes : waits m q.pending ≡ true → partially_sent q.pending ≡ Some m → CanPut q.inflight.chunks tsn → (o : Option ChunkPayloadData)
+      → last_removed m q.pending ≡ o → Goes true q (ended o)
+  ended-goes w half can None e = absurd (no_last m q.pending w e)
+  ended-goes w half can (Some c) e = record {
+    continued = λ s.
+        subst (AreContinued (partially_sent (without m q.pending))) (sym all)
+        (ended-continued (partially_sent q.pending) (partially_sent (without m q.pending)) m (facts_of q.inflight.chunks) half s);
+    fewer = λ _.
+        let n = waiting-gone m q.pending w in
+        let a = ap length at-end in
+        let l = length-append xs (terminal_chunk tsn c ∷ []) in
+        omega (arith, n, a, l, long);
+  }
+    where
+      at-end : insert_before chunk_before (terminal_chunk tsn c) (change_where (is_of m) as_abandoned q.inflight.chunks)
+          ≡ change_where (is_of m) as_abandoned q.inflight.chunks ++ terminal_chunk tsn c ∷ []
+      at-end =
+          let few = can.few in
+          let is = can.is in
+          put-behind (terminal_chunk tsn c) xs can.first can.small (omega (arith, few, long)) (run-on can.first can.run) (omega (arith, is, long))
+
+      all : facts_of (insert_before chunk_before (terminal_chunk tsn c) (change_where (is_of m) as_abandoned q.inflight.chunks))
+          ≡ map (gone_at m) (facts_of q.inflight.chunks) ++ (m, true, true) ∷ []
+      all = ap facts_of at-end ∙ map-append facts xs (terminal_chunk tsn c ∷ [])
+          ∙ ap (λ ys. ys ++ (c.message_id, true, true) ∷ []) (facts-abandoned m q.inflight.chunks)
+          ∙ ap (λ j. map (gone_at m) (facts_of q.inflight.chunks) ++ (j, true, true) ∷ []) (last_is_of m q.pending c e)
+
+pub abandoned-goes : (q : Outbound) (tsn : ℕ) → IsSendable q.pending q.inflight.chunks q.next_message_id → (o : Option ℕ)
+    → ((m : ℕ) → o ≡ Some m → waits m q.pending ≡ true → partially_sent q.pending ≡ Some m) → HasPlace q tsn
+    → Abandons q (abandoned_of o tsn q) (tsn_after_of o tsn q)
+abandoned-goes q tsn k None half place = record { goes = goes-none true q; place = place }
+abandoned-goes q tsn k (Some m) half place = by (waits m q.pending) refl
+  where
+    by : (b : Bool) → waits m q.pending ≡ b → Abandons q (abandon_chunks m tsn q) (if waits m q.pending then following_tsn tsn else tsn)
+    by false w =
+        subst (λ b. Abandons q (abandon_chunks m tsn q) (if b then following_tsn tsn else tsn)) (sym w)
+        (subst (λ r. Abandons q r tsn) (sym (abandoned_none m tsn q k w))
+        (record { goes = whole-goes q tsn k m w; place = marked-place q tsn k m place }))
+    by true w =
+        let is = half m refl w in
+        record {
+          goes = put is place;
+          place = inl (half_gone m q.pending.selected is);
+        }
+      where
+        put : partially_sent q.pending ≡ Some m → HasPlace q tsn → Goes true q (abandon_chunks m tsn q)
+        put is (inl none) = absurd (none-some m (sym none ∙ is))
+        put is (inr can) = ended-goes q tsn k m w is can (last_removed m q.pending) refl
+
+-- ## A message expires
+
+-- a message that is in front whole is not partially sent
+none-half : (q : Outbound) → IsSendable q.pending q.inflight.chunks q.next_message_id → (c : ChunkPayloadData) → next_pending q.pending ≡ Some c
+    → c.beginning_fragment ≡ true → (o : Option ℕ) → partially_sent q.pending ≡ o → o ≡ None
+none-half q k c e begins None h = refl
+none-half q k c e begins (Some m) h = absurd (inner (next_pending q.pending) e (goes_on q.pending q.inflight.chunks q.next_message_id m k h))
+  where
+    inner : (o : Option ChunkPayloadData) → o ≡ Some c → GoesOn m o → ⊥
+    inner None f g = g
+    inner (Some d) f g = not_both (sym g.1 ∙ ap (λ (x : ChunkPayloadData). x.beginning_fragment) (some-same f) ∙ begins)
+
+pub expired-goes : (q : Outbound) → IsSendable q.pending q.inflight.chunks q.next_message_id → (c : ChunkPayloadData) → next_pending q.pending ≡ Some c
+    → c.beginning_fragment ≡ true → Goes true q (expired_of (Some c) q)
+expired-goes q k c e begins = by c.unordered
+  where
+    none : partially_sent q.pending ≡ None
+    none = none-half q k c e begins (partially_sent q.pending) refl
+
+    still : (o : Option ℕ) → partially_sent (without c.message_id q.pending) ≡ o → o ≡ None
+    still None h = refl
+    still (Some j) h = absurd (none-some j (sym none ∙ half_before c.message_id j q.pending.selected h))
+
+    same : partially_sent (without c.message_id q.pending) ≡ partially_sent q.pending
+    same = still (partially_sent (without c.message_id q.pending)) refl ∙ sym none
+
+    fewer : chunk_count (without c.message_id q.pending) ≤ chunk_count q.pending
+    fewer = let a = few-without c.message_id q.pending.ordered in let b = few-without c.message_id q.pending.unordered in omega (arith, a, b)
+
+    by : (b : Bool) → Goes true q (record q {
+      pending = if b then without c.message_id q.pending else closed_up c.stream_identifier (without c.message_id q.pending);
+    })
+    by true = same-goes true q (record q { pending = without c.message_id q.pending }) refl same (λ _. fewer)
+    by false =
+        same-goes true q (record q { pending = closed_up c.stream_identifier (without c.message_id q.pending) }) refl same
+        (λ _. let n = length-change_where (is_on c.stream_identifier) one_lower (without c.message_id q.pending).ordered in omega (arith, n, fewer))
+
+-- ## Chunks leave
+
+-- the first so many
+pub dropped-goes : (q : Outbound) (cs : List ChunkPayloadData) (k : ℕ) → facts_of cs ≡ facts_of q.inflight.chunks
+    → Goes true q (with_inflight q (drop k cs))
+dropped-goes q cs k same = record {
+  continued = λ s.
+      subst (AreContinued (partially_sent q.pending)) (ap (drop k) (sym same) ∙ drop-map facts k cs)
+      (left-continued (partially_sent q.pending) k (facts_of q.inflight.chunks) s);
+  fewer = λ _.
+      let d = length-drop k cs in
+      let n = ap length same in
+      let x = count-facts q.inflight.chunks in
+      let y = count-facts cs in
+      omega (arith, d, n, x, y);
+}

@@ -1,0 +1,162 @@
+-- Sessions that were reached from a start, call by call: the chunks in flight are continued, and no more are left in an exchange.
+use Rattle.std.proofs.Common.{◌≡◌, ℕ, ◌+◌, ◌^◌, ◌<◌, ◌≤◌, true, List, [], ◌∷◌, ◌++◌, Option, refl, ap, sym, subst, arith}
+use Rattle.std.specs.List.{list_all}
+use Rattle.sctp_list_lemmas.specs.Serial.{distance}
+use Rattle.sctp_list_lemmas.proofs.More.{both}
+use Rattle.sctp_receiver.specs.declared.receiver.limits.Limits.{Limits}
+use Rattle.sctp_sender.specs.SenderRuns.{Ledger}
+use Rattle.sctp_delivery.specs.ReceiverCalls.{ReceiverCall}
+use Rattle.sctp_delivery.specs.Rounds.{is_exchange}
+use Rattle.sctp_delivery.specs.Sacks.{tsns_given}
+use Rattle.sctp_delivery.specs.SenderCalls.{SenderCall}
+use Rattle.sctp_delivery.specs.Session.{Call, Follows, ReceiverFollows, RunsTo, SenderFollows, Session, at_start, of_receiver, of_sender}
+use Rattle.sctp_delivery.proofs.Calls.{numbered_after}
+use Rattle.sctp_delivery.proofs.CallsLeft.{calls-go}
+use Rattle.sctp_delivery.proofs.Continued.{IsContinued}
+use Rattle.sctp_delivery.proofs.Delivered as delivered
+use Rattle.sctp_delivery.proofs.Delivered.{Holds, next_tsn}
+use Rattle.sctp_delivery.proofs.QueuesLeft.{Goes, left}
+use Rattle.sctp_delivery.proofs.SackLaws as sacks
+use Rattle.sctp_delivery.proofs.SackLaws.{IsInStep}
+use Rattle.sctp_delivery.proofs.Sent.{Entry, Numbered}
+use Rattle.sctp_delivery.proofs.TsnPlaces.{base}
+
+-- ## The chunks in flight are continued
+
+pub record IsKept (first n : ℕ) (s : Session) (ns : List Numbered) (sent : List Entry) : Type 0 where
+  pub holds : Holds first s ns sent
+  pub step : IsInStep (base first) n s
+  pub continued : IsContinued s.sending.sender.flight.queue
+
+-- what a call of the sender makes of the queues
+pub goes : (first n : ℕ) (call : SenderCall) (old new : Session) (ns : List Numbered) (sent : List Entry) → n < 2 ^ 31 → SenderFollows call old new
+    → IsKept first n old ns sent → Goes (is_exchange (of_sender call)) old.sending.sender.flight.queue new.sending.sender.flight.queue
+goes first n call old new ns sent few f i =
+    calls-go (base first) n old new few i.step.numbered i.step.valid ns first sent i.holds.held call i.step.sacks f
+
+sender-kept : (first n : ℕ) (call : SenderCall) (old new : Session) (ns : List Numbered) (sent : List Entry)
+    → n + distance (next_tsn old) (next_tsn new) < 2 ^ 31 → SenderFollows call old new → IsKept first n old ns sent
+    → (more : List Entry) × IsKept first (n + distance (next_tsn old) (next_tsn new)) new (numbered_after call ns) more
+sender-kept first n call old new ns sent few f i =
+    let x = delivered.sender-step first call old new ns sent f i.holds in (
+      x.more,
+      record {
+        holds = x.holds;
+        step = sacks.sender-step (base first) n call old new few f i.step;
+        continued = (goes first n call old new ns sent (omega (arith, few)) f i).continued i.continued;
+      },
+    )
+
+receiver-kept : (first n : ℕ) (call : ReceiverCall) (old new : Session) (ns : List Numbered) (sent : List Entry) → n < 2 ^ 31
+    → ReceiverFollows call old new → IsKept first n old ns sent → IsKept first n new ns sent
+receiver-kept first n call old new ns sent few f i = record {
+  holds = delivered.receiver-step first call old new ns sent f i.holds;
+  step = sacks.receiver-step (base first) n call old new few f i.step;
+  continued = subst (λ (l : Ledger). IsContinued l.sender.flight.queue) (sym (ap (λ (s : Session). s.sending) f.after)) i.continued;
+}
+
+-- the writes and entries of a session
+pub record HasKept (first n : ℕ) (s : Session) : Type 0 where
+  pub numbered : List Numbered
+  pub sent : List Entry
+  pub kept : IsKept first n s numbered sent
+
+kept-after : (first n : ℕ) (cs : List Call) (old new : Session) (ns : List Numbered) (sent : List Entry) (r : RunsTo old cs new)
+    → n + tsns_given old cs new r < 2 ^ 31 → IsKept first n old ns sent → HasKept first (n + tsns_given old cs new r) new
+kept-after first n [] old new ns sent r few i =
+    subst (λ k. HasKept first k new) {x = n} {y = n + 0} (omega arith)
+    (subst (HasKept first n) (sym r) (record { numbered = ns; sent = sent; kept = i }))
+kept-after first n (of_sender call ∷ cs) old new ns sent r few i =
+    let d = distance (next_tsn old) (next_tsn r.0) in
+    let x = sender-kept first n call old r.0 ns sent (omega (arith, few)) r.1.0 i in
+    let sum : (n + d) + tsns_given r.0 cs new r.1.1 ≡ n + (d + tsns_given r.0 cs new r.1.1) = omega arith in
+    subst (λ k. HasKept first k new) sum
+    (kept-after first (n + d) cs r.0 new (numbered_after call ns) x.0 r.1.1 (omega (arith, few)) x.1)
+kept-after first n (of_receiver call ∷ cs) old new ns sent r few i =
+    let d = distance (next_tsn old) (next_tsn r.0) in
+    let none : d ≡ 0 = sacks.no-move (base first) n old r.0 (ap (λ (s : Session). s.sending) r.1.0.after) i.step.numbered in
+    let sum : n + tsns_given r.0 cs new r.1.1 ≡ n + (d + tsns_given r.0 cs new r.1.1) = omega (arith, none) in
+    subst (λ k. HasKept first k new) sum
+    (kept-after first n cs r.0 new ns sent r.1.1 (omega (arith, few)) (receiver-kept first n call old r.0 ns sent (omega (arith, few)) r.1.0 i))
+
+-- ## Reached from a start
+
+-- n TSNs were given out since
+pub record IsReached (first n : ℕ) (s : Session) : Type 0 where
+  pub size : ℕ
+  pub max : ℕ
+  pub most : ℕ
+  pub limits : Option Limits
+  pub calls : List Call
+  pub small : first < 2 ^ 32
+  pub some : 0 < size
+  pub run : RunsTo (at_start first size max most limits) calls s
+  pub given : n ≡ tsns_given (at_start first size max most limits) calls s run
+
+pub kept : (first n : ℕ) (s : Session) → n < 2 ^ 31 → IsReached first n s → HasKept first n s
+kept first n s few i =
+    let start = at_start first i.size i.max i.most i.limits in
+    let e = i.given in
+    subst (λ k. HasKept first k s) (sym e)
+    (subst (λ k. HasKept first k s) {x = 0 + tsns_given start i.calls s i.run} {y = tsns_given start i.calls s i.run} (omega arith)
+    (kept-after first 0 i.calls start s [] [] i.run (omega (arith, few, e)) (record {
+      holds = delivered.at-first first i.size i.max i.most i.limits i.small i.some;
+      step = sacks.begin first i.size i.max i.most i.limits i.small;
+      continued = tt;
+    })))
+
+-- with one more call
+module _ (call : Call) (s t : Session) (f : Follows call s t) where
+  pub with-one : (cs : List Call) (r : Session) → RunsTo r cs s → RunsTo r (cs ++ call ∷ []) t
+  with-one [] r run = (t, (subst (λ x. Follows call x t) run f, refl))
+  with-one (c ∷ cs) r run = (run.0, (run.1.0, with-one cs run.0 run.1.1))
+
+  one-given : (cs : List Call) (r : Session) (run : RunsTo r cs s)
+      → tsns_given r (cs ++ call ∷ []) t (with-one cs r run) ≡ tsns_given r cs s run + distance (next_tsn s) (next_tsn t)
+  unfolding with-one
+  one-given [] r run = let e = ap (λ x. distance (next_tsn x) (next_tsn t)) run in omega (arith, e)
+  one-given (c ∷ cs) r run = let ih = one-given cs run.0 run.1.1 in omega (arith, ih)
+
+pub reach-one : (first n : ℕ) (call : Call) (s t : Session) → Follows call s t → IsReached first n s
+    → IsReached first (n + distance (next_tsn s) (next_tsn t)) t
+reach-one first n call s t f i =
+    let start = at_start first i.size i.max i.most i.limits in
+    record {
+      size = i.size;
+      max = i.max;
+      most = i.most;
+      limits = i.limits;
+      calls = i.calls ++ call ∷ [];
+      small = i.small;
+      some = i.some;
+      run = with-one call s t f i.calls start i.run;
+      given = let e = one-given call s t f i.calls start i.run in let g = i.given in omega (arith, e, g);
+    }
+
+pub reach-on : (first n : ℕ) (cs : List Call) (s t : Session) (run : RunsTo s cs t) → IsReached first n s
+    → IsReached first (n + tsns_given s cs t run) t
+reach-on first n [] s t run i =
+    subst (λ k. IsReached first k t) {x = n} {y = n + 0} (omega arith) (subst (IsReached first n) (sym run) i)
+reach-on first n (c ∷ cs) s t run i =
+    let d = distance (next_tsn s) (next_tsn run.0) in
+    let sum : (n + d) + tsns_given run.0 cs t run.1.1 ≡ n + (d + tsns_given run.0 cs t run.1.1) = omega arith in
+    subst (λ k. IsReached first k t) sum (reach-on first (n + d) cs run.0 t run.1.1 (reach-one first n c s run.0 run.1.0 i))
+
+-- ## An exchange
+
+-- no more chunks are left after it
+pub none-more : (first n : ℕ) (cs : List Call) (s t : Session) (run : RunsTo s cs t) → n + tsns_given s cs t run < 2 ^ 31 → list_all is_exchange cs ≡ true
+    → IsReached first n s → left t.sending.sender.flight.queue ≤ left s.sending.sender.flight.queue
+none-more first n [] s t run few e i = let same = ap (λ (x : Session). left x.sending.sender.flight.queue) run in omega (arith, same)
+none-more first n (of_sender call ∷ cs) s t run few e i =
+    let b = both (is_exchange (of_sender call)) (list_all is_exchange cs) e in
+    let d = distance (next_tsn s) (next_tsn run.0) in
+    let k = kept first n s (omega (arith, few)) i in
+    let one = (goes first n call s run.0 k.numbered k.sent (omega (arith, few)) run.1.0 k.kept).fewer b.0 in
+    let ih = none-more first (n + d) cs run.0 t run.1.1 (omega (arith, few)) b.1 (reach-one first n (of_sender call) s run.0 run.1.0 i) in
+    omega (arith, one, ih)
+none-more first n (of_receiver call ∷ cs) s t run few e i =
+    let d = distance (next_tsn s) (next_tsn run.0) in
+    let same = ap (λ (x : Session). left x.sending.sender.flight.queue) run.1.0.after in
+    let ih = none-more first (n + d) cs run.0 t run.1.1 (omega (arith, few)) e (reach-one first n (of_receiver call) s run.0 run.1.0 i) in
+    omega (arith, same, ih)

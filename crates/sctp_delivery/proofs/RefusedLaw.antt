@@ -1,0 +1,393 @@
+-- A receiver that is read refuses nothing that an honest sender still needs taken.
+use Rattle.std.proofs.Common.{◌≡◌, ℕ, ◌+◌, ◌%◌, ◌^◌, ◌<◌, ◌≤◌, Bool, true, false, not, List, [], ◌∷◌, Option, Some, None, inl, inr, refl, ap, sym, subst, ◌∙◌}
+use Rattle.std.proofs.Common.{arith, length}
+use Rattle.std.specs.Prelude.{◌==◌, ◌&&◌, ◌||◌, Contains, if◌then◌else◌, is_some, nat_le, nat_lt}
+use Rattle.std.specs.List.{list_any, find, list_all}
+use Rattle.std.specs.Option.{option_or}
+use Rattle.std.proofs.lemmas.Bool.{cases_lt}
+use Rattle.std.proofs.lemmas.Bool.Decides.{nat_tests}
+use Rattle.std.proofs.lemmas.Option.{none-some}
+use Rattle.sctp_list_lemmas.specs.Serial.{distance16}
+use Rattle.sctp_list_lemmas.proofs.Cases.{or-left, or-split, same-is, same-yes, and-none, or-right, some-same}
+use Rattle.sctp_list_lemmas.proofs.More.{and, not_both, both, fails}
+use Rattle.sctp_list_lemmas.proofs.Round.{tsn}
+use Rattle.sctp_data.specs.declared.chunk.chunk_payload_data.ChunkPayloadData.{ChunkPayloadData}
+use Rattle.sctp_data.specs.ChunkSet.{ChunkSet}
+use Rattle.sctp_data.specs.PayloadData.{Data, data_of}
+use Rattle.sctp_serial.specs.DataChunks.{has_tsn, bytes_of, chunk_before}
+use Rattle.sctp_reassembly.specs.reassembly_queue.ReassemblyQueue.{message_read, Reassembly}
+use Rattle.sctp_receiver.specs.declared.receiver.arrival.Arrival.TheVariants.{New, Repeat}
+use Rattle.sctp_receiver.specs.declared.receiver.inbound_streams.InboundStream.{InboundStream}
+use Rattle.sctp_receiver.specs.declared.receiver.refusal.ReceiverRefusal.TheVariants.{SsnTooFar, TsnOpposite, MessageTooLarge}
+use Rattle.sctp_receiver.specs.Limits.{refusal_by}
+use Rattle.sctp_receiver.specs.Receiver.{Reception, arrival_refusal, filter_of, follow_forward_tsn, is_stale, new_refusal, message_of, stream_of}
+use Rattle.sctp_receiver.specs.Receiver.{stream_refusal, is_open}
+use Rattle.sctp_receiver.specs.Skips.{without_incomplete}
+use Rattle.sctp_receiver.specs.Ssns.{is_ssn_too_far, is_too_far_on, lowest_ssn}
+use Rattle.sctp_receiver.specs.TsnFilter.{has_come, is_opposite}
+use Rattle.sctp_sender.specs.Flight.{reports}
+use Rattle.sctp_sender.specs.Numbers.{is_ordered_on}
+use Rattle.sctp_delivery.specs.ReceiverCalls as incoming
+use Rattle.sctp_delivery.specs.ReceiverCalls.{ReceiverCall}
+use Rattle.sctp_delivery.specs.Refused.{AfterEachUnlimitedSession, NoneInFlightIsRefused, is_due_on, is_takable, IsCopy, NoneIsRefusedWhereRead}
+use Rattle.sctp_delivery.specs.Sacks.{is_reported, tsns_given, was_taken}
+use Rattle.sctp_delivery.specs.Session.{Call, ReceiverFollows, RunsTo, Session, at_start, of_receiver, of_sender}
+use Rattle.sctp_delivery.proofs.Delivered.{found-sent}
+use Rattle.sctp_delivery.proofs.EndedEntries.{has_fragment}
+use Rattle.sctp_delivery.proofs.EntryLengths.{unassembled-fits, set-fits, part-fits}
+use Rattle.sctp_delivery.proofs.Every.{Every, every-contained, every-of-all, one-of, every-found}
+use Rattle.sctp_delivery.proofs.InFlight.{AreKnown, IsKnown}
+use Rattle.sctp_delivery.proofs.MessageSizes.{fit-session, AreWithin}
+use Rattle.sctp_delivery.proofs.NotRefused.{begun-low, near-distance}
+use Rattle.sctp_delivery.proofs.PassedTsns.{flight-given}
+use Rattle.sctp_delivery.proofs.SackLaws as sacks
+use Rattle.sctp_delivery.proofs.SackSteps.{known}
+use Rattle.sctp_delivery.proofs.Sent.{Entry, WasSent, fragment, part-line}
+use Rattle.sctp_delivery.proofs.ValidSessions.{HasValid, valid-session}
+use Rattle.sctp_delivery.proofs.ValidStreams.{IsValidHeld, ValidIn, all-came, index_in, sent-at, IsValidSet}
+use Rattle.sctp_delivery.proofs.SpreadCalls.{IsSpread}
+use Rattle.sctp_delivery.proofs.SpreadEntries.{begun_to, is_at, made-entry}
+use Rattle.sctp_delivery.proofs.TakenCalls.{HasCome}
+use Rattle.sctp_delivery.proofs.TakenTsns.{come}
+use Rattle.sctp_delivery.proofs.ToldCalls as told
+use Rattle.sctp_delivery.proofs.TsnPlaces.{IsGiven, base}
+use Rattle.sctp_delivery.proofs.UnwrappedHolds.{AreDue, Came, DueOn, IsOf, rises-put, Fits}
+use Rattle.sctp_delivery.proofs.UnwrappedSessions as sessions
+use Rattle.sctp_list_lemmas.proofs.Edits.{sum_by-inserted}
+use Rattle.sctp_list_lemmas.specs.Lists.{insert_before}
+use Rattle.sctp_reassembly.specs.reassembly_queue.Fragments.{chunks_of_ssn}
+use Rattle.sctp_reassembly.specs.reassembly_queue.Sizes.{projected_size, size_after, size_before}
+use Rattle.sctp_receiver.specs.Inbound.{has_number}
+use Rattle.sctp_delivery.specs.SenderCalls.{Write}
+use Rattle.sctp_delivery.proofs.Calls.{contains-forgotten, forget}
+use Rattle.sctp_delivery.proofs.UnwrappedReads.{AreSets, IsDue}
+use Rattle.sctp_delivery.specs.Complete.{reads_nothing}
+
+-- ## Limits
+
+-- they stay as they are
+limits-after : (call : ReceiverCall) (old new : Session) → ReceiverFollows call old new
+    → new.receiving.receiver.limits ≡ old.receiving.receiver.limits
+limits-after (incoming.opens stream) old new f = ap (λ (r : Reception). r.limits) f.step.receiver.1
+limits-after (incoming.takes c Repeat) old new f = ap (λ (r : Reception). r.limits) f.step.receiver
+limits-after (incoming.takes c (New told)) old new f = ap (λ (r : Reception). r.limits) f.step.receiver.after
+limits-after (incoming.follows g) old new f = ap (λ (r : Reception). r.limits) f.step.receiver ∙ by (is_stale g old.receiving.receiver)
+  where
+    by : (b : Bool) → (if b then old.receiving.receiver else without_incomplete g.new_cumulative_tsn
+        (if b then old.receiving.receiver else follow_forward_tsn g old.receiving.receiver)).limits ≡ old.receiving.receiver.limits
+    by true = refl
+    by false = refl
+limits-after (incoming.reports credit) old new f = ap (λ (r : Reception). r.limits) f.step.receiver
+limits-after (incoming.reads stream) old new f = ap (λ (r : Reception). r.limits) f.step.receiver
+
+limits-same : (cs : List Call) (old new : Session) → RunsTo old cs new → new.receiving.receiver.limits ≡ old.receiving.receiver.limits
+limits-same [] old new r = ap (λ (s : Session). s.receiving.receiver.limits) r
+limits-same (of_sender call ∷ cs) old new r =
+    limits-same cs r.0 new r.1.1 ∙ ap (λ (s : Session). s.receiving.receiver.limits) r.1.0.after
+limits-same (of_receiver call ∷ cs) old new r = limits-same cs r.0 new r.1.1 ∙ limits-after call old r.0 r.1.0
+
+-- ## A chunk in flight
+
+known-each : (first : ℕ) (sent : List Entry) (cs : List ChunkPayloadData) → AreKnown first sent cs → Every (IsKnown first sent) cs
+known-each first sent [] k = tt
+known-each first sent (c ∷ cs) k = (k.0, known-each first sent cs k.1)
+
+module _ (first n : ℕ) (few : n < 2 ^ 31) (s : Session) (h : HasValid first n s) (free : s.receiving.receiver.limits ≡ None)
+    (within : AreWithin s.sending.sender.max_message_size s.written)
+    (sized : Every (λ (l : InboundStream). l.queue.max_message_size ≡ s.receiving.receiver.max_message_size) s.receiving.receiver.streams)
+    (enough : s.sending.sender.max_message_size ≤ s.receiving.receiver.max_message_size) where
+  abbrev p : ℕ
+  p = base first
+
+  abbrev r : Reception
+  r = s.receiving.receiver
+
+  abbrev sent : List Entry
+  sent = h.sent
+
+  abbrev spread : IsSpread first n s h.numbered h.sent
+  spread = h.valid.unwrapped.spread
+
+  abbrev chunks : List ChunkPayloadData
+  chunks = s.sending.sender.flight.queue.inflight.chunks
+
+  abbrev max : ℕ
+  max = s.sending.sender.max_message_size
+
+  -- no write is longer than the sender takes
+  bound : (c : ChunkPayloadData) (was : WasSent sent (data_of c)) → length was.0.bytes ≤ max
+  bound c (w, after, xs, part) =
+      let f = (part-line h.numbered first sent (fragment (data_of c) w after ∷ xs) part spread.holds.held.stands.queued.line).0.written in
+      let in' = subst (λ ws. Contains ws (forget w)) spread.holds.writes (contains-forgotten h.numbered w f) in
+      every-contained (λ (v : Write). length v.bytes ≤ max) s.written (forget w) in' within
+
+  -- what was taken has come
+  taken-came : (t : ℕ) → was_taken t s ≡ true → come t r.cumulative_tsn r.beyond ≡ true
+  taken-came t e =
+      let one = one-of (HasCome p n r) (has_tsn t) s.receiving.accepted e spread.step.taken.each in
+      subst (λ u. come u r.cumulative_tsn r.beyond ≡ true) (same-is one.0.tsn t one.1) one.2.1
+
+  -- one that did not come was sent as it is in flight
+  was-sent : (c : ChunkPayloadData) → Contains chunks c → c.abandoned ≡ false → come c.tsn r.cumulative_tsn r.beyond ≡ false → WasSent sent (data_of c)
+  was-sent c in' kept fresh = by c.acked refl
+    where
+      k : IsKnown first sent c
+      k = every-contained (IsKnown first sent) chunks c in' (known-each first sent chunks spread.holds.held.stands.known)
+
+      by : (b : Bool) → c.acked ≡ b → WasSent sent (data_of c)
+      by false e = k.0 (and (not c.acked) (not c.abandoned) (ap not e) (ap not kept))
+      by true e =
+          let told' = every-contained (λ (y : ChunkPayloadData). is_reported s y ≡ true → (was_taken y.tsn s || y.abandoned) ≡ true) chunks c in'
+          (every-of-all (λ (y : ChunkPayloadData). is_reported s y ≡ true → (was_taken y.tsn s || y.abandoned) ≡ true) chunks
+          (sacks.came p n s few spread.step)) in
+          absurd (elim (or-split (was_taken c.tsn s) c.abandoned (told' (or-left c.acked (list_any (λ sack. reports sack c) s.sacks) e))) [
+            | inl t ↦ not_both (sym fresh ∙ taken-came c.tsn t)
+            | inr t ↦ not_both (sym kept ∙ t)
+          ])
+
+  module _ (x : ChunkPayloadData) (g : IsGiven p n x.tsn) (fresh : has_come x.tsn (filter_of r) ≡ false) (was : WasSent sent (data_of x)) where
+    abbrev st : ℕ
+    st = x.stream_identifier
+
+    abbrev B : ℕ → ℕ
+    B k = begun_to st k sent
+
+    abbrev E : ℕ → Bool
+    E k = is_at st k sent
+
+    abbrev M : ChunkPayloadData → Type 0
+    M c = WasSent sent (data_of c)
+
+    abbrev d : AreDue p st n B E M spread.step.numbered.acked s.receiving
+    d = (h.valid.unwrapped.told st).0
+
+    abbrev Prior : ℕ → Type 0
+    Prior = Came p st n B E M r.cumulative_tsn r.beyond
+
+    abbrev Both : Option InboundStream → Type 0
+    Both o = (due : DueOn p st n B E M Prior d.k d.reach o) × ValidIn st first n sent r (index_in p st n B E M Prior d.k d.reach o due) o
+
+    module _ (ordered : x.unordered ≡ false) (held : Reassembly) (due : IsDue p n B (Fits p st n B E M) Prior d.k d.reach held)
+        (valid : IsValidHeld st first n sent r due.index held) (none : message_read held ≡ None) where
+      -- the index of its message, from the lowest one on
+      record IsWindowed : Type 0 where
+        index : ℕ
+        of : IsOf p st n B E M index x
+        number : x.stream_sequence_number ≡ index % 2 ^ 16
+        from : due.low ≤ index
+        upto : index < due.low + 2 ^ 15
+
+      late : (y : ℕ) → has_fragment st y sent ≡ true → x.tsn ≡ tsn p y → due.index < B y
+      late y at is = elim (cases_lt due.index (B y)) [
+        | inl lt ↦ lt
+        | inr ge ↦ absurd (not_both (sym fresh ∙ ap (λ t. come t r.cumulative_tsn r.beyond) is
+            ∙ all-came st first n sent r due.index held spread.holds.held.stands.queued.joined valid y at ge))
+      ]
+
+      windowed : IsWindowed
+      windowed =
+          let queued = spread.holds.held.stands.queued in
+          let on : is_ordered_on st x ≡ true = and (x.stream_identifier == st) (not x.unordered) (same-yes x.stream_identifier) (ap not ordered) in
+          let entry = made-entry h.numbered first sent queued.line queued.indexed queued.joined st x was in
+          let long = spread.long in
+          let within = entry.within in
+          let at = sent-at st first n few h.numbered sent spread.long queued.line queued.joined x entry.before was (omega (arith, within, long)) entry.is in
+          let number = entry.step.number on in
+          let index = number.1 in
+          let past = late (entry.before + 1) (at.1 ∙ on) entry.is in
+          let low = begun-low st first n few s h.numbered sent spread d held due valid none in
+          let near = sessions.near st first n s h.numbered sent spread few in
+          let least = sessions.grows st first n s h.numbered sent spread few spread.step.numbered.acked d.heard.place d.heard.least_is in
+          let top = sessions.grows st first n s h.numbered sent spread few (entry.before + 1) n (omega (arith, within, long)) in
+          let from = due.from in
+          record {
+            index = number.0;
+            of = record {
+              before = entry.before;
+              within = omega (arith, within, long);
+              is = entry.is;
+              begun = sym index;
+              made = was;
+              on = on;
+              inner = λ e. sym (entry.inner e) ∙ sym index;
+            };
+            number = number.2;
+            from = omega (arith, past, index, from);
+            upto = omega (arith, index, top, near, least, low);
+          }
+
+      -- its number is not too far
+      not-far : is_ssn_too_far x.stream_sequence_number held ≡ false
+      not-far =
+          let far = near-distance due.low windowed.index windowed.from windowed.upto in
+          let same : distance16 (lowest_ssn held) x.stream_sequence_number ≡ distance16 (due.low % 2 ^ 16) (windowed.index % 2 ^ 16) =
+          ap (λ k. distance16 k x.stream_sequence_number) due.lowest ∙ ap (distance16 (due.low % 2 ^ 16)) windowed.number in
+          close (distance16 (lowest_ssn held) x.stream_sequence_number) (omega (arith, same, far))
+        where
+          close : (k : ℕ) → k < 2 ^ 15 → nat_le (2 ^ 15) k ≡ false
+          close k lt = grind (arith, nat_tests, lt)
+
+      -- with it its set is no longer than the write
+      absent : (y : ChunkSet) → IsValidSet p n r held.next_ssn y → list_any (has_tsn x.tsn) y.chunks ≡ false
+      absent y v = fails (list_any (has_tsn x.tsn) y.chunks) (λ e.
+          let one = one-of (HasCome p n r) (has_tsn x.tsn) y.chunks e v.came in
+          not_both (sym fresh ∙ ap (λ u. come u r.cumulative_tsn r.beyond) (sym (same-is one.0.tsn x.tsn one.1)) ∙ one.2.1))
+
+      set-with : (low : ℕ) (ss : List ChunkSet) → due.low ≤ low → AreSets p n B (Fits p st n B E M) Prior low d.reach ss
+          → Every (IsValidSet p n r held.next_ssn) ss → bytes_of (chunks_of_ssn x.stream_sequence_number ss) + length x.user_data ≤ max
+      set-with low [] le a v =
+          let own = part-fits h.numbered first sent spread.holds.held.stands.queued.line x was in
+          let most = bound x was in
+          omega (arith, own, most)
+      set-with low (y ∷ ys) le a v = by (y.ssn == x.stream_sequence_number) refl
+          (set-with (a.0 + 1) ys (let from = a.1.0.0 in omega (arith, le, from)) a.2 v.1)
+        where
+          by : (b : Bool) → (y.ssn == x.stream_sequence_number) ≡ b
+              → bytes_of (chunks_of_ssn x.stream_sequence_number ys) + length x.user_data ≤ max
+              → bytes_of (if b then y.chunks else chunks_of_ssn x.stream_sequence_number ys) + length x.user_data ≤ max
+          by false e ih = ih
+          by true e ih =
+              let w = windowed in
+              let number : a.0 % 2 ^ 16 ≡ w.index % 2 ^ 16 = sym a.1.0.2 ∙ same-is y.ssn x.stream_sequence_number e ∙ w.number in
+              let from = a.1.0.0 in
+              let top = a.1.0.1 in
+              let far = due.far in
+              let first' = w.from in
+              let last = w.upto in
+              let same : a.0 ≡ w.index = omega (arith, number, from, top, far, first', last, le) in
+              let fits = subst (λ k. Fits p st n B E M k y.chunks) same a.1.1 in
+              let queued = spread.holds.held.stands.queued in
+              let put = rises-put p st n B E M few (sessions.grows st first n s h.numbered sent spread few) w.index 0 x y.chunks w.of (omega arith)
+              (absent y v.0) fits in
+              let all = set-fits st first n few h.numbered sent spread.long queued.line queued.joined max bound w.index (insert_before chunk_before x y.chunks)
+              put in
+              let sum = sum_by-inserted (λ (c : ChunkPayloadData). length c.user_data) chunk_before x y.chunks in
+              omega (arith, all, sum)
+
+      ordered-fits : bytes_of (chunks_of_ssn x.stream_sequence_number held.ordered) + length x.user_data ≤ max
+      ordered-fits = set-with due.low held.ordered (omega arith) due.sets valid.sets
+
+  -- ## Its stream
+
+  module _ (x : ChunkPayloadData) (g : IsGiven p n x.tsn) (fresh : has_come x.tsn (filter_of r) ≡ false) (was : WasSent sent (data_of x))
+      (l : InboundStream) (there : stream_of x.stream_identifier r ≡ Some l) (unread : x.unordered ≡ false → message_read l.queue.held ≡ None) where
+    both-of : Both x g fresh was (Some l)
+    both-of = subst (Both x g fresh was) there ((h.valid.unwrapped.told x.stream_identifier).0.due, h.valid.valid x.stream_identifier)
+
+    near-enough : (not x.unordered && is_ssn_too_far x.stream_sequence_number l.queue.held) ≡ false
+    near-enough = by x.unordered refl
+      where
+        by : (b : Bool) → x.unordered ≡ b → (not x.unordered && is_ssn_too_far x.stream_sequence_number l.queue.held) ≡ false
+        by true e = ap (λ b. not b && is_ssn_too_far x.stream_sequence_number l.queue.held) e
+        by false e = ap (λ b. not b && is_ssn_too_far x.stream_sequence_number l.queue.held) e
+            ∙ not-far x g fresh was e l.queue.held both-of.0 both-of.1 (unread e)
+
+    projected : projected_size x l.queue.held.ordered l.queue.held.unassembled ≤ max
+    projected = by x.unordered refl
+      where
+        by : (b : Bool) → x.unordered ≡ b
+            → (if b then size_before x l.queue.held.unassembled + length x.user_data + size_after x l.queue.held.unassembled
+            else bytes_of (chunks_of_ssn x.stream_sequence_number l.queue.held.ordered) + length x.user_data) ≤ max
+        by true e =
+            let long = spread.long in
+            let queued = spread.holds.held.stands.queued in
+            let all = unassembled-fits first h.numbered sent (omega (arith, long, few)) queued.line queued.joined l.queue.held.unassembled
+            both-of.1.unassembled x was in
+            let most = bound x was in
+            omega (arith, all, most)
+        by false e = ordered-fits x g fresh was e l.queue.held both-of.0 both-of.1 (unread e)
+
+    -- the stream takes it
+    takes : stream_refusal x (Some l) ≡ None
+    takes =
+        let size : l.queue.max_message_size ≡ r.max_message_size =
+        every-found (λ (y : InboundStream). y.queue.max_message_size ≡ r.max_message_size) (has_number x.stream_identifier) r.streams l there sized in
+        let small : nat_lt l.queue.max_message_size (projected_size x l.queue.held.ordered l.queue.held.unassembled) ≡ false =
+        not-less (projected_size x l.queue.held.ordered l.queue.held.unassembled) l.queue.max_message_size (omega (arith, projected, size, enough)) in
+        ap (λ b. if b then Some MessageTooLarge else None)
+        (ap (λ b. (x.stream_identifier == l.queue.si) && b) small ∙ and-none (x.stream_identifier == l.queue.si))
+      where
+        not-less : (k m : ℕ) → k ≤ m → nat_lt m k ≡ false
+        not-less k m le = grind (arith, nat_tests, le)
+
+  -- ## The law
+
+  not-refused : (c x : ChunkPayloadData) → Contains chunks c → c.abandoned ≡ false → IsCopy x c s → is_takable x r ≡ true
+      → arrival_refusal x r ≡ None
+  not-refused c x in' kept same due = by (has_come x.tsn (filter_of r)) refl
+    where
+      at : x.tsn ≡ c.tsn
+      at = elim same [ inl e ↦ ap (λ (d : Data). d.tsn) e | inr e ↦ e.0 ]
+
+      g : IsGiven p n x.tsn
+      g = subst (IsGiven p n) (sym at)
+          (every-contained (λ (y : ChunkPayloadData). IsGiven p n y.tsn) chunks c in' (flight-given p n s.sending.sender.flight spread.step.numbered))
+
+      parts : (is_open x.stream_identifier r ≡ true) × (is_due_on x r ≡ true)
+      parts = both (is_open x.stream_identifier r) (is_due_on x r) due
+
+      unread : (l : InboundStream) → stream_of x.stream_identifier r ≡ Some l → x.unordered ≡ false → message_read l.queue.held ≡ None
+      unread l there e = none-of (message_read l.queue.held) (sym (ap (λ b. b || not (is_some (message_of (stream_of x.stream_identifier r)))) e
+          ∙ ap (λ o. not (is_some (message_of o))) there) ∙ parts.1)
+        where
+          none-of : (o : Option ChunkSet) → not (is_some o) ≡ true → o ≡ None
+          none-of None h = refl
+          none-of (Some y) h = absurd (not_both h)
+
+      sent-too : has_come x.tsn (filter_of r) ≡ false → WasSent sent (data_of x)
+      sent-too fresh = elim same [
+        | inl e ↦ subst (WasSent sent) (sym e) (was-sent c in' kept (ap (λ t. come t r.cumulative_tsn r.beyond) (sym at) ∙ fresh))
+        | inr e ↦ found-sent sent s.made (data_of x) spread.holds.made e.1
+      ]
+
+      on : has_come x.tsn (filter_of r) ≡ false → (o : Option InboundStream) → stream_of x.stream_identifier r ≡ o
+          → (is_too_far_on x o ≡ false) × (stream_refusal x o ≡ None)
+      on fresh None there = absurd (not_both (ap is_some (sym there) ∙ parts.0))
+      on fresh (Some l) there =
+          let was = sent-too fresh in
+          (near-enough x g fresh was l there (unread l there), takes x g fresh was l there (unread l there))
+
+      by : (b : Bool) → has_come x.tsn (filter_of r) ≡ b
+          → (if not b && is_too_far_on x (stream_of x.stream_identifier r) then Some SsnTooFar
+          else (if b then None else (if is_opposite x.tsn (filter_of r) then Some TsnOpposite
+          else option_or (new_refusal x.tsn r) (stream_refusal x (stream_of x.stream_identifier r))))) ≡ None
+      by true e = refl
+      by false e =
+          let near = told.near p n r (known s) few spread.step.heard spread.step.order x.tsn g in
+          let limits : new_refusal x.tsn r ≡ None = ap (λ o. refusal_by o x.tsn (filter_of r) r.streams) free in
+          let stream = on e (stream_of x.stream_identifier r) refl in
+          ap (λ b. if b then Some SsnTooFar else (if is_opposite x.tsn (filter_of r) then Some TsnOpposite
+          else option_or (new_refusal x.tsn r) (stream_refusal x (stream_of x.stream_identifier r)))) stream.0
+          ∙ ap (λ b. if b then Some TsnOpposite else option_or (new_refusal x.tsn r) (stream_refusal x (stream_of x.stream_identifier r))) near
+          ∙ ap (λ o. option_or o (stream_refusal x (stream_of x.stream_identifier r))) limits ∙ stream.1
+
+pub none-in-flight : AfterEachUnlimitedSession NoneInFlightIsRefused
+none-in-flight tsn size max most cs s small some run few enough x f t =
+    let fit = fit-session tsn size max most None cs s run in
+    not-refused tsn (tsns_given (at_start tsn size max most None) cs s run) few s (valid-session tsn size max most None cs s small some run few)
+    (limits-same cs (at_start tsn size max most None) s run) (subst (λ k. AreWithin k s.written) (sym fit.sender) fit.writes)
+    (subst (λ k. Every (λ (l : InboundStream). l.queue.max_message_size ≡ k) s.receiving.receiver.streams) (sym fit.streams.own) fit.streams.each)
+    enough f.chunk x f.sent f.kept f.same t
+
+-- ## Where nothing is to be read
+
+found-all : (q p : InboundStream → Bool) (ls : List InboundStream) (l : InboundStream) → list_all q ls ≡ true → find p ls ≡ Some l → q l ≡ true
+found-all q p [] l h e = absurd (none-some l e)
+found-all q p (x ∷ xs) l h e = by (p x) e (found-all q p xs l (both (q x) (list_all q xs) h).1)
+  where
+    by : (b : Bool) → (if b then Some x else find p xs) ≡ Some l → (find p xs ≡ Some l → q l ≡ true) → q l ≡ true
+    by true f ih = ap q (sym (some-same f)) ∙ (both (q x) (list_all q xs) h).0
+    by false f ih = ih f
+
+takable-where-read : (x : ChunkPayloadData) (r : Reception) → reads_nothing r ≡ true → is_open x.stream_identifier r ≡ true → is_takable x r ≡ true
+takable-where-read x r none open' =
+    and (is_open x.stream_identifier r) (is_due_on x r) open'
+    (or-right x.unordered (not (is_some (message_of (stream_of x.stream_identifier r)))) (by (stream_of x.stream_identifier r) refl))
+  where
+    by : (o : Option InboundStream) → stream_of x.stream_identifier r ≡ o → not (is_some (message_of o)) ≡ true
+    by None e = refl
+    by (Some l) e = found-all (λ y. not (is_some (message_read y.queue.held))) (has_number x.stream_identifier) r.streams l none e
+
+pub none-where-read : AfterEachUnlimitedSession NoneIsRefusedWhereRead
+none-where-read tsn size max most cs s small some run few enough none x f open' =
+    none-in-flight tsn size max most cs s small some run few enough x f (takable-where-read x s.receiving.receiver none open')

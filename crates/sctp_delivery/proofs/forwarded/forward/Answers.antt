@@ -1,0 +1,22 @@
+use Rattle.std.proofs.Common.{◌≡◌, true, Option, Some, subst, ◌∙◌, Result, Ok, Err}
+use Rattle.std.specs.Prelude.{IfOk, option_map}
+use Rattle.sctp_data.specs.declared.chunk.chunk_forward_tsn.ChunkForwardTsn.{ChunkForwardTsn}
+use Rattle.sctp_sender.specs.Abandonment.{advanced_ack_point, skip_end}
+use Rattle.sctp_sender.specs.Sender.{Transmission}
+use Rattle.sctp_sender.specs.declared.sender.refusal.SenderRefusal.{SenderRefusal}
+use Rattle.sctp_delivery.specs.Messages.{WhileFewTsns}
+use Rattle.sctp_delivery.specs.Rounds.{in_flight, is_first_abandoned}
+use Rattle.sctp_delivery.proofs.Answered.{all-skip}
+use Rattle.sctp_delivery.proofs.forwarded.forward.Goals as goal
+
+goes-there : (t : Transmission) (r : Result (Option ChunkForwardTsn) SenderRefusal)
+    → IfOk r (λ o. option_map (λ c. c.new_cumulative_tsn) o ≡ skip_end (advanced_ack_point t.flight) t.flight)
+    → IfOk r (λ o. WhileFewTsns (λ s. s.sending.sender ≡ t → is_first_abandoned (in_flight s) ≡ true
+    → option_map (λ c. c.new_cumulative_tsn) o ≡ Some (advanced_ack_point t.flight)))
+goes-there t (Err e) told = tt
+goes-there t (Ok o) told = λ first size max most limits cs s small some run few same gone.
+    told ∙ subst (λ (u : Transmission). skip_end (advanced_ack_point u.flight) u.flight ≡ Some (advanced_ack_point u.flight)) same
+    (all-skip first size max most limits cs s small some run few gone)
+
+pub returns-clause-made : goal.returns-clause-made
+returns-clause-made c = goes-there c.args.sender.now c.forward_tsn.result c.forward_tsn.ensures.tsn

@@ -1,0 +1,39 @@
+//! Exchanges that get through empty the sender: a FORWARD-TSN passes what is abandoned, and each SACK of a receiver that is caught up
+//! leaves fewer chunks in flight (RFC 4960 6.2.1; RFC 3758 3.5).
+
+ghost use Rattle.sctp_delivery.specs.Messages.{WhileFewTsns};
+ghost use Rattle.sctp_delivery.specs.Rounds.{AfterEachFitSessionOfFewTsns, CanBeAnswered, EachAnswerLeavesFewer, EachCanGoOn, EachRoundTakesOne, RoundsEnd, SkipsToPoint};
+ghost use Rattle.sctp_delivery.specs.Sacks.{AfterEachSessionOfFewTsns};
+
+/// Where the message of the first chunk in flight is abandoned, a FORWARD-TSN goes to the Advanced.Peer.Ack.Point: what is abandoned
+/// never stops the sender (RFC 3758 3.5). So it is in sessions that give out fewer than 2^31 TSNs.
+pub fn what_is_abandoned_can_be_passed()
+    ensures { WhileFewTsns SkipsToPoint }
+{}
+
+/// Each chunk in flight that the receiver did not take, and whose message is not abandoned, can be sent again (RFC 4960 6.3.3): what
+/// is lost never stops the sender either. So it is in sessions that give out fewer than 2^31 TSNs.
+pub fn what_is_lost_can_be_sent_again()
+    ensures { AfterEachSessionOfFewTsns (λ first given s. EachCanGoOn s) }
+{}
+
+/// The receiver can make a SACK at any time, with any credit, and the sender can take it. So it is in sessions that give out fewer than
+/// 2^31 TSNs.
+pub fn a_sack_can_be_made_and_taken()
+    ensures { AfterEachSessionOfFewTsns (λ first given s. CanBeAnswered s) }
+{}
+
+/// Where the receiver took each chunk in flight whose message is not abandoned, and followed the FORWARD-TSN that can be made, a SACK
+/// that it makes, once the sender takes it, leaves fewer chunks in flight: none, or chunks of which the first is of an abandoned message.
+/// So it is in sessions that give out fewer than 2^31 TSNs.
+pub fn a_sack_of_what_came_leaves_fewer()
+    ensures { WhileFewTsns EachAnswerLeavesFewer }
+{}
+
+/// Calls of both hosts up to where the receiver is caught up, and then its SACK, are a round. Each round takes one chunk at least, so
+/// after as many as chunks wait and are in flight together, nothing waits, and nothing is in flight: whatever the network loses, delays,
+/// repeats and reorders in between, and whichever messages are abandoned. So it is in sessions that give out fewer than 2^31 TSNs.
+pub fn rounds_end()
+    ensures fewer { AfterEachFitSessionOfFewTsns EachRoundTakesOne }
+    ensures done { AfterEachFitSessionOfFewTsns RoundsEnd }
+{}
