@@ -19,7 +19,8 @@ use Rattle.sctp_sender.specs.Sender.{Transmission}
 use Rattle.sctp_receiver.specs.TsnFilter.{Filter, with_tsn, with_duplicate, skipped_to}
 use Rattle.sctp_progress.specs.Progress as Progress
 use Rattle.sctp_progress.specs.Progress.{Standing}
-use Rattle.sctp_link.specs.Streams.{OpenStream, Keeps, join_each, has_number, new_open_stream, on_inbound, wrote_to, less_by, after_releases, expired_on, forwarded_on}
+use Rattle.sctp_link.specs.Streams.{OpenStream, Keeps, join_each, has_number, new_open_stream, on_inbound, wrote_to, less_by, after_releases, expired_on}
+use Rattle.sctp_link.specs.Streams.{forwarded_on}
 use Rattle.sctp_serial.specs.DataChunks.{preceding_tsn}
 
 -- the open streams in the order in which they were opened; what waits and what is in flight; the TSNs that came; how long a

@@ -53,7 +53,8 @@ network-same : (w : LinkRecord) (n : ℕ) → (after_abandon w n).network ≡ w.
 network-same w n = ap (λ u. u.network) (abandoned-is w n)
 
 -- an event that abandons a message of which some was sent
-module _ (sum : List ℕ → ℕ) (x : State) (l : IsLinked sum x) (e : Event) (ok : refusal_of x.recorded e ≡ None) (n s bytes : ℕ) (q : Outbound) (next : ℕ) (r : Gives x e n s bytes q next) (keeps : KeepsNext e) (none : SendsNone e) (no-write : is_write e ≡ false) (no-read : is_read e ≡ false) where
+module _ (sum : List ℕ → ℕ) (x : State) (l : IsLinked sum x) (e : Event) (ok : refusal_of x.recorded e ≡ None) (n s bytes : ℕ) (q : Outbound) (next : ℕ)
+    (r : Gives x e n s bytes q next) (keeps : KeepsNext e) (none : SendsNone e) (no-write : is_write e ≡ false) (no-read : is_read e ≡ false) where
   abbrev w : LinkRecord
   w = x.recorded
 
@@ -67,7 +68,8 @@ module _ (sum : List ℕ → ℕ) (x : State) (l : IsLinked sum x) (e : Event) (
   setup-same = ap (λ u. u.setup) (abandoned-is w n)
 
   -- the amount falls by what the message held
-  stream-by : (y : OpenStream) (bytes : ℕ) → IsOpenStream w y → amount v y.state.stream_identifier + bytes ≡ amount w y.state.stream_identifier → IsOpenStream v (less_by bytes y)
+  stream-by : (y : OpenStream) (bytes : ℕ) → IsOpenStream w y → amount v y.state.stream_identifier + bytes ≡ amount w y.state.stream_identifier
+      → IsOpenStream v (less_by bytes y)
   stream-by y bytes i less =
       let t = y.state.stream_identifier in
       record {
@@ -83,13 +85,16 @@ module _ (sum : List ℕ → ℕ) (x : State) (l : IsLinked sum x) (e : Event) (
         stats = i.stats ∙ ap stats_of (sym (ap (λ u. counters_on u t) (sym r.is) ∙ counters-same w.setup w e t (facts sum x l).sane no-write no-read));
       }
 
-  stream-given : (y : OpenStream) → IsOpenStream w y → IsOpenStream v (if (message_at w n).stream == y.state.stream_identifier then less_by (held_bytes w n) y else y)
+  stream-given : (y : OpenStream) → IsOpenStream w y
+      → IsOpenStream v (if (message_at w n).stream == y.state.stream_identifier then less_by (held_bytes w n) y else y)
   stream-given y i = by ((message_at w n).stream == y.state.stream_identifier) (amount-abandoned w n y.state.stream_identifier r.made)
     where
       same : (y : OpenStream) → less_by 0 y ≡ y
-      same y = let z : y.state.buffered_amount - 0 ≡ y.state.buffered_amount = omega arith in ap (λ a. record y { state = record y.state { buffered_amount = a } }) z
+      same y = let z : y.state.buffered_amount - 0 ≡ y.state.buffered_amount = omega arith in
+          ap (λ a. record y { state = record y.state { buffered_amount = a } }) z
 
-      by : (b : Bool) → amount v y.state.stream_identifier + (if b then held_bytes w n else 0) ≡ amount w y.state.stream_identifier → IsOpenStream v (if b then less_by (held_bytes w n) y else y)
+      by : (b : Bool) → amount v y.state.stream_identifier + (if b then held_bytes w n else 0) ≡ amount w y.state.stream_identifier
+          → IsOpenStream v (if b then less_by (held_bytes w n) y else y)
       by true e = stream-by y (held_bytes w n) i e
       by false e = subst (IsOpenStream v) (same y) (stream-by y 0 i e)
 
@@ -116,7 +121,8 @@ module _ (sum : List ℕ → ℕ) (x : State) (l : IsLinked sum x) (e : Event) (
   linked-after = record {
     setup = subst IsSetup (sym setup-same) l.setup;
     history = (e, reply_to w e) ∷ l.history;
-    stands = subst (λ t. StandsFor t v ((e, reply_to w e) ∷ l.history)) (sym setup-same) (subst (λ u. StandsFor w.setup u ((e, reply_to w e) ∷ l.history)) r.is (stands-then w.setup w l.history e ok l.stands));
+    stands = subst (λ t. StandsFor t v ((e, reply_to w e) ∷ l.history)) (sym setup-same)
+        (subst (λ u. StandsFor w.setup u ((e, reply_to w e) ∷ l.history)) r.is (stands-then w.setup w l.history e ok l.stands));
     outbound = r.refines;
     unstarted = l.unstarted ∙ sym r.unstarted;
     filter = l.filter ∙ sym (ap filter_of (sym r.is) ∙ filter-kept sum x l e ok quiet);
@@ -129,16 +135,21 @@ module _ (sum : List ℕ → ℕ) (x : State) (l : IsLinked sum x) (e : Event) (
     low = indexed-then.low;
     open_streams = each;
     apart = apart-changed s (less_by bytes) x.open_streams (λ y. refl) l.apart;
-    encodings = λ k d g t. subst (λ u. slice_get u.network k ≡ Some g → IsDatagram sum (contents_of u g) (slice_index_or x.datagrams k d)) r.is (λ t'. encodings-same sum x l e ok (ap (λ u. u.network) r.is ∙ network-same w n) k d g t') t;
+    encodings = λ k d g t. subst (λ u. slice_get u.network k ≡ Some g → IsDatagram sum (contents_of u g) (slice_index_or x.datagrams k d)) r.is
+        (λ t'. encodings-same sum x l e ok (ap (λ u. u.network) r.is ∙ network-same w n) k d g t') t;
   }
 
   -- with the lists that a link then has
-  module _ (ms : List Message) (m m' : Message) (ss ss' : List Slot) (half : Bool) (streams : x.recorded.streams ≡ map stream_record x.open_streams) (em : x.recorded.messages ≡ map message_record ms) (ep : x.progress ≡ map progress_of ms) (es : x.recorded.slots ≡ map slot_record ss) (here : m ≡ slice_index_or ms n m) (took : m' ≡ record m { abandoned = true }) (half_is : half ≡ is_partially_sent x.recorded n) (more : ss' ≡ ss ++ marks half n m.sent) where
+  module _ (ms : List Message) (m m' : Message) (ss ss' : List Slot) (half : Bool) (streams : x.recorded.streams ≡ map stream_record x.open_streams)
+      (em : x.recorded.messages ≡ map message_record ms) (ep : x.progress ≡ map progress_of ms) (es : x.recorded.slots ≡ map slot_record ss)
+      (here : m ≡ slice_index_or ms n m) (took : m' ≡ record m { abandoned = true }) (half_is : half ≡ is_partially_sent x.recorded n)
+      (more : ss' ≡ ss ++ marks half n m.sent) where
     lt : n < length ms
     lt = omega (arith, r.made, ap length em, length-mapped message_record ms)
 
     sent-is : m.sent ≡ sent_of w n
-    sent-is = ap (λ (t : Message). t.sent) here ∙ sym (ap (λ (p : ℕ × ℕ). p.0) (raw-at progress_of ms n (0, 0) m lt)) ∙ ap (λ (ps : List (ℕ × ℕ)). (slice_index_or ps n (0, 0)).0) (sym ep) ∙ l.sents n r.made
+    sent-is = ap (λ (t : Message). t.sent) here ∙ sym (ap (λ (p : ℕ × ℕ). p.0) (raw-at progress_of ms n (0, 0) m lt))
+        ∙ ap (λ (ps : List (ℕ × ℕ)). (slice_index_or ps n (0, 0)).0) (sym ep) ∙ l.sents n r.made
 
     slots-given : map slot_record ss' ≡ w.slots ++ mark_of w n
     slots-given =
@@ -147,21 +158,41 @@ module _ (sum : List ℕ → ℕ) (x : State) (l : IsLinked sum x) (e : Event) (
         ∙ ap (λ b. w.slots ++ map slot_record (marks b n (sent_of w n))) half_is
         ∙ ap (λ a. w.slots ++ a) (by (is_partially_sent w n))
       where
-        by : (b : Bool) → map slot_record (marks b n (sent_of w n)) ≡ (if b then (let y : W.Slot = record { message = n; fragment = sent_of w n; is_terminal_chunk = true; arrived = false; acknowledged = false } in y) ∷ [] else [])
+        by : (b : Bool) → map slot_record (marks b n (sent_of w n)) ≡ (if b then (let y : W.Slot =
+            record { message = n; fragment = sent_of w n; is_terminal_chunk = true; arrived = false; acknowledged = false } in y) ∷ [] else [])
         by true = refl
         by false = refl
 
     taken : m' ≡ record (slice_index_or ms n m) { abandoned = true }
     taken = took ∙ ap (λ (t : Message). record t { abandoned = true }) here
 
-    pub recorded-given : record x.recorded { streams = map stream_record ls; messages = map message_record (slice_set ms n m'); slots = map slot_record ss' } ≡ after_abandon x.recorded n
+    pub recorded-given : record x.recorded { streams = map stream_record ls; messages = map message_record (slice_set ms n m'); slots = map slot_record ss' }
+        ≡ after_abandon x.recorded n
     recorded-given =
-        ap (λ r. record x.recorded { streams = r; messages = map message_record (slice_set ms n m'); slots = map slot_record ss' }) (fields-same stream_record (less_by bytes) (λ y. refl) s x.open_streams ∙ sym streams)
-        ∙ ap (λ r. record x.recorded { messages = r; slots = map slot_record ss' }) (map-set message_record mark_abandoned ms n m' m lt (ap message_record taken) ∙ ap (change_at mark_abandoned n) (sym em))
-        ∙ ap (λ r. record x.recorded { messages = change_at mark_abandoned n x.recorded.messages; slots = r }) slots-given
-        ∙ sym (abandoned-is x.recorded n)
+        ap (λ r. record x.recorded { streams = r; messages = map message_record (slice_set ms n m'); slots = map slot_record ss' })
+        (fields-same stream_record (less_by bytes) (λ y. refl) s x.open_streams ∙ sym streams)
+        ∙ ap (λ r. record x.recorded { messages = r; slots = map slot_record ss' })
+        (map-set message_record mark_abandoned ms n m' m lt (ap message_record taken) ∙ ap (change_at mark_abandoned n) (sym em))
+        ∙ ap (λ r. record x.recorded { messages = change_at mark_abandoned n x.recorded.messages; slots = r }) slots-given ∙ sym (abandoned-is x.recorded n)
 
-    pub linked-given : IsLinked sum (record x { recorded = record x.recorded { streams = map stream_record ls; messages = map message_record (slice_set ms n m'); slots = map slot_record ss' }; open_streams = ls; progress = map progress_of (slice_set ms n m'); outbound = q; next_tsn = next })
+    pub linked-given : IsLinked sum (record x {
+      recorded = record x.recorded { streams = map stream_record ls; messages = map message_record (slice_set ms n m'); slots = map slot_record ss' };
+      open_streams = ls;
+      progress = map progress_of (slice_set ms n m');
+      outbound = q;
+      next_tsn = next;
+    })
     linked-given =
-        subst (λ p. IsLinked sum (record x { recorded = record x.recorded { streams = map stream_record ls; messages = map message_record (slice_set ms n m'); slots = map slot_record ss' }; open_streams = ls; progress = p; outbound = q; next_tsn = next })) (sym (map-set_same progress_of ms n m' m (ap progress_of taken) ∙ sym ep))
-        (moved sum (record x { recorded = record x.recorded { streams = map stream_record ls; messages = map message_record (slice_set ms n m'); slots = map slot_record ss' }; open_streams = ls; outbound = q; next_tsn = next }) v recorded-given linked-after)
+        subst (λ p. IsLinked sum (record x {
+          recorded = record x.recorded { streams = map stream_record ls; messages = map message_record (slice_set ms n m'); slots = map slot_record ss' };
+          open_streams = ls;
+          progress = p;
+          outbound = q;
+          next_tsn = next;
+        })) (sym (map-set_same progress_of ms n m' m (ap progress_of taken) ∙ sym ep))
+        (moved sum (record x {
+          recorded = record x.recorded { streams = map stream_record ls; messages = map message_record (slice_set ms n m'); slots = map slot_record ss' };
+          open_streams = ls;
+          outbound = q;
+          next_tsn = next;
+        }) v recorded-given linked-after)

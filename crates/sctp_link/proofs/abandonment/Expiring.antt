@@ -47,7 +47,8 @@ use Rattle.sctp_link.proofs.upkeep.Frames.{moved, encodings-same, next-kept, hel
 use Rattle.sctp_stream.proofs.StreamPlaces.{map-set_same}
 
 -- what is shown is what is past its deadline, where something is
-pub shown-past_deadline : (now : ℕ) (c : ChunkPayloadData) (o : Option ChunkPayloadData) → o ≡ Some c → is_some (outbound.passing (outbound.is_expired now) o) ≡ true → outbound.passing (outbound.is_expired now) o ≡ Some c
+pub shown-past_deadline : (now : ℕ) (c : ChunkPayloadData) (o : Option ChunkPayloadData) → o ≡ Some c
+    → is_some (outbound.passing (outbound.is_expired now) o) ≡ true → outbound.passing (outbound.is_expired now) o ≡ Some c
 shown-past_deadline now c None e some = cc
 shown-past_deadline now c (Some d) e some = by (outbound.is_expired now d) some
   where
@@ -81,17 +82,22 @@ module _ (sum : List ℕ → ℕ) (x : State) (l : IsLinked sum x) (now : ℕ) w
   -- ## No message expires
 
   pub idle-right : expiring x.recorded now ≡ None → IsRight x.recorded (E.Expire now) R.Idle x.recorded
-  idle-right none = record { right = sym (ap (expired_reply x.recorded (after x.recorded (E.Expire now))) none); moves = sym (ap (after_expire x.recorded) none) }
+  idle-right none =
+      record { right = sym (ap (expired_reply x.recorded (after x.recorded (E.Expire now))) none); moves = sym (ap (after_expire x.recorded) none) }
 
   -- ## A message expires
 
   module _ (n : ℕ) (e : expiring x.recorded now ≡ Some n) where
     -- a stream, by its amount and its count
-    stream-by : (y z : OpenStream) → IsOpenStream x.recorded y → (s : ℕ) → y.state.stream_identifier ≡ s → z.inbound.queue ≡ y.inbound.queue → z.state.stream_identifier ≡ s → z.state.max_payload_size ≡ y.state.max_payload_size → stats_in z ≡ stats_in y → z.begun ≡ y.begun → z.next ≡ y.next → z.ordered ≡ ordered_before v s (length v.messages) → z.state.sequence_number ≡ z.ordered % 2 ^ 16 → z.state.buffered_amount ≡ amount v s → IsOpenStream v z
+    stream-by : (y z : OpenStream) → IsOpenStream x.recorded y → (s : ℕ) → y.state.stream_identifier ≡ s → z.inbound.queue ≡ y.inbound.queue
+        → z.state.stream_identifier ≡ s → z.state.max_payload_size ≡ y.state.max_payload_size → stats_in z ≡ stats_in y → z.begun ≡ y.begun → z.next ≡ y.next
+        → z.ordered ≡ ordered_before v s (length v.messages) → z.state.sequence_number ≡ z.ordered % 2 ^ 16 → z.state.buffered_amount ≡ amount v s
+        → IsOpenStream v z
     stream-by y z i s id queue id' payload stats begun next ordered number bytes =
         let f = facts sum x l in
         record {
-          held = ap (λ q. q.held) queue ∙ i.held ∙ ap (reassembly_of x.recorded) id ∙ sym (held-quiet sum x l (E.Expire now) refl quiet s) ∙ sym (ap (reassembly_of v) id');
+          held = ap (λ q. q.held) queue ∙ i.held ∙ ap (reassembly_of x.recorded) id ∙ sym (held-quiet sum x l (E.Expire now) refl quiet s)
+              ∙ sym (ap (reassembly_of v) id');
           si = ap (λ q. q.si) queue ∙ i.si ∙ id ∙ sym id';
           largest = ap (λ q. q.max_message_size) queue ∙ i.largest ∙ ap (λ t. t.largest) (sym quiet.setup);
           size = payload ∙ i.size ∙ ap (λ t. t.size) (sym quiet.setup);
@@ -100,10 +106,13 @@ module _ (sum : List ℕ → ℕ) (x : State) (l : IsLinked sum x) (now : ℕ) w
           begun = begun ∙ i.begun ∙ ap (begun_on x.recorded) id ∙ sym (begun-kept sum x l (E.Expire now) refl tt s) ∙ sym (ap (begun_on v) id');
           next = next ∙ i.next ∙ ap (next_of x.recorded) id ∙ sym (next-kept sum x l (E.Expire now) refl tt s) ∙ sym (ap (next_of v) id');
           amount = bytes ∙ sym (ap (amount v) id');
-          stats = stats ∙ i.stats ∙ ap (λ t. stats_of (counters_on x.recorded t)) id ∙ ap stats_of (sym (counters-same x.recorded.setup x.recorded (E.Expire now) s f.sane refl refl)) ∙ sym (ap (λ t. stats_of (counters_on v t)) id');
+          stats = stats ∙ i.stats ∙ ap (λ t. stats_of (counters_on x.recorded t)) id
+              ∙ ap stats_of (sym (counters-same x.recorded.setup x.recorded (E.Expire now) s f.sane refl refl))
+              ∙ sym (ap (λ t. stats_of (counters_on v t)) id');
         }
 
-    stream-expired : (y : OpenStream) → IsOpenStream x.recorded y → IsOpenStream v (if (message_at x.recorded n).stream == y.state.stream_identifier then expired_on (not (message_at x.recorded n).ordered) (held_bytes x.recorded n) y else y)
+    stream-expired : (y : OpenStream) → IsOpenStream x.recorded y → IsOpenStream v (if (message_at x.recorded n).stream == y.state.stream_identifier
+        then expired_on (not (message_at x.recorded n).ordered) (held_bytes x.recorded n) y else y)
     stream-expired y i = by ((message_at x.recorded n).stream == y.state.stream_identifier) (message_at x.recorded n).ordered count bytes
       where
         left : ℕ
@@ -112,12 +121,16 @@ module _ (sum : List ℕ → ℕ) (x : State) (l : IsLinked sum x) (now : ℕ) w
         count : left + (if ((message_at x.recorded n).stream == y.state.stream_identifier) && (message_at x.recorded n).ordered then 1 else 0) ≡ y.ordered
         count = count-expire x.recorded.setup x.recorded now n (facts sum x l).going e y.state.stream_identifier ∙ sym i.ordered
 
-        bytes : amount v y.state.stream_identifier + (if (message_at x.recorded n).stream == y.state.stream_identifier then held_bytes x.recorded n else 0) ≡ y.state.buffered_amount
+        bytes : amount v y.state.stream_identifier + (if (message_at x.recorded n).stream == y.state.stream_identifier then held_bytes x.recorded n else 0)
+            ≡ y.state.buffered_amount
         bytes = amount-expire x.recorded.setup x.recorded now n (facts sum x l).sane e y.state.stream_identifier ∙ sym i.amount
 
-        by : (a o : Bool) → left + (if a && o then 1 else 0) ≡ y.ordered → amount v y.state.stream_identifier + (if a then held_bytes x.recorded n else 0) ≡ y.state.buffered_amount → IsOpenStream v (if a then expired_on (not o) (held_bytes x.recorded n) y else y)
-        by true true c b = stream-by y (expired_on false (held_bytes x.recorded n) y) i y.state.stream_identifier refl refl refl refl refl refl refl (omega (arith, c)) (number-lower y.state.sequence_number y.ordered (y.ordered - 1) i.number (omega (arith, c))) (omega (arith, b))
-        by true false c b = stream-by y (expired_on true (held_bytes x.recorded n) y) i y.state.stream_identifier refl refl refl refl refl refl refl (omega (arith, c)) i.number (omega (arith, b))
+        by : (a o : Bool) → left + (if a && o then 1 else 0) ≡ y.ordered → amount v y.state.stream_identifier + (if a then held_bytes x.recorded n else 0)
+            ≡ y.state.buffered_amount → IsOpenStream v (if a then expired_on (not o) (held_bytes x.recorded n) y else y)
+        by true true c b = stream-by y (expired_on false (held_bytes x.recorded n) y) i y.state.stream_identifier refl refl refl refl refl refl refl
+            (omega (arith, c)) (number-lower y.state.sequence_number y.ordered (y.ordered - 1) i.number (omega (arith, c))) (omega (arith, b))
+        by true false c b = stream-by y (expired_on true (held_bytes x.recorded n) y) i y.state.stream_identifier refl refl refl refl refl refl refl
+            (omega (arith, c)) i.number (omega (arith, b))
         by false o c b = stream-by y y i y.state.stream_identifier refl refl refl refl refl refl refl (omega (arith, c)) i.number (omega (arith, b))
 
     is : v ≡ message_changed x.recorded n mark_expired
@@ -131,17 +144,21 @@ module _ (sum : List ℕ → ℕ) (x : State) (l : IsLinked sum x) (now : ℕ) w
     record-kept true b y = refl
     record-kept false b y = refl
 
-    module _ (s bytes : ℕ) (unordered : Bool) (ls : List OpenStream) (q : Outbound) (s_is : s ≡ (message_at x.recorded n).stream) (kind : unordered ≡ not (message_at x.recorded n).ordered) (bytes_is : bytes ≡ held_bytes x.recorded n) (ls_is : ls ≡ change_where (has_number s) (expired_on unordered bytes) x.open_streams) (moves : q ≡ expired_of (outbound.expiring now x.outbound) x.outbound) where
+    module _ (s bytes : ℕ) (unordered : Bool) (ls : List OpenStream) (q : Outbound) (s_is : s ≡ (message_at x.recorded n).stream)
+        (kind : unordered ≡ not (message_at x.recorded n).ordered) (bytes_is : bytes ≡ held_bytes x.recorded n) (ls_is : ls
+        ≡ change_where (has_number s) (expired_on unordered bytes) x.open_streams) (moves : q ≡ expired_of (outbound.expiring now x.outbound) x.outbound) where
       each : (k : ℕ) (d : OpenStream) → k < length ls → IsOpenStream v (slice_index_or ls k d)
       each k d lt =
           let y = slice_index_or x.open_streams k d in
-          let inside : k < length x.open_streams = omega (arith, lt, ap length ls_is, length-change_where (has_number s) (expired_on unordered bytes) x.open_streams) in
+          let inside : k < length x.open_streams =
+          omega (arith, lt, ap length ls_is, length-change_where (has_number s) (expired_on unordered bytes) x.open_streams) in
           subst (IsOpenStream v)
           (sym (
           ap (λ a. slice_index_or a k d) ls_is ∙ changed-at (expired_on unordered bytes) s x.open_streams k d inside
           ∙ ap (λ t. if t == y.state.stream_identifier then expired_on unordered bytes y else y) s_is
           ∙ ap (λ o. if (message_at x.recorded n).stream == y.state.stream_identifier then expired_on o bytes y else y) kind
-          ∙ ap (λ b. if (message_at x.recorded n).stream == y.state.stream_identifier then expired_on (not (message_at x.recorded n).ordered) b y else y) bytes_is
+          ∙ ap (λ b. if (message_at x.recorded n).stream == y.state.stream_identifier then expired_on (not (message_at x.recorded n).ordered) b y
+          else y) bytes_is
           ))
           (stream-expired y (l.open_streams k d inside))
 
@@ -165,7 +182,8 @@ module _ (sum : List ℕ → ℕ) (x : State) (l : IsLinked sum x) (now : ℕ) w
       linked-after = subst (λ u. IsLinked sum (record x { recorded = u; open_streams = ls; outbound = q })) is (record {
         setup = subst (λ t. IsSetup t) (sym (limit-same (expiring x.recorded now))) l.setup;
         history = (E.Expire now, reply_to x.recorded (E.Expire now)) ∷ l.history;
-        stands = subst (λ t. StandsFor t v ((E.Expire now, reply_to x.recorded (E.Expire now)) ∷ l.history)) (sym (limit-same (expiring x.recorded now))) (stands-then x.recorded.setup x.recorded l.history (E.Expire now) refl l.stands);
+        stands = subst (λ t. StandsFor t v ((E.Expire now, reply_to x.recorded (E.Expire now)) ∷ l.history)) (sym (limit-same (expiring x.recorded now)))
+            (stands-then x.recorded.setup x.recorded l.history (E.Expire now) refl l.stands);
         outbound = outbound-expired q moves;
         unstarted = unstarted-expired q moves;
         filter = l.filter ∙ sym (filter-kept sum x l (E.Expire now) refl quiet);
@@ -177,20 +195,40 @@ module _ (sum : List ℕ → ℕ) (x : State) (l : IsLinked sum x) (now : ℕ) w
         indexes = (indexed-kept sum x l (E.Expire now) refl tt).is;
         low = l.low;
         open_streams = each;
-        apart = subst (λ ys. IsApart (stream_numbers ys)) (sym ls_is) (apart-changed s (expired_on unordered bytes) x.open_streams (number-kept unordered bytes) l.apart);
+        apart = subst (λ ys. IsApart (stream_numbers ys)) (sym ls_is)
+            (apart-changed s (expired_on unordered bytes) x.open_streams (number-kept unordered bytes) l.apart);
         encodings = encodings-same sum x l (E.Expire now) refl (ap (λ u. u.network) is);
       })
 
-      module _ (ms : List Message) (m' d : Message) (streams : x.recorded.streams ≡ map stream_record x.open_streams) (em : x.recorded.messages ≡ map message_record ms) (ep : x.progress ≡ map progress_of ms) (lt : n < length ms) (took : m' ≡ record (slice_index_or ms n d) { expired = true }) where
-        recorded-expired : record x.recorded { streams = map stream_record ls; messages = map message_record (slice_set ms n m') } ≡ message_changed x.recorded n mark_expired
+      module _ (ms : List Message) (m' d : Message) (streams : x.recorded.streams ≡ map stream_record x.open_streams)
+          (em : x.recorded.messages ≡ map message_record ms) (ep : x.progress ≡ map progress_of ms) (lt : n < length ms)
+          (took : m' ≡ record (slice_index_or ms n d) { expired = true }) where
+        recorded-expired : record x.recorded { streams = map stream_record ls; messages = map message_record (slice_set ms n m') }
+            ≡ message_changed x.recorded n mark_expired
         recorded-expired =
-            ap (λ r. record x.recorded { streams = r; messages = map message_record (slice_set ms n m') }) (ap (map stream_record) ls_is ∙ fields-same stream_record (expired_on unordered bytes) (record-kept unordered bytes) s x.open_streams ∙ sym streams)
-            ∙ ap (λ r. record x.recorded { messages = r }) (map-set message_record mark_expired ms n m' d lt (ap message_record took) ∙ ap (change_at mark_expired n) (sym em))
+            ap (λ r. record x.recorded { streams = r; messages = map message_record (slice_set ms n m') }) (ap (map stream_record) ls_is
+            ∙ fields-same stream_record (expired_on unordered bytes) (record-kept unordered bytes) s x.open_streams ∙ sym streams)
+            ∙ ap (λ r. record x.recorded { messages = r })
+            (map-set message_record mark_expired ms n m' d lt (ap message_record took) ∙ ap (change_at mark_expired n) (sym em))
 
-        pub linked-expired : IsLinked sum (record x { recorded = record x.recorded { streams = map stream_record ls; messages = map message_record (slice_set ms n m') }; open_streams = ls; progress = map progress_of (slice_set ms n m'); outbound = q })
+        pub linked-expired : IsLinked sum (record x {
+          recorded = record x.recorded { streams = map stream_record ls; messages = map message_record (slice_set ms n m') };
+          open_streams = ls;
+          progress = map progress_of (slice_set ms n m');
+          outbound = q;
+        })
         linked-expired =
-            subst (λ p. IsLinked sum (record x { recorded = record x.recorded { streams = map stream_record ls; messages = map message_record (slice_set ms n m') }; open_streams = ls; progress = p; outbound = q })) (sym (map-set_same progress_of ms n m' d (ap progress_of took) ∙ sym ep))
-            (moved sum (record x { recorded = record x.recorded { streams = map stream_record ls; messages = map message_record (slice_set ms n m') }; open_streams = ls; outbound = q }) (message_changed x.recorded n mark_expired) recorded-expired linked-after)
+            subst (λ p. IsLinked sum (record x {
+              recorded = record x.recorded { streams = map stream_record ls; messages = map message_record (slice_set ms n m') };
+              open_streams = ls;
+              progress = p;
+              outbound = q;
+            })) (sym (map-set_same progress_of ms n m' d (ap progress_of took) ∙ sym ep))
+            (moved sum (record x {
+              recorded = record x.recorded { streams = map stream_record ls; messages = map message_record (slice_set ms n m') };
+              open_streams = ls;
+              outbound = q;
+            }) (message_changed x.recorded n mark_expired) recorded-expired linked-after)
 
         pub moves-expired : record x.recorded { streams = map stream_record ls; messages = map message_record (slice_set ms n m') } ≡ v
         moves-expired = recorded-expired ∙ sym is
@@ -226,7 +264,8 @@ module _ (sum : List ℕ → ℕ) (x : State) (l : IsLinked sum x) (now : ℕ) w
       by None h z = none-expires h
       by (Some c) h z = cc
 
-  pub expires : (c : ChunkPayloadData) (bytes : ℕ) (q : Outbound) → next_pending x.outbound.pending ≡ Some c → is_some (outbound.expiring now x.outbound) ≡ true → total_bytes q + bytes ≡ total_bytes x.outbound → q ≡ expired_of (Some c) x.outbound → Expires c bytes
+  pub expires : (c : ChunkPayloadData) (bytes : ℕ) (q : Outbound) → next_pending x.outbound.pending ≡ Some c → is_some (outbound.expiring now x.outbound) ≡ true
+      → total_bytes q + bytes ≡ total_bytes x.outbound → q ≡ expired_of (Some c) x.outbound → Expires c bytes
   expires c bytes q front some left takes =
       let f = facts sum x l in
       let a : ℕ × Bool × ℕ = (c.stream_identifier, c.unordered, bytes) in
@@ -234,7 +273,8 @@ module _ (sum : List ℕ → ℕ) (x : State) (l : IsLinked sum x) (now : ℕ) w
       let answer : told (Some a) ≡ kinds (outbound.expiring now x.outbound) = sym (ap kinds past_deadline) in
       let moves : q ≡ expired_of (outbound.expiring now x.outbound) x.outbound = takes ∙ ap (λ o. expired_of o x.outbound) (sym past_deadline) in
       let t : Tells x.recorded now a.0 a.1 = tells x.recorded.setup x.recorded now x.outbound (Some a) size f.going l.outbound answer in
-      let own : t.number ≡ c.message_id = ap (λ (d : ChunkPayloadData). d.message_id) (inner (sym (peeked-is x.recorded.setup x.recorded now t.number x.outbound f.going l.outbound t.is) ∙ front)) in
+      let own : t.number ≡ c.message_id = ap (λ (d : ChunkPayloadData). d.message_id)
+      (inner (sym (peeked-is x.recorded.setup x.recorded now t.number x.outbound f.going l.outbound t.is) ∙ front)) in
       let is : expiring x.recorded now ≡ Some c.message_id = t.is ∙ ap Some own in
       record {
         shown = past_deadline;
@@ -243,11 +283,13 @@ module _ (sum : List ℕ → ℕ) (x : State) (l : IsLinked sum x) (now : ℕ) w
         stream = peeked-stream x.recorded.setup x.recorded x.outbound c f.going l.outbound front;
         kind = sym t.kind ∙ ap (λ k. not (message_at x.recorded k).ordered) own;
         held =
-            over sum x (λ u. (q r : Outbound) → RefinesOutbound u q → r ≡ expired_of (outbound.expiring now q) q → total_bytes r + a.2 ≡ total_bytes q → expiring u now ≡ Some c.message_id → a.2 ≡ held_bytes u c.message_id) l
+            over sum x (λ u. (q r : Outbound) → RefinesOutbound u q → r ≡ expired_of (outbound.expiring now q) q → total_bytes r + a.2 ≡ total_bytes q
+            → expiring u now ≡ Some c.message_id → a.2 ≡ held_bytes u c.message_id) l
             (λ q r t m b i. bytes-expire x.recorded.setup l.history l.setup l.stands.run now c.message_id q r (Some a) t m b i)
             x.outbound q l.outbound moves left is;
         right =
-            over sum x (λ u. (q r : Outbound) → RefinesOutbound u q → r ≡ expired_of (outbound.expiring now q) q → told (Some a) ≡ kinds (outbound.expiring now q) → total_bytes r + a.2 ≡ total_bytes q → R.Expired a.0 a.2 ≡ reply_to u (E.Expire now)) l
+            over sum x (λ u. (q r : Outbound) → RefinesOutbound u q → r ≡ expired_of (outbound.expiring now q) q
+            → told (Some a) ≡ kinds (outbound.expiring now q) → total_bytes r + a.2 ≡ total_bytes q → R.Expired a.0 a.2 ≡ reply_to u (E.Expire now)) l
             (λ q r t m b i. reply-expire x.recorded.setup l.history l.setup l.stands.run now q r (Some a) t m b i)
             x.outbound q l.outbound moves answer left;
       }

@@ -1,5 +1,6 @@
 -- A Late: what a link knows of the TSNs that are late, while their messages are abandoned in turn.
-use Rattle.std.proofs.Common.{◌≡◌, ℕ, ◌+◌, ◌<◌, ◌≤◌, ◌^◌, true, false, List, [], ◌∷◌, length, drop, get_or, Some, None, suc, Bool, Option, refl, ap, sym, ◌∙◌, arith}
+use Rattle.std.proofs.Common.{◌≡◌, ℕ, ◌+◌, ◌<◌, ◌≤◌, ◌^◌, true, false, List, [], ◌∷◌, length, drop, get_or, Some, None, suc, Bool, Option, refl, ap, sym, ◌∙◌}
+use Rattle.std.proofs.Common.{arith}
 use Rattle.std.specs.Prelude.{find, if◌then◌else◌, nat_le, nat_lt}
 use Rattle.std.specs.List.{list_all}
 use Rattle.std.proofs.Math.ListN.{drop_of_length-le}
@@ -23,7 +24,8 @@ use Rattle.sctp_link.proofs.upkeep.Bounds.{written-few}
 use Rattle.sctp_link.proofs.upkeep.Facts.{facts}
 
 -- one TSN further in the search
-pub found-step : (p : ℕ → Bool) (ts : List ℕ) (i : ℕ) (b : Bool) → i < length ts → p (get_or ts i 0) ≡ b → find p ts ≡ find p (drop i ts) → find p ts ≡ (if b then Some (get_or ts i 0) else find p (drop (i + 1) ts))
+pub found-step : (p : ℕ → Bool) (ts : List ℕ) (i : ℕ) (b : Bool) → i < length ts → p (get_or ts i 0) ≡ b → find p ts ≡ find p (drop i ts)
+    → find p ts ≡ (if b then Some (get_or ts i 0) else find p (drop (i + 1) ts))
 found-step p ts i b lt e h =
     h ∙ ap (find p) (drop-cons ts i 0 lt) ∙ ap (λ c. if c then Some (get_or ts i 0) else find p (drop (suc i) ts)) e
     ∙ ap (λ k. if b then Some (get_or ts i 0) else find p (drop k ts)) (let z : suc i ≡ i + 1 = omega arith in z)
@@ -59,8 +61,10 @@ module _ (sum : List ℕ → ℕ) (x : State) (l : IsLinked sum x) (now : ℕ) (
       some [] h = absurd (false≢true (h refl))
       some (k ∷ ks) h = omega arith
 
-  pub begun : (o : Option ℕ) (bytes : ℕ) → o ≡ find (λ t. is_partially_sent w (message_of_tsn w t)) ts → bytes ≡ growth w (abandoned_tsn w o) → GivesInTurn w (abandoned_tsn w o) o ts 0 bytes
+  pub begun : (o : Option ℕ) (bytes : ℕ) → o ≡ find (λ t. is_partially_sent w (message_of_tsn w t)) ts → bytes ≡ growth w (abandoned_tsn w o)
+      → GivesInTurn w (abandoned_tsn w o) o ts 0 bytes
   begun o bytes e b = begins w ts o fly bytes l.setup (facts sum x l).sane e b
 
-  pub done : (v : LinkRecord) (o : Option ℕ) (bytes : ℕ) → o ≡ find (λ t. is_partially_sent w (message_of_tsn w t)) ts → GivesInTurn w v o ts (length ts) bytes → IsRight w (E.Late now) (R.Late (length ts) bytes) v
+  pub done : (v : LinkRecord) (o : Option ℕ) (bytes : ℕ) → o ≡ find (λ t. is_partially_sent w (message_of_tsn w t)) ts → GivesInTurn w v o ts (length ts) bytes
+      → IsRight w (E.Late now) (R.Late (length ts) bytes) v
   done v o bytes e i = late-done w now x.outbound ts l.setup (facts sum x l).sane (facts sum x l).taken l.outbound listed v o bytes e i

@@ -1,5 +1,6 @@
 -- A message is abandoned: what the outbound queue answers.
-use Rattle.std.proofs.Common.{◌≡◌, ℕ, ◌+◌, ◌-◌, ◌<◌, ◌≤◌, ◌^◌, Bool, true, false, List, [], ◌∷◌, length, length-append, Option, Some, None, refl, ap, sym, ◌∙◌, arith}
+use Rattle.std.proofs.Common.{◌≡◌, ℕ, ◌+◌, ◌-◌, ◌<◌, ◌≤◌, ◌^◌, Bool, true, false, List, [], ◌∷◌, length, length-append, Option, Some, None, refl, ap, sym, ◌∙◌}
+use Rattle.std.proofs.Common.{arith}
 use Rattle.std.specs.Prelude.{if◌then◌else◌, ◌==◌, ◌&&◌, not, nat_le, nat_lt, find, is_some, option_map}
 use Rattle.std.proofs.Math.Path.{subst}
 use Rattle.std.proofs.lemmas.Bool.{lt-ltb}
@@ -15,7 +16,8 @@ use Rattle.sctp_model.specs.declared.event.Event.{Event}
 use Rattle.sctp_model.specs.declared.event.Event.TheVariants as E
 use Rattle.sctp_model.specs.declared.event.LinkRefusal.TheVariants.{NotInFlight}
 use Rattle.sctp_model.specs.LinkRecord.{LinkRecord, Slot}
-use Rattle.sctp_model.specs.Messages.{message_at, message_of, tsn_of, place_of, sent_of, fragment_count, deadline_of, is_past_deadline, is_partially_sent, is_in_flight}
+use Rattle.sctp_model.specs.Messages.{message_at, message_of, tsn_of, place_of, sent_of, fragment_count, deadline_of, is_past_deadline, is_partially_sent}
+use Rattle.sctp_model.specs.Messages.{is_in_flight}
 use Rattle.sctp_model.specs.Amounts.{growth}
 use Rattle.sctp_model.specs.Changes.{after_abandon, tailing, after_tail, front_if}
 use Rattle.sctp_model.specs.Reply as R
@@ -57,13 +59,16 @@ inner : {A : Type 0} {a b : A} → Some a ≡ Some b → a ≡ b
 inner e = cc
 
 -- where the message is partially sent its terminal chunk takes a slot, so a further TSN may be given out
-half-fits : (sum : List ℕ → ℕ) (x : State) (l : IsLinked sum x) (e : Event) (n : ℕ) → refusal_of x.recorded e ≡ None → after x.recorded e ≡ after_abandon x.recorded n → is_partially_sent x.recorded n ≡ true → nat_lt (length x.outbound.inflight.chunks + 1) (2 ^ 31) ≡ true
+half-fits : (sum : List ℕ → ℕ) (x : State) (l : IsLinked sum x) (e : Event) (n : ℕ) → refusal_of x.recorded e ≡ None
+    → after x.recorded e ≡ after_abandon x.recorded n → is_partially_sent x.recorded n ≡ true → nat_lt (length x.outbound.inflight.chunks + 1) (2 ^ 31) ≡ true
 half-fits sum x l e n ok is half =
     let s = stands-then x.recorded.setup x.recorded l.history e ok l.stands in
-    let few = Few.few x.recorded.setup (record_of x.recorded.setup ((e, reply_to x.recorded e) ∷ l.history)) (sane-run x.recorded.setup ((e, reply_to x.recorded e) ∷ l.history) s.run) in
+    let few = Few.few x.recorded.setup (record_of x.recorded.setup ((e, reply_to x.recorded e) ∷ l.history))
+    (sane-run x.recorded.setup ((e, reply_to x.recorded e) ∷ l.history) s.run) in
     let count : length (record_of x.recorded.setup ((e, reply_to x.recorded e) ∷ l.history)).slots ≡ length x.recorded.slots + 1 =
     ap (λ u. length u.slots) (sym s.is ∙ is ∙ abandoned-is x.recorded n) ∙ length-append x.recorded.slots (mark_of x.recorded n)
-    ∙ ap (λ b. length x.recorded.slots + length {A = Slot} (if b then record { message = n; fragment = sent_of x.recorded n; is_terminal_chunk = true; arrived = false; acknowledged = false } ∷ [] else [])) half in
+    ∙ ap (λ b. length x.recorded.slots + length {A = Slot} (if b
+    then record { message = n; fragment = sent_of x.recorded n; is_terminal_chunk = true; arrived = false; acknowledged = false } ∷ [] else [])) half in
     lt-ltb _ _ (omega (arith, few, count, flying x.recorded x.outbound l.outbound))
 
 -- ## The message of a TSN in flight
@@ -96,31 +101,39 @@ module _ (sum : List ℕ → ℕ) (x : State) (l : IsLinked sum x) (tsn : ℕ) (
   pub half-tail : has_tail (to_abandon (find (has_tsn tsn) x.outbound.inflight.chunks)) x.outbound ≡ is_partially_sent w n
   half-tail =
       let f = facts sum x l in
-      subst (λ t. has_tail (to_abandon (find (has_tsn t) x.outbound.inflight.chunks)) x.outbound ≡ is_partially_sent w n) back (tail-tsn w.setup w p x.outbound f.sane low high l.outbound)
+      subst (λ t. has_tail (to_abandon (find (has_tsn t) x.outbound.inflight.chunks)) x.outbound ≡ is_partially_sent w n) back
+      (tail-tsn w.setup w p x.outbound f.sane low high l.outbound)
 
   found : Found w p x.outbound.inflight.chunks
   found =
       let f = facts sum x l in
-      found-in w p (omega (arith, high, f.few)) x.outbound.inflight.chunks w.taken (length w.slots - w.taken) (omega (arith, f.few, f.taken)) low (omega (arith, high, f.taken)) l.outbound.in_flight
+      found-in w p (omega (arith, high, f.few)) x.outbound.inflight.chunks w.taken (length w.slots - w.taken)
+      (omega (arith, f.few, f.taken)) low (omega (arith, high, f.taken)) l.outbound.in_flight
 
   -- the queue answers
   pub held : is_some (find (has_tsn tsn) x.outbound.inflight.chunks) ≡ true
   held = ap is_some (ap (λ t. find (has_tsn t) x.outbound.inflight.chunks) (sym back) ∙ found.is)
 
-  pub tail-fits : has_tail (to_abandon (find (has_tsn tsn) x.outbound.inflight.chunks)) x.outbound ≡ true → nat_lt (length x.outbound.inflight.chunks + 1) (2 ^ 31) ≡ true
+  pub tail-fits : has_tail (to_abandon (find (has_tsn tsn) x.outbound.inflight.chunks)) x.outbound ≡ true
+      → nat_lt (length x.outbound.inflight.chunks + 1) (2 ^ 31) ≡ true
   tail-fits tail = half-fits sum x l (E.Abandon tsn) n ok refl (sym half-tail ∙ tail)
 
   -- the stream that the queue answers is the message's
-  pub stream-is : (s : ℕ) → Some s ≡ option_map (λ (c : ChunkPayloadData). c.stream_identifier) (find (has_tsn tsn) x.outbound.inflight.chunks) → s ≡ (message_at x.recorded (message_of x.recorded (place_of x.recorded tsn))).stream
+  pub stream-is : (s : ℕ) → Some s ≡ option_map (λ (c : ChunkPayloadData). c.stream_identifier) (find (has_tsn tsn) x.outbound.inflight.chunks)
+      → s ≡ (message_at x.recorded (message_of x.recorded (place_of x.recorded tsn))).stream
   stream-is s e = inner (e ∙ flying-answer w.setup w tsn x.outbound (facts sum x l).sane l.setup.first fits flies l.outbound)
 
-  pub gives : (s bytes : ℕ) (q : Outbound) (next : ℕ) → Some s ≡ option_map (λ (c : ChunkPayloadData). c.stream_identifier) (find (has_tsn tsn) x.outbound.inflight.chunks) → q ≡ abandoned_of (to_abandon (find (has_tsn tsn) x.outbound.inflight.chunks)) x.next_tsn x.outbound → next ≡ tsn_after_of (to_abandon (find (has_tsn tsn) x.outbound.inflight.chunks)) x.next_tsn x.outbound → total_bytes q + bytes ≡ total_bytes x.outbound → Gives x (E.Abandon tsn) n s bytes q next
+  pub gives : (s bytes : ℕ) (q : Outbound) (next : ℕ) → Some s ≡ option_map (λ (c : ChunkPayloadData). c.stream_identifier)
+      (find (has_tsn tsn) x.outbound.inflight.chunks) → q ≡ abandoned_of (to_abandon (find (has_tsn tsn) x.outbound.inflight.chunks)) x.next_tsn x.outbound
+      → next ≡ tsn_after_of (to_abandon (find (has_tsn tsn) x.outbound.inflight.chunks)) x.next_tsn x.outbound → total_bytes q + bytes ≡ total_bytes x.outbound
+      → Gives x (E.Abandon tsn) n s bytes q next
   gives s bytes q next es eq en eb =
       let f = facts sum x l in
       let g = f.sane in
       let o = to_abandon (find (has_tsn tsn) x.outbound.inflight.chunks) in
       let here : q ≡ abandoned_of o (tsn_of w (length w.slots)) x.outbound = eq ∙ ap (λ t. abandoned_of o t x.outbound) l.next in
-      let left = over sum x (λ u. (r : Outbound) → refusal_of u (E.Abandon tsn) ≡ None → RefinesOutbound u r → growth u (after u (E.Abandon tsn)) ≡ total_bytes r - total_bytes (abandoned_of (to_abandon (find (has_tsn tsn) r.inflight.chunks)) (tsn_of u (length u.slots)) r)) l
+      let left = over sum x (λ u. (r : Outbound) → refusal_of u (E.Abandon tsn) ≡ None → RefinesOutbound u r → growth u (after u (E.Abandon tsn))
+      ≡ total_bytes r - total_bytes (abandoned_of (to_abandon (find (has_tsn tsn) r.inflight.chunks)) (tsn_of u (length u.slots)) r)) l
       (λ r ok' t. bytes-abandon w.setup l.history l.setup l.stands.run r t tsn fits ok') x.outbound ok l.outbound in
       let held = growth-abandon w.setup w tsn g ok l.setup in
       let same = ap total_bytes here in
@@ -155,7 +168,8 @@ module _ (sum : List ℕ → ℕ) (x : State) (l : IsLinked sum x) (now : ℕ) w
     half-is = ap not begins-is ∙ by (sent_of x.recorded k == 0) refl
       where
         by : (b : Bool) → (sent_of x.recorded k == 0) ≡ b → not b ≡ is_partially_sent x.recorded k
-        by true z = let y : nat_lt 0 (sent_of x.recorded k) ≡ false = grind (arith, nat_tests) in ap (λ b. b && (nat_lt (sent_of x.recorded k) (fragment_count x.recorded k) && not (message_at x.recorded k).abandoned)) (sym y)
+        by true z = let y : nat_lt 0 (sent_of x.recorded k) ≡ false = grind (arith, nat_tests) in
+            ap (λ b. b && (nat_lt (sent_of x.recorded k) (fragment_count x.recorded k) && not (message_at x.recorded k).abandoned)) (sym y)
         by false z =
             let t = front-takes (shape x.recorded) k (facts sum x l).sane.sender next.front in
             let some : 0 < sent_of x.recorded k = grind (arith, nat_tests) in
@@ -189,8 +203,10 @@ module _ (sum : List ℕ → ℕ) (x : State) (l : IsLinked sum x) (now : ℕ) w
   pub idle-tail : tailing x.recorded now ≡ None → IsRight x.recorded (E.Tail now) R.Idle x.recorded
   idle-tail none = record { right = sym (ap (tail_reply x.recorded (after x.recorded (E.Tail now))) none); moves = sym (ap (after_tail x.recorded) none) }
 
-  pub tail-right : (n s bytes : ℕ) → tailing x.recorded now ≡ Some n → s ≡ (message_at x.recorded n).stream → bytes ≡ growth x.recorded (after x.recorded (E.Tail now)) → R.Released s bytes ≡ reply_to x.recorded (E.Tail now)
-  tail-right n s bytes e es eb = ap (λ t. R.Released t bytes) es ∙ ap (R.Released (message_at x.recorded n).stream) eb ∙ sym (ap (tail_reply x.recorded (after x.recorded (E.Tail now))) e)
+  pub tail-right : (n s bytes : ℕ) → tailing x.recorded now ≡ Some n → s ≡ (message_at x.recorded n).stream
+      → bytes ≡ growth x.recorded (after x.recorded (E.Tail now)) → R.Released s bytes ≡ reply_to x.recorded (E.Tail now)
+  tail-right n s bytes e es eb = ap (λ t. R.Released t bytes) es ∙ ap (R.Released (message_at x.recorded n).stream) eb
+      ∙ sym (ap (tail_reply x.recorded (after x.recorded (E.Tail now))) e)
 
   -- where it is partially sent and late the queue abandons it
   module _ (n : ℕ) (e : tailing x.recorded now ≡ Some n) where
@@ -211,16 +227,22 @@ module _ (sum : List ℕ → ℕ) (x : State) (l : IsLinked sum x) (now : ℕ) w
     rest-fits half = half-fits sum x l (E.Tail now) n refl (ap (after_tail x.recorded) e) half
 
     -- the stream that the queue answers is the message's
-    stream-tail : (s : ℕ) → Some s ≡ option_map (λ (c : ChunkPayloadData). c.stream_identifier) (expiring_tail now x.outbound) → s ≡ (message_at x.recorded n).stream
+    stream-tail : (s : ℕ) → Some s ≡ option_map (λ (c : ChunkPayloadData). c.stream_identifier) (expiring_tail now x.outbound)
+        → s ≡ (message_at x.recorded n).stream
     stream-tail s = by (expiring_tail now x.outbound) refl told
       where
-        by : (o : Option ChunkPayloadData) → expiring_tail now x.outbound ≡ o → queue.message_of o ≡ Some n → Some s ≡ option_map (λ (c : ChunkPayloadData). c.stream_identifier) o → s ≡ (message_at x.recorded n).stream
+        by : (o : Option ChunkPayloadData) → expiring_tail now x.outbound ≡ o → queue.message_of o ≡ Some n
+            → Some s ≡ option_map (λ (c : ChunkPayloadData). c.stream_identifier) o → s ≡ (message_at x.recorded n).stream
         by None h t e = cc
         by (Some c) h t e =
             inner e ∙ tail-stream x.recorded.setup x.recorded now x.outbound c (facts sum x l).going l.outbound h
             ∙ ap (λ k. (message_at x.recorded k).stream) (inner t)
 
-    pub gives-tail : (s bytes : ℕ) (q : Outbound) (next : ℕ) → n < length x.recorded.messages → Some s ≡ option_map (λ (c : ChunkPayloadData). c.stream_identifier) (expiring_tail now x.outbound) → q ≡ abandoned_of (queue.message_of (expiring_tail now x.outbound)) x.next_tsn x.outbound → next ≡ tsn_after_of (queue.message_of (expiring_tail now x.outbound)) x.next_tsn x.outbound → total_bytes q + bytes ≡ total_bytes x.outbound → Gives x (E.Tail now) n s bytes q next
+    pub gives-tail : (s bytes : ℕ) (q : Outbound) (next : ℕ) → n < length x.recorded.messages
+        → Some s ≡ option_map (λ (c : ChunkPayloadData). c.stream_identifier) (expiring_tail now x.outbound)
+        → q ≡ abandoned_of (queue.message_of (expiring_tail now x.outbound)) x.next_tsn x.outbound
+        → next ≡ tsn_after_of (queue.message_of (expiring_tail now x.outbound)) x.next_tsn x.outbound → total_bytes q + bytes ≡ total_bytes x.outbound
+        → Gives x (E.Tail now) n s bytes q next
     gives-tail s bytes q next made es eq en eb =
         let f = facts sum x l in
         let g = f.sane in
@@ -228,7 +250,8 @@ module _ (sum : List ℕ → ℕ) (x : State) (l : IsLinked sum x) (now : ℕ) w
         let o = queue.message_of (expiring_tail now x.outbound) in
         let is : after w (E.Tail now) ≡ after_abandon w n = ap (after_tail w) e in
         let here : q ≡ abandoned_of o (tsn_of w (length w.slots)) x.outbound = eq ∙ ap (λ t. abandoned_of o t x.outbound) l.next in
-        let left = over sum x (λ u. (r : Outbound) → RefinesOutbound u r → growth u (after u (E.Tail now)) ≡ total_bytes r - total_bytes (abandoned_of (queue.message_of (expiring_tail now r)) (tsn_of u (length u.slots)) r)) l
+        let left = over sum x (λ u. (r : Outbound) → RefinesOutbound u r → growth u (after u (E.Tail now))
+        ≡ total_bytes r - total_bytes (abandoned_of (queue.message_of (expiring_tail now r)) (tsn_of u (length u.slots)) r)) l
         (λ r t. bytes-tail w.setup l.history l.setup l.stands.run r t now) x.outbound l.outbound in
         let held = growth-tail w.setup w now n g l.setup e in
         let same = ap total_bytes here in
@@ -238,7 +261,9 @@ module _ (sum : List ℕ → ℕ) (x : State) (l : IsLinked sum x) (now : ℕ) w
           stream = stream-tail s es;
           held = omega (arith, left, held, same, eb);
           grows = omega (arith, left, same, eb, ap (growth w) is);
-          refines = subst (λ u. RefinesOutbound u q) is (subst (RefinesOutbound (after w (E.Tail now))) (sym here) (refines-tail w.setup w now x.outbound f.going f.taken l.outbound));
+          refines = subst (λ u. RefinesOutbound u q) is
+              (subst (RefinesOutbound (after w (E.Tail now))) (sym here) (refines-tail w.setup w now x.outbound f.going f.taken l.outbound));
           unstarted = ap (λ (r : Outbound). r.next_unstarted) eq ∙ unstarted-same o x.next_tsn x.outbound;
-          next_is = en ∙ ap (λ t. tsn_after_of o t x.outbound) l.next ∙ next-tail w.setup w now x.outbound f.going f.taken l.outbound ∙ ap (λ u. tsn_of u (length u.slots)) is;
+          next_is = en ∙ ap (λ t. tsn_after_of o t x.outbound) l.next ∙ next-tail w.setup w now x.outbound f.going f.taken l.outbound
+              ∙ ap (λ u. tsn_of u (length u.slots)) is;
         }

@@ -1,5 +1,6 @@
 -- The loops by which a SACK is taken: one slot after another is acknowledged.
-use Rattle.std.proofs.Common.{◌≡◌, ℕ, zero, suc, ◌+◌, ◌-◌, ◌<◌, ◌≤◌, Bool, true, false, List, [], ◌∷◌, length, length-set, get_or, set, take, refl, ap, sym, ◌∙◌, inl, inr, add-one, arith}
+use Rattle.std.proofs.Common.{◌≡◌, ℕ, zero, suc, ◌+◌, ◌-◌, ◌<◌, ◌≤◌, Bool, true, false, List, [], ◌∷◌, length, length-set, get_or, set, take, refl, ap, sym}
+use Rattle.std.proofs.Common.{◌∙◌, inl, inr, add-one, arith}
 use Rattle.std.specs.Prelude.{◌==◌, ◌&&◌, ◌||◌, nat_lt, nat_le, max, slice_index_or}
 use Rattle.std.specs.List.{list_any}
 use Rattle.std.proofs.lemmas.Bool.{cases_lt, cases_eq, eq-eqb, ne_eqb, lt-ltb, le-ltb, le-leb, lt-leb, leb-true, ltb-true}
@@ -27,8 +28,10 @@ marking-same w s t slots same i = record { count = i.count; slots = λ k d lt. i
 -- ## One slot
 
 -- the slot is marked
-slots-marked : (w : LinkRecord) (acked : ℕ → Bool) (slots : List Slot) (p : ℕ) (r : Slot) → p < length slots → ((k : ℕ) (d : Slot) → k < length slots → slot_record (slice_index_or slots k d) ≡ record (slot_at w k) { acknowledged = acked k })
-    → (k : ℕ) (d : Slot) → k < length (set slots p (record (get_or slots p r) { acknowledged = true })) → slot_record (slice_index_or (set slots p (record (get_or slots p r) { acknowledged = true })) k d) ≡ record (slot_at w k) { acknowledged = and_one acked p k }
+slots-marked : (w : LinkRecord) (acked : ℕ → Bool) (slots : List Slot) (p : ℕ) (r : Slot) → p < length slots
+    → ((k : ℕ) (d : Slot) → k < length slots → slot_record (slice_index_or slots k d) ≡ record (slot_at w k) { acknowledged = acked k }) → (k : ℕ) (d : Slot)
+    → k < length (set slots p (record (get_or slots p r) { acknowledged = true })) → slot_record
+    (slice_index_or (set slots p (record (get_or slots p r) { acknowledged = true })) k d) ≡ record (slot_at w k) { acknowledged = and_one acked p k }
 slots-marked w acked slots p r lt i k d within = elim (cases_eq k p) [
   | inl same ↦
       ap (λ j. slot_record (slice_index_or (set slots p marked) j d)) same
@@ -52,7 +55,8 @@ slots-marked w acked slots p r lt i k d within = elim (cases_eq k p) [
     acknowledged' x = record x { acknowledged = true }
 
 -- the slots, with this one acknowledged too
-pub marking-one : (w : LinkRecord) (acked : ℕ → Bool) (slots : List Slot) (p : ℕ) (r : Slot) → p < length slots → IsMarking w acked slots → IsMarking w (and_one acked p) (set slots p (record (get_or slots p r) { acknowledged = true }))
+pub marking-one : (w : LinkRecord) (acked : ℕ → Bool) (slots : List Slot) (p : ℕ) (r : Slot) → p < length slots → IsMarking w acked slots
+    → IsMarking w (and_one acked p) (set slots p (record (get_or slots p r) { acknowledged = true }))
 marking-one w acked slots p r lt i = record { count = length-set slots p _ ∙ i.count; slots = slots-marked w acked slots p r lt i.slots }
 
 -- ## A run of slots
@@ -65,10 +69,13 @@ pub run-more : (acked : ℕ → Bool) (from p : ℕ) → from ≤ p → (k : ℕ
 run-more acked from p le k =
     or_assoc (acked k) (nat_le from k && nat_lt k p) (k == p)
     ∙ ap (λ b. acked k || b) (elim (cases_lt k p) [
-      | inl low ↦ join (nat_le from k) (nat_lt k p) (k == p) (nat_lt k (p + 1)) true false true (lt-ltb k p low) (ne_eqb k p (λ e. omega (arith, low, e))) (lt-ltb k (p + 1) (omega (arith, low))) (or-none (nat_le from k && true))
+      | inl low ↦ join (nat_le from k) (nat_lt k p) (k == p) (nat_lt k (p + 1)) true false true (lt-ltb k p low) (ne_eqb k p (λ e. omega (arith, low, e)))
+          (lt-ltb k (p + 1) (omega (arith, low))) (or-none (nat_le from k && true))
       | inr high ↦ elim (cases_eq k p) [
-        | inl same ↦ here (nat_le from k) (nat_lt k p) (k == p) (nat_lt k (p + 1)) (le-leb from k (omega (arith, le, high))) (le-ltb k p high) (eq-eqb k p same) (lt-ltb k (p + 1) (omega (arith, same)))
-        | inr other ↦ join (nat_le from k) (nat_lt k p) (k == p) (nat_lt k (p + 1)) false false false (le-ltb k p high) (ne_eqb k p other) (le-ltb k (p + 1) (past high other)) (or-none (nat_le from k && false))
+        | inl same ↦ here (nat_le from k) (nat_lt k p) (k == p) (nat_lt k (p + 1)) (le-leb from k (omega (arith, le, high))) (le-ltb k p high) (eq-eqb k p same)
+            (lt-ltb k (p + 1) (omega (arith, same)))
+        | inr other ↦ join (nat_le from k) (nat_lt k p) (k == p) (nat_lt k (p + 1)) false false false (le-ltb k p high) (ne_eqb k p other)
+            (le-ltb k (p + 1) (past high other)) (or-none (nat_le from k && false))
       ]
     ])
   where
@@ -99,12 +106,14 @@ run-all acked from p to le reach k = elim (cases_lt to from) [
 
 -- ## Gap blocks
 
-any-suc : {X : Type 0} (p : X → Bool) (xs : List X) (i : ℕ) (d : X) → i < length xs → list_any p (take (suc i) xs) ≡ (list_any p (take i xs) || p (get_or xs i d))
+any-suc : {X : Type 0} (p : X → Bool) (xs : List X) (i : ℕ) (d : X) → i < length xs
+    → list_any p (take (suc i) xs) ≡ (list_any p (take i xs) || p (get_or xs i d))
 any-suc p [] i d lt = absurd (omega (arith, lt))
 any-suc p (x ∷ xs) zero d lt = or-none (p x)
 any-suc p (x ∷ xs) (suc i) d lt = ap (λ b. p x || b) (any-suc p xs i d (omega (arith, lt))) ∙ sym (or_assoc (p x) (list_any p (take i xs)) (p (get_or xs i d)))
 
-any-more : {X : Type 0} (p : X → Bool) (xs : List X) (i : ℕ) (d : X) → i < length xs → list_any p (take (i + 1) xs) ≡ (list_any p (take i xs) || p (get_or xs i d))
+any-more : {X : Type 0} (p : X → Bool) (xs : List X) (i : ℕ) (d : X) → i < length xs
+    → list_any p (take (i + 1) xs) ≡ (list_any p (take i xs) || p (get_or xs i d))
 any-more p xs i d lt = rw add-one (any-suc p xs i d lt)
 
 pub any-at : {X : Type 0} (p : X → Bool) (xs : List X) (i : ℕ) (d : X) → i < length xs → p (get_or xs i d) ≡ true → list_any p xs ≡ true
@@ -115,18 +124,24 @@ any-at p (x ∷ xs) (suc i) d lt e = ap (λ b. p x || b) (any-at p xs i d (omega
 -- the run of a block is what it reports
 run-is : (cumulative k : ℕ) (b : GapAckBlock) → (nat_le (cumulative + b.start - 1) k && nat_lt k (cumulative + b.end)) ≡ in_block cumulative k b
 run-is cumulative k b =
-    ap (λ x. x && nat_lt k (cumulative + b.end)) (same_test (nat_le (cumulative + b.start - 1) k) (nat_le (cumulative + b.start) (k + 1)) (λ e. le-leb _ _ (omega (arith, leb-true _ _ e))) (λ e. le-leb _ _ (omega (arith, leb-true _ _ e))))
-    ∙ ap (λ x. nat_le (cumulative + b.start) (k + 1) && x) (same_test (nat_lt k (cumulative + b.end)) (nat_le (k + 1) (cumulative + b.end)) (λ e. le-leb _ _ (omega (arith, ltb-true _ _ e))) (λ e. lt-ltb _ _ (omega (arith, leb-true _ _ e))))
+    ap (λ x. x && nat_lt k (cumulative + b.end)) (same_test (nat_le (cumulative + b.start - 1) k) (nat_le (cumulative + b.start) (k + 1))
+    (λ e. le-leb _ _ (omega (arith, leb-true _ _ e))) (λ e. le-leb _ _ (omega (arith, leb-true _ _ e))))
+    ∙ ap (λ x. nat_le (cumulative + b.start) (k + 1) && x) (same_test (nat_lt k (cumulative + b.end)) (nat_le (k + 1) (cumulative + b.end))
+    (λ e. le-leb _ _ (omega (arith, ltb-true _ _ e))) (λ e. lt-ltb _ _ (omega (arith, leb-true _ _ e))))
 
-pub block-more : (acked : ℕ → Bool) (cumulative : ℕ) (bs : List GapAckBlock) (i : ℕ) (d : GapAckBlock) → i < length bs → (k : ℕ) → and_run (and_blocks acked cumulative (take i bs)) (cumulative + (slice_index_or bs i d).start - 1) (cumulative + (slice_index_or bs i d).end) k ≡ and_blocks acked cumulative (take (i + 1) bs) k
+pub block-more : (acked : ℕ → Bool) (cumulative : ℕ) (bs : List GapAckBlock) (i : ℕ) (d : GapAckBlock) → i < length bs → (k : ℕ)
+    → and_run (and_blocks acked cumulative (take i bs)) (cumulative + (slice_index_or bs i d).start - 1)
+    (cumulative + (slice_index_or bs i d).end) k ≡ and_blocks acked cumulative (take (i + 1) bs) k
 block-more acked cumulative bs i d lt k =
     ap (λ b. (acked k || list_any (in_block cumulative k) (take i bs)) || b) (run-is cumulative k (slice_index_or bs i d))
     ∙ or_assoc (acked k) (list_any (in_block cumulative k) (take i bs)) (in_block cumulative k (slice_index_or bs i d))
     ∙ ap (λ b. acked k || b) (sym (any-more (in_block cumulative k) bs i d lt))
 
 -- its last slot is one that it reports
-pub block-last : (cumulative : ℕ) (b : GapAckBlock) (k : ℕ) → cumulative + b.start - 1 < cumulative + b.end → k + 1 ≡ cumulative + b.end → in_block cumulative k b ≡ true
-block-last cumulative b k lt e = sym (run-is cumulative k b) ∙ both (nat_le (cumulative + b.start - 1) k) (nat_lt k (cumulative + b.end)) (le-leb _ _ (omega (arith, lt, e))) (lt-ltb _ _ (omega (arith, e)))
+pub block-last : (cumulative : ℕ) (b : GapAckBlock) (k : ℕ) → cumulative + b.start - 1 < cumulative + b.end → k + 1 ≡ cumulative + b.end
+    → in_block cumulative k b ≡ true
+block-last cumulative b k lt e = sym (run-is cumulative k b)
+    ∙ both (nat_le (cumulative + b.start - 1) k) (nat_lt k (cumulative + b.end)) (le-leb _ _ (omega (arith, lt, e))) (lt-ltb _ _ (omega (arith, e)))
   where
     both : (x y : Bool) → x ≡ true → y ≡ true → (x && y) ≡ true
     both x y e f = rw (e, f) refl

@@ -31,7 +31,8 @@ unfolding distance
 far w top k first le short = omega (arith, first, le, short)
 
 -- from one cumulative TSN to a later one
-pub between : (w : LinkRecord) (from top : ℕ) → w.setup.first < 2 ^ 32 → from ≤ top → top < 2 ^ 31 → distance (cumulative_tsn w from) (cumulative_tsn w top) ≡ top - from
+pub between : (w : LinkRecord) (from top : ℕ) → w.setup.first < 2 ^ 32 → from ≤ top → top < 2 ^ 31
+    → distance (cumulative_tsn w from) (cumulative_tsn w top) ≡ top - from
 unfolding distance
 between w from top first le short = omega (arith, first, le, short)
 
@@ -40,10 +41,12 @@ unfolding distance
 back w from top first lt short = omega (arith, first, lt, short)
 
 -- the later one is not out of date
-pub up-to-date : (w : LinkRecord) (from top : ℕ) → w.setup.first < 2 ^ 32 → from ≤ top → top < 2 ^ 31 → comes_before (cumulative_tsn w top) (cumulative_tsn w from) ≡ false
+pub up-to-date : (w : LinkRecord) (from top : ℕ) → w.setup.first < 2 ^ 32 → from ≤ top → top < 2 ^ 31
+    → comes_before (cumulative_tsn w top) (cumulative_tsn w from) ≡ false
 up-to-date w from top first le short = elim (cases_lt from top) [
   | inl lt ↦ not_before_from (cumulative_tsn w top) (cumulative_tsn w from) (back w from top first lt short)
-  | inr ge ↦ let same : from ≡ top = omega (arith, le, ge) in ap (λ n. comes_before (cumulative_tsn w top) (cumulative_tsn w n)) same ∙ before_irrefl (cumulative_tsn w top) (omega arith)
+  | inr ge ↦ let same : from ≡ top = omega (arith, le, ge) in
+      ap (λ n. comes_before (cumulative_tsn w top) (cumulative_tsn w n)) same ∙ before_irrefl (cumulative_tsn w top) (omega arith)
 ]
 
 at-top : (w : LinkRecord) (top k : ℕ) → w.setup.first < 2 ^ 32 → top < 2 ^ 31 → k < 2 ^ 31 → at_or_before (tsn_of w k) (cumulative_tsn w top) ≡ nat_lt k top
@@ -59,8 +62,10 @@ at-top w top k first short near = elim (cases_lt k top) [
 pub covered-at : (top k : ℕ) (bs : List GapAckBlock) → top ≤ k → is_in_blocks bs (k + 1 - top) ≡ list_any (in_block top k) bs
 covered-at top k [] le = refl
 covered-at top k (b ∷ bs) le =
-    ap (λ t. (t && nat_le (k + 1 - top) b.end) || is_in_blocks bs (k + 1 - top)) (same_test (nat_le b.start (k + 1 - top)) (nat_le (top + b.start) (k + 1)) (λ e. le-leb _ _ (omega (arith, le, leb-true _ _ e))) (λ e. le-leb _ _ (omega (arith, le, leb-true _ _ e))))
-    ∙ ap (λ t. (nat_le (top + b.start) (k + 1) && t) || is_in_blocks bs (k + 1 - top)) (same_test (nat_le (k + 1 - top) b.end) (nat_le (k + 1) (top + b.end)) (λ e. le-leb _ _ (omega (arith, le, leb-true _ _ e))) (λ e. le-leb _ _ (omega (arith, le, leb-true _ _ e))))
+    ap (λ t. (t && nat_le (k + 1 - top) b.end) || is_in_blocks bs (k + 1 - top)) (same_test (nat_le b.start (k + 1 - top)) (nat_le (top + b.start) (k + 1))
+    (λ e. le-leb _ _ (omega (arith, le, leb-true _ _ e))) (λ e. le-leb _ _ (omega (arith, le, leb-true _ _ e))))
+    ∙ ap (λ t. (nat_le (top + b.start) (k + 1) && t) || is_in_blocks bs (k + 1 - top)) (same_test (nat_le (k + 1 - top) b.end)
+    (nat_le (k + 1) (top + b.end)) (λ e. le-leb _ _ (omega (arith, le, leb-true _ _ e))) (λ e. le-leb _ _ (omega (arith, le, leb-true _ _ e))))
     ∙ ap (λ t. in_block top k b || t) (covered-at top k bs le)
 
 either : (l a b : Bool) → l ≡ true → (l || a) ≡ (l || b)
@@ -70,7 +75,8 @@ either l a b e = rw e refl
 abbrev pub told : ℕ → List GapAckBlock → ℕ → Bool
 told top bs k = nat_lt k top || list_any (in_block top k) bs
 
-reports-at : (w : LinkRecord) (s : Sack) (top k : ℕ) (x : ChunkPayloadData) → w.setup.first < 2 ^ 32 → top < 2 ^ 31 → k < 2 ^ 31 → s.cumulative_tsn_ack ≡ cumulative_tsn w top → x.tsn ≡ tsn_of w k → reports s x ≡ told top s.gap_ack_blocks k
+reports-at : (w : LinkRecord) (s : Sack) (top k : ℕ) (x : ChunkPayloadData) → w.setup.first < 2 ^ 32 → top < 2 ^ 31 → k < 2 ^ 31
+    → s.cumulative_tsn_ack ≡ cumulative_tsn w top → x.tsn ≡ tsn_of w k → reports s x ≡ told top s.gap_ack_blocks k
 reports-at w s top k x first short near cum tsn =
     ap (λ t. at_or_before t s.cumulative_tsn_ack || is_in_blocks s.gap_ack_blocks (distance s.cumulative_tsn_ack t)) tsn
     ∙ ap (λ c. at_or_before (tsn_of w k) c || is_in_blocks s.gap_ack_blocks (distance c (tsn_of w k))) cum
@@ -87,7 +93,8 @@ gone s = record { chunk = record s.chunk { payload = []; acknowledged = true }; 
 
 module _ (w : LinkRecord) (s : Sack) (top : ℕ) (first : w.setup.first < 2 ^ 32) (short : top < 2 ^ 31) (cum : s.cumulative_tsn_ack ≡ cumulative_tsn w top) where
   -- what it reports anew is acknowledged then
-  pub marked-all : (acked : ℕ → Bool) (cs : List ChunkPayloadData) (from count : ℕ) → from + count ≤ 2 ^ 31 → IsInFlight w acked from count cs → IsInFlight w (λ k. acked k || told top s.gap_ack_blocks k) from count (change_where (reports_anew s) as_acknowledged cs)
+  pub marked-all : (acked : ℕ → Bool) (cs : List ChunkPayloadData) (from count : ℕ) → from + count ≤ 2 ^ 31 → IsInFlight w acked from count cs
+      → IsInFlight w (λ k. acked k || told top s.gap_ack_blocks k) from count (change_where (reports_anew s) as_acknowledged cs)
   marked-all acked [] from zero le e = refl
   marked-all acked [] from (suc count) le e = cc
   marked-all acked (c ∷ cs) from zero le e = cc
@@ -96,7 +103,8 @@ module _ (w : LinkRecord) (s : Sack) (top : ℕ) (first : w.setup.first < 2 ^ 32
       let tail = ap tail_of e in
       let near : from < 2 ^ 31 = omega (arith, le) in
       let test : reports_anew s c ≡ (not (acked from) && told top s.gap_ack_blocks from) =
-      ap (λ x. not x.chunk.acknowledged && reports s c) head ∙ ap (λ b. not (acked from) && b) (reports-at w s top from c first short near cum (ap (λ x. x.chunk.tsn) head)) in
+      ap (λ x. not x.chunk.acknowledged && reports s c) head
+      ∙ ap (λ b. not (acked from) && b) (reports-at w s top from c first short near cum (ap (λ x. x.chunk.tsn) head)) in
       ap (λ b. sending_of (if b then as_acknowledged c else c) ∷ map sending_of (change_where (reports_anew s) as_acknowledged cs)) test
       ∙ ap (λ x. x ∷ map sending_of (change_where (reports_anew s) as_acknowledged cs)) (one (acked from) (told top s.gap_ack_blocks from) head)
       ∙ ap (λ l. sending_by w (acked from || told top s.gap_ack_blocks from) from ∷ l) (marked-all acked cs (from + 1) count (omega (arith, le)) tail)
@@ -112,24 +120,32 @@ module _ (w : LinkRecord) (s : Sack) (top : ℕ) (first : w.setup.first < 2 ^ 32
   at-counts : (acked : ℕ → Bool) (cs : List ChunkPayloadData) (a b m n : ℕ) → a ≡ b → m ≡ n → IsInFlight w acked a m cs → IsInFlight w acked b n cs
   at-counts acked cs a b m n e f i = subst (λ k. IsInFlight w acked b k cs) f (subst (λ k. IsInFlight w acked k m cs) e i)
 
-  pub front-leaves : (acked : ℕ → Bool) (cs : List ChunkPayloadData) (from count : ℕ) → from + count ≤ 2 ^ 31 → IsInFlight w acked from count cs → IsInFlight w acked (max from top) (from + count - max from top) (past (cumulative_tsn w top) cs)
-  front-leaves acked [] from zero le e = let z : 0 ≡ from + zero - max from top = omega arith in ap (λ n. map (λ k. sending_by w (acked k) k) (numbers_where always (max from top) n)) z
+  pub front-leaves : (acked : ℕ → Bool) (cs : List ChunkPayloadData) (from count : ℕ) → from + count ≤ 2 ^ 31 → IsInFlight w acked from count cs
+      → IsInFlight w acked (max from top) (from + count - max from top) (past (cumulative_tsn w top) cs)
+  front-leaves acked [] from zero le e = let z : 0 ≡ from + zero - max from top = omega arith in
+      ap (λ n. map (λ k. sending_by w (acked k) k) (numbers_where always (max from top) n)) z
   front-leaves acked [] from (suc count) le e = cc
   front-leaves acked (c ∷ cs) from zero le e = cc
   front-leaves acked (c ∷ cs) from (suc count) le e =
       let head : sending_of c ≡ sending_by w (acked from) from = ap (λ l. head_of l (sending_of c)) e in
       let near : from < 2 ^ 31 = omega (arith, le) in
-      let test : at_or_before c.tsn (cumulative_tsn w top) ≡ nat_lt from top = ap (λ x. at_or_before x.chunk.tsn (cumulative_tsn w top)) head ∙ at-top w top from first short near in
+      let test : at_or_before c.tsn (cumulative_tsn w top) ≡ nat_lt from top = ap (λ x. at_or_before x.chunk.tsn (cumulative_tsn w top)) head
+      ∙ at-top w top from first short near in
       let rest = front-leaves acked cs (from + 1) count (omega (arith, le)) (ap tail_of e) in
       elim (cases_lt from top) [
         | inl lt ↦
             let yes : at_or_before c.tsn (cumulative_tsn w top) ≡ true = test ∙ lt-ltb from top lt in
-            subst (λ xs. IsInFlight w acked (max from top) (from + suc count - max from top) xs) (sym (ap (λ b. if not b then c ∷ past (cumulative_tsn w top) cs else past (cumulative_tsn w top) cs) yes))
-            (at-counts acked (past (cumulative_tsn w top) cs) (max (from + 1) top) (max from top) (from + 1 + count - max (from + 1) top) (from + suc count - max from top) (omega (arith, lt)) (omega (arith, lt)) rest)
+            subst (λ xs. IsInFlight w acked (max from top) (from + suc count - max from top) xs)
+            (sym (ap (λ b. if not b then c ∷ past (cumulative_tsn w top) cs else past (cumulative_tsn w top) cs) yes))
+            (at-counts acked (past (cumulative_tsn w top) cs) (max (from + 1) top) (max from top) (from + 1 + count - max (from + 1) top)
+            (from + suc count - max from top) (omega (arith, lt)) (omega (arith, lt)) rest)
         | inr ge ↦
             let no' : at_or_before c.tsn (cumulative_tsn w top) ≡ false = test ∙ le-ltb from top ge in
-            let behind = at-counts acked (past (cumulative_tsn w top) cs) (max (from + 1) top) (from + 1) (from + 1 + count - max (from + 1) top) count (omega (arith, ge)) (omega (arith, ge)) rest in
-            subst (λ xs. IsInFlight w acked (max from top) (from + suc count - max from top) xs) (sym (ap (λ b. if not b then c ∷ past (cumulative_tsn w top) cs else past (cumulative_tsn w top) cs) no'))
-            (at-counts acked (c ∷ past (cumulative_tsn w top) cs) from (max from top) (suc count) (from + suc count - max from top) (omega (arith, ge)) (omega (arith, ge))
+            let behind = at-counts acked (past (cumulative_tsn w top) cs) (max (from + 1) top) (from + 1)
+            (from + 1 + count - max (from + 1) top) count (omega (arith, ge)) (omega (arith, ge)) rest in
+            subst (λ xs. IsInFlight w acked (max from top) (from + suc count - max from top) xs)
+            (sym (ap (λ b. if not b then c ∷ past (cumulative_tsn w top) cs else past (cumulative_tsn w top) cs) no'))
+            (at-counts acked (c ∷ past (cumulative_tsn w top) cs) from (max from top) (suc count) (from + suc count - max from top) (omega (arith, ge))
+            (omega (arith, ge))
             (ap (λ x. x ∷ map sending_of (past (cumulative_tsn w top) cs)) head ∙ ap (λ l. sending_by w (acked from) from ∷ l) behind))
       ]

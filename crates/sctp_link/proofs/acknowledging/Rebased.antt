@@ -11,12 +11,14 @@ use Rattle.sctp_outbound.specs.payload_queue.Blocks.{is_in_blocks, is_in_block}
 use Rattle.sctp_link.specs.Acking.{IsNearer}
 
 -- both ends are so much less, but for the first of them
-pub nearer-is : (behind start end : ℕ) (b : GapAckBlock) → start ≡ max (b.start - behind) 1 → end ≡ b.end - behind → IsNearer behind b (record { start = start; end = end })
+pub nearer-is : (behind start end : ℕ) (b : GapAckBlock) → start ≡ max (b.start - behind) 1 → end ≡ b.end - behind
+    → IsNearer behind b (record { start = start; end = end })
 nearer-is behind start end b es ee = record {
   begin = omega (arith, es);
   covers = λ n pos.
-      ap (λ t. t && nat_le n end) (same_test (nat_le start n) (nat_le b.start (n + behind)) (λ e. le-leb _ _ (omega (arith, es, pos, leb-true _ _ e))) (λ e. le-leb _ _ (omega (arith, es, pos, leb-true _ _ e))))
-      ∙ ap (λ t. nat_le b.start (n + behind) && t) (same_test (nat_le n end) (nat_le (n + behind) b.end) (λ e. le-leb _ _ (omega (arith, ee, pos, leb-true _ _ e))) (λ e. le-leb _ _ (omega (arith, ee, pos, leb-true _ _ e))));
+      ap (λ t. t && nat_le n end) (same_test (nat_le start n) (nat_le b.start (n + behind)) (λ e. le-leb _ _ (omega (arith, es, pos, leb-true _ _ e)))
+      (λ e. le-leb _ _ (omega (arith, es, pos, leb-true _ _ e)))) ∙ ap (λ t. nat_le b.start (n + behind) && t) (same_test (nat_le n end)
+      (nat_le (n + behind) b.end) (λ e. le-leb _ _ (omega (arith, ee, pos, leb-true _ _ e))) (λ e. le-leb _ _ (omega (arith, ee, pos, leb-true _ _ e))));
 }
 
 -- the blocks up to a place are so told, and those behind it are as they were
@@ -28,7 +30,8 @@ pub record Nearer (behind place : ℕ) (old new : List GapAckBlock) : Type 0 whe
 pub none-nearer : (behind : ℕ) (old : List GapAckBlock) → Nearer behind 0 old old
 none-nearer behind old = record { count = refl; done = λ i d lt. absurd (omega (arith, lt)); rest = λ i d le. refl }
 
-pub one-nearer : (behind place : ℕ) (old new : List GapAckBlock) (b c : GapAckBlock) → place < length old → b ≡ get_or new place b → IsNearer behind b c → Nearer behind place old new → Nearer behind (place + 1) old (set new place c)
+pub one-nearer : (behind place : ℕ) (old new : List GapAckBlock) (b c : GapAckBlock) → place < length old → b ≡ get_or new place b → IsNearer behind b c
+    → Nearer behind place old new → Nearer behind (place + 1) old (set new place c)
 one-nearer behind place old new b c lt is near n = record {
   count = length-set new place c ∙ n.count;
   done = λ i d below within. elim (cases_eq i place) [
@@ -36,7 +39,8 @@ one-nearer behind place old new b c lt is near n = record {
         subst (λ j. IsNearer behind (get_or old j d) (get_or (set new place c) j d)) (sym same)
         (subst (IsNearer behind (get_or old place d)) (sym (get_or-set_same new place c d (omega (arith, lt, n.count))))
         (subst (λ a. IsNearer behind a c) (is ∙ get_or_default new place b d (omega (arith, lt, n.count)) ∙ n.rest place d (omega arith)) near))
-    | inr other ↦ subst (IsNearer behind (get_or old i d)) (sym (get_or-set_other new place i c d other)) (n.done i d (omega (arith, below, under i other below)) within)
+    | inr other ↦
+        subst (IsNearer behind (get_or old i d)) (sym (get_or-set_other new place i c d other)) (n.done i d (omega (arith, below, under i other below)) within)
   ];
   rest = λ i d above. get_or-set_other new place i c d (λ e. omega (arith, e, above)) ∙ n.rest i d (omega (arith, above));
 }
@@ -45,14 +49,19 @@ one-nearer behind place old new b c lt is near n = record {
     under i other below = elim (cases_lt i place) [ inl low ↦ low | inr high ↦ absurd (other (omega (arith, high, below))) ]
 
 -- all of them
-pub all-begin : (behind place : ℕ) (old new : List GapAckBlock) → length old ≤ place → Nearer behind place old new → (i : ℕ) (d : GapAckBlock) → i < length new → 0 < (get_or new i d).start
+pub all-begin : (behind place : ℕ) (old new : List GapAckBlock) → length old ≤ place → Nearer behind place old new → (i : ℕ) (d : GapAckBlock) → i < length new
+    → 0 < (get_or new i d).start
 all-begin behind place old new all n i d lt = (n.done i d (omega (arith, lt, all, n.count)) (omega (arith, lt, n.count))).begin
 
-any-same : (p q : GapAckBlock → Bool) (old new : List GapAckBlock) → length new ≡ length old → ((i : ℕ) (d : GapAckBlock) → i < length old → p (get_or new i d) ≡ q (get_or old i d)) → list_any p new ≡ list_any q old
+any-same : (p q : GapAckBlock → Bool) (old new : List GapAckBlock) → length new ≡ length old
+    → ((i : ℕ) (d : GapAckBlock) → i < length old → p (get_or new i d) ≡ q (get_or old i d)) → list_any p new ≡ list_any q old
 any-same p q [] [] e h = refl
 any-same p q [] (c ∷ cs) e h = absurd (omega (arith, e))
 any-same p q (b ∷ bs) [] e h = absurd (omega (arith, e))
-any-same p q (b ∷ bs) (c ∷ cs) e h = ap (λ t. t || list_any p cs) (h 0 b (omega arith)) ∙ ap (λ t. q b || t) (any-same p q bs cs (omega (arith, e)) (λ i d lt. h (suc i) d (omega (arith, lt))))
+any-same p q (b ∷ bs) (c ∷ cs) e h = ap (λ t. t || list_any p cs) (h 0 b (omega arith))
+    ∙ ap (λ t. q b || t) (any-same p q bs cs (omega (arith, e)) (λ i d lt. h (suc i) d (omega (arith, lt))))
 
-pub all-covers : (behind place : ℕ) (old new : List GapAckBlock) → length old ≤ place → Nearer behind place old new → (n : ℕ) → 0 < n → is_in_blocks new n ≡ is_in_blocks old (n + behind)
-all-covers behind place old new all n m pos = any-same (is_in_block m) (is_in_block (m + behind)) old new n.count (λ i d lt. (n.done i d (omega (arith, lt, all)) lt).covers m pos)
+pub all-covers : (behind place : ℕ) (old new : List GapAckBlock) → length old ≤ place → Nearer behind place old new → (n : ℕ) → 0 < n
+    → is_in_blocks new n ≡ is_in_blocks old (n + behind)
+all-covers behind place old new all n m pos =
+    any-same (is_in_block m) (is_in_block (m + behind)) old new n.count (λ i d lt. (n.done i d (omega (arith, lt, all)) lt).covers m pos)

@@ -123,47 +123,79 @@ module _ (sum : List ℕ → ℕ) (x : State) (l : IsLinked sum x) (credit : ℕ
       tsns-told : take count x.filter.duplicates ≡ map (tsn_of w) (report_of w credit).duplicates
       tsns-told = ap (take count) repeats-are ∙ take-map (tsn_of w) count w.duplicates ∙ ap (map (tsn_of w)) repeats-told
 
-      pub report-is : (cum : ℕ) (blocks : List (ℕ × ℕ)) (repeats : List ℕ) → cum ≡ cumulative w → blocks ≡ map ends_of bs → repeats ≡ take count w.duplicates → (let r : W.Report = record { cumulative = cum; credit = credit; blocks = blocks; duplicates = repeats } in r) ≡ report_of w credit
+      pub report-is : (cum : ℕ) (blocks : List (ℕ × ℕ)) (repeats : List ℕ) → cum ≡ cumulative w → blocks ≡ map ends_of bs → repeats ≡ take count w.duplicates
+          → (let r : W.Report = record { cumulative = cum; credit = credit; blocks = blocks; duplicates = repeats } in r) ≡ report_of w credit
       report-is cum blocks repeats a b c =
           ap (λ k. let r : W.Report = record { cumulative = k; credit = credit; blocks = blocks; duplicates = repeats } in r) a
           ∙ ap (λ k. let r : W.Report = record { cumulative = cumulative w; credit = credit; blocks = k; duplicates = repeats } in r) (b ∙ blocks-made)
           ∙ ap (λ k. let r : W.Report = record { cumulative = cumulative w; credit = credit; blocks = gap_blocks w; duplicates = k } in r) (c ∙ repeats-told)
 
-      says : (s : Sack) → s.cumulative_tsn_ack ≡ x.filter.cumulative_tsn → s.advertised_receiver_window_credit ≡ credit → s.gap_ack_blocks ≡ bs → s.duplicate_tsn ≡ take count x.filter.duplicates
-          → s ≡ (let t : Sack = record { cumulative_tsn_ack = cumulative_tsn w (cumulative w); advertised_receiver_window_credit = credit; gap_ack_blocks = map block_of (gap_blocks w); duplicate_tsn = map (tsn_of w) (report_of w credit).duplicates } in t)
+      says : (s : Sack) → s.cumulative_tsn_ack ≡ x.filter.cumulative_tsn → s.advertised_receiver_window_credit ≡ credit → s.gap_ack_blocks ≡ bs
+          → s.duplicate_tsn ≡ take count x.filter.duplicates → s ≡ (let t : Sack = record {
+            cumulative_tsn_ack = cumulative_tsn w (cumulative w);
+            advertised_receiver_window_credit = credit;
+            gap_ack_blocks = map block_of (gap_blocks w);
+            duplicate_tsn = map (tsn_of w) (report_of w credit).duplicates;
+          } in t)
       says s a b c d =
-          ap (λ k. let t : Sack = record { cumulative_tsn_ack = k; advertised_receiver_window_credit = s.advertised_receiver_window_credit; gap_ack_blocks = s.gap_ack_blocks; duplicate_tsn = s.duplicate_tsn } in t) (a ∙ cumulative-is)
-          ∙ ap (λ k. let t : Sack = record { cumulative_tsn_ack = cumulative_tsn w (cumulative w); advertised_receiver_window_credit = k; gap_ack_blocks = s.gap_ack_blocks; duplicate_tsn = s.duplicate_tsn } in t) b
-          ∙ ap (λ k. let t : Sack = record { cumulative_tsn_ack = cumulative_tsn w (cumulative w); advertised_receiver_window_credit = credit; gap_ack_blocks = k; duplicate_tsn = s.duplicate_tsn } in t) (c ∙ sym (blocks-of bs) ∙ ap (map block_of) blocks-made)
-          ∙ ap (λ k. let t : Sack = record { cumulative_tsn_ack = cumulative_tsn w (cumulative w); advertised_receiver_window_credit = credit; gap_ack_blocks = map block_of (gap_blocks w); duplicate_tsn = k } in t) (d ∙ tsns-told)
+          ap (λ k. let t : Sack = record {
+            cumulative_tsn_ack = k;
+            advertised_receiver_window_credit = s.advertised_receiver_window_credit;
+            gap_ack_blocks = s.gap_ack_blocks;
+            duplicate_tsn = s.duplicate_tsn;
+          } in t) (a ∙ cumulative-is) ∙ ap (λ k. let t : Sack = record {
+            cumulative_tsn_ack = cumulative_tsn w (cumulative w);
+            advertised_receiver_window_credit = k;
+            gap_ack_blocks = s.gap_ack_blocks;
+            duplicate_tsn = s.duplicate_tsn;
+          } in t) b ∙ ap (λ k. let t : Sack = record {
+            cumulative_tsn_ack = cumulative_tsn w (cumulative w);
+            advertised_receiver_window_credit = credit;
+            gap_ack_blocks = k;
+            duplicate_tsn = s.duplicate_tsn;
+          } in t) (c ∙ sym (blocks-of bs) ∙ ap (map block_of) blocks-made) ∙ ap (λ k. let t : Sack = record {
+            cumulative_tsn_ack = cumulative_tsn w (cumulative w);
+            advertised_receiver_window_credit = credit;
+            gap_ack_blocks = map block_of (gap_blocks w);
+            duplicate_tsn = k;
+          } in t) (d ∙ tsns-told)
 
-      pub linked-ack : (s : Sack) (bytes : List ℕ) (filter : Filter) → s.cumulative_tsn_ack ≡ x.filter.cumulative_tsn → s.advertised_receiver_window_credit ≡ credit → s.gap_ack_blocks ≡ bs → s.duplicate_tsn ≡ take count x.filter.duplicates → bytes ≡ packet_encoding sum (packet_with (sack_chunk s ∷ [])) → ReadsPacket sum bytes (packet_with (sack_chunk s ∷ [])) → length x.datagrams ≡ length w.network → filter ≡ record x.filter { duplicates = [] } → IsLinked sum (record x { recorded = v; datagrams = x.datagrams ++ bytes ∷ []; filter = filter })
-      linked-ack s bytes filter ea eb ec ed encoding reads len ef = subst (λ f. IsLinked sum (record x { recorded = v; datagrams = x.datagrams ++ bytes ∷ []; filter = f })) (sym ef) (record {
-        setup = l.setup;
-        history = (E.Ack credit, reply_to w (E.Ack credit)) ∷ l.history;
-        stands = stands-then w.setup w l.history (E.Ack credit) refl l.stands;
-        outbound = reported-outbound w credit x.outbound l.outbound;
-        unstarted = l.unstarted;
-        filter = ap (λ (f : FilterRecord). let r : FilterRecord = record { cumulative = f.cumulative; held = f.held; duplicates = [] } in r) l.filter;
-        next = l.next;
-        acked = l.acked;
-        fragments = l.fragments;
-        written = l.written;
-        sents = l.sents;
-        indexes = l.indexes;
-        low = l.low;
-        open_streams = λ k d lt. stream-same w v (slice_index_or x.open_streams k d) (record { setup = refl; held = refl; ordered = refl; next = refl; amount = refl; counters = refl }) refl (l.open_streams k d lt);
-        apart = l.apart;
-        encodings = encodings-more sum x l (E.Ack credit) refl (W.Sack (report_of w credit)) bytes refl len is;
-      })
+      pub linked-ack : (s : Sack) (bytes : List ℕ) (filter : Filter) → s.cumulative_tsn_ack ≡ x.filter.cumulative_tsn → s.advertised_receiver_window_credit
+          ≡ credit → s.gap_ack_blocks ≡ bs → s.duplicate_tsn ≡ take count x.filter.duplicates → bytes ≡ packet_encoding sum (packet_with (sack_chunk s ∷ []))
+          → ReadsPacket sum bytes (packet_with (sack_chunk s ∷ [])) → length x.datagrams ≡ length w.network → filter ≡ record x.filter { duplicates = [] }
+          → IsLinked sum (record x { recorded = v; datagrams = x.datagrams ++ bytes ∷ []; filter = filter })
+      linked-ack s bytes filter ea eb ec ed encoding reads len ef =
+          subst (λ f. IsLinked sum (record x { recorded = v; datagrams = x.datagrams ++ bytes ∷ []; filter = f })) (sym ef) (record {
+            setup = l.setup;
+            history = (E.Ack credit, reply_to w (E.Ack credit)) ∷ l.history;
+            stands = stands-then w.setup w l.history (E.Ack credit) refl l.stands;
+            outbound = reported-outbound w credit x.outbound l.outbound;
+            unstarted = l.unstarted;
+            filter = ap (λ (f : FilterRecord). let r : FilterRecord = record { cumulative = f.cumulative; held = f.held; duplicates = [] } in r) l.filter;
+            next = l.next;
+            acked = l.acked;
+            fragments = l.fragments;
+            written = l.written;
+            sents = l.sents;
+            indexes = l.indexes;
+            low = l.low;
+            open_streams = λ k d lt. stream-same w v (slice_index_or x.open_streams k d)
+                (record { setup = refl; held = refl; ordered = refl; next = refl; amount = refl; counters = refl }) refl (l.open_streams k d lt);
+            apart = l.apart;
+            encodings = encodings-more sum x l (E.Ack credit) refl (W.Sack (report_of w credit)) bytes refl len is;
+          })
         where
           is : IsDatagram sum (contents_of v (W.Sack (report_of w credit))) bytes
           is =
               let e = says s ea eb ec ed in
-              record { encoding = encoding ∙ ap (λ t. packet_encoding sum (packet_with (sack_chunk t ∷ []))) e; reads = subst (λ t. ReadsPacket sum bytes (packet_with (sack_chunk t ∷ []))) e reads }
+              record {
+                encoding = encoding ∙ ap (λ t. packet_encoding sum (packet_with (sack_chunk t ∷ []))) e;
+                reads = subst (λ t. ReadsPacket sum bytes (packet_with (sack_chunk t ∷ []))) e reads;
+              }
 
 -- the record with the datagram that says it
-pub recorded-acked : (w : LinkRecord) (credit : ℕ) (network : List W.Datagram) (repeats : List ℕ) (r : W.Report) → network ≡ w.network ++ W.Sack r ∷ [] → r ≡ report_of w credit → repeats ≡ [] → record w { network = network; duplicates = repeats } ≡ after_ack w credit
+pub recorded-acked : (w : LinkRecord) (credit : ℕ) (network : List W.Datagram) (repeats : List ℕ) (r : W.Report) → network ≡ w.network ++ W.Sack r ∷ []
+    → r ≡ report_of w credit → repeats ≡ [] → record w { network = network; duplicates = repeats } ≡ after_ack w credit
 recorded-acked w credit network repeats r a b c =
     ap (λ n. record w { network = n; duplicates = repeats }) (a ∙ ap (λ s. w.network ++ W.Sack s ∷ []) b)
     ∙ ap (λ d. record w { network = w.network ++ W.Sack (report_of w credit) ∷ []; duplicates = d }) c

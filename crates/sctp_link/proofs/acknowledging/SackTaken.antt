@@ -1,5 +1,6 @@
 -- A SACK is taken: what a link keeps then is what the record says.
-use Rattle.std.proofs.Common.{◌≡◌, ℕ, zero, suc, ◌+◌, ◌-◌, ◌<◌, ◌≤◌, ◌%◌, ◌^◌, Bool, true, false, List, [], ◌∷◌, length, get_or, map, Option, Some, None, refl, ap, sym, ◌∙◌, inl, inr, arith}
+use Rattle.std.proofs.Common.{◌≡◌, ℕ, zero, suc, ◌+◌, ◌-◌, ◌<◌, ◌≤◌, ◌%◌, ◌^◌, Bool, true, false, List, [], ◌∷◌, length, get_or, map, Option, Some, None, refl}
+use Rattle.std.proofs.Common.{ap, sym, ◌∙◌, inl, inr, arith}
 use Rattle.std.specs.Prelude.{if◌then◌else◌, ◌&&◌, ◌||◌, nat_le, nat_lt, max, slice_get, slice_index_or}
 use Rattle.std.specs.List.{list_any, list_all, filter}
 use Rattle.std.proofs.Math.Path.{subst}
@@ -73,23 +74,32 @@ sack-there (Some (Sack r)) e = (r, refl)
 
 -- what it says
 abbrev pub wire_sack : LinkRecord → Report → SelectiveAck.Sack
-wire_sack w r = record { cumulative_tsn_ack = cumulative_tsn w r.cumulative; advertised_receiver_window_credit = r.credit; gap_ack_blocks = map block_of r.blocks; duplicate_tsn = map (tsn_of w) r.duplicates }
+wire_sack w r = record {
+  cumulative_tsn_ack = cumulative_tsn w r.cumulative;
+  advertised_receiver_window_credit = r.credit;
+  gap_ack_blocks = map block_of r.blocks;
+  duplicate_tsn = map (tsn_of w) r.duplicates;
+}
 
-get-bytes : (ds : List Datagram) (k : ℕ) (d : Datagram) (g : W.Datagram) → slice_get (map datagram_record ds) k ≡ Some g → slice_index_or (map (λ d. d.bytes) ds) k [] ≡ (slice_index_or ds k d).bytes
+get-bytes : (ds : List Datagram) (k : ℕ) (d : Datagram) (g : W.Datagram) → slice_get (map datagram_record ds) k ≡ Some g
+    → slice_index_or (map (λ d. d.bytes) ds) k [] ≡ (slice_index_or ds k d).bytes
 get-bytes [] k d g e = cc
 get-bytes (x ∷ ds) zero d g e = refl
 get-bytes (x ∷ ds) (suc k) d g e = get-bytes ds k d g e
 
 -- and its bytes read so
-pub reads-sack : (sum : List ℕ → ℕ) (x : State) (ds : List Datagram) (k : ℕ) (d : Datagram) (r : Report) → IsLinked sum x → x.recorded.network ≡ map datagram_record ds → x.datagrams ≡ map (λ d. d.bytes) ds → d ≡ slice_index_or ds k d → slice_get x.recorded.network k ≡ Some (Sack r)
-    → ReadsPacket sum d.bytes (packet_with (sack_chunk (wire_sack x.recorded r) ∷ []))
+pub reads-sack : (sum : List ℕ → ℕ) (x : State) (ds : List Datagram) (k : ℕ) (d : Datagram) (r : Report) → IsLinked sum x
+    → x.recorded.network ≡ map datagram_record ds → x.datagrams ≡ map (λ d. d.bytes) ds → d ≡ slice_index_or ds k d
+    → slice_get x.recorded.network k ≡ Some (Sack r) → ReadsPacket sum d.bytes (packet_with (sack_chunk (wire_sack x.recorded r) ∷ []))
 reads-sack sum x ds k d r l network bytes is there =
     let encoding = l.encodings k [] (Sack r) there in
-    let here : slice_index_or x.datagrams k [] ≡ d.bytes = ap (λ n. slice_index_or n k []) bytes ∙ get-bytes ds k d (Sack r) (ap (λ n. slice_get n k) (sym network) ∙ there) ∙ ap (λ (y : Datagram). y.bytes) (sym is) in
+    let here : slice_index_or x.datagrams k [] ≡ d.bytes = ap (λ n. slice_index_or n k []) bytes
+    ∙ get-bytes ds k d (Sack r) (ap (λ n. slice_get n k) (sym network) ∙ there) ∙ ap (λ (y : Datagram). y.bytes) (sym is) in
     subst (λ b. ReadsPacket sum b (packet_with (sack_chunk (wire_sack x.recorded r) ∷ []))) here encoding.reads
 
 -- the count that a cumulative TSN tells
-pub count-is : (first count t : ℕ) → first < 2 ^ 32 → count < 2 ^ 31 → t ≡ (first + (2 ^ 32 - 1) + count) % 2 ^ 32 → ((t + (2 ^ 32 - first)) % 2 ^ 32 + 1) % 2 ^ 32 ≡ count
+pub count-is : (first count t : ℕ) → first < 2 ^ 32 → count < 2 ^ 31 → t ≡ (first + (2 ^ 32 - 1) + count) % 2 ^ 32
+    → ((t + (2 ^ 32 - first)) % 2 ^ 32 + 1) % 2 ^ 32 ≡ count
 count-is first count t fits short e = omega (arith, fits, short, e)
 
 -- only slots that are there are reported
@@ -97,7 +107,8 @@ abbrev pub Reported : LinkRecord → Type 0
 Reported w = (k : ℕ) (r : Report) → slice_get w.network k ≡ Some (Sack r) → (p : ℕ) → reports r p ≡ true → p < length w.slots
 
 reported-run : (setup : Setup) (h : History) → IsSetup setup → IsRun setup h → Reported (record_of setup h)
-reported-run setup h is run = λ k r e p t. Acknowledged.seen-made (record_of setup h) (log_of setup h) p (received-run setup h is run).known.heard (Acknowledged.sack-at (log_of setup h) (record_of setup h).network k (Sack r) (Acknowledged.sacks-run setup h is run) e p t)
+reported-run setup h is run = λ k r e p t. Acknowledged.seen-made (record_of setup h) (log_of setup h) p (received-run setup h is run).known.heard
+    (Acknowledged.sack-at (log_of setup h) (record_of setup h).network k (Sack r) (Acknowledged.sacks-run setup h is run) e p t)
 
 pub reported : (sum : List ℕ → ℕ) (x : State) (l : IsLinked sum x) → Reported x.recorded
 reported sum x l = over sum x Reported l (reported-run x.recorded.setup l.history l.setup l.stands.run)
@@ -105,7 +116,8 @@ reported sum x l = over sum x Reported l (reported-run x.recorded.setup l.histor
 pub count-made : (w : LinkRecord) (k : ℕ) (r : Report) → Reported w → slice_get w.network k ≡ Some (Sack r) → r.cumulative ≤ length w.slots
 count-made w k r made there = elim (cases_lt 0 r.cumulative) [
   | inl some ↦
-      let last = made k r there (r.cumulative - 1) (first-true (nat_lt (r.cumulative - 1) r.cumulative) _ (lt-ltb (r.cumulative - 1) r.cumulative (omega (arith, some)))) in
+      let last = made k r there (r.cumulative - 1)
+      (first-true (nat_lt (r.cumulative - 1) r.cumulative) _ (lt-ltb (r.cumulative - 1) r.cumulative (omega (arith, some)))) in
       omega (arith, some, last)
   | inr none ↦ omega (arith, none)
 ]
@@ -114,12 +126,14 @@ count-made w k r made there = elim (cases_lt 0 r.cumulative) [
     first-true true b e = refl
     first-true false b e = cc
 
-any-mapped : (cumulative k : ℕ) (bs : List (ℕ × ℕ)) → list_any (in_block cumulative k) (map block_of bs) ≡ list_any (λ b. nat_le (cumulative + b.0) (k + 1) && nat_le (k + 1) (cumulative + b.1)) bs
+any-mapped : (cumulative k : ℕ) (bs : List (ℕ × ℕ))
+    → list_any (in_block cumulative k) (map block_of bs) ≡ list_any (λ b. nat_le (cumulative + b.0) (k + 1) && nat_le (k + 1) (cumulative + b.1)) bs
 any-mapped cumulative k [] = refl
 any-mapped cumulative k (b ∷ bs) = ap (λ t. (nat_le (cumulative + b.0) (k + 1) && nat_le (k + 1) (cumulative + b.1)) || t) (any-mapped cumulative k bs)
 
 -- what gap blocks report is there
-pub blocks-made : (w : LinkRecord) (k : ℕ) (r : Report) → Reported w → slice_get w.network k ≡ Some (Sack r) → (p : ℕ) → list_any (in_block r.cumulative p) (map block_of r.blocks) ≡ true → p < length w.slots
+pub blocks-made : (w : LinkRecord) (k : ℕ) (r : Report) → Reported w → slice_get w.network k ≡ Some (Sack r) → (p : ℕ)
+    → list_any (in_block r.cumulative p) (map block_of r.blocks) ≡ true → p < length w.slots
 blocks-made w k r made there p e = made k r there p (second-true (nat_lt p r.cumulative) _ (sym (any-mapped r.cumulative p r.blocks) ∙ e))
   where
     second-true : (a b : Bool) → b ≡ true → (a || b) ≡ true
@@ -129,7 +143,8 @@ blocks-made w k r made there p e = made k r there p (second-true (nat_lt p r.cum
 -- ## Before the first slot
 
 bytes-short : (w : LinkRecord) (p : ℕ) → w.setup.size ≤ 65519 → bytes_at w p < 2 ^ 31
-bytes-short w p le = part (slot_at w p).is_terminal_chunk (is_expired_or_abandoned w (message_of w p)) (piece-short (length (message_at w (message_of w p)).bytes) w.setup.size (message_at w (message_of w p)).bytes (slot_at w p).fragment)
+bytes-short w p le = part (slot_at w p).is_terminal_chunk (is_expired_or_abandoned w (message_of w p))
+    (piece-short (length (message_at w (message_of w p)).bytes) w.setup.size (message_at w (message_of w p)).bytes (slot_at w p).fragment)
   where
     part : (a b : Bool) → slot_bytes w (message_of w p) p ≤ w.setup.size → (if a || b then 0 else slot_bytes w (message_of w p) p) < 2 ^ 31
     part true b short = omega arith
@@ -148,7 +163,8 @@ acks sum x l =
       shares = λ p t b c lt says. chunk-on x.recorded b p t c f.sane.sender lt says;
     }
 
-pub marking-first : (sum : List ℕ → ℕ) (x : State) (xs : List Slot) → IsLinked sum x → x.recorded.slots ≡ map slot_record xs → IsMarking x.recorded (acknowledged_at x.recorded) xs
+pub marking-first : (sum : List ℕ → ℕ) (x : State) (xs : List Slot) → IsLinked sum x → x.recorded.slots ≡ map slot_record xs
+    → IsMarking x.recorded (acknowledged_at x.recorded) xs
 marking-first sum x xs l slots = record {
   count = sym (ap length slots ∙ length-mapped slot_record xs);
   slots = λ k d lt. sym (ap (λ ys. slice_index_or ys k no_slot) slots ∙ get_or-map slot_record xs k d no_slot lt);
@@ -160,12 +176,15 @@ same-lists : {A : Type 0} (xs ys : List A) → length xs ≡ length ys → ((k :
 same-lists [] [] e h = refl
 same-lists [] (y ∷ ys) e h = absurd (omega (arith, e))
 same-lists (x ∷ xs) [] e h = absurd (omega (arith, e))
-same-lists (x ∷ xs) (y ∷ ys) e h = ap (λ z. z ∷ xs) (h 0 x (omega arith)) ∙ ap (λ zs. y ∷ zs) (same-lists xs ys (omega (arith, e)) (λ k d lt. h (suc k) d (omega (arith, lt))))
+same-lists (x ∷ xs) (y ∷ ys) e h = ap (λ z. z ∷ xs) (h 0 x (omega arith))
+    ∙ ap (λ zs. y ∷ zs) (same-lists xs ys (omega (arith, e)) (λ k d lt. h (suc k) d (omega (arith, lt))))
 
 -- the slots are those of the record
-pub slots-then : (w : LinkRecord) (r : Report) (xs : List Slot) → IsMarking w (acknowledged_then w r) xs → map slot_record xs ≡ (after_acked w (Some (Sack r))).slots
+pub slots-then : (w : LinkRecord) (r : Report) (xs : List Slot) → IsMarking w (acknowledged_then w r) xs
+    → map slot_record xs ≡ (after_acked w (Some (Sack r))).slots
 slots-then w r xs i =
-    same-lists (map slot_record xs) (after_acked w (Some (Sack r))).slots (length-mapped slot_record xs ∙ i.count ∙ sym (length-numbered (acknowledged_by r) 0 w.slots))
+    same-lists (map slot_record xs)
+    (after_acked w (Some (Sack r))).slots (length-mapped slot_record xs ∙ i.count ∙ sym (length-numbered (acknowledged_by r) 0 w.slots))
     (λ k d lt.
     let here : k < length xs = omega (arith, lt, length-mapped slot_record xs) in
     let made : k < length w.slots = omega (arith, here, i.count) in
@@ -182,8 +201,10 @@ slots-then w r xs i =
 abbrev as_left : LinkRecord → Report → OpenStream → OpenStream
 as_left w r l = with_amount (amount_with w (acknowledged_then w r) l.state.stream_identifier) l
 
-streams-then : (w : LinkRecord) (r : Report) (first now : List OpenStream) → length now ≡ length first → ((k : ℕ) (d : OpenStream) → k < length first → slice_index_or now k d ≡ as_left w r (slice_index_or first k d)) → now ≡ map (as_left w r) first
-streams-then w r first now count each = same-lists now (map (as_left w r) first) (count ∙ sym (length-mapped (as_left w r) first)) (λ k d lt. each k d (omega (arith, lt, count)) ∙ sym (map-at (as_left w r) k first d (omega (arith, lt, count))))
+streams-then : (w : LinkRecord) (r : Report) (first now : List OpenStream) → length now ≡ length first
+    → ((k : ℕ) (d : OpenStream) → k < length first → slice_index_or now k d ≡ as_left w r (slice_index_or first k d)) → now ≡ map (as_left w r) first
+streams-then w r first now count each = same-lists now (map (as_left w r) first) (count ∙ sym (length-mapped (as_left w r) first))
+    (λ k d lt. each k d (omega (arith, lt, count)) ∙ sym (map-at (as_left w r) k first d (omega (arith, lt, count))))
 
 numbers-left : (w : LinkRecord) (r : Report) (ls : List OpenStream) → stream_numbers (map (as_left w r) ls) ≡ stream_numbers ls
 numbers-left w r [] = refl
@@ -191,7 +212,8 @@ numbers-left w r (l ∷ ls) = ap (λ ks. l.state.stream_identifier ∷ ks) (numb
 
 -- ## What a link keeps
 
-stream-left : (w : LinkRecord) (r : Report) (l : OpenStream) → Sender (shape w) → IsOpenStream w l → IsOpenStream (after_acked w (Some (Sack r))) (as_left w r l)
+stream-left : (w : LinkRecord) (r : Report) (l : OpenStream) → Sender (shape w) → IsOpenStream w l
+    → IsOpenStream (after_acked w (Some (Sack r))) (as_left w r l)
 stream-left w r l sender i = record {
   held = i.held ∙ sym (reassembly-taken w r l.state.stream_identifier);
   si = i.si;
@@ -206,10 +228,13 @@ stream-left w r l sender i = record {
 }
 
 abbrev taken_state : State → Report → List OpenStream → Outbound → ℕ → State
-taken_state x r open_streams outbound acked = record x { recorded = after_acked x.recorded (Some (Sack r)); open_streams = open_streams; outbound = outbound; acked_tsn = acked }
+taken_state x r open_streams outbound acked =
+    record x { recorded = after_acked x.recorded (Some (Sack r)); open_streams = open_streams; outbound = outbound; acked_tsn = acked }
 
-linked-taken : (sum : List ℕ → ℕ) (x : State) (k : ℕ) (r : Report) (cs : List ChunkPayloadData) (acked : ℕ) (l : IsLinked sum x) → acked ≡ cumulative_tsn x.recorded (max x.recorded.taken r.cumulative) → refusal_of x.recorded (E.Acked k) ≡ None → slice_get x.recorded.network k ≡ Some (Sack r)
-    → IsInFlight x.recorded (acknowledged_then x.recorded r) (max x.recorded.taken r.cumulative) (length x.recorded.slots - max x.recorded.taken r.cumulative) cs
+linked-taken : (sum : List ℕ → ℕ) (x : State) (k : ℕ) (r : Report) (cs : List ChunkPayloadData) (acked : ℕ) (l : IsLinked sum x)
+    → acked ≡ cumulative_tsn x.recorded (max x.recorded.taken r.cumulative) → refusal_of x.recorded (E.Acked k) ≡ None
+    → slice_get x.recorded.network k ≡ Some (Sack r) → IsInFlight x.recorded (acknowledged_then x.recorded r) (max x.recorded.taken r.cumulative)
+    (length x.recorded.slots - max x.recorded.taken r.cumulative) cs
     → IsLinked sum (taken_state x r (map (as_left x.recorded r) x.open_streams) (with_inflight x.outbound cs) acked)
 linked-taken sum x k r cs acked l acked_is none there e =
     let w = x.recorded in
@@ -217,7 +242,8 @@ linked-taken sum x k r cs acked l acked_is none there e =
     record {
       setup = l.setup;
       history = (E.Acked k, reply_to x.recorded (E.Acked k)) ∷ l.history;
-      stands = subst (λ o. StandsFor x.recorded.setup (after_acked x.recorded o) ((E.Acked k, reply_to x.recorded (E.Acked k)) ∷ l.history)) there (stands-then x.recorded.setup x.recorded l.history (E.Acked k) none l.stands);
+      stands = subst (λ o. StandsFor x.recorded.setup (after_acked x.recorded o) ((E.Acked k, reply_to x.recorded (E.Acked k)) ∷ l.history)) there
+          (stands-then x.recorded.setup x.recorded l.history (E.Acked k) none l.stands);
       outbound = refines-taken x.recorded r x.outbound cs l.outbound e;
       unstarted = l.unstarted;
       filter = l.filter ∙ sym (filter-taken x.recorded r);
@@ -226,14 +252,18 @@ linked-taken sum x k r cs acked l acked_is none there e =
       fragments = l.fragments;
       written = l.written;
       sents = λ n lt. l.sents n lt ∙ sym (ap (λ y. sent y n) (Shapes.shape-acknowledged x.recorded r (max x.recorded.taken r.cumulative)));
-      indexes = (subst (λ y. Indexed y (index_kept x.progress)) (sym (Shapes.shape-acknowledged x.recorded r (max x.recorded.taken r.cumulative))) (indexed-of sum x l)).is;
+      indexes = (subst (λ y. Indexed y (index_kept x.progress)) (sym (Shapes.shape-acknowledged x.recorded r (max x.recorded.taken r.cumulative)))
+          (indexed-of sum x l)).is;
       low = l.low;
       open_streams = λ j d lt. let here : j < length x.open_streams = omega (arith, lt, length-mapped (as_left x.recorded r) x.open_streams) in
-          subst (IsOpenStream (after_acked x.recorded (Some (Sack r)))) (sym (map-at (as_left x.recorded r) j x.open_streams d here)) (stream-left x.recorded r (slice_index_or x.open_streams j d) f.sane.sender (l.open_streams j d here));
+          subst (IsOpenStream (after_acked x.recorded (Some (Sack r)))) (sym (map-at (as_left x.recorded r) j x.open_streams d here))
+          (stream-left x.recorded r (slice_index_or x.open_streams j d) f.sane.sender (l.open_streams j d here));
       apart = subst IsApart (sym (numbers-left x.recorded r x.open_streams)) l.apart;
       encodings = λ j d g there'.
-          let says = says-still x.recorded f (E.Acked k) none j g g there' (subst (λ o. slice_get (after_acked x.recorded o).network j ≡ Some g) (sym there) there') in
-          subst (λ c. IsDatagram sum c (slice_index_or x.datagrams j d)) (sym (subst (λ o. contents_of (after_acked x.recorded o) g ≡ contents_of x.recorded g) there says)) (l.encodings j d g there');
+          let says =
+          says-still x.recorded f (E.Acked k) none j g g there' (subst (λ o. slice_get (after_acked x.recorded o).network j ≡ Some g) (sym there) there') in
+          subst (λ c. IsDatagram sum c (slice_index_or x.datagrams j d))
+          (sym (subst (λ o. contents_of (after_acked x.recorded o) g ≡ contents_of x.recorded g) there says)) (l.encodings j d g there');
     }
 
 streams-left : (w : LinkRecord) (r : Report) (ls : List OpenStream) → map stream_record (map (as_left w r) ls) ≡ map stream_record ls
@@ -246,7 +276,8 @@ record_taken w open_streams slots take_sack = record w { streams = map stream_re
 
 -- a SACK was taken: what is kept then, and the bytes that left
 pub record Taken (sum : List ℕ → ℕ) (x : State) (k : ℕ) (now : List OpenStream) (xs : List Slot) (g : Flight) (top : ℕ) : Type 0 where
-  pub linked : IsLinked sum (record x { recorded = record_taken x.recorded now xs top; open_streams = now; outbound = g.queue; next_tsn = g.next_tsn; acked_tsn = g.acked_tsn })
+  pub linked : IsLinked sum
+      (record x { recorded = record_taken x.recorded now xs top; open_streams = now; outbound = g.queue; next_tsn = g.next_tsn; acked_tsn = g.acked_tsn })
   pub moves : record_taken x.recorded now xs top ≡ after x.recorded (E.Acked k)
   pub bytes : bytes_of x.outbound.inflight.chunks - bytes_of g.queue.inflight.chunks ≡ growth x.recorded (after x.recorded (E.Acked k))
 
@@ -262,7 +293,8 @@ all-from p (x ∷ xs) h = both (p x) (list_all p xs) (h 0 x (omega arith)) (all-
     both : (a b : Bool) → a ≡ true → b ≡ true → (a && b) ≡ true
     both a b e f = rw (e, f) refl
 
-module _ (sum : List ℕ → ℕ) (x : State) (k : ℕ) (r : Report) (l : IsLinked sum x) (none : refusal_of x.recorded (E.Acked k) ≡ None) (there : slice_get x.recorded.network k ≡ Some (Sack r)) where
+module _ (sum : List ℕ → ℕ) (x : State) (k : ℕ) (r : Report) (l : IsLinked sum x) (none : refusal_of x.recorded (E.Acked k) ≡ None)
+    (there : slice_get x.recorded.network k ≡ Some (Sack r)) where
   below-first : (p : ℕ) → p < x.recorded.taken → acknowledged_at x.recorded p ≡ true
   below-first = over sum x (λ w. (p : ℕ) → p < w.taken → acknowledged_at w p ≡ true) l (taken-acknowledged x.recorded.setup l.history l.setup l.stands.run)
 
@@ -271,7 +303,9 @@ module _ (sum : List ℕ → ℕ) (x : State) (k : ℕ) (r : Report) (l : IsLink
 
   -- ## The SACK, told from the last cumulative TSN
 
-  module _ (s : SelectiveAck.Sack) (top : ℕ) (top_is : top ≡ max x.recorded.taken r.cumulative) (cum : s.cumulative_tsn_ack ≡ cumulative_tsn x.recorded top) (covers : (n : ℕ) → 0 < n → is_in_blocks s.gap_ack_blocks n ≡ is_in_blocks (map block_of r.blocks) (n + (top - r.cumulative))) (begin : (i : ℕ) (d : GapAckBlock) → i < length s.gap_ack_blocks → 0 < (slice_index_or s.gap_ack_blocks i d).start) where
+  module _ (s : SelectiveAck.Sack) (top : ℕ) (top_is : top ≡ max x.recorded.taken r.cumulative) (cum : s.cumulative_tsn_ack ≡ cumulative_tsn x.recorded top)
+      (covers : (n : ℕ) → 0 < n → is_in_blocks s.gap_ack_blocks n ≡ is_in_blocks (map block_of r.blocks) (n + (top - r.cumulative)))
+      (begin : (i : ℕ) (d : GapAckBlock) → i < length s.gap_ack_blocks → 0 < (slice_index_or s.gap_ack_blocks i d).start) where
     top-made : top ≤ length x.recorded.slots
     top-made = let t = (facts sum x l).taken in omega (arith, top_is, t, enough)
 
@@ -321,7 +355,8 @@ module _ (sum : List ℕ → ℕ) (x : State) (k : ℕ) (r : Report) (l : IsLink
         new false true c d e = refl
         new false false c d e = cc
 
-        by : and_blocks (and_run (acknowledged_at x.recorded) x.recorded.taken top) top s.gap_ack_blocks j ≡ (acknowledged_at x.recorded j || told top s.gap_ack_blocks j)
+        by : and_blocks (and_run (acknowledged_at x.recorded) x.recorded.taken top) top s.gap_ack_blocks j
+            ≡ (acknowledged_at x.recorded j || told top s.gap_ack_blocks j)
         by = elim (cases_lt j x.recorded.taken) [
           | inl low ↦ old (acknowledged_at x.recorded j) (nat_le x.recorded.taken j) (nat_lt j top) _ (below-first j low)
           | inr high ↦ new (acknowledged_at x.recorded j) (nat_le x.recorded.taken j) (nat_lt j top) _ (le-leb x.recorded.taken j high)
@@ -342,27 +377,35 @@ module _ (sum : List ℕ → ℕ) (x : State) (k : ℕ) (r : Report) (l : IsLink
     flying-count = flying x.recorded x.outbound l.outbound
 
     count-acked : distance x.acked_tsn s.cumulative_tsn_ack ≡ top - x.recorded.taken
-    count-acked = ap (λ a. distance a s.cumulative_tsn_ack) l.acked ∙ ap (distance (cumulative_tsn x.recorded x.recorded.taken)) cum ∙ between x.recorded x.recorded.taken top first-fits (omega (arith, top_is)) top-short
+    count-acked = ap (λ a. distance a s.cumulative_tsn_ack) l.acked ∙ ap (distance (cumulative_tsn x.recorded x.recorded.taken)) cum
+        ∙ between x.recorded x.recorded.taken top first-fits (omega (arith, top_is)) top-short
 
     current : comes_before s.cumulative_tsn_ack x.acked_tsn ≡ false
-    current = ap (comes_before s.cumulative_tsn_ack) l.acked ∙ ap (λ a. comes_before a (cumulative_tsn x.recorded x.recorded.taken)) cum ∙ up-to-date x.recorded x.recorded.taken top first-fits (omega (arith, top_is)) top-short
+    current = ap (comes_before s.cumulative_tsn_ack) l.acked ∙ ap (λ a. comes_before a (cumulative_tsn x.recorded x.recorded.taken)) cum
+        ∙ up-to-date x.recorded x.recorded.taken top first-fits (omega (arith, top_is)) top-short
 
     -- each block reports what is in flight beyond the cumulative TSN
-    block-within : (i : ℕ) (d : GapAckBlock) → i < length s.gap_ack_blocks → is_within (length x.outbound.inflight.chunks - (top - x.recorded.taken)) (get_or s.gap_ack_blocks i d) ≡ true
+    block-within : (i : ℕ) (d : GapAckBlock) → i < length s.gap_ack_blocks
+        → is_within (length x.outbound.inflight.chunks - (top - x.recorded.taken)) (get_or s.gap_ack_blocks i d) ≡ true
     block-within i d lt = by (get_or s.gap_ack_blocks i d) refl (begin i d lt)
       where
-        by : (b : GapAckBlock) → get_or s.gap_ack_blocks i d ≡ b → 0 < b.start → is_within (length x.outbound.inflight.chunks - (top - x.recorded.taken)) b ≡ true
+        by : (b : GapAckBlock) → get_or s.gap_ack_blocks i d ≡ b → 0 < b.start
+            → is_within (length x.outbound.inflight.chunks - (top - x.recorded.taken)) b ≡ true
         by b is pos = elim (cases_lt b.end b.start) [
-          | inl none ↦ ap (λ t. t || (nat_lt 0 b.start && nat_le b.end (length x.outbound.inflight.chunks - (top - x.recorded.taken)))) (lt-ltb b.end b.start none)
+          | inl none ↦
+              ap (λ t. t || (nat_lt 0 b.start && nat_le b.end (length x.outbound.inflight.chunks - (top - x.recorded.taken)))) (lt-ltb b.end b.start none)
           | inr some ↦
-              let last : list_any (in_block top (top + b.end - 1)) s.gap_ack_blocks ≡ true = any-at (in_block top (top + b.end - 1)) s.gap_ack_blocks i d lt (ap (in_block top (top + b.end - 1)) is ∙ holds b pos some) in
+              let last : list_any (in_block top (top + b.end - 1)) s.gap_ack_blocks ≡ true =
+              any-at (in_block top (top + b.end - 1)) s.gap_ack_blocks i d lt (ap (in_block top (top + b.end - 1)) is ∙ holds b pos some) in
               let made = within-blocks (top + b.end - 1) last in
-              second (nat_lt b.end b.start) (nat_lt 0 b.start) (nat_le b.end (length x.outbound.inflight.chunks - (top - x.recorded.taken))) (lt-ltb 0 b.start pos)
+              second (nat_lt b.end b.start) (nat_lt 0 b.start) (nat_le b.end (length x.outbound.inflight.chunks - (top - x.recorded.taken)))
+              (lt-ltb 0 b.start pos)
               (le-leb b.end (length x.outbound.inflight.chunks - (top - x.recorded.taken)) (omega (arith, made, pos, some, flying-count, top_is)))
         ]
           where
             holds : (b : GapAckBlock) → 0 < b.start → b.start ≤ b.end → in_block top (top + b.end - 1) b ≡ true
-            holds b pos some = both (nat_le (top + b.start) (top + b.end - 1 + 1)) (nat_le (top + b.end - 1 + 1) (top + b.end)) (le-leb _ _ (omega (arith, pos, some))) (le-leb _ _ (omega (arith, pos, some)))
+            holds b pos some = both (nat_le (top + b.start) (top + b.end - 1 + 1)) (nat_le (top + b.end - 1 + 1) (top + b.end))
+                (le-leb _ _ (omega (arith, pos, some))) (le-leb _ _ (omega (arith, pos, some)))
               where
                 both : (p q : Bool) → p ≡ true → q ≡ true → (p && q) ≡ true
                 both p q e f = rw (e, f) refl
@@ -375,12 +418,16 @@ module _ (sum : List ℕ → ℕ) (x : State) (k : ℕ) (r : Report) (l : IsLink
     pub not-refused : sack_refusal s (flight_in x) ≡ None
     not-refused =
         let n : ℕ = length x.outbound.inflight.chunks in
-        let enough' : nat_lt (length x.outbound.inflight.chunks) (distance x.acked_tsn s.cumulative_tsn_ack) ≡ false = le-ltb _ _ (omega (arith, count-acked, flying-count, top-made)) in
+        let enough' : nat_lt (length x.outbound.inflight.chunks)
+        (distance x.acked_tsn s.cumulative_tsn_ack) ≡ false = le-ltb _ _ (omega (arith, count-acked, flying-count, top-made)) in
         let each : list_all (is_within (length x.outbound.inflight.chunks - distance x.acked_tsn s.cumulative_tsn_ack)) s.gap_ack_blocks ≡ true =
-        ap (λ c. list_all (is_within (length x.outbound.inflight.chunks - c)) s.gap_ack_blocks) count-acked ∙ all-from (is_within (length x.outbound.inflight.chunks - (top - x.recorded.taken))) s.gap_ack_blocks block-within in
-        decide (comes_before s.cumulative_tsn_ack x.acked_tsn) (nat_lt (length x.outbound.inflight.chunks) (distance x.acked_tsn s.cumulative_tsn_ack)) _ current enough' each
+        ap (λ c. list_all (is_within (length x.outbound.inflight.chunks - c)) s.gap_ack_blocks) count-acked
+        ∙ all-from (is_within (length x.outbound.inflight.chunks - (top - x.recorded.taken))) s.gap_ack_blocks block-within in
+        decide (comes_before s.cumulative_tsn_ack x.acked_tsn)
+        (nat_lt (length x.outbound.inflight.chunks) (distance x.acked_tsn s.cumulative_tsn_ack)) _ current enough' each
       where
-        decide : (a b c : Bool) → a ≡ false → b ≡ false → c ≡ true → (if a then None else (if b then Some InflightQueueTsnPop else (if c then None else Some TsnRequestNotExist))) ≡ None
+        decide : (a b c : Bool) → a ≡ false → b ≡ false → c ≡ true
+            → (if a then None else (if b then Some InflightQueueTsnPop else (if c then None else Some TsnRequestNotExist))) ≡ None
         decide a b c e f g = rw (e, f, g) refl
 
     -- ## What it makes of all
@@ -394,37 +441,52 @@ module _ (sum : List ℕ → ℕ) (x : State) (k : ℕ) (r : Report) (l : IsLink
     told-those : released_by s (flight_in x) ≡ map (released_of (is_whole s (flight_in x))) (filter (reports_anew s) x.outbound.inflight.chunks)
     told-those = ap (λ b. if b then [] else map (released_of (is_whole s (flight_in x))) (filter (reports_anew s) x.outbound.inflight.chunks)) current
 
-    marked : IsInFlight x.recorded (acknowledged_then x.recorded r) x.recorded.taken (length x.recorded.slots - x.recorded.taken) (change_where (reports_anew s) as_acknowledged x.outbound.inflight.chunks)
+    marked : IsInFlight x.recorded (acknowledged_then x.recorded r) x.recorded.taken (length x.recorded.slots - x.recorded.taken)
+        (change_where (reports_anew s) as_acknowledged x.outbound.inflight.chunks)
     marked =
         let f = facts sum x l in
         let few = f.few in
-        in-flight-same x.recorded (λ j. acknowledged_at x.recorded j || told top s.gap_ack_blocks j) (acknowledged_then x.recorded r) x.recorded.taken (length x.recorded.slots - x.recorded.taken) (change_where (reports_anew s) as_acknowledged x.outbound.inflight.chunks) (λ j a b. told-is j)
-        (marked-all x.recorded s top first-fits top-short cum (acknowledged_at x.recorded) x.outbound.inflight.chunks x.recorded.taken (length x.recorded.slots - x.recorded.taken) (let t = f.taken in omega (arith, few, t)) (in-flight-first x.recorded x.outbound l.outbound))
+        in-flight-same x.recorded (λ j. acknowledged_at x.recorded j || told top s.gap_ack_blocks j) (acknowledged_then x.recorded r) x.recorded.taken
+        (length x.recorded.slots - x.recorded.taken) (change_where (reports_anew s) as_acknowledged x.outbound.inflight.chunks) (λ j a b. told-is j)
+        (marked-all x.recorded s top first-fits top-short cum (acknowledged_at x.recorded) x.outbound.inflight.chunks x.recorded.taken
+        (length x.recorded.slots - x.recorded.taken) (let t = f.taken in omega (arith, few, t)) (in-flight-first x.recorded x.outbound l.outbound))
 
-    left : IsInFlight x.recorded (acknowledged_then x.recorded r) (max x.recorded.taken r.cumulative) (length x.recorded.slots - max x.recorded.taken r.cumulative) left-chunks
+    left : IsInFlight x.recorded (acknowledged_then x.recorded r) (max x.recorded.taken r.cumulative)
+        (length x.recorded.slots - max x.recorded.taken r.cumulative) left-chunks
     left =
         let f = facts sum x l in
         let few = f.few in
         let t = f.taken in
         let all : x.recorded.taken + (length x.recorded.slots - x.recorded.taken) ≡ length x.recorded.slots = omega (arith, t) in
         let same : max x.recorded.taken top ≡ max x.recorded.taken r.cumulative = omega (arith, top_is) in
-        subst (λ c. IsInFlight x.recorded (acknowledged_then x.recorded r) (max x.recorded.taken r.cumulative) (length x.recorded.slots - max x.recorded.taken r.cumulative) (past c (change_where (reports_anew s) as_acknowledged x.outbound.inflight.chunks))) (sym cum)
-        (subst (λ m. IsInFlight x.recorded (acknowledged_then x.recorded r) m (length x.recorded.slots - m) (past (cumulative_tsn x.recorded top) (change_where (reports_anew s) as_acknowledged x.outbound.inflight.chunks))) same
-        (subst (λ n. IsInFlight x.recorded (acknowledged_then x.recorded r) (max x.recorded.taken top) (n - max x.recorded.taken top) (past (cumulative_tsn x.recorded top) (change_where (reports_anew s) as_acknowledged x.outbound.inflight.chunks))) all
-        (front-leaves x.recorded s top first-fits top-short cum (acknowledged_then x.recorded r) (change_where (reports_anew s) as_acknowledged x.outbound.inflight.chunks) x.recorded.taken (length x.recorded.slots - x.recorded.taken) (omega (arith, few, t)) marked)))
+        subst (λ c. IsInFlight x.recorded (acknowledged_then x.recorded r) (max x.recorded.taken r.cumulative) (length x.recorded.slots
+        - max x.recorded.taken r.cumulative) (past c (change_where (reports_anew s) as_acknowledged x.outbound.inflight.chunks))) (sym cum)
+        (subst (λ m. IsInFlight x.recorded (acknowledged_then x.recorded r) m (length x.recorded.slots - m)
+        (past (cumulative_tsn x.recorded top) (change_where (reports_anew s) as_acknowledged x.outbound.inflight.chunks))) same
+        (subst (λ n. IsInFlight x.recorded (acknowledged_then x.recorded r) (max x.recorded.taken top) (n - max x.recorded.taken top)
+        (past (cumulative_tsn x.recorded top) (change_where (reports_anew s) as_acknowledged x.outbound.inflight.chunks))) all
+        (front-leaves x.recorded s top first-fits top-short cum (acknowledged_then x.recorded r) (change_where (reports_anew s) as_acknowledged
+        x.outbound.inflight.chunks) x.recorded.taken (length x.recorded.slots - x.recorded.taken) (omega (arith, few, t)) marked)))
 
-    amounts : (j : ℕ) (d : OpenStream) → j < length x.open_streams → slice_index_or (after_releases (map (released_of (is_whole s (flight_in x))) (filter (reports_anew s) x.outbound.inflight.chunks)) x.open_streams) j d ≡ as_left x.recorded r (slice_index_or x.open_streams j d)
+    amounts : (j : ℕ) (d : OpenStream) → j < length x.open_streams
+        → slice_index_or (after_releases (map (released_of (is_whole s (flight_in x))) (filter (reports_anew s) x.outbound.inflight.chunks)) x.open_streams) j d
+        ≡ as_left x.recorded r (slice_index_or x.open_streams j d)
     amounts j d lt =
         let f = facts sum x l in
         let le = f.taken in
         let t : ℕ = (slice_index_or x.open_streams j d).state.stream_identifier in
         let a = acks sum x l in
-        let old = on-unacked x.recorded.setup.first x.recorded a (acknowledged_at x.recorded) t x.outbound.inflight.chunks x.recorded.taken le below-first (in-flight-first x.recorded x.outbound l.outbound) in
-        let new = on-unacked x.recorded.setup.first x.recorded a (acknowledged_then x.recorded r) t (change_where (reports_anew s) as_acknowledged x.outbound.inflight.chunks) x.recorded.taken le (λ p lt. then-below x.recorded r p below-first (omega (arith, lt))) marked in
+        let old = on-unacked x.recorded.setup.first x.recorded a (acknowledged_at x.recorded) t x.outbound.inflight.chunks x.recorded.taken le below-first
+        (in-flight-first x.recorded x.outbound l.outbound) in
+        let new = on-unacked x.recorded.setup.first x.recorded a (acknowledged_then x.recorded r) t (change_where (reports_anew s) as_acknowledged
+        x.outbound.inflight.chunks) x.recorded.taken le (λ p lt. then-below x.recorded r p below-first (omega (arith, lt))) marked in
         let less = told-on (is_whole s (flight_in x)) (reports_anew s) t x.outbound.inflight.chunks in
         let had = (l.open_streams j d lt).amount ∙ amount-is x.recorded t f.sane.sender in
         released-at (map (released_of (is_whole s (flight_in x))) (filter (reports_anew s) x.outbound.inflight.chunks)) x.open_streams j d lt
-        ∙ ap (λ m. with_amount m (slice_index_or x.open_streams j d)) (fewer (slice_index_or x.open_streams j d).state.buffered_amount (released_on t (map (released_of (is_whole s (flight_in x))) (filter (reports_anew s) x.outbound.inflight.chunks))) (on_stream x.recorded t (pending_bytes x.recorded)) (unacked_on x.recorded (acknowledged_at x.recorded) t) (unacked_on x.recorded (acknowledged_then x.recorded r) t) (chunks_on t x.outbound.inflight.chunks) (chunks_on t (change_where (reports_anew s) as_acknowledged x.outbound.inflight.chunks)) had less old new)
+        ∙ ap (λ m. with_amount m (slice_index_or x.open_streams j d)) (fewer (slice_index_or x.open_streams j d).state.buffered_amount
+        (released_on t (map (released_of (is_whole s (flight_in x))) (filter (reports_anew s) x.outbound.inflight.chunks))) (on_stream x.recorded t
+        (pending_bytes x.recorded)) (unacked_on x.recorded (acknowledged_at x.recorded) t) (unacked_on x.recorded (acknowledged_then x.recorded r) t)
+        (chunks_on t x.outbound.inflight.chunks) (chunks_on t (change_where (reports_anew s) as_acknowledged x.outbound.inflight.chunks)) had less old new)
       where
         fewer : (a rel pend u v c d : ℕ) → a ≡ pend + u → rel + d ≡ c → c ≡ u → d ≡ v → a - rel ≡ pend + v
         fewer a rel pend u v c d e f g h = omega (arith, e, f, g, h)
@@ -433,34 +495,49 @@ module _ (sum : List ℕ → ℕ) (x : State) (k : ℕ) (r : Report) (l : IsLink
     bytes-left =
         let f = facts sum x l in
         let sender = f.sane.sender in
-        let first = bytes-unacked x.recorded (acknowledged_at x.recorded) x.outbound.inflight.chunks x.recorded.taken sender f.taken below-first (in-flight-first x.recorded x.outbound l.outbound) in
-        let last = bytes-unacked x.recorded (acknowledged_then x.recorded r) left-chunks (max x.recorded.taken r.cumulative) sender (omega (arith, f.taken, enough)) (λ p lt. then-below x.recorded r p below-first lt) left in
-        ap (λ n. n - bytes_of left-chunks) first ∙ ap (λ n. bytes_but_for x.recorded (acknowledged_at x.recorded) - n) last ∙ sym (growth-acked x.recorded r sender)
+        let first = bytes-unacked x.recorded (acknowledged_at x.recorded) x.outbound.inflight.chunks x.recorded.taken sender f.taken below-first
+        (in-flight-first x.recorded x.outbound l.outbound) in
+        let last = bytes-unacked x.recorded (acknowledged_then x.recorded r) left-chunks (max x.recorded.taken r.cumulative) sender
+        (omega (arith, f.taken, enough)) (λ p lt. then-below x.recorded r p below-first lt) left in
+        ap (λ n. n - bytes_of left-chunks) first ∙ ap (λ n. bytes_but_for x.recorded (acknowledged_at x.recorded) - n) last
+        ∙ sym (growth-acked x.recorded r sender)
 
     then-is : after_acked x.recorded (Some (Sack r)) ≡ after x.recorded (E.Acked k)
     then-is = ap (after_acked x.recorded) (sym there)
 
     pub taken-all : (now : List OpenStream) (xs : List Slot) (g : Flight)
-        → x.recorded.streams ≡ map stream_record x.open_streams → now ≡ after_releases (released_by s (flight_in x)) x.open_streams → g ≡ after_sack s (flight_in x)
-        → IsMarking x.recorded (and_blocks (and_run (acknowledged_at x.recorded) x.recorded.taken top) top s.gap_ack_blocks) xs
-        → Taken sum x k now xs g top
+        → x.recorded.streams ≡ map stream_record x.open_streams → now ≡ after_releases (released_by s (flight_in x)) x.open_streams
+        → g ≡ after_sack s (flight_in x)
+        → IsMarking x.recorded (and_blocks (and_run (acknowledged_at x.recorded) x.recorded.taken top) top s.gap_ack_blocks) xs → Taken sum x k now xs g top
     taken-all now xs g streams items moved marks =
-        let items' : now ≡ after_releases (map (released_of (is_whole s (flight_in x))) (filter (reports_anew s) x.outbound.inflight.chunks)) x.open_streams = items ∙ ap (λ t. after_releases t x.open_streams) told-those in
+        let items' : now ≡ after_releases (map (released_of (is_whole s (flight_in x))) (filter (reports_anew s) x.outbound.inflight.chunks)) x.open_streams =
+        items ∙ ap (λ t. after_releases t x.open_streams) told-those in
         let ls : now ≡ map (as_left x.recorded r) x.open_streams =
-        items' ∙ streams-then x.recorded r x.open_streams (after_releases (map (released_of (is_whole s (flight_in x))) (filter (reports_anew s) x.outbound.inflight.chunks)) x.open_streams) (length-released (map (released_of (is_whole s (flight_in x))) (filter (reports_anew s) x.outbound.inflight.chunks)) x.open_streams) amounts in
-        let slots = slots-then x.recorded r xs (marking-same x.recorded (and_blocks (and_run (acknowledged_at x.recorded) x.recorded.taken top) top s.gap_ack_blocks) (acknowledged_then x.recorded r) xs loops-told marks) in
+        items' ∙ streams-then x.recorded r x.open_streams
+        (after_releases (map (released_of (is_whole s (flight_in x))) (filter (reports_anew s) x.outbound.inflight.chunks)) x.open_streams)
+        (length-released (map (released_of (is_whole s (flight_in x))) (filter (reports_anew s) x.outbound.inflight.chunks)) x.open_streams) amounts in
+        let slots = slots-then x.recorded r xs (marking-same x.recorded (and_blocks
+        (and_run (acknowledged_at x.recorded) x.recorded.taken top) top s.gap_ack_blocks) (acknowledged_then x.recorded r) xs loops-told marks) in
         let recorded : record_taken x.recorded now xs top ≡ after_acked x.recorded (Some (Sack r)) =
         ap (λ ys. record_taken x.recorded ys xs top) ls
-        ∙ ap (λ rs. let v : LinkRecord = record x.recorded { streams = rs; slots = map slot_record xs; taken = top } in v) (streams-left x.recorded r x.open_streams ∙ sym streams)
-        ∙ ap (λ ys. let v : LinkRecord = record x.recorded { slots = ys; taken = top } in v) slots
+        ∙ ap (λ rs. let v : LinkRecord = record x.recorded { streams = rs; slots = map slot_record xs; taken = top } in v)
+        (streams-left x.recorded r x.open_streams ∙ sym streams) ∙ ap (λ ys. let v : LinkRecord = record x.recorded { slots = ys; taken = top } in v) slots
         ∙ ap (λ t. let v : LinkRecord = record (after_acked x.recorded (Some (Sack r))) { taken = t } in v) top_is in
         let complete : g ≡ take_sack s (flight_in x) = moved ∙ after-is in
         record {
           linked =
-              subst (λ u. IsLinked sum (record x { recorded = u; open_streams = now; outbound = g.queue; next_tsn = g.next_tsn; acked_tsn = g.acked_tsn })) (sym recorded)
-              (subst (λ (h : Flight). IsLinked sum (record x { recorded = after_acked x.recorded (Some (Sack r)); open_streams = now; outbound = h.queue; next_tsn = h.next_tsn; acked_tsn = h.acked_tsn })) (sym complete)
+              subst (λ u. IsLinked sum (record x { recorded = u; open_streams = now; outbound = g.queue; next_tsn = g.next_tsn; acked_tsn = g.acked_tsn }))
+              (sym recorded)
+              (subst (λ (h : Flight). IsLinked sum (record x {
+                recorded = after_acked x.recorded (Some (Sack r));
+                open_streams = now;
+                outbound = h.queue;
+                next_tsn = h.next_tsn;
+                acked_tsn = h.acked_tsn;
+              })) (sym complete)
               (subst (λ ys. IsLinked sum (taken_state x r ys (with_inflight x.outbound left-chunks) s.cumulative_tsn_ack)) (sym ls)
               (linked-taken sum x k r left-chunks s.cumulative_tsn_ack l (cum ∙ ap (cumulative_tsn x.recorded) top_is) none there left)));
           moves = recorded ∙ then-is;
-          bytes = ap (λ (h : Flight). bytes_of x.outbound.inflight.chunks - bytes_of h.queue.inflight.chunks) complete ∙ bytes-left ∙ ap (growth x.recorded) then-is;
+          bytes = ap (λ (h : Flight). bytes_of x.outbound.inflight.chunks - bytes_of h.queue.inflight.chunks) complete ∙ bytes-left
+              ∙ ap (growth x.recorded) then-is;
         }

@@ -29,23 +29,29 @@ module _ (ps : List ℕ) (bs : List Arrival) (i : ℕ) (inside : i < length ps) 
   answers-left a e = drop_more bs i (New false) (omega (arith, inside, count)) ∙ ap (λ b. b ∷ drop (i + 1) bs) e
 
   module _ (complete : Bool) (e : slice_index_or bs i (New false) ≡ New complete) where
-    pub slots-first : (ss : List Slot) → arrived_in (drop (i + 1) ps) (drop (i + 1) bs) (change_at with_arrival (slice_index_or ps i 0) ss) ≡ arrived_in (drop i ps) (drop i bs) ss
-    slots-first ss = sym (ap (λ qs. arrived_in qs (drop i bs) ss) places-left ∙ ap (λ cs. arrived_in (slice_index_or ps i 0 ∷ drop (i + 1) ps) cs ss) (answers-left (New complete) e))
+    pub slots-first : (ss : List Slot)
+        → arrived_in (drop (i + 1) ps) (drop (i + 1) bs) (change_at with_arrival (slice_index_or ps i 0) ss) ≡ arrived_in (drop i ps) (drop i bs) ss
+    slots-first ss = sym (ap (λ qs. arrived_in qs (drop i bs) ss) places-left
+        ∙ ap (λ cs. arrived_in (slice_index_or ps i 0 ∷ drop (i + 1) ps) cs ss) (answers-left (New complete) e))
 
     pub repeated-first : repeated_of (drop (i + 1) ps) (drop (i + 1) bs) ≡ repeated_of (drop i ps) (drop i bs)
-    repeated-first = sym (ap (λ qs. repeated_of qs (drop i bs)) places-left ∙ ap (repeated_of (slice_index_or ps i 0 ∷ drop (i + 1) ps)) (answers-left (New complete) e))
+    repeated-first =
+        sym (ap (λ qs. repeated_of qs (drop i bs)) places-left ∙ ap (repeated_of (slice_index_or ps i 0 ∷ drop (i + 1) ps)) (answers-left (New complete) e))
 
     pub any-first : list_any is_first (drop i bs) ≡ true
     any-first = ap (list_any is_first) (answers-left (New complete) e)
 
   module _ (e : slice_index_or bs i (New false) ≡ Repeat) where
     pub slots-again : (ss : List Slot) → arrived_in (drop (i + 1) ps) (drop (i + 1) bs) ss ≡ arrived_in (drop i ps) (drop i bs) ss
-    slots-again ss = sym (ap (λ qs. arrived_in qs (drop i bs) ss) places-left ∙ ap (λ cs. arrived_in (slice_index_or ps i 0 ∷ drop (i + 1) ps) cs ss) (answers-left Repeat e))
+    slots-again ss = sym (ap (λ qs. arrived_in qs (drop i bs) ss) places-left
+        ∙ ap (λ cs. arrived_in (slice_index_or ps i 0 ∷ drop (i + 1) ps) cs ss) (answers-left Repeat e))
 
-    pub repeated-again : (ds : List ℕ) → (ds ++ slice_index_or ps i 0 ∷ []) ++ repeated_of (drop (i + 1) ps) (drop (i + 1) bs) ≡ ds ++ repeated_of (drop i ps) (drop i bs)
+    pub repeated-again : (ds : List ℕ)
+        → (ds ++ slice_index_or ps i 0 ∷ []) ++ repeated_of (drop (i + 1) ps) (drop (i + 1) bs) ≡ ds ++ repeated_of (drop i ps) (drop i bs)
     repeated-again ds =
         more ds (slice_index_or ps i 0) (repeated_of (drop (i + 1) ps) (drop (i + 1) bs))
-        ∙ ap (λ rs. ds ++ rs) (sym (ap (λ qs. repeated_of qs (drop i bs)) places-left ∙ ap (repeated_of (slice_index_or ps i 0 ∷ drop (i + 1) ps)) (answers-left Repeat e)))
+        ∙ ap (λ rs. ds ++ rs)
+        (sym (ap (λ qs. repeated_of qs (drop i bs)) places-left ∙ ap (repeated_of (slice_index_or ps i 0 ∷ drop (i + 1) ps)) (answers-left Repeat e)))
 
     pub any-again : list_any is_first (drop (i + 1) bs) ≡ list_any is_first (drop i bs)
     any-again = sym (ap (list_any is_first) (answers-left Repeat e))

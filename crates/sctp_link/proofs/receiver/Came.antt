@@ -70,7 +70,8 @@ module _ (w : LinkRecord) (f : Filter) (made : w.skipped ≤ length w.slots) (fe
   come-is p lt =
       let t = tsn_of w p in
       let queue : Window.is_new (map mark f.beyond) t f.cumulative_tsn ≡ not (has_come t f) =
-      Marks.new-is (map mark f.beyond) t f.cumulative_tsn ∙ ap (λ ts. not (at_or_before t f.cumulative_tsn || list_any (λ u. u == t) ts)) (tsns-mark f.beyond) in
+      Marks.new-is (map mark f.beyond) t f.cumulative_tsn
+      ∙ ap (λ ts. not (at_or_before t f.cumulative_tsn || list_any (λ u. u == t) ts)) (tsns-mark f.beyond) in
       turned (has_come t f) (is_new w p)
       (sym queue ∙ ap (Window.is_new (map mark f.beyond) t) cumulative-is ∙ new-is w (map mark f.beyond) made few (tsns-beyond w f is) p lt)
 
@@ -81,14 +82,16 @@ module _ (w : LinkRecord) (f : Filter) (made : w.skipped ≤ length w.slots) (fe
   pub near-is : (p : ℕ) → p < length w.slots → is_new w p ≡ true → is_opposite (tsn_of w p) f ≡ false
   near-is p lt new =
       let d = far p lt (past-front w p new) in
-      fails (distance f.cumulative_tsn (tsn_of w p) == 2 ^ 31) (λ h. let e : distance f.cumulative_tsn (tsn_of w p) ≡ 2 ^ 31 = grind (arith, nat_tests) in omega (arith, d, e, lt, few))
+      fails (distance f.cumulative_tsn (tsn_of w p) == 2 ^ 31)
+      (λ h. let e : distance f.cumulative_tsn (tsn_of w p) ≡ 2 ^ 31 = grind (arith, nat_tests) in omega (arith, d, e, lt, few))
 
   below : cumulative w < 2 ^ 31
   below = omega (arith, few, cumulative-le w made)
 
   -- no slot lies half the circle from the cumulative TSN
   pub never-opposite : (p : ℕ) → p < length w.slots → is_opposite (tsn_of w p) f ≡ false
-  never-opposite p lt = fails (distance f.cumulative_tsn (tsn_of w p) == 2 ^ 31) (λ h. let e : distance f.cumulative_tsn (tsn_of w p) ≡ 2 ^ 31 = grind (arith, nat_tests) in by e (cases_lt p (cumulative w)))
+  never-opposite p lt = fails (distance f.cumulative_tsn (tsn_of w p) == 2 ^ 31)
+      (λ h. let e : distance f.cumulative_tsn (tsn_of w p) ≡ 2 ^ 31 = grind (arith, nat_tests) in by e (cases_lt p (cumulative w)))
     where
       by : distance f.cumulative_tsn (tsn_of w p) ≡ 2 ^ 31 → (p < cumulative w) ⊎ (cumulative w ≤ p) → ⊥
       by e (inl b) =
@@ -101,15 +104,18 @@ module _ (w : LinkRecord) (f : Filter) (made : w.skipped ≤ length w.slots) (fe
   unfolding at_or_before
   passed-is p lt = ap (λ c. nat_lt (distance (tsn_of w p) c) (2 ^ 31)) cumulative-is ∙ by (cases_lt p (cumulative w))
     where
-      by : (p < cumulative w) ⊎ (cumulative w ≤ p) → nat_lt (distance (tsn_of w p) (tsn_before w.setup.first (cumulative w))) (2 ^ 31) ≡ not (nat_le (cumulative w) p)
+      by : (p < cumulative w) ⊎ (cumulative w ≤ p)
+          → nat_lt (distance (tsn_of w p) (tsn_before w.setup.first (cumulative w))) (2 ^ 31) ≡ not (nat_le (cumulative w) p)
       by (inl b) =
           let d = back-before w.setup.first (cumulative w) p b below in
-          let on : nat_lt (distance (tsn_of w p) (tsn_before w.setup.first (cumulative w))) (2 ^ 31) ≡ true = (let t : distance (tsn_of w p) (tsn_before w.setup.first (cumulative w)) < 2 ^ 31 = omega (arith, d, below) in grind (arith, nat_tests)) in
+          let on : nat_lt (distance (tsn_of w p) (tsn_before w.setup.first (cumulative w))) (2 ^ 31) ≡ true =
+          (let t : distance (tsn_of w p) (tsn_before w.setup.first (cumulative w)) < 2 ^ 31 = omega (arith, d, below) in grind (arith, nat_tests)) in
           let off : nat_le (cumulative w) p ≡ false = grind (arith, nat_tests) in
           on ∙ ap not (sym off)
       by (inr le) =
           let d = back-past w.setup.first (cumulative w) p le (omega (arith, lt, few)) in
-          let off : nat_lt (distance (tsn_of w p) (tsn_before w.setup.first (cumulative w))) (2 ^ 31) ≡ false = (let t : 2 ^ 31 ≤ distance (tsn_of w p) (tsn_before w.setup.first (cumulative w)) = omega (arith, d, lt, few) in grind (arith, nat_tests)) in
+          let off : nat_lt (distance (tsn_of w p) (tsn_before w.setup.first (cumulative w))) (2 ^ 31) ≡ false =
+          (let t : 2 ^ 31 ≤ distance (tsn_of w p) (tsn_before w.setup.first (cumulative w)) = omega (arith, d, lt, few) in grind (arith, nat_tests)) in
           let on : nat_le (cumulative w) p ≡ true = grind (arith, nat_tests) in
           off ∙ ap not (sym on)
 
@@ -131,7 +137,8 @@ abbrev seen-with : List ℕ → Seen → FilterRecord
 seen-with dups s = record { cumulative = s.cum; held = s.held; duplicates = dups }
 
 -- a slot comes for the first time
-pub filter-new : (w : LinkRecord) (p : ℕ) (f then' : Filter) → Valid w → p < length w.slots → is_new w p ≡ true → filter_shown f ≡ filter_of w → then' ≡ with_tsn (tsn_of w p) f → filter_shown then' ≡ filter_of (receive_slot w p)
+pub filter-new : (w : LinkRecord) (p : ℕ) (f then' : Filter) → Valid w → p < length w.slots → is_new w p ≡ true → filter_shown f ≡ filter_of w
+    → then' ≡ with_tsn (tsn_of w p) f → filter_shown then' ≡ filter_of (receive_slot w p)
 filter-new w p f then' valid made new is e =
     ap filter_shown e
     ∙ ap (came (tsn_of w p)) is
@@ -139,7 +146,8 @@ filter-new w p f then' valid made new is e =
     ∙ ap (λ d. seen-with d (seen_of (receive_slot w p))) (sym (SlotArrives.duplicates-slot w p new))
 
 -- it comes again
-pub filter-again : (w : LinkRecord) (p : ℕ) (f then' : Filter) → is_new w p ≡ false → filter_shown f ≡ filter_of w → then' ≡ with_duplicate (tsn_of w p) f → filter_shown then' ≡ filter_of (receive_slot w p)
+pub filter-again : (w : LinkRecord) (p : ℕ) (f then' : Filter) → is_new w p ≡ false → filter_shown f ≡ filter_of w → then' ≡ with_duplicate (tsn_of w p) f
+    → filter_shown then' ≡ filter_of (receive_slot w p)
 filter-again w p f then' old is e =
     ap filter_shown e
     ∙ ap {B = FilterRecord} (λ (r : FilterRecord). record r { duplicates = r.duplicates ++ tsn_of w p ∷ [] }) is
@@ -147,7 +155,8 @@ filter-again w p f then' old is e =
 
 -- all up to a TSN counts as come
 pub filter-gone : (w v : LinkRecord) (tsn : ℕ) (f then' : Filter) → filter_shown f ≡ filter_of w → then' ≡ skipped_to tsn f
-    → seen_of v ≡ advance_over tsn (filter (λ t. not (at_or_before t tsn)) (seen_of w).held) → (filter_of v).duplicates ≡ (filter_of w).duplicates → filter_shown then' ≡ filter_of v
+    → seen_of v ≡ advance_over tsn (filter (λ t. not (at_or_before t tsn)) (seen_of w).held) → (filter_of v).duplicates ≡ (filter_of w).duplicates
+    → filter_shown then' ≡ filter_of v
 filter-gone w v tsn f then' is e seen same =
     ap filter_shown e
     ∙ ap (gone tsn) is

@@ -40,15 +40,20 @@ said-fresh w [] = refl
 said-fresh w (p ∷ ps) = ap (λ cs. chunk_at w p ∷ cs) (said-fresh w ps)
 
 -- the bytes of a datagram of slots read back
-pub says-data : (sum : List ℕ → ℕ) (x : State) (k : ℕ) (ps : List ℕ) (ds : List Datagram) (y : Datagram) → IsLinked sum x → x.recorded.network ≡ map datagram_record ds → x.datagrams ≡ map (λ d. d.bytes) ds → slice_get x.recorded.network k ≡ Some (Data ps) → y ≡ slice_index_or ds k y → ReadsPacket sum y.bytes (packet_with (map data_chunk (said x.recorded ps)))
+pub says-data : (sum : List ℕ → ℕ) (x : State) (k : ℕ) (ps : List ℕ) (ds : List Datagram) (y : Datagram) → IsLinked sum x
+    → x.recorded.network ≡ map datagram_record ds → x.datagrams ≡ map (λ d. d.bytes) ds → slice_get x.recorded.network k ≡ Some (Data ps)
+    → y ≡ slice_index_or ds k y → ReadsPacket sum y.bytes (packet_with (map data_chunk (said x.recorded ps)))
 says-data sum x k ps ds y l network same e is =
     let lt : k < length ds = omega (arith, made-at x.recorded.network k (Data ps) e, ap length network, length-mapped datagram_record ds) in
     let t = l.encodings k y.bytes (Data ps) e in
-    let bytes : slice_index_or x.datagrams k y.bytes ≡ y.bytes = ap (λ bs. slice_index_or bs k y.bytes) same ∙ raw-at (λ d. d.bytes) ds k y.bytes y lt ∙ ap (λ (d : Datagram). d.bytes) (sym is) in
-    subst (λ b. ReadsPacket sum b (packet_with (map data_chunk (said x.recorded ps)))) bytes (subst (λ ws. ReadsPacket sum (slice_index_or x.datagrams k y.bytes) (packet_with ws)) (said-wire x.recorded ps) t.reads)
+    let bytes : slice_index_or x.datagrams k y.bytes ≡ y.bytes = ap (λ bs. slice_index_or bs k y.bytes) same ∙ raw-at (λ d. d.bytes) ds k y.bytes y lt
+    ∙ ap (λ (d : Datagram). d.bytes) (sym is) in
+    subst (λ b. ReadsPacket sum b (packet_with (map data_chunk (said x.recorded ps)))) bytes
+    (subst (λ ws. ReadsPacket sum (slice_index_or x.datagrams k y.bytes) (packet_with ws)) (said-wire x.recorded ps) t.reads)
 
 -- the places that a link keeps of a datagram
-pub places-kept : (ds : List Datagram) (k : ℕ) (y : Datagram) (told places : List ℕ) → slice_get (map datagram_record ds) k ≡ Some (W.Data places) → y ≡ slice_index_or ds k y → kind_record y.kind ≡ W.Data told → told ≡ places
+pub places-kept : (ds : List Datagram) (k : ℕ) (y : Datagram) (told places : List ℕ) → slice_get (map datagram_record ds) k ≡ Some (W.Data places)
+    → y ≡ slice_index_or ds k y → kind_record y.kind ≡ W.Data told → told ≡ places
 places-kept [] k y told places e is kind = cc
 places-kept (d ∷ ds) zero y told places e is kind = inner (sym kind ∙ ap datagram_record is ∙ found (datagram_record d) e)
   where
@@ -60,7 +65,8 @@ places-kept (d ∷ ds) zero y told places e is kind = inner (sym kind ∙ ap dat
 places-kept (d ∷ ds) (suc k) y told places e is kind = places-kept ds k y told places e is kind
 
 -- a kind whose record is of slots is of slots
-pub kind-data : (ds : List Datagram) (k : ℕ) (y : Datagram) (places : List ℕ) → slice_get (map datagram_record ds) k ≡ Some (W.Data places) → y ≡ slice_index_or ds k y → kind_record y.kind ≡ W.Data places
+pub kind-data : (ds : List Datagram) (k : ℕ) (y : Datagram) (places : List ℕ) → slice_get (map datagram_record ds) k ≡ Some (W.Data places)
+    → y ≡ slice_index_or ds k y → kind_record y.kind ≡ W.Data places
 kind-data [] k y places e is = cc
 kind-data (d ∷ ds) zero y places e is = ap datagram_record is ∙ found (datagram_record d) e
   where
@@ -77,12 +83,14 @@ never-other (K.Sack cumulative credit blocks duplicates) places other e = cc
 -- what is not refused is there, and no SACK
 pub never-sack : (w : LinkRecord) (k : ℕ) (r : Report) → slice_get w.network k ≡ Some (Sack r) → refusal_of w (E.Arrive k) ≡ None → ⊥
 never-sack w k r e none =
-    let is : unless (is_for_receiver (Some (Sack r))) NoSuchDatagram (unless (arrival_fits w (Some (Sack r))) SpanTooWide None) ≡ None = ap (λ o. unless (is_for_receiver o) NoSuchDatagram (unless (arrival_fits w o) SpanTooWide None)) (sym e) ∙ none in
+    let is : unless (is_for_receiver (Some (Sack r))) NoSuchDatagram (unless (arrival_fits w (Some (Sack r))) SpanTooWide None) ≡ None =
+    ap (λ o. unless (is_for_receiver o) NoSuchDatagram (unless (arrival_fits w o) SpanTooWide None)) (sym e) ∙ none in
     cc
 
 pub there-is : (w : LinkRecord) (k : ℕ) (ds : List Datagram) → w.network ≡ map datagram_record ds → refusal_of w (E.Arrive k) ≡ None → k < length ds
 there-is w k ds same none = step (slice_get w.network k) refl none
   where
-    step : (o : Option W.Datagram) → slice_get w.network k ≡ o → unless (is_for_receiver o) NoSuchDatagram (unless (arrival_fits w o) SpanTooWide None) ≡ None → k < length ds
+    step : (o : Option W.Datagram) → slice_get w.network k ≡ o → unless (is_for_receiver o) NoSuchDatagram (unless (arrival_fits w o) SpanTooWide None) ≡ None
+        → k < length ds
     step None e h = cc
     step (Some g) e h = omega (arith, slice_get_within w.network k g e, ap length same, length-mapped datagram_record ds)

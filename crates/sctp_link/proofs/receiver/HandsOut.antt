@@ -1,5 +1,6 @@
 -- What a read makes of a link.
-use Rattle.std.proofs.Common.{◌≡◌, ℕ, zero, suc, ◌+◌, ◌<◌, Bool, true, false, List, [], ◌∷◌, length, map, drop, Some, None, refl, ap, sym, ◌∙◌, inl, inr, arith, length-append, ◌-◌, ◌^◌, ◌%◌}
+use Rattle.std.proofs.Common.{◌≡◌, ℕ, zero, suc, ◌+◌, ◌<◌, Bool, true, false, List, [], ◌∷◌, length, map, drop, Some, None, refl, ap, sym, ◌∙◌, inl, inr, arith}
+use Rattle.std.proofs.Common.{length-append, ◌-◌, ◌^◌, ◌%◌}
 use Rattle.std.specs.Prelude.{◌⊎◌, ◌==◌, ◌&&◌, is_some, if◌then◌else◌, find, unwrap_or, slice_index_or, slice_set, Option, option_map}
 use Rattle.std.specs.List.{list_any}
 use Rattle.std.proofs.Math.Path.{subst}
@@ -70,7 +71,8 @@ set-set (x ∷ xs) zero a b = refl
 set-set (x ∷ xs) (suc i) a b = ap (λ ys. x ∷ ys) (set-set xs i a b)
 
 -- a message read, counted as the record counts it
-counted-read : (ppi : PayloadProtocolIdentifier) (len : ℕ) (w : LinkRecord) (t : ℕ) → with_received (counted_as ppi len) (stats_of (counters_on w t)) ≡ stats_of (received_more (counted_as ppi len) (counters_on w t))
+counted-read : (ppi : PayloadProtocolIdentifier) (len : ℕ) (w : LinkRecord) (t : ℕ)
+    → with_received (counted_as ppi len) (stats_of (counters_on w t)) ≡ stats_of (received_more (counted_as ppi len) (counters_on w t))
 counted-read Dcep len w t = refl
 counted-read String len w t = refl
 counted-read Binary len w t = refl
@@ -92,7 +94,8 @@ read-both (Some n) a b = refl
 
 joined-length : (cs : List ChunkPayloadData) → length (joined_bytes cs) ≡ bytes_of cs
 joined-length [] = refl
-joined-length (c ∷ cs) = let more = sum_by-cons (λ (x : ChunkPayloadData). length x.user_data) c cs in omega (arith, length-append c.user_data (joined_bytes cs), joined-length cs, more)
+joined-length (c ∷ cs) = let more = sum_by-cons (λ (x : ChunkPayloadData). length x.user_data) c cs in
+    omega (arith, length-append c.user_data (joined_bytes cs), joined-length cs, more)
 
 -- what is handed out has the payload type of its message
 pub ppi-handed : (w : LinkRecord) (n : ℕ) → (handed_out w n).ppi ≡ (message_at w n).ppi
@@ -111,7 +114,8 @@ pub record HandsOut (w : LinkRecord) (s n : ℕ) : Type 0 where
   pub other : (t : ℕ) → (t ≡ s → ⊥) → next_of (after_reading w s) t ≡ next_of w t
   pub complete : (if (message_at w n).ordered then (stream_of w s).complete else drop 1 (stream_of w s).complete) ≡ drop 1 (stream_of w s).complete
 
-module _ (sum : List ℕ → ℕ) (x : State) (l : IsLinked sum x) (s at : ℕ) (d : OpenStream) (streams_are : x.recorded.streams ≡ map stream_record x.open_streams) (lt : at < length x.open_streams) (found : (d : OpenStream) → find (has_number s) x.open_streams ≡ Some (slice_index_or x.open_streams at d)) where
+module _ (sum : List ℕ → ℕ) (x : State) (l : IsLinked sum x) (s at : ℕ) (d : OpenStream) (streams_are : x.recorded.streams ≡ map stream_record x.open_streams)
+    (lt : at < length x.open_streams) (found : (d : OpenStream) → find (has_number s) x.open_streams ≡ Some (slice_index_or x.open_streams at d)) where
   abbrev w : LinkRecord
   w = x.recorded
 
@@ -158,12 +162,17 @@ module _ (sum : List ℕ → ℕ) (x : State) (l : IsLinked sum x) (s at : ℕ) 
   filter-stays = filter-read w s (next_read w s)
 
   -- the stream that is read, and the others
-  stream-read : (z : OpenStream) → z.state.stream_identifier ≡ y.state.stream_identifier → z.inbound.queue ≡ state_read y.inbound.queue → z.state.max_payload_size ≡ y.state.max_payload_size → z.state.sequence_number ≡ y.state.sequence_number → z.state.buffered_amount ≡ y.state.buffered_amount → z.ordered ≡ y.ordered → z.begun ≡ y.begun → z.next ≡ next_of v s → stats_in z ≡ stats_of (counters_on v s) → IsOpenStream v z
+  stream-read : (z : OpenStream) → z.state.stream_identifier ≡ y.state.stream_identifier → z.inbound.queue ≡ state_read y.inbound.queue
+      → z.state.max_payload_size ≡ y.state.max_payload_size → z.state.sequence_number ≡ y.state.sequence_number → z.state.buffered_amount
+      ≡ y.state.buffered_amount → z.ordered ≡ y.ordered → z.begun ≡ y.begun → z.next ≡ next_of v s → stats_in z ≡ stats_of (counters_on v s) → IsOpenStream v z
   stream-read z id queue size number bytes ordered begun next stats =
-      stream-then sum x l (E.Read s) none frame refl y z (l.open_streams at d lt) id (ap (λ q. q.held) queue ∙ rest ∙ ap (reassembly_of v) (sym (id-at d))) (ap (λ q. q.si) queue) (ap (λ q. q.max_message_size) queue) size ordered number begun
+      stream-then sum x l (E.Read s) none frame refl y z (l.open_streams at d lt) id (ap (λ q. q.held) queue ∙ rest ∙ ap (reassembly_of v) (sym (id-at d)))
+      (ap (λ q. q.si) queue) (ap (λ q. q.max_message_size) queue) size ordered number begun
       (next ∙ ap (next_of v) (sym (id-at d))) bytes (stats ∙ ap (λ t. stats_of (counters_on v t)) (sym (id-at d)))
 
-  each-read : (z : OpenStream) → IsOpenStream v z → ((t : ℕ) → (t ≡ s → ⊥) → next_of v t ≡ next_of w t) → ((t : ℕ) → (t ≡ s → ⊥) → counters_on v t ≡ counters_on w t) → (j : ℕ) (c : OpenStream) → j < length (slice_set x.open_streams at z) → IsOpenStream v (slice_index_or (slice_set x.open_streams at z) j c)
+  each-read : (z : OpenStream) → IsOpenStream v z → ((t : ℕ) → (t ≡ s → ⊥) → next_of v t ≡ next_of w t)
+      → ((t : ℕ) → (t ≡ s → ⊥) → counters_on v t ≡ counters_on w t) → (j : ℕ) (c : OpenStream) → j < length (slice_set x.open_streams at z)
+      → IsOpenStream v (slice_index_or (slice_set x.open_streams at z) j c)
   each-read z new next counters j c less =
       let inside : j < length x.open_streams = omega (arith, less, length-set x.open_streams at z) in
       each-set (IsOpenStream v) x.open_streams at j z c lt new (λ ne. other inside ne)
@@ -174,7 +183,8 @@ module _ (sum : List ℕ → ℕ) (x : State) (l : IsLinked sum x) (s at : ℕ) 
           let i = l.open_streams j c inside in
           let t = slice_index_or x.open_streams j c in
           let off : t.state.stream_identifier ≡ s → ⊥ = λ h. differ x.open_streams j at c streams-apart inside lt ne (h ∙ sym (id-at c)) in
-          stream-then sum x l (E.Read s) none frame refl t t i refl (i.held ∙ sym (NextRead.read-others w s r f.valid.valid f.valid.unassembled span open' t.state.stream_identifier off)) refl refl refl refl refl refl
+          stream-then sum x l (E.Read s) none frame refl t t i refl (i.held
+          ∙ sym (NextRead.read-others w s r f.valid.valid f.valid.unassembled span open' t.state.stream_identifier off)) refl refl refl refl refl refl
           (i.next ∙ sym (next t.state.stream_identifier off)) refl (i.stats ∙ ap stats_of (sym (counters t.state.stream_identifier off)))
 
   -- the streams once it is read, and once that is recorded
@@ -184,11 +194,13 @@ module _ (sum : List ℕ → ℕ) (x : State) (l : IsLinked sum x) (s at : ℕ) 
   read-once : change_where (has_number s) (on_inbound stream_read) x.open_streams ≡ slice_set x.open_streams at taken
   read-once = sym (changed-found s x.open_streams l.apart (on_inbound stream_read) at d lt (id-at d))
 
-  read-twice : (ordered : Bool) (index : ℕ) → change_where (has_number s) (read_recorded ordered index) (change_where (has_number s) (on_inbound stream_read) x.open_streams) ≡ slice_set x.open_streams at (read_recorded ordered index taken)
+  read-twice : (ordered : Bool) (index : ℕ) → change_where (has_number s) (read_recorded ordered index)
+      (change_where (has_number s) (on_inbound stream_read) x.open_streams) ≡ slice_set x.open_streams at (read_recorded ordered index taken)
   read-twice ordered index =
       let same = get_or-set_same x.open_streams at taken d lt in
       ap (change_where (has_number s) (read_recorded ordered index)) read-once
-      ∙ sym (changed-found s (slice_set x.open_streams at taken) (apart-set x.open_streams at taken d l.apart refl) (read_recorded ordered index) at d (omega (arith, lt, length-set x.open_streams at taken))
+      ∙ sym (changed-found s (slice_set x.open_streams at taken) (apart-set x.open_streams at taken d l.apart refl) (read_recorded ordered index) at d
+      (omega (arith, lt, length-set x.open_streams at taken))
       (ap (λ (t : OpenStream). t.state.stream_identifier) same ∙ id-at d))
       ∙ ap (λ (t : OpenStream). slice_set (slice_set x.open_streams at taken) at (read_recorded ordered index t)) same
       ∙ set-set x.open_streams at taken (read_recorded ordered index taken)
@@ -206,13 +218,18 @@ module _ (sum : List ℕ → ℕ) (x : State) (l : IsLinked sum x) (s at : ℕ) 
     reply-nothing = sym (ap (read_reply w) nothing)
 
     recorded-same : record w { streams = map stream_record (slice_set x.open_streams at taken) } ≡ v
-    recorded-same = ap {B = LinkRecord} (λ rs. record w { streams = rs }) (map-set_same stream_record x.open_streams at taken d refl ∙ sym streams_are) ∙ sym still
+    recorded-same = ap {B = LinkRecord} (λ rs. record w { streams = rs }) (map-set_same stream_record x.open_streams at taken d refl ∙ sym streams_are)
+        ∙ sym still
 
-    linked-same : IsLinked sum (record x { recorded = record w { streams = map stream_record (slice_set x.open_streams at taken) }; open_streams = slice_set x.open_streams at taken })
+    linked-same : IsLinked sum
+        (record x { recorded = record w { streams = map stream_record (slice_set x.open_streams at taken) }; open_streams = slice_set x.open_streams at taken })
     linked-same =
         let i = l.open_streams at d lt in
-        linked-then sum x l (E.Read s) none frame x.progress (slice_set x.open_streams at taken) x.filter (record w { streams = map stream_record (slice_set x.open_streams at taken) }) refl (l.filter ∙ sym filter-stays)
-        (each-read taken (stream-read taken refl refl refl refl refl refl refl (i.next ∙ ap (next_of w) (id-at d) ∙ ap (λ u. next_of u s) (sym still)) (ap (λ o. both_ways y.state.stats (count_read o y.inbound.stats)) e ∙ i.stats ∙ ap (λ t. stats_of (counters_on w t)) (id-at d) ∙ ap stats_of (sym (counters-nothing w s s nothing))))
+        linked-then sum x l (E.Read s) none frame x.progress (slice_set x.open_streams at taken) x.filter
+        (record w { streams = map stream_record (slice_set x.open_streams at taken) }) refl (l.filter ∙ sym filter-stays)
+        (each-read taken (stream-read taken refl refl refl refl refl refl refl (i.next ∙ ap (next_of w) (id-at d)
+        ∙ ap (λ u. next_of u s) (sym still)) (ap (λ o. both_ways y.state.stats (count_read o y.inbound.stats)) e ∙ i.stats
+        ∙ ap (λ t. stats_of (counters_on w t)) (id-at d) ∙ ap stats_of (sym (counters-nothing w s s nothing))))
         (λ t ne. ap (λ u. next_of u t) still) (λ t ne. counters-nothing w s t nothing))
         (apart-set x.open_streams at taken d l.apart refl)
         quiet recorded-same
@@ -220,8 +237,12 @@ module _ (sum : List ℕ → ℕ) (x : State) (l : IsLinked sum x) (s at : ℕ) 
     pub recorded-nothing : record w { streams = map stream_record (change_where (has_number s) (on_inbound stream_read) x.open_streams) } ≡ v
     recorded-nothing = ap {B = LinkRecord} (λ ls. record w { streams = map stream_record ls }) read-once ∙ recorded-same
 
-    pub linked-nothing : IsLinked sum (record x { recorded = record w { streams = map stream_record (change_where (has_number s) (on_inbound stream_read) x.open_streams) }; open_streams = change_where (has_number s) (on_inbound stream_read) x.open_streams })
-    linked-nothing = subst (λ ls. IsLinked sum (record x { recorded = record w { streams = map stream_record ls }; open_streams = ls })) (sym read-once) linked-same
+    pub linked-nothing : IsLinked sum (record x {
+      recorded = record w { streams = map stream_record (change_where (has_number s) (on_inbound stream_read) x.open_streams) };
+      open_streams = change_where (has_number s) (on_inbound stream_read) x.open_streams;
+    })
+    linked-nothing =
+        subst (λ ls. IsLinked sum (record x { recorded = record w { streams = map stream_record ls }; open_streams = ls })) (sym read-once) linked-same
 
   -- ## A message is read
 
@@ -229,10 +250,12 @@ module _ (sum : List ℕ → ℕ) (x : State) (l : IsLinked sum x) (s at : ℕ) 
   hands-complete n o =
       let f = facts sum x l in
       let kind = o.unordered in
-      let any : list_any (λ k. k == n) (stream_of w s).complete ≡ true = ap (list_any (λ k. k == n)) o.complete ∙ or-left (n == n) (list_any (λ k. k == n) o.rest) (same-yes n) in
+      let any : list_any (λ k. k == n) (stream_of w s).complete ≡ true = ap (list_any (λ k. k == n)) o.complete
+      ∙ or-left (n == n) (list_any (λ k. k == n) o.rest) (same-yes n) in
       let waits = f.valid.unassembled.waits s n any in
       record {
-        begins = subst (λ (c : ChunkSet). Begins w n c.chunks) (sym (ap (λ b. if b then set_of w n else complete_set_of w n) kind)) (complete-begins w s n f.valid.valid f.valid.unassembled f.setup.first any);
+        begins = subst (λ (c : ChunkSet). Begins w n c.chunks) (sym (ap (λ b. if b then set_of w n else complete_set_of w n) kind))
+            (complete-begins w s n f.valid.valid f.valid.unassembled f.setup.first any);
         made = waits.made;
         stream = waits.stream;
         next = o.next s ∙ sym (ap (λ b. if b && (index_of w n == next_of w s) then index_of w n + 1 else next_of w s) kind);
@@ -246,10 +269,12 @@ module _ (sum : List ℕ → ℕ) (x : State) (l : IsLinked sum x) (s at : ℕ) 
       let kind = Line.on-ordered w s n o.due.on in
       let held = front-held w s (held_on w s) n o.rest (front-kept (is_held w s) 0 (length w.messages)) o.front in
       record {
-        begins = subst (λ (c : ChunkSet). Begins w n c.chunks) (sym (ap (λ b. if b then set_of w n else complete_set_of w n) kind)) (set-begins w s n f.valid.valid f.setup.first held);
+        begins = subst (λ (c : ChunkSet). Begins w n c.chunks) (sym (ap (λ b. if b then set_of w n else complete_set_of w n) kind))
+            (set-begins w s n f.valid.valid f.setup.first held);
         made = Line.on-made w s n o.due.on;
         stream = Line.on-stream w s n o.due.on;
-        next = o.here ∙ step (index_of w n == next_of w s) refl ∙ sym (ap (λ b. if b && (index_of w n == next_of w s) then index_of w n + 1 else next_of w s) kind);
+        next = o.here ∙ step (index_of w n == next_of w s) refl
+            ∙ sym (ap (λ b. if b && (index_of w n == next_of w s) then index_of w n + 1 else next_of w s) kind);
         other = o.other;
         complete = ap (λ b. if b then (stream_of w s).complete else drop 1 (stream_of w s).complete) kind ∙ o.none ∙ sym (ap (drop 1) o.none);
       }
@@ -280,7 +305,8 @@ module _ (sum : List ℕ → ℕ) (x : State) (l : IsLinked sum x) (s at : ℕ) 
     bytes-read =
         ap (λ (c : ChunkSet). bytes_of c.chunks) read-is.2
         ∙ sym (joined-length (handed_out w read-is.0).chunks)
-        ∙ ap length (over sum x (λ (u : LinkRecord). next_read u s ≡ Some read-is.0 → joined_bytes (handed_out u read-is.0).chunks ≡ (message_at u read-is.0).bytes) l (λ h. read-joined w.setup l.history l.setup l.stands.run s read-is.0 h) read-is.1)
+        ∙ ap length (over sum x (λ (u : LinkRecord). next_read u s ≡ Some read-is.0 → joined_bytes (handed_out u read-is.0).chunks
+        ≡ (message_at u read-is.0).bytes) l (λ h. read-joined w.setup l.history l.setup l.stands.run s read-is.0 h) read-is.1)
 
     pub low : index_kept x.progress read-is.0 < length w.messages
     low = omega (arith, l.low read-is.0, hands.made)
@@ -290,10 +316,12 @@ module _ (sum : List ℕ → ℕ) (x : State) (l : IsLinked sum x) (s at : ℕ) 
     sent-some = subst (λ n. 0 < sent_of w n) hands-begins.of (slot-sent (shape w) hands-begins.place (facts sum x l).sane.sender hands-begins.made)
 
     pub reply-read : R.Message s (message_at w read-is.0).ppi set ≡ reply_to w (E.Read s)
-    reply-read = ap (λ c. R.Message s (message_at w read-is.0).ppi c) read-is.2 ∙ ap (λ t. R.Message t (message_at w read-is.0).ppi (handed_out w read-is.0)) (sym hands.stream) ∙ sym (ap (read_reply w) read-is.1)
+    reply-read = ap (λ c. R.Message s (message_at w read-is.0).ppi c) read-is.2
+        ∙ ap (λ t. R.Message t (message_at w read-is.0).ppi (handed_out w read-is.0)) (sym hands.stream) ∙ sym (ap (read_reply w) read-is.1)
 
     -- with the message m, whose number is n
-    module _ (m : Message) (messages : List W.Message) (m_is : message_at x.recorded read-is.0 ≡ message_record m) (messages_are : messages ≡ change_at mark_read read-is.0 x.recorded.messages) (index : m.index ≡ index_kept x.progress read-is.0) where
+    module _ (m : Message) (messages : List W.Message) (m_is : message_at x.recorded read-is.0 ≡ message_record m)
+        (messages_are : messages ≡ change_at mark_read read-is.0 x.recorded.messages) (index : m.index ≡ index_kept x.progress read-is.0) where
       abbrev z : OpenStream
       z = read_recorded m.ordered m.index taken
 
@@ -305,22 +333,26 @@ module _ (sum : List ℕ → ℕ) (x : State) (l : IsLinked sum x) (s at : ℕ) 
           let kind : (message_at w read-is.0).ordered ≡ m.ordered = ap (λ t. t.ordered) m_is in
           indexed m.ordered m.index (index_of w read-is.0) (λ o. index ∙ l.indexes read-is.0 sent-some (kind ∙ o))
           ∙ ap (λ b. if b && (index_of w read-is.0 == y.next) then index_of w read-is.0 + 1 else y.next) (ap (λ t. t.ordered) (sym m_is))
-          ∙ ap (λ t. if (message_at w read-is.0).ordered && (index_of w read-is.0 == t) then index_of w read-is.0 + 1 else t) ((l.open_streams at d lt).next ∙ ap (next_of w) (id-at d))
-          ∙ sym hands.next
+          ∙ ap (λ t. if (message_at w read-is.0).ordered && (index_of w read-is.0 == t) then index_of w read-is.0 + 1 else t)
+          ((l.open_streams at d lt).next ∙ ap (next_of w) (id-at d)) ∙ sym hands.next
         where
           indexed : (o : Bool) (a b : ℕ) → (o ≡ true → a ≡ b) → (if o && (a == y.next) then a + 1 else y.next) ≡ (if o && (b == y.next) then b + 1 else y.next)
           indexed true a b e = ap (λ c. if true && (c == y.next) then c + 1 else y.next) (e refl)
           indexed false a b e = refl
 
-      counters-at : (t : ℕ) → counters_on v t ≡ (if t == s then received_more (counted_as (message_at w read-is.0).ppi (length (message_at w read-is.0).bytes)) (counters_on w t) else counters_on w t)
+      counters-at : (t : ℕ) → counters_on v t ≡ (if t == s
+          then received_more (counted_as (message_at w read-is.0).ppi (length (message_at w read-is.0).bytes)) (counters_on w t) else counters_on w t)
       counters-at t =
-          over sum x (λ (u : LinkRecord). next_read u s ≡ Some read-is.0 → counters_on (after_reading u s) t ≡ (if t == s then received_more (counted_as (message_at u read-is.0).ppi (length (message_at u read-is.0).bytes)) (counters_on u t) else counters_on u t)) l
+          over sum x (λ (u : LinkRecord). next_read u s ≡ Some read-is.0 → counters_on (after_reading u s) t ≡ (if t == s
+          then received_more (counted_as (message_at u read-is.0).ppi (length (message_at u read-is.0).bytes)) (counters_on u t) else counters_on u t)) l
           (λ h. counters-read w.setup l.history l.setup l.stands.run s t read-is.0 h) read-is.1
 
       counters-other : (t : ℕ) → (t ≡ s → ⊥) → counters_on v t ≡ counters_on w t
       counters-other t ne = counters-at t ∙ by (t == s) refl
         where
-          by : (b : Bool) → (t == s) ≡ b → (if b then received_more (counted_as (message_at w read-is.0).ppi (length (message_at w read-is.0).bytes)) (counters_on w t) else counters_on w t) ≡ counters_on w t
+          by : (b : Bool) → (t == s) ≡ b
+              → (if b then received_more (counted_as (message_at w read-is.0).ppi (length (message_at w read-is.0).bytes)) (counters_on w t)
+              else counters_on w t) ≡ counters_on w t
           by true h = absurd (ne (same-is t s h))
           by false h = refl
 
@@ -336,13 +368,21 @@ module _ (sum : List ℕ → ℕ) (x : State) (l : IsLinked sum x) (s at : ℕ) 
           ∙ read-both (counted_as ppi len) sent read
           ∙ ap (with_received (counted_as ppi len)) ((l.open_streams at d lt).stats ∙ ap (λ t. stats_of (counters_on w t)) (id-at d))
           ∙ counted-read ppi len w s
-          ∙ ap stats_of (sym (counters-at s ∙ ap (λ b. if b then received_more (counted_as (message_at w read-is.0).ppi (length (message_at w read-is.0).bytes)) (counters_on w s) else counters_on w s) (same-yes s)))
+          ∙ ap stats_of (sym (counters-at s ∙ ap (λ b. if b then received_more (counted_as (message_at w read-is.0).ppi (length (message_at w read-is.0).bytes))
+          (counters_on w s) else counters_on w s) (same-yes s)))
 
       open_stream-is : IsOpenStream v z
       open_stream-is = stream-read z refl refl refl refl refl refl refl next-is stats-are
 
       abbrev shown : ℕ → StreamState → List ℕ → StreamRecord
-      shown named t complete = record { stream = t.stream_identifier; unordered = t.unordered; reliability = t.reliability_type; value = t.reliability_value; named = named; complete = complete }
+      shown named t complete = record {
+        stream = t.stream_identifier;
+        unordered = t.unordered;
+        reliability = t.reliability_type;
+        value = t.reliability_value;
+        named = named;
+        complete = complete;
+      }
 
       complete-is : z.complete ≡ drop 1 y.complete
       complete-is =
@@ -358,23 +398,32 @@ module _ (sum : List ℕ → ℕ) (x : State) (l : IsLinked sum x) (s at : ℕ) 
       recorded-read : record w { streams = map stream_record (slice_set x.open_streams at z); messages = messages } ≡ v
       recorded-read =
           ap {B = LinkRecord} (λ rs. record w { streams = rs; messages = messages }) streams-are
-          ∙ ap {B = LinkRecord} (λ ms. record w { streams = map (λ (t : StreamRecord). if t.stream == s then without_first t else t) w.streams; messages = ms }) messages_are
-          ∙ sym (ap (read_of w s) read-is.1)
+          ∙ ap {B = LinkRecord} (λ ms. record w { streams = map (λ (t : StreamRecord). if t.stream == s then without_first t else t) w.streams; messages = ms })
+          messages_are ∙ sym (ap (read_of w s) read-is.1)
 
-      linked-read : (progress : List (ℕ × ℕ)) → progress ≡ x.progress → IsLinked sum (record x { recorded = record w { streams = map stream_record (slice_set x.open_streams at z); messages = messages }; progress = progress; open_streams = slice_set x.open_streams at z })
+      linked-read : (progress : List (ℕ × ℕ)) → progress ≡ x.progress → IsLinked sum (record x {
+        recorded = record w { streams = map stream_record (slice_set x.open_streams at z); messages = messages };
+        progress = progress;
+        open_streams = slice_set x.open_streams at z;
+      })
       linked-read progress same =
-          linked-then sum x l (E.Read s) none frame progress (slice_set x.open_streams at z) x.filter (record w { streams = map stream_record (slice_set x.open_streams at z); messages = messages }) same (l.filter ∙ sym filter-stays)
+          linked-then sum x l (E.Read s) none frame progress (slice_set x.open_streams at z) x.filter
+          (record w { streams = map stream_record (slice_set x.open_streams at z); messages = messages }) same (l.filter ∙ sym filter-stays)
           (each-read z open_stream-is hands.other counters-other)
           (apart-set x.open_streams at z d l.apart refl)
           quiet recorded-read
 
       -- so the progress records it
       pub recorded-recorded : record w { streams = map stream_record recorded; messages = messages } ≡ v
-      recorded-recorded = ap {B = LinkRecord} (λ ls. record w { streams = map stream_record ls; messages = messages }) (read-twice m.ordered m.index) ∙ recorded-read
+      recorded-recorded = ap {B = LinkRecord} (λ ls. record w { streams = map stream_record ls; messages = messages }) (read-twice m.ordered m.index)
+          ∙ recorded-read
 
-      pub linked-recorded : (progress : List (ℕ × ℕ)) → progress ≡ x.progress → IsLinked sum (record x { recorded = record w { streams = map stream_record recorded; messages = messages }; progress = progress; open_streams = recorded })
+      pub linked-recorded : (progress : List (ℕ × ℕ)) → progress ≡ x.progress → IsLinked sum
+          (record x { recorded = record w { streams = map stream_record recorded; messages = messages }; progress = progress; open_streams = recorded })
       linked-recorded progress same =
-          subst (λ ls. IsLinked sum (record x { recorded = record w { streams = map stream_record ls; messages = messages }; progress = progress; open_streams = ls })) (sym (read-twice m.ordered m.index))
+          subst (λ ls.
+          IsLinked sum (record x { recorded = record w { streams = map stream_record ls; messages = messages }; progress = progress; open_streams = ls }))
+          (sym (read-twice m.ordered m.index))
           (linked-read progress same)
 
 -- ## What the queue answered
@@ -388,13 +437,16 @@ some-mapped None c e = cc
 some-mapped (Some t) c e = let z : c ≡ at_start t = cc in ap (λ (a : Chunks). Some a.set) (sym z)
 
 -- a stream that is read is open
-never-shut : (w : LinkRecord) (s : ℕ) (open_streams : List OpenStream) → w.streams ≡ map stream_record open_streams → refusal_of w (E.Read s) ≡ None → find (has_number s) open_streams ≡ None → ⊥
+never-shut : (w : LinkRecord) (s : ℕ) (open_streams : List OpenStream) → w.streams ≡ map stream_record open_streams → refusal_of w (E.Read s) ≡ None
+    → find (has_number s) open_streams ≡ None → ⊥
 never-shut w s open_streams same ok shut =
-    let o : unless (is_some (stream_at w s)) StreamUnknown None ≡ Some StreamUnknown = ap (λ b. unless b StreamUnknown None) (none-open w s open_streams same shut) in
+    let o : unless (is_some (stream_at w s)) StreamUnknown None ≡ Some StreamUnknown = ap (λ b. unless b StreamUnknown None)
+    (none-open w s open_streams same shut) in
     let z : Some StreamUnknown ≡ None = sym o ∙ ok in
     cc
 
-pub open-there : (w : LinkRecord) (s : ℕ) (open_streams : List OpenStream) → w.streams ≡ map stream_record open_streams → refusal_of w (E.Read s) ≡ None → (t : OpenStream) × (find (has_number s) open_streams ≡ Some t)
+pub open-there : (w : LinkRecord) (s : ℕ) (open_streams : List OpenStream) → w.streams ≡ map stream_record open_streams → refusal_of w (E.Read s) ≡ None
+    → (t : OpenStream) × (find (has_number s) open_streams ≡ Some t)
 open-there w s open_streams same ok = by (find (has_number s) open_streams) refl
   where
     by : (o : Option OpenStream) → find (has_number s) open_streams ≡ o → (t : OpenStream) × (find (has_number s) open_streams ≡ Some t)
@@ -437,10 +489,12 @@ module _ {C : Type 0} (sum : List ℕ → ℕ) (a : Inside C) (l : IsLinked sum 
       }
 
   module _ (p : IsPlaced s (sides_in a).streams) where
-    pub none-handed : None ≡ option_map at_start (message_read p.d.inbound.queue.held) → message_read (slice_index_or (sides_in a).streams p.at p.d).inbound.queue.held ≡ None
+    pub none-handed : None ≡ option_map at_start (message_read p.d.inbound.queue.held)
+        → message_read (slice_index_or (sides_in a).streams p.at p.d).inbound.queue.held ≡ None
     none-handed told = ap (λ (y : OpenStream). message_read y.inbound.queue.held) p.here ∙ none-mapped (message_read p.d.inbound.queue.held) told
 
-    pub some-handed : (r : Chunks) → Some r ≡ option_map at_start (message_read p.d.inbound.queue.held) → message_read (slice_index_or (sides_in a).streams p.at p.d).inbound.queue.held ≡ Some r.set
+    pub some-handed : (r : Chunks) → Some r ≡ option_map at_start (message_read p.d.inbound.queue.held)
+        → message_read (slice_index_or (sides_in a).streams p.at p.d).inbound.queue.held ≡ Some r.set
     some-handed r told = ap (λ (y : OpenStream). message_read y.inbound.queue.held) p.here ∙ some-mapped (message_read p.d.inbound.queue.held) r told
 
     module _ (r : Chunks) (e : message_read (slice_index_or (sides_in a).streams p.at p.d).inbound.queue.held ≡ Some r.set) where
@@ -453,10 +507,15 @@ module _ {C : Type 0} (sum : List ℕ → ℕ) (a : Inside C) (l : IsLinked sum 
           (hands-begins sum (state_in a) l s p.at p.d refl p.lt p.found r.set e) (hands sum (state_in a) l s p.at p.d refl p.lt p.found r.set e).made
 
       pub handed-made : handed < length a.messages.items
-      handed-made = omega (arith, (hands sum (state_in a) l s p.at p.d refl p.lt p.found r.set e).made, messages-made sum (state_in a) l a.slots.items a.messages.items refl refl)
+      handed-made = omega (
+        arith,
+        (hands sum (state_in a) l s p.at p.d refl p.lt p.found r.set e).made,
+        messages-made sum (state_in a) l a.slots.items a.messages.items refl refl,
+      )
 
       -- the slot y is that of the first TSN
-      module _ (first : ℕ) (first_is : (d : ChunkPayloadData) → first ≡ (slice_index_or r.set.chunks 0 d).tsn) (y : Slot) (y_is : y ≡ slice_index_or a.slots.items ((first + (2 ^ 32 - a.first_tsn)) % 2 ^ 32) y) where
+      module _ (first : ℕ) (first_is : (d : ChunkPayloadData) → first ≡ (slice_index_or r.set.chunks 0 d).tsn) (y : Slot)
+          (y_is : y ≡ slice_index_or a.slots.items ((first + (2 ^ 32 - a.first_tsn)) % 2 ^ 32) y) where
         pub number-handed : y.message ≡ handed
         number-handed =
             let d = chunk_at (record_in a) 0 in
@@ -470,6 +529,7 @@ module _ {C : Type 0} (sum : List ℕ → ℕ) (a : Inside C) (l : IsLinked sum 
             record {
               message = message-raw sum (state_in a) l a.slots.items a.messages.items refl refl handed m handed-made ∙ ap message_record (sym here);
               index = ap (λ (t : Message). t.index) here ∙ sym (kept-raw sum (state_in a) l a.slots.items a.messages.items refl refl refl handed m handed-made);
-              marks = ap (λ i. map message_record (slice_set a.messages.items i (marked m))) number-handed ∙ map-set message_record mark_read a.messages.items handed (marked m) m handed-made (ap (λ (t : Message). message_record (marked t)) here);
+              marks = ap (λ i. map message_record (slice_set a.messages.items i (marked m))) number-handed
+                  ∙ map-set message_record mark_read a.messages.items handed (marked m) m handed-made (ap (λ (t : Message). message_record (marked t)) here);
               progress = map-set_same progress_of a.messages.items y.message (marked m) m (ap progress_of is);
             }

@@ -1,5 +1,6 @@
 -- What a link's queues tell of what comes to its receiver.
-use Rattle.std.proofs.Common.{◌≡◌, ℕ, zero, suc, ◌+◌, ◌-◌, ◌<◌, ◌^◌, ◌%◌, true, false, List, [], ◌∷◌, length, map, Option, Some, None, refl, ap, sym, ◌∙◌, arith}
+use Rattle.std.proofs.Common.{◌≡◌, ℕ, zero, suc, ◌+◌, ◌-◌, ◌<◌, ◌^◌, ◌%◌, true, false, List, [], ◌∷◌, length, map, Option, Some, None, refl, ap, sym, ◌∙◌}
+use Rattle.std.proofs.Common.{arith}
 use Rattle.std.specs.Prelude.{find, min, max, option_map, slice_index_or}
 use Rattle.std.proofs.Math.Path.{subst}
 use Rattle.sctp_list_lemmas.proofs.More.{not_both}
@@ -48,7 +49,8 @@ leads w n chunks d b =
     let back : place_of w (slice_index_or chunks 0 d).tsn ≡ b.place = ap (place_of w) tsn ∙ b.back in
     record { made = omega (arith, back, b.made); of = ap (message_of w) back ∙ b.of }
 
-module _ (sum : List ℕ → ℕ) (x : State) (l : IsLinked sum x) (slots : List Slot) (messages : List Message) (slots_are : x.recorded.slots ≡ map slot_record slots) (messages_are : x.recorded.messages ≡ map message_record messages) where
+module _ (sum : List ℕ → ℕ) (x : State) (l : IsLinked sum x) (slots : List Slot) (messages : List Message)
+    (slots_are : x.recorded.slots ≡ map slot_record slots) (messages_are : x.recorded.messages ≡ map message_record messages) where
   pub slots-made : length x.recorded.slots ≡ length slots
   slots-made = ap length slots_are ∙ length-mapped slot_record slots
 
@@ -61,11 +63,13 @@ module _ (sum : List ℕ → ℕ) (x : State) (l : IsLinked sum x) (slots : List
   pub message-raw : (n : ℕ) (d : Message) → n < length messages → message_at x.recorded n ≡ message_record (slice_index_or messages n d)
   message-raw n d lt = ap (λ xs. slice_index_or xs n no_message) messages_are ∙ raw-at message_record messages n no_message d lt
 
-  pub kept-raw : x.progress ≡ map progress_of messages → (n : ℕ) (d : Message) → n < length messages → index_kept x.progress n ≡ (slice_index_or messages n d).index
+  pub kept-raw : x.progress ≡ map progress_of messages → (n : ℕ) (d : Message) → n < length messages
+      → index_kept x.progress n ≡ (slice_index_or messages n d).index
   kept-raw kept n d lt = ap (λ ps. index_kept ps n) kept ∙ ap (λ p. p.1) (raw-at progress_of messages n (0, 0) d lt)
 
   -- the set of a message that is held
-  pub held-begins : (s n : ℕ) (set : ChunkSet) (chunks : List ChunkPayloadData) → chunks ≡ set.chunks → is_held x.recorded s n ≡ true → set ≡ set_of x.recorded n → Begins x.recorded n chunks
+  pub held-begins : (s n : ℕ) (set : ChunkSet) (chunks : List ChunkPayloadData) → chunks ≡ set.chunks → is_held x.recorded s n ≡ true
+      → set ≡ set_of x.recorded n → Begins x.recorded n chunks
   held-begins s n set chunks shown h e =
       let f = facts sum x l in
       subst (Begins x.recorded n) (sym (shown ∙ ap (λ (y : ChunkSet). y.chunks) e)) (set-begins x.recorded s n f.valid.valid f.setup.first h)
@@ -85,16 +89,21 @@ module _ (sum : List ℕ → ℕ) (x : State) (l : IsLinked sum x) (slots : List
     lead-slot = omega (arith, led.made, slots-made)
 
     pub lead-number : (y : Slot) → y ≡ slice_index_or slots (((slice_index_or chunks 0 d).tsn + (2 ^ 32 - x.recorded.setup.first)) % 2 ^ 32) y → y.message ≡ n
-    lead-number y z = ap (λ (t : Slot). t.message) z ∙ sym (ap (λ t. t.message) (slot-raw (place_of x.recorded (slice_index_or chunks 0 d).tsn) y lead-slot)) ∙ led.of
+    lead-number y z = ap (λ (t : Slot). t.message) z ∙ sym (ap (λ t. t.message) (slot-raw (place_of x.recorded (slice_index_or chunks 0 d).tsn) y lead-slot))
+        ∙ led.of
 
-    pub lead-message : (y : Slot) → y ≡ slice_index_or slots (((slice_index_or chunks 0 d).tsn + (2 ^ 32 - x.recorded.setup.first)) % 2 ^ 32) y → y.message < length messages
+    pub lead-message : (y : Slot) → y ≡ slice_index_or slots (((slice_index_or chunks 0 d).tsn + (2 ^ 32 - x.recorded.setup.first)) % 2 ^ 32) y
+        → y.message < length messages
     lead-message y z = omega (arith, lead-number y z, made, messages-made)
 
-    pub lead-index : x.progress ≡ map progress_of messages → (message_at x.recorded n).ordered ≡ true → (y : Slot) (m : Message) → y ≡ slice_index_or slots (((slice_index_or chunks 0 d).tsn + (2 ^ 32 - x.recorded.setup.first)) % 2 ^ 32) y → m ≡ slice_index_or messages y.message m → m.index ≡ index_of x.recorded n
+    pub lead-index : x.progress ≡ map progress_of messages → (message_at x.recorded n).ordered ≡ true → (y : Slot) (m : Message)
+        → y ≡ slice_index_or slots (((slice_index_or chunks 0 d).tsn + (2 ^ 32 - x.recorded.setup.first)) % 2 ^ 32) y → m ≡ slice_index_or messages y.message m
+        → m.index ≡ index_of x.recorded n
     lead-index kept o y m z t =
         ap (λ (t : Message). t.index) (t ∙ ap (λ k. slice_index_or messages k m) (lead-number y z))
         ∙ sym (kept-raw kept n m (omega (arith, made, messages-made)))
-        ∙ l.indexes n (subst (λ k. 0 < sent_of x.recorded k) led.of (slot-sent (shape x.recorded) (place_of x.recorded (slice_index_or chunks 0 d).tsn) (facts sum x l).sane.sender led.made)) o
+        ∙ l.indexes n (subst (λ k. 0 < sent_of x.recorded k) led.of
+        (slot-sent (shape x.recorded) (place_of x.recorded (slice_index_or chunks 0 d).tsn) (facts sum x l).sane.sender led.made)) o
 
 -- ## What is told of an open stream
 
@@ -109,7 +118,8 @@ told-next (Some l) n e = (l, (refl, inner e))
     inner : Some n ≡ Some l.next → n ≡ l.next
     inner h = cc
 
-pub told-queue : (o : Option OpenStream) (l : OpenStream) (q : ReassemblyState) → o ≡ Some l → Some q ≡ option_map (λ l. l.inbound.queue) o → q ≡ l.inbound.queue
+pub told-queue : (o : Option OpenStream) (l : OpenStream) (q : ReassemblyState) → o ≡ Some l → Some q ≡ option_map (λ l. l.inbound.queue) o
+    → q ≡ l.inbound.queue
 told-queue None l q f e = cc
 told-queue (Some k) l q f e = inner e ∙ ap (λ (t : OpenStream). t.inbound.queue) (same f)
   where
@@ -121,7 +131,8 @@ told-queue (Some k) l q f e = inner e ∙ ap (λ (t : OpenStream). t.inbound.que
 
 -- ## The ends of what is held
 
-module _ (sum : List ℕ → ℕ) (x : State) (l : IsLinked sum x) (at s : ℕ) (d : OpenStream) (lt : at < length x.open_streams) (found : find (has_number s) x.open_streams ≡ Some (slice_index_or x.open_streams at d)) where
+module _ (sum : List ℕ → ℕ) (x : State) (l : IsLinked sum x) (at s : ℕ) (d : OpenStream) (lt : at < length x.open_streams)
+    (found : find (has_number s) x.open_streams ≡ Some (slice_index_or x.open_streams at d)) where
   pub stream-number : (slice_index_or x.open_streams at d).state.stream_identifier ≡ s
   stream-number = number-found s x.open_streams (slice_index_or x.open_streams at d) found
 
@@ -136,26 +147,38 @@ module _ (sum : List ℕ → ℕ) (x : State) (l : IsLinked sum x) (at s : ℕ) 
   empty (y ∷ ys) e = absurd (omega arith)
 
   -- nothing is held
-  pub ends-empty : length (slice_index_or x.open_streams at d).inbound.queue.held.ordered ≡ 0 → ((slice_index_or x.open_streams at d).next ≡ least (next_of x.recorded s) (map (index_of x.recorded) (held_on x.recorded s))) × ((slice_index_or x.open_streams at d).next ≡ greatest (next_of x.recorded s) (map (index_of x.recorded) (held_on x.recorded s)))
+  pub ends-empty : length (slice_index_or x.open_streams at d).inbound.queue.held.ordered ≡ 0
+      → ((slice_index_or x.open_streams at d).next ≡ least (next_of x.recorded s) (map (index_of x.recorded) (held_on x.recorded s)))
+      × ((slice_index_or x.open_streams at d).next ≡ greatest (next_of x.recorded s) (map (index_of x.recorded) (held_on x.recorded s)))
   ends-empty e =
       let none : held_on x.recorded s ≡ [] = empty (held_on x.recorded s) (sym (sets-held x.recorded s) ∙ sym (ap length stream-ordered) ∙ e) in
       let ends = ends-none x.recorded s none in (stream-next ∙ sym ends.0, stream-next ∙ sym ends.1)
 
   -- a set of the queue is of a message that is held
-  pub set-held : (i : ℕ) (e : ChunkSet) → i < length (slice_index_or x.open_streams at d).inbound.queue.held.ordered → (is_held x.recorded s (slice_index_or (held_on x.recorded s) i 0) ≡ true) × (slice_index_or (slice_index_or x.open_streams at d).inbound.queue.held.ordered i e ≡ set_of x.recorded (slice_index_or (held_on x.recorded s) i 0))
+  pub set-held : (i : ℕ) (e : ChunkSet) → i < length (slice_index_or x.open_streams at d).inbound.queue.held.ordered
+      → (is_held x.recorded s (slice_index_or (held_on x.recorded s) i 0) ≡ true)
+      × (slice_index_or (slice_index_or x.open_streams at d).inbound.queue.held.ordered i e ≡ set_of x.recorded (slice_index_or (held_on x.recorded s) i 0))
   set-held i e less =
       let f = facts sum x l in
       let o = set-at x.recorded s i 0 e f.valid.valid f.setup.first (omega (arith, less, ap length stream-ordered)) in
       (o.held, ap (λ ss. slice_index_or ss i e) stream-ordered ∙ o.is)
 
-  pub low-front : (i : ℕ) → 0 < length (slice_index_or x.open_streams at d).inbound.queue.held.ordered → i ≡ index_of x.recorded (slice_index_or (held_on x.recorded s) 0 0) → min (slice_index_or x.open_streams at d).next i ≡ least (next_of x.recorded s) (map (index_of x.recorded) (held_on x.recorded s))
-  low-front i some e = ap (min (slice_index_or x.open_streams at d).next) e ∙ ap (λ n. min n (index_of x.recorded (slice_index_or (held_on x.recorded s) 0 0))) stream-next ∙ sym (lowest-front x.recorded s 0 (omega (arith, some, ap length stream-ordered, sets-held x.recorded s)))
+  pub low-front : (i : ℕ) → 0 < length (slice_index_or x.open_streams at d).inbound.queue.held.ordered
+      → i ≡ index_of x.recorded (slice_index_or (held_on x.recorded s) 0 0)
+      → min (slice_index_or x.open_streams at d).next i ≡ least (next_of x.recorded s) (map (index_of x.recorded) (held_on x.recorded s))
+  low-front i some e = ap (min (slice_index_or x.open_streams at d).next) e
+      ∙ ap (λ n. min n (index_of x.recorded (slice_index_or (held_on x.recorded s) 0 0))) stream-next
+      ∙ sym (lowest-front x.recorded s 0 (omega (arith, some, ap length stream-ordered, sets-held x.recorded s)))
 
-  pub high-back : (i : ℕ) → 0 < length (slice_index_or x.open_streams at d).inbound.queue.held.ordered → i ≡ index_of x.recorded (slice_index_or (held_on x.recorded s) (length (slice_index_or x.open_streams at d).inbound.queue.held.ordered - 1) 0) → max (slice_index_or x.open_streams at d).next i ≡ greatest (next_of x.recorded s) (map (index_of x.recorded) (held_on x.recorded s))
+  pub high-back : (i : ℕ) → 0 < length (slice_index_or x.open_streams at d).inbound.queue.held.ordered
+      → i ≡ index_of x.recorded (slice_index_or (held_on x.recorded s) (length (slice_index_or x.open_streams at d).inbound.queue.held.ordered - 1) 0)
+      → max (slice_index_or x.open_streams at d).next i ≡ greatest (next_of x.recorded s) (map (index_of x.recorded) (held_on x.recorded s))
   high-back i some e =
-      let same : length (slice_index_or x.open_streams at d).inbound.queue.held.ordered ≡ length (held_on x.recorded s) = ap length stream-ordered ∙ sets-held x.recorded s in
+      let same : length (slice_index_or x.open_streams at d).inbound.queue.held.ordered ≡ length (held_on x.recorded s) = ap length stream-ordered
+      ∙ sets-held x.recorded s in
       ap (max (slice_index_or x.open_streams at d).next) e
-      ∙ ap (λ n. max n (index_of x.recorded (slice_index_or (held_on x.recorded s) (length (slice_index_or x.open_streams at d).inbound.queue.held.ordered - 1) 0))) stream-next
+      ∙ ap (λ n. max n (index_of x.recorded
+      (slice_index_or (held_on x.recorded s) (length (slice_index_or x.open_streams at d).inbound.queue.held.ordered - 1) 0))) stream-next
       ∙ ap (λ k. max (next_of x.recorded s) (index_of x.recorded (slice_index_or (held_on x.recorded s) (k - 1) 0))) same
       ∙ sym (highest-back x.recorded s 0 (omega (arith, some, same)))
 

@@ -1,5 +1,6 @@
 -- The slots of a datagram of a link come to a valid record, and what the link is after them.
-use Rattle.std.proofs.Common.{◌≡◌, ℕ, zero, suc, ◌+◌, ◌<◌, ◌≤◌, ◌%◌, ◌^◌, Bool, true, false, List, [], ◌∷◌, ◌++◌, length, map, Some, None, refl, ap, sym, ◌∙◌, arith}
+use Rattle.std.proofs.Common.{◌≡◌, ℕ, zero, suc, ◌+◌, ◌<◌, ◌≤◌, ◌%◌, ◌^◌, Bool, true, false, List, [], ◌∷◌, ◌++◌, length, map, Some, None, refl, ap, sym, ◌∙◌}
+use Rattle.std.proofs.Common.{arith}
 use Rattle.std.specs.Prelude.{◌==◌, not, if◌then◌else◌, fold, slice_get, slice_index_or}
 use Rattle.std.specs.List.{list_any}
 use Rattle.std.proofs.Math.Path.{subst}
@@ -75,7 +76,8 @@ module _ (setup : Setup) (h : History) (is : IsSetup setup) (run : IsRun setup h
   abbrev w : LinkRecord
   w = record_of setup h
 
-  comes-one : (v : LinkRecord) (front : List ℕ) (p : ℕ) (qs : List ℕ) → v ≡ fold receive_slot w front → Sane setup v → slice_get w.network k ≡ Some (Data (front ++ p ∷ qs)) → Comes v p (chunk_at w p)
+  comes-one : (v : LinkRecord) (front : List ℕ) (p : ℕ) (qs : List ℕ) → v ≡ fold receive_slot w front → Sane setup v
+      → slice_get w.network k ≡ Some (Data (front ++ p ∷ qs)) → Comes v p (chunk_at w p)
   comes-one v front p qs eq g e =
       let valid : ComesValid v p = subst (λ u. ComesValid u p) (sym eq) (slots_come_valid setup h is run k front p qs none e) in
       let same : Network.Same w v = subst (Network.Same w) (sym eq) (Network.same-slots w front) in
@@ -83,22 +85,26 @@ module _ (setup : Setup) (h : History) (is : IsSetup setup) (run : IsRun setup h
       let chunk = chunk-same w v p same in
       let n = message_of v p in
       let made : n < length w.messages = omega (arith, valid.valid.made n p (Arrival.has-fragment v p valid.fragment), ap (λ y. y.count) same.shape_is) in
-      let short : length (message_at v n).bytes ≤ v.setup.largest = omega (arith, no-larger setup h n is run made, ap (λ y. length (y.message n).bytes) same.shape_is, ap (λ s. s.largest) g.setup_is) in
+      let short : length (message_at v n).bytes ≤ v.setup.largest =
+      omega (arith, no-larger setup h n is run made, ap (λ y. length (y.message n).bytes) same.shape_is, ap (λ s. s.largest) g.setup_is) in
       record {
         valid = valid;
         alive = c.alive;
         known = c.known;
         chunk = chunk;
         small = λ new q held limit. ap (λ x. is_too_large x q) chunk
-            ∙ never-too-large setup v p q g valid.valid valid.unassembled (subst AllGoOn (sym same.shape_is) (goes-run setup h run)) (size-some setup v is g) c new
+            ∙ never-too-large setup v p q g valid.valid valid.unassembled (subst AllGoOn (sym same.shape_is) (goes-run setup h run))
+            (size-some setup v is g) c new
             (λ o. valid.near (message_at v n).stream (SlotArrives.ordered-on v (message_at v n).stream p (enters v p c new) o) new) short held limit;
       }
 
-  comes-from : (v : LinkRecord) (front rest : List ℕ) → v ≡ fold receive_slot w front → Sane setup v → slice_get w.network k ≡ Some (Data (front ++ rest)) → AllCome v rest (map (chunk_at w) rest)
+  comes-from : (v : LinkRecord) (front rest : List ℕ) → v ≡ fold receive_slot w front → Sane setup v → slice_get w.network k ≡ Some (Data (front ++ rest))
+      → AllCome v rest (map (chunk_at w) rest)
   comes-from v front [] eq g e = tt
   comes-from v front (p ∷ qs) eq g e = (
     comes-one v front p qs eq g e,
-    comes-from (receive_slot v p) (front ++ p ∷ []) qs (ap (λ u. receive_slot u p) eq ∙ sym (fold-append receive_slot w front (p ∷ []))) (sane-received setup v p g) (e ∙ ap (λ ps. Some (Data ps)) (sym (assoc front p qs))),
+    comes-from (receive_slot v p) (front ++ p ∷ []) qs (ap (λ u. receive_slot u p) eq ∙ sym (fold-append receive_slot w front (p ∷ [])))
+        (sane-received setup v p g) (e ∙ ap (λ ps. Some (Data ps)) (sym (assoc front p qs))),
   )
     where
       assoc : (xs : List ℕ) (y : ℕ) (ys : List ℕ) → (xs ++ y ∷ []) ++ ys ≡ xs ++ y ∷ ys
@@ -109,37 +115,50 @@ module _ (setup : Setup) (h : History) (is : IsSetup setup) (run : IsRun setup h
   comes-run ps e = comes-from w [] ps refl (sane-run setup h run) e
 
 -- so do those of a datagram of a link
-pub all-come : (sum : List ℕ → ℕ) (x : State) (l : IsLinked sum x) (k : ℕ) (ps : List ℕ) → refusal_of x.recorded (E.Arrive k) ≡ None → slice_get x.recorded.network k ≡ Some (Data ps) → AllCome x.recorded ps (map (chunk_at x.recorded) ps)
+pub all-come : (sum : List ℕ → ℕ) (x : State) (l : IsLinked sum x) (k : ℕ) (ps : List ℕ) → refusal_of x.recorded (E.Arrive k) ≡ None
+    → slice_get x.recorded.network k ≡ Some (Data ps) → AllCome x.recorded ps (map (chunk_at x.recorded) ps)
 all-come sum x l k ps none e =
     over sum x (λ (u : LinkRecord). refusal_of u (E.Arrive k) ≡ None → slice_get u.network k ≡ Some (Data ps) → AllCome u ps (map (chunk_at u) ps)) l
     (λ n i. comes-run x.recorded.setup l.history l.setup l.stands.run k n ps i) none e
 
 -- what the sides of a link have for it
-pub receiver-of : (sum : List ℕ → ℕ) (x : State) (l : IsLinked sum x) (h : Sides) → x.recorded.streams ≡ map stream_record h.streams → x.open_streams ≡ h.streams → x.filter ≡ held_filter (reception_of h) → IsReceiver x.recorded h
+pub receiver-of : (sum : List ℕ → ℕ) (x : State) (l : IsLinked sum x) (h : Sides) → x.recorded.streams ≡ map stream_record h.streams
+    → x.open_streams ≡ h.streams → x.filter ≡ held_filter (reception_of h) → IsReceiver x.recorded h
 receiver-of sum x l h a b c = record {
   streams_are = a;
   filter_is = ap filter_shown (sym c) ∙ l.filter;
-  queues = λ k d lt. let i = subst (λ ls. IsOpenStream x.recorded (slice_index_or ls k d)) b (l.open_streams k d (omega (arith, lt, ap length b))) in record { held = i.held; si = i.si; largest = i.largest };
+  queues = λ k d lt. let i = subst (λ ls. IsOpenStream x.recorded (slice_index_or ls k d)) b (l.open_streams k d (omega (arith, lt, ap length b))) in
+      record { held = i.held; si = i.si; largest = i.largest };
   apart = subst (λ ls. IsApart (stream_numbers ls)) b l.apart;
 }
 
 -- ## The record after them
 
 -- slots change streams, slots and duplicates alone
-rest-one : (w : LinkRecord) (p : ℕ) → receive_slot w p ≡ record w { streams = (receive_slot w p).streams; slots = (receive_slot w p).slots; duplicates = (receive_slot w p).duplicates }
+rest-one : (w : LinkRecord) (p : ℕ)
+    → receive_slot w p ≡ record w { streams = (receive_slot w p).streams; slots = (receive_slot w p).slots; duplicates = (receive_slot w p).duplicates }
 rest-one w p = by (is_new w p) refl
   where
-    noted : (b : Bool) → becomes_complete (with_arrived w p) (message_of w p) ≡ b → note_completion (with_arrived w p) (message_of w p) ≡ record w { streams = (note_completion (with_arrived w p) (message_of w p)).streams; slots = (note_completion (with_arrived w p) (message_of w p)).slots; duplicates = (note_completion (with_arrived w p) (message_of w p)).duplicates }
+    noted : (b : Bool) → becomes_complete (with_arrived w p) (message_of w p) ≡ b → note_completion (with_arrived w p) (message_of w p) ≡ record w {
+      streams = (note_completion (with_arrived w p) (message_of w p)).streams;
+      slots = (note_completion (with_arrived w p) (message_of w p)).slots;
+      duplicates = (note_completion (with_arrived w p) (message_of w p)).duplicates;
+    }
     noted true e = rw e refl
     noted false e = rw e refl
 
-    by : (b : Bool) → is_new w p ≡ b → receive_slot w p ≡ record w { streams = (receive_slot w p).streams; slots = (receive_slot w p).slots; duplicates = (receive_slot w p).duplicates }
+    by : (b : Bool) → is_new w p ≡ b
+        → receive_slot w p ≡ record w { streams = (receive_slot w p).streams; slots = (receive_slot w p).slots; duplicates = (receive_slot w p).duplicates }
     by true e =
-        let is : receive_slot w p ≡ note_completion (with_arrived w p) (message_of w p) = ap (λ b. if b then note_completion (with_arrived w p) (message_of w p) else record w { duplicates = w.duplicates ++ p ∷ [] }) e in
-        subst (λ (v : LinkRecord). v ≡ record w { streams = v.streams; slots = v.slots; duplicates = v.duplicates }) (sym is) (noted (becomes_complete (with_arrived w p) (message_of w p)) refl)
-    by false e = subst (λ (v : LinkRecord). v ≡ record w { streams = v.streams; slots = v.slots; duplicates = v.duplicates }) (sym (SlotArrives.repeated w p e)) refl
+        let is : receive_slot w p ≡ note_completion (with_arrived w p) (message_of w p) =
+        ap (λ b. if b then note_completion (with_arrived w p) (message_of w p) else record w { duplicates = w.duplicates ++ p ∷ [] }) e in
+        subst (λ (v : LinkRecord). v ≡ record w { streams = v.streams; slots = v.slots; duplicates = v.duplicates }) (sym is)
+        (noted (becomes_complete (with_arrived w p) (message_of w p)) refl)
+    by false e =
+        subst (λ (v : LinkRecord). v ≡ record w { streams = v.streams; slots = v.slots; duplicates = v.duplicates }) (sym (SlotArrives.repeated w p e)) refl
 
-rest-all : (w v : LinkRecord) (ps : List ℕ) → v ≡ record w { streams = v.streams; slots = v.slots; duplicates = v.duplicates } → (let u = fold receive_slot v ps in u ≡ record w { streams = u.streams; slots = u.slots; duplicates = u.duplicates })
+rest-all : (w v : LinkRecord) (ps : List ℕ) → v ≡ record w { streams = v.streams; slots = v.slots; duplicates = v.duplicates }
+    → (let u = fold receive_slot v ps in u ≡ record w { streams = u.streams; slots = u.slots; duplicates = u.duplicates })
 rest-all w v [] e = e
 rest-all w v (p ∷ ps) e =
     let u = receive_slot v p in
@@ -151,7 +170,8 @@ quiet-slots w v (p ∷ ps) f = quiet-slots w (receive_slot v p) ps (same-then w 
 
 -- ## The link after them
 
-module _ (sum : List ℕ → ℕ) (x : State) (l : IsLinked sum x) (k : ℕ) (ps : List ℕ) (none : refusal_of x.recorded (E.Arrive k) ≡ None) (e : slice_get x.recorded.network k ≡ Some (Data ps)) where
+module _ (sum : List ℕ → ℕ) (x : State) (l : IsLinked sum x) (k : ℕ) (ps : List ℕ) (none : refusal_of x.recorded (E.Arrive k) ≡ None)
+    (e : slice_get x.recorded.network k ≡ Some (Data ps)) where
   abbrev here : LinkRecord
   here = x.recorded
 
@@ -165,7 +185,8 @@ module _ (sum : List ℕ → ℕ) (x : State) (l : IsLinked sum x) (k : ℕ) (ps
   frame = Network.same-received here (slice_get here.network k)
 
   quiet : SameToSender here then'
-  quiet = subst (SameToSender here) (sym after-is) (quiet-slots here here ps (record { setup = refl; count = refl; message = λ n. refl; slots = refl; slot = λ p. refl; taken = refl }))
+  quiet = subst (SameToSender here) (sym after-is)
+      (quiet-slots here here ps (record { setup = refl; count = refl; message = λ n. refl; slots = refl; slot = λ p. refl; taken = refl }))
 
   next-stays : (t : ℕ) → next_of then' t ≡ next_of here t
   next-stays t =
@@ -175,8 +196,11 @@ module _ (sum : List ℕ → ℕ) (x : State) (l : IsLinked sum x) (k : ℕ) (ps
   counters-stay : (t : ℕ) → counters_on then' t ≡ counters_on here t
   counters-stay t = let f = facts sum x l in counters-same here.setup here (E.Arrive k) t f.sane refl refl
 
-  module _ (y : Sides) (slots : List Slot) (dups : List ℕ) (r : IsReceiver (fold receive_slot x.recorded ps) y) (cores : map core y.streams ≡ map core x.open_streams) (slots_are : (fold receive_slot x.recorded ps).slots ≡ map slot_record slots) (dups_are : (fold receive_slot x.recorded ps).duplicates ≡ dups) where
-    recorded-received : record x.recorded { streams = map stream_record y.streams; slots = map slot_record slots; duplicates = dups } ≡ fold receive_slot x.recorded ps
+  module _ (y : Sides) (slots : List Slot) (dups : List ℕ) (r : IsReceiver (fold receive_slot x.recorded ps) y)
+      (cores : map core y.streams ≡ map core x.open_streams) (slots_are : (fold receive_slot x.recorded ps).slots ≡ map slot_record slots)
+      (dups_are : (fold receive_slot x.recorded ps).duplicates ≡ dups) where
+    recorded-received : record x.recorded { streams = map stream_record y.streams; slots = map slot_record slots; duplicates = dups }
+        ≡ fold receive_slot x.recorded ps
     recorded-received =
         let v = fold receive_slot x.recorded ps in
         ap {B = LinkRecord} (λ a. record x.recorded { streams = a; slots = map slot_record slots; duplicates = dups }) (sym r.streams_are)
@@ -204,7 +228,8 @@ module _ (sum : List ℕ → ℕ) (x : State) (l : IsLinked sum x) (k : ℕ) (ps
         (q.held ∙ ap (reassembly_of (fold receive_slot here ps)) id ∙ ap (λ u. reassembly_of u o.state.stream_identifier) (sym after-is))
         (q.si ∙ id ∙ sym i.si)
         (q.largest ∙ ap (λ s. s.largest) (Network.same-slots here ps).setup ∙ sym i.largest)
-        (ap (λ (t : OpenStream). t.state.max_payload_size) c) (ap (λ (t : OpenStream). t.ordered) c) (ap (λ (t : OpenStream). t.state.sequence_number) c) (ap (λ (t : OpenStream). t.begun) c)
+        (ap (λ (t : OpenStream). t.state.max_payload_size) c) (ap (λ (t : OpenStream). t.ordered) c) (ap (λ (t : OpenStream). t.state.sequence_number) c)
+        (ap (λ (t : OpenStream). t.begun) c)
         (ap (λ (t : OpenStream). t.next) c ∙ i.next ∙ sym (next-stays o.state.stream_identifier))
         (ap (λ (t : OpenStream). t.state.buffered_amount) c) (ap stats_in c ∙ i.stats ∙ ap stats_of (sym (counters-stay o.state.stream_identifier)))
 
@@ -215,12 +240,18 @@ module _ (sum : List ℕ → ℕ) (x : State) (l : IsLinked sum x) (k : ℕ) (ps
         numbers-core [] = refl
         numbers-core (t ∷ ls) = ap (λ ns. t.state.stream_identifier ∷ ns) (numbers-core ls)
 
-    pub linked-received : IsLinked sum (record x { recorded = record x.recorded { streams = map stream_record y.streams; slots = map slot_record slots; duplicates = dups }; open_streams = y.streams; filter = held_filter (reception_of y) })
+    pub linked-received : IsLinked sum (record x {
+      recorded = record x.recorded { streams = map stream_record y.streams; slots = map slot_record slots; duplicates = dups };
+      open_streams = y.streams;
+      filter = held_filter (reception_of y);
+    })
     linked-received =
-        linked-then sum x l (E.Arrive k) none frame x.progress y.streams (held_filter (reception_of y)) (record x.recorded { streams = map stream_record y.streams; slots = map slot_record slots; duplicates = dups }) refl
+        linked-then sum x l (E.Arrive k) none frame x.progress y.streams (held_filter (reception_of y))
+        (record x.recorded { streams = map stream_record y.streams; slots = map slot_record slots; duplicates = dups }) refl
         (r.filter_is ∙ ap filter_of (sym after-is)) stream-received (subst IsApart (sym numbers-same) l.apart) quiet (recorded-received ∙ sym after-is)
 
-    pub right-received : (new : Bool) (reply : R.Reply) → new ≡ list_any (is_new x.recorded) ps → reply ≡ (if new then R.New else R.Repeat) → IsRight x.recorded (E.Arrive k) reply (record x.recorded { streams = map stream_record y.streams; slots = map slot_record slots; duplicates = dups })
+    pub right-received : (new : Bool) (reply : R.Reply) → new ≡ list_any (is_new x.recorded) ps → reply ≡ (if new then R.New else R.Repeat)
+        → IsRight x.recorded (E.Arrive k) reply (record x.recorded { streams = map stream_record y.streams; slots = map slot_record slots; duplicates = dups })
     right-received new reply a b = record {
       right = b ∙ ap (λ c. if c then R.New else R.Repeat) a ∙ sym (ap (arrive_reply here) e);
       moves = recorded-received ∙ sym after-is;
@@ -229,7 +260,8 @@ module _ (sum : List ℕ → ℕ) (x : State) (l : IsLinked sum x) (k : ℕ) (ps
 -- ## What is known of them before
 
 module _ (sum : List ℕ → ℕ) (x : State) (l : IsLinked sum x) (k : ℕ) (ps : List ℕ) (e : slice_get x.recorded.network k ≡ Some (Data ps)) where
-  fragment-at : (qs : List ℕ) (i : ℕ) → AllFragments x.recorded qs → i < length qs → (slice_index_or qs i 0 < length x.recorded.slots) × ((slot_at x.recorded (slice_index_or qs i 0)).is_terminal_chunk ≡ false)
+  fragment-at : (qs : List ℕ) (i : ℕ) → AllFragments x.recorded qs → i < length qs
+      → (slice_index_or qs i 0 < length x.recorded.slots) × ((slot_at x.recorded (slice_index_or qs i 0)).is_terminal_chunk ≡ false)
   fragment-at [] i a lt = absurd (omega arith)
   fragment-at (q ∷ qs) zero a lt = (a.0, a.1)
   fragment-at (q ∷ qs) (suc i) a lt = fragment-at qs i a.2 (omega arith)

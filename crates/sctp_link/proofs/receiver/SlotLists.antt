@@ -35,14 +35,16 @@ numbers-stay : (w : LinkRecord) (p q : ℕ) → message_of (receive_slot w p) q 
 numbers-stay w p q = ap (λ y. (y.slot q).message) (Network.same-slot w p).shape_is
 
 -- the receiver refuses none of them
-pub can : (f : ℕ → ℕ) (ps : List ℕ) (cs : List ChunkPayloadData) (w : LinkRecord) (x : Sides) → ((q : ℕ) → f q ≡ message_of w q) → IsReceiver w x → AllCome w ps cs → CanTake cs (map f ps) x
+pub can : (f : ℕ → ℕ) (ps : List ℕ) (cs : List ChunkPayloadData) (w : LinkRecord) (x : Sides) → ((q : ℕ) → f q ≡ message_of w q) → IsReceiver w x
+    → AllCome w ps cs → CanTake cs (map f ps) x
 can f [] [] w x num r m = tt
 can f [] (c ∷ cs) w x num r m = absurd m
 can f (p ∷ ps) [] w x num r m = absurd m
 can f (p ∷ ps) (c ∷ cs) w x num r m = (
   accepted w x r p c m.0,
   opened w x r p c m.0,
-  λ complete y t. can f ps cs (receive_slot w p) y (λ q. num q ∙ sym (numbers-stay w p q)) (one w x r p c m.0 (f p) complete (arrival_of c.tsn complete (reception_of x)) y (num p) refl t).receiver m.1,
+  λ complete y t. can f ps cs (receive_slot w p) y (λ q. num q ∙ sym (numbers-stay w p q))
+      (one w x r p c m.0 (f p) complete (arrival_of c.tsn complete (reception_of x)) y (num p) refl t).receiver m.1,
 )
 
 -- what they make
@@ -64,7 +66,8 @@ marked (suc p) (t ∷ ss) = ap (λ xs. slot_record t ∷ xs) (marked p ss)
 others-new : (w : LinkRecord) (p : ℕ) (ps : List ℕ) → is_new w p ≡ false → list_any (is_new (receive_slot w p)) ps ≡ list_any (is_new w) ps
 others-new w p ps old = ap (λ v. list_any (is_new v) ps) (SlotArrives.repeated w p old)
 
-came-more : (w : LinkRecord) (x mid y : Sides) (p : ℕ) (ps : List ℕ) (a : Arrival) (bs : List Arrival) → One w x p a mid → Came (receive_slot w p) mid ps bs y → Came w x (p ∷ ps) (a ∷ bs) y
+came-more : (w : LinkRecord) (x mid y : Sides) (p : ℕ) (ps : List ℕ) (a : Arrival) (bs : List Arrival) → One w x p a mid → Came (receive_slot w p) mid ps bs y
+    → Came w x (p ∷ ps) (a ∷ bs) y
 came-more w x mid y p ps a bs o e = record {
   receiver = e.receiver;
   cores = e.cores ∙ o.cores;
@@ -79,19 +82,23 @@ came-more w x mid y p ps a bs o e = record {
     any true h = refl
     any false h = e.new ∙ others-new w p ps h
 
-    slots : (a : Arrival) → (receive_slot w p).slots ≡ (if is_first a then change_at mark_arrived p w.slots else w.slots) → (ss : List Slot) → w.slots ≡ map slot_record ss → (fold receive_slot (receive_slot w p) ps).slots ≡ map slot_record (arrived_in (p ∷ ps) (a ∷ bs) ss)
+    slots : (a : Arrival) → (receive_slot w p).slots ≡ (if is_first a then change_at mark_arrived p w.slots else w.slots) → (ss : List Slot)
+        → w.slots ≡ map slot_record ss → (fold receive_slot (receive_slot w p) ps).slots ≡ map slot_record (arrived_in (p ∷ ps) (a ∷ bs) ss)
     slots (New complete) h ss same = e.slots (change_at with_arrival p ss) (h ∙ ap (change_at mark_arrived p) same ∙ sym (marked p ss))
     slots Repeat h ss same = e.slots ss (h ∙ same)
 
-    duplicates : (a : Arrival) → (receive_slot w p).duplicates ≡ (if is_first a then w.duplicates else w.duplicates ++ p ∷ []) → (receive_slot w p).duplicates ++ repeated_of ps bs ≡ w.duplicates ++ repeated_of (p ∷ ps) (a ∷ bs)
+    duplicates : (a : Arrival) → (receive_slot w p).duplicates ≡ (if is_first a then w.duplicates else w.duplicates ++ p ∷ [])
+        → (receive_slot w p).duplicates ++ repeated_of ps bs ≡ w.duplicates ++ repeated_of (p ∷ ps) (a ∷ bs)
     duplicates (New complete) h = ap (λ d. d ++ repeated_of ps bs) h
     duplicates Repeat h = ap (λ d. d ++ repeated_of ps bs) h ∙ more w.duplicates p (repeated_of ps bs)
 
-pub came : (f : ℕ → ℕ) (ps : List ℕ) (cs : List ChunkPayloadData) (bs : List Arrival) (w : LinkRecord) (x y : Sides) → ((q : ℕ) → f q ≡ message_of w q) → IsReceiver w x → AllCome w ps cs → TakesEach cs (map f ps) bs x y → Came w x ps bs y
+pub came : (f : ℕ → ℕ) (ps : List ℕ) (cs : List ChunkPayloadData) (bs : List Arrival) (w : LinkRecord) (x y : Sides) → ((q : ℕ) → f q ≡ message_of w q)
+    → IsReceiver w x → AllCome w ps cs → TakesEach cs (map f ps) bs x y → Came w x ps bs y
 came f [] [] [] w x y num r m t = record {
   receiver = subst (IsReceiver w) (sym t) r;
   cores = ap (λ (z : Sides). map core z.streams) t;
-  rest = subst (λ (z : Sides). z ≡ record x { streams = z.streams; cumulative_tsn = z.cumulative_tsn; beyond = z.beyond; duplicates = z.duplicates }) (sym t) refl;
+  rest =
+      subst (λ (z : Sides). z ≡ record x { streams = z.streams; cumulative_tsn = z.cumulative_tsn; beyond = z.beyond; duplicates = z.duplicates }) (sym t) refl;
   new = refl;
   count = refl;
   slots = λ ss same. same;

@@ -42,20 +42,35 @@ use Rattle.sctp_stream.proofs.StreamPlaces.{map-set_same}
 
 -- a stream with these complete messages
 abbrev pub shown : ℕ → StreamState → List ℕ → StreamRecord
-shown named s complete = record { stream = s.stream_identifier; unordered = s.unordered; reliability = s.reliability_type; value = s.reliability_value; named = named; complete = complete }
+shown named s complete = record {
+  stream = s.stream_identifier;
+  unordered = s.unordered;
+  reliability = s.reliability_type;
+  value = s.reliability_value;
+  named = named;
+  complete = complete;
+}
 
 -- what no chunk changes of a stream: all but what came on it and which messages are complete
 abbrev pub core : OpenStream → OpenStream
-core l = record l { inbound = record l.inbound { queue = record { si = 0; held = record { next_ssn = 0; ordered = []; unordered = []; unassembled = [] }; bytes = 0; max_message_size = 0; places = 0 } }; complete = [] }
+core l = record l {
+  inbound = record l.inbound {
+    queue = record { si = 0; held = record { next_ssn = 0; ordered = []; unordered = []; unassembled = [] }; bytes = 0; max_message_size = 0; places = 0 };
+  };
+  complete = [];
+}
 
 -- what came on the stream with a number
-inbound-found : (s : ℕ) (ls : List OpenStream) → ((k : ℕ) (d : OpenStream) → k < length ls → (slice_index_or ls k d).inbound.queue.si ≡ (slice_index_or ls k d).state.stream_identifier) → find (Inbound.has_number s) (map (λ l. l.inbound) ls) ≡ option_map (λ l. l.inbound) (find (has_number s) ls)
+inbound-found : (s : ℕ) (ls : List OpenStream)
+    → ((k : ℕ) (d : OpenStream) → k < length ls → (slice_index_or ls k d).inbound.queue.si ≡ (slice_index_or ls k d).state.stream_identifier)
+    → find (Inbound.has_number s) (map (λ l. l.inbound) ls) ≡ option_map (λ l. l.inbound) (find (has_number s) ls)
 inbound-found s [] all = refl
 inbound-found s (l ∷ ls) all =
     ap (λ i. if i == s then Some l.inbound else find (Inbound.has_number s) (map (λ l. l.inbound) ls)) (all 0 l (omega arith))
     ∙ step (l.state.stream_identifier == s) (inbound-found s ls (λ k d lt. all (suc k) d (omega (arith, lt))))
   where
-    step : (b : Bool) → find (Inbound.has_number s) (map (λ l. l.inbound) ls) ≡ option_map (λ l. l.inbound) (find (has_number s) ls) → (if b then Some l.inbound else find (Inbound.has_number s) (map (λ l. l.inbound) ls)) ≡ option_map (λ (l : OpenStream). l.inbound) (if b then Some l else find (has_number s) ls)
+    step : (b : Bool) → find (Inbound.has_number s) (map (λ l. l.inbound) ls) ≡ option_map (λ l. l.inbound) (find (has_number s) ls) → (if b then Some l.inbound
+        else find (Inbound.has_number s) (map (λ l. l.inbound) ls)) ≡ option_map (λ (l : OpenStream). l.inbound) (if b then Some l else find (has_number s) ls)
     step true ih = refl
     step false ih = ih
 
@@ -123,7 +138,8 @@ module _ (w : LinkRecord) (x : Sides) (r : IsReceiver w x) (p : ℕ) (c : ChunkP
     one-again y e = let is = SlotArrives.repeated w p old in record {
       receiver = again y e;
       cores = ap (λ (z : Sides). map core z.streams) e;
-      rest = subst (λ (z : Sides). z ≡ record x { streams = z.streams; cumulative_tsn = z.cumulative_tsn; beyond = z.beyond; duplicates = z.duplicates }) (sym e) refl;
+      rest = subst (λ (z : Sides). z ≡ record x { streams = z.streams; cumulative_tsn = z.cumulative_tsn; beyond = z.beyond; duplicates = z.duplicates })
+          (sym e) refl;
       answer = sym old;
       slots = ap (λ v. v.slots) is;
       duplicates = ap (λ v. v.duplicates) is;
@@ -162,7 +178,8 @@ module _ (w : LinkRecord) (x : Sides) (r : IsReceiver w x) (p : ℕ) (c : ChunkP
     duplicates-noted true = refl
     duplicates-noted false = refl
 
-    module _ (at : ℕ) (lt : at < length x.streams) (number-is : (d : OpenStream) → (slice_index_or x.streams at d).state.stream_identifier ≡ c.stream_identifier) (d : OpenStream) where
+    module _ (at : ℕ) (lt : at < length x.streams)
+        (number-is : (d : OpenStream) → (slice_index_or x.streams at d).state.stream_identifier ≡ c.stream_identifier) (d : OpenStream) where
       abbrev y : OpenStream
       y = slice_index_or x.streams at d
 
@@ -193,15 +210,20 @@ module _ (w : LinkRecord) (x : Sides) (r : IsReceiver w x) (p : ℕ) (c : ChunkP
         holds-by true o =
             let q = keeps.ordered_queue (ap not o) in
             record {
-              queue = ap (λ (q : ReassemblyState). q.held) q ∙ ap (held_after_ordered_push (chunk_at w p)) here ∙ sym (ordered-slot w s p enter m.valid.valid o (span-here o));
-              noted = ap (λ b. keeps.complete && not b) o ∙ and-none keeps.complete ∙ sym (ap (λ b. not b && (has_arrived (with_arrived w p) n && list_all (λ i. nat_le w.skipped i) (slots_of (with_arrived w p) n))) o);
+              queue = ap (λ (q : ReassemblyState). q.held) q ∙ ap (held_after_ordered_push (chunk_at w p)) here
+                  ∙ sym (ordered-slot w s p enter m.valid.valid o (span-here o));
+              noted = ap (λ b. keeps.complete && not b) o ∙ and-none keeps.complete
+                  ∙ sym (ap (λ b. not b && (has_arrived (with_arrived w p) n && list_all (λ i. nat_le w.skipped i) (slots_of (with_arrived w p) n))) o);
               si = ap (λ (q : ReassemblyState). q.si) q;
               largest = ap (λ (q : ReassemblyState). q.max_message_size) q;
             }
         holds-by false o =
             let q = keeps.unordered_queue (ap not o) in
-            let pushed = subst (λ (h : Reassembly). BecomesComplete (insert_before chunk_before (chunk_at w p) h.unassembled) h z.inbound.queue.held keeps.complete) here q.0 in
-            let same = becomes-same (insert_before chunk_before (chunk_at w p) (reassembly_of w s).unassembled) (reassembly_of w s) z.inbound.queue.held (reassembly_of (receive_slot w p) s) keeps.complete (becomes_complete (with_arrived w p) n) pushed (unordered-slot w s p m.known.0 m.valid.valid m.valid.unassembled enter o m.known.1) in
+            let pushed = subst (λ (h : Reassembly).
+            BecomesComplete (insert_before chunk_before (chunk_at w p) h.unassembled) h z.inbound.queue.held keeps.complete) here q.0 in
+            let same = becomes-same (insert_before chunk_before (chunk_at w p) (reassembly_of w s).unassembled)
+            (reassembly_of w s) z.inbound.queue.held (reassembly_of (receive_slot w p) s) keeps.complete (becomes_complete (with_arrived w p) n) pushed
+            (unordered-slot w s p m.known.0 m.valid.valid m.valid.unassembled enter o m.known.1) in
             record {
               queue = same.0;
               noted = ap (λ b. keeps.complete && not b) o ∙ and-true keeps.complete ∙ same.1;
@@ -218,20 +240,24 @@ module _ (w : LinkRecord) (x : Sides) (r : IsReceiver w x) (p : ℕ) (c : ChunkP
         streams-apart : IsApart (stream_numbers x.streams)
         streams-apart = r.apart
 
-        shown-is : (b : Bool) → becomes_complete (with_arrived w p) n ≡ b → stream_record z ≡ shown y.named y.state (if b then y.complete ++ n ∷ [] else y.complete)
+        shown-is : (b : Bool) → becomes_complete (with_arrived w p) n ≡ b
+            → stream_record z ≡ shown y.named y.state (if b then y.complete ++ n ∷ [] else y.complete)
         shown-is b h =
             ap (λ (t : StreamState). shown z.named t z.complete) state-is
             ∙ ap (λ n. shown n y.state z.complete) (ap (λ (l : OpenStream). l.named) keeps.rest)
-            ∙ ap (shown y.named y.state) (ap (λ (l : OpenStream). l.complete) keeps.rest ∙ ap (λ c. if c then y.complete ++ number ∷ [] else y.complete) (holds.noted ∙ h) ∙ ap (λ i. if b then y.complete ++ i ∷ [] else y.complete) number_is)
+            ∙ ap (shown y.named y.state) (ap (λ (l : OpenStream). l.complete) keeps.rest ∙ ap (λ c. if c then y.complete ++ number ∷ []
+            else y.complete) (holds.noted ∙ h) ∙ ap (λ i. if b then y.complete ++ i ∷ [] else y.complete) number_is)
 
-        streams-are : (b : Bool) → becomes_complete (with_arrived w p) n ≡ b → (if b then stream_changed (with_arrived w p) s (with_complete n) else with_arrived w p).streams ≡ map stream_record (slice_set x.streams at z)
+        streams-are : (b : Bool) → becomes_complete (with_arrived w p) n ≡ b
+            → (if b then stream_changed (with_arrived w p) s (with_complete n) else with_arrived w p).streams ≡ map stream_record (slice_set x.streams at z)
         streams-are true h = sym (
             streams-set x.streams at z d (with_complete n) streams-apart lt (shown-is true h)
             ∙ ap (λ t. map (λ (q : StreamRecord). if q.stream == t then with_complete n q else q) (map stream_record x.streams)) (id-at d)
             ∙ ap (map (λ (q : StreamRecord). if q.stream == s then with_complete n q else q)) (sym r.streams_are))
         streams-are false h = sym (map-set_same stream_record x.streams at z d (shown-is false h) ∙ sym r.streams_are)
 
-        rest-is : (b : Bool) → (if b then stream_changed (with_arrived w p) s (with_complete n) else with_arrived w p) ≡ record (with_arrived w p) { streams = (if b then stream_changed (with_arrived w p) s (with_complete n) else with_arrived w p).streams }
+        rest-is : (b : Bool) → (if b then stream_changed (with_arrived w p) s (with_complete n) else with_arrived w p)
+            ≡ record (with_arrived w p) { streams = (if b then stream_changed (with_arrived w p) s (with_complete n) else with_arrived w p).streams }
         rest-is true = refl
         rest-is false = refl
 
@@ -240,7 +266,8 @@ module _ (w : LinkRecord) (x : Sides) (r : IsReceiver w x) (p : ℕ) (c : ChunkP
             let b = becomes_complete (with_arrived w p) n in
             noted-is ∙ rest-is b ∙ ap {B = LinkRecord} (λ rs. record (with_arrived w p) { streams = rs }) (streams-are b refl)
 
-        queue-then : (k : ℕ) (e : OpenStream) → k < length (slice_set x.streams at z) → HoldsQueue (receive_slot w p) (slice_index_or (slice_set x.streams at z) k e)
+        queue-then : (k : ℕ) (e : OpenStream) → k < length (slice_set x.streams at z)
+            → HoldsQueue (receive_slot w p) (slice_index_or (slice_set x.streams at z) k e)
         queue-then k e less =
             let inside : k < length x.streams = omega (arith, less, length-set x.streams at z) in
             let same = ap (λ t. t.largest) (Network.same-slot w p).setup in
@@ -251,7 +278,8 @@ module _ (w : LinkRecord) (x : Sides) (r : IsReceiver w x) (p : ℕ) (c : ChunkP
               largest = holds.largest ∙ (r.queues at d lt).largest ∙ sym same;
             })
             (λ ne. let q = r.queues k e inside in record {
-              held = q.held ∙ sym (elsewhere (slice_index_or x.streams k e).state.stream_identifier (λ h. differ x.streams k at e streams-apart inside lt ne (h ∙ sym (id-at e))));
+              held = q.held ∙ sym (elsewhere (slice_index_or x.streams k e).state.stream_identifier
+                  (λ h. differ x.streams k at e streams-apart inside lt ne (h ∙ sym (id-at e))));
               si = q.si;
               largest = q.largest ∙ sym same;
             })
@@ -273,23 +301,27 @@ module _ (w : LinkRecord) (x : Sides) (r : IsReceiver w x) (p : ℕ) (c : ChunkP
         one-kept : (complete : Bool) (u : Sides) → u ≡ with_filter_of (with_tsn c.tsn f) (on_stream c.stream_identifier (λ _. z) x) → One w x p (New complete) u
         one-kept complete u e =
             let b = becomes_complete (with_arrived w p) n in
-            let is : u ≡ with_filter_of (with_tsn c.tsn f) (record x { streams = slice_set x.streams at z }) = e ∙ ap (λ ls. with_filter_of (with_tsn c.tsn f) (record x { streams = ls })) (sym set-is) in
+            let is : u ≡ with_filter_of (with_tsn c.tsn f) (record x { streams = slice_set x.streams at z }) = e
+            ∙ ap (λ ls. with_filter_of (with_tsn c.tsn f) (record x { streams = ls })) (sym set-is) in
             record {
               receiver = subst (IsReceiver (receive_slot w p)) (sym is) kept;
               cores = ap (λ (v : Sides). map core v.streams) is ∙ map-set_same core x.streams at z d core-is;
-              rest = subst (λ (v : Sides). v ≡ record x { streams = v.streams; cumulative_tsn = v.cumulative_tsn; beyond = v.beyond; duplicates = v.duplicates }) (sym is) refl;
+              rest = subst (λ (v : Sides). v
+                  ≡ record x { streams = v.streams; cumulative_tsn = v.cumulative_tsn; beyond = v.beyond; duplicates = v.duplicates }) (sym is) refl;
               answer = sym new;
               slots = ap (λ v. v.slots) noted-is ∙ slots-noted b;
               duplicates = ap (λ v. v.duplicates) noted-is ∙ duplicates-noted b;
             }
 
-    number-at : (l : OpenStream) (k : ℕ) → find (has_number c.stream_identifier) x.streams ≡ Some l → ((d : OpenStream) → slice_index_or x.streams k d ≡ l) → (d : OpenStream) → (slice_index_or x.streams k d).state.stream_identifier ≡ c.stream_identifier
+    number-at : (l : OpenStream) (k : ℕ) → find (has_number c.stream_identifier) x.streams ≡ Some l → ((d : OpenStream) → slice_index_or x.streams k d ≡ l)
+        → (d : OpenStream) → (slice_index_or x.streams k d).state.stream_identifier ≡ c.stream_identifier
     number-at l k found is d = ap (λ (q : OpenStream). q.state.stream_identifier) (is d) ∙ number-found c.stream_identifier x.streams l found
 
     one-new : (complete : Bool) (number : ℕ) (u : Sides) → number ≡ message_of w p → Accepts c number x u → One w x p (New complete) u
     one-new complete number u number_is a =
         let k = placed c.stream_identifier x.streams a.stream a.found in
-        one-kept k.0 k.1.0 (number-at a.stream k.0 a.found k.1.1) a.stream a.kept number number_is (subst (λ l. Keeps c number l a.kept) (sym (k.1.1 a.stream)) a.keeps) complete u a.after
+        one-kept k.0 k.1.0 (number-at a.stream k.0 a.found k.1.1) a.stream a.kept number number_is
+        (subst (λ l. Keeps c number l a.kept) (sym (k.1.1 a.stream)) a.keeps) complete u a.after
 
     small-there : is_too_large c there.0.inbound.queue ≡ false
     small-there =
@@ -310,11 +342,12 @@ module _ (w : LinkRecord) (x : Sides) (r : IsReceiver w x) (p : ℕ) (c : ChunkP
       by true new =
           ap (λ b. if b then None else (if is_opposite c.tsn f then Some TsnOpposite else rest-refusal)) (fresh new)
           ∙ ap (λ b. if b then Some TsnOpposite else rest-refusal) (near new)
-          ∙ ap (stream_refusal c) (inbound-found c.stream_identifier x.streams (λ k d lt. (r.queues k d lt).si) ∙ ap (option_map (λ (l : OpenStream). l.inbound)) there.1)
-          ∙ ap (λ b. if b then Some MessageTooLarge else None) (small-there new)
+          ∙ ap (stream_refusal c) (inbound-found c.stream_identifier x.streams (λ k d lt. (r.queues k d lt).si)
+          ∙ ap (option_map (λ (l : OpenStream). l.inbound)) there.1) ∙ ap (λ b. if b then Some MessageTooLarge else None) (small-there new)
 
   -- and takes it as the record does
-  pub one : (number : ℕ) (complete : Bool) (a : Arrival) (u : Sides) → number ≡ message_of w p → a ≡ arrival_of c.tsn complete (reception_of x) → Takes c number a x u → One w x p a u
+  pub one : (number : ℕ) (complete : Bool) (a : Arrival) (u : Sides) → number ≡ message_of w p → a ≡ arrival_of c.tsn complete (reception_of x)
+      → Takes c number a x u → One w x p a u
   one number complete a u number_is e t = by a e t (is_new w p) refl
     where
       told-is : (b : Bool) → is_new w p ≡ b → arrival_of c.tsn complete (reception_of x) ≡ (if not b then Repeat else New complete)

@@ -1,5 +1,6 @@
 -- The span test of a datagram of slots.
-use Rattle.std.proofs.Common.{◌≡◌, ℕ, zero, suc, ◌+◌, ◌<◌, ◌≤◌, ◌^◌, Bool, true, false, List, [], ◌∷◌, ◌++◌, ◌-◌, length, map, drop, Option, Some, None, refl, ap, sym, ◌∙◌, inl, inr, arith, add-one}
+use Rattle.std.proofs.Common.{◌≡◌, ℕ, zero, suc, ◌+◌, ◌<◌, ◌≤◌, ◌^◌, Bool, true, false, List, [], ◌∷◌, ◌++◌, ◌-◌, length, map, drop, Option, Some, None, refl}
+use Rattle.std.proofs.Common.{ap, sym, ◌∙◌, inl, inr, arith, add-one}
 use Rattle.std.specs.Prelude.{◌⊎◌, ◌==◌, ◌&&◌, ◌||◌, not, is_some, if◌then◌else◌, fold, max, min, nat_lt, slice_get, slice_index_or}
 use Rattle.std.specs.List.{list_any, list_all, filter}
 use Rattle.std.proofs.Math.Path.{subst}
@@ -42,12 +43,16 @@ use Rattle.sctp_link.proofs.receiver.Hears.{come-message, slots-made, messages-m
 abbrev among : ℕ → List ℕ → Bool
 among n ms = list_any (λ m. m == n) ms
 
-added-any : (w : LinkRecord) (t n : ℕ) (ms : List ℕ) → is_ordered_on w t n ≡ true → among n ms ≡ true → list_any (λ z. z == index_of w n) (map (index_of w) (filter (is_ordered_on w t) ms)) ≡ true
+added-any : (w : LinkRecord) (t n : ℕ) (ms : List ℕ) → is_ordered_on w t n ≡ true → among n ms ≡ true
+    → list_any (λ z. z == index_of w n) (map (index_of w) (filter (is_ordered_on w t) ms)) ≡ true
 added-any w t n [] on e = cc
 added-any w t n (m ∷ ms) on e = step (m == n) refl (is_ordered_on w t m) refl e (added-any w t n ms on)
   where
-    step : (b : Bool) → (m == n) ≡ b → (o : Bool) → is_ordered_on w t m ≡ o → (b || among n ms) ≡ true → (among n ms ≡ true → list_any (λ z. z == index_of w n) (map (index_of w) (filter (is_ordered_on w t) ms)) ≡ true) → list_any (λ z. z == index_of w n) (map (index_of w) (if o then m ∷ filter (is_ordered_on w t) ms else filter (is_ordered_on w t) ms)) ≡ true
-    step true h true f e ih = ap (λ k. (index_of w k == index_of w n) || list_any (λ z. z == index_of w n) (map (index_of w) (filter (is_ordered_on w t) ms))) (same-is m n h) ∙ ap (λ b. b || list_any (λ z. z == index_of w n) (map (index_of w) (filter (is_ordered_on w t) ms))) (same-yes (index_of w n))
+    step : (b : Bool) → (m == n) ≡ b → (o : Bool) → is_ordered_on w t m ≡ o → (b || among n ms) ≡ true
+        → (among n ms ≡ true → list_any (λ z. z == index_of w n) (map (index_of w) (filter (is_ordered_on w t) ms)) ≡ true)
+        → list_any (λ z. z == index_of w n) (map (index_of w) (if o then m ∷ filter (is_ordered_on w t) ms else filter (is_ordered_on w t) ms)) ≡ true
+    step true h true f e ih = ap (λ k. (index_of w k == index_of w n) || list_any (λ z. z == index_of w n) (map (index_of w) (filter (is_ordered_on w t) ms)))
+        (same-is m n h) ∙ ap (λ b. b || list_any (λ z. z == index_of w n) (map (index_of w) (filter (is_ordered_on w t) ms))) (same-yes (index_of w n))
     step true h false f e ih = absurd (not_both (sym f ∙ ap (is_ordered_on w t) (same-is m n h) ∙ on))
     step false h true f e ih = or-yes (index_of w m == index_of w n) (ih e)
       where
@@ -60,7 +65,8 @@ added-any w t n (m ∷ ms) on e = step (m == n) refl (is_ordered_on w t m) refl 
 
 -- a slot that is new then was new before
 pub new-back : (w : LinkRecord) (q p : ℕ) → is_new (receive_slot w q) p ≡ true → is_new w p ≡ true
-new-back w q p = by_step (λ v. is_new v p ≡ true → is_new w p ≡ true) w q (λ h. h) (λ e b k. by_place {C = is_new (noted w q b) p ≡ true → is_new w p ≡ true} p q (λ ne h. unseen b ne ∙ h) (λ z h. ap (is_new w) z ∙ e))
+new-back w q p = by_step (λ v. is_new v p ≡ true → is_new w p ≡ true) w q (λ h. h)
+    (λ e b k. by_place {C = is_new (noted w q b) p ≡ true → is_new w p ≡ true} p q (λ ne h. unseen b ne ∙ h) (λ z h. ap (is_new w) z ∙ e))
   where
     unseen : (b : Bool) → (p ≡ q → ⊥) → is_new w p ≡ is_new (noted w q b) p
     unseen b ne = new-unseen w p ∙ ap (λ a. not (nat_lt p w.skipped || a)) (sym (arrived b)) ∙ skipped b ∙ sym (new-unseen (noted w q b) p)
@@ -84,13 +90,16 @@ module _ (w : LinkRecord) (q : ℕ) (ms : List ℕ) where
       inner [] = refl
       inner (n ∷ ns) = step (is_ordered_on v t n) (is_ordered_on w t n) ((only-slot w q).on t n) (inner ns)
         where
-          step : (a b : Bool) → a ≡ b → map (index_of v) (filter (is_ordered_on v t) ns) ≡ map (index_of w) (filter (is_ordered_on w t) ns) → map (index_of v) (if a then n ∷ filter (is_ordered_on v t) ns else filter (is_ordered_on v t) ns) ≡ map (index_of w) (if b then n ∷ filter (is_ordered_on w t) ns else filter (is_ordered_on w t) ns)
+          step : (a b : Bool) → a ≡ b → map (index_of v) (filter (is_ordered_on v t) ns) ≡ map (index_of w) (filter (is_ordered_on w t) ns)
+              → map (index_of v) (if a then n ∷ filter (is_ordered_on v t) ns else filter (is_ordered_on v t) ns) ≡ map (index_of w)
+              (if b then n ∷ filter (is_ordered_on w t) ns else filter (is_ordered_on w t) ns)
           step true true e ih = ap (λ i. i ∷ map (index_of v) (filter (is_ordered_on v t) ns)) ((only-slot w q).index n) ∙ ap (λ is. index_of w n ∷ is) ih
           step false false e ih = ih
           step true false e ih = cc
           step false true e ih = cc
 
-  spans-then : among (message_of w q) ms ≡ true → (t : ℕ) → IsSpan w t (map (index_of w) (filter (is_ordered_on w t) ms)) → IsSpan v t (map (index_of v) (filter (is_ordered_on v t) ms))
+  spans-then : among (message_of w q) ms ≡ true → (t : ℕ) → IsSpan w t (map (index_of w) (filter (is_ordered_on w t) ms))
+      → IsSpan v t (map (index_of v) (filter (is_ordered_on v t) ms))
   spans-then among' t sp =
       let o = only-slot w q in
       record {
@@ -100,7 +109,8 @@ module _ (w : LinkRecord) (q : ℕ) (ms : List ℕ) where
         next = (omega (arith, o.next t, sp.next), omega (arith, o.next t, sp.next));
         held = λ k lt h. by_place {C = (sp.low ≤ index_of v k) × (index_of v k ≤ sp.high)} k (message_of w q)
             (λ ne. let x = sp.held k (omega (arith, lt, o.count)) (o.held t k ne h) in (omega (arith, x, o.index k), omega (arith, x, o.index k)))
-            (λ z. let y = sp.others (index_of w k) (added-any w t k ms (sym (o.on t k) ∙ (held v t k h).on) (ap (λ n. among n ms) z ∙ among')) in (omega (arith, y, o.index k), omega (arith, y, o.index k)));
+            (λ z. let y = sp.others (index_of w k) (added-any w t k ms (sym (o.on t k) ∙ (held v t k h).on) (ap (λ n. among n ms) z ∙ among')) in
+            (omega (arith, y, o.index k), omega (arith, y, o.index k)));
         others = λ y e. sp.others y (sym (ap (list_any (λ z. z == y)) (same-added t)) ∙ e);
       }
 
@@ -110,11 +120,15 @@ module _ (w : LinkRecord) (q : ℕ) (ms : List ℕ) where
     where
       step : (b : Bool) → is_new w q ≡ b → spans_fit v ms ≡ true
       step false h = ap (λ u. spans_fit u ms) (repeated w q h) ∙ e
-      step true h = all-streams w q (λ t. fits w (map (index_of w) (filter (is_ordered_on w t) ms)) t) (λ t. fits v (map (index_of v) (filter (is_ordered_on v t) ms)) t)
-          (λ t f. fits-span v t (map (index_of v) (filter (is_ordered_on v t) ms)) (spans-then (among' h) t (span-fits w t (map (index_of w) (filter (is_ordered_on w t) ms)) f))) e
+      step true h =
+          all-streams w q (λ t. fits w (map (index_of w) (filter (is_ordered_on w t) ms)) t) (λ t. fits v (map (index_of v) (filter (is_ordered_on v t) ms)) t)
+          (λ t f. fits-span v t (map (index_of v) (filter (is_ordered_on v t) ms))
+          (spans-then (among' h) t (span-fits w t (map (index_of w) (filter (is_ordered_on w t) ms)) f))) e
 
 -- so do all of them, one after another
-fits-all : (w v : LinkRecord) (ps qs ms : List ℕ) → Network.Same w v → ((p : ℕ) → is_new v p ≡ true → is_new w p ≡ true) → ((p : ℕ) → list_any (λ q. q == p) qs ≡ true → is_new w p ≡ true → among (message_of w p) ms ≡ true) → spans_fit v ms ≡ true → spans_fit (fold receive_slot v qs) ms ≡ true
+fits-all : (w v : LinkRecord) (ps qs ms : List ℕ) → Network.Same w v → ((p : ℕ) → is_new v p ≡ true → is_new w p ≡ true)
+    → ((p : ℕ) → list_any (λ q. q == p) qs ≡ true → is_new w p ≡ true → among (message_of w p) ms ≡ true) → spans_fit v ms ≡ true
+    → spans_fit (fold receive_slot v qs) ms ≡ true
 fits-all w v ps [] ms same back have e = e
 fits-all w v ps (q ∷ qs) ms same back have e =
     let s = Network.same-slot v q in
@@ -129,12 +143,16 @@ fits-all w v ps (q ∷ qs) ms same back have e =
     or-yes false h = h
 
 -- a new one's message is among those of the new ones
-pub new-among : (w : LinkRecord) (ps : List ℕ) (p : ℕ) → list_any (λ q. q == p) ps ≡ true → is_new w p ≡ true → list_any (λ m. m == message_of w p) (map (message_of w) (filter (is_new w) ps)) ≡ true
+pub new-among : (w : LinkRecord) (ps : List ℕ) (p : ℕ) → list_any (λ q. q == p) ps ≡ true → is_new w p ≡ true
+    → list_any (λ m. m == message_of w p) (map (message_of w) (filter (is_new w) ps)) ≡ true
 new-among w [] p h new = cc
 new-among w (q ∷ ps) p h new = step (q == p) refl (is_new w q) refl h (λ g. new-among w ps p g new)
   where
-    step : (b : Bool) → (q == p) ≡ b → (o : Bool) → is_new w q ≡ o → (b || list_any (λ q. q == p) ps) ≡ true → (list_any (λ q. q == p) ps ≡ true → list_any (λ m. m == message_of w p) (map (message_of w) (filter (is_new w) ps)) ≡ true) → list_any (λ m. m == message_of w p) (map (message_of w) (if o then q ∷ filter (is_new w) ps else filter (is_new w) ps)) ≡ true
-    step true e true f g ih = ap (λ k. (message_of w k == message_of w p) || list_any (λ m. m == message_of w p) (map (message_of w) (filter (is_new w) ps))) (same-is q p e) ∙ ap (λ b. b || list_any (λ m. m == message_of w p) (map (message_of w) (filter (is_new w) ps))) (same-yes (message_of w p))
+    step : (b : Bool) → (q == p) ≡ b → (o : Bool) → is_new w q ≡ o → (b || list_any (λ q. q == p) ps) ≡ true
+        → (list_any (λ q. q == p) ps ≡ true → list_any (λ m. m == message_of w p) (map (message_of w) (filter (is_new w) ps)) ≡ true)
+        → list_any (λ m. m == message_of w p) (map (message_of w) (if o then q ∷ filter (is_new w) ps else filter (is_new w) ps)) ≡ true
+    step true e true f g ih = ap (λ k. (message_of w k == message_of w p) || list_any (λ m. m == message_of w p) (map (message_of w) (filter (is_new w) ps)))
+        (same-is q p e) ∙ ap (λ b. b || list_any (λ m. m == message_of w p) (map (message_of w) (filter (is_new w) ps))) (same-yes (message_of w p))
     step true e false f g ih = absurd (not_both (sym f ∙ ap (is_new w) (same-is q p e) ∙ new))
     step false e true f g ih = or-yes (message_of w q == message_of w p) (ih g)
       where
@@ -165,7 +183,8 @@ each-all : (f : ℕ → Bool) (ps : List ℕ) → list_all f ps ≡ true → (p 
 each-all f [] h p e = cc
 each-all f (q ∷ ps) h p e = step (q == p) refl e (both (f q) (list_all f ps) h) (λ g i. each-all f ps g p i)
   where
-    step : (b : Bool) → (q == p) ≡ b → (b || list_any (λ q. q == p) ps) ≡ true → (f q ≡ true) × (list_all f ps ≡ true) → (list_all f ps ≡ true → list_any (λ q. q == p) ps ≡ true → f p ≡ true) → f p ≡ true
+    step : (b : Bool) → (q == p) ≡ b → (b || list_any (λ q. q == p) ps) ≡ true → (f q ≡ true) × (list_all f ps ≡ true)
+        → (list_all f ps ≡ true → list_any (λ q. q == p) ps ≡ true → f p ≡ true) → f p ≡ true
     step true s g h ih = ap f (sym (same-is q p s)) ∙ h.0
     step false s g h ih = ih h.1 g
 
@@ -191,13 +210,18 @@ adds-or w t (q ∷ ps) = step (is_new w q) refl (is_ordered_on w t (message_of w
     more (inl e) = inl e
     more (inr a) = inr (adds-more w t q ps a)
 
-    step : (b : Bool) → is_new w q ≡ b → (o : Bool) → is_ordered_on w t (message_of w q) ≡ o → (added_on w t ps ≡ []) ⊎ Adds w t ps → (map (index_of w) (filter (is_ordered_on w t) (map (message_of w) (if b then q ∷ filter (is_new w) ps else filter (is_new w) ps))) ≡ []) ⊎ Adds w t (q ∷ ps)
+    step : (b : Bool) → is_new w q ≡ b → (o : Bool) → is_ordered_on w t (message_of w q) ≡ o → (added_on w t ps ≡ []) ⊎ Adds w t ps
+        → (map (index_of w) (filter (is_ordered_on w t) (map (message_of w) (if b then q ∷ filter (is_new w) ps else filter (is_new w) ps))) ≡ [])
+        ⊎ Adds w t (q ∷ ps)
     step false e o f ih = more ih
     step true e true f ih = inr (record { place = q; there = ap (λ b. b || list_any (λ p. p == q) ps) (same-yes q); new = e; on = f })
     step true e false f ih = skip (more ih)
       where
-        skip : (added_on w t ps ≡ []) ⊎ Adds w t (q ∷ ps) → (map (index_of w) (if is_ordered_on w t (message_of w q) then message_of w q ∷ filter (is_ordered_on w t) (map (message_of w) (filter (is_new w) ps)) else filter (is_ordered_on w t) (map (message_of w) (filter (is_new w) ps))) ≡ []) ⊎ Adds w t (q ∷ ps)
-        skip (inl g) = inl (ap (λ o. map (index_of w) (if o then message_of w q ∷ filter (is_ordered_on w t) (map (message_of w) (filter (is_new w) ps)) else filter (is_ordered_on w t) (map (message_of w) (filter (is_new w) ps)))) f ∙ g)
+        skip : (added_on w t ps ≡ []) ⊎ Adds w t (q ∷ ps)
+            → (map (index_of w) (if is_ordered_on w t (message_of w q) then message_of w q ∷ filter (is_ordered_on w t)
+            (map (message_of w) (filter (is_new w) ps)) else filter (is_ordered_on w t) (map (message_of w) (filter (is_new w) ps))) ≡ []) ⊎ Adds w t (q ∷ ps)
+        skip (inl g) = inl (ap (λ o. map (index_of w) (if o then message_of w q ∷ filter (is_ordered_on w t) (map (message_of w) (filter (is_new w) ps))
+            else filter (is_ordered_on w t) (map (message_of w) (filter (is_new w) ps)))) f ∙ g)
         skip (inr a) = inr a
 
 module _ (w : LinkRecord) (ps : List ℕ) (all : spans_fit w [] ≡ true) (carried : (i : ℕ) → i < length ps → Carried w (slice_index_or ps i 0)) where
@@ -209,7 +233,8 @@ module _ (w : LinkRecord) (ps : List ℕ) (all : spans_fit w [] ≡ true) (carri
     where
       step : (b : Bool) → (if b then fits w (added_on w (message_at w (message_of w p)).stream ps) (message_at w (message_of w p)).stream else true) ≡ true
       step false = refl
-      step true = fits-span w (message_at w (message_of w p)).stream (added_on w (message_at w (message_of w p)).stream ps) (span-open w (message_at w (message_of w p)).stream ms e (ap is_some (any-carried (Carried w) ps carried p there).known.1))
+      step true = fits-span w (message_at w (message_of w p)).stream (added_on w (message_at w (message_of w p)).stream ps)
+          (span-open w (message_at w (message_of w p)).stream ms e (ap is_some (any-carried (Carried w) ps carried p there).known.1))
 
   fit-slots : ((p : ℕ) → list_any (λ q. q == p) ps ≡ true → slot_fits w ps p ≡ true) → spans_fit w ms ≡ true
   fit-slots h = each w.streams all
@@ -219,13 +244,16 @@ module _ (w : LinkRecord) (ps : List ℕ) (all : spans_fit w [] ≡ true) (carri
       one t e (inr a) =
           let n = message_of w a.place in
           let stream = Line.on-stream w t n a.on in
-          let yes : (is_new w a.place && (message_at w n).ordered) ≡ true = and (is_new w a.place) (message_at w n).ordered a.new (Line.on-ordered w t n a.on) in
+          let yes : (is_new w a.place && (message_at w n).ordered) ≡ true = and (is_new w a.place)
+          (message_at w n).ordered a.new (Line.on-ordered w t n a.on) in
           let f = h a.place a.there in
-          subst (λ s. fits w (added_on w s ps) s ≡ true) stream (sym (ap (λ b. if b then fits w (added_on w (message_at w n).stream ps) (message_at w n).stream else true) yes) ∙ f)
+          subst (λ s. fits w (added_on w s ps) s ≡ true) stream
+          (sym (ap (λ b. if b then fits w (added_on w (message_at w n).stream ps) (message_at w n).stream else true) yes) ∙ f)
 
       each : (rs : List StreamRecord) → list_all (λ r. fits w [] r.stream) rs ≡ true → list_all (λ r. fits w (added_on w r.stream ps) r.stream) rs ≡ true
       each [] e = refl
-      each (r ∷ rs) e = let c = both (fits w [] r.stream) (list_all (λ r. fits w [] r.stream) rs) e in and (fits w (added_on w r.stream ps) r.stream) (list_all (λ r. fits w (added_on w r.stream ps) r.stream) rs) (one r.stream c.0 (adds-or w r.stream ps)) (each rs c.1)
+      each (r ∷ rs) e = let c = both (fits w [] r.stream) (list_all (λ r. fits w [] r.stream) rs) e in and (fits w (added_on w r.stream ps) r.stream)
+          (list_all (λ r. fits w (added_on w r.stream ps) r.stream) rs) (one r.stream c.0 (adds-or w r.stream ps)) (each rs c.1)
 
   later : spans_fit w ms ≡ true → spans_fit (fold receive_slot w ps) ms ≡ true
   later e = fits-all w w ps ps ms (record { setup = refl; network = refl; shape_is = refl }) (λ p h. h) (λ p h new. new-among w ps p h new) e
@@ -234,7 +262,8 @@ module _ (w : LinkRecord) (ps : List ℕ) (all : spans_fit w [] ≡ true) (carri
   pub arrival-fits-slots : arrival_fits w (Some (Data ps)) ≡ list_all (slot_fits w ps) ps
   arrival-fits-slots =
       joined (spans_fit w ms) (spans_fit (fold receive_slot w ps) ms) later
-      ∙ same_test (spans_fit w ms) (list_all (slot_fits w ps) ps) (λ e. all-each (slot_fits w ps) ps (slots-fit e)) (λ e. fit-slots (each-all (slot_fits w ps) ps e))
+      ∙ same_test (spans_fit w ms) (list_all (slot_fits w ps) ps) (λ e. all-each (slot_fits w ps) ps (slots-fit e))
+      (λ e. fit-slots (each-all (slot_fits w ps) ps e))
     where
       joined : (a b : Bool) → (a ≡ true → b ≡ true) → (a && b) ≡ a
       joined true b h = h refl
@@ -255,7 +284,8 @@ fits-ends w s more =
     lt-gap g l = same_test (nat_lt (g - l) 32768) (nat_lt g (l + 2 ^ 15)) (λ e. grind (arith, nat_tests)) (λ e. grind (arith, nat_tests))
 
 -- one slot more widens them by its index, where it adds one
-added-first : (w : LinkRecord) (s q : ℕ) (qs : List ℕ) (b o : Bool) → is_new w q ≡ b → is_ordered_on w s (message_of w q) ≡ o → added_on w s (q ∷ qs) ≡ (if b && o then index_of w (message_of w q) ∷ added_on w s qs else added_on w s qs)
+added-first : (w : LinkRecord) (s q : ℕ) (qs : List ℕ) (b o : Bool) → is_new w q ≡ b → is_ordered_on w s (message_of w q) ≡ o
+    → added_on w s (q ∷ qs) ≡ (if b && o then index_of w (message_of w q) ∷ added_on w s qs else added_on w s qs)
 added-first w s q qs true true e f = rw (e, f) refl
 added-first w s q qs true false e f = rw (e, f) refl
 added-first w s q qs false o e f = rw e refl
@@ -271,7 +301,8 @@ drop-next ps i lt = drop-suc ps i lt ∙ ap (λ k. slice_index_or ps i 0 ∷ dro
 pub widened-next : (w : LinkRecord) (s : ℕ) (ps : List ℕ) (i : ℕ) (index : Option ℕ) (old new : ℕ × ℕ) → i < length ps
     → index ≡ (if adds_on w s (slice_index_or ps i 0) then Some (index_of w (message_of w (slice_index_or ps i 0))) else None)
     → ((k : ℕ) → index ≡ Some k → new ≡ (min old.0 k, max old.1 k)) → (index ≡ None → new ≡ old)
-    → (least new.0 (added_on w s (drop (i + 1) ps)) ≡ least old.0 (added_on w s (drop i ps))) × (greatest new.1 (added_on w s (drop (i + 1) ps)) ≡ greatest old.1 (added_on w s (drop i ps)))
+    → (least new.0 (added_on w s (drop (i + 1) ps)) ≡ least old.0 (added_on w s (drop i ps)))
+    × (greatest new.1 (added_on w s (drop (i + 1) ps)) ≡ greatest old.1 (added_on w s (drop i ps)))
 widened-next w s ps i index old new lt is some none =
     let p = slice_index_or ps i 0 in
     let rest = drop (i + 1) ps in
@@ -279,9 +310,14 @@ widened-next w s ps i index old new lt is some none =
     let r = step (adds_on w s p) is in
     (r.0 ∙ ap (least old.0) (sym first), r.1 ∙ ap (greatest old.1) (sym first))
   where
-    step : (b : Bool) → index ≡ (if b then Some (index_of w (message_of w (slice_index_or ps i 0))) else None) → (least new.0 (added_on w s (drop (i + 1) ps)) ≡ least old.0 (if b then index_of w (message_of w (slice_index_or ps i 0)) ∷ added_on w s (drop (i + 1) ps) else added_on w s (drop (i + 1) ps))) × (greatest new.1 (added_on w s (drop (i + 1) ps)) ≡ greatest old.1 (if b then index_of w (message_of w (slice_index_or ps i 0)) ∷ added_on w s (drop (i + 1) ps) else added_on w s (drop (i + 1) ps)))
-    step true e = let z = some (index_of w (message_of w (slice_index_or ps i 0))) e in (ap (λ (x : ℕ × ℕ). least x.0 (added_on w s (drop (i + 1) ps))) z, ap (λ (x : ℕ × ℕ). greatest x.1 (added_on w s (drop (i + 1) ps))) z)
-    step false e = let z = none e in (ap (λ (x : ℕ × ℕ). least x.0 (added_on w s (drop (i + 1) ps))) z, ap (λ (x : ℕ × ℕ). greatest x.1 (added_on w s (drop (i + 1) ps))) z)
+    step : (b : Bool) → index ≡ (if b then Some (index_of w (message_of w (slice_index_or ps i 0))) else None) → (least new.0 (added_on w s (drop (i + 1) ps))
+        ≡ least old.0 (if b then index_of w (message_of w (slice_index_or ps i 0)) ∷ added_on w s (drop (i + 1) ps) else added_on w s (drop (i + 1) ps)))
+        × (greatest new.1 (added_on w s (drop (i + 1) ps))
+        ≡ greatest old.1 (if b then index_of w (message_of w (slice_index_or ps i 0)) ∷ added_on w s (drop (i + 1) ps) else added_on w s (drop (i + 1) ps)))
+    step true e = let z = some (index_of w (message_of w (slice_index_or ps i 0))) e in
+        (ap (λ (x : ℕ × ℕ). least x.0 (added_on w s (drop (i + 1) ps))) z, ap (λ (x : ℕ × ℕ). greatest x.1 (added_on w s (drop (i + 1) ps))) z)
+    step false e = let z = none e in
+        (ap (λ (x : ℕ × ℕ). least x.0 (added_on w s (drop (i + 1) ps))) z, ap (λ (x : ℕ × ℕ). greatest x.1 (added_on w s (drop (i + 1) ps))) z)
 
 -- ## At a link
 
@@ -289,12 +325,15 @@ widened-next w s ps i index old new lt is some none =
 pub lying : (sum : List ℕ → ℕ) (x : State) (l : IsLinked sum x) (p : ℕ) → LiesSomewhere x.recorded p → Carried x.recorded p
 lying sum x l p s = subst (Carried x.recorded) s.5 (all-carried sum x l s.0 s.1 s.3 s.2 s.4)
 
-pub data-fits : (sum : List ℕ → ℕ) (x : State) (l : IsLinked sum x) (k : ℕ) (ps : List ℕ) → slice_get x.recorded.network k ≡ Some (Data ps) → arrival_fits x.recorded (Some (Data ps)) ≡ list_all (slot_fits x.recorded ps) ps
+pub data-fits : (sum : List ℕ → ℕ) (x : State) (l : IsLinked sum x) (k : ℕ) (ps : List ℕ) → slice_get x.recorded.network k ≡ Some (Data ps)
+    → arrival_fits x.recorded (Some (Data ps)) ≡ list_all (slot_fits x.recorded ps) ps
 data-fits sum x l k ps e = arrival-fits-slots x.recorded ps (facts sum x l).spans (all-carried sum x l k ps e)
 
 -- whether it adds to stream s
-pub adds-is : (w : LinkRecord) (s p : ℕ) → Carried w p → (((message_at w (message_of w p)).stream == s) && (message_at w (message_of w p)).ordered && is_new w p) ≡ adds_on w s p
-adds-is w s p c = turn ((message_at w (message_of w p)).stream == s) (message_at w (message_of w p)).ordered (is_new w p) (message_at w (message_of w p)).expired c.alive
+pub adds-is : (w : LinkRecord) (s p : ℕ) → Carried w p
+    → (((message_at w (message_of w p)).stream == s) && (message_at w (message_of w p)).ordered && is_new w p) ≡ adds_on w s p
+adds-is w s p c =
+    turn ((message_at w (message_of w p)).stream == s) (message_at w (message_of w p)).ordered (is_new w p) (message_at w (message_of w p)).expired c.alive
   where
     turn : (a o new e : Bool) → e ≡ false → ((a && o) && new) ≡ (new && (a && (o && not e)))
     turn true true true false h = refl
@@ -331,9 +370,11 @@ module _ {C : Type 0} (sum : List ℕ → ℕ) (a : Inside C) (l : IsLinked sum 
 
   module _ (k : IsKept a p) (y : Slot) (y_is : y ≡ slice_index_or a.slots.items p y) where
     pub number-kept : y.message ≡ message_of (record_in a) p
-    number-kept = ap (λ (t : Slot). t.message) y_is ∙ sym (ap (λ t. t.message) (slot-raw sum (state_in a) l a.slots.items a.messages.items refl refl p y k.inside))
+    number-kept = ap (λ (t : Slot). t.message) y_is
+        ∙ sym (ap (λ t. t.message) (slot-raw sum (state_in a) l a.slots.items a.messages.items refl refl p y k.inside))
 
-    pub message-kept : (m : Message) → m ≡ slice_index_or a.messages.items y.message m → message_at (record_in a) (message_of (record_in a) p) ≡ message_record m
+    pub message-kept : (m : Message) → m ≡ slice_index_or a.messages.items y.message m
+        → message_at (record_in a) (message_of (record_in a) p) ≡ message_record m
     message-kept m is =
         message-raw sum (state_in a) l a.slots.items a.messages.items refl refl (message_of (record_in a) p) m k.made
         ∙ ap message_record (sym (is ∙ ap (λ i. slice_index_or a.messages.items i m) number-kept))

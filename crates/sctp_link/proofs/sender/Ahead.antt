@@ -1,5 +1,6 @@
 -- The fragments of a datagram, looked at before they leave.
-use Rattle.std.proofs.Common.{◌≡◌, ℕ, zero, suc, ◌+◌, ◌-◌, ◌/◌, ◌<◌, ◌≤◌, Bool, true, false, List, [], ◌∷◌, ◌++◌, length, map, Option, Some, None, refl, ap, sym, ◌∙◌, arith, add-one, append_assoc}
+use Rattle.std.proofs.Common.{◌≡◌, ℕ, zero, suc, ◌+◌, ◌-◌, ◌/◌, ◌<◌, ◌≤◌, Bool, true, false, List, [], ◌∷◌, ◌++◌, length, map, Option, Some, None, refl, ap}
+use Rattle.std.proofs.Common.{sym, ◌∙◌, arith, add-one, append_assoc}
 use Rattle.std.specs.Prelude.{if◌then◌else◌, nat_le, is_some, ◌==◌}
 use Rattle.std.proofs.lemmas.Bool.Decides.{nat_tests}
 use Rattle.std.proofs.lemmas.List.{append-nil}
@@ -20,68 +21,85 @@ after-send (suc i) q = after-send i (taken_of (next_pending q) q)
 
 -- ## The loop
 
-pub begins : (limit tsn used : ℕ) (q : Pending) (c : ChunkPayloadData) (ks : List ChunkKind) → next_pending q ≡ Some c → ks ≡ C.PayloadData (under_tsn tsn c) ∷ [] → used ≡ 12 + chunk_length (length c.user_data)
-    → ks ++ map C.PayloadData (further (limit / 16 - 0) limit used (following_tsn tsn) (taken_of (next_pending q) q)) ≡ map C.PayloadData (chunks_taken limit tsn q)
+pub begins : (limit tsn used : ℕ) (q : Pending) (c : ChunkPayloadData) (ks : List ChunkKind) → next_pending q ≡ Some c
+    → ks ≡ C.PayloadData (under_tsn tsn c) ∷ [] → used ≡ 12 + chunk_length (length c.user_data) → ks
+    ++ map C.PayloadData (further (limit / 16 - 0) limit used (following_tsn tsn) (taken_of (next_pending q) q)) ≡ map C.PayloadData (chunks_taken limit tsn q)
 begins limit tsn used q c ks shown one is =
     let fuel : limit / 16 - 0 ≡ limit / 16 = omega arith in
     let all : limit / 16 + (limit - limit / 16) ≡ limit = omega arith in
     ap (λ l. l ++ map C.PayloadData (further (limit / 16 - 0) limit used (following_tsn tsn) (taken_of (next_pending q) q))) one
     ∙ ap (λ k. C.PayloadData (under_tsn tsn c) ∷ map C.PayloadData (further k limit used (following_tsn tsn) (taken_of (next_pending q) q))) fuel
-    ∙ ap (λ l. C.PayloadData (under_tsn tsn c) ∷ map C.PayloadData l) (sym (turns-enough (limit / 16) (limit - limit / 16) limit used (following_tsn tsn) (taken_of (next_pending q) q) (omega arith)))
+    ∙ ap (λ l. C.PayloadData (under_tsn tsn c) ∷ map C.PayloadData l)
+    (sym (turns-enough (limit / 16) (limit - limit / 16) limit used (following_tsn tsn) (taken_of (next_pending q) q) (omega arith)))
     ∙ ap (λ k. C.PayloadData (under_tsn tsn c) ∷ map C.PayloadData (further k limit used (following_tsn tsn) (taken_of (next_pending q) q))) all
-    ∙ ap (λ k. C.PayloadData (under_tsn tsn c) ∷ map C.PayloadData (further limit limit k (following_tsn tsn) (taken_of (next_pending q) q))) is
-    ∙ ap (λ o. map C.PayloadData (leaving tsn o ++ further limit limit (plus 12 (length_shown o)) (following_tsn tsn) (taken_of (next_pending q) q))) (sym shown)
+    ∙ ap (λ k. C.PayloadData (under_tsn tsn c) ∷ map C.PayloadData (further limit limit k (following_tsn tsn) (taken_of (next_pending q) q))) is ∙ ap
+    (λ o. map C.PayloadData (leaving tsn o ++ further limit limit (plus 12 (length_shown o)) (following_tsn tsn) (taken_of (next_pending q) q))) (sym shown)
 
 -- with the next one
-further-fits : (most limit used tsn : ℕ) (q : Pending) (c : ChunkPayloadData) → next_pending q ≡ Some c → used + chunk_length (length c.user_data) ≤ limit → further (suc most) limit used tsn q ≡ under_tsn tsn c ∷ further most limit (used + chunk_length (length c.user_data)) (following_tsn tsn) (taken_of (next_pending q) q)
+further-fits : (most limit used tsn : ℕ) (q : Pending) (c : ChunkPayloadData) → next_pending q ≡ Some c → used + chunk_length (length c.user_data) ≤ limit
+    → further (suc most) limit used tsn q ≡ under_tsn tsn c ∷ further most limit (used + chunk_length (length c.user_data)) (following_tsn tsn)
+    (taken_of (next_pending q) q)
 further-fits most limit used tsn q c shown le =
     let fits : nat_le (used + chunk_length (length c.user_data)) limit ≡ true = grind (arith, nat_tests) in
-    ap (λ o. if fits_in limit used (length_shown o) then leaving tsn o ++ further most limit (plus used (length_shown o)) (following_tsn tsn) (taken_of (next_pending q) q) else []) shown
-    ∙ ap (λ b. if b then under_tsn tsn c ∷ further most limit (used + chunk_length (length c.user_data)) (following_tsn tsn) (taken_of (next_pending q) q) else []) fits
+    ap (λ o. if fits_in limit used (length_shown o)
+    then leaving tsn o ++ further most limit (plus used (length_shown o)) (following_tsn tsn) (taken_of (next_pending q) q) else []) shown ∙ ap (λ b. if b
+    then under_tsn tsn c ∷ further most limit (used + chunk_length (length c.user_data)) (following_tsn tsn) (taken_of (next_pending q) q) else []) fits
 
-pub goes-on : (most limit used tsn i : ℕ) (q : Pending) (c : ChunkPayloadData) (ks ls complete : List ChunkKind) → i < most → next_pending (after_sends (i + 1) q) ≡ Some c → used + chunk_length (length c.user_data) ≤ limit → ls ≡ ks ++ C.PayloadData (under_tsn tsn c) ∷ []
-    → ks ++ map C.PayloadData (further (most - i) limit used tsn (after_sends (i + 1) q)) ≡ complete
-    → ls ++ map C.PayloadData (further (most - (i + 1)) limit (used + chunk_length (length c.user_data)) (following_tsn tsn) (after_sends (i + 1 + 1) q)) ≡ complete
+pub goes-on : (most limit used tsn i : ℕ) (q : Pending) (c : ChunkPayloadData) (ks ls complete : List ChunkKind) → i < most
+    → next_pending (after_sends (i + 1) q) ≡ Some c → used + chunk_length (length c.user_data) ≤ limit → ls ≡ ks ++ C.PayloadData (under_tsn tsn c) ∷ []
+    → ks ++ map C.PayloadData (further (most - i) limit used tsn (after_sends (i + 1) q)) ≡ complete → ls
+    ++ map C.PayloadData (further (most - (i + 1)) limit (used + chunk_length (length c.user_data)) (following_tsn tsn) (after_sends (i + 1 + 1) q)) ≡ complete
 goes-on most limit used tsn i q c ks ls complete lt shown le more e =
     let fuel : most - i ≡ suc (most - (i + 1)) = omega (arith, lt) in
     let rest = further (most - (i + 1)) limit (used + chunk_length (length c.user_data)) (following_tsn tsn) (after_sends (i + 1 + 1) q) in
-    let next : after_sends (i + 1 + 1) q ≡ taken_of (next_pending (after_sends (i + 1) q)) (after_sends (i + 1) q) = ap (λ k. after_sends k q) (add-one (i + 1)) ∙ after-send (i + 1) q in
+    let next : after_sends (i + 1 + 1) q ≡ taken_of (next_pending (after_sends (i + 1) q)) (after_sends (i + 1) q) = ap (λ k. after_sends k q) (add-one (i + 1))
+    ∙ after-send (i + 1) q in
     ap (λ l. l ++ map C.PayloadData rest) more
     ∙ append_assoc ks (C.PayloadData (under_tsn tsn c) ∷ []) (map C.PayloadData rest)
     ∙ ap (λ r. ks ++ map C.PayloadData (under_tsn tsn c ∷ further (most - (i + 1)) limit (used + chunk_length (length c.user_data)) (following_tsn tsn) r)) next
-    ∙ sym (ap (λ k. ks ++ map C.PayloadData (further k limit used tsn (after_sends (i + 1) q))) fuel ∙ ap (λ l. ks ++ map C.PayloadData l) (further-fits (most - (i + 1)) limit used tsn (after_sends (i + 1) q) c shown le))
-    ∙ e
+    ∙ sym (ap (λ k. ks ++ map C.PayloadData (further k limit used tsn (after_sends (i + 1) q))) fuel
+    ∙ ap (λ l. ks ++ map C.PayloadData l) (further-fits (most - (i + 1)) limit used tsn (after_sends (i + 1) q) c shown le)) ∙ e
 
 -- no further one
 further-none : (most limit used tsn : ℕ) (q : Pending) → next_pending q ≡ None → further most limit used tsn q ≡ []
 further-none zero limit used tsn q none = refl
-further-none (suc most) limit used tsn q none = ap (λ o. if fits_in limit used (length_shown o) then leaving tsn o ++ further most limit (plus used (length_shown o)) (following_tsn tsn) (taken_of (next_pending q) q) else []) none
+further-none (suc most) limit used tsn q none = ap (λ o. if fits_in limit used (length_shown o)
+    then leaving tsn o ++ further most limit (plus used (length_shown o)) (following_tsn tsn) (taken_of (next_pending q) q) else []) none
 
-pub stops-none : (most limit used tsn : ℕ) (q : Pending) (ks complete : List ChunkKind) → next_pending q ≡ None → ks ++ map C.PayloadData (further most limit used tsn q) ≡ complete → ks ≡ complete
-stops-none most limit used tsn q ks complete none e = sym (append-nil ks) ∙ ap (λ l. ks ++ map C.PayloadData l) (sym (further-none most limit used tsn q none)) ∙ e
+pub stops-none : (most limit used tsn : ℕ) (q : Pending) (ks complete : List ChunkKind) → next_pending q ≡ None
+    → ks ++ map C.PayloadData (further most limit used tsn q) ≡ complete → ks ≡ complete
+stops-none most limit used tsn q ks complete none e = sym (append-nil ks) ∙ ap (λ l. ks ++ map C.PayloadData l) (sym (further-none most limit used tsn q none))
+    ∙ e
 
 -- none that fits
-further-full : (most limit used tsn : ℕ) (q : Pending) (c : ChunkPayloadData) → next_pending q ≡ Some c → limit < used + chunk_length (length c.user_data) → further most limit used tsn q ≡ []
+further-full : (most limit used tsn : ℕ) (q : Pending) (c : ChunkPayloadData) → next_pending q ≡ Some c → limit < used + chunk_length (length c.user_data)
+    → further most limit used tsn q ≡ []
 further-full zero limit used tsn q c shown lt = refl
 further-full (suc most) limit used tsn q c shown lt =
     let no' : nat_le (used + chunk_length (length c.user_data)) limit ≡ false = grind (arith, nat_tests) in
-    ap (λ o. if fits_in limit used (length_shown o) then leaving tsn o ++ further most limit (plus used (length_shown o)) (following_tsn tsn) (taken_of (next_pending q) q) else []) shown
-    ∙ ap (λ b. if b then under_tsn tsn c ∷ further most limit (used + chunk_length (length c.user_data)) (following_tsn tsn) (taken_of (next_pending q) q) else []) no'
+    ap (λ o. if fits_in limit used (length_shown o)
+    then leaving tsn o ++ further most limit (plus used (length_shown o)) (following_tsn tsn) (taken_of (next_pending q) q) else []) shown ∙ ap (λ b. if b
+    then under_tsn tsn c ∷ further most limit (used + chunk_length (length c.user_data)) (following_tsn tsn) (taken_of (next_pending q) q) else []) no'
 
-pub stops-full : (most limit used tsn : ℕ) (q : Pending) (c : ChunkPayloadData) (ks complete : List ChunkKind) → next_pending q ≡ Some c → limit < used + chunk_length (length c.user_data) → ks ++ map C.PayloadData (further most limit used tsn q) ≡ complete → ks ≡ complete
-stops-full most limit used tsn q c ks complete shown lt e = sym (append-nil ks) ∙ ap (λ l. ks ++ map C.PayloadData l) (sym (further-full most limit used tsn q c shown lt)) ∙ e
+pub stops-full : (most limit used tsn : ℕ) (q : Pending) (c : ChunkPayloadData) (ks complete : List ChunkKind) → next_pending q ≡ Some c
+    → limit < used + chunk_length (length c.user_data) → ks ++ map C.PayloadData (further most limit used tsn q) ≡ complete → ks ≡ complete
+stops-full most limit used tsn q c ks complete shown lt e = sym (append-nil ks)
+    ∙ ap (λ l. ks ++ map C.PayloadData l) (sym (further-full most limit used tsn q c shown lt)) ∙ e
 
 -- ## Room
 
 -- a fragment that leaves takes the room of one
-pub room-less : (q r : Outbound) (tsn now : ℕ) (c : ChunkPayloadData) → next_pending q.pending ≡ Some c → r ≡ sent_next q tsn now → 0 < q.inflight.room → q.inflight.room ≡ r.inflight.room + 1
+pub room-less : (q r : Outbound) (tsn now : ℕ) (c : ChunkPayloadData) → next_pending q.pending ≡ Some c → r ≡ sent_next q tsn now → 0 < q.inflight.room
+    → q.inflight.room ≡ r.inflight.room + 1
 room-less q r tsn now c shown is pos =
-    by (next_pending (all_started now q).pending) (peeked_all_started now q ∙ ap is_some shown) ∙ ap (λ k. k + 1) (sym (ap (λ (o : Outbound). o.inflight.room) is))
+    by (next_pending (all_started now q).pending) (peeked_all_started now q ∙ ap is_some shown)
+    ∙ ap (λ k. k + 1) (sym (ap (λ (o : Outbound). o.inflight.room) is))
   where
     same : (all_started now q).inflight.room ≡ q.inflight.room
     same = step (q.next_unstarted == q.next_message_id)
       where
-        step : (b : Bool) → (if b then q else record q { pending = start_pending q.next_unstarted now q.pending; next_unstarted = q.next_message_id }).inflight.room ≡ q.inflight.room
+        step : (b : Bool) → (if b then q
+            else record q { pending = start_pending q.next_unstarted now q.pending; next_unstarted = q.next_message_id }).inflight.room ≡ q.inflight.room
         step true = refl
         step false = refl
 

@@ -44,10 +44,12 @@ begun_with go s ls = if go then change_where (has_number s) with_begun ls else l
 abbrev pub plus_begun : ℕ → OpenStream → OpenStream
 plus_begun n l = record l { begun = l.begun + n }
 
-pub same-field : {A : Type 0} (f : OpenStream → A) → ((l : OpenStream) → f (with_begun l) ≡ f l) → (go : Bool) (s : ℕ) (ls : List OpenStream) → map f (begun_with go s ls) ≡ map f ls
+pub same-field : {A : Type 0} (f : OpenStream → A) → ((l : OpenStream) → f (with_begun l) ≡ f l) → (go : Bool) (s : ℕ) (ls : List OpenStream)
+    → map f (begun_with go s ls) ≡ map f ls
 same-field f e false s ls = refl
 same-field f e true s [] = refl
-same-field f e true s (l ∷ ls) = ap (λ x. x ∷ map f (change_where (has_number s) with_begun ls)) (one (has_number s l)) ∙ ap (λ xs. f l ∷ xs) (same-field f e true s ls)
+same-field f e true s (l ∷ ls) = ap (λ x. x ∷ map f (change_where (has_number s) with_begun ls)) (one (has_number s l))
+    ∙ ap (λ xs. f l ∷ xs) (same-field f e true s ls)
   where
     one : (b : Bool) → f (if b then with_begun l else l) ≡ f l
     one true = e l
@@ -64,14 +66,16 @@ length-begun false s ls = refl
 length-begun true s [] = refl
 length-begun true s (l ∷ ls) = ap suc (length-begun true s ls)
 
-pub begun-at : (go : Bool) (s : ℕ) (ls : List OpenStream) (k : ℕ) (d : OpenStream) → k < length ls → slice_index_or (begun_with go s ls) k d ≡ plus_begun (if (s == (slice_index_or ls k d).state.stream_identifier) && go then 1 else 0) (slice_index_or ls k d)
+pub begun-at : (go : Bool) (s : ℕ) (ls : List OpenStream) (k : ℕ) (d : OpenStream) → k < length ls → slice_index_or (begun_with go s ls) k d
+    ≡ plus_begun (if (s == (slice_index_or ls k d).state.stream_identifier) && go then 1 else 0) (slice_index_or ls k d)
 begun-at false s ls k d lt = none (s == (slice_index_or ls k d).state.stream_identifier) (slice_index_or ls k d)
   where
     none : (b : Bool) (l : OpenStream) → l ≡ plus_begun (if b && false then 1 else 0) l
     none true l = let e : l.begun ≡ l.begun + 0 = omega arith in ap (λ n. record l { begun = n }) e
     none false l = let e : l.begun ≡ l.begun + 0 = omega arith in ap (λ n. record l { begun = n }) e
 begun-at true s [] k d lt = absurd (omega arith)
-begun-at true s (l ∷ ls) zero d lt = one (l.state.stream_identifier == s) ∙ ap (λ b. plus_begun (if b && true then 1 else 0) l) (same-turned l.state.stream_identifier s)
+begun-at true s (l ∷ ls) zero d lt = one (l.state.stream_identifier == s)
+    ∙ ap (λ b. plus_begun (if b && true then 1 else 0) l) (same-turned l.state.stream_identifier s)
   where
     one : (b : Bool) → (if b then with_begun l else l) ≡ plus_begun (if b && true then 1 else 0) l
     one true = refl
@@ -86,7 +90,8 @@ begun_in (Some l) = l.begun
 
 module _ (states : List StreamState) (inbounds : List InboundStream) (ps : List Standing) (a : Alike states inbounds ps) where
   pub begun-joined : (t : ℕ) → begun_of t ps ≡ begun_in (find (has_number t) (join_each states inbounds ps))
-  begun-joined t = by (find (has_number t) (join_each states inbounds ps)) (find (Progress.has_number t) ps) (found-progress (λ (l : OpenStream). l.begun) (λ (p : Standing). p.begun) (λ s i p. refl) t states inbounds ps a)
+  begun-joined t = by (find (has_number t) (join_each states inbounds ps)) (find (Progress.has_number t) ps)
+      (found-progress (λ (l : OpenStream). l.begun) (λ (p : Standing). p.begun) (λ s i p. refl) t states inbounds ps a)
     where
       by : (o : Option OpenStream) (q : Option Standing) → option_map (λ l. l.begun) o ≡ option_map (λ p. p.begun) q → Progress.begun_in q ≡ begun_in o
       by None None e = refl
@@ -97,7 +102,8 @@ module _ (states : List StreamState) (inbounds : List InboundStream) (ps : List 
   pub begun-streams : (m : Message) → join_each states inbounds (begun_by m ps) ≡ begun_with (begins m) m.stream (join_each states inbounds ps)
   begun-streams m = by (begins m)
     where
-      by : (b : Bool) → join_each states inbounds (if b then change_where (Progress.has_number m.stream) Progress.with_begun ps else ps) ≡ begun_with b m.stream (join_each states inbounds ps)
+      by : (b : Bool) → join_each states inbounds (if b then change_where (Progress.has_number m.stream) Progress.with_begun ps else ps)
+          ≡ begun_with b m.stream (join_each states inbounds ps)
       by true = progress-changed Progress.with_begun with_begun (λ s i p _. refl) m.stream states inbounds ps a.progresses
       by false = refl
 
@@ -111,7 +117,8 @@ module _ (states : List StreamState) (inbounds : List InboundStream) (ps : List 
 -- ## The count of a stream
 
 -- what holds of each holds of the one that is found
-pub found-one : (P : OpenStream → Type 0) (s : ℕ) (ls : List OpenStream) → ((k : ℕ) (d : OpenStream) → k < length ls → P (slice_index_or ls k d)) → (l : OpenStream) → find (has_number s) ls ≡ Some l → P l
+pub found-one : (P : OpenStream → Type 0) (s : ℕ) (ls : List OpenStream) → ((k : ℕ) (d : OpenStream) → k < length ls → P (slice_index_or ls k d))
+    → (l : OpenStream) → find (has_number s) ls ≡ Some l → P l
 found-one P s [] h l e = cc
 found-one P s (x ∷ ls) h l e = step (x.state.stream_identifier == s) e (λ z. found-one P s ls (λ k d lt. h (suc k) d (omega (arith, lt))) l z)
   where

@@ -35,7 +35,8 @@ start_state first limit sides messages slots network duplicates =
       written = 0;
     }
 
-linked-start : (sum : List ℕ → ℕ) (first size largest limit : ℕ) → first < 2 ^ 32 → 0 < size → size ≤ 65519 → IsLinked sum (start_state first limit (fresh first size largest) [] [] [] [])
+linked-start : (sum : List ℕ → ℕ) (first size largest limit : ℕ) → first < 2 ^ 32 → 0 < size → size ≤ 65519
+    → IsLinked sum (start_state first limit (fresh first size largest) [] [] [] [])
 linked-start sum first size largest limit fits some short = record {
   setup = record { first = fits; some = some; size = short };
   history = [];
@@ -49,7 +50,8 @@ linked-start sum first size largest limit fits some short = record {
     begun = λ p lt. absurd (omega (arith, lt));
   };
   unstarted = refl;
-  filter = let same : first + (2 ^ 32 - 1) ≡ first + (2 ^ 32 - 1) + 0 = omega arith in ap (λ t. let r : FilterRecord = record { cumulative = t % 2 ^ 32; held = []; duplicates = [] } in r) same;
+  filter = let same : first + (2 ^ 32 - 1) ≡ first + (2 ^ 32 - 1) + 0 = omega arith in
+      ap (λ t. let r : FilterRecord = record { cumulative = t % 2 ^ 32; held = []; duplicates = [] } in r) same;
   next = omega (arith, fits);
   acked = let same : first + (2 ^ 32 - 1) ≡ first + (2 ^ 32 - 1) + 0 = omega arith in ap (λ t. t % 2 ^ 32) same;
   fragments = refl;
@@ -62,8 +64,8 @@ linked-start sum first size largest limit fits some short = record {
   encodings = λ k d g e. cc;
 }
 
-pub linked-fresh : (sum : List ℕ → ℕ) (first size largest limit : ℕ) (sides : Sides) (messages : List Message) (slots : List Slot) (network : List Datagram) (duplicates : List ℕ)
-    → first < 2 ^ 32 → 0 < size → size ≤ 65519
-    → sides ≡ fresh first size largest → messages ≡ [] → slots ≡ [] → network ≡ [] → duplicates ≡ []
-    → IsLinked sum (start_state first limit sides messages slots network duplicates)
-linked-fresh sum first size largest limit sides messages slots network duplicates fits some short a b c d e = rw (a, b, c, d, e) (linked-start sum first size largest limit fits some short)
+pub linked-fresh : (sum : List ℕ → ℕ) (first size largest limit : ℕ) (sides : Sides) (messages : List Message) (slots : List Slot) (network : List Datagram)
+    (duplicates : List ℕ) → first < 2 ^ 32 → 0 < size → size ≤ 65519 → sides ≡ fresh first size largest → messages ≡ [] → slots ≡ [] → network ≡ []
+    → duplicates ≡ [] → IsLinked sum (start_state first limit sides messages slots network duplicates)
+linked-fresh sum first size largest limit sides messages slots network duplicates fits some short a b c d e =
+    rw (a, b, c, d, e) (linked-start sum first size largest limit fits some short)

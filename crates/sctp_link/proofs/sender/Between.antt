@@ -1,5 +1,6 @@
 -- Between two fragments of a Send: what the sender's side of a link holds is what the record says then.
-use Rattle.std.proofs.Common.{◌≡◌, ℕ, zero, suc, ◌+◌, ◌<◌, ◌≤◌, ◌^◌, Bool, true, false, List, [], ◌∷◌, ◌++◌, length, map, get_or, Option, Some, None, refl, ap, sym, ◌∙◌, arith, length-append}
+use Rattle.std.proofs.Common.{◌≡◌, ℕ, zero, suc, ◌+◌, ◌<◌, ◌≤◌, ◌^◌, Bool, true, false, List, [], ◌∷◌, ◌++◌, length, map, get_or, Option, Some, None, refl, ap}
+use Rattle.std.proofs.Common.{sym, ◌∙◌, arith, length-append}
 use Rattle.std.specs.Prelude.{◌==◌, ◌&&◌, if◌then◌else◌, find, is_some, slice_index_or, slice_set}
 use Rattle.std.proofs.Math.Path.{subst}
 use Rattle.std.proofs.lemmas.List.{map-append}
@@ -44,7 +45,8 @@ use Rattle.sctp_link.proofs.upkeep.Facts.{facts}
 use Rattle.sctp_link.proofs.upkeep.Lookups.{none-open}
 use Rattle.sctp_link.proofs.sender.Flying.{one-more-fits}
 use Rattle.sctp_link.proofs.sides.Joined.{Alike}
-use Rattle.sctp_link.proofs.sender.Beginning.{index_kept, begun_with, indexed-of, begun_in, begun-joined, begun-streams, begun-alike, plus_begun, numbers-begun, records-begun, length-begun, begun-at, found-one}
+use Rattle.sctp_link.proofs.sender.Beginning.{index_kept, begun_with, indexed-of, begun_in, begun-joined, begun-streams, begun-alike, plus_begun, numbers-begun}
+use Rattle.sctp_link.proofs.sender.Beginning.{records-begun, length-begun, begun-at, found-one}
 use Rattle.sctp_link.proofs.sender.Starting.{starts-records, start-progress}
 use Rattle.sctp_stream.proofs.StreamPlaces.{map-set_same}
 use Rattle.sctp_serial.specs.DataChunks.{following_tsn}
@@ -70,18 +72,24 @@ pub record Between (states : List StreamState) (inbounds : List InboundStream) (
   pub indexed : Indexed (shape v) (index_kept (map progress_of s.messages))
   pub records : map stream_record (join_each states inbounds s.progress) ≡ x.recorded.streams
   pub numbers : stream_numbers (join_each states inbounds s.progress) ≡ stream_numbers x.open_streams
-  pub streams : (k : ℕ) (d : OpenStream) → k < length (join_each states inbounds s.progress) → slice_index_or (join_each states inbounds s.progress) k d ≡ counted (begun_on v (slice_index_or x.open_streams k d).state.stream_identifier) (slice_index_or x.open_streams k d)
+  pub streams : (k : ℕ) (d : OpenStream) → k < length (join_each states inbounds s.progress) → slice_index_or (join_each states inbounds s.progress) k d
+      ≡ counted (begun_on v (slice_index_or x.open_streams k d).state.stream_identifier) (slice_index_or x.open_streams k d)
   pub slots : map slot_record s.slots ≡ v.slots
   pub next : s.next_tsn ≡ tsn_of v (length v.slots)
 
 -- ## Before the first one
 
 -- more room in flight is nothing that the record knows
-pub refines-room : (w : LinkRecord) (q r : Outbound) (room : ℕ) → r ≡ record q { inflight = record q.inflight { room = room } } → RefinesOutbound w q → RefinesOutbound w r
-refines-room w q r room e t = subst (RefinesOutbound w) (sym e) (record { pending = t.pending; in_flight = t.in_flight; next = t.next; unstarted = t.unstarted; started = t.started; begun = t.begun })
+pub refines-room : (w : LinkRecord) (q r : Outbound) (room : ℕ) → r ≡ record q { inflight = record q.inflight { room = room } } → RefinesOutbound w q
+    → RefinesOutbound w r
+refines-room w q r room e t = subst (RefinesOutbound w) (sym e)
+    (record { pending = t.pending; in_flight = t.in_flight; next = t.next; unstarted = t.unstarted; started = t.started; begun = t.begun })
 
-module _ (states : List StreamState) (inbounds : List InboundStream) (sum : List ℕ → ℕ) (x : State) (l : IsLinked sum x) (now : ℕ) (ms : List Message) (em : x.recorded.messages ≡ map message_record ms) (es : x.progress ≡ map progress_of ms) where
-  pub between-none : (s : Outgoing) (q : Outbound) → RefinesOutbound x.recorded q → s.outbound ≡ all_started now q → s.messages ≡ start_from x.unstarted now ms → Alike states inbounds s.progress → (join_each states inbounds s.progress) ≡ x.open_streams → x.recorded.streams ≡ map stream_record x.open_streams → x.recorded.slots ≡ map slot_record s.slots → s.next_tsn ≡ x.next_tsn → Between states inbounds x now (after_start x.recorded now) s
+module _ (states : List StreamState) (inbounds : List InboundStream) (sum : List ℕ → ℕ) (x : State) (l : IsLinked sum x) (now : ℕ) (ms : List Message)
+    (em : x.recorded.messages ≡ map message_record ms) (es : x.progress ≡ map progress_of ms) where
+  pub between-none : (s : Outgoing) (q : Outbound) → RefinesOutbound x.recorded q → s.outbound ≡ all_started now q → s.messages ≡ start_from x.unstarted now ms
+      → Alike states inbounds s.progress → (join_each states inbounds s.progress) ≡ x.open_streams → x.recorded.streams ≡ map stream_record x.open_streams
+      → x.recorded.slots ≡ map slot_record s.slots → s.next_tsn ≡ x.next_tsn → Between states inbounds x now (after_start x.recorded now) s
   between-none s q t out is same streams rs ew next = record {
     alike = same;
     going = going-started x.recorded.setup x.recorded now (facts sum x l).going;
@@ -91,10 +99,13 @@ module _ (states : List StreamState) (inbounds : List InboundStream) (sum : List
     begun = ap (λ (r : Outbound). r.next_unstarted) out ∙ all-begun x.recorded now q t;
     messages = ap (map message_record) is ∙ starts-records sum x l now ms em;
     sents = λ k lt. ap (λ (ps : List (ℕ × ℕ)). (slice_index_or ps k (0, 0)).0) progress ∙ l.sents k lt;
-    indexed = subst (λ ps. Indexed (shape (after_start x.recorded now)) (index_kept ps)) (sym progress) (subst (λ y. Indexed y (index_kept x.progress)) (sym (Shapes.shape-started x.recorded now)) (indexed-of sum x l));
+    indexed = subst (λ ps. Indexed (shape (after_start x.recorded now)) (index_kept ps)) (sym progress)
+        (subst (λ y. Indexed y (index_kept x.progress)) (sym (Shapes.shape-started x.recorded now)) (indexed-of sum x l));
     records = ap (map stream_record) streams ∙ sym rs;
     numbers = ap stream_numbers streams;
-    streams = λ k d lt. ap (λ ls. slice_index_or ls k d) streams ∙ ap (λ n. counted n (slice_index_or x.open_streams k d)) ((l.open_streams k d (omega (arith, lt, ap length streams))).begun ∙ sym (ap (λ y. Begun.begun y (slice_index_or x.open_streams k d).state.stream_identifier) (Shapes.shape-started x.recorded now)));
+    streams = λ k d lt. ap (λ ls. slice_index_or ls k d) streams
+        ∙ ap (λ n. counted n (slice_index_or x.open_streams k d)) ((l.open_streams k d (omega (arith, lt, ap length streams))).begun
+        ∙ sym (ap (λ y. Begun.begun y (slice_index_or x.open_streams k d).state.stream_identifier) (Shapes.shape-started x.recorded now)));
     slots = sym ew;
     next = next ∙ l.next;
   }
@@ -112,13 +123,15 @@ get-mapped f (suc k) (x ∷ xs) d e lt = get-mapped f k xs d e (omega arith)
 
 -- lifetimes that have all started start no more
 none-start : (q : Outbound) (now : ℕ) → q.next_unstarted ≡ q.next_message_id → all_started now q ≡ q
-none-start q now e = ap (λ b. if b then q else record q { pending = pending_started q.next_unstarted now q.pending; next_unstarted = q.next_message_id }) (ap (λ k. k == q.next_message_id) e ∙ same-yes q.next_message_id)
+none-start q now e = ap (λ b. if b then q else record q { pending = pending_started q.next_unstarted now q.pending; next_unstarted = q.next_message_id })
+    (ap (λ k. k == q.next_message_id) e ∙ same-yes q.next_message_id)
 
 next-unstarted : (q : Outbound) (tsn now : ℕ) (o : Option ChunkPayloadData) → (sent_of o q tsn now).next_unstarted ≡ q.next_unstarted
 next-unstarted q tsn now None = refl
 next-unstarted q tsn now (Some c) = refl
 
-module _ (states : List StreamState) (inbounds : List InboundStream) (x : State) (now : ℕ) (v : LinkRecord) (s : Outgoing) (b : Between states inbounds x now v s) where
+module _ (states : List StreamState) (inbounds : List InboundStream) (x : State) (now : ℕ) (v : LinkRecord) (s : Outgoing)
+    (b : Between states inbounds x now v s) where
   few : length v.slots < 2 ^ 31
   few = Few.few x.recorded.setup v b.going.sane
 
@@ -140,7 +153,8 @@ module _ (states : List StreamState) (inbounds : List InboundStream) (x : State)
     sent-is = ap (λ (m : Message). m.sent) at ∙ sym (ap (λ (p : ℕ × ℕ). p.0) (get-mapped progress_of n s.messages m (0, 0) within)) ∙ b.sents n made
 
     record-is : message_record m ≡ message_at v n
-    record-is = ap message_record at ∙ sym (get-mapped message_record n s.messages m no_message within) ∙ ap (λ l. get_or l n no_message) (b.messages ∙ sym (ap (λ (z : LinkRecord). z.messages) b.only))
+    record-is = ap message_record at ∙ sym (get-mapped message_record n s.messages m no_message within)
+        ∙ ap (λ l. get_or l n no_message) (b.messages ∙ sym (ap (λ (z : LinkRecord). z.messages) b.only))
 
     kind-is : m.ordered ≡ (message_at v n).ordered
     kind-is = ap (λ m. m.ordered) record-is
@@ -155,15 +169,22 @@ module _ (states : List StreamState) (inbounds : List InboundStream) (x : State)
   found-begun : (t : ℕ) (y : OpenStream) → find (has_number t) (join_each states inbounds s.progress) ≡ Some y → y.begun ≡ begun_on v y.state.stream_identifier
   found-begun t y e = found-one (λ y. y.begun ≡ begun_on v y.state.stream_identifier) t (join_each states inbounds s.progress) each y e
     where
-      each : (k : ℕ) (d : OpenStream) → k < length (join_each states inbounds s.progress) → (slice_index_or (join_each states inbounds s.progress) k d).begun ≡ begun_on v (slice_index_or (join_each states inbounds s.progress) k d).state.stream_identifier
+      each : (k : ℕ) (d : OpenStream) → k < length (join_each states inbounds s.progress) → (slice_index_or (join_each states inbounds s.progress) k d).begun
+          ≡ begun_on v (slice_index_or (join_each states inbounds s.progress) k d).state.stream_identifier
       each k d lt = let is = b.streams k d lt in ap (λ (y : OpenStream). y.begun) is ∙ ap (λ (y : OpenStream). begun_on v y.state.stream_identifier) (sym is)
 
   begun-low : (t : ℕ) → begun_of t s.progress + 1 < 2 ^ 64
-  begun-low t = subst (λ n. n + 1 < 2 ^ 64) (sym (begun-joined states inbounds s.progress b.alike t)) (by (find (has_number t) (join_each states inbounds s.progress)) refl)
+  begun-low t = subst (λ n. n + 1 < 2 ^ 64) (sym (begun-joined states inbounds s.progress b.alike t))
+      (by (find (has_number t) (join_each states inbounds s.progress)) refl)
     where
       by : (o : Option OpenStream) → find (has_number t) (join_each states inbounds s.progress) ≡ o → begun_in o + 1 < 2 ^ 64
       by None e = omega arith
-      by (Some y) e = omega (arith, found-begun t y e, length-kept-le (is_begun_on v y.state.stream_identifier) 0 (length v.messages), messages-few x.recorded.setup v b.going.sane)
+      by (Some y) e = omega (
+        arith,
+        found-begun t y e,
+        length-kept-le (is_begun_on v y.state.stream_identifier) 0 (length v.messages),
+        messages-few x.recorded.setup v b.going.sane,
+      )
 
   -- ## It can leave
 
@@ -185,7 +206,8 @@ module _ (states : List StreamState) (inbounds : List InboundStream) (x : State)
       fits = λ m at. omega (arith, sent-is n made-of m at, sent-few n);
       few = λ m at. begun-low m.stream;
       room =
-          let then' : Going x.recorded.setup (with_slot v n false) = subst (λ o. Going x.recorded.setup (send_fragment_of v o)) fr (going-takes x.recorded.setup v b.going) in
+          let then' : Going x.recorded.setup (with_slot v n false) =
+          subst (λ o. Going x.recorded.setup (send_fragment_of v o)) fr (going-takes x.recorded.setup v b.going) in
           one-more-fits x.recorded.setup v (with_slot v n false) s.outbound then' (length-append v.slots _) b.outbound;
     }
 
@@ -219,7 +241,8 @@ module _ (states : List StreamState) (inbounds : List InboundStream) (x : State)
       progress : map progress_of t.messages ≡ change_at (took (begins f.message) (begun_of f.message.stream s.progress)) n (map progress_of s.messages)
       progress =
           ap (map progress_of) (f.messages ∙ ap (λ k. slice_set s.messages k (with_fragment s.progress f.message)) own)
-          ∙ map-set progress_of (took (begins f.message) (begun_of f.message.stream s.progress)) s.messages n (with_fragment s.progress f.message) f.message (within n made-of f.message at) (ap (λ (m' : Message). took (begins f.message) (begun_of f.message.stream s.progress) (progress_of m')) at)
+          ∙ map-set progress_of (took (begins f.message) (begun_of f.message.stream s.progress)) s.messages n (with_fragment s.progress f.message) f.message
+          (within n made-of f.message at) (ap (λ (m' : Message). took (begins f.message) (begun_of f.message.stream s.progress) (progress_of m')) at)
 
       long : length (map progress_of s.messages) ≡ length x.recorded.messages
       long = length-mapped progress_of s.messages ∙ count-kept
@@ -230,14 +253,18 @@ module _ (states : List StreamState) (inbounds : List InboundStream) (x : State)
       sent-more : (k : ℕ) → M.sent_of (with_slot v n false) k ≡ M.sent_of v k + (if (n == k) && true then 1 else 0)
       sent-more k = ap (λ y. sent_by y k) shape-then ∙ sent-slotted (shape v) n k false
 
-      sents-then : (k : ℕ) → k < length x.recorded.messages → (slice_index_or (change_at (took (begins f.message) (begun_of f.message.stream s.progress)) n (map progress_of s.messages)) k (0, 0)).0 ≡ M.sent_of (with_slot v n false) k
+      sents-then : (k : ℕ) → k < length x.recorded.messages
+          → (slice_index_or (change_at (took (begins f.message) (begun_of f.message.stream s.progress)) n (map progress_of s.messages)) k (0, 0)).0
+          ≡ M.sent_of (with_slot v n false) k
       sents-then k lt =
           let g = took (begins f.message) (begun_of f.message.stream s.progress) in
           let ps = map progress_of s.messages in
           by_same {P = (slice_index_or (change_at g n ps) k (0, 0)).0 ≡ M.sent_of (with_slot v n false) k} n k
-          (λ e. ap (λ j. (slice_index_or (change_at g n ps) j (0, 0)).0) (sym e) ∙ ap (λ p. p.0) (changed-same g n ps (0, 0) (omega (arith, made-of, long))) ∙ ap (λ c. c + 1) (b.sents n made-of)
+          (λ e. ap (λ j. (slice_index_or (change_at g n ps) j (0, 0)).0) (sym e) ∙ ap (λ p. p.0) (changed-same g n ps (0, 0) (omega (arith, made-of, long)))
+          ∙ ap (λ c. c + 1) (b.sents n made-of)
           ∙ sym (ap (M.sent_of (with_slot v n false)) (sym e) ∙ sent-more n ∙ ap (λ b. M.sent_of v n + (if b && true then 1 else 0)) (same-yes n)))
-          (λ ne no'. ap (λ p. p.0) (changed-other g n k ps (0, 0) (λ z. ne (sym z))) ∙ b.sents k lt ∙ plus-none (M.sent_of v k) ∙ sym (sent-more k ∙ ap (λ b. M.sent_of v k + (if b && true then 1 else 0)) no'))
+          (λ ne no'. ap (λ p. p.0) (changed-other g n k ps (0, 0) (λ z. ne (sym z))) ∙ b.sents k lt ∙ plus-none (M.sent_of v k)
+          ∙ sym (sent-more k ∙ ap (λ b. M.sent_of v k + (if b && true then 1 else 0)) no'))
         where
           plus-none : (a : ℕ) → a ≡ a + 0
           plus-none a = omega arith
@@ -250,13 +277,17 @@ module _ (states : List StreamState) (inbounds : List InboundStream) (x : State)
       opened = ap (M.is_open v) (stream-is n made-of f.message at) ∙ b.going.sane.known n takes.made
 
       begun-is : begun_of f.message.stream s.progress ≡ begun_on v f.message.stream
-      begun-is = begun-joined states inbounds s.progress b.alike f.message.stream ∙ by (find (has_number f.message.stream) (join_each states inbounds s.progress)) refl
+      begun-is = begun-joined states inbounds s.progress b.alike f.message.stream
+          ∙ by (find (has_number f.message.stream) (join_each states inbounds s.progress)) refl
         where
-          by : (o : Option OpenStream) → find (has_number f.message.stream) (join_each states inbounds s.progress) ≡ o → begun_in o ≡ begun_on v f.message.stream
-          by None e = absurd (not_both (sym (none-open v f.message.stream (join_each states inbounds s.progress) (ap (λ (z : LinkRecord). z.streams) b.only ∙ sym b.records) e) ∙ opened))
+          by : (o : Option OpenStream) → find (has_number f.message.stream) (join_each states inbounds s.progress) ≡ o
+              → begun_in o ≡ begun_on v f.message.stream
+          by None e = absurd (not_both (sym
+              (none-open v f.message.stream (join_each states inbounds s.progress) (ap (λ (z : LinkRecord). z.streams) b.only ∙ sym b.records) e) ∙ opened))
           by (Some y) e = found-begun f.message.stream y e ∙ ap (begun_on v) (number-found f.message.stream (join_each states inbounds s.progress) y e)
 
-      indexed-then : Indexed (shape (with_slot v n false)) (index_kept (change_at (took (begins f.message) (begun_of f.message.stream s.progress)) n (map progress_of s.messages)))
+      indexed-then : Indexed (shape (with_slot v n false))
+          (index_kept (change_at (took (begins f.message) (begun_of f.message.stream s.progress)) n (map progress_of s.messages)))
       indexed-then =
           let g = took (begins f.message) (begun_of f.message.stream s.progress) in
           let ps = map progress_of s.messages in
@@ -265,7 +296,8 @@ module _ (states : List StreamState) (inbounds : List InboundStream) (x : State)
           (λ k ne. ap (λ p. p.1) (changed-other g n k ps (0, 0) ne))
           (ap (λ p. p.1) (changed-same g n ps (0, 0) (omega (arith, made-of, long)))
           ∙ ap (λ b. if b then begun_of f.message.stream s.progress else index_kept ps n) (begins-is n made-of f.message at)
-          ∙ ap (λ j. if (message_at v n).ordered && (M.sent_of v n == 0) then j else index_kept ps n) (begun-is ∙ ap (begun_on v) (stream-is n made-of f.message at)))
+          ∙ ap (λ j. if (message_at v n).ordered && (M.sent_of v n == 0) then j else index_kept ps n) (begun-is
+          ∙ ap (begun_on v) (stream-is n made-of f.message at)))
           b.indexed)
 
       begun-then : (t' : ℕ) → begun_on (with_slot v n false) t' ≡ begun_on v t' + (if (f.message.stream == t') && begins f.message then 1 else 0)
@@ -274,12 +306,14 @@ module _ (states : List StreamState) (inbounds : List InboundStream) (x : State)
           ∙ ap (λ b. begun_on v t' + (if ((message_at v n).stream == t') && b then 1 else 0)) (sym (begins-is n made-of f.message at))
           ∙ ap (λ j. begun_on v t' + (if (j == t') && begins f.message then 1 else 0)) (sym (stream-is n made-of f.message at))
 
-      streams-then : (k : ℕ) (d : OpenStream) → k < length (join_each states inbounds t.progress) → slice_index_or (join_each states inbounds t.progress) k d ≡ counted (begun_on (with_slot v n false) (slice_index_or x.open_streams k d).state.stream_identifier) (slice_index_or x.open_streams k d)
+      streams-then : (k : ℕ) (d : OpenStream) → k < length (join_each states inbounds t.progress) → slice_index_or (join_each states inbounds t.progress) k d
+          ≡ counted (begun_on (with_slot v n false) (slice_index_or x.open_streams k d).state.stream_identifier) (slice_index_or x.open_streams k d)
       streams-then k d lt =
           let go = begins f.message in
           let from = f.message.stream in
           let y = slice_index_or x.open_streams k d in
-          let inside : k < length (join_each states inbounds s.progress) = omega (arith, lt, ap length left-streams ∙ length-begun go from (join_each states inbounds s.progress)) in
+          let inside : k < length (join_each states inbounds s.progress) =
+          omega (arith, lt, ap length left-streams ∙ length-begun go from (join_each states inbounds s.progress)) in
           ap (λ ls. slice_index_or ls k d) left-streams ∙ begun-at go from (join_each states inbounds s.progress) k d inside
           ∙ ap (λ l. plus_begun (if (from == l.state.stream_identifier) && go then 1 else 0) l) (b.streams k d inside)
           ∙ ap (λ n. counted n y) (sym (begun-then y.state.stream_identifier))
@@ -287,13 +321,17 @@ module _ (states : List StreamState) (inbounds : List InboundStream) (x : State)
       outbound-then : RefinesOutbound (with_slot v n false) t.outbound
       outbound-then =
           let all : s.outbound.next_unstarted ≡ length v.messages = b.begun ∙ sym count-same in
-          let a : RefinesOutbound (send_fragment v) (sent_peeked s.outbound (tsn_of v (length v.slots)) now) = refines-fragment x.recorded.setup v n now s.outbound b.going fr b.taken all b.outbound in
-          let q : sent_peeked s.outbound (tsn_of v (length v.slots)) now ≡ t.outbound = ap (λ r. sent_peeked r (tsn_of v (length v.slots)) now) (sym (none-start s.outbound now (all ∙ sym b.outbound.next))) ∙ ap (λ k. sent_next s.outbound k now) (sym b.next) ∙ sym f.outbound in
-          subst (RefinesOutbound (with_slot v n false)) q (subst (λ o. RefinesOutbound (send_fragment_of v o) (sent_peeked s.outbound (tsn_of v (length v.slots)) now)) fr a)
+          let a : RefinesOutbound (send_fragment v) (sent_peeked s.outbound (tsn_of v (length v.slots)) now) =
+          refines-fragment x.recorded.setup v n now s.outbound b.going fr b.taken all b.outbound in
+          let q : sent_peeked s.outbound (tsn_of v (length v.slots)) now ≡ t.outbound = ap (λ r. sent_peeked r (tsn_of v (length v.slots)) now)
+          (sym (none-start s.outbound now (all ∙ sym b.outbound.next))) ∙ ap (λ k. sent_next s.outbound k now) (sym b.next) ∙ sym f.outbound in
+          subst (RefinesOutbound (with_slot v n false)) q
+          (subst (λ o. RefinesOutbound (send_fragment_of v o) (sent_peeked s.outbound (tsn_of v (length v.slots)) now)) fr a)
 
       started-then : t.outbound.next_unstarted ≡ length x.recorded.messages
       started-then =
-          ap (λ (r : Outbound). r.next_unstarted) f.outbound ∙ next-unstarted (all_started now s.outbound) s.next_tsn now (next_pending (all_started now s.outbound).pending)
+          ap (λ (r : Outbound). r.next_unstarted) f.outbound
+          ∙ next-unstarted (all_started now s.outbound) s.next_tsn now (next_pending (all_started now s.outbound).pending)
           ∙ ap (λ (r : Outbound). r.next_unstarted) (none-start s.outbound now (b.begun ∙ sym count-same ∙ sym b.outbound.next)) ∙ b.begun
 
       slots-then : map slot_record t.slots ≡ (with_slot v n false).slots
@@ -324,14 +362,16 @@ module _ (states : List StreamState) (inbounds : List InboundStream) (x : State)
       }
 
 -- where there is a next fragment, and it leaves
-pub between-more : (states : List StreamState) (inbounds : List InboundStream) (x : State) (now : ℕ) (v : LinkRecord) (s t : Outgoing) → Between states inbounds x now v s → is_some (front v) ≡ true → Leaves now s t → Between states inbounds x now (send_fragment v) t
+pub between-more : (states : List StreamState) (inbounds : List InboundStream) (x : State) (now : ℕ) (v : LinkRecord) (s t : Outgoing)
+    → Between states inbounds x now v s → is_some (front v) ≡ true → Leaves now s t → Between states inbounds x now (send_fragment v) t
 between-more states inbounds x now v s t b some f = by (front v) refl some
   where
     by : (o : Option ℕ) → front v ≡ o → is_some o ≡ true → Between states inbounds x now (send_fragment_of v o) t
     by None e h = cc
     by (Some n) e h = between-one states inbounds x now v s b n e t f
 
-pub between-can : (states : List StreamState) (inbounds : List InboundStream) (x : State) (now : ℕ) (v : LinkRecord) (s : Outgoing) → Between states inbounds x now v s → is_some (front v) ≡ true → CanSend s
+pub between-can : (states : List StreamState) (inbounds : List InboundStream) (x : State) (now : ℕ) (v : LinkRecord) (s : Outgoing)
+    → Between states inbounds x now v s → is_some (front v) ≡ true → CanSend s
 between-can states inbounds x now v s b some = by (front v) refl some
   where
     by : (o : Option ℕ) → front v ≡ o → is_some o ≡ true → CanSend s
@@ -340,11 +380,17 @@ between-can states inbounds x now v s b some = by (front v) refl some
 
 -- ## So many
 
-pub between-after : (states : List StreamState) (inbounds : List InboundStream) (x : State) (now : ℕ) (u : LinkRecord) (s : Outgoing) → Between states inbounds x now u s → (count : ℕ) → ((i : ℕ) → i < count → is_some (front (after_fragments i u)) ≡ true) → (i : ℕ) → i ≤ count → (t : Outgoing) → Leave now i s t → Between states inbounds x now (after_fragments i u) t
+pub between-after : (states : List StreamState) (inbounds : List InboundStream) (x : State) (now : ℕ) (u : LinkRecord) (s : Outgoing)
+    → Between states inbounds x now u s → (count : ℕ) → ((i : ℕ) → i < count → is_some (front (after_fragments i u)) ≡ true) → (i : ℕ) → i ≤ count
+    → (t : Outgoing) → Leave now i s t → Between states inbounds x now (after_fragments i u) t
 between-after states inbounds x now u s b count some zero le t f = subst (Between states inbounds x now u) (sym f) b
 between-after states inbounds x now u s b count some (suc i) le t f =
     subst (λ z. Between states inbounds x now z t) (sym (after-next i u))
-    (between-more states inbounds x now (after_fragments i u) f.0 t (between-after states inbounds x now u s b count some i (omega (arith, le)) f.0 f.1.0) (some i (omega (arith, le))) f.1.1)
+    (between-more states inbounds x now (after_fragments i u) f.0 t (between-after states inbounds x now u s b count some i (omega (arith, le)) f.0 f.1.0)
+    (some i (omega (arith, le))) f.1.1)
 
-pub each-can : (states : List StreamState) (inbounds : List InboundStream) (x : State) (now : ℕ) (u : LinkRecord) (s : Outgoing) → Between states inbounds x now u s → (count : ℕ) → ((i : ℕ) → i < count → is_some (front (after_fragments i u)) ≡ true) → (i : ℕ) (t : Outgoing) → i < count → Leave now i s t → CanSend t
-each-can states inbounds x now u s b count some i t lt f = between-can states inbounds x now (after_fragments i u) t (between-after states inbounds x now u s b count some i (omega (arith, lt)) t f) (some i lt)
+pub each-can : (states : List StreamState) (inbounds : List InboundStream) (x : State) (now : ℕ) (u : LinkRecord) (s : Outgoing)
+    → Between states inbounds x now u s → (count : ℕ) → ((i : ℕ) → i < count → is_some (front (after_fragments i u)) ≡ true) → (i : ℕ) (t : Outgoing)
+    → i < count → Leave now i s t → CanSend t
+each-can states inbounds x now u s b count some i t lt f =
+    between-can states inbounds x now (after_fragments i u) t (between-after states inbounds x now u s b count some i (omega (arith, lt)) t f) (some i lt)

@@ -16,5 +16,6 @@ flying w q t =
     ∙ length-mapped (sending_at w) (numbers_from w.taken (length w.slots - w.taken)) ∙ length-numbers w.taken (length w.slots - w.taken)
 
 -- where the record may have one slot more, a further TSN may be given out
-pub one-more-fits : (setup : Setup) (w v : LinkRecord) (q : Outbound) → Going setup v → length v.slots ≡ length w.slots + 1 → RefinesOutbound w q → length q.inflight.chunks + 1 < 2 ^ 31
+pub one-more-fits : (setup : Setup) (w v : LinkRecord) (q : Outbound) → Going setup v → length v.slots ≡ length w.slots + 1 → RefinesOutbound w q
+    → length q.inflight.chunks + 1 < 2 ^ 31
 one-more-fits setup w v q g more t = omega (arith, Few.few setup v g.sane, more, flying w q t)

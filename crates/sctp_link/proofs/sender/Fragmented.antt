@@ -42,26 +42,31 @@ built w r ppi bytes i ordered size ssn =
       user_data = slice_index_or (pieces (length bytes) size bytes) i [];
     })) { message_id = length w.messages; reliability = Some (r.reliability, r.value) }
 
-module _ (w : LinkRecord) (s : StreamState) (r : StreamRecord) (ppi : PayloadProtocolIdentifier) (bytes : List ℕ) (number : r.stream ≡ s.stream_identifier) (mode : r.unordered ≡ s.unordered) (reliability : r.reliability ≡ s.reliability_type) (value : r.value ≡ s.reliability_value) (size : s.max_payload_size ≡ w.setup.size) (ssn : s.sequence_number ≡ ordered_before w r.stream (length w.messages) % 2 ^ 16) where
+module _ (w : LinkRecord) (s : StreamState) (r : StreamRecord) (ppi : PayloadProtocolIdentifier) (bytes : List ℕ) (number : r.stream ≡ s.stream_identifier)
+    (mode : r.unordered ≡ s.unordered) (reliability : r.reliability ≡ s.reliability_type) (value : r.value ≡ s.reliability_value)
+    (size : s.max_payload_size ≡ w.setup.size) (ssn : s.sequence_number ≡ ordered_before w r.stream (length w.messages) % 2 ^ 16) where
   abbrev pub v : LinkRecord
   v = record w { messages = w.messages ++ message_on w r ppi bytes ∷ [] }
 
   one-waits : (i : ℕ) → with_message_id (length w.messages) (made s ppi bytes i) ≡ waiting_at v (length w.messages) i
   one-waits i =
       ap (λ (t : ℕ). record (with_message_id (length w.messages) (made s ppi bytes i)) { stream_identifier = t }) (sym number)
-      ∙ ap (λ t. record (built w r ppi bytes i (is_ordered s.unordered ppi) s.max_payload_size s.sequence_number) { reliability = Some (t, s.reliability_value) }) (sym reliability)
-      ∙ ap (λ t. record (built w r ppi bytes i (is_ordered s.unordered ppi) s.max_payload_size s.sequence_number) { reliability = Some (r.reliability, t) }) (sym value)
-      ∙ ap (λ t. built w r ppi bytes i t s.max_payload_size s.sequence_number) (ap (λ u. is_ordered u ppi) (sym mode))
+      ∙ ap (λ t.
+      record (built w r ppi bytes i (is_ordered s.unordered ppi) s.max_payload_size s.sequence_number) { reliability = Some (t, s.reliability_value) })
+      (sym reliability)
+      ∙ ap (λ t. record (built w r ppi bytes i (is_ordered s.unordered ppi) s.max_payload_size s.sequence_number) { reliability = Some (r.reliability, t) })
+      (sym value) ∙ ap (λ t. built w r ppi bytes i t s.max_payload_size s.sequence_number) (ap (λ u. is_ordered u ppi) (sym mode))
       ∙ ap (λ t. built w r ppi bytes i (is_ordered r.unordered ppi) t s.sequence_number) size
-      ∙ ap (λ t. built w r ppi bytes i (is_ordered r.unordered ppi) w.setup.size t) ssn
-      ∙ sym (Written.waiting-new w r ppi bytes i)
+      ∙ ap (λ t. built w r ppi bytes i (is_ordered r.unordered ppi) w.setup.size t) ssn ∙ sym (Written.waiting-new w r ppi bytes i)
 
-  pub all-wait : ((p : ℕ) → p < length w.slots → message_of w p < length w.messages) → map (with_message_id (length w.messages)) (fragments_with_mode s ppi bytes) ≡ waiting_of v (length w.messages)
+  pub all-wait : ((p : ℕ) → p < length w.slots → message_of w p < length w.messages)
+      → map (with_message_id (length w.messages)) (fragments_with_mode s ppi bytes) ≡ waiting_of v (length w.messages)
   all-wait known =
       let n = length w.messages in
       let unsent = Written.unsent w (message_on w r ppi bytes) known in
       let complete : fragment_count v n ≡ fragment_count v n - 0 = omega arith in
-      let count : fragment_count v n ≡ length (pieces (length bytes) w.setup.size bytes) = ap (λ m. length (pieces (length m.bytes) w.setup.size m.bytes)) (Waiting.message-new w (message_on w r ppi bytes)) in
+      let count : fragment_count v n ≡ length (pieces (length bytes) w.setup.size bytes) = ap (λ m. length (pieces (length m.bytes) w.setup.size m.bytes))
+      (Waiting.message-new w (message_on w r ppi bytes)) in
       ap (map (with_message_id n)) (fragments-made s ppi bytes)
       ∙ map-twice (with_message_id n) (made s ppi bytes) (numbers_from 0 (length (pieces_of s bytes)))
       ∙ map-same (λ i. with_message_id n (made s ppi bytes i)) (waiting_at v n) one-waits (numbers_from 0 (length (pieces_of s bytes)))

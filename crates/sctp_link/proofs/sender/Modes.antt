@@ -22,21 +22,42 @@ use Rattle.sctp_link.proofs.upkeep.ChangedStreams.{records-changed, each-changed
 use Rattle.sctp_link.proofs.upkeep.StreamPlaces.{apart-changed}
 
 -- an open stream is found
-pub found-open : (x : State) (s : ℕ) → x.recorded.streams ≡ map stream_record x.open_streams → is_open x.recorded s ≡ true → find (has_number s) x.open_streams ≡ None → ⊥
-found-open x s streams open' none = not_both (sym (ap is_some none) ∙ open-found s x.open_streams ∙ ap (λ rs. is_some (find (λ r. r.stream == s) rs)) (sym streams) ∙ open')
+pub found-open : (x : State) (s : ℕ) → x.recorded.streams ≡ map stream_record x.open_streams → is_open x.recorded s ≡ true
+    → find (has_number s) x.open_streams ≡ None → ⊥
+found-open x s streams open' none =
+    not_both (sym (ap is_some none) ∙ open-found s x.open_streams ∙ ap (λ rs. is_some (find (λ r. r.stream == s) rs)) (sym streams) ∙ open')
 
-module _ (sum : List ℕ → ℕ) (x : State) (l : IsLinked sum x) (s : ℕ) (unordered : Bool) (reliability : ReliabilityType) (value : ℕ) (ok : refusal_of x.recorded (E.Mode s unordered reliability value) ≡ None) (streams : x.recorded.streams ≡ map stream_record x.open_streams) where
+module _ (sum : List ℕ → ℕ) (x : State) (l : IsLinked sum x) (s : ℕ) (unordered : Bool) (reliability : ReliabilityType) (value : ℕ)
+    (ok : refusal_of x.recorded (E.Mode s unordered reliability value) ≡ None) (streams : x.recorded.streams ≡ map stream_record x.open_streams) where
   abbrev v : LinkRecord
   v = after_mode x.recorded s unordered reliability value
 
   kept : (t : OpenStream) → IsOpenStream x.recorded t → IsOpenStream v t
   kept t i =
       stream-same x.recorded v t
-      (record { setup = refl; held = Opened.mode-same x.recorded s unordered reliability value t.state.stream_identifier; ordered = refl; next = next-kept sum x l (E.Mode s unordered reliability value) ok tt t.state.stream_identifier; amount = refl; counters = refl })
+      (record {
+        setup = refl;
+        held = Opened.mode-same x.recorded s unordered reliability value t.state.stream_identifier;
+        ordered = refl;
+        next = next-kept sum x l (E.Mode s unordered reliability value) ok tt t.state.stream_identifier;
+        amount = refl;
+        counters = refl;
+      })
       refl i
 
   changes : (t : OpenStream) → IsOpenStream v t → IsOpenStream v (on_state (Outgoing.with_mode unordered reliability value) t)
-  changes t i = record { held = i.held; si = i.si; largest = i.largest; size = i.size; ordered = i.ordered; number = i.number; begun = i.begun; next = i.next; amount = i.amount; stats = i.stats }
+  changes t i = record {
+    held = i.held;
+    si = i.si;
+    largest = i.largest;
+    size = i.size;
+    ordered = i.ordered;
+    number = i.number;
+    begun = i.begun;
+    next = i.next;
+    amount = i.amount;
+    stats = i.stats;
+  }
 
   -- the streams in the mode
   abbrev pub streams_then : List OpenStream

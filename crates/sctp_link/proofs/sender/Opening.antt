@@ -35,17 +35,20 @@ pub open-found : (s : ℕ) (ls : List OpenStream) → is_some (find (has_number 
 open-found s [] = refl
 open-found s (l ∷ ls) = by (l.state.stream_identifier == s) (open-found s ls)
   where
-    by : (b : Bool) → is_some (find (has_number s) ls) ≡ is_some (find (λ r. r.stream == s) (map stream_record ls)) → is_some (if b then Some l else find (has_number s) ls) ≡ is_some (if b then Some (stream_record l) else find (λ r. r.stream == s) (map stream_record ls))
+    by : (b : Bool) → is_some (find (has_number s) ls) ≡ is_some (find (λ r. r.stream == s) (map stream_record ls)) → is_some (if b then Some l
+        else find (has_number s) ls) ≡ is_some (if b then Some (stream_record l) else find (λ r. r.stream == s) (map stream_record ls))
     by true e = refl
     by false e = e
 
 -- the record of one more stream
-pub streams-more : (s size largest : ℕ) (ls : List OpenStream) → map stream_record (ls ++ new_open_stream s size largest ∷ []) ≡ map stream_record ls ++ no_stream s ∷ []
+pub streams-more : (s size largest : ℕ) (ls : List OpenStream)
+    → map stream_record (ls ++ new_open_stream s size largest ∷ []) ≡ map stream_record ls ++ no_stream s ∷ []
 streams-more s size largest ls = map-append stream_record ls (new_open_stream s size largest ∷ [])
 
 -- ## The event
 
-module _ (sum : List ℕ → ℕ) (x : State) (l : IsLinked sum x) (s : ℕ) (ok : refusal_of x.recorded (E.Open s) ≡ None) (streams : x.recorded.streams ≡ map stream_record x.open_streams) where
+module _ (sum : List ℕ → ℕ) (x : State) (l : IsLinked sum x) (s : ℕ) (ok : refusal_of x.recorded (E.Open s) ≡ None)
+    (streams : x.recorded.streams ≡ map stream_record x.open_streams) where
   abbrev v : LinkRecord
   v = after_open x.recorded s
 
@@ -58,13 +61,24 @@ module _ (sum : List ℕ → ℕ) (x : State) (l : IsLinked sum x) (s : ℕ) (ok
   stream-old : (t : OpenStream) → IsOpenStream x.recorded t → IsOpenStream (after_open x.recorded s) t
   stream-old t i =
       stream-same x.recorded (after_open x.recorded s) t
-      (record { setup = refl; held = Opened.opened-same x.recorded s t.state.stream_identifier closed; ordered = refl; next = subst (λ u. next_of (after_open u s) t.state.stream_identifier ≡ next_of u t.state.stream_identifier) (sym l.stands.is) (next-same x.recorded.setup l.history (E.Open s) t.state.stream_identifier l.setup l.stands.run (ap (λ u. refusal_of u (E.Open s)) (sym l.stands.is) ∙ ok) tt); amount = refl; counters = refl })
+      (record {
+        setup = refl;
+        held = Opened.opened-same x.recorded s t.state.stream_identifier closed;
+        ordered = refl;
+        next = subst (λ u. next_of (after_open u s) t.state.stream_identifier ≡ next_of u t.state.stream_identifier) (sym l.stands.is) (next-same
+            x.recorded.setup l.history (E.Open s) t.state.stream_identifier l.setup l.stands.run (ap (λ u. refusal_of u (E.Open s)) (sym l.stands.is) ∙ ok) tt);
+        amount = refl;
+        counters = refl;
+      })
       refl i
 
   stream-new : IsOpenStream (after_open x.recorded s) (new_open_stream s x.recorded.setup.size x.recorded.setup.largest)
   stream-new =
-      let a : reassembly_of (after_open x.recorded s) s ≡ (let q : Reassembly = record { next_ssn = 0; ordered = []; unordered = []; unassembled = [] } in q) = Opened.opened-same x.recorded s s closed ∙ Opened.closed-empty x.recorded.setup x.recorded s f.sane closed in
-      let n : next_of (after_open x.recorded s) s ≡ 0 = subst (λ u. next_of (after_open u s) s ≡ next_of u s) (sym l.stands.is) (next-same x.recorded.setup l.history (E.Open s) s l.setup l.stands.run (ap (λ u. refusal_of u (E.Open s)) (sym l.stands.is) ∙ ok) tt) ∙ Opened.next x.recorded.setup x.recorded s f.sane closed in
+      let a : reassembly_of (after_open x.recorded s) s ≡ (let q : Reassembly = record { next_ssn = 0; ordered = []; unordered = []; unassembled = [] } in q) =
+      Opened.opened-same x.recorded s s closed ∙ Opened.closed-empty x.recorded.setup x.recorded s f.sane closed in
+      let n : next_of (after_open x.recorded s) s ≡ 0 = subst (λ u. next_of (after_open u s) s ≡ next_of u s) (sym l.stands.is)
+      (next-same x.recorded.setup l.history (E.Open s) s l.setup l.stands.run (ap (λ u. refusal_of u (E.Open s)) (sym l.stands.is) ∙ ok) tt)
+      ∙ Opened.next x.recorded.setup x.recorded s f.sane closed in
       record {
         held = sym a;
         si = refl;
@@ -80,7 +94,8 @@ module _ (sum : List ℕ → ℕ) (x : State) (l : IsLinked sum x) (s : ℕ) (ok
 
   -- and no open stream has its number
   pub new-number : find (has_number s) x.open_streams ≡ None
-  new-number = none (find (has_number s) x.open_streams) (open-found s x.open_streams ∙ ap (λ rs. is_some (find (λ r. r.stream == s) rs)) (sym streams) ∙ closed)
+  new-number =
+      none (find (has_number s) x.open_streams) (open-found s x.open_streams ∙ ap (λ rs. is_some (find (λ r. r.stream == s) rs)) (sym streams) ∙ closed)
     where
       none : (o : Option OpenStream) → is_some o ≡ false → o ≡ None
       none None e = refl
@@ -105,9 +120,12 @@ module _ (sum : List ℕ → ℕ) (x : State) (l : IsLinked sum x) (s : ℕ) (ok
     sents = l.sents;
     indexes = l.indexes;
     low = l.low;
-    open_streams = λ k d lt. by_last {P = IsOpenStream (after_open x.recorded s) (slice_index_or (x.open_streams ++ m ∷ []) k d)} k (length x.open_streams) (omega (arith, lt, length-append x.open_streams (m ∷ [])))
-        (λ below. subst (IsOpenStream (after_open x.recorded s)) (sym (get-snoc_old x.open_streams m k d (λ z. absurd (omega (arith, below, z))))) (stream-old (slice_index_or x.open_streams k d) (l.open_streams k d below)))
-        (λ z. subst (IsOpenStream (after_open x.recorded s)) (sym (ap (λ j. slice_index_or (x.open_streams ++ m ∷ []) j d) z ∙ get-snoc_new x.open_streams m d)) stream-new);
+    open_streams = λ k d lt. by_last {P = IsOpenStream (after_open x.recorded s) (slice_index_or (x.open_streams ++ m ∷ []) k d)} k (length x.open_streams)
+        (omega (arith, lt, length-append x.open_streams (m ∷ [])))
+        (λ below. subst (IsOpenStream (after_open x.recorded s)) (sym (get-snoc_old x.open_streams m k d (λ z. absurd (omega (arith, below, z)))))
+        (stream-old (slice_index_or x.open_streams k d) (l.open_streams k d below)))
+        (λ z. subst (IsOpenStream (after_open x.recorded s))
+        (sym (ap (λ j. slice_index_or (x.open_streams ++ m ∷ []) j d) z ∙ get-snoc_new x.open_streams m d)) stream-new);
     apart = apart-more x.open_streams m l.apart new-number;
     encodings = encodings-same sum x l (E.Open s) ok refl;
   }

@@ -1,5 +1,6 @@
 -- The datagrams that a link makes of DATA chunks.
-use Rattle.std.proofs.Common.{◌≡◌, ℕ, zero, suc, ◌+◌, ◌-◌, ◌<◌, ◌≤◌, ◌^◌, true, false, List, [], ◌∷◌, ◌++◌, length, map, take, drop, get_or, Some, None, refl, ap, sym, ◌∙◌, arith}
+use Rattle.std.proofs.Common.{◌≡◌, ℕ, zero, suc, ◌+◌, ◌-◌, ◌<◌, ◌≤◌, ◌^◌, true, false, List, [], ◌∷◌, ◌++◌, length, map, take, drop, get_or, Some, None, refl}
+use Rattle.std.proofs.Common.{ap, sym, ◌∙◌, arith}
 use Rattle.std.specs.Prelude.{◌&&◌, ◌||◌, not, nat_le, nat_lt, slice_index_or, find}
 use Rattle.std.proofs.Math.Path.{subst}
 use Rattle.std.proofs.lemmas.List.{map-append}
@@ -53,22 +54,29 @@ piece-short (suc most) size (x ∷ xs) (suc i) = piece-short most size (drop siz
 pub chunk-short : (d : Data) → length d.user_data ≤ 65519 → 4 + length (data_value d) < 2 ^ 16
 chunk-short d le = omega (arith, length_data_value d, le)
 
-pub fragment-short : (sum : List ℕ → ℕ) (x : State) → IsLinked sum x → (n i : ℕ) → length (get_or (pieces (length (message_at x.recorded n).bytes) x.recorded.setup.size (message_at x.recorded n).bytes) i []) ≤ 65519
-fragment-short sum x l n i = omega (arith, piece-short (length (message_at x.recorded n).bytes) x.recorded.setup.size (message_at x.recorded n).bytes i, l.setup.size)
+pub fragment-short : (sum : List ℕ → ℕ) (x : State) → IsLinked sum x → (n i : ℕ)
+    → length (get_or (pieces (length (message_at x.recorded n).bytes) x.recorded.setup.size (message_at x.recorded n).bytes) i []) ≤ 65519
+fragment-short sum x l n i =
+    omega (arith, piece-short (length (message_at x.recorded n).bytes) x.recorded.setup.size (message_at x.recorded n).bytes i, l.setup.size)
 
 -- ## Datagrams
 
-pub says-data : (sum : List ℕ → ℕ) (v : LinkRecord) (p : ℕ) (bytes : List ℕ) (d : Data) → d ≡ data_of (chunk_at v p) → bytes ≡ packet_encoding sum (packet_with (data_chunk d ∷ [])) → ReadsPacket sum bytes (packet_with (data_chunk d ∷ [])) → IsDatagram sum (contents_of v (W.Data (p ∷ []))) bytes
+pub says-data : (sum : List ℕ → ℕ) (v : LinkRecord) (p : ℕ) (bytes : List ℕ) (d : Data) → d ≡ data_of (chunk_at v p)
+    → bytes ≡ packet_encoding sum (packet_with (data_chunk d ∷ [])) → ReadsPacket sum bytes (packet_with (data_chunk d ∷ []))
+    → IsDatagram sum (contents_of v (W.Data (p ∷ []))) bytes
 says-data sum v p bytes d is encoding reads = record {
   encoding = encoding ∙ ap (λ e. packet_encoding sum (packet_with (data_chunk e ∷ []))) is;
   reads = subst (λ e. ReadsPacket sum bytes (packet_with (data_chunk e ∷ []))) is reads;
 }
 
-pub network-more : (ds es : List Datagram) (k : Kind) (bytes : List ℕ) → es ≡ ds ++ (let d : Datagram = record { kind = k; bytes = bytes } in d) ∷ [] → map datagram_record es ≡ map datagram_record ds ++ kind_record k ∷ []
+pub network-more : (ds es : List Datagram) (k : Kind) (bytes : List ℕ) → es ≡ ds ++ (let d : Datagram = record { kind = k; bytes = bytes } in d) ∷ []
+    → map datagram_record es ≡ map datagram_record ds ++ kind_record k ∷ []
 network-more ds es k bytes e = ap (map datagram_record) e ∙ map-append datagram_record ds ((let d : Datagram = record { kind = k; bytes = bytes } in d) ∷ [])
 
-pub bytes-more : (ds es : List Datagram) (k : Kind) (bytes : List ℕ) → es ≡ ds ++ (let d : Datagram = record { kind = k; bytes = bytes } in d) ∷ [] → map (λ d. d.bytes) es ≡ map (λ d. d.bytes) ds ++ bytes ∷ []
-bytes-more ds es k bytes e = ap (map (λ d. d.bytes)) e ∙ map-append (λ (d : Datagram). d.bytes) ds ((let d : Datagram = record { kind = k; bytes = bytes } in d) ∷ [])
+pub bytes-more : (ds es : List Datagram) (k : Kind) (bytes : List ℕ) → es ≡ ds ++ (let d : Datagram = record { kind = k; bytes = bytes } in d) ∷ []
+    → map (λ d. d.bytes) es ≡ map (λ d. d.bytes) ds ++ bytes ∷ []
+bytes-more ds es k bytes e = ap (map (λ d. d.bytes)) e
+    ∙ map-append (λ (d : Datagram). d.bytes) ds ((let d : Datagram = record { kind = k; bytes = bytes } in d) ∷ [])
 
 -- ## A chunk leaves again
 
@@ -97,7 +105,8 @@ module _ (sum : List ℕ → ℕ) (x : State) (l : IsLinked sum x) (tsn : ℕ) (
   clear : is_cleared x.recorded p ≡ false
   clear =
       let r = both (not (slot_at x.recorded p).acknowledged) (not (message_at x.recorded (message_of x.recorded p)).abandoned) rest in
-      ap (λ b. b || (message_at x.recorded (message_of x.recorded p)).abandoned) (negated (slot_at x.recorded p).acknowledged r.0) ∙ negated (message_at x.recorded (message_of x.recorded p)).abandoned r.1
+      ap (λ b. b || (message_at x.recorded (message_of x.recorded p)).abandoned) (negated (slot_at x.recorded p).acknowledged r.0)
+      ∙ negated (message_at x.recorded (message_of x.recorded p)).abandoned r.1
 
   own : tsn_of x.recorded p ≡ tsn
   own = let f = l.setup.first in omega (arith, f, small)
@@ -105,7 +114,8 @@ module _ (sum : List ℕ → ℕ) (x : State) (l : IsLinked sum x) (tsn : ℕ) (
   found : Found x.recorded p cs
   found =
       let f = facts sum x l in
-      found-in x.recorded p (omega (arith, below, f.few)) cs x.recorded.taken (length x.recorded.slots - x.recorded.taken) (omega (arith, f.few, f.taken)) from (omega (arith, below, f.taken)) l.outbound.in_flight
+      found-in x.recorded p (omega (arith, below, f.few)) cs x.recorded.taken (length x.recorded.slots - x.recorded.taken)
+      (omega (arith, f.few, f.taken)) from (omega (arith, below, f.taken)) l.outbound.in_flight
 
   there : find (has_tsn tsn) cs ≡ Some found.chunk
   there = ap (λ t. find (has_tsn t) cs) (sym own) ∙ found.is
@@ -128,12 +138,16 @@ module _ (sum : List ℕ → ℕ) (x : State) (l : IsLinked sum x) (tsn : ℕ) (
       let is : c.user_data ≡ (chunk_at x.recorded p).user_data = ap (λ (d : Data). d.user_data) (resend-says c e) in
       chunk-short (data_of c) (omega (arith, ap length is, fragment-short sum x l (message_of x.recorded p) (slot_at x.recorded p).fragment))
 
-  pub linked-resend : (c : ChunkPayloadData) (bytes : List ℕ) (nsent : ℕ) (q : Outbound) → find (has_tsn tsn) cs ≡ Some c → bytes ≡ packet_encoding sum (packet_with (data_chunk (data_of c) ∷ [])) → ReadsPacket sum bytes (packet_with (data_chunk (data_of c) ∷ [])) → length x.datagrams ≡ length x.recorded.network → q ≡ with_inflight x.outbound (change_where (has_tsn tsn) (with_nsent nsent) cs) → IsLinked sum (record x { recorded = after_resend x.recorded tsn; datagrams = x.datagrams ++ bytes ∷ []; outbound = q })
+  pub linked-resend : (c : ChunkPayloadData) (bytes : List ℕ) (nsent : ℕ) (q : Outbound) → find (has_tsn tsn) cs ≡ Some c
+      → bytes ≡ packet_encoding sum (packet_with (data_chunk (data_of c) ∷ [])) → ReadsPacket sum bytes (packet_with (data_chunk (data_of c) ∷ []))
+      → length x.datagrams ≡ length x.recorded.network → q ≡ with_inflight x.outbound (change_where (has_tsn tsn) (with_nsent nsent) cs)
+      → IsLinked sum (record x { recorded = after_resend x.recorded tsn; datagrams = x.datagrams ++ bytes ∷ []; outbound = q })
   linked-resend c bytes nsent q e encoding reads count eq = record {
     setup = l.setup;
     history = (E.Resend tsn, reply_to x.recorded (E.Resend tsn)) ∷ l.history;
     stands = stands-then x.recorded.setup x.recorded l.history (E.Resend tsn) ok l.stands;
-    outbound = subst (RefinesOutbound v) (sym eq) (outbound-same x.recorded v (same-self x.recorded v refl refl refl refl) _ (refines-marked x.recorded x.outbound (has_tsn tsn) (with_nsent nsent) (nsent-quiet nsent) l.outbound));
+    outbound = subst (RefinesOutbound v) (sym eq) (outbound-same x.recorded v (same-self x.recorded v refl refl refl refl) _
+        (refines-marked x.recorded x.outbound (has_tsn tsn) (with_nsent nsent) (nsent-quiet nsent) l.outbound));
     unstarted = l.unstarted ∙ sym (ap (λ (r : Outbound). r.next_unstarted) eq);
     filter = l.filter;
     next = l.next;
@@ -143,9 +157,11 @@ module _ (sum : List ℕ → ℕ) (x : State) (l : IsLinked sum x) (tsn : ℕ) (
     sents = l.sents;
     indexes = l.indexes;
     low = l.low;
-    open_streams = λ k d lt. stream-same x.recorded v (slice_index_or x.open_streams k d) (record { setup = refl; held = refl; ordered = refl; next = refl; amount = refl; counters = refl }) refl (l.open_streams k d lt);
+    open_streams = λ k d lt. stream-same x.recorded v (slice_index_or x.open_streams k d)
+        (record { setup = refl; held = refl; ordered = refl; next = refl; amount = refl; counters = refl }) refl (l.open_streams k d lt);
     apart = l.apart;
-    encodings = encodings-more sum x l (E.Resend tsn) ok (W.Data (p ∷ [])) bytes refl count (says-data sum v p bytes (data_of c) (resend-says c e) encoding reads);
+    encodings =
+        encodings-more sum x l (E.Resend tsn) ok (W.Data (p ∷ [])) bytes refl count (says-data sum v p bytes (data_of c) (resend-says c e) encoding reads);
   }
     where
       v : LinkRecord

@@ -89,7 +89,8 @@ module _ (sum : List ℕ → ℕ) (x : State) (l : IsLinked sum x) where
       by None fr = fr
       by (Some n) fr = absurd (nothing (sym (shown x.recorded.setup x.recorded n x.outbound (facts sum x l).going fr l.outbound) ∙ e))
 
-  pub idle-right : (now : ℕ) (new : LinkRecord) → next_pending x.outbound.pending ≡ None → new ≡ after_start x.recorded now → IsRight x.recorded (E.Send now) R.Idle new
+  pub idle-right : (now : ℕ) (new : LinkRecord) → next_pending x.outbound.pending ≡ None → new ≡ after_start x.recorded now
+      → IsRight x.recorded (E.Send now) R.Idle new
   idle-right now new e is =
       let fr = none-next e in
       record { right = sym (ap (sent_reply x.recorded (after_send x.recorded now)) fr); moves = is ∙ sym (ap (send_from (after_start x.recorded now)) fr) }
@@ -106,7 +107,8 @@ wires-at v [] = refl
 wires-at v (p ∷ ps) = ap (λ l. wire_data (chunk_at v p) ∷ l) (wires-at v ps)
 
 at-short : (v : LinkRecord) (p : ℕ) → v.setup.size ≤ 65519 → length (chunk_at v p).user_data ≤ 65519
-at-short v p le = omega (arith, le, piece-short (length (message_at v (M.message_of v p)).bytes) v.setup.size (message_at v (M.message_of v p)).bytes (M.slot_at v p).fragment)
+at-short v p le = omega
+    (arith, le, piece-short (length (message_at v (M.message_of v p)).bytes) v.setup.size (message_at v (M.message_of v p)).bytes (M.slot_at v p).fragment)
 
 encodings-at : (v : LinkRecord) (ps : List ℕ) → v.setup.size ≤ 65519 → AllByRecursion HasEncoding (map wire_data (map (chunk_at v) ps))
 encodings-at v [] le = tt
@@ -125,7 +127,12 @@ module _ (sum : List ℕ → ℕ) (x : State) (l : IsLinked sum x) (now : ℕ) w
       let w = x.recorded in
       let z = after_fragments i w in
       shown-after w.setup i w x.outbound.pending (λ c. length c.user_data ≤ 65519) (facts sum x l).going l.outbound.pending
-      (λ n. omega (arith, l.setup.size, ap (λ (y : LinkRecord). y.setup.size) (only-slots i w), piece-short (length (message_at z n).bytes) z.setup.size (message_at z n).bytes (M.sent_of z n)))
+      (λ n. omega (
+        arith,
+        l.setup.size,
+        ap (λ (y : LinkRecord). y.setup.size) (only-slots i w),
+        piece-short (length (message_at z n).bytes) z.setup.size (message_at z n).bytes (M.sent_of z n),
+      ))
 
 module _ (sum : List ℕ → ℕ) (x : State) (l : IsLinked sum x) (now n : ℕ) (fr : front x.recorded ≡ Some n) where
   abbrev w : LinkRecord
@@ -138,10 +145,12 @@ module _ (sum : List ℕ → ℕ) (x : State) (l : IsLinked sum x) (now n : ℕ)
   abbrev pub cs : List ChunkPayloadData
   cs = chunks_taken x.recorded.setup.limit x.next_tsn x.outbound.pending
 
-  pub fills : Fills (after_start x.recorded now) (send_fragments (after_start x.recorded now)) (chunks_taken x.recorded.setup.limit x.next_tsn x.outbound.pending)
+  pub fills : Fills (after_start x.recorded now) (send_fragments (after_start x.recorded now))
+      (chunks_taken x.recorded.setup.limit x.next_tsn x.outbound.pending)
   fills =
       let f = facts sum x l in
-      subst (λ z. Fills u z cs) (sym (sent-started w now)) (fill-started w (send_fragments w) now cs (fill-sent w.setup x.next_tsn n w x.outbound.pending f.going l.outbound.pending fr l.next))
+      subst (λ z. Fills u z cs) (sym (sent-started w now))
+      (fill-started w (send_fragments w) now cs (fill-sent w.setup x.next_tsn n w x.outbound.pending f.going l.outbound.pending fr l.next))
 
   -- the record once they have slots
   abbrev z : LinkRecord
@@ -151,7 +160,11 @@ module _ (sum : List ℕ → ℕ) (x : State) (l : IsLinked sum x) (now n : ℕ)
   places = numbers_from (length x.recorded.slots) (length (chunks_taken x.recorded.setup.limit x.next_tsn x.outbound.pending))
 
   abbrev pub v : LinkRecord
-  v = record x.recorded { messages = (after_start x.recorded now).messages; slots = (send_fragments (after_start x.recorded now)).slots; network = x.recorded.network ++ W.Data places ∷ [] }
+  v = record x.recorded {
+    messages = (after_start x.recorded now).messages;
+    slots = (send_fragments (after_start x.recorded now)).slots;
+    network = x.recorded.network ++ W.Data places ∷ [];
+  }
 
   only : send_fragments (after_start x.recorded now) ≡ record (after_start x.recorded now) { slots = (send_fragments (after_start x.recorded now)).slots }
   only = fills.all ∙ only-slots (length cs) u ∙ ap (λ s. record u { slots = s }) (ap (λ (y : LinkRecord). y.slots) (sym fills.all))
@@ -168,7 +181,9 @@ module _ (sum : List ℕ → ℕ) (x : State) (l : IsLinked sum x) (now n : ℕ)
   pub send-right : (ssn : ℕ) → ssn ≡ ssn_of w n → IsRight w (E.Send now) (R.Sent (length w.network) x.next_tsn ssn (length cs)) v
   send-right ssn e = record {
     right = ap (λ t. R.Sent (length w.network) t ssn (length cs)) l.next ∙ ap (λ k. R.Sent (length w.network) (tsn_of w (length w.slots)) k (length cs)) e
-        ∙ sym (ap (sent_reply w (after_send w now)) fr ∙ ap (λ (y : LinkRecord). R.Sent (length w.network) (tsn_of w (length w.slots)) (ssn_of w n) (length y.slots - length w.slots)) sent-moves ∙ ap (R.Sent (length w.network) (tsn_of w (length w.slots)) (ssn_of w n)) many);
+        ∙ sym (ap (sent_reply w (after_send w now)) fr
+        ∙ ap (λ (y : LinkRecord). R.Sent (length w.network) (tsn_of w (length w.slots)) (ssn_of w n) (length y.slots - length w.slots)) sent-moves
+        ∙ ap (R.Sent (length w.network) (tsn_of w (length w.slots)) (ssn_of w n)) many);
     moves = sym sent-moves;
   }
 
@@ -182,7 +197,8 @@ module _ (sum : List ℕ → ℕ) (x : State) (l : IsLinked sum x) (now n : ℕ)
   pub canonical-each : AllByRecursion Canonical (map wire_of (map C.PayloadData (chunks_taken x.recorded.setup.limit x.next_tsn x.outbound.pending)))
   canonical-each = subst (AllByRecursion Canonical) (sym says-wires) (canonical-at v places)
 
-  pub says : (ks : List ChunkKind) (bytes : List ℕ) → ks ≡ map C.PayloadData cs → bytes ≡ packet_encoding sum (packet_with (map wire_of ks)) → ReadsPacket sum bytes (packet_with (map wire_of ks)) → IsDatagram sum (contents_of v (W.Data places)) bytes
+  pub says : (ks : List ChunkKind) (bytes : List ℕ) → ks ≡ map C.PayloadData cs → bytes ≡ packet_encoding sum (packet_with (map wire_of ks))
+      → ReadsPacket sum bytes (packet_with (map wire_of ks)) → IsDatagram sum (contents_of v (W.Data places)) bytes
   says ks bytes is encoding reads =
       let e : map wire_of ks ≡ map wire_data (map (chunk_at v) places) = ap (map wire_of) is ∙ says-wires in
       record { encoding = encoding ∙ ap (λ ws. packet_encoding sum (packet_with ws)) e; reads = subst (λ ws. ReadsPacket sum bytes (packet_with ws)) e reads }
@@ -191,46 +207,67 @@ module _ (sum : List ℕ → ℕ) (x : State) (l : IsLinked sum x) (now n : ℕ)
   quiet = Moves.quiet-sent w.setup w now (front w) (facts sum x l).sane
 
   before : (t : ℕ) → ordered_before (after_send w now) t (length (after_send w now).messages) ≡ ordered_before w t (length w.messages)
-  before t = ap (λ y. ordered_before y t (length y.messages)) sent-moves ∙ ap (ordered_before u t) (length-mapped (start_lifetime now) w.messages) ∙ before-started w now t (length w.messages)
+  before t = ap (λ y. ordered_before y t (length y.messages)) sent-moves ∙ ap (ordered_before u t) (length-mapped (start_lifetime now) w.messages)
+      ∙ before-started w now t (length w.messages)
 
   stream-kept : (t : ℕ) → SameStream w v t
   stream-kept t = subst (λ y. SameStream w y t) sent-moves (stream-quiet sum x l (E.Send now) refl quiet tt refl refl refl before t)
 
   -- the record that the link then has
-  pub recorded-is : (rs : List StreamRecord) (ms : List Message) (ss : List Slot) (ns : List W.Datagram) → rs ≡ w.streams → ms ≡ u.messages → ss ≡ z.slots → ns ≡ w.network ++ W.Data places ∷ [] → record w { streams = rs; messages = ms; slots = ss; network = ns } ≡ v
+  pub recorded-is : (rs : List StreamRecord) (ms : List Message) (ss : List Slot) (ns : List W.Datagram) → rs ≡ w.streams → ms ≡ u.messages → ss ≡ z.slots
+      → ns ≡ w.network ++ W.Data places ∷ [] → record w { streams = rs; messages = ms; slots = ss; network = ns } ≡ v
   recorded-is rs ms ss ns r a b c =
       ap (λ t. record w { streams = t; messages = ms; slots = ss; network = ns }) r
       ∙ ap (λ m. record w { messages = m; slots = ss; network = ns }) a
       ∙ ap (λ m. record u { slots = m; network = ns }) b
       ∙ ap (λ m. record u { slots = z.slots; network = m }) c
 
-  module _ (states : List StreamState) (inbounds : List InboundStream) (s : Outgoing) (b : Between states inbounds x now (send_fragments (after_start x.recorded now)) s) (bytes : List ℕ) (encoding : IsDatagram sum (contents_of v (W.Data places)) bytes) (count : length x.datagrams ≡ length x.recorded.network) where
+  module _ (states : List StreamState) (inbounds : List InboundStream) (s : Outgoing)
+      (b : Between states inbounds x now (send_fragments (after_start x.recorded now)) s) (bytes : List ℕ)
+      (encoding : IsDatagram sum (contents_of v (W.Data places)) bytes) (count : length x.datagrams ≡ length x.recorded.network) where
     shape-same : shape (send_fragments (after_start x.recorded now)) ≡ shape v
     shape-same = ap shape only
 
-    stream-sent : (k : ℕ) (d : OpenStream) → k < length (join_each states inbounds s.progress) → IsOpenStream v (slice_index_or (join_each states inbounds s.progress) k d)
+    stream-sent : (k : ℕ) (d : OpenStream) → k < length (join_each states inbounds s.progress)
+        → IsOpenStream v (slice_index_or (join_each states inbounds s.progress) k d)
     stream-sent k d lt =
         let y = slice_index_or x.open_streams k d in
-        let long : length (join_each states inbounds s.progress) ≡ length x.open_streams = sym (length-mapped (λ (l : OpenStream). l.state.stream_identifier) (join_each states inbounds s.progress)) ∙ ap length b.numbers ∙ length-mapped (λ (l : OpenStream). l.state.stream_identifier) x.open_streams in
+        let long : length (join_each states inbounds s.progress) ≡ length x.open_streams =
+        sym (length-mapped (λ (l : OpenStream). l.state.stream_identifier) (join_each states inbounds s.progress)) ∙ ap length b.numbers
+        ∙ length-mapped (λ (l : OpenStream). l.state.stream_identifier) x.open_streams in
         subst (IsOpenStream v) (sym (b.streams k d lt))
-        (stream-with w v y (begun_on z y.state.stream_identifier) (stream-kept y.state.stream_identifier) (ap (λ h. Begun.begun h y.state.stream_identifier) shape-same) (l.open_streams k d (omega (arith, lt, long))))
+        (stream-with w v y (begun_on z y.state.stream_identifier) (stream-kept y.state.stream_identifier)
+        (ap (λ h. Begun.begun h y.state.stream_identifier) shape-same) (l.open_streams k d (omega (arith, lt, long))))
 
-    encodings-sent : (k : ℕ) (d : List ℕ) (g : W.Datagram) → slice_get v.network k ≡ Some g → IsDatagram sum (contents_of v g) (slice_index_or (x.datagrams ++ bytes ∷ []) k d)
+    encodings-sent : (k : ℕ) (d : List ℕ) (g : W.Datagram) → slice_get v.network k ≡ Some g
+        → IsDatagram sum (contents_of v g) (slice_index_or (x.datagrams ++ bytes ∷ []) k d)
     encodings-sent =
-        subst (λ y. (k : ℕ) (d : List ℕ) (g : W.Datagram) → slice_get y.network k ≡ Some g → IsDatagram sum (contents_of y g) (slice_index_or (x.datagrams ++ bytes ∷ []) k d)) sent-moves
-        (encodings-more sum x l (E.Send now) refl (W.Data places) bytes (ap (λ (y : LinkRecord). y.network) sent-moves) count (subst (λ y. IsDatagram sum (contents_of y (W.Data places)) bytes) (sym sent-moves) encoding))
+        subst (λ y. (k : ℕ) (d : List ℕ) (g : W.Datagram) → slice_get y.network k ≡ Some g
+        → IsDatagram sum (contents_of y g) (slice_index_or (x.datagrams ++ bytes ∷ []) k d)) sent-moves
+        (encodings-more sum x l (E.Send now) refl (W.Data places) bytes (ap (λ (y : LinkRecord). y.network) sent-moves) count
+        (subst (λ y. IsDatagram sum (contents_of y (W.Data places)) bytes) (sym sent-moves) encoding))
 
     indexed-sent : Indexed (shape v) (index_kept (map progress_of s.messages))
     indexed-sent = subst (λ h. Indexed h (index_kept (map progress_of s.messages))) shape-same b.indexed
 
     outbound-sent : RefinesOutbound v s.outbound
-    outbound-sent = let r : LinkRecord = record u { slots = z.slots } in outbound-same r v (same-self r v refl refl refl refl) s.outbound (subst (λ y. RefinesOutbound y s.outbound) only b.outbound)
+    outbound-sent = let r : LinkRecord = record u { slots = z.slots } in
+        outbound-same r v (same-self r v refl refl refl refl) s.outbound (subst (λ y. RefinesOutbound y s.outbound) only b.outbound)
 
-    pub linked-send : IsLinked sum (record x { recorded = v; open_streams = (join_each states inbounds s.progress); progress = map progress_of s.messages; unstarted = length x.recorded.messages; datagrams = x.datagrams ++ bytes ∷ []; outbound = s.outbound; next_tsn = s.next_tsn })
+    pub linked-send : IsLinked sum (record x {
+      recorded = v;
+      open_streams = (join_each states inbounds s.progress);
+      progress = map progress_of s.messages;
+      unstarted = length x.recorded.messages;
+      datagrams = x.datagrams ++ bytes ∷ [];
+      outbound = s.outbound;
+      next_tsn = s.next_tsn;
+    })
     linked-send = record {
       setup = l.setup;
       history = (E.Send now, reply_to w (E.Send now)) ∷ l.history;
-      stands = subst (λ y. StandsFor w.setup y ((E.Send now, reply_to w (E.Send now)) ∷ l.history)) sent-moves (stands-then w.setup w l.history (E.Send now) refl l.stands);
+      stands = subst (λ y. StandsFor w.setup y ((E.Send now, reply_to w (E.Send now)) ∷ l.history)) sent-moves
+          (stands-then w.setup w l.history (E.Send now) refl l.stands);
       outbound = outbound-sent;
       unstarted = sym b.begun;
       filter = l.filter ∙ sym (ap filter_of (sym sent-moves) ∙ filter-kept sum x l (E.Send now) refl quiet);

@@ -1,5 +1,6 @@
 -- A write is taken.
-use Rattle.std.proofs.Common.{◌≡◌, ℕ, ◌+◌, ◌<◌, ◌%◌, ◌^◌, Bool, true, false, List, [], ◌∷◌, ◌++◌, length, map, drop, Option, Some, None, refl, ap, sym, ◌∙◌, arith, length-append}
+use Rattle.std.proofs.Common.{◌≡◌, ℕ, ◌+◌, ◌<◌, ◌%◌, ◌^◌, Bool, true, false, List, [], ◌∷◌, ◌++◌, length, map, drop, Option, Some, None, refl, ap, sym, ◌∙◌}
+use Rattle.std.proofs.Common.{arith, length-append}
 use Rattle.std.specs.Prelude.{◌==◌, ◌&&◌, not, if◌then◌else◌, nat_lt, slice_index_or, find, unwrap_or}
 use Rattle.std.specs.Option.{option_map}
 use Rattle.std.proofs.Math.Path.{subst}
@@ -55,7 +56,8 @@ use Rattle.sctp_link.proofs.upkeep.Apart.{stream-found, number-found}
 
 -- ## Numbers
 
-number-next : (c : Bool) (b : ℕ) (bs : List ℕ) (seq ordered : ℕ) → seq ≡ ordered % 2 ^ 16 → (if c && nat_lt 0 (length (b ∷ bs)) then (seq + 1) % 2 ^ 16 else seq) ≡ (if c then ordered + 1 else ordered) % 2 ^ 16
+number-next : (c : Bool) (b : ℕ) (bs : List ℕ) (seq ordered : ℕ) → seq ≡ ordered % 2 ^ 16
+    → (if c && nat_lt 0 (length (b ∷ bs)) then (seq + 1) % 2 ^ 16 else seq) ≡ (if c then ordered + 1 else ordered) % 2 ^ 16
 number-next true b bs seq ordered e =
     let some : nat_lt 0 (length (b ∷ bs)) ≡ true = grind (arith, nat_tests) in
     ap (λ t. if t then (seq + 1) % 2 ^ 16 else seq) some ∙ omega (arith, e)
@@ -65,7 +67,8 @@ sent-both : (o : Option ℕ) (a b : DataChannelStats) → both_ways (with_sent o
 sent-both None a b = refl
 sent-both (Some n) a b = refl
 
-stats-next : (ppi : PayloadProtocolIdentifier) (len : ℕ) (w : LinkRecord) (t : ℕ) → with_sent (counted_as ppi len) (stats_of (counters_on w t)) ≡ stats_of (sent_more (counted_as ppi len) (counters_on w t))
+stats-next : (ppi : PayloadProtocolIdentifier) (len : ℕ) (w : LinkRecord) (t : ℕ)
+    → with_sent (counted_as ppi len) (stats_of (counters_on w t)) ≡ stats_of (sent_more (counted_as ppi len) (counters_on w t))
 stats-next Dcep len w t = refl
 stats-next String len w t = refl
 stats-next Binary len w t = refl
@@ -75,7 +78,8 @@ stats-next Unknown len w t = refl
 
 -- ## The event
 
-module _ (sum : List ℕ → ℕ) (x : State) (l : IsLinked sum x) (s : ℕ) (ppi : PayloadProtocolIdentifier) (b : ℕ) (bs : List ℕ) (ok : refusal_of x.recorded (E.Write s ppi (b ∷ bs)) ≡ None) (streams : x.recorded.streams ≡ map stream_record x.open_streams) where
+module _ (sum : List ℕ → ℕ) (x : State) (l : IsLinked sum x) (s : ℕ) (ppi : PayloadProtocolIdentifier) (b : ℕ) (bs : List ℕ)
+    (ok : refusal_of x.recorded (E.Write s ppi (b ∷ bs)) ≡ None) (streams : x.recorded.streams ≡ map stream_record x.open_streams) where
   abbrev w : LinkRecord
   w = x.recorded
 
@@ -128,7 +132,8 @@ module _ (sum : List ℕ → ℕ) (x : State) (l : IsLinked sum x) (s : ℕ) (pp
 
     -- ## The streams
 
-    before-wrote : (t : ℕ) → ordered_before v t (length v.messages) ≡ ordered_before w t (length w.messages) + (if (s == t) && is_ordered m.state.unordered ppi then 1 else 0)
+    before-wrote : (t : ℕ)
+        → ordered_before v t (length v.messages) ≡ ordered_before w t (length w.messages) + (if (s == t) && is_ordered m.state.unordered ppi then 1 else 0)
     before-wrote t =
         InLine.before-more w msg t refl
         ∙ ap (λ r. ordered_before w t (length w.messages) + (if (r.stream == t) && is_ordered r.unordered ppi then 1 else 0)) stream-is
@@ -146,10 +151,12 @@ module _ (sum : List ℕ → ℕ) (x : State) (l : IsLinked sum x) (s : ℕ) (pp
         (record {
           setup = refl;
           held = held-quiet sum x l (E.Write s ppi bytes) ok (Moves.quiet-written w.setup w s ppi bytes f.sane) n;
-          ordered = before-wrote n ∙ ap (λ c. ordered_before w n (length w.messages) + (if c && is_ordered m.state.unordered ppi then 1 else 0)) off' ∙ plus-none (ordered_before w n (length w.messages));
+          ordered = before-wrote n ∙ ap (λ c. ordered_before w n (length w.messages) + (if c && is_ordered m.state.unordered ppi then 1 else 0)) off'
+              ∙ plus-none (ordered_before w n (length w.messages));
           next = next-same n;
           amount = amount-wrote w.setup w s n ppi bytes l.setup f.sane ok ∙ ap (λ c. amount w n + (if c then length bytes else 0)) off ∙ plus-none (amount w n);
-          counters = counters-wrote w s n ppi bytes ok ∙ ap (λ c. if c && not (length bytes == 0) then sent_more (counted_as ppi (length bytes)) (counters_on w n) else counters_on w n) off;
+          counters = counters-wrote w s n ppi bytes ok
+              ∙ ap (λ c. if c && not (length bytes == 0) then sent_more (counted_as ppi (length bytes)) (counters_on w n) else counters_on w n) off;
         }) (begun-kept sum x l (E.Write s ppi bytes) ok tt n) j
       where
         plus-none : (a : ℕ) → a + 0 ≡ a
@@ -163,20 +170,24 @@ module _ (sum : List ℕ → ℕ) (x : State) (l : IsLinked sum x) (s : ℕ) (pp
         let n = m.state.stream_identifier in
         let on : (s == n) ≡ true = ap (λ k. s == k) own ∙ same-yes s in
         let on' : (n == s) ≡ true = ap (λ k. k == s) own ∙ same-yes s in
-        let grown : amount v n ≡ amount w n + length bytes = amount-wrote w.setup w s n ppi bytes l.setup f.sane ok ∙ ap (λ c. amount w n + (if c then length bytes else 0)) on' in
+        let grown : amount v n ≡ amount w n + length bytes = amount-wrote w.setup w s n ppi bytes l.setup f.sane ok
+        ∙ ap (λ c. amount w n + (if c then length bytes else 0)) on' in
         let short = amount-few sum x n l in
         record {
           held = i.held ∙ sym (held-quiet sum x l (E.Write s ppi bytes) ok (Moves.quiet-written w.setup w s ppi bytes f.sane) n);
           si = i.si;
           largest = i.largest;
           size = i.size;
-          ordered = adds (is_ordered m.state.unordered ppi) m.ordered (ordered_before w n (length w.messages)) i.ordered ∙ sym (before-wrote n ∙ ap (λ c. ordered_before w n (length w.messages) + (if c && is_ordered m.state.unordered ppi then 1 else 0)) on);
+          ordered = adds (is_ordered m.state.unordered ppi) m.ordered (ordered_before w n (length w.messages)) i.ordered
+              ∙ sym (before-wrote n ∙ ap (λ c. ordered_before w n (length w.messages) + (if c && is_ordered m.state.unordered ppi then 1 else 0)) on);
           number = number-next (is_ordered m.state.unordered ppi) b bs m.state.sequence_number m.ordered i.number;
           begun = i.begun ∙ sym (begun-kept sum x l (E.Write s ppi bytes) ok tt n);
           next = i.next ∙ sym (next-same n);
           amount = omega (arith, i.amount, grown, short, few);
-          stats = sent-both (counted_as ppi (length bytes)) m.state.stats m.inbound.stats ∙ ap (with_sent (counted_as ppi (length bytes))) i.stats ∙ stats-next ppi (length bytes) w n
-              ∙ sym (ap stats_of (counters-wrote w s n ppi bytes ok ∙ ap (λ c. if c && not (length bytes == 0) then sent_more (counted_as ppi (length bytes)) (counters_on w n) else counters_on w n) on' ∙ ap (λ c. if c then sent_more (counted_as ppi (length bytes)) (counters_on w n) else counters_on w n) some));
+          stats = sent-both (counted_as ppi (length bytes)) m.state.stats m.inbound.stats ∙ ap (with_sent (counted_as ppi (length bytes))) i.stats
+              ∙ stats-next ppi (length bytes) w n ∙ sym (ap stats_of (counters-wrote w s n ppi bytes ok
+              ∙ ap (λ c. if c && not (length bytes == 0) then sent_more (counted_as ppi (length bytes)) (counters_on w n) else counters_on w n) on'
+              ∙ ap (λ c. if c then sent_more (counted_as ppi (length bytes)) (counters_on w n) else counters_on w n) some));
         }
       where
         adds : (c : Bool) (a e : ℕ) → a ≡ e → (if c then a + 1 else a) ≡ e + (if true && c then 1 else 0)
@@ -200,18 +211,23 @@ module _ (sum : List ℕ → ℕ) (x : State) (l : IsLinked sum x) (s : ℕ) (pp
         let mode : ChunkPayloadData → ChunkPayloadData = with_reliability m.state.reliability_type m.state.reliability_value in
         let known = f.sane.sender.made in
         let r = stream_of w s in
-        let waits = all-wait w m.state r ppi bytes (ap (λ (r : StreamRecord). r.stream) stream-is) (ap (λ (r : StreamRecord). r.unordered) stream-is) (ap (λ (r : StreamRecord). r.reliability) stream-is) (ap (λ (r : StreamRecord). r.value) stream-is) i.size
+        let waits = all-wait w m.state r ppi bytes (ap (λ (r : StreamRecord). r.stream) stream-is) (ap (λ (r : StreamRecord). r.unordered) stream-is)
+        (ap (λ (r : StreamRecord). r.reliability) stream-is) (ap (λ (r : StreamRecord). r.value) stream-is) i.size
         (i.number ∙ ap (λ k. k % 2 ^ 16) (i.ordered ∙ ap (λ (r : StreamRecord). ordered_before w r.stream (length w.messages)) (sym stream-is))) known in
-        Written.refines-written w msg known q (mode (stream.fragment_at m.state ppi bytes 0)) (map mode (map (stream.fragment_at m.state ppi bytes) (numbers_from 1 (length (pieces (length bs) m.state.max_payload_size (drop m.state.max_payload_size bytes)))))) refl refl refl (ap not (ap (λ (r : StreamRecord). is_ordered r.unordered ppi) (sym stream-is))) waits t
+        Written.refines-written w msg known q (mode (stream.fragment_at m.state ppi bytes 0)) (map mode (map (stream.fragment_at m.state ppi bytes)
+        (numbers_from 1 (length (pieces (length bs) m.state.max_payload_size (drop m.state.max_payload_size bytes)))))) refl refl refl
+        (ap not (ap (λ (r : StreamRecord). is_ordered r.unordered ppi) (sym stream-is))) waits t
 
     -- ## The counts
 
-    sents-wrote : (progress : List (ℕ × ℕ)) → length x.progress ≡ length w.messages → progress ≡ x.progress ++ (0, 0) ∷ [] → (k : ℕ) → k < length v.messages → (slice_index_or progress k (0, 0)).0 ≡ sent_of v k
+    sents-wrote : (progress : List (ℕ × ℕ)) → length x.progress ≡ length w.messages → progress ≡ x.progress ++ (0, 0) ∷ [] → (k : ℕ) → k < length v.messages
+        → (slice_index_or progress k (0, 0)).0 ≡ sent_of v k
     sents-wrote progress count e k less =
         ap (λ (a : List (ℕ × ℕ)). (slice_index_or a k (0, 0)).0) e ∙ ap (λ (p : ℕ × ℕ). p.0) (progress-more x.progress k)
         ∙ by_last {P = (slice_index_or x.progress k (0, 0)).0 ≡ sent_of v k} k (length w.messages) (omega (arith, less, length-append w.messages (msg ∷ [])))
         (λ old. l.sents k old ∙ sym (sent-kept k))
-        (λ z. ap (λ j. (slice_index_or x.progress j (0, 0)).0) (z ∙ sym count) ∙ ap (λ (p : ℕ × ℕ). p.0) (past-last x.progress) ∙ sym (ap (sent_of v) z ∙ Written.unsent w msg f.sane.sender.made))
+        (λ z. ap (λ j. (slice_index_or x.progress j (0, 0)).0) (z ∙ sym count) ∙ ap (λ (p : ℕ × ℕ). p.0) (past-last x.progress)
+        ∙ sym (ap (sent_of v) z ∙ Written.unsent w msg f.sane.sender.made))
       where
         sent-kept : (k : ℕ) → sent_of v k ≡ sent_of w k
         sent-kept k = refl
@@ -226,11 +242,13 @@ module _ (sum : List ℕ → ℕ) (x : State) (l : IsLinked sum x) (s : ℕ) (pp
     indexes-wrote : (progress : List (ℕ × ℕ)) → progress ≡ x.progress ++ (0, 0) ∷ [] → Indexed (shape v) (index_kept progress)
     indexes-wrote progress e =
         let i = indexed-kept sum x l (E.Write s ppi bytes) ok tt in
-        let same : (k : ℕ) → index_kept progress k ≡ index_kept x.progress k = λ k. ap (λ a. index_kept a k) e ∙ ap (λ (p : ℕ × ℕ). p.1) (progress-more x.progress k) in
+        let same : (k : ℕ)
+        → index_kept progress k ≡ index_kept x.progress k = λ k. ap (λ a. index_kept a k) e ∙ ap (λ (p : ℕ × ℕ). p.1) (progress-more x.progress k) in
         record { is = λ k pos o. same k ∙ i.is k pos o; low = λ k. omega (arith, same k, i.low k) }
 
-    pub linked-write : (progress : List (ℕ × ℕ)) (fragments written count : ℕ) → length x.progress ≡ length w.messages → progress ≡ x.progress ++ (0, 0) ∷ [] → fragments ≡ x.fragments + count → count ≡ fragments_in w bytes → written ≡ x.written + length bytes
-        → IsLinked sum (record x { recorded = v; open_streams = streams_then; progress = progress; outbound = with_message frags x.outbound; fragments = fragments; written = written })
+    pub linked-write : (progress : List (ℕ × ℕ)) (fragments written count : ℕ) → length x.progress ≡ length w.messages → progress ≡ x.progress ++ (0, 0) ∷ []
+        → fragments ≡ x.fragments + count → count ≡ fragments_in w bytes → written ≡ x.written + length bytes → IsLinked sum (record x
+        { recorded = v; open_streams = streams_then; progress = progress; outbound = with_message frags x.outbound; fragments = fragments; written = written })
     linked-write progress fragments written count each es ef ec ew = record {
       setup = l.setup;
       history = (E.Write s ppi bytes, reply_to w (E.Write s ppi bytes)) ∷ l.history;
@@ -252,5 +270,6 @@ module _ (sum : List ℕ → ℕ) (x : State) (l : IsLinked sum x) (s : ℕ) (pp
       encodings = encodings-same sum x l (E.Write s ppi bytes) ok refl;
     }
       where
-        alone : (k : ℕ) (d : OpenStream) → k < length x.open_streams → (slice_index_or x.open_streams k d).state.stream_identifier ≡ s → slice_index_or x.open_streams k d ≡ m
+        alone : (k : ℕ) (d : OpenStream) → k < length x.open_streams → (slice_index_or x.open_streams k d).state.stream_identifier ≡ s
+            → slice_index_or x.open_streams k d ≡ m
         alone k d lt e = only-found s x.open_streams m l.apart here k d lt e

@@ -1,5 +1,6 @@
 -- What the lists of a link are once a write was taken.
-use Rattle.std.proofs.Common.{◌≡◌, ℕ, ◌+◌, ◌<◌, ◌≤◌, ◌^◌, Bool, true, false, List, [], ◌∷◌, ◌++◌, length, map, Option, Some, None, option_map, is_some, refl, ap, sym, ◌∙◌, arith}
+use Rattle.std.proofs.Common.{◌≡◌, ℕ, ◌+◌, ◌<◌, ◌≤◌, ◌^◌, Bool, true, false, List, [], ◌∷◌, ◌++◌, length, map, Option, Some, None, option_map, is_some, refl}
+use Rattle.std.proofs.Common.{ap, sym, ◌∙◌, arith}
 use Rattle.std.specs.Prelude.{◌==◌, ◌||◌, not, if◌then◌else◌, nat_le, nat_lt, find}
 use Rattle.std.proofs.Math.Path.{subst}
 use Rattle.std.proofs.lemmas.List.{map-append}
@@ -44,11 +45,13 @@ pub state-found : (s : ℕ) (ls : List OpenStream) → find (Outgoing.has_number
 state-found s [] = refl
 state-found s (l ∷ ls) = step (l.state.stream_identifier == s) (state-found s ls)
   where
-    step : (b : Bool) → find (Outgoing.has_number s) (map (λ l. l.state) ls) ≡ option_map (λ l. l.state) (find (has_number s) ls) → (if b then Some l.state else find (Outgoing.has_number s) (map (λ l. l.state) ls)) ≡ option_map (λ (l : OpenStream). l.state) (if b then Some l else find (has_number s) ls)
+    step : (b : Bool) → find (Outgoing.has_number s) (map (λ l. l.state) ls) ≡ option_map (λ l. l.state) (find (has_number s) ls) → (if b then Some l.state
+        else find (Outgoing.has_number s) (map (λ l. l.state) ls)) ≡ option_map (λ (l : OpenStream). l.state) (if b then Some l else find (has_number s) ls)
     step true e = refl
     step false e = e
 
-module _ (sum : List ℕ → ℕ) (x : State) (l : IsLinked sum x) (s : ℕ) (ppi : PayloadProtocolIdentifier) (bytes : List ℕ) (some : 0 < length bytes) (ok : refusal_of x.recorded (E.Write s ppi bytes) ≡ None) (streams : x.recorded.streams ≡ map stream_record x.open_streams) where
+module _ (sum : List ℕ → ℕ) (x : State) (l : IsLinked sum x) (s : ℕ) (ppi : PayloadProtocolIdentifier) (bytes : List ℕ) (some : 0 < length bytes)
+    (ok : refusal_of x.recorded (E.Write s ppi bytes) ≡ None) (streams : x.recorded.streams ≡ map stream_record x.open_streams) where
   pub write-found : find (has_number s) x.open_streams ≡ None → ⊥
   write-found none = found-open x s streams (write-open x.recorded s ppi bytes ok) none
 
@@ -84,21 +87,30 @@ module _ (sum : List ℕ → ℕ) (x : State) (l : IsLinked sum x) (s : ℕ) (pp
     -- there is one more number for an ordered message
     pub next-short : m.ordered + 1 < 2 ^ 64
     next-short =
-        omega (arith, i.ordered, length-kept-le (M.is_ordered_on x.recorded m.state.stream_identifier) 0 (length x.recorded.messages), messages-few x.recorded.setup x.recorded (facts sum x l).sane)
+        omega (
+          arith,
+          i.ordered,
+          length-kept-le (M.is_ordered_on x.recorded m.state.stream_identifier) 0 (length x.recorded.messages),
+          messages-few x.recorded.setup x.recorded (facts sum x l).sane,
+        )
 
     -- the sender takes it
     not-full : is_full_of (length bytes) x.outbound ≡ false
     not-full =
         let queued = queued-few sum x l in
         let few = messages-few x.recorded.setup x.recorded (facts sum x l).sane in
-        let a : nat_lt (x.outbound.next_message_id + 1) (2 ^ 64) ≡ true = (let lt : x.outbound.next_message_id + 1 < 2 ^ 64 = omega (arith, l.outbound.next, few) in grind (arith, nat_tests)) in
-        let b : nat_lt (total_bytes x.outbound + length bytes) (2 ^ 64) ≡ true = (let lt : total_bytes x.outbound + length bytes < 2 ^ 64 = omega (arith, queued, write-few, l.written) in grind (arith, nat_tests)) in
+        let a : nat_lt (x.outbound.next_message_id + 1)
+        (2 ^ 64) ≡ true = (let lt : x.outbound.next_message_id + 1 < 2 ^ 64 = omega (arith, l.outbound.next, few) in grind (arith, nat_tests)) in
+        let b : nat_lt (total_bytes x.outbound + length bytes) (2 ^ 64) ≡ true =
+        (let lt : total_bytes x.outbound + length bytes < 2 ^ 64 = omega (arith, queued, write-few, l.written) in grind (arith, nat_tests)) in
         ap (λ t. not t || not (nat_lt (total_bytes x.outbound + length bytes) (2 ^ 64))) a ∙ ap not b
 
-    pub sender-takes : (t : Transmission) → t.streams ≡ map (λ l. l.state) x.open_streams → t.flight.queue ≡ x.outbound → t.max_message_size ≡ x.recorded.setup.largest → write_refusal s (length bytes) t ≡ None
+    pub sender-takes : (t : Transmission) → t.streams ≡ map (λ l. l.state) x.open_streams → t.flight.queue ≡ x.outbound
+        → t.max_message_size ≡ x.recorded.setup.largest → write_refusal s (length bytes) t ≡ None
     sender-takes t es eq em =
         SenderStreams.fine s (length bytes) t
-        (ap (λ ls. is_some (find (Outgoing.has_number s) ls)) es ∙ ap is_some (state-found s x.open_streams) ∙ ap (λ o. is_some (option_map (λ l. l.state) o)) here)
+        (ap (λ ls. is_some (find (Outgoing.has_number s) ls)) es ∙ ap is_some (state-found s x.open_streams)
+        ∙ ap (λ o. is_some (option_map (λ l. l.state) o)) here)
         (omega (arith, write-small, em)) (ap (is_full_of (length bytes)) eq ∙ not-full)
 
     abbrev pub streams_then : List OpenStream
@@ -107,19 +119,26 @@ module _ (sum : List ℕ → ℕ) (x : State) (l : IsLinked sum x) (s : ℕ) (pp
     abbrev pub kept : Message
     kept = message_written s (written_of m ppi) ppi bytes
 
-    module _ (ms more : List Message) (em : x.recorded.messages ≡ map message_record ms) (es : x.progress ≡ map progress_of ms) (e : more ≡ ms ++ kept ∷ []) where
-      pub recorded-wrote : record x.recorded { streams = map stream_record streams_then; messages = map message_record more } ≡ after_write x.recorded s ppi bytes
+    module _ (ms more : List Message) (em : x.recorded.messages ≡ map message_record ms) (es : x.progress ≡ map progress_of ms)
+        (e : more ≡ ms ++ kept ∷ []) where
+      pub recorded-wrote : record x.recorded { streams = map stream_record streams_then; messages = map message_record more }
+          ≡ after_write x.recorded s ppi bytes
       recorded-wrote = by bytes some ok e
         where
-          by : (bytes : List ℕ) → 0 < length bytes → refusal_of x.recorded (E.Write s ppi bytes) ≡ None → more ≡ ms ++ message_written s (written_of m ppi) ppi bytes ∷ [] → record x.recorded { streams = map stream_record (change_where (has_number s) (wrote_to ppi bytes) x.open_streams); messages = map message_record more } ≡ after_write x.recorded s ppi bytes
+          by : (bytes : List ℕ) → 0 < length bytes → refusal_of x.recorded (E.Write s ppi bytes) ≡ None
+              → more ≡ ms ++ message_written s (written_of m ppi) ppi bytes ∷ [] → record x.recorded
+              { streams = map stream_record (change_where (has_number s) (wrote_to ppi bytes) x.open_streams); messages = map message_record more }
+              ≡ after_write x.recorded s ppi bytes
           by [] some ok e = absurd (omega arith)
           by (b ∷ bs) some ok e =
               ap (λ a. record x.recorded { streams = a; messages = map message_record more }) (Writing.streams-wrote sum x l s ppi b bs ok streams m here)
               ∙ ap (λ a. record x.recorded { messages = a }) (Writing.messages-wrote sum x l s ppi b bs ok streams m here ms more em e)
 
-      pub write-right : (number count : ℕ) → number ≡ length ms → count ≡ fragments_in x.recorded bytes → IsRight x.recorded (E.Write s ppi bytes) (R.Wrote (Some number) count) (record x.recorded { streams = map stream_record streams_then; messages = map message_record more })
+      pub write-right : (number count : ℕ) → number ≡ length ms → count ≡ fragments_in x.recorded bytes → IsRight x.recorded (E.Write s ppi bytes)
+          (R.Wrote (Some number) count) (record x.recorded { streams = map stream_record streams_then; messages = map message_record more })
       write-right number count en ec = record {
-        right = ap (λ k. R.Wrote (Some k) count) (en ∙ sym (length-mapped message_record ms) ∙ ap length (sym em)) ∙ ap (R.Wrote (Some (length x.recorded.messages))) ec
+        right = ap (λ k. R.Wrote (Some k) count) (en ∙ sym (length-mapped message_record ms) ∙ ap length (sym em))
+            ∙ ap (R.Wrote (Some (length x.recorded.messages))) ec
             ∙ sym (ap (λ b. R.Wrote (if b then None else Some (length x.recorded.messages)) (fragments_in x.recorded bytes)) full);
         moves = recorded-wrote;
       }
@@ -127,17 +146,40 @@ module _ (sum : List ℕ → ℕ) (x : State) (l : IsLinked sum x) (s : ℕ) (pp
           full : (length bytes == 0) ≡ false
           full = grind (arith, nat_tests)
 
-      pub linked-wrote : (fragments written count : ℕ) → fragments ≡ x.fragments + count → count ≡ fragments_in x.recorded bytes → written ≡ x.written + length bytes
-          → IsLinked sum (record x { recorded = record x.recorded { streams = map stream_record streams_then; messages = map message_record more }; open_streams = streams_then; progress = map progress_of more; outbound = with_message (fragments_with_mode m.state ppi bytes) x.outbound; fragments = fragments; written = written })
+      pub linked-wrote : (fragments written count : ℕ) → fragments ≡ x.fragments + count → count ≡ fragments_in x.recorded bytes
+          → written ≡ x.written + length bytes → IsLinked sum (record x {
+            recorded = record x.recorded { streams = map stream_record streams_then; messages = map message_record more };
+            open_streams = streams_then;
+            progress = map progress_of more;
+            outbound = with_message (fragments_with_mode m.state ppi bytes) x.outbound;
+            fragments = fragments;
+            written = written;
+          })
       linked-wrote fragments written count ef ec ew =
-          moved sum (record x { recorded = record x.recorded { streams = map stream_record streams_then; messages = map message_record more }; open_streams = streams_then; progress = map progress_of more; outbound = with_message (fragments_with_mode m.state ppi bytes) x.outbound; fragments = fragments; written = written }) (after_write x.recorded s ppi bytes) recorded-wrote
+          moved sum (record x {
+            recorded = record x.recorded { streams = map stream_record streams_then; messages = map message_record more };
+            open_streams = streams_then;
+            progress = map progress_of more;
+            outbound = with_message (fragments_with_mode m.state ppi bytes) x.outbound;
+            fragments = fragments;
+            written = written;
+          }) (after_write x.recorded s ppi bytes) recorded-wrote
           (by bytes some ok e ec ew)
         where
-          by : (bytes : List ℕ) → 0 < length bytes → refusal_of x.recorded (E.Write s ppi bytes) ≡ None → more ≡ ms ++ message_written s (written_of m ppi) ppi bytes ∷ [] → count ≡ fragments_in x.recorded bytes → written ≡ x.written + length bytes
-              → IsLinked sum (record x { recorded = after_write x.recorded s ppi bytes; open_streams = change_where (has_number s) (wrote_to ppi bytes) x.open_streams; progress = map progress_of more; outbound = with_message (fragments_with_mode m.state ppi bytes) x.outbound; fragments = fragments; written = written })
+          by : (bytes : List ℕ) → 0 < length bytes → refusal_of x.recorded (E.Write s ppi bytes) ≡ None
+              → more ≡ ms ++ message_written s (written_of m ppi) ppi bytes ∷ [] → count ≡ fragments_in x.recorded bytes → written ≡ x.written + length bytes
+              → IsLinked sum (record x {
+                recorded = after_write x.recorded s ppi bytes;
+                open_streams = change_where (has_number s) (wrote_to ppi bytes) x.open_streams;
+                progress = map progress_of more;
+                outbound = with_message (fragments_with_mode m.state ppi bytes) x.outbound;
+                fragments = fragments;
+                written = written;
+              })
           by [] some ok e ec ew = absurd (omega arith)
           by (b ∷ bs) some ok e ec ew =
               Writing.linked-write sum x l s ppi b bs ok streams m here (map progress_of more) fragments written count
               (ap length es ∙ length-mapped progress_of ms ∙ sym (ap length em ∙ length-mapped message_record ms))
-              (ap (map progress_of) e ∙ map-append progress_of ms (message_written s (written_of m ppi) ppi (b ∷ bs) ∷ []) ∙ ap (λ a. a ++ (0, 0) ∷ []) (sym es))
+              (ap (map progress_of) e ∙ map-append progress_of ms (message_written s (written_of m ppi) ppi (b ∷ bs) ∷ [])
+              ∙ ap (λ a. a ++ (0, 0) ∷ []) (sym es))
               ef ec ew

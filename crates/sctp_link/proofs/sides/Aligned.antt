@@ -50,8 +50,14 @@ module _ (t : Transmission) (r : Reception) (ps : List Standing) (a : IsAligned 
   pub reception-is : reception_of (sides t r ps) ≡ r
   reception-is =
       let e = inbounds-joined t.streams r.streams ps alike in
-      ap (λ is. let x : Reception = record { streams = is; cumulative_tsn = r.cumulative_tsn; beyond = r.beyond; duplicates = r.duplicates; max_message_size = t.max_message_size; limits = None } in x) e
-      ∙ ap (λ m. let x : Reception = record r { max_message_size = m; limits = None } in x) (sym a.size)
+      ap (λ is. let x : Reception = record {
+        streams = is;
+        cumulative_tsn = r.cumulative_tsn;
+        beyond = r.beyond;
+        duplicates = r.duplicates;
+        max_message_size = t.max_message_size;
+        limits = None;
+      } in x) e ∙ ap (λ m. let x : Reception = record r { max_message_size = m; limits = None } in x) (sym a.size)
       ∙ ap (λ l. let x : Reception = record r { limits = l } in x) (sym a.unlimited)
 
   pub count-is : length (join_each t.streams r.streams ps) ≡ length ps
@@ -59,11 +65,15 @@ module _ (t : Transmission) (r : Reception) (ps : List Standing) (a : IsAligned 
 
   -- ## A part that changes
 
-  pub with-sender : (x : Transmission) → Outgoing.numbers_of x.streams ≡ Outgoing.numbers_of t.streams → x.max_message_size ≡ t.max_message_size → x.kept ≡ t.kept → IsAligned x r ps
-  with-sender x same size kept = record { receives = same ∙ a.receives; progresses = same ∙ a.progresses; size = a.size ∙ sym size; unlimited = a.unlimited; forgets = kept ∙ a.forgets }
+  pub with-sender : (x : Transmission) → Outgoing.numbers_of x.streams ≡ Outgoing.numbers_of t.streams → x.max_message_size ≡ t.max_message_size
+      → x.kept ≡ t.kept → IsAligned x r ps
+  with-sender x same size kept =
+      record { receives = same ∙ a.receives; progresses = same ∙ a.progresses; size = a.size ∙ sym size; unlimited = a.unlimited; forgets = kept ∙ a.forgets }
 
-  pub with-receiver : (x : Reception) → Inbound.numbers_of x.streams ≡ Inbound.numbers_of r.streams → x.max_message_size ≡ r.max_message_size → x.limits ≡ r.limits → IsAligned t x ps
-  with-receiver x same size limits = record { receives = a.receives ∙ sym same; progresses = a.progresses; size = size ∙ a.size; unlimited = limits ∙ a.unlimited; forgets = a.forgets }
+  pub with-receiver : (x : Reception) → Inbound.numbers_of x.streams ≡ Inbound.numbers_of r.streams → x.max_message_size ≡ r.max_message_size
+      → x.limits ≡ r.limits → IsAligned t x ps
+  with-receiver x same size limits =
+      record { receives = a.receives ∙ sym same; progresses = a.progresses; size = size ∙ a.size; unlimited = limits ∙ a.unlimited; forgets = a.forgets }
 
   pub with-progress : (qs : List Standing) → Progress.numbers_of qs ≡ Progress.numbers_of ps → IsAligned t r qs
   with-progress qs same = record { receives = a.receives; progresses = a.progresses ∙ sym same; size = a.size; unlimited = a.unlimited; forgets = a.forgets }
@@ -88,11 +98,13 @@ module _ (t : Transmission) (r : Reception) (ps : List Standing) (a : IsAligned 
   pub read-message : (s : ℕ) (l : OpenStream) → stream_in s (sides t r ps) ≡ Some l → R.message_on s r ≡ message_read l.inbound.queue.held
   read-message s l e = ap R.message_of (sym (inbound-in s) ∙ ap (option_map (λ l. l.inbound)) e)
 
-  pub inbound-on : (s : ℕ) (f : InboundStream → InboundStream) → join_each t.streams (change_where (Inbound.has_number s) f r.streams) ps ≡ change_where (has_number s) (on_inbound f) (join_each t.streams r.streams ps)
+  pub inbound-on : (s : ℕ) (f : InboundStream → InboundStream)
+      → join_each t.streams (change_where (Inbound.has_number s) f r.streams) ps ≡ change_where (has_number s) (on_inbound f) (join_each t.streams r.streams ps)
   inbound-on s f = inbound-changed s f t.streams r.streams ps a.receives
 
   pub read-aligned : (s : ℕ) (x : Reception) → x ≡ R.after_read s r → IsAligned t x ps
-  read-aligned s x e = with-receiver x (ap (λ (y : Reception). Inbound.numbers_of y.streams) e ∙ stays-changed Inbound.number Inbound.stream_read (λ l. refl) (Inbound.has_number s) r.streams) (ap (λ (y : Reception). y.max_message_size) e) (ap (λ (y : Reception). y.limits) e)
+  read-aligned s x e = with-receiver x (ap (λ (y : Reception). Inbound.numbers_of y.streams) e ∙ stays-changed Inbound.number Inbound.stream_read (λ l. refl)
+      (Inbound.has_number s) r.streams) (ap (λ (y : Reception). y.max_message_size) e) (ap (λ (y : Reception). y.limits) e)
 
   pub read-sides : (s : ℕ) (x : Reception) → x ≡ R.after_read s r → sides t x ps ≡ on_stream s (on_inbound Inbound.stream_read) (sides t r ps)
   read-sides s x e = ap (λ y. sides t y ps) e ∙ ap (λ ls. let y : Sides = record (sides t r ps) { streams = ls } in y) (inbound-on s Inbound.stream_read)
@@ -114,4 +126,5 @@ module _ (t : Transmission) (r : Reception) (ps : List Standing) (a : IsAligned 
         by false = followed-sides
 
     pub forward-aligned : (x : Reception) → x ≡ R.after_forward f r → IsAligned t x ps
-    forward-aligned x e = with-receiver x (ap (λ (y : Reception). Inbound.numbers_of y.streams) e ∙ after-numbers f r) (ap (λ (y : Reception). y.max_message_size) e ∙ after-size f r) (ap (λ (y : Reception). y.limits) e ∙ after-limits f r)
+    forward-aligned x e = with-receiver x (ap (λ (y : Reception). Inbound.numbers_of y.streams) e ∙ after-numbers f r)
+        (ap (λ (y : Reception). y.max_message_size) e ∙ after-size f r) (ap (λ (y : Reception). y.limits) e ∙ after-limits f r)

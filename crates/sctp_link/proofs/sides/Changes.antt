@@ -1,5 +1,6 @@
 -- What changes of the sender and of the progress make of a link's sides, and what is told of a stream by its number.
-use Rattle.std.proofs.Common.{◌≡◌, ℕ, zero, suc, ◌+◌, ◌-◌, ◌<◌, List, [], ◌∷◌, length, map, set, Bool, true, false, Option, Some, None, Result, Ok, Err, inl, inr, refl, ap, sym, ◌∙◌, arith, subst}
+use Rattle.std.proofs.Common.{◌≡◌, ℕ, zero, suc, ◌+◌, ◌-◌, ◌<◌, List, [], ◌∷◌, length, map, set, Bool, true, false, Option, Some, None, Result, Ok, Err, inl}
+use Rattle.std.proofs.Common.{inr, refl, ap, sym, ◌∙◌, arith, subst}
 use Rattle.std.specs.Prelude.{◌⊎◌, slice_index_or, find, if◌then◌else◌, option_map, is_some, OnOk, OnErr, IfErr, IfSome}
 use Rattle.sctp_list_lemmas.specs.Lists.{change_where}
 use Rattle.sctp_list_lemmas.proofs.Cases.{some-same}
@@ -27,7 +28,8 @@ use Rattle.sctp_progress.specs.Progress as Progress
 use Rattle.sctp_progress.specs.Progress.{Standing}
 use Rattle.sctp_link.specs.declared.record.Written.{Written}
 use Rattle.sctp_link.specs.Places.{IsApart}
-use Rattle.sctp_link.specs.Streams.{OpenStream, join_each, number, has_number, stream_numbers, on_state, after_releases, stats_in, both_ways, written_of, wrote_to, read_recorded}
+use Rattle.sctp_link.specs.Streams.{OpenStream, join_each, number, has_number, stream_numbers, on_state, after_releases, stats_in, both_ways, written_of}
+use Rattle.sctp_link.specs.Streams.{wrote_to, read_recorded}
 use Rattle.sctp_link.specs.Sides.{Sides, IsAligned, stream_in, on_stream, with_flight, sack_taken, written_on, expired_unsent, sides}
 use Rattle.sctp_link.proofs.sides.Joined.{found-progress, state-changed, progress-changed}
 use Rattle.sctp_link.proofs.sides.Aligned.{alike, numbers-are, state-in, inbound-in, with-sender, with-progress, standing-changed}
@@ -55,25 +57,32 @@ module _ (f : StreamState → StreamState) (same : (s : StreamState) → (f s).s
 
 pub released-stays : (rs : List Released) (ss : List StreamState) → Outgoing.numbers_of (Outgoing.after_releases rs ss) ≡ Outgoing.numbers_of ss
 released-stays [] ss = refl
-released-stays (r ∷ rs) ss = released-stays rs (change_where (Outgoing.has_number r.stream) (Outgoing.less_by r.bytes) ss) ∙ stays (Outgoing.less_by r.bytes) (λ s. refl) (Outgoing.has_number r.stream) ss
+released-stays (r ∷ rs) ss = released-stays rs (change_where (Outgoing.has_number r.stream) (Outgoing.less_by r.bytes) ss)
+    ∙ stays (Outgoing.less_by r.bytes) (λ s. refl) (Outgoing.has_number r.stream) ss
 
 -- none is changed where none is found
 pub none-changed : {X : Type 0} (p : X → Bool) (f : X → X) (xs : List X) → is_some (find p xs) ≡ false → change_where p f xs ≡ xs
 none-changed p f [] none = refl
 none-changed p f (x ∷ xs) none = by (p x) none (none-changed p f xs)
   where
-    by : (b : Bool) → is_some (if b then Some x else find p xs) ≡ false → (is_some (find p xs) ≡ false → change_where p f xs ≡ xs) → (if b then f x else x) ∷ change_where p f xs ≡ x ∷ xs
+    by : (b : Bool) → is_some (if b then Some x else find p xs) ≡ false → (is_some (find p xs) ≡ false → change_where p f xs ≡ xs)
+        → (if b then f x else x) ∷ change_where p f xs ≡ x ∷ xs
     by true e rest = absurd (cc)
     by false e rest = ap (λ ys. x ∷ ys) (rest e)
 
-pub mode-set : {T : Type 0} (r : Result T SenderRefusal) (s : ℕ) (unordered : Bool) (reliability : ReliabilityType) (value : ℕ) (old new : Transmission) → OnOk r (new ≡ S.with_mode_on s unordered reliability value old) → IfErr r (λ e. (e ≡ StreamUnknown) × (S.is_open s old ≡ false)) → OnErr r (new ≡ old) → new ≡ S.with_mode_on s unordered reliability value old
+pub mode-set : {T : Type 0} (r : Result T SenderRefusal) (s : ℕ) (unordered : Bool) (reliability : ReliabilityType) (value : ℕ) (old new : Transmission)
+    → OnOk r (new ≡ S.with_mode_on s unordered reliability value old) → IfErr r (λ e. (e ≡ StreamUnknown) × (S.is_open s old ≡ false)) → OnErr r (new ≡ old)
+    → new ≡ S.with_mode_on s unordered reliability value old
 mode-set (Ok x) s unordered reliability value old new ok refused err = ok
 mode-set (Err e) s unordered reliability value old new ok refused err =
-    err ∙ ap (λ ss. let x : Transmission = record old { streams = ss } in x) (sym (none-changed (Outgoing.has_number s) (Outgoing.with_mode unordered reliability value) old.streams refused.1))
+    err ∙ ap (λ ss. let x : Transmission = record old { streams = ss } in x)
+    (sym (none-changed (Outgoing.has_number s) (Outgoing.with_mode unordered reliability value) old.streams refused.1))
 
-pub released-joined : (rs : List Released) (ss : List StreamState) (is : List InboundStream) (ps : List Standing) → join_each (Outgoing.after_releases rs ss) is ps ≡ after_releases rs (join_each ss is ps)
+pub released-joined : (rs : List Released) (ss : List StreamState) (is : List InboundStream) (ps : List Standing)
+    → join_each (Outgoing.after_releases rs ss) is ps ≡ after_releases rs (join_each ss is ps)
 released-joined [] ss is ps = refl
-released-joined (r ∷ rs) ss is ps = released-joined rs (change_where (Outgoing.has_number r.stream) (Outgoing.less_by r.bytes) ss) is ps ∙ ap (after_releases rs) (state-changed r.stream (Outgoing.less_by r.bytes) ss is ps)
+released-joined (r ∷ rs) ss is ps = released-joined rs (change_where (Outgoing.has_number r.stream) (Outgoing.less_by r.bytes) ss) is ps
+    ∙ ap (after_releases rs) (state-changed r.stream (Outgoing.less_by r.bytes) ss is ps)
 
 -- what is told of the state in what is found
 pub of-state : {B : Type 0} (g : StreamState → B) (o : Option OpenStream) → option_map g (option_map (λ l. l.state) o) ≡ option_map (λ l. g l.state) o
@@ -89,30 +98,36 @@ pub told-none : {A B C : Type 0} (g : A → B) (h : A → C) (o : Option A) (x :
 told-none g h None x e none = refl
 told-none g h (Some y) x e none = cc
 
-pub both-told : (o : Option OpenStream) (x y : Option DataChannelStats) (sent read : DataChannelStats) → x ≡ option_map (λ l. l.state.stats) o → y ≡ option_map (λ l. l.inbound.stats) o → x ≡ Some sent → y ≡ Some read → Some (both_ways sent read) ≡ option_map stats_in o
+pub both-told : (o : Option OpenStream) (x y : Option DataChannelStats) (sent read : DataChannelStats) → x ≡ option_map (λ l. l.state.stats) o
+    → y ≡ option_map (λ l. l.inbound.stats) o → x ≡ Some sent → y ≡ Some read → Some (both_ways sent read) ≡ option_map stats_in o
 both-told None x y sent read e f sends reads = cc
 both-told (Some l) x y sent read e f sends reads =
     let s : sent ≡ l.state.stats = cc in
     let r : read ≡ l.inbound.stats = cc in
     ap (λ z. Some (both_ways z read)) s ∙ ap (λ z. Some (both_ways l.state.stats z)) r
 
-same-at : {A B : Type 0} (f : A → ℕ) (g : B → ℕ) (xs : List A) (ys : List B) (k : ℕ) (d : A) (e : B) → map f xs ≡ map g ys → k < length xs → f (slice_index_or xs k d) ≡ g (slice_index_or ys k e)
+same-at : {A B : Type 0} (f : A → ℕ) (g : B → ℕ) (xs : List A) (ys : List B) (k : ℕ) (d : A) (e : B) → map f xs ≡ map g ys → k < length xs
+    → f (slice_index_or xs k d) ≡ g (slice_index_or ys k e)
 same-at f g [] ys k d e same lt = absurd (omega (arith, lt))
 same-at f g (x ∷ xs) [] k d e same lt = cc
 same-at f g (x ∷ xs) (y ∷ ys) zero d e same lt = cc
 same-at f g (x ∷ xs) (y ∷ ys) (suc k) d e same lt = let h : map f xs ≡ map g ys = cc in same-at f g xs ys k d e h (omega (arith, lt))
 
 -- one change after another
-pub twice : {X : Type 0} (p : X → Bool) (f g : X → X) → ((x : X) → p (f x) ≡ p x) → (xs : List X) → change_where p g (change_where p f xs) ≡ change_where p (λ x. g (f x)) xs
+pub twice : {X : Type 0} (p : X → Bool) (f g : X → X) → ((x : X) → p (f x) ≡ p x) → (xs : List X)
+    → change_where p g (change_where p f xs) ≡ change_where p (λ x. g (f x)) xs
 twice p f g same [] = refl
-twice p f g same (x ∷ xs) = ap (λ y. y ∷ change_where p g (change_where p f xs)) (by (p x) refl (same x)) ∙ ap (λ ys. (if p x then g (f x) else x) ∷ ys) (twice p f g same xs)
+twice p f g same (x ∷ xs) = ap (λ y. y ∷ change_where p g (change_where p f xs)) (by (p x) refl (same x))
+    ∙ ap (λ ys. (if p x then g (f x) else x) ∷ ys) (twice p f g same xs)
   where
-    by : (b : Bool) → p x ≡ b → p (f x) ≡ b → (if p (if b then f x else x) then g (if b then f x else x) else (if b then f x else x)) ≡ (if b then g (f x) else x)
+    by : (b : Bool) → p x ≡ b → p (f x) ≡ b
+        → (if p (if b then f x else x) then g (if b then f x else x) else (if b then f x else x)) ≡ (if b then g (f x) else x)
     by true e h = ap (λ c. if c then g (f x) else f x) h
     by false e h = ap (λ c. if c then g x else x) e
 
 -- changes that are the same for the one stream with a number
-pub same-found : (s : ℕ) (ls : List OpenStream) (l : OpenStream) → IsApart (stream_numbers ls) → find (has_number s) ls ≡ Some l → (f g : OpenStream → OpenStream) → f l ≡ g l → change_where (has_number s) f ls ≡ change_where (has_number s) g ls
+pub same-found : (s : ℕ) (ls : List OpenStream) (l : OpenStream) → IsApart (stream_numbers ls) → find (has_number s) ls ≡ Some l
+    → (f g : OpenStream → OpenStream) → f l ≡ g l → change_where (has_number s) f ls ≡ change_where (has_number s) g ls
 same-found s ls l apart found f g same =
     let p = placed s ls l found in
     let here = p.1.1 l in
@@ -122,13 +137,16 @@ same-found s ls l apart found f g same =
     ∙ changed-found s ls apart g p.0 l p.1.0 num
 
 -- what is recorded of a write, by its parts
-pub recorded : (w : Written) (s : StreamState) (ppi : PayloadProtocolIdentifier) (before : ℕ) (l : OpenStream) → w.ordered ≡ is_ordered s.unordered ppi → w.reliability ≡ s.reliability_type → w.value ≡ s.reliability_value → w.before ≡ before → s ≡ l.state → before ≡ l.ordered → w ≡ written_of l ppi
+pub recorded : (w : Written) (s : StreamState) (ppi : PayloadProtocolIdentifier) (before : ℕ) (l : OpenStream) → w.ordered ≡ is_ordered s.unordered ppi
+    → w.reliability ≡ s.reliability_type → w.value ≡ s.reliability_value → w.before ≡ before → s ≡ l.state → before ≡ l.ordered → w ≡ written_of l ppi
 recorded w s ppi before l o r v b state count =
     let kind : w.ordered ≡ is_ordered l.state.unordered ppi = o ∙ ap (λ (z : StreamState). is_ordered z.unordered ppi) state in
     let mode : w.reliability ≡ l.state.reliability_type = r ∙ ap (λ (z : StreamState). z.reliability_type) state in
     let value : w.value ≡ l.state.reliability_value = v ∙ ap (λ (z : StreamState). z.reliability_value) state in
-    let parts : (w.ordered, (w.reliability, (w.value, w.before))) ≡ (is_ordered l.state.unordered ppi, (l.state.reliability_type, (l.state.reliability_value, l.ordered))) = cc in
-    ap (λ (p : Bool × (ReliabilityType × (ℕ × ℕ))). let z : Written = record { ordered = p.0; reliability = p.1.0; value = p.1.1.0; before = p.1.1.1 } in z) parts
+    let parts : (w.ordered, (w.reliability, (w.value, w.before)))
+    ≡ (is_ordered l.state.unordered ppi, (l.state.reliability_type, (l.state.reliability_value, l.ordered))) = cc in
+    ap (λ (p : Bool × (ReliabilityType × (ℕ × ℕ))). let z : Written = record { ordered = p.0; reliability = p.1.0; value = p.1.1.0; before = p.1.1.1 } in
+    z) parts
 
 -- the counts of ordered messages, where one was written or expired
 abbrev more : Bool → OpenStream → OpenStream
@@ -144,58 +162,78 @@ expired-keeps false bytes l = refl
 module _ (t : Transmission) (r : Reception) (ps : List Standing) (a : IsAligned t r ps) where
   -- ## The sender changes
 
-  module _ (n : ℕ) (f : StreamState → StreamState) (g : Flight) (x : Transmission) (e : x ≡ (let y : Transmission = record t { streams = change_where (Outgoing.has_number n) f t.streams; flight = g } in y)) where
+  module _ (n : ℕ) (f : StreamState → StreamState) (g : Flight) (x : Transmission)
+      (e : x ≡ (let y : Transmission = record t { streams = change_where (Outgoing.has_number n) f t.streams; flight = g } in y)) where
     pub on-aligned : ((s : StreamState) → (f s).stream_identifier ≡ s.stream_identifier) → IsAligned x r ps
-    on-aligned same = with-sender t r ps a x (ap (λ (y : Transmission). Outgoing.numbers_of y.streams) e ∙ stays f same (Outgoing.has_number n) t.streams) (ap (λ (y : Transmission). y.max_message_size) e) (ap (λ (y : Transmission). y.kept) e)
+    on-aligned same = with-sender t r ps a x (ap (λ (y : Transmission). Outgoing.numbers_of y.streams) e ∙ stays f same (Outgoing.has_number n) t.streams)
+        (ap (λ (y : Transmission). y.max_message_size) e) (ap (λ (y : Transmission). y.kept) e)
 
     pub on-sides : sides x r ps ≡ with_flight g (on_stream n (on_state f) (sides t r ps))
-    on-sides = ap (λ y. sides y r ps) e ∙ ap (λ ls. let y : Sides = record (sides t r ps) { streams = ls; flight = g } in y) (state-changed n f t.streams r.streams ps)
+    on-sides = ap (λ y. sides y r ps) e
+        ∙ ap (λ ls. let y : Sides = record (sides t r ps) { streams = ls; flight = g } in y) (state-changed n f t.streams r.streams ps)
 
   pub flight-aligned : (x : Transmission) (g : Flight) → x ≡ S.with_flight g t → IsAligned x r ps
-  flight-aligned x g e = with-sender t r ps a x (ap (λ (y : Transmission). Outgoing.numbers_of y.streams) e) (ap (λ (y : Transmission). y.max_message_size) e) (ap (λ (y : Transmission). y.kept) e)
+  flight-aligned x g e = with-sender t r ps a x (ap (λ (y : Transmission). Outgoing.numbers_of y.streams) e) (ap (λ (y : Transmission). y.max_message_size) e)
+      (ap (λ (y : Transmission). y.kept) e)
 
   module _ (s : Sack) (x : Transmission) (e : x ≡ S.after_acked s t) where
     pub acked-aligned : IsAligned x r ps
-    acked-aligned = with-sender t r ps a x (ap (λ (y : Transmission). Outgoing.numbers_of y.streams) e ∙ released-stays (released_by s t.flight) t.streams) (ap (λ (y : Transmission). y.max_message_size) e)
+    acked-aligned = with-sender t r ps a x (ap (λ (y : Transmission). Outgoing.numbers_of y.streams) e ∙ released-stays (released_by s t.flight) t.streams)
+        (ap (λ (y : Transmission). y.max_message_size) e)
         (ap (λ (y : Transmission). y.kept) e ∙ ap (option_map (kept_after s t.flight)) a.forgets ∙ sym a.forgets)
 
     pub acked-sides : sides x r ps ≡ sack_taken s (sides t r ps)
-    acked-sides = ap (λ y. sides y r ps) e ∙ ap (λ ls. let y : Sides = record (sides t r ps) { streams = ls; flight = after_sack s t.flight } in y) (released-joined (released_by s t.flight) t.streams r.streams ps)
+    acked-sides = ap (λ y. sides y r ps) e ∙ ap (λ ls. let y : Sides = record (sides t r ps) { streams = ls; flight = after_sack s t.flight } in y)
+        (released-joined (released_by s t.flight) t.streams r.streams ps)
 
   -- ## The progress changes
 
-  pub progress-sides : (f : Standing → Standing) (g : OpenStream → OpenStream) → ((s : StreamState) (i : InboundStream) (p : Standing) → s.stream_identifier ≡ p.number → (let l : OpenStream = record { state = s; inbound = i; complete = (f p).complete; ordered = (f p).ordered; begun = (f p).begun; next = (f p).next; named = (f p).named } in l) ≡ g (record { state = s; inbound = i; complete = p.complete; ordered = p.ordered; begun = p.begun; next = p.next; named = p.named })) → (s : ℕ) → sides t r (change_where (Progress.has_number s) f ps) ≡ on_stream s g (sides t r ps)
-  progress-sides f g made s = ap (λ ls. let y : Sides = record (sides t r ps) { streams = ls } in y) (progress-changed f g made s t.streams r.streams ps a.progresses)
+  pub progress-sides : (f : Standing → Standing) (g : OpenStream → OpenStream)
+      → ((s : StreamState) (i : InboundStream) (p : Standing) → s.stream_identifier ≡ p.number → (let l : OpenStream =
+      record { state = s; inbound = i; complete = (f p).complete; ordered = (f p).ordered; begun = (f p).begun; next = (f p).next; named = (f p).named } in l)
+      ≡ g (record { state = s; inbound = i; complete = p.complete; ordered = p.ordered; begun = p.begun; next = p.next; named = p.named })) → (s : ℕ)
+      → sides t r (change_where (Progress.has_number s) f ps) ≡ on_stream s g (sides t r ps)
+  progress-sides f g made s =
+      ap (λ ls. let y : Sides = record (sides t r ps) { streams = ls } in y) (progress-changed f g made s t.streams r.streams ps a.progresses)
 
-  pub read-recorded : (s : ℕ) (ordered : Bool) (index : ℕ) → sides t r (change_where (Progress.has_number s) (Progress.with_read ordered index) ps) ≡ on_stream s (read_recorded ordered index) (sides t r ps)
+  pub read-recorded : (s : ℕ) (ordered : Bool) (index : ℕ)
+      → sides t r (change_where (Progress.has_number s) (Progress.with_read ordered index) ps) ≡ on_stream s (read_recorded ordered index) (sides t r ps)
   read-recorded s ordered index = progress-sides (Progress.with_read ordered index) (read_recorded ordered index) (λ s i p _. refl) s
 
   -- ## A stream by its number
 
-  pub state-told : {B : Type 0} (g : StreamState → B) (s : ℕ) (o : Option B) → o ≡ option_map g (S.stream_of s t) → o ≡ option_map (λ l. g l.state) (stream_in s (sides t r ps))
+  pub state-told : {B : Type 0} (g : StreamState → B) (s : ℕ) (o : Option B) → o ≡ option_map g (S.stream_of s t)
+      → o ≡ option_map (λ l. g l.state) (stream_in s (sides t r ps))
   state-told g s o e = e ∙ ap (option_map g) (sym (state-in t r ps a s)) ∙ of-state g (stream_in s (sides t r ps))
 
-  pub inbound-told : {B : Type 0} (g : InboundStream → B) (s : ℕ) (o : Option B) → o ≡ option_map g (R.stream_of s r) → o ≡ option_map (λ l. g l.inbound) (stream_in s (sides t r ps))
+  pub inbound-told : {B : Type 0} (g : InboundStream → B) (s : ℕ) (o : Option B) → o ≡ option_map g (R.stream_of s r)
+      → o ≡ option_map (λ l. g l.inbound) (stream_in s (sides t r ps))
   inbound-told g s o e = e ∙ ap (option_map g) (sym (inbound-in t r ps a s)) ∙ of-inbound g (stream_in s (sides t r ps))
 
-  pub next-told : (s : ℕ) (o : Option ℕ) → o ≡ option_map (λ p. p.next) (find (Progress.has_number s) ps) → o ≡ option_map (λ l. l.next) (stream_in s (sides t r ps))
+  pub next-told : (s : ℕ) (o : Option ℕ) → o ≡ option_map (λ p. p.next) (find (Progress.has_number s) ps)
+      → o ≡ option_map (λ l. l.next) (stream_in s (sides t r ps))
   next-told s o e = e ∙ sym (found-progress (λ (l : OpenStream). l.next) (λ (p : Standing). p.next) (λ s i p. refl) s t.streams r.streams ps (alike t r ps a))
 
   pub ordered-told : (s : ℕ) (l : OpenStream) → stream_in s (sides t r ps) ≡ Some l → Progress.ordered_in (find (Progress.has_number s) ps) ≡ l.ordered
-  ordered-told s l e = by (find (Progress.has_number s) ps) (sym (found-progress (λ (l : OpenStream). l.ordered) (λ (p : Standing). p.ordered) (λ s i p. refl) s t.streams r.streams ps (alike t r ps a)) ∙ ap (option_map (λ (l : OpenStream). l.ordered)) e)
+  ordered-told s l e = by (find (Progress.has_number s) ps)
+      (sym (found-progress (λ (l : OpenStream). l.ordered) (λ (p : Standing). p.ordered) (λ s i p. refl) s t.streams r.streams ps (alike t r ps a))
+      ∙ ap (option_map (λ (l : OpenStream). l.ordered)) e)
     where
       by : (o : Option Standing) → option_map (λ p. p.ordered) o ≡ Some l.ordered → Progress.ordered_in o ≡ l.ordered
       by None h = cc
       by (Some p) h = some-same h
 
   pub open-told : (s : ℕ) → is_some (find (Progress.has_number s) ps) ≡ is_some (stream_in s (sides t r ps))
-  open-told s = mapped (λ (p : Standing). p.next) (find (Progress.has_number s) ps) ∙ ap is_some (sym (found-progress (λ (l : OpenStream). l.next) (λ (p : Standing). p.next) (λ s i p. refl) s t.streams r.streams ps (alike t r ps a))) ∙ sym (mapped (λ (l : OpenStream). l.next) (stream_in s (sides t r ps)))
+  open-told s = mapped (λ (p : Standing). p.next) (find (Progress.has_number s) ps)
+      ∙ ap is_some (sym (found-progress (λ (l : OpenStream). l.next) (λ (p : Standing). p.next) (λ s i p. refl) s t.streams r.streams ps (alike t r ps a)))
+      ∙ sym (mapped (λ (l : OpenStream). l.next) (stream_in s (sides t r ps)))
     where
       mapped : {A B : Type 0} (g : A → B) (o : Option A) → is_some o ≡ is_some (option_map g o)
       mapped g None = refl
       mapped g (Some x) = refl
 
-  pub number-told : (k : ℕ) (d : Standing) (e : OpenStream) → k < length ps → (slice_index_or ps k d).number ≡ (slice_index_or (join_each t.streams r.streams ps) k e).state.stream_identifier
+  pub number-told : (k : ℕ) (d : Standing) (e : OpenStream) → k < length ps
+      → (slice_index_or ps k d).number ≡ (slice_index_or (join_each t.streams r.streams ps) k e).state.stream_identifier
   number-told k d e lt = same-at Progress.number number ps (join_each t.streams r.streams ps) k d e (sym a.progresses ∙ sym (numbers-are t r ps a)) lt
 
   -- ## A write
@@ -217,10 +255,12 @@ module _ (t : Transmission) (r : Reception) (ps : List Standing) (a : IsAligned 
       pub written-aligned : (ordered : Bool) → IsAligned x r (change_where (Progress.has_number s) (Progress.with_write ordered) ps)
       written-aligned ordered = with-progress x r ps wrote-aligned _ (standing-changed (Progress.with_write ordered) (λ p. refl) (Progress.has_number s) ps)
 
-      pub written-sides : (ordered : Bool) → ordered ≡ is_ordered l.state.unordered ppi → IsApart (stream_numbers (join_each t.streams r.streams ps)) → sides x r (change_where (Progress.has_number s) (Progress.with_write ordered) ps) ≡ written_on l s ppi bytes (sides t r ps)
+      pub written-sides : (ordered : Bool) → ordered ≡ is_ordered l.state.unordered ppi → IsApart (stream_numbers (join_each t.streams r.streams ps))
+          → sides x r (change_where (Progress.has_number s) (Progress.with_write ordered) ps) ≡ written_on l s ppi bytes (sides t r ps)
       written-sides ordered kind apart =
           let ls = join_each t.streams r.streams ps in
-          ap (λ zs. let y : Sides = record (sides x r ps) { streams = zs } in y) (progress-changed (Progress.with_write ordered) (more ordered) (λ s i p _. refl) s x.streams r.streams ps wrote-aligned.progresses)
+          ap (λ zs. let y : Sides = record (sides x r ps) { streams = zs } in y)
+          (progress-changed (Progress.with_write ordered) (more ordered) (λ s i p _. refl) s x.streams r.streams ps wrote-aligned.progresses)
           ∙ ap (on_stream s (more ordered)) (on-sides s (Outgoing.wrote ppi bytes) flight x e)
           ∙ ap (λ zs. let y : Sides = record (sides t r ps) { streams = zs; flight = flight } in y)
           (twice (has_number s) (on_state (Outgoing.wrote ppi bytes)) (more ordered) (λ m. refl) ls
@@ -237,16 +277,21 @@ module _ (t : Transmission) (r : Reception) (ps : List Standing) (a : IsAligned 
     expire-aligned = on-aligned c.stream_identifier (Outgoing.after_expiry c.unordered bytes) left x e (expired-keeps c.unordered bytes)
 
     pub expired-aligned : IsAligned x r (change_where (Progress.has_number c.stream_identifier) (Progress.with_expiry c.unordered) ps)
-    expired-aligned = with-progress x r ps expire-aligned _ (standing-changed (Progress.with_expiry c.unordered) (λ p. refl) (Progress.has_number c.stream_identifier) ps)
+    expired-aligned =
+        with-progress x r ps expire-aligned _ (standing-changed (Progress.with_expiry c.unordered) (λ p. refl) (Progress.has_number c.stream_identifier) ps)
 
-    pub expired-sides : sides x r (change_where (Progress.has_number c.stream_identifier) (Progress.with_expiry c.unordered) ps) ≡ expired_unsent c bytes (sides t r ps)
+    pub expired-sides : sides x r (change_where (Progress.has_number c.stream_identifier) (Progress.with_expiry c.unordered) ps)
+        ≡ expired_unsent c bytes (sides t r ps)
     expired-sides =
         let s = c.stream_identifier in
-        ap (λ zs. let y : Sides = record (sides x r ps) { streams = zs } in y) (progress-changed (Progress.with_expiry c.unordered) (fewer c.unordered) (λ s i p _. refl) s x.streams r.streams ps expire-aligned.progresses)
+        ap (λ zs. let y : Sides = record (sides x r ps) { streams = zs } in y)
+        (progress-changed (Progress.with_expiry c.unordered) (fewer c.unordered) (λ s i p _. refl) s x.streams r.streams ps expire-aligned.progresses)
         ∙ ap (on_stream s (fewer c.unordered)) (on-sides s (Outgoing.after_expiry c.unordered bytes) left x e)
         ∙ ap (λ zs. let y : Sides = record (sides t r ps) { streams = zs; flight = left } in y)
-        (twice (has_number s) (on_state (Outgoing.after_expiry c.unordered bytes)) (fewer c.unordered) (λ m. expired-keeps-test c.unordered m) (join_each t.streams r.streams ps))
+        (twice (has_number s) (on_state (Outgoing.after_expiry c.unordered bytes)) (fewer c.unordered) (λ m. expired-keeps-test c.unordered m)
+        (join_each t.streams r.streams ps))
       where
-        expired-keeps-test : (u : Bool) (m : OpenStream) → has_number c.stream_identifier (on_state (Outgoing.after_expiry u bytes) m) ≡ has_number c.stream_identifier m
+        expired-keeps-test : (u : Bool) (m : OpenStream)
+            → has_number c.stream_identifier (on_state (Outgoing.after_expiry u bytes) m) ≡ has_number c.stream_identifier m
         expired-keeps-test true m = refl
         expired-keeps-test false m = refl

@@ -58,13 +58,16 @@ module _ (t : Transmission) (r : Reception) (ps : List Standing) (a : IsAligned 
 
   -- ## The stream is open
 
-  module _ (x : Transmission) (y : Reception) (qs : List Standing) (sent : x ≡ S.open_stream s t) (received : y ≡ R.open_stream s r) (put : qs ≡ ps ++ Progress.fresh s ∷ []) where
+  module _ (x : Transmission) (y : Reception) (qs : List Standing) (sent : x ≡ S.open_stream s t) (received : y ≡ R.open_stream s r)
+      (put : qs ≡ ps ++ Progress.fresh s ∷ []) where
     pub opened-sides : sides x y qs ≡ opened_on s (sides t r ps)
     opened-sides =
         ap (λ z. sides z y qs) sent ∙ ap (λ z. sides (S.open_stream s t) z qs) received ∙ ap (sides (S.open_stream s t) (R.open_stream s r)) put
         ∙ ap (λ ls. let z : Sides = record (sides t r ps) { streams = ls } in z)
-        (joined-more (new_stream s t.fragment_size t.max_message_size Unknown) (Inbound.new_stream s r.max_message_size) (Progress.fresh s) t.streams r.streams ps (alike t r ps a)
-        ∙ ap (λ m. let z : OpenStream = record (new_open_stream s t.fragment_size m) { state = new_stream s t.fragment_size t.max_message_size Unknown } in join_each t.streams r.streams ps ++ z ∷ []) a.size)
+        (joined-more (new_stream s t.fragment_size t.max_message_size Unknown) (Inbound.new_stream s r.max_message_size)
+        (Progress.fresh s) t.streams r.streams ps (alike t r ps a)
+        ∙ ap (λ m. let z : OpenStream = record (new_open_stream s t.fragment_size m) { state = new_stream s t.fragment_size t.max_message_size Unknown } in
+        join_each t.streams r.streams ps ++ z ∷ []) a.size)
 
     pub opened-aligned : IsAligned x y qs
     opened-aligned = record {
@@ -80,7 +83,8 @@ module _ (t : Transmission) (r : Reception) (ps : List Standing) (a : IsAligned 
     }
 
 -- each part is what it was
-module _ (t : Transmission) (r : Reception) (ps : List Standing) (x : Transmission) (y : Reception) (qs : List Standing) (sent : x ≡ t) (received : y ≡ r) (put : qs ≡ ps) where
+module _ (t : Transmission) (r : Reception) (ps : List Standing) (x : Transmission) (y : Reception) (qs : List Standing) (sent : x ≡ t) (received : y ≡ r)
+    (put : qs ≡ ps) where
   pub aligned-same : IsAligned t r ps → IsAligned x y qs
   aligned-same a = record {
     receives = ap (λ (z : Transmission). Outgoing.numbers_of z.streams) sent ∙ a.receives ∙ ap (λ (z : Reception). Inbound.numbers_of z.streams) (sym received);

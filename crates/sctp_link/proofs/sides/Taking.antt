@@ -1,5 +1,6 @@
 -- DATA chunks that are taken, one after another: their streams' queues, and the numbers of the messages that they complete.
-use Rattle.std.proofs.Common.{◌≡◌, ℕ, zero, suc, ◌≤◌, List, [], ◌∷◌, ◌++◌, length, take, Bool, true, false, Option, Some, None, refl, ap, sym, ◌∙◌, subst, arith}
+use Rattle.std.proofs.Common.{◌≡◌, ℕ, zero, suc, ◌≤◌, List, [], ◌∷◌, ◌++◌, length, take, Bool, true, false, Option, Some, None, refl, ap, sym, ◌∙◌, subst}
+use Rattle.std.proofs.Common.{arith}
 use Rattle.std.specs.Prelude.{◌&&◌, if◌then◌else◌, option_map, slice_get}
 use Rattle.sctp_list_lemmas.specs.Lists.{change_where}
 use Rattle.sctp_list_lemmas.proofs.Cases.{some-same}
@@ -51,7 +52,8 @@ takes-limits : (c : ChunkPayloadData) (b : Arrival) (old new : Reception) → R.
 takes-limits c (New complete) old new t = ap (λ (r : Reception). r.limits) t.after
 takes-limits c Repeat old new t = ap (λ (r : Reception). r.limits) t
 
-pub taken-aligned : (t : Transmission) (r : Reception) (ps : List Standing) → IsAligned t r ps → (c : ChunkPayloadData) (n : ℕ) (b : Arrival) (x : Reception) → R.Takes c b r x → IsAligned t x (after_one c n b ps)
+pub taken-aligned : (t : Transmission) (r : Reception) (ps : List Standing) → IsAligned t r ps → (c : ChunkPayloadData) (n : ℕ) (b : Arrival) (x : Reception)
+    → R.Takes c b r x → IsAligned t x (after_one c n b ps)
 taken-aligned t r ps a c n b x h =
     let k = takes-keeps c b r x h in
     with-progress t x ps (with-receiver t r ps a x k.0 k.1 (takes-limits c b r x h)) _ (one-numbers c n b ps)
@@ -80,12 +82,14 @@ module _ (t : Transmission) (r : Reception) (ps : List Standing) (a : IsAligned 
   pub parts : IsApart (stream_numbers ls)
   parts = subst IsApart (sym (numbers-are t r ps a)) apart
 
-  after-joined : (s n : ℕ) (b : Bool) → join_each t.streams r.streams (if b then change_where (Progress.has_number s) (Progress.with_complete n) ps else ps) ≡ change_where (has_number s) (completed b n) ls
+  after-joined : (s n : ℕ) (b : Bool) → join_each t.streams r.streams (if b then change_where (Progress.has_number s) (Progress.with_complete n) ps else ps)
+      ≡ change_where (has_number s) (completed b n) ls
   after-joined s n true = progress-changed (Progress.with_complete n) (completed true n) (λ s i p _. refl) s t.streams r.streams ps a.progresses
   after-joined s n false = sym (unchanged (has_number s) (completed false n) (λ x. refl) ls)
 
 -- one is taken
-pub takes-one : (t : Transmission) (r : Reception) (ps : List Standing) → IsAligned t r ps → IsApart (Outgoing.numbers_of t.streams) → (c : ChunkPayloadData) (n : ℕ) (b : Arrival) (x : Reception) → R.Takes c b r x → Takes c n b (sides t r ps) (sides t x (after_one c n b ps))
+pub takes-one : (t : Transmission) (r : Reception) (ps : List Standing) → IsAligned t r ps → IsApart (Outgoing.numbers_of t.streams)
+    → (c : ChunkPayloadData) (n : ℕ) (b : Arrival) (x : Reception) → R.Takes c b r x → Takes c n b (sides t r ps) (sides t x (after_one c n b ps))
 takes-one t r ps a apart c n Repeat x h =
     ap (λ z. sides t z ps) h
     ∙ ap (λ l. let z : Reception = record r { duplicates = R.noted_by l c.tsn r.duplicates } in sides t z ps) a.unlimited
@@ -101,8 +105,8 @@ takes-one t r ps a apart c n (New b) x h =
     let pushed = told c b l.inbound.queue h.queue (subst (λ (i : InboundStream). Pushes c b i.queue h.queue) (sym there.1.1) h.pushed) in
     let streams : join_each t.streams x.streams (after_one c n (New b) ps) ≡ change_where (has_number s) (λ _. kept) old =
     after-joined t x ps mid apart s n gone
-    ∙ ap (change_where (has_number s) (completed gone n)) (ap (λ (z : Reception). join_each t.streams z.streams ps) h.after ∙ inbound-on t r ps a s (with_queue h.queue))
-    ∙ twice (has_number s) (on_inbound (with_queue h.queue)) (completed gone n) (λ m. refl) old
+    ∙ ap (change_where (has_number s) (completed gone n)) (ap (λ (z : Reception). join_each t.streams z.streams ps) h.after
+    ∙ inbound-on t r ps a s (with_queue h.queue)) ∙ twice (has_number s) (on_inbound (with_queue h.queue)) (completed gone n) (λ m. refl) old
     ∙ same-found s old l (parts t r ps a apart) there.1.0 (λ m. completed gone n (on_inbound (with_queue h.queue) m)) (λ _. kept) refl in
     record {
       stream = l;
@@ -111,15 +115,18 @@ takes-one t r ps a apart c n (New b) x h =
       keeps = record { complete = b; ordered_queue = pushed.ordered; unordered_queue = pushed.unordered; rest = refl };
       after =
           ap (λ zs. let z : Sides = record (sides t x (after_one c n (New b) ps)) { streams = zs } in z) streams
-          ∙ ap (λ (w : Reception). let z : Sides = record (on_stream s (λ _. kept) (sides t r ps)) { cumulative_tsn = w.cumulative_tsn; beyond = w.beyond; duplicates = w.duplicates } in z) h.after;
+          ∙ ap (λ (w : Reception). let z : Sides =
+          record (on_stream s (λ _. kept) (sides t r ps)) { cumulative_tsn = w.cumulative_tsn; beyond = w.beyond; duplicates = w.duplicates } in z) h.after;
     }
 
 -- ## Several, one after another
 
-pub each-aligned : (t : Transmission) (r s : Reception) (ps : List Standing) (cs : List ChunkPayloadData) (ns : List ℕ) (bs : List Arrival) → IsAligned t r ps → R.TakesEachBy data_refusal cs bs r s → IsAligned t s (after_each cs ns bs ps)
+pub each-aligned : (t : Transmission) (r s : Reception) (ps : List Standing) (cs : List ChunkPayloadData) (ns : List ℕ) (bs : List Arrival) → IsAligned t r ps
+    → R.TakesEachBy data_refusal cs bs r s → IsAligned t s (after_each cs ns bs ps)
 each-aligned t r s ps cs ns bs a h = with-progress t s ps (received t r s ps cs bs a h) _ (each-numbers cs ns bs ps)
   where
-    received : (t : Transmission) (r s : Reception) (ps : List Standing) (cs : List ChunkPayloadData) (bs : List Arrival) → IsAligned t r ps → R.TakesEachBy data_refusal cs bs r s → IsAligned t s ps
+    received : (t : Transmission) (r s : Reception) (ps : List Standing) (cs : List ChunkPayloadData) (bs : List Arrival) → IsAligned t r ps
+        → R.TakesEachBy data_refusal cs bs r s → IsAligned t s ps
     received t r s ps [] [] a h = subst (λ z. IsAligned t z ps) (sym h) a
     received t r s ps [] (b ∷ bs) a h = absurd h
     received t r s ps (c ∷ cs) [] a h = absurd h
@@ -127,7 +134,9 @@ each-aligned t r s ps cs ns bs a h = with-progress t s ps (received t r s ps cs 
         let k = takes-keeps c b r h.0 h.1.0.taken in
         received t h.0 s ps cs bs (with-receiver t r ps a h.0 k.0 k.1 (takes-limits c b r h.0 h.1.0.taken)) h.1.1
 
-pub each-taken : (t : Transmission) (r s : Reception) (ps : List Standing) (cs : List ChunkPayloadData) (ns : List ℕ) (bs : List Arrival) → IsAligned t r ps → IsApart (Outgoing.numbers_of t.streams) → length cs ≤ length ns → R.TakesEachBy data_refusal cs bs r s → TakesEach cs ns bs (sides t r ps) (sides t s (after_each cs ns bs ps))
+pub each-taken : (t : Transmission) (r s : Reception) (ps : List Standing) (cs : List ChunkPayloadData) (ns : List ℕ) (bs : List Arrival) → IsAligned t r ps
+    → IsApart (Outgoing.numbers_of t.streams) → length cs ≤ length ns → R.TakesEachBy data_refusal cs bs r s
+    → TakesEach cs ns bs (sides t r ps) (sides t s (after_each cs ns bs ps))
 each-taken t r s ps [] ns [] a apart le h = ap (λ z. sides t z ps) h
 each-taken t r s ps [] ns (b ∷ bs) a apart le h = absurd h
 each-taken t r s ps (c ∷ cs) [] bs a apart le h = absurd (omega (arith, le))
@@ -144,7 +153,9 @@ each-taken t r s ps (c ∷ cs) (n ∷ ns) (b ∷ bs) a apart le h = (
 )
 
 -- where the receiver refuses none, it stops at none
-pub never-stops : (t : Transmission) (r : Reception) (ps : List Standing) (cs : List ChunkPayloadData) (ns : List ℕ) → IsAligned t r ps → IsApart (Outgoing.numbers_of t.streams) → CanTake cs ns (sides t r ps) → (count : ℕ) (bs : List Arrival) (mid : Reception) (c : ChunkPayloadData) (e : ReceiverRefusal) → R.TakesEachBy data_refusal (take count cs) bs r mid → slice_get cs count ≡ Some c → data_refusal c mid ≡ Some e → ⊥
+pub never-stops : (t : Transmission) (r : Reception) (ps : List Standing) (cs : List ChunkPayloadData) (ns : List ℕ) → IsAligned t r ps
+    → IsApart (Outgoing.numbers_of t.streams) → CanTake cs ns (sides t r ps) → (count : ℕ) (bs : List Arrival) (mid : Reception) (c : ChunkPayloadData)
+    (e : ReceiverRefusal) → R.TakesEachBy data_refusal (take count cs) bs r mid → slice_get cs count ≡ Some c → data_refusal c mid ≡ Some e → ⊥
 never-stops t r ps [] ns a apart can count bs mid c e h at why = cc
 never-stops t r ps (d ∷ cs) [] a apart can count bs mid c e h at why = can
 never-stops t r ps (d ∷ cs) (n ∷ ns) a apart can zero [] mid c e h at why =
@@ -157,4 +168,5 @@ never-stops t r ps (d ∷ cs) (n ∷ ns) a apart can (suc count) [] mid c e h at
 never-stops t r ps (d ∷ cs) (n ∷ ns) a apart can (suc count) (b ∷ bs) mid c e h at why =
     let told = h.1.0.answer ∙ ap (R.arrival_of d.tsn (is_told_complete b)) (sym (reception-is t r ps a)) in
     let next = subst (λ z. Takes d n z (sides t r ps) (sides t h.0 (after_one d n b ps))) told (takes-one t r ps a apart d n b h.0 h.1.0.taken) in
-    never-stops t h.0 (after_one d n b ps) cs ns (taken-aligned t r ps a d n b h.0 h.1.0.taken) apart (can.2 (is_told_complete b) (sides t h.0 (after_one d n b ps)) next) count bs mid c e h.1.1 at why
+    never-stops t h.0 (after_one d n b ps) cs ns (taken-aligned t r ps a d n b h.0 h.1.0.taken) apart
+    (can.2 (is_told_complete b) (sides t h.0 (after_one d n b ps)) next) count bs mid c e h.1.1 at why

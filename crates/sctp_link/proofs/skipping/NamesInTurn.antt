@@ -50,7 +50,8 @@ named-on w upto s n sender i =
     plain true = refl
     plain false = refl
 
-pub names-in-turn : (w : LinkRecord) (upto s : ℕ) (names : List ℕ) → Sender (shape w) → NamesFit (shape w) upto names → ssns_of s (pairs_of w names) ≡ map (λ n. index_of w n % 2 ^ 16) (on_stream w s names)
+pub names-in-turn : (w : LinkRecord) (upto s : ℕ) (names : List ℕ) → Sender (shape w) → NamesFit (shape w) upto names
+    → ssns_of s (pairs_of w names) ≡ map (λ n. index_of w n % 2 ^ 16) (on_stream w s names)
 names-in-turn w upto s [] sender fit = refl
 names-in-turn w upto s (n ∷ ns) sender fit =
     ap (λ b. map (λ (p : ChunkForwardTsnStream). p.sequence) (if b then named_stream (name_of w n) ∷ rest else rest)) (named-on w upto s n sender fit.0)
@@ -62,12 +63,15 @@ names-in-turn w upto s (n ∷ ns) sender fit =
     ssn : ssn_of w n ≡ index_of w n % 2 ^ 16
     ssn = ap (λ b. (if b then index_of w n else (message_at w n).before) % 2 ^ 16) fit.0.ordered
 
-    step : (b : Bool) → map (λ (p : ChunkForwardTsnStream). p.sequence) rest ≡ map (λ n. index_of w n % 2 ^ 16) (on_stream w s ns) → map (λ (p : ChunkForwardTsnStream). p.sequence) (if b then named_stream (name_of w n) ∷ rest else rest) ≡ map (λ n. index_of w n % 2 ^ 16) (if b then n ∷ on_stream w s ns else on_stream w s ns)
+    step : (b : Bool) → map (λ (p : ChunkForwardTsnStream). p.sequence) rest ≡ map (λ n. index_of w n % 2 ^ 16) (on_stream w s ns)
+        → map (λ (p : ChunkForwardTsnStream). p.sequence) (if b then named_stream (name_of w n) ∷ rest else rest) ≡ map (λ n. index_of w n % 2 ^ 16)
+        (if b then n ∷ on_stream w s ns else on_stream w s ns)
     step true ih = ap (λ i. i ∷ map (λ (p : ChunkForwardTsnStream). p.sequence) rest) ssn ∙ ap (λ is. index_of w n % 2 ^ 16 ∷ is) ih
     step false ih = ih
 
 -- the pairs that a link makes of its messages are these
-pub pairs-are : (sum : List ℕ → ℕ) (x : State) (l : IsLinked sum x) (ms : List Message) → x.recorded.messages ≡ map message_record ms → x.progress ≡ map progress_of ms → (upto : ℕ) (names : List ℕ) → NamesFit (shape x.recorded) upto names → map (pair_in ms) names ≡ pairs_of x.recorded names
+pub pairs-are : (sum : List ℕ → ℕ) (x : State) (l : IsLinked sum x) (ms : List Message) → x.recorded.messages ≡ map message_record ms → x.progress
+    ≡ map progress_of ms → (upto : ℕ) (names : List ℕ) → NamesFit (shape x.recorded) upto names → map (pair_in ms) names ≡ pairs_of x.recorded names
 pairs-are sum x l ms messages_are progress_are upto [] fit = refl
 pairs-are sum x l ms messages_are progress_are upto (n ∷ ns) fit =
     let w = x.recorded in
@@ -86,12 +90,14 @@ held-each : (ssns : List ℕ) (q : ReassemblyState) → (skipped_each ssns q).he
 held-each [] q = refl
 held-each (ssn ∷ ssns) q = held-each ssns (after_ordered_skip ssn q)
 
-module _ (sum : List ℕ → ℕ) (x : State) (l : IsLinked sum x) (k upto : ℕ) (names : List ℕ) (none : refusal_of x.recorded (E.Arrive k) ≡ None) (e : slice_get x.recorded.network k ≡ Some (Forward upto names)) (counts : cumulative x.recorded ≤ upto) where
+module _ (sum : List ℕ → ℕ) (x : State) (l : IsLinked sum x) (k upto : ℕ) (names : List ℕ) (none : refusal_of x.recorded (E.Arrive k) ≡ None)
+    (e : slice_get x.recorded.network k ≡ Some (Forward upto names)) (counts : cumulative x.recorded ≤ upto) where
   abbrev w : LinkRecord
   w = x.recorded
 
   -- after each as much is held as after the last one
-  pub queue-in-turn : (s : ℕ) (r : StreamRecord) (q : ReassemblyState) → stream_at w s ≡ Some r → q.held ≡ reassembly_of w s → (skipped_each (ssns_of s (pairs_of w names)) q).held ≡ gone_forward (end_named w s names) (reassembly_of w s)
+  pub queue-in-turn : (s : ℕ) (r : StreamRecord) (q : ReassemblyState) → stream_at w s ≡ Some r → q.held ≡ reassembly_of w s
+      → (skipped_each (ssns_of s (pairs_of w names)) q).held ≡ gone_forward (end_named w s names) (reassembly_of w s)
   queue-in-turn s r q o held =
       let f = facts sum x l in
       let skips = skips-in sum x l k upto names e in

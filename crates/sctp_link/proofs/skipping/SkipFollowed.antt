@@ -1,5 +1,6 @@
 -- A FORWARD-TSN that counts is followed: what it makes of a link.
-use Rattle.std.proofs.Common.{◌≡◌, ℕ, ◌+◌, ◌<◌, ◌≤◌, false, List, [], ◌∷◌, length, map, Option, Some, None, Result, Ok, Err, refl, ap, sym, ◌∙◌, arith, not, true}
+use Rattle.std.proofs.Common.{◌≡◌, ℕ, ◌+◌, ◌<◌, ◌≤◌, false, List, [], ◌∷◌, length, map, Option, Some, None, Result, Ok, Err, refl, ap, sym, ◌∙◌, arith, not}
+use Rattle.std.proofs.Common.{true}
 use Rattle.std.specs.Prelude.{if◌then◌else◌, OnOk, IfErr, max, slice_get, slice_index_or, is_some, nat_le}
 use Rattle.std.proofs.Math.Path.{subst}
 use Rattle.std.proofs.lemmas.Bool.Decides.{nat_tests}
@@ -57,7 +58,8 @@ mapped-twice : {A B C : Type 0} (f : A → B) (g : B → C) (xs : List A) → ma
 mapped-twice f g [] = refl
 mapped-twice f g (x ∷ xs) = ap (λ ys. g (f x) ∷ ys) (mapped-twice f g xs)
 
-module _ (sum : List ℕ → ℕ) (x : State) (l : IsLinked sum x) (k upto : ℕ) (names : List ℕ) (none : refusal_of x.recorded (E.Arrive k) ≡ None) (e : slice_get x.recorded.network k ≡ Some (Forward upto names)) (counts : cumulative x.recorded ≤ upto) where
+module _ (sum : List ℕ → ℕ) (x : State) (l : IsLinked sum x) (k upto : ℕ) (names : List ℕ) (none : refusal_of x.recorded (E.Arrive k) ≡ None)
+    (e : slice_get x.recorded.network k ≡ Some (Forward upto names)) (counts : cumulative x.recorded ≤ upto) where
   abbrev w : LinkRecord
   w = x.recorded
 
@@ -99,14 +101,17 @@ module _ (sum : List ℕ → ℕ) (x : State) (l : IsLinked sum x) (k upto : ℕ
         ∙ ap not past
 
     -- the streams discard what is named, and it is recorded how far they were named
-    pub sides-then : (ms : List Message) (z u : Sides) → z ≡ after_forward f y → u ≡ record z { streams = map (with_names ms names) z.streams } → u ≡ record (with_filter_of (skipped_to (tsn_of w upto) (R.filter_of (reception_of y))) y) { streams = map (skipped_stream w upto names ms) y.streams }
+    pub sides-then : (ms : List Message) (z u : Sides) → z ≡ after_forward f y → u ≡ record z { streams = map (with_names ms names) z.streams }
+        → u ≡ record (with_filter_of (skipped_to (tsn_of w upto) (R.filter_of (reception_of y))) y) { streams = map (skipped_stream w upto names ms) y.streams }
     sides-then ms z u a b =
-        let one : z ≡ follow_forward_tsn (wire_skip w upto names) y = a ∙ ap (λ (g : ForwardTsn). after_forward g y) says ∙ ap (λ c. if c then y else follow_forward_tsn (wire_skip w upto names) y) not-stale in
+        let one : z ≡ follow_forward_tsn (wire_skip w upto names) y = a ∙ ap (λ (g : ForwardTsn). after_forward g y) says
+        ∙ ap (λ c. if c then y else follow_forward_tsn (wire_skip w upto names) y) not-stale in
         b ∙ ap (λ (s : Sides). record s { streams = map (with_names ms names) s.streams }) one
         ∙ ap (λ ls. record (with_filter_of (skipped_to (tsn_of w upto) (R.filter_of (reception_of y))) y) { streams = ls })
         (mapped-twice (on_inbound (forwarded_on (wire_skip w upto names).streams (tsn_of w upto))) (with_names ms names) y.streams)
 
-  module _ (ms : List Message) (messages_are : x.recorded.messages ≡ map message_record ms) (progress_are : x.progress ≡ map progress_of ms) (streams_are : x.recorded.streams ≡ map stream_record x.open_streams) where
+  module _ (ms : List Message) (messages_are : x.recorded.messages ≡ map message_record ms) (progress_are : x.progress ≡ map progress_of ms)
+      (streams_are : x.recorded.streams ≡ map stream_record x.open_streams) where
     named-is : (s : ℕ) → named_from ms s none_named names ≡ (let r : Named = record { low = low_named w s names; end = end_named w s names } in r)
     named-is s = names-are sum x l ms messages_are progress_are upto s names skips.fit
 
@@ -147,7 +152,8 @@ module _ (sum : List ℕ → ℕ) (x : State) (l : IsLinked sum x) (k upto : ℕ
         ∙ ap (held_after_unordered_skip tsn) (queue-in-turn sum x l k upto names none e counts s r y.inbound.queue o i.held)
         ∙ sym queue ∙ ap (λ u. reassembly_of u s) (sym after-is))
         (skipped-number ssns y.inbound.queue) (skipped-size ssns y.inbound.queue) refl refl refl refl
-        (ap (λ n. max y.next n) end-is ∙ ap (λ n. max n (end_named w s names)) i.next ∙ sym (next-skip w s upto names r f.valid.valid o) ∙ ap (λ u. next_of u s) (sym after-is))
+        (ap (λ n. max y.next n) end-is ∙ ap (λ n. max n (end_named w s names)) i.next ∙ sym (next-skip w s upto names r f.valid.valid o)
+        ∙ ap (λ u. next_of u s) (sym after-is))
         refl (i.stats ∙ ap stats_of (sym (counters-stay s)))
 
     each-skipped : (j : ℕ) (d : OpenStream) → j < length (map turned x.open_streams) → IsOpenStream v (slice_index_or (map turned x.open_streams) j d)
@@ -169,17 +175,24 @@ module _ (sum : List ℕ → ℕ) (x : State) (l : IsLinked sum x) (k upto : ℕ
         (ap seen_of after-is ∙ filter-skipped w upto (facts sum x l).few skips.made counts)
         (ap (λ u. (filter_of u).duplicates) after-is)
 
-    pub linked-skip : (filter : Filter) (u : LinkRecord) → filter_shown filter ≡ filter_of v → u ≡ v → IsLinked sum (record x { recorded = u; open_streams = map turned x.open_streams; filter = filter })
+    pub linked-skip : (filter : Filter) (u : LinkRecord) → filter_shown filter ≡ filter_of v → u ≡ v
+        → IsLinked sum (record x { recorded = u; open_streams = map turned x.open_streams; filter = filter })
     linked-skip filter u held same =
         linked-then sum x l (E.Arrive k) none frame x.progress (map turned x.open_streams) filter u refl held each-skipped
         (subst IsApart (sym (numbers-same x.open_streams)) l.apart) quiet same
 
-    pub received-follow : (skipped : ℕ) → skipped ≡ upto + 1 → record w { streams = map stream_record (map turned x.open_streams); skipped = skipped } ≡ receive_skip w upto names
+    pub received-follow : (skipped : ℕ) → skipped ≡ upto + 1
+        → record w { streams = map stream_record (map turned x.open_streams); skipped = skipped } ≡ receive_skip w upto names
     received-follow skipped count = recorded-skipped skipped count ∙ ap (after_arrive w) e
 
-    pub linked-follow : (skipped : ℕ) (filter : Filter) → skipped ≡ upto + 1 → filter ≡ skipped_to (tsn_of w upto) x.filter → IsLinked sum (record x { recorded = record w { streams = map stream_record (map turned x.open_streams); skipped = skipped }; open_streams = map turned x.open_streams; filter = filter })
+    pub linked-follow : (skipped : ℕ) (filter : Filter) → skipped ≡ upto + 1 → filter ≡ skipped_to (tsn_of w upto) x.filter → IsLinked sum (record x {
+      recorded = record w { streams = map stream_record (map turned x.open_streams); skipped = skipped };
+      open_streams = map turned x.open_streams;
+      filter = filter;
+    })
     linked-follow skipped filter count is =
-        linked-skip filter (record w { streams = map stream_record (map turned x.open_streams); skipped = skipped }) (filter-then filter is) (recorded-skipped skipped count)
+        linked-skip filter (record w { streams = map stream_record (map turned x.open_streams); skipped = skipped }) (filter-then filter is)
+        (recorded-skipped skipped count)
 
 -- ## The receiver, and the progress
 
@@ -187,8 +200,10 @@ unless-refused : {T E P : Type 0} (r : Result T E) (o : Option E) → OnOk r P �
 unless-refused (Ok x) o p h none = p
 unless-refused (Err e) o p h none = absurd (cc)
 
-module _ (t : Transmission) (r s : Reception) (ps : List Standing) (a : IsAligned t r ps) (f : ForwardTsn) (none : forward_refusal f (reception_of (sides t r ps)) ≡ None) where
-  module _ {T : Type 0} (res : Result T ReceiverRefusal) (ok : OnOk res (s ≡ R.after_forward f r)) (refused : IfErr res (λ e. forward_refusal f r ≡ Some e)) where
+module _ (t : Transmission) (r s : Reception) (ps : List Standing) (a : IsAligned t r ps) (f : ForwardTsn)
+    (none : forward_refusal f (reception_of (sides t r ps)) ≡ None) where
+  module _ {T : Type 0} (res : Result T ReceiverRefusal) (ok : OnOk res (s ≡ R.after_forward f r))
+      (refused : IfErr res (λ e. forward_refusal f r ≡ Some e)) where
     takes : s ≡ R.after_forward f r
     takes = unless-refused res (forward_refusal f r) ok refused (ap (forward_refusal f) (sym (reception-is t r ps a)) ∙ none)
 
@@ -207,5 +222,6 @@ module _ (t : Transmission) (r : Reception) (ps : List Standing) (a : IsAligned 
   named-sides =
       ap (λ ls. let y : Sides = record (sides t r ps) { streams = ls } in y)
       (progress-mapped (standing_named ms names) (with_names ms names)
-      (λ s i p same. ap (λ n. join s i (let x : Standing = record p { next = max p.next (named_from ms n none_named names).end; named = max p.named (named_from ms n none_named names).end } in x)) (sym same))
+      (λ s i p same. ap (λ n. join s i (let x : Standing =
+      record p { next = max p.next (named_from ms n none_named names).end; named = max p.named (named_from ms n none_named names).end } in x)) (sym same))
       t.streams r.streams ps a.progresses)

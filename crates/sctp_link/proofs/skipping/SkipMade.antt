@@ -38,19 +38,24 @@ use Rattle.sctp_list_lemmas.proofs.Getting.{length-mapped}
 -- ## What it may name
 
 -- no slot past a place is of the message
-pub past-none : (w : LinkRecord) (n upto : ℕ) → ((p : ℕ) → upto < p → p < length w.slots → belongs_to w n p ≡ false) → false ≡ not (list_all (λ p. nat_le p upto) (slots_where w (belongs_to w n)))
+pub past-none : (w : LinkRecord) (n upto : ℕ) → ((p : ℕ) → upto < p → p < length w.slots → belongs_to w n p ≡ false)
+    → false ≡ not (list_all (λ p. nat_le p upto) (slots_where w (belongs_to w n)))
 past-none w n upto h = sym (ap not (all-kept (λ p. nat_le p upto) (belongs_to w n) 0 (length w.slots) (λ p a b e. by p (omega (arith, b)) e (cases_lt upto p))))
   where
     by : (p : ℕ) → p < length w.slots → belongs_to w n p ≡ true → (upto < p) ⊎ (p ≤ upto) → nat_le p upto ≡ true
     by p lt e (inl l) = absurd (not_both (sym (h p l lt) ∙ e))
     by p lt e (inr le) = grind (arith, nat_tests)
 
-pub past-some : (w : LinkRecord) (n upto p : ℕ) → upto < p → p < length w.slots → belongs_to w n p ≡ true → true ≡ not (list_all (λ p. nat_le p upto) (slots_where w (belongs_to w n)))
+pub past-some : (w : LinkRecord) (n upto p : ℕ) → upto < p → p < length w.slots → belongs_to w n p ≡ true
+    → true ≡ not (list_all (λ p. nat_le p upto) (slots_where w (belongs_to w n)))
 past-some w n upto p lt inside e =
-    sym (ap not (fails (list_all (λ p. nat_le p upto) (slots_where w (belongs_to w n))) (λ a. let t = all-at (λ p. nat_le p upto) (belongs_to w n) p 0 (length w.slots) (omega arith) (omega (arith, inside)) e a in let le : p ≤ upto = grind (arith, nat_tests) in absurd (omega (arith, le, lt)))))
+    sym (ap not (fails (list_all (λ p. nat_le p upto) (slots_where w (belongs_to w n))) (λ a. let t = all-at (λ p. nat_le p upto) (belongs_to w n) p 0
+    (length w.slots) (omega arith) (omega (arith, inside)) e a in let le : p ≤ upto = grind (arith, nat_tests) in absurd (omega (arith, le, lt)))))
 
 -- the message of a slot, as a link keeps it
-pub slot-of : (sum : List ℕ → ℕ) (x : State) (l : IsLinked sum x) (slots : List Slot) (messages : List Message) → x.recorded.slots ≡ map slot_record slots → x.recorded.messages ≡ map message_record messages → (p : ℕ) (y : Slot) → p < length slots → y ≡ slice_index_or slots p y → message_of x.recorded p ≡ y.message
+pub slot-of : (sum : List ℕ → ℕ) (x : State) (l : IsLinked sum x) (slots : List Slot) (messages : List Message) → x.recorded.slots ≡ map slot_record slots
+    → x.recorded.messages ≡ map message_record messages → (p : ℕ) (y : Slot) → p < length slots → y ≡ slice_index_or slots p y
+    → message_of x.recorded p ≡ y.message
 slot-of sum x l slots messages a b p y lt is = ap (λ t. t.message) (slot-raw sum x l slots messages a b p y lt) ∙ ap (λ (t : Slot). t.message) (sym is)
 
 -- ## What it says
@@ -88,12 +93,15 @@ module _ (sum : List ℕ → ℕ) (x : State) (l : IsLinked sum x) (upto : ℕ) 
     pub skip-says : (f : ForwardTsn) → f.new_cumulative_tsn ≡ tsn_of w upto → f.streams ≡ map (pair_in ms) names → f ≡ wire_skip w upto names
     skip-says f a b =
         ap (λ t. let r : ForwardTsn = record { new_cumulative_tsn = t; streams = f.streams } in r) a
-        ∙ ap (λ ps. let r : ForwardTsn = record { new_cumulative_tsn = tsn_of w upto; streams = ps } in r) (b ∙ pairs-are sum x l ms messages_are progress_are upto names fit)
+        ∙ ap (λ ps. let r : ForwardTsn = record { new_cumulative_tsn = tsn_of w upto; streams = ps } in r)
+        (b ∙ pairs-are sum x l ms messages_are progress_are upto names fit)
 
     pub pairs-short : (f : ForwardTsn) → f.streams ≡ map (pair_in ms) names → 4 + length (forward_tsn_value f) < 2 ^ 16
     pairs-short f b = skip-short f (omega (arith, ap length b, length-mapped (pair_in ms) names, (accepted w upto names ok).few))
 
-  pub linked-made : (f : ForwardTsn) → f ≡ wire_skip x.recorded upto names → (bytes : List ℕ) (e : Event) → refusal_of w e ≡ None → after w e ≡ v → bytes ≡ packet_encoding sum (packet_with (forward_tsn_chunk f ∷ [])) → ReadsPacket sum bytes (packet_with (forward_tsn_chunk f ∷ [])) → length x.datagrams ≡ length w.network → IsLinked sum (record x { recorded = v; datagrams = x.datagrams ++ bytes ∷ [] })
+  pub linked-made : (f : ForwardTsn) → f ≡ wire_skip x.recorded upto names → (bytes : List ℕ) (e : Event) → refusal_of w e ≡ None → after w e ≡ v
+      → bytes ≡ packet_encoding sum (packet_with (forward_tsn_chunk f ∷ [])) → ReadsPacket sum bytes (packet_with (forward_tsn_chunk f ∷ []))
+      → length x.datagrams ≡ length w.network → IsLinked sum (record x { recorded = v; datagrams = x.datagrams ++ bytes ∷ [] })
   linked-made f says bytes e none is encoding reads count = record {
     setup = l.setup;
     history = (e, reply_to w e) ∷ l.history;
@@ -108,8 +116,14 @@ module _ (sum : List ℕ → ℕ) (x : State) (l : IsLinked sum x) (upto : ℕ) 
     sents = l.sents;
     indexes = l.indexes;
     low = l.low;
-    open_streams = λ k d lt. stream-same w v (slice_index_or x.open_streams k d) (record { setup = refl; held = refl; ordered = refl; next = refl; amount = refl; counters = refl }) refl (l.open_streams k d lt);
+    open_streams = λ k d lt. stream-same w v (slice_index_or x.open_streams k d)
+        (record { setup = refl; held = refl; ordered = refl; next = refl; amount = refl; counters = refl }) refl (l.open_streams k d lt);
     apart = l.apart;
-    encodings = subst (λ (u : LinkRecord). (k : ℕ) (d : List ℕ) (g : W.Datagram) → slice_get u.network k ≡ Some g → IsDatagram sum (contents_of u g) (slice_index_or (x.datagrams ++ bytes ∷ []) k d)) is
-        (encodings-more sum x l e none (Forward upto names) bytes (ap (λ (u : LinkRecord). u.network) is) count (subst (λ (u : LinkRecord). IsDatagram sum (contents_of u (Forward upto names)) bytes) (sym is) (record { encoding = encoding ∙ ap (λ t. packet_encoding sum (packet_with (forward_tsn_chunk t ∷ []))) says; reads = subst (λ t. ReadsPacket sum bytes (packet_with (forward_tsn_chunk t ∷ []))) says reads })));
+    encodings = subst (λ (u : LinkRecord). (k : ℕ) (d : List ℕ) (g : W.Datagram) → slice_get u.network k ≡ Some g
+        → IsDatagram sum (contents_of u g) (slice_index_or (x.datagrams ++ bytes ∷ []) k d)) is
+        (encodings-more sum x l e none (Forward upto names) bytes (ap (λ (u : LinkRecord). u.network) is) count
+        (subst (λ (u : LinkRecord). IsDatagram sum (contents_of u (Forward upto names)) bytes) (sym is) (record {
+          encoding = encoding ∙ ap (λ t. packet_encoding sum (packet_with (forward_tsn_chunk t ∷ []))) says;
+          reads = subst (λ t. ReadsPacket sum bytes (packet_with (forward_tsn_chunk t ∷ []))) says reads;
+        })));
   }

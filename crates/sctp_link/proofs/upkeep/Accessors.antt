@@ -23,18 +23,22 @@ use Rattle.sctp_link.proofs.upkeep.StreamPlaces.{placed}
 use Rattle.sctp_list_lemmas.proofs.Cases.{some-same}
 
 -- the ledger, by what the queues hold
-pub ledger-now : (sum : List ℕ → ℕ) (x : State) → IsLinked sum x → ledger x.recorded ≡ ledger_by (in_all x.recorded (written_bytes x.recorded)) (total_bytes x.outbound.pending) (bytes_of x.outbound.inflight.chunks)
+pub ledger-now : (sum : List ℕ → ℕ) (x : State) → IsLinked sum x
+    → ledger x.recorded ≡ ledger_by (in_all x.recorded (written_bytes x.recorded)) (total_bytes x.outbound.pending) (bytes_of x.outbound.inflight.chunks)
 ledger-now sum x l =
-    over sum x (λ w. (q : Outbound) → RefinesOutbound w q → ledger w ≡ ledger_by (in_all w (written_bytes w)) (total_bytes q.pending) (bytes_of q.inflight.chunks)) l
+    over sum x (λ w. (q : Outbound) → RefinesOutbound w q
+    → ledger w ≡ ledger_by (in_all w (written_bytes w)) (total_bytes q.pending) (bytes_of q.inflight.chunks)) l
     (ledger-is x.recorded.setup l.history l.setup l.stands.run) x.outbound l.outbound
 
-pub same-ledger : {a p f r w q g : ℕ} → a ≡ w → p ≡ q → f ≡ g → r ≡ a - p - f → (let l : Ledger = record { written = a; pending = p; in_flight = f; released = r } in l) ≡ ledger_of (ledger_by w q g)
+pub same-ledger : {a p f r w q g : ℕ} → a ≡ w → p ≡ q → f ≡ g → r ≡ a - p - f
+    → (let l : Ledger = record { written = a; pending = p; in_flight = f; released = r } in l) ≡ ledger_of (ledger_by w q g)
 same-ledger a p f r = rw (r, a, p, f) refl
 
 -- ## A stream
 
 -- what is kept of one that is found
-pub kept-found : (sum : List ℕ → ℕ) (x : State) (s : ℕ) (l : OpenStream) → x.recorded.streams ≡ map stream_record x.open_streams → IsLinked sum x → find (has_number s) x.open_streams ≡ Some l → IsKept sum x s l
+pub kept-found : (sum : List ℕ → ℕ) (x : State) (s : ℕ) (l : OpenStream) → x.recorded.streams ≡ map stream_record x.open_streams → IsLinked sum x
+    → find (has_number s) x.open_streams ≡ Some l → IsKept sum x s l
 kept-found sum x s l same i e =
     let p = placed s x.open_streams l e in
     kept-at sum x s p.0 l same i p.1.0 (e ∙ ap (λ y. Some y) (sym (p.1.1 l))) (sym (p.1.1 l))
@@ -47,7 +51,8 @@ module _ (sum : List ℕ → ℕ) (x : State) (i : IsLinked sum x) (s : ℕ) (sa
   pub amount-is : option_map (λ (l : OpenStream). l.state.buffered_amount) (find (has_number s) x.open_streams) ≡ buffered_amount x.recorded s
   amount-is = by (find (has_number s) x.open_streams) refl
     where
-      by : (o : Option OpenStream) → find (has_number s) x.open_streams ≡ o → option_map (λ (l : OpenStream). l.state.buffered_amount) o ≡ buffered_amount x.recorded s
+      by : (o : Option OpenStream) → find (has_number s) x.open_streams ≡ o
+          → option_map (λ (l : OpenStream). l.state.buffered_amount) o ≡ buffered_amount x.recorded s
       by None e = sym (ap (λ b. if b then Some (amount x.recorded s) else None) (none-open x.recorded s x.open_streams same e))
       by (Some l) e =
           let k = kept-found sum x s l same i e in
@@ -60,16 +65,22 @@ module _ (sum : List ℕ → ℕ) (x : State) (i : IsLinked sum x) (s : ℕ) (sa
       by None e = sym (ap (λ b. option_map stats_of (if b then Some (counters_on x.recorded s) else None)) (none-open x.recorded s x.open_streams same e))
       by (Some l) e =
           let k = kept-found sum x s l same i e in
-          ap (λ n. Some n) (k.open_stream.stats ∙ ap (λ t. stats_of (counters_on x.recorded t)) k.number) ∙ sym (ap (λ b. option_map stats_of (if b then Some (counters_on x.recorded s) else None)) k.is_open)
+          ap (λ n. Some n) (k.open_stream.stats ∙ ap (λ t. stats_of (counters_on x.recorded t)) k.number)
+          ∙ sym (ap (λ b. option_map stats_of (if b then Some (counters_on x.recorded s) else None)) k.is_open)
 
-  pub queue-is : (r : Option (Bor ReassemblyState)) → option_copied r ≡ option_map (λ (l : OpenStream). l.inbound.queue) (find (has_number s) x.open_streams) → TellsQueue x.recorded s r
+  pub queue-is : (r : Option (Bor ReassemblyState)) → option_copied r ≡ option_map (λ (l : OpenStream). l.inbound.queue) (find (has_number s) x.open_streams)
+      → TellsQueue x.recorded s r
   queue-is r h = by r (find (has_number s) x.open_streams) refl h
     where
-      by : (r : Option (Bor ReassemblyState)) (o : Option OpenStream) → find (has_number s) x.open_streams ≡ o → option_copied r ≡ option_map (λ (l : OpenStream). l.inbound.queue) o → TellsQueue x.recorded s r
+      by : (r : Option (Bor ReassemblyState)) (o : Option OpenStream) → find (has_number s) x.open_streams ≡ o
+          → option_copied r ≡ option_map (λ (l : OpenStream). l.inbound.queue) o → TellsQueue x.recorded s r
       by None None e z = none-open x.recorded s x.open_streams same e
       by None (Some l) e z = cc
       by (Some q) None e z = cc
       by (Some q) (Some l) e z =
           let k = kept-found sum x s l same i e in
-          let here : q.now ≡ l.inbound.queue = some-same z in
-          (ap (λ (t : ReassemblyState). t.held) here ∙ k.open_stream.held ∙ ap (reassembly_of x.recorded) k.number, ap (λ (t : ReassemblyState). t.si) here ∙ k.open_stream.si ∙ k.number, ap (λ (t : ReassemblyState). t.max_message_size) here ∙ k.open_stream.largest)
+          let here : q.now ≡ l.inbound.queue = some-same z in (
+            ap (λ (t : ReassemblyState). t.held) here ∙ k.open_stream.held ∙ ap (reassembly_of x.recorded) k.number,
+            ap (λ (t : ReassemblyState). t.si) here ∙ k.open_stream.si ∙ k.number,
+            ap (λ (t : ReassemblyState). t.max_message_size) here ∙ k.open_stream.largest,
+          )

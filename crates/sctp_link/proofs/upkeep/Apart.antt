@@ -23,7 +23,8 @@ pub stream-found : (s : ℕ) (ls : List OpenStream) → find (λ r. r.stream == 
 stream-found s [] = refl
 stream-found s (l ∷ ls) = step (l.state.stream_identifier == s) (stream-found s ls)
   where
-    step : (b : Bool) → find (λ r. r.stream == s) (map stream_record ls) ≡ option_map stream_record (find (has_number s) ls) → (if b then Some (stream_record l) else find (λ r. r.stream == s) (map stream_record ls)) ≡ option_map stream_record (if b then Some l else find (has_number s) ls)
+    step : (b : Bool) → find (λ r. r.stream == s) (map stream_record ls) ≡ option_map stream_record (find (has_number s) ls) → (if b then Some (stream_record l)
+        else find (λ r. r.stream == s) (map stream_record ls)) ≡ option_map stream_record (if b then Some l else find (has_number s) ls)
     step true ih = refl
     step false ih = ih
 
@@ -31,31 +32,38 @@ pub number-found : (s : ℕ) (ls : List OpenStream) (l : OpenStream) → find (h
 number-found s [] l e = cc
 number-found s (x ∷ ls) l e = step (x.state.stream_identifier == s) refl e (number-found s ls l)
   where
-    step : (b : Bool) → (x.state.stream_identifier == s) ≡ b → (if b then Some x else find (has_number s) ls) ≡ Some l → (find (has_number s) ls ≡ Some l → l.state.stream_identifier ≡ s) → l.state.stream_identifier ≡ s
+    step : (b : Bool) → (x.state.stream_identifier == s) ≡ b → (if b then Some x else find (has_number s) ls) ≡ Some l
+        → (find (has_number s) ls ≡ Some l → l.state.stream_identifier ≡ s) → l.state.stream_identifier ≡ s
     step true t h ih = let z : x ≡ l = cc in ap (λ (y : OpenStream). y.state.stream_identifier) (sym z) ∙ same-is x.state.stream_identifier s t
     step false t h ih = ih h
 
-pub none-at : (n : ℕ) (ls : List OpenStream) (k : ℕ) (d : OpenStream) → list_any (λ j. j == n) (stream_numbers ls) ≡ false → k < length ls → ((slice_index_or ls k d).state.stream_identifier == n) ≡ false
+pub none-at : (n : ℕ) (ls : List OpenStream) (k : ℕ) (d : OpenStream) → list_any (λ j. j == n) (stream_numbers ls) ≡ false → k < length ls
+    → ((slice_index_or ls k d).state.stream_identifier == n) ≡ false
 none-at n [] k d e lt = absurd (omega arith)
 none-at n (l ∷ ls) zero d e lt = (neither (l.state.stream_identifier == n) (list_any (λ j. j == n) (stream_numbers ls)) e).0
 none-at n (l ∷ ls) (suc k) d e lt = none-at n ls k d (neither (l.state.stream_identifier == n) (list_any (λ j. j == n) (stream_numbers ls)) e).1 (omega arith)
 
 -- two streams have two numbers
-pub differ : (ls : List OpenStream) (j k : ℕ) (d : OpenStream) → IsApart (stream_numbers ls) → j < length ls → k < length ls → (j ≡ k → ⊥) → (slice_index_or ls j d).state.stream_identifier ≡ (slice_index_or ls k d).state.stream_identifier → ⊥
+pub differ : (ls : List OpenStream) (j k : ℕ) (d : OpenStream) → IsApart (stream_numbers ls) → j < length ls → k < length ls → (j ≡ k → ⊥)
+    → (slice_index_or ls j d).state.stream_identifier ≡ (slice_index_or ls k d).state.stream_identifier → ⊥
 differ [] j k d a lj lk ne e = omega arith
 differ (l ∷ ls) zero zero d a lj lk ne e = ne refl
-differ (l ∷ ls) zero (suc k) d a lj lk ne e = not_both (sym (none-at l.state.stream_identifier ls k d a.0 (omega arith)) ∙ ap (λ n. n == l.state.stream_identifier) (sym e) ∙ same-yes l.state.stream_identifier)
-differ (l ∷ ls) (suc j) zero d a lj lk ne e = not_both (sym (none-at l.state.stream_identifier ls j d a.0 (omega arith)) ∙ ap (λ n. n == l.state.stream_identifier) e ∙ same-yes l.state.stream_identifier)
+differ (l ∷ ls) zero (suc k) d a lj lk ne e = not_both (sym (none-at l.state.stream_identifier ls k d a.0 (omega arith))
+    ∙ ap (λ n. n == l.state.stream_identifier) (sym e) ∙ same-yes l.state.stream_identifier)
+differ (l ∷ ls) (suc j) zero d a lj lk ne e = not_both (sym (none-at l.state.stream_identifier ls j d a.0 (omega arith))
+    ∙ ap (λ n. n == l.state.stream_identifier) e ∙ same-yes l.state.stream_identifier)
 differ (l ∷ ls) (suc j) (suc k) d a lj lk ne e = differ ls j k d a.1 (omega arith) (omega arith) (λ z. ne (ap suc z)) e
 
 -- ## One element is set
 
-pub map-set : {A B : Type 0} (f : A → B) (g : B → B) (xs : List A) (i : ℕ) (y d : A) → i < length xs → f y ≡ g (f (slice_index_or xs i d)) → map f (slice_set xs i y) ≡ change_at g i (map f xs)
+pub map-set : {A B : Type 0} (f : A → B) (g : B → B) (xs : List A) (i : ℕ) (y d : A) → i < length xs → f y ≡ g (f (slice_index_or xs i d))
+    → map f (slice_set xs i y) ≡ change_at g i (map f xs)
 map-set f g [] i y d lt e = absurd (omega arith)
 map-set f g (x ∷ xs) zero y d lt e = ap (λ b. b ∷ map f xs) e
 map-set f g (x ∷ xs) (suc i) y d lt e = ap (λ bs. f x ∷ bs) (map-set f g xs i y d (omega arith) e)
 
-untouched : (s : ℕ) (f : StreamRecord → StreamRecord) (ls : List OpenStream) → list_any (λ k. k == s) (stream_numbers ls) ≡ false → map (λ r. if r.stream == s then f r else r) (map stream_record ls) ≡ map stream_record ls
+untouched : (s : ℕ) (f : StreamRecord → StreamRecord) (ls : List OpenStream) → list_any (λ k. k == s) (stream_numbers ls) ≡ false
+    → map (λ r. if r.stream == s then f r else r) (map stream_record ls) ≡ map stream_record ls
 untouched s f [] e = refl
 untouched s f (l ∷ ls) e =
     let x = neither (l.state.stream_identifier == s) (list_any (λ k. k == s) (stream_numbers ls)) e in
@@ -63,7 +71,9 @@ untouched s f (l ∷ ls) e =
     ∙ ap (λ rs. stream_record l ∷ rs) (untouched s f ls x.1)
 
 -- one stream is set: so its stream changes in the record
-pub streams-set : (ls : List OpenStream) (k : ℕ) (y d : OpenStream) (f : StreamRecord → StreamRecord) → IsApart (stream_numbers ls) → k < length ls → stream_record y ≡ f (stream_record (slice_index_or ls k d)) → map stream_record (slice_set ls k y) ≡ map (λ r. if r.stream == (slice_index_or ls k d).state.stream_identifier then f r else r) (map stream_record ls)
+pub streams-set : (ls : List OpenStream) (k : ℕ) (y d : OpenStream) (f : StreamRecord → StreamRecord) → IsApart (stream_numbers ls) → k < length ls
+    → stream_record y ≡ f (stream_record (slice_index_or ls k d))
+    → map stream_record (slice_set ls k y) ≡ map (λ r. if r.stream == (slice_index_or ls k d).state.stream_identifier then f r else r) (map stream_record ls)
 streams-set [] k y d f a lt e = absurd (omega arith)
 streams-set (l ∷ ls) zero y d f a lt e =
     let s = l.state.stream_identifier in
@@ -77,7 +87,8 @@ streams-set (l ∷ ls) (suc k) y d f a lt e =
     ∙ ap (λ b. (if b then f (stream_record l) else stream_record l) ∷ map (λ r. if r.stream == s then f r else r) (map stream_record ls)) (sym off)
 
 -- what holds of the new stream and of the others holds of each
-pub each-set : (P : OpenStream → Type 0) (ls : List OpenStream) (k j : ℕ) (y d : OpenStream) → k < length ls → P y → ((j ≡ k → ⊥) → P (slice_index_or ls j d)) → P (slice_index_or (slice_set ls k y) j d)
+pub each-set : (P : OpenStream → Type 0) (ls : List OpenStream) (k j : ℕ) (y d : OpenStream) → k < length ls → P y → ((j ≡ k → ⊥) → P (slice_index_or ls j d))
+    → P (slice_index_or (slice_set ls k y) j d)
 each-set P ls k j y d lt new old =
     by_place {C = P (slice_index_or (slice_set ls k y) j d)} j k
     (λ ne. subst P (sym (get_or-set_other ls k j y d ne)) (old ne))

@@ -39,7 +39,8 @@ total-times f g (n ∷ ns) le = omega (arith, le n, total-times f g ns le)
 -- the bytes written, by the fragments that are accepted
 pub written-few : (setup : Setup) (w : LinkRecord) → IsSetup w.setup → Sane setup w → in_all w (written_bytes w) < 2 ^ 47
 written-few setup w is g =
-    let each : (n : ℕ) → written_bytes w n ≤ 65519 * fragment_count w n = λ n. pieces-many (length (message_at w n).bytes) w.setup.size (message_at w n).bytes is.some is.size (omega arith) in
+    let each : (n : ℕ) → written_bytes w n ≤ 65519 * fragment_count w n =
+    λ n. pieces-many (length (message_at w n).bytes) w.setup.size (message_at w n).bytes is.some is.size (omega arith) in
     let all = total-times (written_bytes w) (fragment_count w) (numbers_from 0 (length w.messages)) each in
     let few : fragments_accepted w < 2 ^ 31 = g.accepted in
     omega (arith, all, few)
@@ -60,12 +61,15 @@ messages-few setup w g =
 pub queued-few : (sum : List ℕ → ℕ) (x : State) → IsLinked sum x → total_bytes x.outbound ≤ in_all x.recorded (written_bytes x.recorded)
 queued-few sum x l =
     let p = pending-bytes x.recorded x.outbound.pending l.outbound.pending in
-    let f = over sum x (λ w. (q : Outbound) → RefinesOutbound w q → bytes_of q.inflight.chunks ≡ in_all w (in_flight_bytes w)) l (in-flight-bytes x.recorded.setup l.history l.setup l.stands.run) x.outbound l.outbound in
-    let b = over sum x (λ w. in_all w (written_bytes w) ≡ in_all w (pending_bytes w) + in_all w (in_flight_bytes w) + in_all w (released_bytes w)) l (balances x.recorded.setup l.history l.setup l.stands.run).0 in
+    let f = over sum x (λ w. (q : Outbound) → RefinesOutbound w q → bytes_of q.inflight.chunks ≡ in_all w (in_flight_bytes w)) l
+    (in-flight-bytes x.recorded.setup l.history l.setup l.stands.run) x.outbound l.outbound in
+    let b = over sum x (λ w. in_all w (written_bytes w) ≡ in_all w (pending_bytes w) + in_all w (in_flight_bytes w) + in_all w (released_bytes w)) l
+    (balances x.recorded.setup l.history l.setup l.stands.run).0 in
     omega (arith, p, f, b)
 
 pub amount-few : (sum : List ℕ → ℕ) (x : State) (t : ℕ) → IsLinked sum x → amount x.recorded t ≤ in_all x.recorded (written_bytes x.recorded)
 amount-few sum x t l =
-    let b = over sum x (λ w. (t : ℕ) → on_stream w t (written_bytes w) ≡ on_stream w t (pending_bytes w) + on_stream w t (in_flight_bytes w) + on_stream w t (released_bytes w)) l (balances x.recorded.setup l.history l.setup l.stands.run).1 t in
+    let b = over sum x (λ w. (t : ℕ) → on_stream w t (written_bytes w) ≡ on_stream w t (pending_bytes w) + on_stream w t (in_flight_bytes w)
+    + on_stream w t (released_bytes w)) l (balances x.recorded.setup l.history l.setup l.stands.run).1 t in
     let wide = total-wider (written_bytes x.recorded) (λ n. (message_at x.recorded n).stream == t) always 0 (length x.recorded.messages) (λ k a b e. refl) in
     omega (arith, b, wide)

@@ -66,14 +66,16 @@ pub over : (sum : List ℕ → ℕ) (x : State) (P : LinkRecord → Type 0) (l :
 over sum x P l p = subst P (sym l.stands.is) p
 
 -- after an accepted event the record stands for the longer history
-pub stands-then : (setup : Setup) (w : LinkRecord) (h : History) (e : Event) → refusal_of w e ≡ None → StandsFor setup w h → StandsFor setup (after w e) ((e, reply_to w e) ∷ h)
+pub stands-then : (setup : Setup) (w : LinkRecord) (h : History) (e : Event) → refusal_of w e ≡ None → StandsFor setup w h
+    → StandsFor setup (after w e) ((e, reply_to w e) ∷ h)
 stands-then setup w h e none s = record {
   is = ap (λ v. after v e) s.is;
   run = (ap (λ v. refusal_of v e) (sym s.is) ∙ none, (ap (λ v. reply_to v e) s.is, s.run));
 }
 
 -- what a datagram of before says after it
-pub says-still : (w : LinkRecord) (f : Facts w) (e : Event) → refusal_of w e ≡ None → (k : ℕ) (g g' : W.Datagram) → slice_get w.network k ≡ Some g → slice_get (after w e).network k ≡ Some g' → contents_of (after w e) g' ≡ contents_of w g
+pub says-still : (w : LinkRecord) (f : Facts w) (e : Event) → refusal_of w e ≡ None → (k : ℕ) (g g' : W.Datagram) → slice_get w.network k ≡ Some g
+    → slice_get (after w e).network k ≡ Some g' → contents_of (after w e) g' ≡ contents_of w g
 says-still w f e none k g g' old new =
     let lt = slice_get_within w.network k g old in
     let same = f.stays e k none lt in

@@ -50,7 +50,8 @@ pub record SameStream (w v : LinkRecord) (s : ℕ) : Type 0 where
   pub amount : amount v s ≡ amount w s
   pub counters : counters_on v s ≡ counters_on w s
 
-pub stream-with : (w v : LinkRecord) (l : OpenStream) (n : ℕ) → SameStream w v l.state.stream_identifier → n ≡ begun_on v l.state.stream_identifier → IsOpenStream w l → IsOpenStream v (record l { begun = n })
+pub stream-with : (w v : LinkRecord) (l : OpenStream) (n : ℕ) → SameStream w v l.state.stream_identifier → n ≡ begun_on v l.state.stream_identifier
+    → IsOpenStream w l → IsOpenStream v (record l { begun = n })
 stream-with w v l n f e i = record {
   held = i.held ∙ sym f.held;
   si = i.si;
@@ -64,7 +65,8 @@ stream-with w v l n f e i = record {
   stats = i.stats ∙ ap stats_of (sym f.counters);
 }
 
-pub stream-same : (w v : LinkRecord) (l : OpenStream) → SameStream w v l.state.stream_identifier → begun_on v l.state.stream_identifier ≡ begun_on w l.state.stream_identifier → IsOpenStream w l → IsOpenStream v l
+pub stream-same : (w v : LinkRecord) (l : OpenStream) → SameStream w v l.state.stream_identifier
+    → begun_on v l.state.stream_identifier ≡ begun_on w l.state.stream_identifier → IsOpenStream w l → IsOpenStream v l
 stream-same w v l f same i = stream-with w v l l.begun f (i.begun ∙ sym same) i
 
 -- ## What an event leaves
@@ -80,20 +82,29 @@ module _ (sum : List ℕ → ℕ) (x : State) (l : IsLinked sum x) (e : Event) (
   setup-same = (sane-after w.setup w e ok (facts sum x l).sane).setup_is
 
   -- a datagram that was there
-  pub encoding-old : (k : ℕ) (d : List ℕ) (g : W.Datagram) → slice_get w.network k ≡ Some g → slice_get v.network k ≡ Some g → IsDatagram sum (contents_of v g) (slice_index_or x.datagrams k d)
-  encoding-old k d g old new = subst (λ c. IsDatagram sum c (slice_index_or x.datagrams k d)) (sym (says-still w (facts sum x l) e ok k g g old new)) (l.encodings k d g old)
+  pub encoding-old : (k : ℕ) (d : List ℕ) (g : W.Datagram) → slice_get w.network k ≡ Some g → slice_get v.network k ≡ Some g
+      → IsDatagram sum (contents_of v g) (slice_index_or x.datagrams k d)
+  encoding-old k d g old new =
+      subst (λ c. IsDatagram sum c (slice_index_or x.datagrams k d)) (sym (says-still w (facts sum x l) e ok k g g old new)) (l.encodings k d g old)
 
   -- no datagram is made
-  pub encodings-same : v.network ≡ w.network → (k : ℕ) (d : List ℕ) (g : W.Datagram) → slice_get v.network k ≡ Some g → IsDatagram sum (contents_of v g) (slice_index_or x.datagrams k d)
+  pub encodings-same : v.network ≡ w.network → (k : ℕ) (d : List ℕ) (g : W.Datagram) → slice_get v.network k ≡ Some g
+      → IsDatagram sum (contents_of v g) (slice_index_or x.datagrams k d)
   encodings-same same k d g e' = encoding-old k d g (ap (λ n. slice_get n k) (sym same) ∙ e') e'
 
   -- one more datagram
-  pub encodings-more : (n : W.Datagram) (bytes : List ℕ) → v.network ≡ w.network ++ n ∷ [] → length x.datagrams ≡ length w.network → IsDatagram sum (contents_of v n) bytes → (k : ℕ) (d : List ℕ) (g : W.Datagram) → slice_get v.network k ≡ Some g → IsDatagram sum (contents_of v g) (slice_index_or (x.datagrams ++ bytes ∷ []) k d)
+  pub encodings-more : (n : W.Datagram) (bytes : List ℕ) → v.network ≡ w.network ++ n ∷ [] → length x.datagrams ≡ length w.network
+      → IsDatagram sum (contents_of v n) bytes → (k : ℕ) (d : List ℕ) (g : W.Datagram) → slice_get v.network k ≡ Some g
+      → IsDatagram sum (contents_of v g) (slice_index_or (x.datagrams ++ bytes ∷ []) k d)
   encodings-more n bytes more count is k d g e' =
-      by_last {P = IsDatagram sum (contents_of v g) (slice_index_or (x.datagrams ++ bytes ∷ []) k d)} k (length w.network) (omega (arith, slice_get_within v.network k g e', ap length more, length-append w.network (n ∷ [])))
-      (λ lt. subst (IsDatagram sum (contents_of v g)) (sym (get-snoc_old x.datagrams bytes k d (λ z. absurd (omega (arith, lt, z, count))))) (encoding-old k d g (sym (slice-front w.network (n ∷ []) k lt) ∙ ap (λ ds. slice_get ds k) (sym more) ∙ e') e'))
-      (λ z. subst (λ g. IsDatagram sum (contents_of v g) (slice_index_or (x.datagrams ++ bytes ∷ []) k d)) (inner (sym (get-last w.network n) ∙ ap (λ ds. slice_get ds (length w.network)) (sym more) ∙ ap (slice_get v.network) (sym z) ∙ e'))
-      (subst (IsDatagram sum (contents_of v n)) (sym (ap (λ j. slice_index_or (x.datagrams ++ bytes ∷ []) j d) (z ∙ sym count) ∙ get-snoc_new x.datagrams bytes d)) is))
+      by_last {P = IsDatagram sum (contents_of v g) (slice_index_or (x.datagrams ++ bytes ∷ []) k d)} k (length w.network)
+      (omega (arith, slice_get_within v.network k g e', ap length more, length-append w.network (n ∷ [])))
+      (λ lt. subst (IsDatagram sum (contents_of v g)) (sym (get-snoc_old x.datagrams bytes k d (λ z. absurd (omega (arith, lt, z, count)))))
+      (encoding-old k d g (sym (slice-front w.network (n ∷ []) k lt) ∙ ap (λ ds. slice_get ds k) (sym more) ∙ e') e'))
+      (λ z. subst (λ g. IsDatagram sum (contents_of v g) (slice_index_or (x.datagrams ++ bytes ∷ []) k d))
+      (inner (sym (get-last w.network n) ∙ ap (λ ds. slice_get ds (length w.network)) (sym more) ∙ ap (slice_get v.network) (sym z) ∙ e'))
+      (subst (IsDatagram sum (contents_of v n))
+      (sym (ap (λ j. slice_index_or (x.datagrams ++ bytes ∷ []) j d) (z ∙ sym count) ∙ get-snoc_new x.datagrams bytes d)) is))
     where
       inner : {A : Type 0} {a b : A} → Some a ≡ Some b → a ≡ b
       inner e = cc
@@ -108,13 +119,17 @@ module _ (sum : List ℕ → ℕ) (x : State) (l : IsLinked sum x) (e : Event) (
   pub held-quiet : Quiet w v → (t : ℕ) → reassembly_of v t ≡ reassembly_of w t
   held-quiet q t =
       subst (λ u. refusal_of u e ≡ None → Quiet u (after u e) → reassembly_of (after u e) t ≡ reassembly_of u t) (sym l.stands.is)
-      (λ ok' q'. let g = sane-run w.setup l.history l.stands.run in reassembly-quiet w.setup (record_of w.setup l.history) (after (record_of w.setup l.history) e) (log_of w.setup l.history) g (sane-after w.setup (record_of w.setup l.history) e ok' g) q' (received-run w.setup l.history l.setup l.stands.run) (record_is_valid w.setup l.history l.setup l.stands.run) t)
+      (λ ok' q'. let g = sane-run w.setup l.history l.stands.run in reassembly-quiet w.setup (record_of w.setup l.history)
+      (after (record_of w.setup l.history) e) (log_of w.setup l.history) g (sane-after w.setup (record_of w.setup l.history) e ok' g) q'
+      (received-run w.setup l.history l.setup l.stands.run) (record_is_valid w.setup l.history l.setup l.stands.run) t)
       ok q
 
   pub filter-kept : Quiet w v → filter_of v ≡ filter_of w
   filter-kept q =
       subst (λ u. refusal_of u e ≡ None → Quiet u (after u e) → filter_of (after u e) ≡ filter_of u) (sym l.stands.is)
-      (λ ok' q'. let g = sane-run w.setup l.history l.stands.run in filter-quiet w.setup (record_of w.setup l.history) (after (record_of w.setup l.history) e) (log_of w.setup l.history) g (sane-after w.setup (record_of w.setup l.history) e ok' g) q' (received-run w.setup l.history l.setup l.stands.run) (record_is_valid w.setup l.history l.setup l.stands.run))
+      (λ ok' q'. let g = sane-run w.setup l.history l.stands.run in filter-quiet w.setup (record_of w.setup l.history) (after (record_of w.setup l.history) e)
+      (log_of w.setup l.history) g (sane-after w.setup (record_of w.setup l.history) e ok' g) q' (received-run w.setup l.history l.setup l.stands.run)
+      (record_is_valid w.setup l.history l.setup l.stands.run))
       ok q
 
   -- indexes, where no fragment is sent
@@ -122,10 +137,12 @@ module _ (sum : List ℕ → ℕ) (x : State) (l : IsLinked sum x) (e : Event) (
   begun-kept none t = (none-after w.setup w e (facts sum x l).sane none).begun t
 
   pub indexed-kept : SendsNone e → Indexed (shape v) (index_kept x.progress)
-  indexed-kept none = (counted-after w.setup w e (index_kept x.progress) (begun_on w) ok (facts sum x l).sane none (record { indexed = indexed-of sum x l; begun = λ s. refl })).indexed
+  indexed-kept none = (counted-after w.setup w e (index_kept x.progress) (begun_on w) ok (facts sum x l).sane none
+      (record { indexed = indexed-of sum x l; begun = λ s. refl })).indexed
 
   -- so a stream is as it was, where nothing is written
-  pub stream-quiet : Quiet w v → KeepsNext e → keeps_amounts e ≡ true → is_write e ≡ false → is_read e ≡ false → ((s : ℕ) → ordered_before v s (length v.messages) ≡ ordered_before w s (length w.messages)) → (s : ℕ) → SameStream w v s
+  pub stream-quiet : Quiet w v → KeepsNext e → keeps_amounts e ≡ true → is_write e ≡ false → is_read e ≡ false
+      → ((s : ℕ) → ordered_before v s (length v.messages) ≡ ordered_before w s (length w.messages)) → (s : ℕ) → SameStream w v s
   stream-quiet q keeps amounts no-write no-read before s = record {
     setup = setup-same;
     held = held-quiet q s;
@@ -140,7 +157,8 @@ module _ (sum : List ℕ → ℕ) (x : State) (l : IsLinked sum x) (e : Event) (
   fragments-same no-write =
       let t = told-after w.setup w e (facts sum x l).sane no-write in
       ap (λ s. in_all v (λ n. length (pieces (length (message_at v n).bytes) s.size (message_at v n).bytes))) setup-same
-      ∙ sum-same w v (λ m. true) (λ m. length (pieces (length m.bytes) w.setup.size m.bytes)) t.count (λ n lt. refl) (λ n lt. ap (λ b. length (pieces (length b) w.setup.size b)) (t.bytes n lt))
+      ∙ sum-same w v (λ m. true) (λ m. length (pieces (length m.bytes) w.setup.size m.bytes)) t.count (λ n lt. refl)
+      (λ n lt. ap (λ b. length (pieces (length b) w.setup.size b)) (t.bytes n lt))
 
   pub written-kept : is_write e ≡ false → in_all v (written_bytes v) ≡ in_all w (written_bytes w)
   written-kept no-write = written-same w.setup w e (facts sum x l).sane no-write

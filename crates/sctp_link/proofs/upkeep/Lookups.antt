@@ -15,7 +15,8 @@ use Rattle.sctp_link.proofs.upkeep.StreamPlaces.{placed}
 pub none-open : (w : LinkRecord) (s : ℕ) (ls : List OpenStream) → w.streams ≡ map stream_record ls → find (has_number s) ls ≡ None → is_open w s ≡ false
 none-open w s ls same e = ap is_some (ap (find (λ r. r.stream == s)) same ∙ stream-found s ls ∙ ap (option_map stream_record) e)
 
-pub some-open : (w : LinkRecord) (s : ℕ) (ls : List OpenStream) (l : OpenStream) → w.streams ≡ map stream_record ls → find (has_number s) ls ≡ Some l → stream_at w s ≡ Some (stream_record l)
+pub some-open : (w : LinkRecord) (s : ℕ) (ls : List OpenStream) (l : OpenStream) → w.streams ≡ map stream_record ls → find (has_number s) ls ≡ Some l
+    → stream_at w s ≡ Some (stream_record l)
 some-open w s ls l same e = ap (find (λ r. r.stream == s)) same ∙ stream-found s ls ∙ ap (option_map stream_record) e
 
 -- what is kept of an open stream, at its place
@@ -24,7 +25,9 @@ pub record IsKept (sum : List ℕ → ℕ) (x : State) (s : ℕ) (l : OpenStream
   pub number : l.state.stream_identifier ≡ s
   pub open_stream : IsOpenStream x.recorded l
 
-pub kept-at : (sum : List ℕ → ℕ) (x : State) (s k : ℕ) (l : OpenStream) → x.recorded.streams ≡ map stream_record x.open_streams → IsLinked sum x → k < length x.open_streams → find (has_number s) x.open_streams ≡ Some (slice_index_or x.open_streams k l) → l ≡ slice_index_or x.open_streams k l → IsKept sum x s l
+pub kept-at : (sum : List ℕ → ℕ) (x : State) (s k : ℕ) (l : OpenStream) → x.recorded.streams ≡ map stream_record x.open_streams → IsLinked sum x
+    → k < length x.open_streams → find (has_number s) x.open_streams ≡ Some (slice_index_or x.open_streams k l) → l ≡ slice_index_or x.open_streams k l
+    → IsKept sum x s l
 kept-at sum x s k l same i lt found is = record {
   is_open = ap is_some (some-open x.recorded s x.open_streams l same here);
   number = number-found s x.open_streams l here;

@@ -23,13 +23,15 @@ get-record (x ∷ ds) zero d lt = refl
 get-record (x ∷ ds) (suc k) d lt = get-record ds k d (omega (arith, lt))
 
 -- its bytes are what the record says
-pub says-bytes : (sum : List ℕ → ℕ) (x : State) (ds : List Datagram) (k : ℕ) (d : Datagram) → IsLinked sum x → x.recorded.network ≡ map datagram_record ds → x.datagrams ≡ map (λ d. d.bytes) ds → k < length ds → d ≡ slice_index_or ds k d
+pub says-bytes : (sum : List ℕ → ℕ) (x : State) (ds : List Datagram) (k : ℕ) (d : Datagram) → IsLinked sum x → x.recorded.network ≡ map datagram_record ds
+    → x.datagrams ≡ map (λ d. d.bytes) ds → k < length ds → d ≡ slice_index_or ds k d
     → (c : Contents) × (datagram x.recorded k ≡ Some c) × (d.bytes ≡ datagram_encoding sum c)
 says-bytes sum x ds k d l network bytes lt is =
     let g = datagram_record (slice_index_or ds k d) in
     let made : slice_get x.recorded.network k ≡ Some g = ap (λ n. slice_get n k) network ∙ get-record ds k d lt in
     let encoding = l.encodings k [] g made in
-    let here : slice_index_or x.datagrams k [] ≡ (slice_index_or ds k d).bytes = ap (λ n. slice_index_or n k []) bytes ∙ get_or-map (λ (d : Datagram). d.bytes) ds k d [] lt in
+    let here : slice_index_or x.datagrams k [] ≡ (slice_index_or ds k d).bytes = ap (λ n. slice_index_or n k []) bytes
+    ∙ get_or-map (λ (d : Datagram). d.bytes) ds k d [] lt in
     (contents_of x.recorded g, ap (contents_in x.recorded) made, ap (λ (y : Datagram). y.bytes) is ∙ sym here ∙ encoding.encoding)
 
 -- fewer fragments than TSNs were accepted
@@ -43,13 +45,16 @@ all-right true false c d h i = cc
 all-right false b c d h i = cc
 
 -- the message of a slot
-pub slot-message : (sum : List ℕ → ℕ) (x : State) (xs : List Slot) (p : ℕ) (s : Slot) → IsLinked sum x → x.recorded.slots ≡ map slot_record xs → p < length x.recorded.slots → s ≡ slice_index_or xs p s → (slot_at x.recorded p ≡ slot_record s) × (s.message < length x.recorded.messages)
+pub slot-message : (sum : List ℕ → ℕ) (x : State) (xs : List Slot) (p : ℕ) (s : Slot) → IsLinked sum x → x.recorded.slots ≡ map slot_record xs
+    → p < length x.recorded.slots → s ≡ slice_index_or xs p s → (slot_at x.recorded p ≡ slot_record s) × (s.message < length x.recorded.messages)
 slot-message sum x xs p s l slots lt is =
     let within : p < length xs = omega (arith, lt, ap length slots, length-mapped slot_record xs) in
-    let same : slot_at x.recorded p ≡ slot_record s = ap (λ ys. slice_index_or ys p no_slot) slots ∙ get_or-map slot_record xs p s no_slot within ∙ ap slot_record (sym is) in
+    let same : slot_at x.recorded p ≡ slot_record s = ap (λ ys. slice_index_or ys p no_slot) slots ∙ get_or-map slot_record xs p s no_slot within
+    ∙ ap slot_record (sym is) in
     let made = (facts sum x l).sane.sender.made p lt in
     (same, omega (arith, made, ap (λ t. t.message) same))
 
 -- one that is neither, among those in flight, can be sent again
 pub can-resend : (w : LinkRecord) (p : ℕ) → w.taken ≤ p → p < length w.slots → can_resend w p ≡ not (is_cleared w p)
-can-resend w p le lt = all-right (nat_le w.taken p) (nat_lt p (length w.slots)) (slot_at w p).acknowledged (message_at w (message_of w p)).abandoned (le-leb w.taken p le) (lt-ltb p (length w.slots) lt)
+can-resend w p le lt = all-right (nat_le w.taken p) (nat_lt p (length w.slots))
+    (slot_at w p).acknowledged (message_at w (message_of w p)).abandoned (le-leb w.taken p le) (lt-ltb p (length w.slots) lt)

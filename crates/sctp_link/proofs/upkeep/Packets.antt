@@ -110,7 +110,13 @@ last_data (k ∷ ks) kind (d ∷ ds) e =
     let tail : map wire_of (ks ++ kind ∷ []) ≡ map data_chunk ds = cc in
     let head : wire_of k ≡ data_chunk d = cc in
     let r = last_data ks kind ds tail in
-    record { less = d ∷ r.less; final = r.final; all = ap (λ xs. d ∷ xs) r.all; rest = ap (λ w. w ∷ map wire_of ks) head ∙ ap (λ ws. data_chunk d ∷ ws) r.rest; last = r.last }
+    record {
+      less = d ∷ r.less;
+      final = r.final;
+      all = ap (λ xs. d ∷ xs) r.all;
+      rest = ap (λ w. w ∷ map wire_of ks) head ∙ ap (λ ws. data_chunk d ∷ ws) r.rest;
+      last = r.last;
+    }
 
 pub front_all : {X : Type 0} (P : X → Type 0) (xs : List X) (x : X) → AllByRecursion P (xs ++ x ∷ []) → AllByRecursion P xs
 front_all P [] x all = tt

@@ -30,7 +30,8 @@ use Rattle.sctp_link.specs.Places.{IsApart}
 use Rattle.sctp_link.proofs.upkeep.Facts.{facts, stands-then, says-still}
 use Rattle.sctp_link.proofs.sender.Beginning.{index_kept, indexed-of}
 
-module _ (sum : List ℕ → ℕ) (x : State) (l : IsLinked sum x) (e : Event) (none : refusal_of x.recorded e ≡ None) (s : Same x.recorded (after x.recorded e)) where
+module _ (sum : List ℕ → ℕ) (x : State) (l : IsLinked sum x) (e : Event) (none : refusal_of x.recorded e ≡ None)
+    (s : Same x.recorded (after x.recorded e)) where
   abbrev w : LinkRecord
   w = x.recorded
 
@@ -53,11 +54,16 @@ module _ (sum : List ℕ → ℕ) (x : State) (l : IsLinked sum x) (e : Event) (
       subst (λ c. IsDatagram sum c (slice_index_or x.datagrams k d)) (sym says) (l.encodings k d g old)
 
   -- what such an event leaves of an open stream
-  pub stream-then : keeps_amounts e ≡ true → (y z : OpenStream) → IsOpenStream w y → z.state.stream_identifier ≡ y.state.stream_identifier → z.inbound.queue.held ≡ reassembly_of v y.state.stream_identifier → z.inbound.queue.si ≡ y.inbound.queue.si → z.inbound.queue.max_message_size ≡ y.inbound.queue.max_message_size → z.state.max_payload_size ≡ y.state.max_payload_size → z.ordered ≡ y.ordered → z.state.sequence_number ≡ y.state.sequence_number → z.begun ≡ y.begun → z.next ≡ next_of v y.state.stream_identifier → z.state.buffered_amount ≡ y.state.buffered_amount → stats_in z ≡ stats_of (counters_on v y.state.stream_identifier) → IsOpenStream v z
+  pub stream-then : keeps_amounts e ≡ true → (y z : OpenStream) → IsOpenStream w y → z.state.stream_identifier ≡ y.state.stream_identifier
+      → z.inbound.queue.held ≡ reassembly_of v y.state.stream_identifier → z.inbound.queue.si ≡ y.inbound.queue.si
+      → z.inbound.queue.max_message_size ≡ y.inbound.queue.max_message_size → z.state.max_payload_size ≡ y.state.max_payload_size → z.ordered ≡ y.ordered
+      → z.state.sequence_number ≡ y.state.sequence_number → z.begun ≡ y.begun → z.next ≡ next_of v y.state.stream_identifier
+      → z.state.buffered_amount ≡ y.state.buffered_amount → stats_in z ≡ stats_of (counters_on v y.state.stream_identifier) → IsOpenStream v z
   stream-then keeps y z i id held si largest size ordered number begun next bytes stats =
       let t = y.state.stream_identifier in
       let f = facts sum x l in
-      let before : ordered_before v t (length v.messages) ≡ ordered_before w t (length w.messages) = ap (λ (b : Shape). length (numbers_where (on b t) 0 b.count)) s.shape_is in
+      let before : ordered_before v t (length v.messages) ≡ ordered_before w t (length w.messages) =
+      ap (λ (b : Shape). length (numbers_where (on b t) 0 b.count)) s.shape_is in
       let same = amount-same w.setup w e t f.setup f.sane keeps in
       record {
         held = held ∙ ap (reassembly_of v) (sym id);
@@ -72,7 +78,9 @@ module _ (sum : List ℕ → ℕ) (x : State) (l : IsLinked sum x) (e : Event) (
         stats = stats ∙ ap (λ a. stats_of (counters_on v a)) (sym id);
       }
 
-  module _ (progress : List (ℕ × ℕ)) (open_streams : List OpenStream) (filter : Filter) (u : LinkRecord) (progress_same : progress ≡ x.progress) (filter_is : filter_shown filter ≡ filter_of v) (each : (k : ℕ) (d : OpenStream) → k < length open_streams → IsOpenStream v (slice_index_or open_streams k d)) (found : IsApart (stream_numbers open_streams)) (q : SameToSender w v) (is : u ≡ v) where
+  module _ (progress : List (ℕ × ℕ)) (open_streams : List OpenStream) (filter : Filter) (u : LinkRecord) (progress_same : progress ≡ x.progress)
+      (filter_is : filter_shown filter ≡ filter_of v) (each : (k : ℕ) (d : OpenStream) → k < length open_streams
+      → IsOpenStream v (slice_index_or open_streams k d)) (found : IsApart (stream_numbers open_streams)) (q : SameToSender w v) (is : u ≡ v) where
     indexed-then : Indexed (shape v) (index_kept progress)
     indexed-then = subst (λ ps. Indexed (shape v) (index_kept ps)) (sym progress_same) (on-shape (λ b. Indexed b (index_kept x.progress)) (indexed-of sum x l))
 
@@ -88,7 +96,8 @@ module _ (sum : List ℕ → ℕ) (x : State) (l : IsLinked sum x) (e : Event) (
       acked = l.acked ∙ ap (λ a. (a + (2 ^ 32 - 1) + w.taken) % 2 ^ 32) (sym first-same) ∙ ap (λ k. (v.setup.first + (2 ^ 32 - 1) + k) % 2 ^ 32) (sym q.taken);
       fragments = l.fragments ∙ sym (ap (λ b. total_over (parts b) (numbers_from 0 b.count)) s.shape_is);
       written = l.written ∙ sym (ap (λ b. total_over (λ n. length (b.message n).bytes) (numbers_from 0 b.count)) s.shape_is);
-      sents = λ n lt. ap (λ (c : List (ℕ × ℕ)). (slice_index_or c n (0, 0)).0) progress_same ∙ on-shape (λ b. (n : ℕ) → n < b.count → (slice_index_or x.progress n (0, 0)).0 ≡ sent b n) l.sents n lt;
+      sents = λ n lt. ap (λ (c : List (ℕ × ℕ)). (slice_index_or c n (0, 0)).0) progress_same
+          ∙ on-shape (λ b. (n : ℕ) → n < b.count → (slice_index_or x.progress n (0, 0)).0 ≡ sent b n) l.sents n lt;
       indexes = indexed-then.is;
       low = indexed-then.low;
       open_streams = each;
@@ -98,4 +107,5 @@ module _ (sum : List ℕ → ℕ) (x : State) (l : IsLinked sum x) (e : Event) (
 
     -- the link after it
     pub linked-then : IsLinked sum (record x { recorded = u; progress = progress; open_streams = open_streams; filter = filter })
-    linked-then = subst (λ (t : LinkRecord). IsLinked sum (record x { recorded = t; progress = progress; open_streams = open_streams; filter = filter })) (sym is) at-after
+    linked-then = subst (λ (t : LinkRecord). IsLinked sum (record x { recorded = t; progress = progress; open_streams = open_streams; filter = filter }))
+        (sym is) at-after

@@ -20,12 +20,15 @@ loop-kind-preserved c =
       known = λ ds e.
           let k = c.loop-kind.invariant.known ds e in
           let r = last_data c.pop.new.self.items c.in-Some.kind k.0 (ap (map wire_of) (sym c.in-Some.ensures.items) ∙ k.3) in
-          let one = fresh_data c.in-PayloadData.chunk r.final (subst IsFreshKind c.in-PayloadData.is (all_last IsFreshKind c.pop.new.self.items c.in-Some.kind all)) (ap wire_of (sym c.in-PayloadData.is) ∙ r.last) in (
+          let one =
+          fresh_data c.in-PayloadData.chunk r.final (subst IsFreshKind c.in-PayloadData.is (all_last IsFreshKind c.pop.new.self.items c.in-Some.kind all))
+          (ap wire_of (sym c.in-PayloadData.is) ∙ r.last) in (
             r.less,
             r.final ∷ k.1,
             k.2 ∙ ap (λ xs. xs ++ k.1) r.all ∙ append_more r.less r.final k.1,
             r.rest,
-            ap reverse c.in_ok-push.ensures.items ∙ reverse-append c.loop-kind.chunks.items (c.in-PayloadData.chunk ∷ []) ∙ ap (λ x. x ∷ reverse c.loop-kind.chunks.items) one ∙ ap (λ xs. fresh r.final ∷ xs) k.4,
+            ap reverse c.in_ok-push.ensures.items ∙ reverse-append c.loop-kind.chunks.items (c.in-PayloadData.chunk ∷ [])
+                ∙ ap (λ x. x ∷ reverse c.loop-kind.chunks.items) one ∙ ap (λ xs. fresh r.final ∷ xs) k.4,
           );
       fresh = front_all IsFreshKind c.pop.new.self.items c.in-Some.kind all;
     }

@@ -9,7 +9,8 @@ use Rattle.sctp_link.proofs.datagram.data_chunks.Given as goal
 
 abbrev pub invariant-loop-kind : goal.invariant-loop-kind
 invariant-loop-kind l = record {
-  known : (ds : List Data) → map wire_of l.fn.kinds.items ≡ map data_chunk ds → (front : List Data) × (back : List Data) × (ds ≡ front ++ back) × (map wire_of l.kinds.items ≡ map data_chunk front) × (reverse l.chunks.items ≡ map fresh back);
+  known : (ds : List Data) → map wire_of l.fn.kinds.items ≡ map data_chunk ds → (front : List Data) × (back : List Data) × (ds ≡ front ++ back)
+      × (map wire_of l.kinds.items ≡ map data_chunk front) × (reverse l.chunks.items ≡ map fresh back);
   fresh : AllByRecursion IsFreshKind l.kinds.items;
 }
 

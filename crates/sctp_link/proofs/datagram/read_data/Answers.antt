@@ -15,4 +15,5 @@ data_chunks-requires-clause-data g c =
     (c.requires.0, ap (λ p. p.chunks) (c.in_ok-packet.ensures.only (packet_with (map data_chunk c.requires.0)) c.requires.1))
 
 pub returns-clause-chunks : goal.returns-clause-chunks
-returns-clause-chunks g c = λ ds reads. c.data_chunks.ensures.chunks ds (ap (λ p. p.chunks) (c.in_ok-packet.ensures.only (packet_with (map data_chunk ds)) reads))
+returns-clause-chunks g c =
+    λ ds reads. c.data_chunks.ensures.chunks ds (ap (λ p. p.chunks) (c.in_ok-packet.ensures.only (packet_with (map data_chunk ds)) reads))

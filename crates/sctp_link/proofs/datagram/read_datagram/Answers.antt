@@ -16,7 +16,8 @@ returns-in_err-packet-clause-memory g c =
 
 pub unreachable-requires : goal.unreachable-requires
 unreachable-requires g c =
-    some_kind c.in_ok-packet.packet.chunks.items c.requires.0 (nil_from_length c.in_ok-packet.packet.chunks.items (omega (arith, c.in_default.ensures.cases.0))) (ap (λ p. p.chunks) (c.in_ok-packet.ensures.only (packet_with (c.requires.0 ∷ [])) c.requires.1))
+    some_kind c.in_ok-packet.packet.chunks.items c.requires.0 (nil_from_length c.in_ok-packet.packet.chunks.items (omega (arith, c.in_default.ensures.cases.0)))
+    (ap (λ p. p.chunks) (c.in_ok-packet.ensures.only (packet_with (c.requires.0 ∷ [])) c.requires.1))
 
 pub returns-clause-chunk : goal.returns-clause-chunk
 returns-clause-chunk g c = λ w reads.
@@ -24,4 +25,5 @@ returns-clause-chunk g c = λ w reads.
     last_kind c.pop.new.self.items c.in-Some.kind w (ap (map wire_of) (sym c.in-Some.ensures.items) ∙ one)
 
 pub returns-clause-fresh : goal.returns-clause-fresh
-returns-clause-fresh g c = all_last IsFreshKind c.pop.new.self.items c.in-Some.kind (subst (AllByRecursion IsFreshKind) c.in-Some.ensures.items c.in_ok-packet.ensures.fresh)
+returns-clause-fresh g c =
+    all_last IsFreshKind c.pop.new.self.items c.in-Some.kind (subst (AllByRecursion IsFreshKind) c.in-Some.ensures.items c.in_ok-packet.ensures.fresh)

@@ -16,6 +16,7 @@ loop-place-preserved c =
     let so-far = c.loop-place.invariant in
     let end = ap (λ (n : Named). n.end) c.named_on-named.ensures ∙ ap (λ s. (named_from ms s none_named names).end) (c.number_at.ensures (fresh 0)) in
     record {
-      named = c.record_named.ensures ∙ names-next ms names old now place c.named_on-named.result.end (fresh 0) (omega (arith, c.loop-place-test.true, so-far.same_length)) so-far.named end;
+      named = c.record_named.ensures ∙ names-next ms names old now place c.named_on-named.result.end (fresh 0)
+          (omega (arith, c.loop-place-test.true, so-far.same_length)) so-far.named end;
       same_length = ap length c.record_named.ensures ∙ length-changed (with_named c.named_on-named.result.end) place now ∙ so-far.same_length;
     }

@@ -25,7 +25,8 @@ must : (b : Bool) → (b ≡ false → false ≡ true) → b ≡ true
 must true h = refl
 must false h = h refl
 
-no-refusal : (there tail next : Bool) → there ≡ true → (tail ≡ true → next ≡ true) → (if not there then Some NotInFlight else (if tail && not next then Some TsnsUsedUp else None)) ≡ None
+no-refusal : (there tail next : Bool) → there ≡ true → (tail ≡ true → next ≡ true)
+    → (if not there then Some NotInFlight else (if tail && not next then Some TsnsUsedUp else None)) ≡ None
 no-refusal true true true h t = refl
 no-refusal true true false h t = let no : false ≡ true = t refl in absurd (cc)
 no-refusal true false next h t = refl
@@ -35,7 +36,9 @@ pub is_partially_sent-half-requires : goal.is_partially_sent-half-requires
 is_partially_sent-half-requires g c =
     let ok : refusal_of (record_in c.self.inside) (E.Abandon c.args.tsn) ≡ None = rw (← c.self.view_is) at c.requires in
     let fits : c.args.tsn < 2 ^ 32 = search rules in
-    let there = slot-message (g.C.Checksum.sum c.self.inside.checksum) (state_in c.self.inside) c.self.inside.slots.items (place_of (record_in c.self.inside) c.args.tsn) c.index.result.now c.self.invariant.1 refl (high (g.C.Checksum.sum c.self.inside.checksum) (state_in c.self.inside) c.self.invariant.1 c.args.tsn fits ok) c.index.ensures in
+    let there = slot-message (g.C.Checksum.sum c.self.inside.checksum)
+    (state_in c.self.inside) c.self.inside.slots.items (place_of (record_in c.self.inside) c.args.tsn) c.index.result.now c.self.invariant.1 refl
+    (high (g.C.Checksum.sum c.self.inside.checksum) (state_in c.self.inside) c.self.invariant.1 c.args.tsn fits ok) c.index.ensures in
     rw (← c.self.view_is) there.1
 
 pub memory-requires : goal.memory-requires
@@ -44,7 +47,8 @@ memory-requires g c =
     let fits : c.args.tsn < 2 ^ 32 = search rules in
     let sum = g.C.Checksum.sum c.self.inside.checksum in
     only-memory c.in-Err.refusal (abandon_refusal c.args.tsn c.self.inside.sender.flight)
-    (no-refusal (is_held c.self.inside.sender.flight.queue.inflight.chunks c.args.tsn) (has_tail_at c.self.inside.sender.flight c.args.tsn) (may_send c.self.inside.sender.flight)
+    (no-refusal (is_held c.self.inside.sender.flight.queue.inflight.chunks c.args.tsn) (has_tail_at c.self.inside.sender.flight c.args.tsn)
+    (may_send c.self.inside.sender.flight)
     (held sum (state_in c.self.inside) c.self.invariant.1 c.args.tsn fits ok) (tail-fits sum (state_in c.self.inside) c.self.invariant.1 c.args.tsn fits ok))
     c.in-Err.ensures.refused
 
@@ -52,13 +56,18 @@ pub returns-in-Err-clause-wants : goal.returns-in-Err-clause-wants
 returns-in-Err-clause-wants g c =
     let ok : refusal_of (record_in c.self.inside) (E.Abandon c.args.tsn) ≡ None = rw (← c.self.view_is) at c.requires in
     let fits : c.args.tsn < 2 ^ 32 = search rules in
-    rw (← c.self.view_is) (must (is_partially_sent (record_in c.self.inside) (message_of (record_in c.self.inside) (place_of (record_in c.self.inside) c.args.tsn))) (λ none. c.in-Err.ensures.no_tail (held (g.C.Checksum.sum c.self.inside.checksum) (state_in c.self.inside) c.self.invariant.1 c.args.tsn fits ok) (half-tail (g.C.Checksum.sum c.self.inside.checksum) (state_in c.self.inside) c.self.invariant.1 c.args.tsn fits ok ∙ none)))
+    rw (← c.self.view_is)
+    (must (is_partially_sent (record_in c.self.inside) (message_of (record_in c.self.inside) (place_of (record_in c.self.inside) c.args.tsn)))
+    (λ none. c.in-Err.ensures.no_tail (held (g.C.Checksum.sum c.self.inside.checksum) (state_in c.self.inside) c.self.invariant.1 c.args.tsn fits ok)
+    (half-tail (g.C.Checksum.sum c.self.inside.checksum) (state_in c.self.inside) c.self.invariant.1 c.args.tsn fits ok ∙ none)))
 
 pub index_mut-message-requires : goal.index_mut-message-requires
 index_mut-message-requires g c =
     let ok : refusal_of (record_in c.self.inside) (E.Abandon c.args.tsn) ≡ None = rw (← c.self.view_is) at c.requires in
     let fits : c.args.tsn < 2 ^ 32 = search rules in
-    let there = slot-message (g.C.Checksum.sum c.self.inside.checksum) (state_in c.self.inside) c.self.inside.slots.items (place_of (record_in c.self.inside) c.args.tsn) c.index.result.now c.self.invariant.1 refl (high (g.C.Checksum.sum c.self.inside.checksum) (state_in c.self.inside) c.self.invariant.1 c.args.tsn fits ok) c.index.ensures in
+    let there = slot-message (g.C.Checksum.sum c.self.inside.checksum)
+    (state_in c.self.inside) c.self.inside.slots.items (place_of (record_in c.self.inside) c.args.tsn) c.index.result.now c.self.invariant.1 refl
+    (high (g.C.Checksum.sum c.self.inside.checksum) (state_in c.self.inside) c.self.invariant.1 c.args.tsn fits ok) c.index.ensures in
     omega (arith, there.1, length-mapped message_record c.self.inside.messages.items, c.self.inside.messages.ok.0)
 
 pub invariant_of-self-2 : goal.invariant_of-self-2
@@ -71,20 +80,28 @@ invariant_of-self-2 g c =
     let n = c.index.result.now.message in
     let s = c.in-Ok.gone.stream in
     let bytes = c.in-Ok.gone.bytes in
-    let there = slot-message sum x c.self.inside.slots.items (place_of (record_in c.self.inside) c.args.tsn) c.index.result.now l refl (high sum x l c.args.tsn fits ok) c.index.ensures in
+    let there = slot-message sum x c.self.inside.slots.items (place_of (record_in c.self.inside) c.args.tsn) c.index.result.now l refl
+    (high sum x l c.args.tsn fits ok) c.index.ensures in
     let number : message_of (record_in c.self.inside) (place_of (record_in c.self.inside) c.args.tsn) ≡ n = ap (λ t. t.message) there.0 in
     let then' : Sides = abandoned_on (message_to_abandon c.args.tsn c.self.inside.sender.flight) s bytes (sides_in c.self.inside) in
     let left = rw c.in-Ok.ensures.ok at c.in-Ok.ensures.released in
-    let r = subst (λ k. Gives x (E.Abandon c.args.tsn) k s bytes then'.flight.queue then'.flight.next_tsn) number (gives sum x l c.args.tsn fits ok s bytes then'.flight.queue then'.flight.next_tsn c.in-Ok.ensures.stream refl refl left) in
-    let both = on-sides c.self.inside.sender c.self.inside.receiver c.self.inside.progress c.self.invariant.0 s (less_by bytes) (after_abandonment (message_to_abandon c.args.tsn c.self.inside.sender.flight) c.self.inside.sender.flight) c.abandon.new.self c.in-Ok.ensures.ok in
+    let r = subst (λ k. Gives x (E.Abandon c.args.tsn) k s bytes then'.flight.queue then'.flight.next_tsn) number
+    (gives sum x l c.args.tsn fits ok s bytes then'.flight.queue then'.flight.next_tsn c.in-Ok.ensures.stream refl refl left) in
+    let both = on-sides c.self.inside.sender c.self.inside.receiver c.self.inside.progress c.self.invariant.0 s (less_by bytes)
+    (after_abandonment (message_to_abandon c.args.tsn c.self.inside.sender.flight) c.self.inside.sender.flight) c.abandon.new.self c.in-Ok.ensures.ok in
     let ms = slice_set c.self.inside.messages.items n c.settle.new.message in
     let ss = c.settle.new.slots.items in
     let half : c.is_partially_sent-half.result ≡ is_partially_sent (record_in c.self.inside) n = rw (← c.self.view_is) at c.is_partially_sent-half.ensures in
-    let more : c.settle.new.slots.items ≡ c.self.inside.slots.items ++ marks c.is_partially_sent-half.result n c.index_mut-message.result.now.sent = c.settle.ensures.slots ∙ ap (λ a. a ++ marks c.is_partially_sent-half.result n c.index_mut-message.result.now.sent) c.make_room.ensures.items in (
-      on-aligned c.self.inside.sender c.self.inside.receiver c.self.inside.progress c.self.invariant.0 s (less_by bytes) (after_abandonment (message_to_abandon c.args.tsn c.self.inside.sender.flight) c.self.inside.sender.flight) c.abandon.new.self c.in-Ok.ensures.ok (λ l. refl),
-      subst (λ (y : Sides). IsLinked sum (record (state_from y c.self.inside) { recorded = record (record_from y c.self.inside) { messages = map message_record ms; slots = map slot_record ss }; progress = map progress_of ms })) (sym both)
+    let more : c.settle.new.slots.items ≡ c.self.inside.slots.items ++ marks c.is_partially_sent-half.result n c.index_mut-message.result.now.sent =
+    c.settle.ensures.slots ∙ ap (λ a. a ++ marks c.is_partially_sent-half.result n c.index_mut-message.result.now.sent) c.make_room.ensures.items in (
+      on-aligned c.self.inside.sender c.self.inside.receiver c.self.inside.progress c.self.invariant.0 s (less_by bytes) (after_abandonment
+          (message_to_abandon c.args.tsn c.self.inside.sender.flight) c.self.inside.sender.flight) c.abandon.new.self c.in-Ok.ensures.ok (λ l. refl),
+      subst (λ (y : Sides). IsLinked sum (record (state_from y c.self.inside)
+          { recorded = record (record_from y c.self.inside) { messages = map message_record ms; slots = map slot_record ss }; progress = map progress_of ms }))
+          (sym both)
           (linked-given sum x l (E.Abandon c.args.tsn) ok n s bytes then'.flight.queue then'.flight.next_tsn r tt tt refl refl
-          c.self.inside.messages.items c.index_mut-message.result.now c.settle.new.message c.self.inside.slots.items c.settle.new.slots.items c.is_partially_sent-half.result refl refl refl refl c.index_mut-message.ensures.value c.settle.ensures.message half more),
+          c.self.inside.messages.items c.index_mut-message.result.now c.settle.new.message c.self.inside.slots.items c.settle.new.slots.items
+          c.is_partially_sent-half.result refl refl refl refl c.index_mut-message.ensures.value c.settle.ensures.message half more),
     )
 
 pub returns-clause-moves : goal.returns-clause-moves
@@ -97,24 +114,31 @@ returns-clause-moves g c =
     let n = c.index.result.now.message in
     let s = c.in-Ok.gone.stream in
     let bytes = c.in-Ok.gone.bytes in
-    let there = slot-message sum x c.self.inside.slots.items (place_of (record_in c.self.inside) c.args.tsn) c.index.result.now l refl (high sum x l c.args.tsn fits ok) c.index.ensures in
+    let there = slot-message sum x c.self.inside.slots.items (place_of (record_in c.self.inside) c.args.tsn) c.index.result.now l refl
+    (high sum x l c.args.tsn fits ok) c.index.ensures in
     let number : message_of (record_in c.self.inside) (place_of (record_in c.self.inside) c.args.tsn) ≡ n = ap (λ t. t.message) there.0 in
     let then' : Sides = abandoned_on (message_to_abandon c.args.tsn c.self.inside.sender.flight) s bytes (sides_in c.self.inside) in
     let left = rw c.in-Ok.ensures.ok at c.in-Ok.ensures.released in
-    let r = subst (λ k. Gives x (E.Abandon c.args.tsn) k s bytes then'.flight.queue then'.flight.next_tsn) number (gives sum x l c.args.tsn fits ok s bytes then'.flight.queue then'.flight.next_tsn c.in-Ok.ensures.stream refl refl left) in
-    let both = on-sides c.self.inside.sender c.self.inside.receiver c.self.inside.progress c.self.invariant.0 s (less_by bytes) (after_abandonment (message_to_abandon c.args.tsn c.self.inside.sender.flight) c.self.inside.sender.flight) c.abandon.new.self c.in-Ok.ensures.ok in
+    let r = subst (λ k. Gives x (E.Abandon c.args.tsn) k s bytes then'.flight.queue then'.flight.next_tsn) number
+    (gives sum x l c.args.tsn fits ok s bytes then'.flight.queue then'.flight.next_tsn c.in-Ok.ensures.stream refl refl left) in
+    let both = on-sides c.self.inside.sender c.self.inside.receiver c.self.inside.progress c.self.invariant.0 s (less_by bytes)
+    (after_abandonment (message_to_abandon c.args.tsn c.self.inside.sender.flight) c.self.inside.sender.flight) c.abandon.new.self c.in-Ok.ensures.ok in
     let ms = slice_set c.self.inside.messages.items n c.settle.new.message in
     let ss = c.settle.new.slots.items in
     let half : c.is_partially_sent-half.result ≡ is_partially_sent (record_in c.self.inside) n = rw (← c.self.view_is) at c.is_partially_sent-half.ensures in
-    let more : c.settle.new.slots.items ≡ c.self.inside.slots.items ++ marks c.is_partially_sent-half.result n c.index_mut-message.result.now.sent = c.settle.ensures.slots ∙ ap (λ a. a ++ marks c.is_partially_sent-half.result n c.index_mut-message.result.now.sent) c.make_room.ensures.items in
+    let more : c.settle.new.slots.items ≡ c.self.inside.slots.items ++ marks c.is_partially_sent-half.result n c.index_mut-message.result.now.sent =
+    c.settle.ensures.slots ∙ ap (λ a. a ++ marks c.is_partially_sent-half.result n c.index_mut-message.result.now.sent) c.make_room.ensures.items in
     rw (← c.self.view_is)
-    (ap (λ (y : Sides). record (record_from y c.self.inside) { messages = map message_record ms; slots = map slot_record ss }) both ∙ recorded-given sum x l (E.Abandon c.args.tsn) ok n s bytes then'.flight.queue then'.flight.next_tsn r tt tt refl refl
-    c.self.inside.messages.items c.index_mut-message.result.now c.settle.new.message c.self.inside.slots.items c.settle.new.slots.items c.is_partially_sent-half.result refl refl refl refl c.index_mut-message.ensures.value c.settle.ensures.message half more ∙ sym r.is)
+    (ap (λ (y : Sides). record (record_from y c.self.inside) { messages = map message_record ms; slots = map slot_record ss }) both
+    ∙ recorded-given sum x l (E.Abandon c.args.tsn) ok n s bytes then'.flight.queue then'.flight.next_tsn r tt tt refl refl
+    c.self.inside.messages.items c.index_mut-message.result.now c.settle.new.message c.self.inside.slots.items c.settle.new.slots.items
+    c.is_partially_sent-half.result refl refl refl refl c.index_mut-message.ensures.value c.settle.ensures.message half more ∙ sym r.is)
 
 pub returns-clause-stream : goal.returns-clause-stream
 returns-clause-stream g c =
     let ok : refusal_of (record_in c.self.inside) (E.Abandon c.args.tsn) ≡ None = rw (← c.self.view_is) at c.requires in
-    rw (← c.self.view_is) (stream-is (g.C.Checksum.sum c.self.inside.checksum) (state_in c.self.inside) c.self.invariant.1 c.args.tsn (search rules) ok c.in-Ok.gone.stream c.in-Ok.ensures.stream)
+    rw (← c.self.view_is) (stream-is (g.C.Checksum.sum c.self.inside.checksum) (state_in c.self.inside) c.self.invariant.1 c.args.tsn
+    (search rules) ok c.in-Ok.gone.stream c.in-Ok.ensures.stream)
 
 pub returns-clause-bytes : goal.returns-clause-bytes
 returns-clause-bytes g c =
@@ -126,16 +150,23 @@ returns-clause-bytes g c =
     let n = c.index.result.now.message in
     let s = c.in-Ok.gone.stream in
     let bytes = c.in-Ok.gone.bytes in
-    let there = slot-message sum x c.self.inside.slots.items (place_of (record_in c.self.inside) c.args.tsn) c.index.result.now l refl (high sum x l c.args.tsn fits ok) c.index.ensures in
+    let there = slot-message sum x c.self.inside.slots.items (place_of (record_in c.self.inside) c.args.tsn) c.index.result.now l refl
+    (high sum x l c.args.tsn fits ok) c.index.ensures in
     let number : message_of (record_in c.self.inside) (place_of (record_in c.self.inside) c.args.tsn) ≡ n = ap (λ t. t.message) there.0 in
     let then' : Sides = abandoned_on (message_to_abandon c.args.tsn c.self.inside.sender.flight) s bytes (sides_in c.self.inside) in
     let left = rw c.in-Ok.ensures.ok at c.in-Ok.ensures.released in
-    let r = subst (λ k. Gives x (E.Abandon c.args.tsn) k s bytes then'.flight.queue then'.flight.next_tsn) number (gives sum x l c.args.tsn fits ok s bytes then'.flight.queue then'.flight.next_tsn c.in-Ok.ensures.stream refl refl left) in
-    let both = on-sides c.self.inside.sender c.self.inside.receiver c.self.inside.progress c.self.invariant.0 s (less_by bytes) (after_abandonment (message_to_abandon c.args.tsn c.self.inside.sender.flight) c.self.inside.sender.flight) c.abandon.new.self c.in-Ok.ensures.ok in
+    let r = subst (λ k. Gives x (E.Abandon c.args.tsn) k s bytes then'.flight.queue then'.flight.next_tsn) number
+    (gives sum x l c.args.tsn fits ok s bytes then'.flight.queue then'.flight.next_tsn c.in-Ok.ensures.stream refl refl left) in
+    let both = on-sides c.self.inside.sender c.self.inside.receiver c.self.inside.progress c.self.invariant.0 s (less_by bytes)
+    (after_abandonment (message_to_abandon c.args.tsn c.self.inside.sender.flight) c.self.inside.sender.flight) c.abandon.new.self c.in-Ok.ensures.ok in
     let ms = slice_set c.self.inside.messages.items n c.settle.new.message in
     let ss = c.settle.new.slots.items in
     let half : c.is_partially_sent-half.result ≡ is_partially_sent (record_in c.self.inside) n = rw (← c.self.view_is) at c.is_partially_sent-half.ensures in
-    let more : c.settle.new.slots.items ≡ c.self.inside.slots.items ++ marks c.is_partially_sent-half.result n c.index_mut-message.result.now.sent = c.settle.ensures.slots ∙ ap (λ a. a ++ marks c.is_partially_sent-half.result n c.index_mut-message.result.now.sent) c.make_room.ensures.items in
+    let more : c.settle.new.slots.items ≡ c.self.inside.slots.items ++ marks c.is_partially_sent-half.result n c.index_mut-message.result.now.sent =
+    c.settle.ensures.slots ∙ ap (λ a. a ++ marks c.is_partially_sent-half.result n c.index_mut-message.result.now.sent) c.make_room.ensures.items in
     rw (← c.self.view_is)
-    (r.grows ∙ ap (growth (record_in c.self.inside)) (sym (ap (λ (y : Sides). record (record_from y c.self.inside) { messages = map message_record ms; slots = map slot_record ss }) both ∙ recorded-given sum x l (E.Abandon c.args.tsn) ok n s bytes then'.flight.queue then'.flight.next_tsn r tt tt refl refl
-    c.self.inside.messages.items c.index_mut-message.result.now c.settle.new.message c.self.inside.slots.items c.settle.new.slots.items c.is_partially_sent-half.result refl refl refl refl c.index_mut-message.ensures.value c.settle.ensures.message half more)))
+    (r.grows ∙ ap (growth (record_in c.self.inside))
+    (sym (ap (λ (y : Sides). record (record_from y c.self.inside) { messages = map message_record ms; slots = map slot_record ss }) both
+    ∙ recorded-given sum x l (E.Abandon c.args.tsn) ok n s bytes then'.flight.queue then'.flight.next_tsn r tt tt refl refl
+    c.self.inside.messages.items c.index_mut-message.result.now c.settle.new.message c.self.inside.slots.items c.settle.new.slots.items
+    c.is_partially_sent-half.result refl refl refl refl c.index_mut-message.ensures.value c.settle.ensures.message half more)))

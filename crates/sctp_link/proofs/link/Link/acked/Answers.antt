@@ -20,13 +20,17 @@ use Rattle.sctp_link.proofs.sides.Changes.{only-memory, acked-aligned, acked-sid
 use Rattle.sctp_link.specs.Linked.{IsLinked}
 use Rattle.sctp_link.specs.Fields.{state_from, record_from, record_in, state_in, sides_in}
 use Rattle.sctp_link.proofs.upkeep.Facts.{facts}
-use Rattle.sctp_link.proofs.acknowledging.SackTaken.{sack-there, wire_sack, reads-sack, count-is, count-made, reported, marking-first, not-refused, within-run, within-blocks, taken-all}
+use Rattle.sctp_link.proofs.acknowledging.SackTaken.{sack-there, wire_sack, reads-sack, count-is, count-made, reported, marking-first, not-refused, within-run}
+use Rattle.sctp_link.proofs.acknowledging.SackTaken.{within-blocks, taken-all}
 use Rattle.sctp_link.proofs.link.Link.acked.Goals as goal
 
 pub read_sack-requires : goal.read_sack-requires
 read_sack-requires g c =
-    let there = sack-there _ (ap (λ s. refusal_of s.recorded (E.Acked c.args.k)) c.self.view_is ∙ c.requires) in
-    (wire_sack (record_in c.self.inside) there.0, reads-sack (g.C.Checksum.sum c.self.inside.checksum) (state_in c.self.inside) c.self.inside.network.items c.args.k c.index.result.now there.0 c.self.invariant.1 refl refl c.index.ensures there.1)
+    let there = sack-there _ (ap (λ s. refusal_of s.recorded (E.Acked c.args.k)) c.self.view_is ∙ c.requires) in (
+      wire_sack (record_in c.self.inside) there.0,
+      reads-sack (g.C.Checksum.sum c.self.inside.checksum)
+          (state_in c.self.inside) c.self.inside.network.items c.args.k c.index.result.now there.0 c.self.invariant.1 refl refl c.index.ensures there.1,
+    )
 
 pub overflow_cast-upto : goal.overflow_cast-upto
 overflow_cast-upto g c =
@@ -39,7 +43,8 @@ overflow_cast-upto g c =
     let made = count-made (record_in c.self.inside) c.args.k there.0 (reported sum (state_in c.self.inside) l) there.1 in
     let few = (facts sum (state_in c.self.inside) l).few in
     let before = (facts sum (state_in c.self.inside) l).taken in
-    let count = count-is c.self.inside.first_tsn there.0.cumulative c.in_ok-sack.sack.cumulative_tsn_ack l.setup.first (omega (arith, made, few)) (ap (λ s. s.cumulative_tsn_ack) says) in
+    let count = count-is c.self.inside.first_tsn there.0.cumulative c.in_ok-sack.sack.cumulative_tsn_ack l.setup.first (omega (arith, made, few))
+    (ap (λ s. s.cumulative_tsn_ack) says) in
     let top : c.max-taken.result ≡ max c.self.inside.taken there.0.cumulative = c.max-taken.ensures ∙ ap (max c.self.inside.taken) count in
     omega (arith, top, made, few, before)
 
@@ -54,12 +59,19 @@ memory-requires g c =
     let made = count-made (record_in c.self.inside) c.args.k there.0 (reported sum (state_in c.self.inside) l) there.1 in
     let few = (facts sum (state_in c.self.inside) l).few in
     let before = (facts sum (state_in c.self.inside) l).taken in
-    let count = count-is c.self.inside.first_tsn there.0.cumulative c.in_ok-sack.sack.cumulative_tsn_ack l.setup.first (omega (arith, made, few)) (ap (λ s. s.cumulative_tsn_ack) says) in
+    let count = count-is c.self.inside.first_tsn there.0.cumulative c.in_ok-sack.sack.cumulative_tsn_ack l.setup.first (omega (arith, made, few))
+    (ap (λ s. s.cumulative_tsn_ack) says) in
     let top : c.max-taken.result ≡ max c.self.inside.taken there.0.cumulative = c.max-taken.ensures ∙ ap (max c.self.inside.taken) count in
-    let cum : (sack_of c.rebase.new.sack).cumulative_tsn_ack ≡ cumulative_tsn (record_in c.self.inside) c.max-taken.result = omega (arith, c.rebase.ensures.cumulative, l.setup.first, top, made, few, before) in
-    let covers : (n : ℕ) → 0 < n → is_in_blocks (sack_of c.rebase.new.sack).gap_ack_blocks n ≡ is_in_blocks (wire_sack (record_in c.self.inside) there.0).gap_ack_blocks (n + (c.max-taken.result - there.0.cumulative)) =
-    λ n pos. c.rebase.ensures.covers n pos ∙ ap (λ bs. is_in_blocks bs (n + (c.max-taken.result - (((c.in_ok-sack.sack.cumulative_tsn_ack + (2 ^ 32 - c.self.inside.first_tsn)) % 2 ^ 32 + 1) % 2 ^ 32)))) (ap (λ s. s.gap_ack_blocks) says) ∙ ap (λ m. is_in_blocks (wire_sack (record_in c.self.inside) there.0).gap_ack_blocks (n + (c.max-taken.result - m))) count in
-    only-memory c.in-Err.refusal _ (not-refused sum (state_in c.self.inside) c.args.k there.0 l none there.1 (sack_of c.rebase.new.sack) c.max-taken.result top cum covers c.rebase.ensures.begin) c.in-Err.ensures.refused
+    let cum : (sack_of c.rebase.new.sack).cumulative_tsn_ack ≡ cumulative_tsn (record_in c.self.inside) c.max-taken.result =
+    omega (arith, c.rebase.ensures.cumulative, l.setup.first, top, made, few, before) in
+    let covers : (n : ℕ) → 0 < n → is_in_blocks (sack_of c.rebase.new.sack).gap_ack_blocks n
+    ≡ is_in_blocks (wire_sack (record_in c.self.inside) there.0).gap_ack_blocks (n + (c.max-taken.result - there.0.cumulative)) =
+    λ n pos. c.rebase.ensures.covers n pos ∙ ap (λ bs.
+    is_in_blocks bs (n + (c.max-taken.result - (((c.in_ok-sack.sack.cumulative_tsn_ack + (2 ^ 32 - c.self.inside.first_tsn)) % 2 ^ 32 + 1) % 2 ^ 32))))
+    (ap (λ s. s.gap_ack_blocks) says)
+    ∙ ap (λ m. is_in_blocks (wire_sack (record_in c.self.inside) there.0).gap_ack_blocks (n + (c.max-taken.result - m))) count in
+    only-memory c.in-Err.refusal _ (not-refused sum (state_in c.self.inside) c.args.k there.0 l none there.1
+    (sack_of c.rebase.new.sack) c.max-taken.result top cum covers c.rebase.ensures.begin) c.in-Err.ensures.refused
 
 pub acknowledge_run-requires : goal.acknowledge_run-requires
 acknowledge_run-requires g c = λ some.
@@ -72,13 +84,25 @@ acknowledge_run-requires g c = λ some.
     let made = count-made (record_in c.self.inside) c.args.k there.0 (reported sum (state_in c.self.inside) l) there.1 in
     let few = (facts sum (state_in c.self.inside) l).few in
     let before = (facts sum (state_in c.self.inside) l).taken in
-    let count = count-is c.self.inside.first_tsn there.0.cumulative c.in_ok-sack.sack.cumulative_tsn_ack l.setup.first (omega (arith, made, few)) (ap (λ s. s.cumulative_tsn_ack) says) in
+    let count = count-is c.self.inside.first_tsn there.0.cumulative c.in_ok-sack.sack.cumulative_tsn_ack l.setup.first (omega (arith, made, few))
+    (ap (λ s. s.cumulative_tsn_ack) says) in
     let top : c.max-taken.result ≡ max c.self.inside.taken there.0.cumulative = c.max-taken.ensures ∙ ap (max c.self.inside.taken) count in
-    let cum : (sack_of c.rebase.new.sack).cumulative_tsn_ack ≡ cumulative_tsn (record_in c.self.inside) c.max-taken.result = omega (arith, c.rebase.ensures.cumulative, l.setup.first, top, made, few, before) in
-    let covers : (n : ℕ) → 0 < n → is_in_blocks (sack_of c.rebase.new.sack).gap_ack_blocks n ≡ is_in_blocks (wire_sack (record_in c.self.inside) there.0).gap_ack_blocks (n + (c.max-taken.result - there.0.cumulative)) =
-    λ n pos. c.rebase.ensures.covers n pos ∙ ap (λ bs. is_in_blocks bs (n + (c.max-taken.result - (((c.in_ok-sack.sack.cumulative_tsn_ack + (2 ^ 32 - c.self.inside.first_tsn)) % 2 ^ 32 + 1) % 2 ^ 32)))) (ap (λ s. s.gap_ack_blocks) says) ∙ ap (λ m. is_in_blocks (wire_sack (record_in c.self.inside) there.0).gap_ack_blocks (n + (c.max-taken.result - m))) count in
+    let cum : (sack_of c.rebase.new.sack).cumulative_tsn_ack ≡ cumulative_tsn (record_in c.self.inside) c.max-taken.result =
+    omega (arith, c.rebase.ensures.cumulative, l.setup.first, top, made, few, before) in
+    let covers : (n : ℕ) → 0 < n → is_in_blocks (sack_of c.rebase.new.sack).gap_ack_blocks n
+    ≡ is_in_blocks (wire_sack (record_in c.self.inside) there.0).gap_ack_blocks (n + (c.max-taken.result - there.0.cumulative)) =
+    λ n pos. c.rebase.ensures.covers n pos ∙ ap (λ bs.
+    is_in_blocks bs (n + (c.max-taken.result - (((c.in_ok-sack.sack.cumulative_tsn_ack + (2 ^ 32 - c.self.inside.first_tsn)) % 2 ^ 32 + 1) % 2 ^ 32))))
+    (ap (λ s. s.gap_ack_blocks) says)
+    ∙ ap (λ m. is_in_blocks (wire_sack (record_in c.self.inside) there.0).gap_ack_blocks (n + (c.max-taken.result - m))) count in
     let first = marking-first sum (state_in c.self.inside) c.self.inside.slots.items l refl in
-    omega (arith, within-run sum (state_in c.self.inside) c.args.k there.0 l none there.1 (sack_of c.rebase.new.sack) c.max-taken.result top cum covers c.rebase.ensures.begin some, first.count, ap length c.deref_mut.ensures.value)
+    omega (
+      arith,
+      within-run sum (state_in c.self.inside) c.args.k there.0 l none there.1
+          (sack_of c.rebase.new.sack) c.max-taken.result top cum covers c.rebase.ensures.begin some,
+      first.count,
+      ap length c.deref_mut.ensures.value,
+    )
 
 pub acknowledge_blocks-requires-clause-short : goal.acknowledge_blocks-requires-clause-short
 acknowledge_blocks-requires-clause-short g c =
@@ -91,7 +115,8 @@ acknowledge_blocks-requires-clause-short g c =
     let made = count-made (record_in c.self.inside) c.args.k there.0 (reported sum (state_in c.self.inside) l) there.1 in
     let few = (facts sum (state_in c.self.inside) l).few in
     let before = (facts sum (state_in c.self.inside) l).taken in
-    let count = count-is c.self.inside.first_tsn there.0.cumulative c.in_ok-sack.sack.cumulative_tsn_ack l.setup.first (omega (arith, made, few)) (ap (λ s. s.cumulative_tsn_ack) says) in
+    let count = count-is c.self.inside.first_tsn there.0.cumulative c.in_ok-sack.sack.cumulative_tsn_ack l.setup.first (omega (arith, made, few))
+    (ap (λ s. s.cumulative_tsn_ack) says) in
     let top : c.max-taken.result ≡ max c.self.inside.taken there.0.cumulative = c.max-taken.ensures ∙ ap (max c.self.inside.taken) count in
     omega (arith, top, made, few, before)
 
@@ -106,13 +131,20 @@ acknowledge_blocks-requires-clause-within g c = λ p any.
     let made = count-made (record_in c.self.inside) c.args.k there.0 (reported sum (state_in c.self.inside) l) there.1 in
     let few = (facts sum (state_in c.self.inside) l).few in
     let before = (facts sum (state_in c.self.inside) l).taken in
-    let count = count-is c.self.inside.first_tsn there.0.cumulative c.in_ok-sack.sack.cumulative_tsn_ack l.setup.first (omega (arith, made, few)) (ap (λ s. s.cumulative_tsn_ack) says) in
+    let count = count-is c.self.inside.first_tsn there.0.cumulative c.in_ok-sack.sack.cumulative_tsn_ack l.setup.first (omega (arith, made, few))
+    (ap (λ s. s.cumulative_tsn_ack) says) in
     let top : c.max-taken.result ≡ max c.self.inside.taken there.0.cumulative = c.max-taken.ensures ∙ ap (max c.self.inside.taken) count in
-    let cum : (sack_of c.rebase.new.sack).cumulative_tsn_ack ≡ cumulative_tsn (record_in c.self.inside) c.max-taken.result = omega (arith, c.rebase.ensures.cumulative, l.setup.first, top, made, few, before) in
-    let covers : (n : ℕ) → 0 < n → is_in_blocks (sack_of c.rebase.new.sack).gap_ack_blocks n ≡ is_in_blocks (wire_sack (record_in c.self.inside) there.0).gap_ack_blocks (n + (c.max-taken.result - there.0.cumulative)) =
-    λ n pos. c.rebase.ensures.covers n pos ∙ ap (λ bs. is_in_blocks bs (n + (c.max-taken.result - (((c.in_ok-sack.sack.cumulative_tsn_ack + (2 ^ 32 - c.self.inside.first_tsn)) % 2 ^ 32 + 1) % 2 ^ 32)))) (ap (λ s. s.gap_ack_blocks) says) ∙ ap (λ m. is_in_blocks (wire_sack (record_in c.self.inside) there.0).gap_ack_blocks (n + (c.max-taken.result - m))) count in
+    let cum : (sack_of c.rebase.new.sack).cumulative_tsn_ack ≡ cumulative_tsn (record_in c.self.inside) c.max-taken.result =
+    omega (arith, c.rebase.ensures.cumulative, l.setup.first, top, made, few, before) in
+    let covers : (n : ℕ) → 0 < n → is_in_blocks (sack_of c.rebase.new.sack).gap_ack_blocks n
+    ≡ is_in_blocks (wire_sack (record_in c.self.inside) there.0).gap_ack_blocks (n + (c.max-taken.result - there.0.cumulative)) =
+    λ n pos. c.rebase.ensures.covers n pos ∙ ap (λ bs.
+    is_in_blocks bs (n + (c.max-taken.result - (((c.in_ok-sack.sack.cumulative_tsn_ack + (2 ^ 32 - c.self.inside.first_tsn)) % 2 ^ 32 + 1) % 2 ^ 32))))
+    (ap (λ s. s.gap_ack_blocks) says)
+    ∙ ap (λ m. is_in_blocks (wire_sack (record_in c.self.inside) there.0).gap_ack_blocks (n + (c.max-taken.result - m))) count in
     let first = marking-first sum (state_in c.self.inside) c.self.inside.slots.items l refl in
-    let last = within-blocks sum (state_in c.self.inside) c.args.k there.0 l none there.1 (sack_of c.rebase.new.sack) c.max-taken.result top cum covers c.rebase.ensures.begin p (ap (list_any (in_block c.max-taken.result p)) (sym c.deref.ensures.value) ∙ any) in
+    let last = within-blocks sum (state_in c.self.inside) c.args.k there.0 l none there.1 (sack_of c.rebase.new.sack) c.max-taken.result top cum covers
+    c.rebase.ensures.begin p (ap (list_any (in_block c.max-taken.result p)) (sym c.deref.ensures.value) ∙ any) in
     let slots1 = with_items_is c.self.inside.slots c.acknowledge_run.new.slots (omega (arith, c.acknowledge_run.auto.slots, c.deref_mut.ensures.len)) in
     omega (arith, last, first.count, ap length c.deref_mut.ensures.value, c.acknowledge_run.auto.slots, ap length (c.deref_mut-2.ensures.value ∙ slots1))
 
@@ -127,21 +159,39 @@ invariant_of-self-2 g c =
     let made = count-made (record_in c.self.inside) c.args.k there.0 (reported sum (state_in c.self.inside) l) there.1 in
     let few = (facts sum (state_in c.self.inside) l).few in
     let before = (facts sum (state_in c.self.inside) l).taken in
-    let count = count-is c.self.inside.first_tsn there.0.cumulative c.in_ok-sack.sack.cumulative_tsn_ack l.setup.first (omega (arith, made, few)) (ap (λ s. s.cumulative_tsn_ack) says) in
+    let count = count-is c.self.inside.first_tsn there.0.cumulative c.in_ok-sack.sack.cumulative_tsn_ack l.setup.first (omega (arith, made, few))
+    (ap (λ s. s.cumulative_tsn_ack) says) in
     let top : c.max-taken.result ≡ max c.self.inside.taken there.0.cumulative = c.max-taken.ensures ∙ ap (max c.self.inside.taken) count in
-    let cum : (sack_of c.rebase.new.sack).cumulative_tsn_ack ≡ cumulative_tsn (record_in c.self.inside) c.max-taken.result = omega (arith, c.rebase.ensures.cumulative, l.setup.first, top, made, few, before) in
-    let covers : (n : ℕ) → 0 < n → is_in_blocks (sack_of c.rebase.new.sack).gap_ack_blocks n ≡ is_in_blocks (wire_sack (record_in c.self.inside) there.0).gap_ack_blocks (n + (c.max-taken.result - there.0.cumulative)) =
-    λ n pos. c.rebase.ensures.covers n pos ∙ ap (λ bs. is_in_blocks bs (n + (c.max-taken.result - (((c.in_ok-sack.sack.cumulative_tsn_ack + (2 ^ 32 - c.self.inside.first_tsn)) % 2 ^ 32 + 1) % 2 ^ 32)))) (ap (λ s. s.gap_ack_blocks) says) ∙ ap (λ m. is_in_blocks (wire_sack (record_in c.self.inside) there.0).gap_ack_blocks (n + (c.max-taken.result - m))) count in
+    let cum : (sack_of c.rebase.new.sack).cumulative_tsn_ack ≡ cumulative_tsn (record_in c.self.inside) c.max-taken.result =
+    omega (arith, c.rebase.ensures.cumulative, l.setup.first, top, made, few, before) in
+    let covers : (n : ℕ) → 0 < n → is_in_blocks (sack_of c.rebase.new.sack).gap_ack_blocks n
+    ≡ is_in_blocks (wire_sack (record_in c.self.inside) there.0).gap_ack_blocks (n + (c.max-taken.result - there.0.cumulative)) =
+    λ n pos. c.rebase.ensures.covers n pos ∙ ap (λ bs.
+    is_in_blocks bs (n + (c.max-taken.result - (((c.in_ok-sack.sack.cumulative_tsn_ack + (2 ^ 32 - c.self.inside.first_tsn)) % 2 ^ 32 + 1) % 2 ^ 32))))
+    (ap (λ s. s.gap_ack_blocks) says)
+    ∙ ap (λ m. is_in_blocks (wire_sack (record_in c.self.inside) there.0).gap_ack_blocks (n + (c.max-taken.result - m))) count in
     let first = marking-first sum (state_in c.self.inside) c.self.inside.slots.items l refl in
     let next = c.acknowledge_run.ensures (record_in c.self.inside) (acknowledged_at (record_in c.self.inside)) (rw c.deref_mut.ensures.value first) in
     let slots1 = with_items_is c.self.inside.slots c.acknowledge_run.new.slots (omega (arith, c.acknowledge_run.auto.slots, c.deref_mut.ensures.len)) in
-    let slots2 = with_items_is (with_items c.self.inside.slots c.acknowledge_run.new.slots) c.acknowledge_blocks.new.slots (omega (arith, c.acknowledge_blocks.auto.slots, c.deref_mut-2.ensures.len)) in
-    let last = c.acknowledge_blocks.ensures (record_in c.self.inside) (and_run (acknowledged_at (record_in c.self.inside)) c.self.inside.taken c.max-taken.result) (rw (c.deref_mut-2.ensures.value ∙ slots1) next) in
-    let marks : IsMarking (record_in c.self.inside) (and_blocks (and_run (acknowledged_at (record_in c.self.inside)) c.self.inside.taken c.max-taken.result) c.max-taken.result c.rebase.new.sack.gap_ack_blocks.items) (with_items (with_items c.self.inside.slots c.acknowledge_run.new.slots) c.acknowledge_blocks.new.slots).items = rw (slots2, ← c.deref.ensures.value) last in
-    let taken = taken-all sum (state_in c.self.inside) c.args.k there.0 l none there.1 (sack_of c.rebase.new.sack) c.max-taken.result top cum covers c.rebase.ensures.begin (after_releases (released_by (sack_of c.rebase.new.sack) c.self.inside.sender.flight) (sides_in c.self.inside).streams) (with_items (with_items c.self.inside.slots c.acknowledge_run.new.slots) c.acknowledge_blocks.new.slots).items (after_sack (sack_of c.rebase.new.sack) c.self.inside.sender.flight)
+    let slots2 = with_items_is (with_items c.self.inside.slots c.acknowledge_run.new.slots) c.acknowledge_blocks.new.slots
+    (omega (arith, c.acknowledge_blocks.auto.slots, c.deref_mut-2.ensures.len)) in
+    let last = c.acknowledge_blocks.ensures (record_in c.self.inside)
+    (and_run (acknowledged_at (record_in c.self.inside)) c.self.inside.taken c.max-taken.result) (rw (c.deref_mut-2.ensures.value ∙ slots1) next) in
+    let marks : IsMarking (record_in c.self.inside) (and_blocks
+    (and_run (acknowledged_at (record_in c.self.inside)) c.self.inside.taken c.max-taken.result) c.max-taken.result c.rebase.new.sack.gap_ack_blocks.items)
+    (with_items (with_items c.self.inside.slots c.acknowledge_run.new.slots) c.acknowledge_blocks.new.slots).items =
+    rw (slots2, ← c.deref.ensures.value) last in
+    let taken = taken-all sum (state_in c.self.inside) c.args.k there.0 l none there.1 (sack_of c.rebase.new.sack) c.max-taken.result top cum covers
+    c.rebase.ensures.begin (after_releases (released_by (sack_of c.rebase.new.sack) c.self.inside.sender.flight) (sides_in c.self.inside).streams)
+    (with_items (with_items c.self.inside.slots c.acknowledge_run.new.slots) c.acknowledge_blocks.new.slots).items
+    (after_sack (sack_of c.rebase.new.sack) c.self.inside.sender.flight)
     refl refl refl marks in (
-      acked-aligned c.self.inside.sender c.self.inside.receiver c.self.inside.progress c.self.invariant.0 (sack_of c.rebase.new.sack) c.acked.new.self c.in-Ok.ensures.ok,
-      subst (λ (y : Sides). IsLinked sum (state_from y (record c.self.inside { slots = with_items (with_items c.self.inside.slots c.acknowledge_run.new.slots) c.acknowledge_blocks.new.slots; taken = c.max-taken.result }))) (sym (acked-sides c.self.inside.sender c.self.inside.receiver c.self.inside.progress c.self.invariant.0 (sack_of c.rebase.new.sack) c.acked.new.self c.in-Ok.ensures.ok)) taken.linked,
+      acked-aligned c.self.inside.sender c.self.inside.receiver c.self.inside.progress c.self.invariant.0
+          (sack_of c.rebase.new.sack) c.acked.new.self c.in-Ok.ensures.ok,
+      subst (λ (y : Sides). IsLinked sum (state_from y (record c.self.inside
+          { slots = with_items (with_items c.self.inside.slots c.acknowledge_run.new.slots) c.acknowledge_blocks.new.slots; taken = c.max-taken.result })))
+          (sym (acked-sides c.self.inside.sender c.self.inside.receiver c.self.inside.progress c.self.invariant.0
+          (sack_of c.rebase.new.sack) c.acked.new.self c.in-Ok.ensures.ok)) taken.linked,
     )
 
 pub returns-clause-ok : goal.returns-clause-ok
@@ -155,23 +205,41 @@ returns-clause-ok g c =
     let made = count-made (record_in c.self.inside) c.args.k there.0 (reported sum (state_in c.self.inside) l) there.1 in
     let few = (facts sum (state_in c.self.inside) l).few in
     let before = (facts sum (state_in c.self.inside) l).taken in
-    let count = count-is c.self.inside.first_tsn there.0.cumulative c.in_ok-sack.sack.cumulative_tsn_ack l.setup.first (omega (arith, made, few)) (ap (λ s. s.cumulative_tsn_ack) says) in
+    let count = count-is c.self.inside.first_tsn there.0.cumulative c.in_ok-sack.sack.cumulative_tsn_ack l.setup.first (omega (arith, made, few))
+    (ap (λ s. s.cumulative_tsn_ack) says) in
     let top : c.max-taken.result ≡ max c.self.inside.taken there.0.cumulative = c.max-taken.ensures ∙ ap (max c.self.inside.taken) count in
-    let cum : (sack_of c.rebase.new.sack).cumulative_tsn_ack ≡ cumulative_tsn (record_in c.self.inside) c.max-taken.result = omega (arith, c.rebase.ensures.cumulative, l.setup.first, top, made, few, before) in
-    let covers : (n : ℕ) → 0 < n → is_in_blocks (sack_of c.rebase.new.sack).gap_ack_blocks n ≡ is_in_blocks (wire_sack (record_in c.self.inside) there.0).gap_ack_blocks (n + (c.max-taken.result - there.0.cumulative)) =
-    λ n pos. c.rebase.ensures.covers n pos ∙ ap (λ bs. is_in_blocks bs (n + (c.max-taken.result - (((c.in_ok-sack.sack.cumulative_tsn_ack + (2 ^ 32 - c.self.inside.first_tsn)) % 2 ^ 32 + 1) % 2 ^ 32)))) (ap (λ s. s.gap_ack_blocks) says) ∙ ap (λ m. is_in_blocks (wire_sack (record_in c.self.inside) there.0).gap_ack_blocks (n + (c.max-taken.result - m))) count in
+    let cum : (sack_of c.rebase.new.sack).cumulative_tsn_ack ≡ cumulative_tsn (record_in c.self.inside) c.max-taken.result =
+    omega (arith, c.rebase.ensures.cumulative, l.setup.first, top, made, few, before) in
+    let covers : (n : ℕ) → 0 < n → is_in_blocks (sack_of c.rebase.new.sack).gap_ack_blocks n
+    ≡ is_in_blocks (wire_sack (record_in c.self.inside) there.0).gap_ack_blocks (n + (c.max-taken.result - there.0.cumulative)) =
+    λ n pos. c.rebase.ensures.covers n pos ∙ ap (λ bs.
+    is_in_blocks bs (n + (c.max-taken.result - (((c.in_ok-sack.sack.cumulative_tsn_ack + (2 ^ 32 - c.self.inside.first_tsn)) % 2 ^ 32 + 1) % 2 ^ 32))))
+    (ap (λ s. s.gap_ack_blocks) says)
+    ∙ ap (λ m. is_in_blocks (wire_sack (record_in c.self.inside) there.0).gap_ack_blocks (n + (c.max-taken.result - m))) count in
     let first = marking-first sum (state_in c.self.inside) c.self.inside.slots.items l refl in
     let next = c.acknowledge_run.ensures (record_in c.self.inside) (acknowledged_at (record_in c.self.inside)) (rw c.deref_mut.ensures.value first) in
     let slots1 = with_items_is c.self.inside.slots c.acknowledge_run.new.slots (omega (arith, c.acknowledge_run.auto.slots, c.deref_mut.ensures.len)) in
-    let slots2 = with_items_is (with_items c.self.inside.slots c.acknowledge_run.new.slots) c.acknowledge_blocks.new.slots (omega (arith, c.acknowledge_blocks.auto.slots, c.deref_mut-2.ensures.len)) in
-    let last = c.acknowledge_blocks.ensures (record_in c.self.inside) (and_run (acknowledged_at (record_in c.self.inside)) c.self.inside.taken c.max-taken.result) (rw (c.deref_mut-2.ensures.value ∙ slots1) next) in
-    let marks : IsMarking (record_in c.self.inside) (and_blocks (and_run (acknowledged_at (record_in c.self.inside)) c.self.inside.taken c.max-taken.result) c.max-taken.result c.rebase.new.sack.gap_ack_blocks.items) (with_items (with_items c.self.inside.slots c.acknowledge_run.new.slots) c.acknowledge_blocks.new.slots).items = rw (slots2, ← c.deref.ensures.value) last in
-    let taken = taken-all sum (state_in c.self.inside) c.args.k there.0 l none there.1 (sack_of c.rebase.new.sack) c.max-taken.result top cum covers c.rebase.ensures.begin (after_releases (released_by (sack_of c.rebase.new.sack) c.self.inside.sender.flight) (sides_in c.self.inside).streams) (with_items (with_items c.self.inside.slots c.acknowledge_run.new.slots) c.acknowledge_blocks.new.slots).items (after_sack (sack_of c.rebase.new.sack) c.self.inside.sender.flight)
+    let slots2 = with_items_is (with_items c.self.inside.slots c.acknowledge_run.new.slots) c.acknowledge_blocks.new.slots
+    (omega (arith, c.acknowledge_blocks.auto.slots, c.deref_mut-2.ensures.len)) in
+    let last = c.acknowledge_blocks.ensures (record_in c.self.inside)
+    (and_run (acknowledged_at (record_in c.self.inside)) c.self.inside.taken c.max-taken.result) (rw (c.deref_mut-2.ensures.value ∙ slots1) next) in
+    let marks : IsMarking (record_in c.self.inside) (and_blocks
+    (and_run (acknowledged_at (record_in c.self.inside)) c.self.inside.taken c.max-taken.result) c.max-taken.result c.rebase.new.sack.gap_ack_blocks.items)
+    (with_items (with_items c.self.inside.slots c.acknowledge_run.new.slots) c.acknowledge_blocks.new.slots).items =
+    rw (slots2, ← c.deref.ensures.value) last in
+    let taken = taken-all sum (state_in c.self.inside) c.args.k there.0 l none there.1 (sack_of c.rebase.new.sack) c.max-taken.result top cum covers
+    c.rebase.ensures.begin (after_releases (released_by (sack_of c.rebase.new.sack) c.self.inside.sender.flight) (sides_in c.self.inside).streams)
+    (with_items (with_items c.self.inside.slots c.acknowledge_run.new.slots) c.acknowledge_blocks.new.slots).items
+    (after_sack (sack_of c.rebase.new.sack) c.self.inside.sender.flight)
     refl refl refl marks in
     rw (← c.self.view_is) (record {
       right = ap R.Acked (c.saturating_sub-bytes.ensures
           ∙ ap (λ n. n - c.inflight_bytes.result) (c.inflight_bytes-before.ensures ∙ ap (λ (q : Outbound). bytes_of q.inflight.chunks) c.outbound.ensures)
-          ∙ ap (λ n. bytes_of c.self.inside.sender.flight.queue.inflight.chunks - n) (c.inflight_bytes.ensures ∙ ap (λ (q : Outbound). bytes_of q.inflight.chunks) c.outbound-2.ensures ∙ ap (λ (t : Transmission). bytes_of t.flight.queue.inflight.chunks) c.in-Ok.ensures.ok)
-          ∙ taken.bytes);
-      moves = ap (λ (y : Sides). record_from y (record c.self.inside { slots = with_items (with_items c.self.inside.slots c.acknowledge_run.new.slots) c.acknowledge_blocks.new.slots; taken = c.max-taken.result })) (acked-sides c.self.inside.sender c.self.inside.receiver c.self.inside.progress c.self.invariant.0 (sack_of c.rebase.new.sack) c.acked.new.self c.in-Ok.ensures.ok) ∙ taken.moves;
+          ∙ ap (λ n. bytes_of c.self.inside.sender.flight.queue.inflight.chunks - n) (c.inflight_bytes.ensures
+          ∙ ap (λ (q : Outbound). bytes_of q.inflight.chunks) c.outbound-2.ensures
+          ∙ ap (λ (t : Transmission). bytes_of t.flight.queue.inflight.chunks) c.in-Ok.ensures.ok) ∙ taken.bytes);
+      moves = ap (λ (y : Sides). record_from y (record c.self.inside
+          { slots = with_items (with_items c.self.inside.slots c.acknowledge_run.new.slots) c.acknowledge_blocks.new.slots; taken = c.max-taken.result }))
+          (acked-sides c.self.inside.sender c.self.inside.receiver c.self.inside.progress c.self.invariant.0
+          (sack_of c.rebase.new.sack) c.acked.new.self c.in-Ok.ensures.ok) ∙ taken.moves;
     })

@@ -17,14 +17,17 @@ use Rattle.sctp_link.proofs.link.Link.expire.Goals as goal
 pub returns-in_default-clause-right : goal.returns-in_default-clause-right
 returns-in_default-clause-right g c =
     let none : next_pending c.self.inside.sender.flight.queue.pending ≡ None = search rules in
-    rw (← c.self.view_is) (idle-right (g.C.Checksum.sum c.self.inside.checksum) (state_in c.self.inside) c.self.invariant.1 c.args.now (none-waits (g.C.Checksum.sum c.self.inside.checksum) (state_in c.self.inside) c.self.invariant.1 c.args.now none))
+    rw (← c.self.view_is) (idle-right (g.C.Checksum.sum c.self.inside.checksum) (state_in c.self.inside) c.self.invariant.1 c.args.now
+    (none-waits (g.C.Checksum.sum c.self.inside.checksum) (state_in c.self.inside) c.self.invariant.1 c.args.now none))
 
 pub invariant_of-self : goal.invariant_of-self
 invariant_of-self g c = rw (c.in_default-expire.ensures.idle refl) c.self.invariant
 
 pub returns-in_default-expire-clause-right : goal.returns-in_default-expire-clause-right
 returns-in_default-expire-clause-right g c =
-    rw (c.in_default-expire.ensures.idle refl, ← c.self.view_is) (idle-right (g.C.Checksum.sum c.self.inside.checksum) (state_in c.self.inside) c.self.invariant.1 c.args.now (none-past_deadline (g.C.Checksum.sum c.self.inside.checksum) (state_in c.self.inside) c.self.invariant.1 c.args.now (sym c.in_default-expire.ensures.none)))
+    rw (c.in_default-expire.ensures.idle refl, ← c.self.view_is)
+    (idle-right (g.C.Checksum.sum c.self.inside.checksum) (state_in c.self.inside) c.self.invariant.1 c.args.now (none-past_deadline
+    (g.C.Checksum.sum c.self.inside.checksum) (state_in c.self.inside) c.self.invariant.1 c.args.now (sym c.in_default-expire.ensures.none)))
 
 pub index_mut-requires : goal.index_mut-requires
 index_mut-requires g c =
@@ -36,7 +39,8 @@ index_mut-requires g c =
     let d = c.in-Some.chunk.now in
     let bytes = c.in-Some-expire.gone.bytes in
     let past_deadline : is_some (expiring now c.self.inside.sender.flight.queue) ≡ true = sym c.in-Some-expire.ensures.none in
-    let is : expiring now c.self.inside.sender.flight.queue ≡ Some d = shown-past_deadline now d (next_pending c.self.inside.sender.flight.queue.pending) shown past_deadline in
+    let is : expiring now c.self.inside.sender.flight.queue ≡ Some d =
+    shown-past_deadline now d (next_pending c.self.inside.sender.flight.queue.pending) shown past_deadline in
     let told = some-of _ _ d is c.in-Some-expire.ensures.some in
     let then' : Sides = expired_unsent d bytes (sides_in c.self.inside) in
     let left = rw told.1 at c.in-Some-expire.ensures.released in
@@ -53,20 +57,27 @@ invariant_of-self-2 g c =
     let d = c.in-Some.chunk.now in
     let bytes = c.in-Some-expire.gone.bytes in
     let past_deadline : is_some (expiring now c.self.inside.sender.flight.queue) ≡ true = sym c.in-Some-expire.ensures.none in
-    let is : expiring now c.self.inside.sender.flight.queue ≡ Some d = shown-past_deadline now d (next_pending c.self.inside.sender.flight.queue.pending) shown past_deadline in
+    let is : expiring now c.self.inside.sender.flight.queue ≡ Some d =
+    shown-past_deadline now d (next_pending c.self.inside.sender.flight.queue.pending) shown past_deadline in
     let told = some-of _ _ d is c.in-Some-expire.ensures.some in
     let then' : Sides = expired_unsent d bytes (sides_in c.self.inside) in
     let left = rw told.1 at c.in-Some-expire.ensures.released in
     let r = expires sum x l now d bytes then'.flight.queue shown past_deadline left refl in
     let gone : Message = record c.index_mut.result.now { expired = true } in
     let ms = slice_set c.self.inside.messages.items d.message_id gone in
-    let both = ap (λ k. sides c.expire.new.self c.self.inside.receiver k) (c.record_expiry.ensures ∙ ap (λ s. change_where (has_number s) (with_expiry d.unordered) c.self.inside.progress) told.0)
+    let both = ap (λ k. sides c.expire.new.self c.self.inside.receiver k)
+    (c.record_expiry.ensures ∙ ap (λ s. change_where (has_number s) (with_expiry d.unordered) c.self.inside.progress) told.0)
     ∙ expired-sides c.self.inside.sender c.self.inside.receiver c.self.inside.progress c.self.invariant.0 d bytes now c.expire.new.self told.1 in
     let lt : d.message_id < length c.self.inside.messages.items = omega (arith, r.made, length-mapped message_record c.self.inside.messages.items) in (
-      subst (λ ps. IsAligned c.expire.new.self c.self.inside.receiver ps) (sym (c.record_expiry.ensures ∙ ap (λ s. change_where (has_number s) (with_expiry d.unordered) c.self.inside.progress) told.0)) (expired-aligned c.self.inside.sender c.self.inside.receiver c.self.inside.progress c.self.invariant.0 d bytes now c.expire.new.self told.1),
-      subst (λ (y : Sides). IsLinked sum (record (state_from y c.self.inside) { recorded = record (record_from y c.self.inside) { messages = map message_record ms }; progress = map progress_of ms })) (sym both)
-          (linked-expired sum x l now d.message_id r.is d.stream_identifier bytes d.unordered then'.streams then'.flight.queue r.stream r.kind r.held refl (ap (λ o. expired_of o c.self.inside.sender.flight.queue) (sym is))
-          c.self.inside.messages.items (record c.index_mut.result.now { expired = true }) c.index_mut.result.now refl refl refl lt (ap (λ (t : Message). record t { expired = true }) c.index_mut.ensures.value)),
+      subst (λ ps. IsAligned c.expire.new.self c.self.inside.receiver ps)
+          (sym (c.record_expiry.ensures ∙ ap (λ s. change_where (has_number s) (with_expiry d.unordered) c.self.inside.progress) told.0))
+          (expired-aligned c.self.inside.sender c.self.inside.receiver c.self.inside.progress c.self.invariant.0 d bytes now c.expire.new.self told.1),
+      subst (λ (y : Sides). IsLinked sum (record (state_from y c.self.inside)
+          { recorded = record (record_from y c.self.inside) { messages = map message_record ms }; progress = map progress_of ms })) (sym both)
+          (linked-expired sum x l now d.message_id r.is d.stream_identifier bytes d.unordered then'.streams then'.flight.queue r.stream r.kind r.held refl
+          (ap (λ o. expired_of o c.self.inside.sender.flight.queue) (sym is))
+          c.self.inside.messages.items (record c.index_mut.result.now { expired = true }) c.index_mut.result.now refl refl refl lt
+          (ap (λ (t : Message). record t { expired = true }) c.index_mut.ensures.value)),
     )
 
 pub returns-clause-right : goal.returns-clause-right
@@ -79,18 +90,23 @@ returns-clause-right g c =
     let d = c.in-Some.chunk.now in
     let bytes = c.in-Some-expire.gone.bytes in
     let past_deadline : is_some (expiring now c.self.inside.sender.flight.queue) ≡ true = sym c.in-Some-expire.ensures.none in
-    let is : expiring now c.self.inside.sender.flight.queue ≡ Some d = shown-past_deadline now d (next_pending c.self.inside.sender.flight.queue.pending) shown past_deadline in
+    let is : expiring now c.self.inside.sender.flight.queue ≡ Some d =
+    shown-past_deadline now d (next_pending c.self.inside.sender.flight.queue.pending) shown past_deadline in
     let told = some-of _ _ d is c.in-Some-expire.ensures.some in
     let then' : Sides = expired_unsent d bytes (sides_in c.self.inside) in
     let left = rw told.1 at c.in-Some-expire.ensures.released in
     let r = expires sum x l now d bytes then'.flight.queue shown past_deadline left refl in
     let gone : Message = record c.index_mut.result.now { expired = true } in
     let ms = slice_set c.self.inside.messages.items d.message_id gone in
-    let both = ap (λ k. sides c.expire.new.self c.self.inside.receiver k) (c.record_expiry.ensures ∙ ap (λ s. change_where (has_number s) (with_expiry d.unordered) c.self.inside.progress) told.0)
+    let both = ap (λ k. sides c.expire.new.self c.self.inside.receiver k)
+    (c.record_expiry.ensures ∙ ap (λ s. change_where (has_number s) (with_expiry d.unordered) c.self.inside.progress) told.0)
     ∙ expired-sides c.self.inside.sender c.self.inside.receiver c.self.inside.progress c.self.invariant.0 d bytes now c.expire.new.self told.1 in
     let lt : d.message_id < length c.self.inside.messages.items = omega (arith, r.made, length-mapped message_record c.self.inside.messages.items) in
     rw (told.0, ← c.self.view_is) (record {
       right = r.right;
-      moves = ap (λ (y : Sides). record (record_from y c.self.inside) { messages = map message_record ms }) both ∙ moves-expired sum x l now d.message_id r.is d.stream_identifier bytes d.unordered then'.streams then'.flight.queue r.stream r.kind r.held refl (ap (λ o. expired_of o c.self.inside.sender.flight.queue) (sym is))
-          c.self.inside.messages.items (record c.index_mut.result.now { expired = true }) c.index_mut.result.now refl refl refl lt (ap (λ (t : Message). record t { expired = true }) c.index_mut.ensures.value);
+      moves = ap (λ (y : Sides). record (record_from y c.self.inside) { messages = map message_record ms }) both
+          ∙ moves-expired sum x l now d.message_id r.is d.stream_identifier bytes d.unordered then'.streams then'.flight.queue r.stream r.kind r.held refl
+          (ap (λ o. expired_of o c.self.inside.sender.flight.queue) (sym is))
+          c.self.inside.messages.items (record c.index_mut.result.now { expired = true }) c.index_mut.result.now refl refl refl lt
+          (ap (λ (t : Message). record t { expired = true }) c.index_mut.ensures.value);
     })

@@ -15,6 +15,7 @@ returns g c =
     let base : cumulative_tsn w (cumulative w) ≡ c.self.inside.receiver.cumulative_tsn = sym (ap (λ (r : FilterRecord). r.cumulative) f) in
     rw (← c.self.view_is)
     (ap (λ t. let r : FilterRecord = record { cumulative = t; held = tsns c.filter.result.now.chunks; duplicates = c.filter.result.now.duplicates } in r) base
-    ∙ ap (λ ts. let r : FilterRecord = record { cumulative = c.self.inside.receiver.cumulative_tsn; held = ts; duplicates = c.filter.result.now.duplicates } in r) held
-    ∙ ap (λ ds. let r : FilterRecord = record { cumulative = c.self.inside.receiver.cumulative_tsn; held = c.self.inside.receiver.beyond; duplicates = ds } in r) c.filter.ensures.duplicates
+    ∙ ap (λ ts. let r : FilterRecord = record { cumulative = c.self.inside.receiver.cumulative_tsn; held = ts; duplicates = c.filter.result.now.duplicates } in
+    r) held ∙ ap (λ ds. let r : FilterRecord =
+    record { cumulative = c.self.inside.receiver.cumulative_tsn; held = c.self.inside.receiver.beyond; duplicates = ds } in r) c.filter.ensures.duplicates
     ∙ f)

@@ -14,7 +14,8 @@ use Rattle.sctp_link.specs.Records.{kind_record}
 use Rattle.sctp_link.specs.Skips.{with_names, standing_named, wire_skip}
 use Rattle.sctp_link.proofs.upkeep.Facts.{facts}
 use Rattle.sctp_link.proofs.skipping.SkipComes.{skips-in, names-kept, same-names}
-use Rattle.sctp_link.proofs.skipping.SkipFollowed.{never-refused, followed-aligned, followed-sides, named-aligned, named-sides, sides-then, linked-follow, received-follow}
+use Rattle.sctp_link.proofs.skipping.SkipFollowed.{never-refused, followed-aligned, followed-sides, named-aligned, named-sides, sides-then, linked-follow}
+use Rattle.sctp_link.proofs.skipping.SkipFollowed.{received-follow}
 use Rattle.sctp_link.proofs.link.Link.follow.Goals as goal
 
 pub overflow_add-self : goal.overflow_add-self
@@ -39,18 +40,29 @@ invariant_of-self g c =
     let none : refusal_of w (E.Arrive k) ≡ None = rw (← c.self.view_is) at c.requires.none in
     let counted : skip_counts w upto ≡ true = rw (← c.self.view_is) at c.requires.counts in
     let counts : cumulative w ≤ upto = grind (arith, nat_tests) in
-    let says : (names : List ℕ) → slice_get w.network k ≡ Some (Forward upto names) → forward_tsn_of c.args.chunk.now ≡ wire_skip w upto names = rw (← c.self.view_is) at c.requires.says in
-    let never = never-refused sum x c.self.invariant.1 k upto lies.0 none lies.1 counts (forward_tsn_of c.args.chunk.now) (sides_in c.self.inside) (says lies.0 lies.1) refl in
+    let says : (names : List ℕ) → slice_get w.network k ≡ Some (Forward upto names)
+    → forward_tsn_of c.args.chunk.now ≡ wire_skip w upto names = rw (← c.self.view_is) at c.requires.says in
+    let never = never-refused sum x c.self.invariant.1 k upto lies.0 none lies.1 counts (forward_tsn_of c.args.chunk.now) (sides_in c.self.inside)
+    (says lies.0 lies.1) refl in
     let calls = c.forward_tsn_by_names in
-    let aligned = followed-aligned c.self.inside.sender c.self.inside.receiver calls.new.self c.self.inside.progress c.self.invariant.0 (forward_tsn_of c.args.chunk.now) never calls.result calls.ensures.ok calls.ensures.refused in
-    let followed = followed-sides c.self.inside.sender c.self.inside.receiver calls.new.self c.self.inside.progress c.self.invariant.0 (forward_tsn_of c.args.chunk.now) never calls.result calls.ensures.ok calls.ensures.refused in
-    let names = names-kept c.self.inside.network.items k c.index.result.now c.in-Forward.upto upto c.in-Forward.messages.items lies.0 lies.1 c.index.ensures (ap kind_record c.in-Forward.is) in
-    let standing : c.record_names.new.progress ≡ map (standing_named ms lies.0) c.self.inside.progress = c.record_names.ensures ∙ ap (λ qs. map (standing_named qs c.deref-2.result.now) c.self.inside.progress) c.deref.ensures.value ∙ ap (λ ns. map (standing_named ms ns) c.self.inside.progress) (c.deref-2.ensures.value ∙ names) in
+    let aligned = followed-aligned c.self.inside.sender c.self.inside.receiver calls.new.self c.self.inside.progress c.self.invariant.0
+    (forward_tsn_of c.args.chunk.now) never calls.result calls.ensures.ok calls.ensures.refused in
+    let followed = followed-sides c.self.inside.sender c.self.inside.receiver calls.new.self c.self.inside.progress c.self.invariant.0
+    (forward_tsn_of c.args.chunk.now) never calls.result calls.ensures.ok calls.ensures.refused in
+    let names = names-kept c.self.inside.network.items k c.index.result.now c.in-Forward.upto upto c.in-Forward.messages.items lies.0 lies.1 c.index.ensures
+    (ap kind_record c.in-Forward.is) in
+    let standing : c.record_names.new.progress ≡ map (standing_named ms lies.0) c.self.inside.progress = c.record_names.ensures
+    ∙ ap (λ qs. map (standing_named qs c.deref-2.result.now) c.self.inside.progress) c.deref.ensures.value
+    ∙ ap (λ ns. map (standing_named ms ns) c.self.inside.progress) (c.deref-2.ensures.value ∙ names) in
     let last = sides c.self.inside.sender calls.new.self c.record_names.new.progress in
-    let told : last ≡ record mid { streams = map (with_names ms lies.0) mid.streams } = ap (sides c.self.inside.sender calls.new.self) standing ∙ named-sides c.self.inside.sender calls.new.self c.self.inside.progress aligned ms lies.0 in
-    let both = sides-then sum x c.self.invariant.1 k upto lies.0 none lies.1 counts (forward_tsn_of c.args.chunk.now) (sides_in c.self.inside) (says lies.0 lies.1) refl ms mid last followed told in (
-      subst (λ ps. IsAligned c.self.inside.sender calls.new.self ps) (sym standing) (named-aligned c.self.inside.sender calls.new.self c.self.inside.progress aligned ms lies.0),
-      subst (λ (y : Sides). IsLinked sum (state_from y (record c.self.inside { skipped = upto + 1 }))) (sym both) (linked-follow sum x c.self.invariant.1 k upto lies.0 none lies.1 counts ms refl refl refl (upto + 1) _ refl refl),
+    let told : last ≡ record mid { streams = map (with_names ms lies.0) mid.streams } = ap (sides c.self.inside.sender calls.new.self) standing
+    ∙ named-sides c.self.inside.sender calls.new.self c.self.inside.progress aligned ms lies.0 in
+    let both = sides-then sum x c.self.invariant.1 k upto lies.0 none lies.1 counts (forward_tsn_of c.args.chunk.now) (sides_in c.self.inside)
+    (says lies.0 lies.1) refl ms mid last followed told in (
+      subst (λ ps. IsAligned c.self.inside.sender calls.new.self ps) (sym standing)
+          (named-aligned c.self.inside.sender calls.new.self c.self.inside.progress aligned ms lies.0),
+      subst (λ (y : Sides). IsLinked sum (state_from y (record c.self.inside { skipped = upto + 1 }))) (sym both)
+          (linked-follow sum x c.self.invariant.1 k upto lies.0 none lies.1 counts ms refl refl refl (upto + 1) _ refl refl),
     )
 
 pub returns-clause-followed : goal.returns-clause-followed
@@ -66,14 +78,25 @@ returns-clause-followed g c =
     let none : refusal_of w (E.Arrive k) ≡ None = rw (← c.self.view_is) at c.requires.none in
     let counted : skip_counts w upto ≡ true = rw (← c.self.view_is) at c.requires.counts in
     let counts : cumulative w ≤ upto = grind (arith, nat_tests) in
-    let says : (names : List ℕ) → slice_get w.network k ≡ Some (Forward upto names) → forward_tsn_of c.args.chunk.now ≡ wire_skip w upto names = rw (← c.self.view_is) at c.requires.says in
-    let never = never-refused sum x c.self.invariant.1 k upto lies.0 none lies.1 counts (forward_tsn_of c.args.chunk.now) (sides_in c.self.inside) (says lies.0 lies.1) refl in
+    let says : (names : List ℕ) → slice_get w.network k ≡ Some (Forward upto names)
+    → forward_tsn_of c.args.chunk.now ≡ wire_skip w upto names = rw (← c.self.view_is) at c.requires.says in
+    let never = never-refused sum x c.self.invariant.1 k upto lies.0 none lies.1 counts (forward_tsn_of c.args.chunk.now) (sides_in c.self.inside)
+    (says lies.0 lies.1) refl in
     let calls = c.forward_tsn_by_names in
-    let aligned = followed-aligned c.self.inside.sender c.self.inside.receiver calls.new.self c.self.inside.progress c.self.invariant.0 (forward_tsn_of c.args.chunk.now) never calls.result calls.ensures.ok calls.ensures.refused in
-    let followed = followed-sides c.self.inside.sender c.self.inside.receiver calls.new.self c.self.inside.progress c.self.invariant.0 (forward_tsn_of c.args.chunk.now) never calls.result calls.ensures.ok calls.ensures.refused in
-    let names = names-kept c.self.inside.network.items k c.index.result.now c.in-Forward.upto upto c.in-Forward.messages.items lies.0 lies.1 c.index.ensures (ap kind_record c.in-Forward.is) in
-    let standing : c.record_names.new.progress ≡ map (standing_named ms lies.0) c.self.inside.progress = c.record_names.ensures ∙ ap (λ qs. map (standing_named qs c.deref-2.result.now) c.self.inside.progress) c.deref.ensures.value ∙ ap (λ ns. map (standing_named ms ns) c.self.inside.progress) (c.deref-2.ensures.value ∙ names) in
+    let aligned = followed-aligned c.self.inside.sender c.self.inside.receiver calls.new.self c.self.inside.progress c.self.invariant.0
+    (forward_tsn_of c.args.chunk.now) never calls.result calls.ensures.ok calls.ensures.refused in
+    let followed = followed-sides c.self.inside.sender c.self.inside.receiver calls.new.self c.self.inside.progress c.self.invariant.0
+    (forward_tsn_of c.args.chunk.now) never calls.result calls.ensures.ok calls.ensures.refused in
+    let names = names-kept c.self.inside.network.items k c.index.result.now c.in-Forward.upto upto c.in-Forward.messages.items lies.0 lies.1 c.index.ensures
+    (ap kind_record c.in-Forward.is) in
+    let standing : c.record_names.new.progress ≡ map (standing_named ms lies.0) c.self.inside.progress = c.record_names.ensures
+    ∙ ap (λ qs. map (standing_named qs c.deref-2.result.now) c.self.inside.progress) c.deref.ensures.value
+    ∙ ap (λ ns. map (standing_named ms ns) c.self.inside.progress) (c.deref-2.ensures.value ∙ names) in
     let last = sides c.self.inside.sender calls.new.self c.record_names.new.progress in
-    let told : last ≡ record mid { streams = map (with_names ms lies.0) mid.streams } = ap (sides c.self.inside.sender calls.new.self) standing ∙ named-sides c.self.inside.sender calls.new.self c.self.inside.progress aligned ms lies.0 in
-    let both = sides-then sum x c.self.invariant.1 k upto lies.0 none lies.1 counts (forward_tsn_of c.args.chunk.now) (sides_in c.self.inside) (says lies.0 lies.1) refl ms mid last followed told in
-    rw (← c.self.view_is) (λ others e. ap (λ (y : Sides). record_from y (record c.self.inside { skipped = upto + 1 })) both ∙ received-follow sum x c.self.invariant.1 k upto lies.0 none lies.1 counts ms refl refl refl (upto + 1) refl ∙ ap (receive_skip w upto) (same-names w k upto lies.0 others lies.1 e))
+    let told : last ≡ record mid { streams = map (with_names ms lies.0) mid.streams } = ap (sides c.self.inside.sender calls.new.self) standing
+    ∙ named-sides c.self.inside.sender calls.new.self c.self.inside.progress aligned ms lies.0 in
+    let both = sides-then sum x c.self.invariant.1 k upto lies.0 none lies.1 counts (forward_tsn_of c.args.chunk.now) (sides_in c.self.inside)
+    (says lies.0 lies.1) refl ms mid last followed told in
+    rw (← c.self.view_is) (λ others e. ap (λ (y : Sides). record_from y (record c.self.inside { skipped = upto + 1 })) both
+    ∙ received-follow sum x c.self.invariant.1 k upto lies.0 none lies.1 counts ms refl refl refl (upto + 1) refl
+    ∙ ap (receive_skip w upto) (same-names w k upto lies.0 others lies.1 e))

@@ -30,7 +30,8 @@ returns-then-index-number g c =
     let l = c.self.invariant.1 in
     let inside : c.loop-later.later < length slots = omega (arith, c.loop-later-test.true, c.len-count.ensures) in
     let made : c.loop-later.later < length w.slots = omega (arith, inside, slots-made sum x l slots messages refl refl) in
-    let of : message_of w c.loop-later.later ≡ c.index.result.now.message = slot-of sum x l slots messages refl refl c.loop-later.later c.index.result.now inside c.index.ensures in
+    let of : message_of w c.loop-later.later ≡ c.index.result.now.message =
+    slot-of sum x l slots messages refl refl c.loop-later.later c.index.result.now inside c.index.ensures in
     let mine : belongs_to w c.args.number c.loop-later.later ≡ true = ap (λ m. m == c.args.number) (of ∙ c.if-index-number.true) ∙ same-yes c.args.number in
     rw (← c.self.view_is) (past-some w c.args.number c.args.place c.loop-later.later (omega (arith, c.loop-later.auto.later)) made mine)
 
@@ -44,10 +45,12 @@ loop-later-preserved g c =
     let l = c.self.invariant.1 in
     let inside : c.loop-later.later < length slots = omega (arith, c.loop-later-test.true, c.len-count.ensures) in
     let made : c.loop-later.later < length w.slots = omega (arith, inside, slots-made sum x l slots messages refl refl) in
-    let of : message_of w c.loop-later.later ≡ c.index.result.now.message = slot-of sum x l slots messages refl refl c.loop-later.later c.index.result.now inside c.index.ensures in
+    let of : message_of w c.loop-later.later ≡ c.index.result.now.message =
+    slot-of sum x l slots messages refl refl c.loop-later.later c.index.result.now inside c.index.ensures in
     let other : (c.index.result.now.message == c.args.number) ≡ false = (let h = c.if-index-number.false in grind (arith, nat_tests)) in
     let so-far : (p : ℕ) → c.args.place < p → p < c.loop-later.later → belongs_to w c.args.number p ≡ false = rw (← c.self.view_is) at c.loop-later.invariant in
-    rw (← c.self.view_is) (λ p a b. by_last p c.loop-later.later (omega (arith, b)) (λ lt. so-far p a lt) (λ z. ap (belongs_to w c.args.number) z ∙ ap (λ m. m == c.args.number) of ∙ other))
+    rw (← c.self.view_is) (λ p a b. by_last p c.loop-later.later (omega (arith, b)) (λ lt. so-far p a lt) (λ z. ap (belongs_to w c.args.number) z
+    ∙ ap (λ m. m == c.args.number) of ∙ other))
 
 pub returns : goal.returns
 returns g c =
@@ -58,4 +61,5 @@ returns g c =
     let messages = c.self.inside.messages.items in
     let l = c.self.invariant.1 in
     let so-far : (p : ℕ) → c.args.place < p → p < c.loop-later.later → belongs_to w c.args.number p ≡ false = rw (← c.self.view_is) at c.loop-later.invariant in
-    rw (← c.self.view_is) (past-none w c.args.number c.args.place (λ p a b. so-far p a (omega (arith, b, c.loop-later-test.false, c.len-count.ensures, slots-made sum x l slots messages refl refl))))
+    rw (← c.self.view_is) (past-none w c.args.number c.args.place
+    (λ p a b. so-far p a (omega (arith, b, c.loop-later-test.false, c.len-count.ensures, slots-made sum x l slots messages refl refl))))

@@ -46,7 +46,9 @@ returns-then-not-adds g c =
     let m = c.index-message.result.now in
     let m_is = message-kept sum a c.self.invariant.1 c.args.place k c.index.result.now c.index.ensures m c.index-message.ensures in
     let told : c.is_new.result ≡ is_new w p = rw (← c.self.view_is) at c.is_new.ensures in
-    let told_on : (((message_at w (message_of w p)).stream == c.args.stream) && (message_at w (message_of w p)).ordered && is_new w p) ≡ ((m.stream == c.args.stream) && m.ordered && c.is_new.result) = ap (λ t. (t.stream == c.args.stream) && t.ordered && is_new w p) m_is ∙ ap (λ b. (m.stream == c.args.stream) && m.ordered && b) (sym told) in
+    let told_on : (((message_at w (message_of w p)).stream == c.args.stream) && (message_at w (message_of w p)).ordered && is_new w p)
+    ≡ ((m.stream == c.args.stream) && m.ordered && c.is_new.result) = ap (λ t. (t.stream == c.args.stream) && t.ordered && is_new w p) m_is
+    ∙ ap (λ b. (m.stream == c.args.stream) && m.ordered && b) (sym told) in
     let none : adds_on w c.args.stream p ≡ false = sym (adds-is w c.args.stream p k.carried) ∙ told_on ∙ c.if-not-adds.true in
     rw (← c.self.view_is) (ap (λ b. if b then Some (index_of w (message_of w p)) else None) (sym none))
 
@@ -61,8 +63,11 @@ returns g c =
     let m = c.index-message.result.now in
     let m_is = message-kept sum a c.self.invariant.1 c.args.place k c.index.result.now c.index.ensures m c.index-message.ensures in
     let told : c.is_new.result ≡ is_new w p = rw (← c.self.view_is) at c.is_new.ensures in
-    let told_on : (((message_at w (message_of w p)).stream == c.args.stream) && (message_at w (message_of w p)).ordered && is_new w p) ≡ ((m.stream == c.args.stream) && m.ordered && c.is_new.result) = ap (λ t. (t.stream == c.args.stream) && t.ordered && is_new w p) m_is ∙ ap (λ b. (m.stream == c.args.stream) && m.ordered && b) (sym told) in
+    let told_on : (((message_at w (message_of w p)).stream == c.args.stream) && (message_at w (message_of w p)).ordered && is_new w p)
+    ≡ ((m.stream == c.args.stream) && m.ordered && c.is_new.result) = ap (λ t. (t.stream == c.args.stream) && t.ordered && is_new w p) m_is
+    ∙ ap (λ b. (m.stream == c.args.stream) && m.ordered && b) (sym told) in
     let on : adds_on w c.args.stream p ≡ true = sym (adds-is w c.args.stream p k.carried) ∙ told_on ∙ c.if-not-adds.false in
     let ordered = on-ordered w c.args.stream (message_of w p) (both (is_new w p) (is_ordered_on w c.args.stream (message_of w p)) on).1 in
     let i = index-kept sum a c.self.invariant.1 p k c.index.result.now c.index.ensures m c.index-message.ensures in
-    rw (← c.self.view_is) (ap Some (sym i ∙ come-index sum (state_in a) c.self.invariant.1 p k.carried ordered) ∙ ap (λ b. if b then Some (index_of w (message_of w p)) else None) (sym on))
+    rw (← c.self.view_is) (ap Some (sym i ∙ come-index sum (state_in a) c.self.invariant.1 p k.carried ordered)
+    ∙ ap (λ b. if b then Some (index_of w (message_of w p)) else None) (sym on))

@@ -12,7 +12,8 @@ index-requires g c =
     let x = state_in c.self.inside in
     let slots = c.self.inside.slots.items in
     let messages = c.self.inside.messages.items in
-    let r : (s : ℕ) × (n : ℕ) × (is_held (record_in c.self.inside) s n ≡ true) × (c.args.set.now ≡ set_of (record_in c.self.inside) n) = rw (← c.self.view_is) at c.requires in
+    let r : (s : ℕ) × (n : ℕ) × (is_held (record_in c.self.inside) s n ≡ true)
+    × (c.args.set.now ≡ set_of (record_in c.self.inside) n) = rw (← c.self.view_is) at c.requires in
     let begins = held-begins sum x c.self.invariant.1 slots messages refl refl r.0 r.1 c.args.set.now c.fragments.result.now c.fragments.ensures r.2 r.3 in
     let made = held-made sum x c.self.invariant.1 slots messages refl refl r.0 r.1 r.2 in
     let first = ap (λ (y : ChunkPayloadData). y.tsn) (c.deref.ensures ∙ c.index-fragments-0.is) in
@@ -24,7 +25,8 @@ index-requires-2 g c =
     let x = state_in c.self.inside in
     let slots = c.self.inside.slots.items in
     let messages = c.self.inside.messages.items in
-    let r : (s : ℕ) × (n : ℕ) × (is_held (record_in c.self.inside) s n ≡ true) × (c.args.set.now ≡ set_of (record_in c.self.inside) n) = rw (← c.self.view_is) at c.requires in
+    let r : (s : ℕ) × (n : ℕ) × (is_held (record_in c.self.inside) s n ≡ true)
+    × (c.args.set.now ≡ set_of (record_in c.self.inside) n) = rw (← c.self.view_is) at c.requires in
     let begins = held-begins sum x c.self.invariant.1 slots messages refl refl r.0 r.1 c.args.set.now c.fragments.result.now c.fragments.ensures r.2 r.3 in
     let made = held-made sum x c.self.invariant.1 slots messages refl refl r.0 r.1 r.2 in
     let first = ap (λ (y : ChunkPayloadData). y.tsn) (c.deref.ensures ∙ c.index-fragments-0.is) in

@@ -20,12 +20,15 @@ use Rattle.sctp_link.proofs.link.Link.index_range.Goals as goal
 pub unreachable-requires : goal.unreachable-requires
 unreachable-requires g c =
     let o : is_open (record_in c.self.inside) c.args.stream ≡ true = rw (← c.self.view_is) at c.requires in
-    not_both (sym (none-open (record_in c.self.inside) c.args.stream (sides_in c.self.inside).streams refl (none-told (find (has_number c.args.stream) (sides_in c.self.inside).streams) (next-told c.self.inside.sender c.self.inside.receiver c.self.inside.progress c.self.invariant.0 c.args.stream None c.in_default.ensures))) ∙ o)
+    not_both (sym (none-open (record_in c.self.inside) c.args.stream (sides_in c.self.inside).streams refl
+    (none-told (find (has_number c.args.stream) (sides_in c.self.inside).streams)
+    (next-told c.self.inside.sender c.self.inside.receiver c.self.inside.progress c.self.invariant.0 c.args.stream None c.in_default.ensures))) ∙ o)
 
 pub unreachable-requires-in_default-reassembly : goal.unreachable-requires-in_default-reassembly
 unreachable-requires-in_default-reassembly g c =
     let o : is_open (record_in c.self.inside) c.args.stream ≡ true = rw (← c.self.view_is) at c.requires in
-    let none = queue-none c.args.stream (sides_in c.self.inside).streams (inbound-told c.self.inside.sender c.self.inside.receiver c.self.inside.progress c.self.invariant.0 (λ (l : InboundStream). l.queue) c.args.stream None c.in_default-reassembly.ensures) in
+    let none = queue-none c.args.stream (sides_in c.self.inside).streams (inbound-told c.self.inside.sender c.self.inside.receiver c.self.inside.progress
+    c.self.invariant.0 (λ (l : InboundStream). l.queue) c.args.stream None c.in_default-reassembly.ensures) in
     not_both (sym (none-open (record_in c.self.inside) c.args.stream (sides_in c.self.inside).streams refl none) ∙ o)
 
 -- What a link tells of a stream: where it stands, which index is expected next, and the ordered sets that are held.
@@ -37,7 +40,8 @@ record IsTold (x : State) (s next : ℕ) (sets : List ChunkSet) : Type 0 where
   next_is : next ≡ (slice_index_or x.open_streams at d).next
   held : sets ≡ (slice_index_or x.open_streams at d).inbound.queue.held.ordered
 
-told-at : (x : State) (s next : ℕ) (q : ReassemblyState) {sets : List ChunkSet} → Some next ≡ option_map (λ l. l.next) (find (has_number s) x.open_streams) → Some q ≡ option_map (λ l. l.inbound.queue) (find (has_number s) x.open_streams) → sets ≡ q.held.ordered → IsTold x s next sets
+told-at : (x : State) (s next : ℕ) (q : ReassemblyState) {sets : List ChunkSet} → Some next ≡ option_map (λ l. l.next) (find (has_number s) x.open_streams)
+    → Some q ≡ option_map (λ l. l.inbound.queue) (find (has_number s) x.open_streams) → sets ≡ q.held.ordered → IsTold x s next sets
 told-at x s next q next_told queue_told sets_are =
     let told = told-next (find (has_number s) x.open_streams) next next_told in
     let place = placed s x.open_streams told.0 told.1.0 in
@@ -48,11 +52,14 @@ told-at x s next q next_told queue_told sets_are =
       lt = place.1.0;
       found = told.1.0 ∙ ap (λ l. Some l) (sym is);
       next_is = told.1.1 ∙ ap (λ (l : OpenStream). l.next) (sym is);
-      held = sets_are ∙ ap (λ (r : ReassemblyState). r.held.ordered) (told-queue (find (has_number s) x.open_streams) told.0 q told.1.0 queue_told) ∙ ap (λ (l : OpenStream). l.inbound.queue.held.ordered) (sym is);
+      held = sets_are ∙ ap (λ (r : ReassemblyState). r.held.ordered) (told-queue (find (has_number s) x.open_streams) told.0 q told.1.0 queue_told)
+          ∙ ap (λ (l : OpenStream). l.inbound.queue.held.ordered) (sym is);
     }
 
 -- The set at a place is of the message that is held there.
-set-told : (sum : List ℕ → ℕ) (x : State) (l : IsLinked sum x) (s next : ℕ) (sets : List ChunkSet) (t : IsTold x s next sets) (i : ℕ) (e : ChunkSet) → i < length sets → e ≡ slice_index_or sets i e → (is_held x.recorded s (slice_index_or (held_on x.recorded s) i 0) ≡ true) × (e ≡ set_of x.recorded (slice_index_or (held_on x.recorded s) i 0))
+set-told : (sum : List ℕ → ℕ) (x : State) (l : IsLinked sum x) (s next : ℕ) (sets : List ChunkSet) (t : IsTold x s next sets) (i : ℕ) (e : ChunkSet)
+    → i < length sets → e ≡ slice_index_or sets i e
+    → (is_held x.recorded s (slice_index_or (held_on x.recorded s) i 0) ≡ true) × (e ≡ set_of x.recorded (slice_index_or (held_on x.recorded s) i 0))
 set-told sum x l s next sets t i e lt is =
     let h = set-held sum x l t.at s t.d t.lt t.found i e (omega (arith, lt, ap length t.held)) in
     (h.0, is ∙ ap (λ ys. slice_index_or ys i e) t.held ∙ h.1)
@@ -60,15 +67,23 @@ set-told sum x l s next sets t i e lt is =
 pub returns-in_default-front-clause-low : goal.returns-in_default-front-clause-low
 returns-in_default-front-clause-low g c =
     let x = state_in c.self.inside in
-    let t = told-at x c.args.stream c.in-Some.next c.in-Some-reassembly.queue.now (next-told c.self.inside.sender c.self.inside.receiver c.self.inside.progress c.self.invariant.0 c.args.stream (Some c.in-Some.next) c.in-Some.ensures) (inbound-told c.self.inside.sender c.self.inside.receiver c.self.inside.progress c.self.invariant.0 (λ (l : InboundStream). l.queue) c.args.stream (Some c.in-Some-reassembly.queue.now) c.in-Some-reassembly.ensures) c.ordered-held.ensures in
-    let empty : length (slice_index_or x.open_streams t.at t.d).inbound.queue.held.ordered ≡ 0 = omega (arith, ap length t.held, none-there (deque_len c.ordered-held.result.now) c.in_default-front.ensures.variant.1) in
+    let t = told-at x c.args.stream c.in-Some.next c.in-Some-reassembly.queue.now
+    (next-told c.self.inside.sender c.self.inside.receiver c.self.inside.progress c.self.invariant.0 c.args.stream (Some c.in-Some.next) c.in-Some.ensures)
+    (inbound-told c.self.inside.sender c.self.inside.receiver c.self.inside.progress c.self.invariant.0 (λ (l : InboundStream). l.queue) c.args.stream
+    (Some c.in-Some-reassembly.queue.now) c.in-Some-reassembly.ensures) c.ordered-held.ensures in
+    let empty : length (slice_index_or x.open_streams t.at t.d).inbound.queue.held.ordered ≡ 0 =
+    omega (arith, ap length t.held, none-there (deque_len c.ordered-held.result.now) c.in_default-front.ensures.variant.1) in
     rw (← c.self.view_is) (t.next_is ∙ (ends-empty (g.C.Checksum.sum c.self.inside.checksum) x c.self.invariant.1 t.at c.args.stream t.d t.lt t.found empty).0)
 
 pub returns-in_default-front-clause-high : goal.returns-in_default-front-clause-high
 returns-in_default-front-clause-high g c =
     let x = state_in c.self.inside in
-    let t = told-at x c.args.stream c.in-Some.next c.in-Some-reassembly.queue.now (next-told c.self.inside.sender c.self.inside.receiver c.self.inside.progress c.self.invariant.0 c.args.stream (Some c.in-Some.next) c.in-Some.ensures) (inbound-told c.self.inside.sender c.self.inside.receiver c.self.inside.progress c.self.invariant.0 (λ (l : InboundStream). l.queue) c.args.stream (Some c.in-Some-reassembly.queue.now) c.in-Some-reassembly.ensures) c.ordered-held.ensures in
-    let empty : length (slice_index_or x.open_streams t.at t.d).inbound.queue.held.ordered ≡ 0 = omega (arith, ap length t.held, none-there (deque_len c.ordered-held.result.now) c.in_default-front.ensures.variant.1) in
+    let t = told-at x c.args.stream c.in-Some.next c.in-Some-reassembly.queue.now
+    (next-told c.self.inside.sender c.self.inside.receiver c.self.inside.progress c.self.invariant.0 c.args.stream (Some c.in-Some.next) c.in-Some.ensures)
+    (inbound-told c.self.inside.sender c.self.inside.receiver c.self.inside.progress c.self.invariant.0 (λ (l : InboundStream). l.queue) c.args.stream
+    (Some c.in-Some-reassembly.queue.now) c.in-Some-reassembly.ensures) c.ordered-held.ensures in
+    let empty : length (slice_index_or x.open_streams t.at t.d).inbound.queue.held.ordered ≡ 0 =
+    omega (arith, ap length t.held, none-there (deque_len c.ordered-held.result.now) c.in_default-front.ensures.variant.1) in
     rw (← c.self.view_is) (t.next_is ∙ (ends-empty (g.C.Checksum.sum c.self.inside.checksum) x c.self.invariant.1 t.at c.args.stream t.d t.lt t.found empty).1)
 
 pub index_of-requires : goal.index_of-requires
@@ -76,7 +91,10 @@ index_of-requires g c =
     let sum = g.C.Checksum.sum c.self.inside.checksum in
     let x = state_in c.self.inside in
     let sets = c.ordered-held.result.now.items in
-    let t = told-at x c.args.stream c.in-Some.next c.in-Some-reassembly.queue.now (next-told c.self.inside.sender c.self.inside.receiver c.self.inside.progress c.self.invariant.0 c.args.stream (Some c.in-Some.next) c.in-Some.ensures) (inbound-told c.self.inside.sender c.self.inside.receiver c.self.inside.progress c.self.invariant.0 (λ (l : InboundStream). l.queue) c.args.stream (Some c.in-Some-reassembly.queue.now) c.in-Some-reassembly.ensures) c.ordered-held.ensures in
+    let t = told-at x c.args.stream c.in-Some.next c.in-Some-reassembly.queue.now
+    (next-told c.self.inside.sender c.self.inside.receiver c.self.inside.progress c.self.invariant.0 c.args.stream (Some c.in-Some.next) c.in-Some.ensures)
+    (inbound-told c.self.inside.sender c.self.inside.receiver c.self.inside.progress c.self.invariant.0 (λ (l : InboundStream). l.queue) c.args.stream
+    (Some c.in-Some-reassembly.queue.now) c.in-Some-reassembly.ensures) c.ordered-held.ensures in
     let some : 0 < length sets = omega (arith, c.in-Some-front.ensures.variant.0 refl) in
     let h = set-told sum x c.self.invariant.1 c.args.stream c.in-Some.next sets t 0 c.in-Some-front.first.now some c.in-Some-front.ensures.lookup in
     rw (← c.self.view_is) (c.args.stream, slice_index_or (held_on x.recorded c.args.stream) 0 0, h.0, h.1)
@@ -86,11 +104,15 @@ index_of-requires-2 g c =
     let sum = g.C.Checksum.sum c.self.inside.checksum in
     let x = state_in c.self.inside in
     let sets = c.ordered-held.result.now.items in
-    let t = told-at x c.args.stream c.in-Some.next c.in-Some-reassembly.queue.now (next-told c.self.inside.sender c.self.inside.receiver c.self.inside.progress c.self.invariant.0 c.args.stream (Some c.in-Some.next) c.in-Some.ensures) (inbound-told c.self.inside.sender c.self.inside.receiver c.self.inside.progress c.self.invariant.0 (λ (l : InboundStream). l.queue) c.args.stream (Some c.in-Some-reassembly.queue.now) c.in-Some-reassembly.ensures) c.ordered-held.ensures in
+    let t = told-at x c.args.stream c.in-Some.next c.in-Some-reassembly.queue.now
+    (next-told c.self.inside.sender c.self.inside.receiver c.self.inside.progress c.self.invariant.0 c.args.stream (Some c.in-Some.next) c.in-Some.ensures)
+    (inbound-told c.self.inside.sender c.self.inside.receiver c.self.inside.progress c.self.invariant.0 (λ (l : InboundStream). l.queue) c.args.stream
+    (Some c.in-Some-reassembly.queue.now) c.in-Some-reassembly.ensures) c.ordered-held.ensures in
     let some : 0 < length sets = omega (arith, c.in-Some-front.ensures.variant.0 refl) in
     let many : deque_len c.ordered-held.result.now ≡ length sets = omega arith in
     let last = c.in-Some-back.last.now in
-    let h = set-told sum x c.self.invariant.1 c.args.stream c.in-Some.next sets t (length sets - 1) last (omega (arith, some)) (c.in-Some-back.ensures.lookup ∙ ap (λ k. slice_index_or sets (k - 1) last) many) in
+    let h = set-told sum x c.self.invariant.1 c.args.stream c.in-Some.next sets t (length sets - 1) last (omega (arith, some))
+    (c.in-Some-back.ensures.lookup ∙ ap (λ k. slice_index_or sets (k - 1) last) many) in
     rw (← c.self.view_is) (c.args.stream, slice_index_or (held_on x.recorded c.args.stream) (length sets - 1) 0, h.0, h.1)
 
 pub returns-clause-low : goal.returns-clause-low
@@ -98,22 +120,34 @@ returns-clause-low g c =
     let sum = g.C.Checksum.sum c.self.inside.checksum in
     let x = state_in c.self.inside in
     let sets = c.ordered-held.result.now.items in
-    let t = told-at x c.args.stream c.in-Some.next c.in-Some-reassembly.queue.now (next-told c.self.inside.sender c.self.inside.receiver c.self.inside.progress c.self.invariant.0 c.args.stream (Some c.in-Some.next) c.in-Some.ensures) (inbound-told c.self.inside.sender c.self.inside.receiver c.self.inside.progress c.self.invariant.0 (λ (l : InboundStream). l.queue) c.args.stream (Some c.in-Some-reassembly.queue.now) c.in-Some-reassembly.ensures) c.ordered-held.ensures in
+    let t = told-at x c.args.stream c.in-Some.next c.in-Some-reassembly.queue.now
+    (next-told c.self.inside.sender c.self.inside.receiver c.self.inside.progress c.self.invariant.0 c.args.stream (Some c.in-Some.next) c.in-Some.ensures)
+    (inbound-told c.self.inside.sender c.self.inside.receiver c.self.inside.progress c.self.invariant.0 (λ (l : InboundStream). l.queue) c.args.stream
+    (Some c.in-Some-reassembly.queue.now) c.in-Some-reassembly.ensures) c.ordered-held.ensures in
     let some : 0 < length sets = omega (arith, c.in-Some-front.ensures.variant.0 refl) in
     let h = set-told sum x c.self.invariant.1 c.args.stream c.in-Some.next sets t 0 c.in-Some-front.first.now some c.in-Some-front.ensures.lookup in
-    let told : (s n : ℕ) → is_held x.recorded s n ≡ true → c.in-Some-front.first.now ≡ set_of x.recorded n → c.index_of.result ≡ index_of x.recorded n = rw (← c.self.view_is) at c.index_of.ensures in
-    rw (← c.self.view_is) (c.min-low.ensures ∙ ap (λ n. min n c.index_of.result) t.next_is ∙ low-front sum x c.self.invariant.1 t.at c.args.stream t.d t.lt t.found c.index_of.result (omega (arith, some, ap length t.held)) (told c.args.stream (slice_index_or (held_on x.recorded c.args.stream) 0 0) h.0 h.1))
+    let told : (s n : ℕ) → is_held x.recorded s n ≡ true → c.in-Some-front.first.now ≡ set_of x.recorded n
+    → c.index_of.result ≡ index_of x.recorded n = rw (← c.self.view_is) at c.index_of.ensures in
+    rw (← c.self.view_is) (c.min-low.ensures ∙ ap (λ n. min n c.index_of.result) t.next_is ∙ low-front sum x c.self.invariant.1 t.at c.args.stream t.d t.lt
+    t.found c.index_of.result (omega (arith, some, ap length t.held)) (told c.args.stream (slice_index_or (held_on x.recorded c.args.stream) 0 0) h.0 h.1))
 
 pub returns-clause-high : goal.returns-clause-high
 returns-clause-high g c =
     let sum = g.C.Checksum.sum c.self.inside.checksum in
     let x = state_in c.self.inside in
     let sets = c.ordered-held.result.now.items in
-    let t = told-at x c.args.stream c.in-Some.next c.in-Some-reassembly.queue.now (next-told c.self.inside.sender c.self.inside.receiver c.self.inside.progress c.self.invariant.0 c.args.stream (Some c.in-Some.next) c.in-Some.ensures) (inbound-told c.self.inside.sender c.self.inside.receiver c.self.inside.progress c.self.invariant.0 (λ (l : InboundStream). l.queue) c.args.stream (Some c.in-Some-reassembly.queue.now) c.in-Some-reassembly.ensures) c.ordered-held.ensures in
+    let t = told-at x c.args.stream c.in-Some.next c.in-Some-reassembly.queue.now
+    (next-told c.self.inside.sender c.self.inside.receiver c.self.inside.progress c.self.invariant.0 c.args.stream (Some c.in-Some.next) c.in-Some.ensures)
+    (inbound-told c.self.inside.sender c.self.inside.receiver c.self.inside.progress c.self.invariant.0 (λ (l : InboundStream). l.queue) c.args.stream
+    (Some c.in-Some-reassembly.queue.now) c.in-Some-reassembly.ensures) c.ordered-held.ensures in
     let some : 0 < length sets = omega (arith, c.in-Some-front.ensures.variant.0 refl) in
     let many : deque_len c.ordered-held.result.now ≡ length sets = omega arith in
     let last = c.in-Some-back.last.now in
-    let h = set-told sum x c.self.invariant.1 c.args.stream c.in-Some.next sets t (length sets - 1) last (omega (arith, some)) (c.in-Some-back.ensures.lookup ∙ ap (λ k. slice_index_or sets (k - 1) last) many) in
-    let told : (s n : ℕ) → is_held x.recorded s n ≡ true → last ≡ set_of x.recorded n → c.index_of-2.result ≡ index_of x.recorded n = rw (← c.self.view_is) at c.index_of-2.ensures in
+    let h = set-told sum x c.self.invariant.1 c.args.stream c.in-Some.next sets t (length sets - 1) last (omega (arith, some))
+    (c.in-Some-back.ensures.lookup ∙ ap (λ k. slice_index_or sets (k - 1) last) many) in
+    let told : (s n : ℕ) → is_held x.recorded s n ≡ true → last ≡ set_of x.recorded n
+    → c.index_of-2.result ≡ index_of x.recorded n = rw (← c.self.view_is) at c.index_of-2.ensures in
     let is = told c.args.stream (slice_index_or (held_on x.recorded c.args.stream) (length sets - 1) 0) h.0 h.1 in
-    rw (← c.self.view_is) (c.max-high.ensures ∙ ap (λ n. max n c.index_of-2.result) t.next_is ∙ high-back sum x c.self.invariant.1 t.at c.args.stream t.d t.lt t.found c.index_of-2.result (omega (arith, some, ap length t.held)) (is ∙ ap (λ (ys : List ChunkSet). index_of x.recorded (slice_index_or (held_on x.recorded c.args.stream) (length ys - 1) 0)) t.held))
+    rw (← c.self.view_is) (c.max-high.ensures ∙ ap (λ n. max n c.index_of-2.result) t.next_is
+    ∙ high-back sum x c.self.invariant.1 t.at c.args.stream t.d t.lt t.found c.index_of-2.result (omega (arith, some, ap length t.held)) (is
+    ∙ ap (λ (ys : List ChunkSet). index_of x.recorded (slice_index_or (held_on x.recorded c.args.stream) (length ys - 1) 0)) t.held))

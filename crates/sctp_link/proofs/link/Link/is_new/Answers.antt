@@ -17,7 +17,10 @@ returns-then-cumulative-place g c =
     let messages = c.self.inside.messages.items in
     let made : c.args.place < length w.slots = rw (← c.self.view_is) at c.requires in
     let inside : c.args.place < length slots = omega (arith, made, slots-made sum x c.self.invariant.1 slots messages refl refl) in
-    let at-place : arrived_at w c.args.place ≡ c.index.result.now.arrived = ap (λ t. t.arrived) (slot-raw sum x c.self.invariant.1 slots messages refl refl c.args.place c.index.result.now inside) ∙ ap (λ (t : Slot). t.arrived) (sym c.index.ensures) in
-    let at : cumulative w ≤ c.args.place = omega (arith, c.if-cumulative-place.true, c.count_of-cumulative.ensures, c.cumulative_tsn.ensures, cumulative-place sum x c.self.invariant.1 0) in
+    let at-place : arrived_at w c.args.place ≡ c.index.result.now.arrived = ap (λ t. t.arrived)
+    (slot-raw sum x c.self.invariant.1 slots messages refl refl c.args.place c.index.result.now inside)
+    ∙ ap (λ (t : Slot). t.arrived) (sym c.index.ensures) in
+    let at : cumulative w ≤ c.args.place =
+    omega (arith, c.if-cumulative-place.true, c.count_of-cumulative.ensures, c.cumulative_tsn.ensures, cumulative-place sum x c.self.invariant.1 0) in
     let past : nat_le (cumulative w) c.args.place ≡ true = grind (arith, nat_tests) in
     rw (← c.self.view_is) (sym (ap (λ b. b && not (arrived_at w c.args.place)) past ∙ ap not at-place))

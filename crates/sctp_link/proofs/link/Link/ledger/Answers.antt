@@ -10,4 +10,6 @@ use Rattle.sctp_link.proofs.link.Link.ledger.Goals as goal
 pub returns : goal.returns
 returns g c =
     let now = ledger-now (g.C.Checksum.sum c.self.inside.checksum) (state_in c.self.inside) c.self.invariant.1 in
-    rw (← c.self.view_is) (same-ledger c.self.invariant.1.written (c.pending_bytes-pending.ensures ∙ ap (λ (q : Outbound). total_bytes q.pending) (c.outbound.ensures)) (c.inflight_bytes-in_flight.ensures ∙ ap (λ (q : Outbound). bytes_of q.inflight.chunks) (c.outbound-2.ensures)) (omega (arith, c.saturating_sub-2.ensures, c.saturating_sub.ensures)) ∙ sym (ap ledger_of now))
+    rw (← c.self.view_is) (same-ledger c.self.invariant.1.written (c.pending_bytes-pending.ensures
+    ∙ ap (λ (q : Outbound). total_bytes q.pending) (c.outbound.ensures)) (c.inflight_bytes-in_flight.ensures ∙ ap (λ (q : Outbound).
+    bytes_of q.inflight.chunks) (c.outbound-2.ensures)) (omega (arith, c.saturating_sub-2.ensures, c.saturating_sub.ensures)) ∙ sym (ap ledger_of now))

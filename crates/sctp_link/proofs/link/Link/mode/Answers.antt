@@ -22,9 +22,11 @@ invariant_of-self g c =
     let made = mode-set c.set_mode.result c.args.stream c.args.unordered c.args.reliability c.args.value a.sender c.set_mode.new.self s.ok s.refused s.err in
     let f = with_mode c.args.unordered c.args.reliability c.args.value in (
       on-aligned a.sender a.receiver a.progress c.self.invariant.0 c.args.stream f a.sender.flight c.set_mode.new.self made (λ l. refl),
-      subst (λ (y : Sides). IsLinked sum (state_from y a)) (sym (on-sides a.sender a.receiver a.progress c.self.invariant.0 c.args.stream f a.sender.flight c.set_mode.new.self made))
+      subst (λ (y : Sides). IsLinked sum (state_from y a))
+          (sym (on-sides a.sender a.receiver a.progress c.self.invariant.0 c.args.stream f a.sender.flight c.set_mode.new.self made))
           (moved _ _ (after_mode (record_in a) c.args.stream c.args.unordered c.args.reliability c.args.value)
-          (ap (λ rs. record (record_in a) { streams = rs }) (mode-moves sum x c.self.invariant.1 c.args.stream c.args.unordered c.args.reliability c.args.value ok refl))
+          (ap (λ rs. record (record_in a) { streams = rs })
+          (mode-moves sum x c.self.invariant.1 c.args.stream c.args.unordered c.args.reliability c.args.value ok refl))
           (linked-mode sum x c.self.invariant.1 c.args.stream c.args.unordered c.args.reliability c.args.value ok refl)),
     )
 
@@ -32,7 +34,8 @@ pub returns-clause-right : goal.returns-clause-right
 returns-clause-right g c =
     let a = c.self.inside in
     let ok : refusal_of (record_in a) (E.Mode c.args.stream c.args.unordered c.args.reliability c.args.value) ≡ None = rw (← c.self.view_is) at c.requires in
-    let moves = mode-moves (g.C.Checksum.sum a.checksum) (state_in a) c.self.invariant.1 c.args.stream c.args.unordered c.args.reliability c.args.value ok refl in
+    let moves = mode-moves (g.C.Checksum.sum a.checksum)
+    (state_in a) c.self.invariant.1 c.args.stream c.args.unordered c.args.reliability c.args.value ok refl in
     let s = c.set_mode.ensures in
     let made = mode-set c.set_mode.result c.args.stream c.args.unordered c.args.reliability c.args.value a.sender c.set_mode.new.self s.ok s.refused s.err in
     let f = with_mode c.args.unordered c.args.reliability c.args.value in

@@ -30,7 +30,8 @@ invariant_of-self-then-is_err-2 g c =
     let t = sender-undone a.sender a.receiver a.progress c.self.invariant.0 s none c.close.new.self (c.close.ensures ∙ ap (S.close_stream s) sent) in
     let r = on-error c.open-2.result c.is_err-2.result c.is_err-2.ensures.value c.if-is_err-2.true c.open-2.ensures.err in (
       aligned-same a.sender a.receiver a.progress c.close.new.self c.open-2.new.self a.progress t r refl c.self.invariant.0,
-      subst (λ (y : Sides). IsLinked (g.C.Checksum.sum a.checksum) (state_from y a)) (sym (sides-same a.sender a.receiver a.progress c.close.new.self c.open-2.new.self a.progress t r refl)) c.self.invariant.1,
+      subst (λ (y : Sides). IsLinked (g.C.Checksum.sum a.checksum) (state_from y a))
+          (sym (sides-same a.sender a.receiver a.progress c.close.new.self c.open-2.new.self a.progress t r refl)) c.self.invariant.1,
     )
 
 pub returns-then-is_err-2-clause-err : goal.returns-then-is_err-2-clause-err
@@ -42,7 +43,8 @@ returns-then-is_err-2-clause-err g c =
     let sent = on-ok c.open.result c.is_err.result c.is_err.ensures.value c.if-is_err.false c.open.ensures.ok in
     let t = sender-undone a.sender a.receiver a.progress c.self.invariant.0 s none c.close.new.self (c.close.ensures ∙ ap (S.close_stream s) sent) in
     let r = on-error c.open-2.result c.is_err-2.result c.is_err-2.ensures.value c.if-is_err-2.true c.open-2.ensures.err in
-    rw (← c.self.view_is) (ap (λ (y : Sides). record_from y a) (sides-same a.sender a.receiver a.progress c.close.new.self c.open-2.new.self a.progress t r refl))
+    rw (← c.self.view_is)
+    (ap (λ (y : Sides). record_from y a) (sides-same a.sender a.receiver a.progress c.close.new.self c.open-2.new.self a.progress t r refl))
 
 pub invariant_of-self-then-is_err-3 : goal.invariant_of-self-then-is_err-3
 invariant_of-self-then-is_err-3 g c =
@@ -52,11 +54,15 @@ invariant_of-self-then-is_err-3 g c =
     let none = new-number (g.C.Checksum.sum a.checksum) (state_in a) c.self.invariant.1 s ok refl in
     let sent = on-ok c.open.result c.is_err.result c.is_err.ensures.value c.if-is_err.false c.open.ensures.ok in
     let received = on-ok c.open-2.result c.is_err-2.result c.is_err-2.ensures.value c.if-is_err-2.false c.open-2.ensures.ok in
-    let t = sender-undone a.sender a.receiver a.progress c.self.invariant.0 s none c.close-then-is_err-3-2.new.self (c.close-then-is_err-3-2.ensures ∙ ap (S.close_stream s) sent) in
-    let r = receiver-undone a.sender a.receiver a.progress c.self.invariant.0 s none c.close-then-is_err-3.new.self (c.close-then-is_err-3.ensures ∙ ap (R.close_stream s) received) in
+    let t = sender-undone a.sender a.receiver a.progress c.self.invariant.0 s none c.close-then-is_err-3-2.new.self (c.close-then-is_err-3-2.ensures
+    ∙ ap (S.close_stream s) sent) in
+    let r = receiver-undone a.sender a.receiver a.progress c.self.invariant.0 s none c.close-then-is_err-3.new.self (c.close-then-is_err-3.ensures
+    ∙ ap (R.close_stream s) received) in
     let p = on-error c.open-3.result c.is_err-3.result c.is_err-3.ensures.value c.if-is_err-3.true c.open-3.ensures.err in (
       aligned-same a.sender a.receiver a.progress c.close-then-is_err-3-2.new.self c.close-then-is_err-3.new.self c.open-3.new.self t r p c.self.invariant.0,
-      subst (λ (y : Sides). IsLinked (g.C.Checksum.sum a.checksum) (state_from y a)) (sym (sides-same a.sender a.receiver a.progress c.close-then-is_err-3-2.new.self c.close-then-is_err-3.new.self c.open-3.new.self t r p)) c.self.invariant.1,
+      subst (λ (y : Sides). IsLinked (g.C.Checksum.sum a.checksum) (state_from y a))
+          (sym (sides-same a.sender a.receiver a.progress c.close-then-is_err-3-2.new.self c.close-then-is_err-3.new.self c.open-3.new.self t r p))
+          c.self.invariant.1,
     )
 
 pub returns-then-is_err-3-clause-err : goal.returns-then-is_err-3-clause-err
@@ -67,10 +73,13 @@ returns-then-is_err-3-clause-err g c =
     let none = new-number (g.C.Checksum.sum a.checksum) (state_in a) c.self.invariant.1 s ok refl in
     let sent = on-ok c.open.result c.is_err.result c.is_err.ensures.value c.if-is_err.false c.open.ensures.ok in
     let received = on-ok c.open-2.result c.is_err-2.result c.is_err-2.ensures.value c.if-is_err-2.false c.open-2.ensures.ok in
-    let t = sender-undone a.sender a.receiver a.progress c.self.invariant.0 s none c.close-then-is_err-3-2.new.self (c.close-then-is_err-3-2.ensures ∙ ap (S.close_stream s) sent) in
-    let r = receiver-undone a.sender a.receiver a.progress c.self.invariant.0 s none c.close-then-is_err-3.new.self (c.close-then-is_err-3.ensures ∙ ap (R.close_stream s) received) in
+    let t = sender-undone a.sender a.receiver a.progress c.self.invariant.0 s none c.close-then-is_err-3-2.new.self (c.close-then-is_err-3-2.ensures
+    ∙ ap (S.close_stream s) sent) in
+    let r = receiver-undone a.sender a.receiver a.progress c.self.invariant.0 s none c.close-then-is_err-3.new.self (c.close-then-is_err-3.ensures
+    ∙ ap (R.close_stream s) received) in
     let p = on-error c.open-3.result c.is_err-3.result c.is_err-3.ensures.value c.if-is_err-3.true c.open-3.ensures.err in
-    rw (← c.self.view_is) (ap (λ (y : Sides). record_from y a) (sides-same a.sender a.receiver a.progress c.close-then-is_err-3-2.new.self c.close-then-is_err-3.new.self c.open-3.new.self t r p))
+    rw (← c.self.view_is) (ap (λ (y : Sides). record_from y a)
+    (sides-same a.sender a.receiver a.progress c.close-then-is_err-3-2.new.self c.close-then-is_err-3.new.self c.open-3.new.self t r p))
 
 pub invariant_of-self-else-is_err-3 : goal.invariant_of-self-else-is_err-3
 invariant_of-self-else-is_err-3 g c =
@@ -82,8 +91,10 @@ invariant_of-self-else-is_err-3 g c =
     let received = on-ok c.open-2.result c.is_err-2.result c.is_err-2.ensures.value c.if-is_err-2.false c.open-2.ensures.ok in
     let put = on-ok c.open-3.result c.is_err-3.result c.is_err-3.ensures.value c.if-is_err-3.false c.open-3.ensures.ok in (
       opened-aligned a.sender a.receiver a.progress c.self.invariant.0 s none c.open.new.self c.open-2.new.self c.open-3.new.self sent received put,
-      subst (λ (y : Sides). IsLinked (g.C.Checksum.sum a.checksum) (state_from y a)) (sym (opened-sides a.sender a.receiver a.progress c.self.invariant.0 s none c.open.new.self c.open-2.new.self c.open-3.new.self sent received put))
-          (moved _ _ (after_open (record_in a) s) (ap (λ rs. record (record_in a) { streams = rs }) (streams-more s a.sender.fragment_size a.sender.max_message_size (sides_in a).streams))
+      subst (λ (y : Sides). IsLinked (g.C.Checksum.sum a.checksum) (state_from y a))
+          (sym (opened-sides a.sender a.receiver a.progress c.self.invariant.0 s none c.open.new.self c.open-2.new.self c.open-3.new.self sent received put))
+          (moved _ _ (after_open (record_in a) s)
+          (ap (λ rs. record (record_in a) { streams = rs }) (streams-more s a.sender.fragment_size a.sender.max_message_size (sides_in a).streams))
           (linked-open (g.C.Checksum.sum a.checksum) (state_in a) c.self.invariant.1 s ok refl)),
     )
 
@@ -98,6 +109,7 @@ returns-clause-ok g c =
     let put = on-ok c.open-3.result c.is_err-3.result c.is_err-3.ensures.value c.if-is_err-3.false c.open-3.ensures.ok in
     rw (← c.self.view_is) (record {
       right = refl;
-      moves = ap (λ (y : Sides). record_from y a) (opened-sides a.sender a.receiver a.progress c.self.invariant.0 s none c.open.new.self c.open-2.new.self c.open-3.new.self sent received put)
+      moves = ap (λ (y : Sides). record_from y a)
+          (opened-sides a.sender a.receiver a.progress c.self.invariant.0 s none c.open.new.self c.open-2.new.self c.open-3.new.self sent received put)
           ∙ ap (λ rs. record (record_in a) { streams = rs }) (streams-more s a.sender.fragment_size a.sender.max_message_size (sides_in a).streams);
     })

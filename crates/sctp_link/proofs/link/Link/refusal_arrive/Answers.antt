@@ -20,29 +20,36 @@ skip_fits-requires g c =
     let w = record_in c.self.inside in
     let lt : c.args.k < length c.self.inside.network.items = search rules in
     let e = kept-kind c.self.inside.network.items c.args.k c.index.result.now lt c.index.ensures in
-    rw (← c.self.view_is) (c.args.k, e ∙ ap (λ k. Some (kind_record k)) c.in-Forward.is ∙ ap (λ ns. Some (Forward c.in-Forward.upto ns)) (sym c.deref-in-Forward.ensures.value))
+    rw (← c.self.view_is)
+    (c.args.k, e ∙ ap (λ k. Some (kind_record k)) c.in-Forward.is ∙ ap (λ ns. Some (Forward c.in-Forward.upto ns)) (sym c.deref-in-Forward.ensures.value))
 
 pub returns-in-Data : goal.returns-in-Data
 returns-in-Data g c =
     let w = record_in c.self.inside in
     let lt : c.args.k < length c.self.inside.network.items = search rules in
     let e = kept-kind c.self.inside.network.items c.args.k c.index.result.now lt c.index.ensures in
-    let there : slice_get w.network c.args.k ≡ Some (Data c.deref.result.now) = e ∙ ap (λ k. Some (kind_record k)) c.in-Data.is ∙ ap (λ ps. Some (Data ps)) (sym c.deref.ensures.value) in
+    let there : slice_get w.network c.args.k ≡ Some (Data c.deref.result.now) = e ∙ ap (λ k. Some (kind_record k)) c.in-Data.is
+    ∙ ap (λ ps. Some (Data ps)) (sym c.deref.ensures.value) in
     let fits : c.span_fits.result ≡ arrival_fits w (Some (Data c.deref.result.now)) = rw (← c.self.view_is) at c.span_fits.ensures in
-    rw (← c.self.view_is) (c.unless_fits.ensures ∙ ap (λ b. unless b SpanTooWide None) fits ∙ sym (ap (λ (o : Option Datagram). unless (is_for_receiver o) NoSuchDatagram (unless (arrival_fits w o) SpanTooWide None)) there))
+    rw (← c.self.view_is) (c.unless_fits.ensures ∙ ap (λ b. unless b SpanTooWide None) fits
+    ∙ sym (ap (λ (o : Option Datagram). unless (is_for_receiver o) NoSuchDatagram (unless (arrival_fits w o) SpanTooWide None)) there))
 
 pub returns-in-Forward : goal.returns-in-Forward
 returns-in-Forward g c =
     let w = record_in c.self.inside in
     let lt : c.args.k < length c.self.inside.network.items = search rules in
     let e = kept-kind c.self.inside.network.items c.args.k c.index.result.now lt c.index.ensures in
-    let there : slice_get w.network c.args.k ≡ Some (Forward c.in-Forward.upto c.deref-in-Forward.result.now) = e ∙ ap (λ k. Some (kind_record k)) c.in-Forward.is ∙ ap (λ ns. Some (Forward c.in-Forward.upto ns)) (sym c.deref-in-Forward.ensures.value) in
-    let fits : c.skip_fits.result ≡ arrival_fits w (Some (Forward c.in-Forward.upto c.deref-in-Forward.result.now)) = rw (← c.self.view_is) at c.skip_fits.ensures in
-    rw (← c.self.view_is) (c.unless_fits-in-Forward.ensures ∙ ap (λ b. unless b SpanTooWide None) fits ∙ sym (ap (λ (o : Option Datagram). unless (is_for_receiver o) NoSuchDatagram (unless (arrival_fits w o) SpanTooWide None)) there))
+    let there : slice_get w.network c.args.k ≡ Some (Forward c.in-Forward.upto c.deref-in-Forward.result.now) = e
+    ∙ ap (λ k. Some (kind_record k)) c.in-Forward.is ∙ ap (λ ns. Some (Forward c.in-Forward.upto ns)) (sym c.deref-in-Forward.ensures.value) in
+    let fits : c.skip_fits.result ≡ arrival_fits w (Some (Forward c.in-Forward.upto c.deref-in-Forward.result.now)) =
+    rw (← c.self.view_is) at c.skip_fits.ensures in
+    rw (← c.self.view_is) (c.unless_fits-in-Forward.ensures ∙ ap (λ b. unless b SpanTooWide None) fits
+    ∙ sym (ap (λ (o : Option Datagram). unless (is_for_receiver o) NoSuchDatagram (unless (arrival_fits w o) SpanTooWide None)) there))
 
 pub returns-in-Sack : goal.returns-in-Sack
 returns-in-Sack g c =
     let w = record_in c.self.inside in
     let lt : c.args.k < length c.self.inside.network.items = search rules in
     let e = kept-kind c.self.inside.network.items c.args.k c.index.result.now lt c.index.ensures in
-    rw (← c.self.view_is) (sym (ap (λ (o : Option Datagram). unless (is_for_receiver o) NoSuchDatagram (unless (arrival_fits w o) SpanTooWide None)) (e ∙ ap (λ k. Some (kind_record k)) c.in-Sack.is)))
+    rw (← c.self.view_is) (sym (ap (λ (o : Option Datagram). unless (is_for_receiver o) NoSuchDatagram (unless (arrival_fits w o) SpanTooWide None)) (e
+    ∙ ap (λ k. Some (kind_record k)) c.in-Sack.is)))

@@ -37,23 +37,36 @@ invariant_of-self-2 g c =
     let ok : refusal_of (record_in c.self.inside) (E.Resend c.args.tsn) ≡ None = rw (← c.self.view_is) at c.requires in
     let e : find (has_tsn c.args.tsn) c.self.inside.sender.flight.queue.inflight.chunks ≡ Some c.in_ok-chunk.chunk = search rules in
     let places = c.in_ok-places.places in
-    let more : c.put.new.items.items ≡ c.self.inside.network.items ++ (let d : Datagram = record { kind = K.Data places; bytes = c.in_ok-bytes.bytes } in d) ∷ [] = search rules in
-    let network = network-more c.self.inside.network.items c.put.new.items.items (K.Data places) c.in_ok-bytes.bytes more ∙ ap (λ ps. (record_in c.self.inside).network ++ Data ps ∷ []) c.in_ok-places.ensures.places in
+    let more : c.put.new.items.items
+    ≡ c.self.inside.network.items ++ (let d : Datagram = record { kind = K.Data places; bytes = c.in_ok-bytes.bytes } in d) ∷ [] = search rules in
+    let network = network-more c.self.inside.network.items c.put.new.items.items (K.Data places) c.in_ok-bytes.bytes more
+    ∙ ap (λ ps. (record_in c.self.inside).network ++ Data ps ∷ []) c.in_ok-places.ensures.places in
     let bytes = bytes-more c.self.inside.network.items c.put.new.items.items (K.Data places) c.in_ok-bytes.bytes more in
     let counted = c.count_resend.ensures.counted c.in_ok-chunk.chunk e in (
       flight-aligned c.self.inside.sender c.self.inside.receiver c.self.inside.progress c.self.invariant.0 c.count_resend.new.self _ counted,
-      subst (λ (u : Transmission). IsLinked (g.C.Checksum.sum c.self.inside.checksum) (state_in (record c.self.inside { sender = u; network = c.put.new.items }))) (sym counted)
+      subst (λ (u : Transmission).
+          IsLinked (g.C.Checksum.sum c.self.inside.checksum) (state_in (record c.self.inside { sender = u; network = c.put.new.items }))) (sym counted)
           (moved _ _ (after_resend (record_in c.self.inside) c.args.tsn) (ap (λ ds. record (record_in c.self.inside) { network = ds }) network)
-          (rw bytes (linked-resend (g.C.Checksum.sum c.self.inside.checksum) (state_in c.self.inside) c.self.invariant.1 c.args.tsn (search rules) ok c.in_ok-chunk.chunk c.in_ok-bytes.bytes (min (c.in_ok-chunk.chunk.nsent + 1) (2 ^ 32 - 1)) (with_inflight c.self.inside.sender.flight.queue (change_where (has_tsn c.args.tsn) (with_nsent (min (c.in_ok-chunk.chunk.nsent + 1) (2 ^ 32 - 1))) c.self.inside.sender.flight.queue.inflight.chunks)) e (search rules) (search rules) (length-mapped (λ (d : Datagram). d.bytes) c.self.inside.network.items ∙ sym (length-mapped datagram_record c.self.inside.network.items)) refl))),
+          (rw bytes (linked-resend (g.C.Checksum.sum c.self.inside.checksum) (state_in c.self.inside) c.self.invariant.1 c.args.tsn
+          (search rules) ok c.in_ok-chunk.chunk c.in_ok-bytes.bytes (min (c.in_ok-chunk.chunk.nsent + 1) (2 ^ 32 - 1))
+          (with_inflight c.self.inside.sender.flight.queue (change_where (has_tsn c.args.tsn) (with_nsent
+          (min (c.in_ok-chunk.chunk.nsent + 1) (2 ^ 32 - 1))) c.self.inside.sender.flight.queue.inflight.chunks)) e (search rules) (search rules)
+          (length-mapped (λ (d : Datagram). d.bytes) c.self.inside.network.items ∙ sym (length-mapped datagram_record c.self.inside.network.items)) refl))),
     )
 
 pub returns-clause-ok : goal.returns-clause-ok
 returns-clause-ok g c =
     let e : find (has_tsn c.args.tsn) c.self.inside.sender.flight.queue.inflight.chunks ≡ Some c.in_ok-chunk.chunk = search rules in
     let places = c.in_ok-places.places in
-    let more : c.put.new.items.items ≡ c.self.inside.network.items ++ (let d : Datagram = record { kind = K.Data places; bytes = c.in_ok-bytes.bytes } in d) ∷ [] = search rules in
-    let network = network-more c.self.inside.network.items c.put.new.items.items (K.Data places) c.in_ok-bytes.bytes more ∙ ap (λ ps. (record_in c.self.inside).network ++ Data ps ∷ []) c.in_ok-places.ensures.places in
+    let more : c.put.new.items.items
+    ≡ c.self.inside.network.items ++ (let d : Datagram = record { kind = K.Data places; bytes = c.in_ok-bytes.bytes } in d) ∷ [] = search rules in
+    let network = network-more c.self.inside.network.items c.put.new.items.items (K.Data places) c.in_ok-bytes.bytes more
+    ∙ ap (λ ps. (record_in c.self.inside).network ++ Data ps ∷ []) c.in_ok-places.ensures.places in
     let len : c.len-datagram.result ≡ length c.self.inside.network.items = search rules in
     let counted = c.count_resend.ensures.counted c.in_ok-chunk.chunk e in
-    rw (← c.self.view_is) (subst (λ (u : Transmission). IsRight (record_in c.self.inside) (E.Resend c.args.tsn) (R.Resent c.len-datagram.result) (record_in (record c.self.inside { sender = u; network = c.put.new.items }))) (sym counted)
-    (record { right = ap R.Resent (len ∙ sym (length-mapped datagram_record c.self.inside.network.items)); moves = ap (λ ds. record (record_in c.self.inside) { network = ds }) network }))
+    rw (← c.self.view_is) (subst (λ (u : Transmission). IsRight (record_in c.self.inside) (E.Resend c.args.tsn) (R.Resent c.len-datagram.result)
+    (record_in (record c.self.inside { sender = u; network = c.put.new.items }))) (sym counted)
+    (record {
+      right = ap R.Resent (len ∙ sym (length-mapped datagram_record c.self.inside.network.items));
+      moves = ap (λ ds. record (record_in c.self.inside) { network = ds }) network;
+    }))

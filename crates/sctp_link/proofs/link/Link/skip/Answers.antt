@@ -25,7 +25,8 @@ write_datagram-requires-clause-encoding g c =
     let names = c.args.messages.items in
     let place = place_of w c.args.upto in
     let ok : skip_refusal w place names ≡ None = rw (← c.self.view_is) at c.requires in
-    let pairs : c.in_ok-streams.streams.items ≡ map (pair_in ms) names = c.in_ok-streams.ensures.pairs ∙ ap (λ qs. map (pair_in qs) c.deref-2.result.now) c.deref.ensures.value ∙ ap (map (pair_in ms)) c.deref-2.ensures.value in
+    let pairs : c.in_ok-streams.streams.items ≡ map (pair_in ms) names = c.in_ok-streams.ensures.pairs
+    ∙ ap (λ qs. map (pair_in qs) c.deref-2.result.now) c.deref.ensures.value ∙ ap (map (pair_in ms)) c.deref-2.ensures.value in
     let f : ForwardTsn = record { new_cumulative_tsn = c.args.upto; streams = c.in_ok-streams.streams.items } in
     (tt, pairs-short sum x c.self.invariant.1 place names ok ms refl refl f pairs)
 
@@ -38,13 +39,17 @@ invariant_of-self-2 g c =
     let names = c.args.messages.items in
     let place = place_of w c.args.upto in
     let ok : skip_refusal w place names ≡ None = rw (← c.self.view_is) at c.requires in
-    let pairs : c.in_ok-streams.streams.items ≡ map (pair_in ms) names = c.in_ok-streams.ensures.pairs ∙ ap (λ qs. map (pair_in qs) c.deref-2.result.now) c.deref.ensures.value ∙ ap (map (pair_in ms)) c.deref-2.ensures.value in
+    let pairs : c.in_ok-streams.streams.items ≡ map (pair_in ms) names = c.in_ok-streams.ensures.pairs
+    ∙ ap (λ qs. map (pair_in qs) c.deref-2.result.now) c.deref.ensures.value ∙ ap (map (pair_in ms)) c.deref-2.ensures.value in
     let f : ForwardTsn = record { new_cumulative_tsn = c.args.upto; streams = c.in_ok-streams.streams.items } in
     let own : c.args.upto ≡ tsn_of w place = omega (arith, c.self.invariant.1.setup.first, c.ranges.upto.fits) in
-    let more : c.put.new.items.items ≡ c.self.inside.network.items ++ (let d : Datagram = record { kind = K.Forward place c.args.messages; bytes = c.in_ok-bytes.bytes } in d) ∷ [] = search rules in
+    let more : c.put.new.items.items ≡ c.self.inside.network.items
+    ++ (let d : Datagram = record { kind = K.Forward place c.args.messages; bytes = c.in_ok-bytes.bytes } in d) ∷ [] = search rules in
     let network = network-more c.self.inside.network.items c.put.new.items.items (K.Forward place c.args.messages) c.in_ok-bytes.bytes more in
     let bytes = bytes-more c.self.inside.network.items c.put.new.items.items (K.Forward place c.args.messages) c.in_ok-bytes.bytes more in (
       c.self.invariant.0,
       moved _ _ (with_datagram w (Forward place names)) (ap (λ ds. record w { network = ds }) network)
-          (rw bytes (linked-made sum x c.self.invariant.1 place names ok f (skip-says sum x c.self.invariant.1 place names ok ms refl refl f own pairs) c.in_ok-bytes.bytes (E.Skip c.args.upto c.args.messages) ok refl c.in_ok-bytes.ensures.encoding c.in_ok-bytes.ensures.reads (length-mapped (λ (d : Datagram). d.bytes) c.self.inside.network.items ∙ sym (length-mapped datagram_record c.self.inside.network.items)))),
+          (rw bytes (linked-made sum x c.self.invariant.1 place names ok f (skip-says sum x c.self.invariant.1 place names ok ms refl refl f own pairs)
+          c.in_ok-bytes.bytes (E.Skip c.args.upto c.args.messages) ok refl c.in_ok-bytes.ensures.encoding c.in_ok-bytes.ensures.reads
+          (length-mapped (λ (d : Datagram). d.bytes) c.self.inside.network.items ∙ sym (length-mapped datagram_record c.self.inside.network.items)))),
     )

@@ -16,7 +16,8 @@ returns-then-cumulative-upto g c =
     let w = record_in c.self.inside in
     let sum = g.C.Checksum.sum c.self.inside.checksum in
     let x = state_in c.self.inside in
-    let past : c.args.upto < cumulative w = omega (arith, c.if-cumulative-upto.true, c.count_of-cumulative.ensures, c.cumulative_tsn.ensures, cumulative-place sum x c.self.invariant.1 0) in
+    let past : c.args.upto < cumulative w =
+    omega (arith, c.if-cumulative-upto.true, c.count_of-cumulative.ensures, c.cumulative_tsn.ensures, cumulative-place sum x c.self.invariant.1 0) in
     let stale : skip_counts w c.args.upto ≡ false = grind (arith, nat_tests) in
     rw (← c.self.view_is) (sym (stale-fits w c.args.upto c.args.names.now stale (facts sum x c.self.invariant.1).spans))
 
@@ -25,6 +26,7 @@ returns g c =
     let w = record_in c.self.inside in
     let sum = g.C.Checksum.sum c.self.inside.checksum in
     let x = state_in c.self.inside in
-    let past : cumulative w ≤ c.args.upto = omega (arith, c.if-cumulative-upto.false, c.count_of-cumulative.ensures, c.cumulative_tsn.ensures, cumulative-place sum x c.self.invariant.1 0) in
+    let past : cumulative w ≤ c.args.upto =
+    omega (arith, c.if-cumulative-upto.false, c.count_of-cumulative.ensures, c.cumulative_tsn.ensures, cumulative-place sum x c.self.invariant.1 0) in
     let all : c.names_fit.result ≡ list_all (λ r. names_fit w r.stream c.args.names.now) w.streams = rw (← c.self.view_is) at c.names_fit.ensures in
     rw (← c.self.view_is) (all ∙ all-fit sum x c.self.invariant.1 c.args.upto c.args.names.now past)

@@ -18,17 +18,21 @@ pub returns-then-not-slot_fits : goal.returns-then-not-slot_fits
 returns-then-not-slot_fits g c =
     let f = slot_fits c.args.self.now.recorded c.args.places.now in
     let lies : (k : ℕ) × (slice_get (record_in c.self.inside).network k ≡ Some (Data c.args.places.now)) = rw (← c.self.view_is) at c.requires in
-    let all = all-no f c.args.places.now (c.loop-at.at + 1) (all-more f c.args.places.now c.loop-at.at c.slot_fits.result c.loop-at-test.true (λ q e. c.slot_fits.ensures ∙ ap f (at-place c.args.places.now c.loop-at.at q e)) c.loop-at.invariant ∙ c.if-not-slot_fits.true) in
-    sym ((rw (← c.self.view_is) (data-fits (g.C.Checksum.sum c.self.inside.checksum) (state_in c.self.inside) c.self.invariant.1 lies.0 c.args.places.now lies.1)) ∙ all)
+    let all = all-no f c.args.places.now (c.loop-at.at + 1) (all-more f c.args.places.now c.loop-at.at c.slot_fits.result c.loop-at-test.true
+    (λ q e. c.slot_fits.ensures ∙ ap f (at-place c.args.places.now c.loop-at.at q e)) c.loop-at.invariant ∙ c.if-not-slot_fits.true) in
+    sym ((rw (← c.self.view_is)
+    (data-fits (g.C.Checksum.sum c.self.inside.checksum) (state_in c.self.inside) c.self.invariant.1 lies.0 c.args.places.now lies.1)) ∙ all)
 
 pub loop-at-preserved : goal.loop-at-preserved
 loop-at-preserved g c =
     let f = slot_fits c.args.self.now.recorded c.args.places.now in
-    all-more f c.args.places.now c.loop-at.at c.slot_fits.result c.loop-at-test.true (λ q e. c.slot_fits.ensures ∙ ap f (at-place c.args.places.now c.loop-at.at q e)) c.loop-at.invariant ∙ c.if-not-slot_fits.false
+    all-more f c.args.places.now c.loop-at.at c.slot_fits.result c.loop-at-test.true (λ q e. c.slot_fits.ensures
+    ∙ ap f (at-place c.args.places.now c.loop-at.at q e)) c.loop-at.invariant ∙ c.if-not-slot_fits.false
 
 pub returns : goal.returns
 returns g c =
     let f = slot_fits c.args.self.now.recorded c.args.places.now in
     let lies : (k : ℕ) × (slice_get (record_in c.self.inside).network k ≡ Some (Data c.args.places.now)) = rw (← c.self.view_is) at c.requires in
     let all = ap (list_all f) (sym (take_all c.loop-at.at c.args.places.now (omega (arith, c.loop-at-test.false)))) ∙ c.loop-at.invariant in
-    sym ((rw (← c.self.view_is) (data-fits (g.C.Checksum.sum c.self.inside.checksum) (state_in c.self.inside) c.self.invariant.1 lies.0 c.args.places.now lies.1)) ∙ all)
+    sym ((rw (← c.self.view_is)
+    (data-fits (g.C.Checksum.sum c.self.inside.checksum) (state_in c.self.inside) c.self.invariant.1 lies.0 c.args.places.now lies.1)) ∙ all)

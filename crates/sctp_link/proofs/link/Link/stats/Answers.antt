@@ -13,7 +13,8 @@ returns-in_err-sent g c =
     let o = stream_in c.args.stream (sides_in c.self.inside) in
     rw (← c.self.view_is)
     (c.from_residual.ensures ∙ told-none (λ (l : OpenStream). l.state.stats) stats_in o c.stats.result
-    (state-told c.self.inside.sender c.self.inside.receiver c.self.inside.progress c.self.invariant.0 (λ (l : StreamState). l.stats) c.args.stream c.stats.result c.stats.ensures) c.in_err-sent.was
+    (state-told c.self.inside.sender c.self.inside.receiver c.self.inside.progress c.self.invariant.0
+    (λ (l : StreamState). l.stats) c.args.stream c.stats.result c.stats.ensures) c.in_err-sent.was
     ∙ stats-is (g.C.Checksum.sum c.self.inside.checksum) (state_in c.self.inside) c.self.invariant.1 c.args.stream refl)
 
 pub returns-in_err-read : goal.returns-in_err-read
@@ -21,7 +22,8 @@ returns-in_err-read g c =
     let o = stream_in c.args.stream (sides_in c.self.inside) in
     rw (← c.self.view_is)
     (c.from_residual-in_err-read.ensures ∙ told-none (λ (l : OpenStream). l.inbound.stats) stats_in o c.stats-2.result
-    (inbound-told c.self.inside.sender c.self.inside.receiver c.self.inside.progress c.self.invariant.0 (λ (l : InboundStream). l.stats) c.args.stream c.stats-2.result c.stats-2.ensures) c.in_err-read.was
+    (inbound-told c.self.inside.sender c.self.inside.receiver c.self.inside.progress c.self.invariant.0
+    (λ (l : InboundStream). l.stats) c.args.stream c.stats-2.result c.stats-2.ensures) c.in_err-read.was
     ∙ stats-is (g.C.Checksum.sum c.self.inside.checksum) (state_in c.self.inside) c.self.invariant.1 c.args.stream refl)
 
 pub returns : goal.returns
@@ -29,7 +31,9 @@ returns g c =
     let o = stream_in c.args.stream (sides_in c.self.inside) in
     rw (← c.self.view_is)
     (both-told o c.stats.result c.stats-2.result c.in_ok-sent.sent c.in_ok-read.read
-    (state-told c.self.inside.sender c.self.inside.receiver c.self.inside.progress c.self.invariant.0 (λ (l : StreamState). l.stats) c.args.stream c.stats.result c.stats.ensures)
-    (inbound-told c.self.inside.sender c.self.inside.receiver c.self.inside.progress c.self.invariant.0 (λ (l : InboundStream). l.stats) c.args.stream c.stats-2.result c.stats-2.ensures)
+    (state-told c.self.inside.sender c.self.inside.receiver c.self.inside.progress c.self.invariant.0
+    (λ (l : StreamState). l.stats) c.args.stream c.stats.result c.stats.ensures)
+    (inbound-told c.self.inside.sender c.self.inside.receiver c.self.inside.progress c.self.invariant.0
+    (λ (l : InboundStream). l.stats) c.args.stream c.stats-2.result c.stats-2.ensures)
     c.in_ok-sent.was c.in_ok-read.was
     ∙ stats-is (g.C.Checksum.sum c.self.inside.checksum) (state_in c.self.inside) c.self.invariant.1 c.args.stream refl)

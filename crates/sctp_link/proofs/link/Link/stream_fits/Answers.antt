@@ -32,7 +32,8 @@ number_at-stream-requires g c =
     let inside : c.args.at < length (record_in c.self.inside).streams = rw (← c.self.view_is) at c.requires.inside in
     at-inside c.self.inside c.self.invariant.0 c.args.at inside
 
-open-one : {C : Type 0} (a : Inside C) (at s : ℕ) → at < length (record_in a).streams → ((d : OpenStream) → s ≡ (slice_index_or (sides_in a).streams at d).state.stream_identifier) → IsOpenAt a at s
+open-one : {C : Type 0} (a : Inside C) (at s : ℕ) → at < length (record_in a).streams
+    → ((d : OpenStream) → s ≡ (slice_index_or (sides_in a).streams at d).state.stream_identifier) → IsOpenAt a at s
 open-one a at s inside id =
     let y = new_open_stream 0 0 0 in
     let lt : at < length (sides_in a).streams = omega (arith, inside, length-mapped stream_record (sides_in a).streams) in
@@ -42,7 +43,9 @@ open-one a at s inside id =
     }
 
 -- What was found of the stream and of the names is what the record has.
-judged-at : {C : Type 0} (sum : List ℕ → ℕ) (a : Inside C) (l : IsLinked sum (state_in a)) (s upto : ℕ) (names : List ℕ) (k : ℕ) → slice_get (record_in a).network k ≡ Some (Forward upto names) → (low high : ℕ) (named : Named) → low ≡ lowest_held (record_in a) s → high ≡ highest_held (record_in a) s → named ≡ named_from a.messages.items s none_named names → Judged (record_in a) s names low high named
+judged-at : {C : Type 0} (sum : List ℕ → ℕ) (a : Inside C) (l : IsLinked sum (state_in a)) (s upto : ℕ) (names : List ℕ) (k : ℕ)
+    → slice_get (record_in a).network k ≡ Some (Forward upto names) → (low high : ℕ) (named : Named) → low ≡ lowest_held (record_in a) s
+    → high ≡ highest_held (record_in a) s → named ≡ named_from a.messages.items s none_named names → Judged (record_in a) s names low high named
 judged-at sum a l s upto names k lies low high named low_is high_is named_is =
     judged (record_in a) s names low high named low_is high_is
     (named_is ∙ names-are sum (state_in a) l a.messages.items refl refl upto s names (skips-in sum (state_in a) l k upto names lies).fit)
@@ -51,7 +54,8 @@ pub index_range-low-requires : goal.index_range-low-requires
 index_range-low-requires g c =
     let a = c.self.inside in
     let inside : c.args.at < length (record_in a).streams = rw (← c.self.view_is) at c.requires.inside in
-    rw (← c.self.view_is) (open-one a c.args.at c.number_at-stream.result inside (λ e. c.number_at-stream.ensures (fresh 0) ∙ number-told a.sender a.receiver a.progress c.self.invariant.0 c.args.at (fresh 0) e (at-inside a c.self.invariant.0 c.args.at inside))).opened
+    rw (← c.self.view_is) (open-one a c.args.at c.number_at-stream.result inside (λ e. c.number_at-stream.ensures (fresh 0)
+    ∙ number-told a.sender a.receiver a.progress c.self.invariant.0 c.args.at (fresh 0) e (at-inside a c.self.invariant.0 c.args.at inside))).opened
 
 pub overflow_add-span : goal.overflow_add-span
 overflow_add-span g c =
@@ -68,18 +72,22 @@ returns-then-max-span g c =
     let w = record_in a in
     let s = c.number_at-stream.result in
     let inside : c.args.at < length w.streams = rw (← c.self.view_is) at c.requires.inside in
-    let o = open-one a c.args.at s inside (λ e. c.number_at-stream.ensures (fresh 0) ∙ number-told a.sender a.receiver a.progress c.self.invariant.0 c.args.at (fresh 0) e (at-inside a c.self.invariant.0 c.args.at inside)) in
+    let o = open-one a c.args.at s inside (λ e. c.number_at-stream.ensures (fresh 0)
+    ∙ number-told a.sender a.receiver a.progress c.self.invariant.0 c.args.at (fresh 0) e (at-inside a c.self.invariant.0 c.args.at inside)) in
     let lies : (k : ℕ) × (slice_get w.network k ≡ Some (Forward c.args.upto c.args.names.now)) = rw (← c.self.view_is) at c.requires.lies in
     let low : c.index_range-low.result.0 ≡ least (next_of w s) (map (index_of w) (held_on w s)) = rw (← c.self.view_is) at c.index_range-low.ensures.low in
     let high : c.index_range-low.result.1 ≡ greatest (next_of w s) (map (index_of w) (held_on w s)) = rw (← c.self.view_is) at c.index_range-low.ensures.high in
-    let j = judged-at sum a c.self.invariant.1 s c.args.upto c.args.names.now lies.0 lies.1 c.index_range-low.result.0 c.index_range-low.result.1 c.named_on-named.result low high (c.named_on-named.ensures ∙ ap (λ ms. named_from ms s none_named c.args.names.now) c.deref.ensures.value) in
-    rw (← c.self.view_is) (λ r e. j.no' (omega (arith, c.if-max-span.true, c.min-span.ensures, c.max.ensures, c.saturating_sub.ensures)) ∙ ap (λ t. names_fit w t c.args.names.now) (o.there r e))
+    let j = judged-at sum a c.self.invariant.1 s c.args.upto c.args.names.now lies.0 lies.1 c.index_range-low.result.0 c.index_range-low.result.1
+    c.named_on-named.result low high (c.named_on-named.ensures ∙ ap (λ ms. named_from ms s none_named c.args.names.now) c.deref.ensures.value) in
+    rw (← c.self.view_is) (λ r e. j.no' (omega (arith, c.if-max-span.true, c.min-span.ensures, c.max.ensures, c.saturating_sub.ensures))
+    ∙ ap (λ t. names_fit w t c.args.names.now) (o.there r e))
 
 pub least_left-requires : goal.least_left-requires
 least_left-requires g c =
     let a = c.self.inside in
     let inside : c.args.at < length (record_in a).streams = rw (← c.self.view_is) at c.requires.inside in
-    rw (← c.self.view_is) (open-one a c.args.at c.number_at-stream.result inside (λ e. c.number_at-stream.ensures (fresh 0) ∙ number-told a.sender a.receiver a.progress c.self.invariant.0 c.args.at (fresh 0) e (at-inside a c.self.invariant.0 c.args.at inside))).opened
+    rw (← c.self.view_is) (open-one a c.args.at c.number_at-stream.result inside (λ e. c.number_at-stream.ensures (fresh 0)
+    ∙ number-told a.sender a.receiver a.progress c.self.invariant.0 c.args.at (fresh 0) e (at-inside a c.self.invariant.0 c.args.at inside))).opened
 
 pub returns-then-named-span : goal.returns-then-named-span
 returns-then-named-span g c =
@@ -88,12 +96,16 @@ returns-then-named-span g c =
     let w = record_in a in
     let s = c.number_at-stream.result in
     let inside : c.args.at < length w.streams = rw (← c.self.view_is) at c.requires.inside in
-    let o = open-one a c.args.at s inside (λ e. c.number_at-stream.ensures (fresh 0) ∙ number-told a.sender a.receiver a.progress c.self.invariant.0 c.args.at (fresh 0) e (at-inside a c.self.invariant.0 c.args.at inside)) in
+    let o = open-one a c.args.at s inside (λ e. c.number_at-stream.ensures (fresh 0)
+    ∙ number-told a.sender a.receiver a.progress c.self.invariant.0 c.args.at (fresh 0) e (at-inside a c.self.invariant.0 c.args.at inside)) in
     let lies : (k : ℕ) × (slice_get w.network k ≡ Some (Forward c.args.upto c.args.names.now)) = rw (← c.self.view_is) at c.requires.lies in
     let low : c.index_range-low.result.0 ≡ least (next_of w s) (map (index_of w) (held_on w s)) = rw (← c.self.view_is) at c.index_range-low.ensures.low in
     let high : c.index_range-low.result.1 ≡ greatest (next_of w s) (map (index_of w) (held_on w s)) = rw (← c.self.view_is) at c.index_range-low.ensures.high in
-    let j = judged-at sum a c.self.invariant.1 s c.args.upto c.args.names.now lies.0 lies.1 c.index_range-low.result.0 c.index_range-low.result.1 c.named_on-named.result low high (c.named_on-named.ensures ∙ ap (λ ms. named_from ms s none_named c.args.names.now) c.deref.ensures.value) in
-    rw (← c.self.view_is) (λ r e. ap (λ n. nat_lt c.named_on-named.result.end (n + 32768)) c.min-span.ensures ∙ j.yes' (omega (arith, c.if-max-span.false, c.min-span.ensures, c.max.ensures, c.saturating_sub.ensures)) (omega (arith, c.if-named-span.true, c.min-span.ensures)) ∙ ap (λ t. names_fit w t c.args.names.now) (o.there r e))
+    let j = judged-at sum a c.self.invariant.1 s c.args.upto c.args.names.now lies.0 lies.1 c.index_range-low.result.0 c.index_range-low.result.1
+    c.named_on-named.result low high (c.named_on-named.ensures ∙ ap (λ ms. named_from ms s none_named c.args.names.now) c.deref.ensures.value) in
+    rw (← c.self.view_is) (λ r e. ap (λ n. nat_lt c.named_on-named.result.end (n + 32768)) c.min-span.ensures
+    ∙ j.yes' (omega (arith, c.if-max-span.false, c.min-span.ensures, c.max.ensures, c.saturating_sub.ensures))
+    (omega (arith, c.if-named-span.true, c.min-span.ensures)) ∙ ap (λ t. names_fit w t c.args.names.now) (o.there r e))
 
 pub returns-else-named-span : goal.returns-else-named-span
 returns-else-named-span g c =
@@ -102,10 +114,14 @@ returns-else-named-span g c =
     let w = record_in a in
     let s = c.number_at-stream.result in
     let inside : c.args.at < length w.streams = rw (← c.self.view_is) at c.requires.inside in
-    let o = open-one a c.args.at s inside (λ e. c.number_at-stream.ensures (fresh 0) ∙ number-told a.sender a.receiver a.progress c.self.invariant.0 c.args.at (fresh 0) e (at-inside a c.self.invariant.0 c.args.at inside)) in
+    let o = open-one a c.args.at s inside (λ e. c.number_at-stream.ensures (fresh 0)
+    ∙ number-told a.sender a.receiver a.progress c.self.invariant.0 c.args.at (fresh 0) e (at-inside a c.self.invariant.0 c.args.at inside)) in
     let lies : (k : ℕ) × (slice_get w.network k ≡ Some (Forward c.args.upto c.args.names.now)) = rw (← c.self.view_is) at c.requires.lies in
     let low : c.index_range-low.result.0 ≡ least (next_of w s) (map (index_of w) (held_on w s)) = rw (← c.self.view_is) at c.index_range-low.ensures.low in
     let high : c.index_range-low.result.1 ≡ greatest (next_of w s) (map (index_of w) (held_on w s)) = rw (← c.self.view_is) at c.index_range-low.ensures.high in
-    let j = judged-at sum a c.self.invariant.1 s c.args.upto c.args.names.now lies.0 lies.1 c.index_range-low.result.0 c.index_range-low.result.1 c.named_on-named.result low high (c.named_on-named.ensures ∙ ap (λ ms. named_from ms s none_named c.args.names.now) c.deref.ensures.value) in
+    let j = judged-at sum a c.self.invariant.1 s c.args.upto c.args.names.now lies.0 lies.1 c.index_range-low.result.0 c.index_range-low.result.1
+    c.named_on-named.result low high (c.named_on-named.ensures ∙ ap (λ ms. named_from ms s none_named c.args.names.now) c.deref.ensures.value) in
     let left : c.least_left.result ≡ min_with (complete_first w (held_on w s)) c.named_on-named.result.low = rw (← c.self.view_is) at c.least_left.ensures in
-    rw (← c.self.view_is) (λ r e. j.edge c.least_left.result left (omega (arith, c.if-max-span.false, c.min-span.ensures, c.max.ensures, c.saturating_sub.ensures)) (omega (arith, c.if-named-span.false, c.min-span.ensures)) ∙ ap (λ t. names_fit w t c.args.names.now) (o.there r e))
+    rw (← c.self.view_is)
+    (λ r e. j.edge c.least_left.result left (omega (arith, c.if-max-span.false, c.min-span.ensures, c.max.ensures, c.saturating_sub.ensures))
+    (omega (arith, c.if-named-span.false, c.min-span.ensures)) ∙ ap (λ t. names_fit w t c.args.names.now) (o.there r e))

@@ -22,7 +22,8 @@ use Rattle.sctp_link.specs.Fields.{state_in, record_in, state_from, record_from,
 use Rattle.sctp_link.specs.OpenStreams.{marks}
 use Rattle.sctp_link.specs.Records.{message_record, slot_record, progress_of}
 use Rattle.sctp_link.proofs.abandonment.Abandoning.{recorded-given, linked-given}
-use Rattle.sctp_link.proofs.abandonment.QueueAnswers.{none-tails, half-front, complete-idle, early-idle, tails, idle-tail, tail-right, past_deadline, number-is, rest-fits, gives-tail}
+use Rattle.sctp_link.proofs.abandonment.QueueAnswers.{none-tails, half-front, complete-idle, early-idle, tails, idle-tail, tail-right, past_deadline, number-is}
+use Rattle.sctp_link.proofs.abandonment.QueueAnswers.{rest-fits, gives-tail}
 use Rattle.sctp_link.proofs.receiver.Keeping.{on-err}
 use Rattle.sctp_link.proofs.sender.Sending.{next-is}
 use Rattle.sctp_link.proofs.link.Link.tail.Goals as goal
@@ -32,7 +33,8 @@ record Told (a : AbandonedMessage) (e : Option ChunkPayloadData) : Type 0 where
   stream : Some a.stream ≡ option_map (λ c. c.stream_identifier) e
   number : message_of e ≡ Some a.number
 
-told-of : (o : Option AbandonedMessage) (a : AbandonedMessage) (e : Option ChunkPayloadData) → o ≡ Some a → option_map {U = ℕ × ℕ} (λ a. (a.stream, a.number)) o ≡ option_map {U = ℕ × ℕ} (λ c. (c.stream_identifier, c.message_id)) e → Told a e
+told-of : (o : Option AbandonedMessage) (a : AbandonedMessage) (e : Option ChunkPayloadData) → o ≡ Some a
+    → option_map {U = ℕ × ℕ} (λ a. (a.stream, a.number)) o ≡ option_map {U = ℕ × ℕ} (λ c. (c.stream_identifier, c.message_id)) e → Told a e
 told-of None a e is h = absurd (cc)
 told-of (Some b) a None is h = absurd (cc)
 told-of (Some b) a (Some c) is h =
@@ -43,62 +45,80 @@ told-of (Some b) a (Some c) is h =
       number = ap (λ (p : ℕ × ℕ). Some p.1) (sym pair) ∙ ap (λ (z : AbandonedMessage). Some z.number) same;
     }
 
-never-none : (o : Option AbandonedMessage) (e : Option ChunkPayloadData) → o ≡ None → option_map {U = ℕ × ℕ} (λ a. (a.stream, a.number)) o ≡ option_map {U = ℕ × ℕ} (λ c. (c.stream_identifier, c.message_id)) e → is_some e ≡ true → ⊥
+never-none : (o : Option AbandonedMessage) (e : Option ChunkPayloadData) → o ≡ None
+    → option_map {U = ℕ × ℕ} (λ a. (a.stream, a.number)) o ≡ option_map {U = ℕ × ℕ} (λ c. (c.stream_identifier, c.message_id)) e → is_some e ≡ true → ⊥
 never-none None None is h some = cc
 never-none None (Some c) is h some = cc
 never-none (Some a) e is h some = cc
 
-left-of : (new old : Transmission) (o : Option AbandonedMessage) (a : AbandonedMessage) → o ≡ Some a → total_bytes new.flight.queue + sum_by (λ g. g.bytes) (option_to_list o) ≡ total_bytes old.flight.queue → (u : Transmission) → new ≡ u → total_bytes u.flight.queue + a.bytes ≡ total_bytes old.flight.queue
+left-of : (new old : Transmission) (o : Option AbandonedMessage) (a : AbandonedMessage) → o ≡ Some a → total_bytes new.flight.queue + sum_by (λ g. g.bytes)
+    (option_to_list o) ≡ total_bytes old.flight.queue → (u : Transmission) → new ≡ u → total_bytes u.flight.queue + a.bytes ≡ total_bytes old.flight.queue
 left-of new old None a is h u e = absurd (cc)
-left-of new old (Some b) a is h u e = omega (arith, h, ap (λ (z : AbandonedMessage). z.bytes) (some-same is), ap (λ (z : Transmission). total_bytes z.flight.queue) e)
+left-of new old (Some b) a is h u e =
+    omega (arith, h, ap (λ (z : AbandonedMessage). z.bytes) (some-same is), ap (λ (z : Transmission). total_bytes z.flight.queue) e)
 
 pub returns-in_default-clause-ok : goal.returns-in_default-clause-ok
 returns-in_default-clause-ok g c =
     let none : next_pending c.self.inside.sender.flight.queue.pending ≡ None = search rules in
-    rw (← c.self.view_is) (idle-tail (g.C.Checksum.sum c.self.inside.checksum) (state_in c.self.inside) c.self.invariant.1 c.args.now (none-tails (g.C.Checksum.sum c.self.inside.checksum) (state_in c.self.inside) c.self.invariant.1 c.args.now none))
+    rw (← c.self.view_is) (idle-tail (g.C.Checksum.sum c.self.inside.checksum) (state_in c.self.inside) c.self.invariant.1 c.args.now
+    (none-tails (g.C.Checksum.sum c.self.inside.checksum) (state_in c.self.inside) c.self.invariant.1 c.args.now none))
 
 pub returns-then-chunk-clause-ok : goal.returns-then-chunk-clause-ok
 returns-then-chunk-clause-ok g c =
     let shown : next_pending c.self.inside.sender.flight.queue.pending ≡ Some c.in-Some.chunk.now = search rules in
-    rw (← c.self.view_is) (idle-tail (g.C.Checksum.sum c.self.inside.checksum) (state_in c.self.inside) c.self.invariant.1 c.args.now (complete-idle (g.C.Checksum.sum c.self.inside.checksum) (state_in c.self.inside) c.self.invariant.1 c.args.now c.in-Some.chunk.now shown c.if-chunk.true))
+    rw (← c.self.view_is) (idle-tail (g.C.Checksum.sum c.self.inside.checksum) (state_in c.self.inside) c.self.invariant.1 c.args.now (complete-idle
+    (g.C.Checksum.sum c.self.inside.checksum) (state_in c.self.inside) c.self.invariant.1 c.args.now c.in-Some.chunk.now shown c.if-chunk.true))
 
 pub returns-then-not-is_past-clause-ok : goal.returns-then-not-is_past-clause-ok
 returns-then-not-is_past-clause-ok g c =
     let shown : next_pending c.self.inside.sender.flight.queue.pending ≡ Some c.in-Some.chunk.now = search rules in
-    rw (← c.self.view_is) (idle-tail (g.C.Checksum.sum c.self.inside.checksum) (state_in c.self.inside) c.self.invariant.1 c.args.now (early-idle (g.C.Checksum.sum c.self.inside.checksum) (state_in c.self.inside) c.self.invariant.1 c.args.now c.in-Some.chunk.now shown (sym c.is_past.ensures ∙ c.if-not-is_past.true)))
+    rw (← c.self.view_is) (idle-tail (g.C.Checksum.sum c.self.inside.checksum) (state_in c.self.inside) c.self.invariant.1 c.args.now
+    (early-idle (g.C.Checksum.sum c.self.inside.checksum) (state_in c.self.inside) c.self.invariant.1 c.args.now c.in-Some.chunk.now shown
+    (sym c.is_past.ensures ∙ c.if-not-is_past.true)))
 
 pub returns-in_err-make_room-clause-wants : goal.returns-in_err-make_room-clause-wants
 returns-in_err-make_room-clause-wants g c =
     let shown : next_pending c.self.inside.sender.flight.queue.pending ≡ Some c.in-Some.chunk.now = search rules in
-    let late : tailing (record_in c.self.inside) c.args.now ≡ Some c.in-Some.chunk.now.message_id = tails (g.C.Checksum.sum c.self.inside.checksum) (state_in c.self.inside) c.self.invariant.1 c.args.now c.in-Some.chunk.now shown c.if-chunk.false (sym c.is_past.ensures ∙ c.if-not-is_past.false) in
+    let late : tailing (record_in c.self.inside) c.args.now ≡ Some c.in-Some.chunk.now.message_id = tails (g.C.Checksum.sum c.self.inside.checksum)
+    (state_in c.self.inside) c.self.invariant.1 c.args.now c.in-Some.chunk.now shown c.if-chunk.false (sym c.is_past.ensures ∙ c.if-not-is_past.false) in
     rw (← c.self.view_is) (on-err c.from_residual.result _ (ap is_some late))
 
 pub memory-requires : goal.memory-requires
 memory-requires g c =
     let shown : next_pending c.self.inside.sender.flight.queue.pending ≡ Some c.in-Some.chunk.now = search rules in
-    let late : tailing (record_in c.self.inside) c.args.now ≡ Some c.in-Some.chunk.now.message_id = tails (g.C.Checksum.sum c.self.inside.checksum) (state_in c.self.inside) c.self.invariant.1 c.args.now c.in-Some.chunk.now shown c.if-chunk.false (sym c.is_past.ensures ∙ c.if-not-is_past.false) in
-    let next = rest-fits (g.C.Checksum.sum c.self.inside.checksum) (state_in c.self.inside) c.self.invariant.1 c.args.now c.in-Some.chunk.now.message_id late (sym (half-front (g.C.Checksum.sum c.self.inside.checksum) (state_in c.self.inside) c.self.invariant.1 c.args.now c.in-Some.chunk.now shown c.if-chunk.false)) in
+    let late : tailing (record_in c.self.inside) c.args.now ≡ Some c.in-Some.chunk.now.message_id = tails (g.C.Checksum.sum c.self.inside.checksum)
+    (state_in c.self.inside) c.self.invariant.1 c.args.now c.in-Some.chunk.now shown c.if-chunk.false (sym c.is_past.ensures ∙ c.if-not-is_past.false) in
+    let next = rest-fits (g.C.Checksum.sum c.self.inside.checksum)
+    (state_in c.self.inside) c.self.invariant.1 c.args.now c.in-Some.chunk.now.message_id late (sym (half-front (g.C.Checksum.sum c.self.inside.checksum)
+    (state_in c.self.inside) c.self.invariant.1 c.args.now c.in-Some.chunk.now shown c.if-chunk.false)) in
     c.in-Err.ensures.refused ∙ ap (λ b. if b then OutOfMemory else TsnsUsedUp) next
 
 pub unreachable-requires : goal.unreachable-requires
 unreachable-requires g c =
     let shown : next_pending c.self.inside.sender.flight.queue.pending ≡ Some c.in-Some.chunk.now = search rules in
-    let late : tailing (record_in c.self.inside) c.args.now ≡ Some c.in-Some.chunk.now.message_id = tails (g.C.Checksum.sum c.self.inside.checksum) (state_in c.self.inside) c.self.invariant.1 c.args.now c.in-Some.chunk.now shown c.if-chunk.false (sym c.is_past.ensures ∙ c.if-not-is_past.false) in
-    never-none c.in-Ok.gone (expiring_tail c.args.now c.self.inside.sender.flight.queue) c.in_default-gone.is c.in-Ok.ensures.answer (past_deadline (g.C.Checksum.sum c.self.inside.checksum) (state_in c.self.inside) c.self.invariant.1 c.args.now c.in-Some.chunk.now.message_id late)
+    let late : tailing (record_in c.self.inside) c.args.now ≡ Some c.in-Some.chunk.now.message_id = tails (g.C.Checksum.sum c.self.inside.checksum)
+    (state_in c.self.inside) c.self.invariant.1 c.args.now c.in-Some.chunk.now shown c.if-chunk.false (sym c.is_past.ensures ∙ c.if-not-is_past.false) in
+    never-none c.in-Ok.gone (expiring_tail c.args.now c.self.inside.sender.flight.queue) c.in_default-gone.is c.in-Ok.ensures.answer
+    (past_deadline (g.C.Checksum.sum c.self.inside.checksum) (state_in c.self.inside) c.self.invariant.1 c.args.now c.in-Some.chunk.now.message_id late)
 
 pub returns-in-Err-clause-wants : goal.returns-in-Err-clause-wants
 returns-in-Err-clause-wants g c =
     let shown : next_pending c.self.inside.sender.flight.queue.pending ≡ Some c.in-Some.chunk.now = search rules in
-    let late : tailing (record_in c.self.inside) c.args.now ≡ Some c.in-Some.chunk.now.message_id = tails (g.C.Checksum.sum c.self.inside.checksum) (state_in c.self.inside) c.self.invariant.1 c.args.now c.in-Some.chunk.now shown c.if-chunk.false (sym c.is_past.ensures ∙ c.if-not-is_past.false) in
+    let late : tailing (record_in c.self.inside) c.args.now ≡ Some c.in-Some.chunk.now.message_id = tails (g.C.Checksum.sum c.self.inside.checksum)
+    (state_in c.self.inside) c.self.invariant.1 c.args.now c.in-Some.chunk.now shown c.if-chunk.false (sym c.is_past.ensures ∙ c.if-not-is_past.false) in
     rw (← c.self.view_is) (ap is_some late)
 
 pub index_mut-message-requires : goal.index_mut-message-requires
 index_mut-message-requires g c =
     let shown : next_pending c.self.inside.sender.flight.queue.pending ≡ Some c.in-Some.chunk.now = search rules in
-    let late : tailing (record_in c.self.inside) c.args.now ≡ Some c.in-Some.chunk.now.message_id = tails (g.C.Checksum.sum c.self.inside.checksum) (state_in c.self.inside) c.self.invariant.1 c.args.now c.in-Some.chunk.now shown c.if-chunk.false (sym c.is_past.ensures ∙ c.if-not-is_past.false) in
+    let late : tailing (record_in c.self.inside) c.args.now ≡ Some c.in-Some.chunk.now.message_id = tails (g.C.Checksum.sum c.self.inside.checksum)
+    (state_in c.self.inside) c.self.invariant.1 c.args.now c.in-Some.chunk.now shown c.if-chunk.false (sym c.is_past.ensures ∙ c.if-not-is_past.false) in
     let told = told-of c.in-Ok.gone c.in-Some-gone.gone (expiring_tail c.args.now c.self.inside.sender.flight.queue) c.in-Some-gone.is c.in-Ok.ensures.answer in
-    let number : c.in-Some-gone.gone.number ≡ c.in-Some.chunk.now.message_id = number-is (g.C.Checksum.sum c.self.inside.checksum) (state_in c.self.inside) c.self.invariant.1 c.args.now c.in-Some.chunk.now.message_id late c.in-Some-gone.gone.number told.number in
-    let made : c.in-Some-gone.gone.number < length (record_in c.self.inside).messages = let m = (next-is (g.C.Checksum.sum c.self.inside.checksum) (state_in c.self.inside) c.self.invariant.1 c.in-Some.chunk.now shown).made in omega (arith, m, number) in
+    let number : c.in-Some-gone.gone.number ≡ c.in-Some.chunk.now.message_id = number-is (g.C.Checksum.sum c.self.inside.checksum)
+    (state_in c.self.inside) c.self.invariant.1 c.args.now c.in-Some.chunk.now.message_id late c.in-Some-gone.gone.number told.number in
+    let made : c.in-Some-gone.gone.number < length (record_in c.self.inside).messages = let m =
+    (next-is (g.C.Checksum.sum c.self.inside.checksum) (state_in c.self.inside) c.self.invariant.1 c.in-Some.chunk.now shown).made in
+    omega (arith, m, number) in
     omega (arith, made, length-mapped message_record c.self.inside.messages.items, c.self.inside.messages.ok.0)
 
 pub invariant_of-self-2 : goal.invariant_of-self-2
@@ -111,7 +131,8 @@ invariant_of-self-2 g c =
     let n = c.in-Some-gone.gone.number in
     let s = c.in-Some-gone.gone.stream in
     let bytes = c.in-Some-gone.gone.bytes in
-    let late : tailing (record_in c.self.inside) now ≡ Some c.in-Some.chunk.now.message_id = tails sum x l now c.in-Some.chunk.now shown c.if-chunk.false (sym c.is_past.ensures ∙ c.if-not-is_past.false) in
+    let late : tailing (record_in c.self.inside) now ≡ Some c.in-Some.chunk.now.message_id =
+    tails sum x l now c.in-Some.chunk.now shown c.if-chunk.false (sym c.is_past.ensures ∙ c.if-not-is_past.false) in
     let told = told-of c.in-Ok.gone c.in-Some-gone.gone (expiring_tail c.args.now c.self.inside.sender.flight.queue) c.in-Some-gone.is c.in-Ok.ensures.answer in
     let number : n ≡ c.in-Some.chunk.now.message_id = number-is sum x l now c.in-Some.chunk.now.message_id late n told.number in
     let made : n < length (record_in c.self.inside).messages = let m = (next-is sum x l c.in-Some.chunk.now shown).made in omega (arith, m, number) in
@@ -120,15 +141,22 @@ invariant_of-self-2 g c =
     let sent = some-of _ c.in-Ok.gone c.in-Some-gone.gone c.in-Some-gone.is c.in-Ok.ensures.some in
     let left = left-of c.expire_tail.new.self c.self.inside.sender c.in-Ok.gone c.in-Some-gone.gone c.in-Some-gone.is c.in-Ok.ensures.released _ sent in
     let r = gives-tail sum x l now n due s bytes then'.flight.queue then'.flight.next_tsn made told.stream refl refl left in
-    let both = on-sides c.self.inside.sender c.self.inside.receiver c.self.inside.progress c.self.invariant.0 s (less_by bytes) (after_abandonment (message_of (expiring_tail now c.self.inside.sender.flight.queue)) c.self.inside.sender.flight) c.expire_tail.new.self sent in
+    let both = on-sides c.self.inside.sender c.self.inside.receiver c.self.inside.progress c.self.invariant.0 s (less_by bytes)
+    (after_abandonment (message_of (expiring_tail now c.self.inside.sender.flight.queue)) c.self.inside.sender.flight) c.expire_tail.new.self sent in
     let ms = slice_set c.self.inside.messages.items n c.settle.new.message in
     let ss = c.settle.new.slots.items in
-    let half : true ≡ is_partially_sent (record_in c.self.inside) n = half-front sum x l now c.in-Some.chunk.now shown c.if-chunk.false ∙ ap (is_partially_sent (record_in c.self.inside)) (sym number) in
-    let more : c.settle.new.slots.items ≡ c.self.inside.slots.items ++ marks true n c.index_mut-message.result.now.sent = c.settle.ensures.slots ∙ ap (λ a. a ++ marks true n c.index_mut-message.result.now.sent) c.make_room.ensures.items in (
-      on-aligned c.self.inside.sender c.self.inside.receiver c.self.inside.progress c.self.invariant.0 s (less_by bytes) (after_abandonment (message_of (expiring_tail now c.self.inside.sender.flight.queue)) c.self.inside.sender.flight) c.expire_tail.new.self sent (λ l. refl),
-      subst (λ (y : Sides). IsLinked sum (record (state_from y c.self.inside) { recorded = record (record_from y c.self.inside) { messages = map message_record ms; slots = map slot_record ss }; progress = map progress_of ms })) (sym both)
+    let half : true ≡ is_partially_sent (record_in c.self.inside) n = half-front sum x l now c.in-Some.chunk.now shown c.if-chunk.false
+    ∙ ap (is_partially_sent (record_in c.self.inside)) (sym number) in
+    let more : c.settle.new.slots.items ≡ c.self.inside.slots.items ++ marks true n c.index_mut-message.result.now.sent = c.settle.ensures.slots
+    ∙ ap (λ a. a ++ marks true n c.index_mut-message.result.now.sent) c.make_room.ensures.items in (
+      on-aligned c.self.inside.sender c.self.inside.receiver c.self.inside.progress c.self.invariant.0 s (less_by bytes) (after_abandonment
+          (message_of (expiring_tail now c.self.inside.sender.flight.queue)) c.self.inside.sender.flight) c.expire_tail.new.self sent (λ l. refl),
+      subst (λ (y : Sides). IsLinked sum (record (state_from y c.self.inside)
+          { recorded = record (record_from y c.self.inside) { messages = map message_record ms; slots = map slot_record ss }; progress = map progress_of ms }))
+          (sym both)
           (linked-given sum x l (E.Tail now) refl n s bytes then'.flight.queue then'.flight.next_tsn r tt tt refl refl
-          c.self.inside.messages.items c.index_mut-message.result.now c.settle.new.message c.self.inside.slots.items c.settle.new.slots.items true refl refl refl refl c.index_mut-message.ensures.value c.settle.ensures.message half more),
+          c.self.inside.messages.items c.index_mut-message.result.now c.settle.new.message c.self.inside.slots.items c.settle.new.slots.items true refl refl
+          refl refl c.index_mut-message.ensures.value c.settle.ensures.message half more),
     )
 
 pub returns-clause-ok : goal.returns-clause-ok
@@ -141,7 +169,8 @@ returns-clause-ok g c =
     let n = c.in-Some-gone.gone.number in
     let s = c.in-Some-gone.gone.stream in
     let bytes = c.in-Some-gone.gone.bytes in
-    let late : tailing (record_in c.self.inside) now ≡ Some c.in-Some.chunk.now.message_id = tails sum x l now c.in-Some.chunk.now shown c.if-chunk.false (sym c.is_past.ensures ∙ c.if-not-is_past.false) in
+    let late : tailing (record_in c.self.inside) now ≡ Some c.in-Some.chunk.now.message_id =
+    tails sum x l now c.in-Some.chunk.now shown c.if-chunk.false (sym c.is_past.ensures ∙ c.if-not-is_past.false) in
     let told = told-of c.in-Ok.gone c.in-Some-gone.gone (expiring_tail c.args.now c.self.inside.sender.flight.queue) c.in-Some-gone.is c.in-Ok.ensures.answer in
     let number : n ≡ c.in-Some.chunk.now.message_id = number-is sum x l now c.in-Some.chunk.now.message_id late n told.number in
     let made : n < length (record_in c.self.inside).messages = let m = (next-is sum x l c.in-Some.chunk.now shown).made in omega (arith, m, number) in
@@ -150,13 +179,18 @@ returns-clause-ok g c =
     let sent = some-of _ c.in-Ok.gone c.in-Some-gone.gone c.in-Some-gone.is c.in-Ok.ensures.some in
     let left = left-of c.expire_tail.new.self c.self.inside.sender c.in-Ok.gone c.in-Some-gone.gone c.in-Some-gone.is c.in-Ok.ensures.released _ sent in
     let r = gives-tail sum x l now n due s bytes then'.flight.queue then'.flight.next_tsn made told.stream refl refl left in
-    let both = on-sides c.self.inside.sender c.self.inside.receiver c.self.inside.progress c.self.invariant.0 s (less_by bytes) (after_abandonment (message_of (expiring_tail now c.self.inside.sender.flight.queue)) c.self.inside.sender.flight) c.expire_tail.new.self sent in
+    let both = on-sides c.self.inside.sender c.self.inside.receiver c.self.inside.progress c.self.invariant.0 s (less_by bytes)
+    (after_abandonment (message_of (expiring_tail now c.self.inside.sender.flight.queue)) c.self.inside.sender.flight) c.expire_tail.new.self sent in
     let ms = slice_set c.self.inside.messages.items n c.settle.new.message in
     let ss = c.settle.new.slots.items in
-    let half : true ≡ is_partially_sent (record_in c.self.inside) n = half-front sum x l now c.in-Some.chunk.now shown c.if-chunk.false ∙ ap (is_partially_sent (record_in c.self.inside)) (sym number) in
-    let more : c.settle.new.slots.items ≡ c.self.inside.slots.items ++ marks true n c.index_mut-message.result.now.sent = c.settle.ensures.slots ∙ ap (λ a. a ++ marks true n c.index_mut-message.result.now.sent) c.make_room.ensures.items in
+    let half : true ≡ is_partially_sent (record_in c.self.inside) n = half-front sum x l now c.in-Some.chunk.now shown c.if-chunk.false
+    ∙ ap (is_partially_sent (record_in c.self.inside)) (sym number) in
+    let more : c.settle.new.slots.items ≡ c.self.inside.slots.items ++ marks true n c.index_mut-message.result.now.sent = c.settle.ensures.slots
+    ∙ ap (λ a. a ++ marks true n c.index_mut-message.result.now.sent) c.make_room.ensures.items in
     rw (← c.self.view_is) (record {
       right = tail-right sum x l now n s bytes due r.stream (r.grows ∙ ap (growth (record_in c.self.inside)) (sym r.is));
-      moves = ap (λ (y : Sides). record (record_from y c.self.inside) { messages = map message_record ms; slots = map slot_record ss }) both ∙ recorded-given sum x l (E.Tail now) refl n s bytes then'.flight.queue then'.flight.next_tsn r tt tt refl refl
-          c.self.inside.messages.items c.index_mut-message.result.now c.settle.new.message c.self.inside.slots.items c.settle.new.slots.items true refl refl refl refl c.index_mut-message.ensures.value c.settle.ensures.message half more ∙ sym r.is;
+      moves = ap (λ (y : Sides). record (record_from y c.self.inside) { messages = map message_record ms; slots = map slot_record ss }) both
+          ∙ recorded-given sum x l (E.Tail now) refl n s bytes then'.flight.queue then'.flight.next_tsn r tt tt refl refl
+          c.self.inside.messages.items c.index_mut-message.result.now c.settle.new.message c.self.inside.slots.items c.settle.new.slots.items true refl refl
+          refl refl c.index_mut-message.ensures.value c.settle.ensures.message half more ∙ sym r.is;
     })

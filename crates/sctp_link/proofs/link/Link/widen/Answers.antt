@@ -13,13 +13,16 @@ index_added-requires g c =
 pub loop-at-preserved : goal.loop-at-preserved
 loop-at-preserved g c =
     let w = c.args.self.now.recorded in
-    let next = widened-next w c.args.stream c.args.places.now c.loop-at.at c.index_added.result c.loop-at.ends c.wider-ends.result c.loop-at-test.true c.index_added.ensures c.wider-ends.ensures.some c.wider-ends.ensures.none in
+    let next = widened-next w c.args.stream c.args.places.now c.loop-at.at c.index_added.result c.loop-at.ends c.wider-ends.result c.loop-at-test.true
+    c.index_added.ensures c.wider-ends.ensures.some c.wider-ends.ensures.none in
     record { low = next.0 ∙ c.loop-at.invariant.low; high = next.1 ∙ c.loop-at.invariant.high }
 
 pub returns-clause-low : goal.returns-clause-low
 returns-clause-low g c =
-    sym (ap (λ ps. least c.loop-at.ends.0 (added_on c.args.self.now.recorded c.args.stream ps)) (drop_all c.loop-at.at c.args.places.now (omega (arith, c.loop-at-test.false)))) ∙ c.loop-at.invariant.low
+    sym (ap (λ ps. least c.loop-at.ends.0 (added_on c.args.self.now.recorded c.args.stream ps))
+    (drop_all c.loop-at.at c.args.places.now (omega (arith, c.loop-at-test.false)))) ∙ c.loop-at.invariant.low
 
 pub returns-clause-high : goal.returns-clause-high
 returns-clause-high g c =
-    sym (ap (λ ps. greatest c.loop-at.ends.1 (added_on c.args.self.now.recorded c.args.stream ps)) (drop_all c.loop-at.at c.args.places.now (omega (arith, c.loop-at-test.false)))) ∙ c.loop-at.invariant.high
+    sym (ap (λ ps. greatest c.loop-at.ends.1 (added_on c.args.self.now.recorded c.args.stream ps))
+    (drop_all c.loop-at.at c.args.places.now (omega (arith, c.loop-at-test.false)))) ∙ c.loop-at.invariant.high

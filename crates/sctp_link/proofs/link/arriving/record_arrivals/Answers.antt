@@ -17,7 +17,8 @@ loop-at-preserved c =
     elim c.match-arrivals-at.branch [
       | in-New w ↦ record {
         slots =
-            ap (arrived_in (drop (i + 1) ps) (drop (i + 1) bs)) (w.slots-is ∙ set-changed with_arrival c.loop-at.slots (slice_index_or ps i 0) _ (omega (arith, c.requires.inside i lt, inv.count)))
+            ap (arrived_in (drop (i + 1) ps) (drop (i + 1) bs))
+            (w.slots-is ∙ set-changed with_arrival c.loop-at.slots (slice_index_or ps i 0) _ (omega (arith, c.requires.inside i lt, inv.count)))
             ∙ slots-first ps bs i lt c.requires.count _ w.in-New.is c.loop-at.slots ∙ inv.slots;
         duplicates =
             ap (λ (v : Vec ℕ Global). v.items ++ repeated_of (drop (i + 1) ps) (drop (i + 1) bs)) w.duplicates-is
@@ -29,7 +30,8 @@ loop-at-preserved c =
         count = c.match-arrivals-at.auto.slots ∙ inv.count;
       }
       | in-Repeat w ↦ record {
-        slots = ap (arrived_in (drop (i + 1) ps) (drop (i + 1) bs)) w.slots-is ∙ slots-again ps bs i lt c.requires.count w.in-Repeat.is c.loop-at.slots ∙ inv.slots;
+        slots = ap (arrived_in (drop (i + 1) ps) (drop (i + 1) bs)) w.slots-is ∙ slots-again ps bs i lt c.requires.count w.in-Repeat.is c.loop-at.slots
+            ∙ inv.slots;
         duplicates =
             ap (λ (v : Vec ℕ Global). v.items ++ repeated_of (drop (i + 1) ps) (drop (i + 1) bs)) w.duplicates-is
             ∙ ap (λ ds. ds ++ repeated_of (drop (i + 1) ps) (drop (i + 1) bs)) w.push_reserved.ensures.items
@@ -37,7 +39,8 @@ loop-at-preserved c =
         new =
             ap (λ b. b || list_any is_first (drop (i + 1) bs)) w.new-is
             ∙ ap (λ b. c.loop-at.new || b) (any-again ps bs i lt c.requires.count w.in-Repeat.is) ∙ inv.new;
-        room = omega (arith, ap vec_len w.duplicates-is, ap vec_capacity w.duplicates-is, w.push_reserved.ensures.len, w.push_reserved.ensures.capacity, inv.room);
+        room =
+            omega (arith, ap vec_len w.duplicates-is, ap vec_capacity w.duplicates-is, w.push_reserved.ensures.len, w.push_reserved.ensures.capacity, inv.room);
         count = c.match-arrivals-at.auto.slots ∙ inv.count;
       }
     ]

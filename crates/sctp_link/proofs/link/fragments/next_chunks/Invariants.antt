@@ -7,6 +7,7 @@ use Rattle.sctp_serial.specs.DataChunks.{following_tsn}
 
 abbrev pub invariant-loop-sent : goal.invariant-loop-sent
 invariant-loop-sent l = record {
-  chunks : l.chunks.items ++ map C.PayloadData (further (l.limit / 16 - l.sent) l.limit l.used (following_tsn l.tsn) (after_sends (l.sent + 1) l.outbound.pending)) ≡ map C.PayloadData (chunks_taken l.limit l.fn.tsn l.outbound.pending);
+  chunks : l.chunks.items ++ map C.PayloadData (further (l.limit / 16 - l.sent) l.limit l.used (following_tsn l.tsn)
+      (after_sends (l.sent + 1) l.outbound.pending)) ≡ map C.PayloadData (chunks_taken l.limit l.fn.tsn l.outbound.pending);
   used : l.used < 2 ^ 33;
 }

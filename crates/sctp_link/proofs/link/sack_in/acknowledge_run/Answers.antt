@@ -14,7 +14,8 @@ loop-place-preserved c =
       acked = λ w acked i.
           marking-same w (and_one (and_run acked c.args.from c.loop-place.place) c.loop-place.place) (and_run acked c.args.from (c.loop-place.place + 1)) _
           (run-more acked c.args.from c.loop-place.place c.loop-place.auto.place)
-          (marking-one w (and_run acked c.args.from c.loop-place.place) c.loop-place.slots c.loop-place.place (fragment_slot 0 0) lt (c.loop-place.invariant.acked w acked i));
+          (marking-one w (and_run acked c.args.from c.loop-place.place) c.loop-place.slots c.loop-place.place (fragment_slot 0 0) lt
+          (c.loop-place.invariant.acked w acked i));
       count = length-set c.loop-place.slots c.loop-place.place _ ∙ c.loop-place.invariant.count;
       reach = omega (arith, c.loop-place-test.true);
     }

@@ -9,7 +9,8 @@ pub loop-place-preserved : goal.loop-place-preserved
 loop-place-preserved c =
     let lt : c.loop-place.place < length c.args.sack.now.gap_ack_blocks.items = search rules in
     record {
-      blocks = one-nearer c.args.behind c.loop-place.place c.args.sack.now.gap_ack_blocks.items c.loop-place.sack.gap_ack_blocks.items c.index.result.now c.nearer.result lt c.index.ensures c.nearer.ensures c.loop-place.invariant.blocks;
+      blocks = one-nearer c.args.behind c.loop-place.place c.args.sack.now.gap_ack_blocks.items c.loop-place.sack.gap_ack_blocks.items c.index.result.now
+          c.nearer.result lt c.index.ensures c.nearer.ensures c.loop-place.invariant.blocks;
       cumulative = c.loop-place.invariant.cumulative;
     }
 
