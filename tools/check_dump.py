@@ -3,13 +3,15 @@
 
     python3 tools/check_dump.py [--program PROGRAM] CAPTURE..
 
-PROGRAM is crates/sctpdump/out/sctpdump unless told otherwise (`rt run` in crates/sctpdump makes it). Each line has to be JSON. Where the capture is
+PROGRAM is crates/sctpdump/out/sctpdump unless told otherwise (`rt run` in crates/sctpdump makes it). Each line has to be JSON, as docs/sctpdump.schema.json has it. Where the capture is
 lines of hex text, each datagram is put together again from its members, and has to be the one of the capture. What `--summary` says of packets,
 bytes and chunks in all, and for each tag of DATA, I-DATA, SACK and FORWARD-TSN, has to be what the records have; associations are taken not to share
 a tag. What `--messages` prints of associations whose INIT was captured has to be each message of which every fragment was, put together by TSNs
 alone, but for those that a FORWARD-TSN or a reset stream cut off; and those of a stream in the order of their TSNs. Prints a line for each capture, and one for each fault; the exit status is 0 where there is none.
 """
 import json
+import os
+import re
 import subprocess
 import sys
 from collections import Counter, defaultdict
@@ -17,6 +19,48 @@ from collections import Counter, defaultdict
 FACTS = (
     "data_chunks", "data_bytes", "first_tsn", "last_tsn", "missing_tsns", "repeated_tsns", "streams", "gap_blocks", "duplicates", "skipped_to"
 )
+
+
+def schema():
+    """Returns what docs/sctpdump.schema.json says of a line."""
+    with open(f"{os.path.dirname(os.path.dirname(os.path.abspath(__file__)))}/docs/sctpdump.schema.json", encoding="utf-8") as text:
+        return json.load(text)
+
+
+KINDS = {"object": dict, "array": list, "string": str, "boolean": bool, "integer": int}
+
+
+def unfit(value, wanted, whole, at="line"):
+    """Returns where a value is not what a JSON Schema wants, of the words that ours has, or None."""
+    if "$ref" in wanted:
+        return unfit(value, whole["$defs"][wanted["$ref"].split("/")[-1]], whole, at)
+    if "oneOf" in wanted:
+        fits = [unfit(value, one, whole, at) for one in wanted["oneOf"]].count(None)
+        return None if fits == 1 else f"{at} is of {fits} forms"
+    if "enum" in wanted:
+        return None if value in wanted["enum"] else f"{at} is {value!r}"
+    if not isinstance(value, KINDS[wanted["type"]]) or (wanted["type"] == "integer" and isinstance(value, bool)):
+        return f"{at} is no {wanted['type']}"
+    if wanted["type"] == "integer" and not wanted.get("minimum", value) <= value <= wanted.get("maximum", value):
+        return f"{at} is {value}"
+    if wanted["type"] == "string" and not re.search(wanted.get("pattern", ""), value):
+        return f"{at} is {value!r}"
+    if wanted["type"] == "array":
+        return next(filter(None, (unfit(it, wanted["items"], whole, f"{at}[{i}]") for i, it in enumerate(value))), None)
+    return unfit_members(value, wanted, whole, at) if wanted["type"] == "object" else None
+
+
+def unfit_members(value, wanted, whole, at):
+    """The same of the members of an object."""
+    for key in wanted.get("required", []):
+        if key not in value:
+            return f"{at} has no {key}"
+    for key, it in value.items():
+        member = wanted.get("properties", {}).get(key, wanted["additionalProperties"])
+        found = f"{at} has {key}" if member is False else unfit(it, member, whole, f"{at}.{key}")
+        if found:
+            return found
+    return None
 
 
 def said(program, words, capture):
@@ -141,14 +185,17 @@ def check_messages(capture, records, said):
 
 def check(program, capture):
     """Returns the faults of a capture, and how many datagrams it has."""
-    records = [r for r in said(program, [], capture)[:-1] if "not_shown" not in r]
-    faults, wanted = [], datagrams(capture)
+    shown, summary, messages = (said(program, view, capture) for view in ([], ["--summary"], ["--messages"]))
+    whole = schema()
+    faults = [f"{capture}: {fault}" for fault in (unfit(line, whole, whole) for line in shown + summary + messages) if fault]
+    records = [r for r in shown[:-1] if "not_shown" not in r]
+    wanted = datagrams(capture)
     if wanted is not None:
-        faults = [f"{capture}: datagram {n} is another one" for n, (r, w) in enumerate(zip(records, wanted), 1) if datagram(r) != w]
+        faults += [f"{capture}: datagram {n} is another one" for n, (r, w) in enumerate(zip(records, wanted), 1) if datagram(r) != w]
         if len(records) != len(wanted):
             faults.append(f"{capture}: {len(records)} datagrams of {len(wanted)}")
-    faults += check_summary(capture, records, said(program, ["--summary"], capture))
-    return faults + check_messages(capture, records, said(program, ["--messages"], capture)), len(records)
+    faults += check_summary(capture, records, summary)
+    return faults + check_messages(capture, records, messages), len(records)
 
 
 def main(words):

@@ -5,9 +5,11 @@
 
 PROGRAM is crates/sctpdump/out/sctpdump unless told otherwise: `rt ci` leaves it there, and `rt run` in crates/sctpdump makes it. The frames hold one
 datagram behind the headers that the RFCs named below give, or none; with --tshark, tshark has to find the datagram in the same ones, between the same
-addresses. The runs are those of tools/dump_runs.txt: a line '$ sctpdump ..', run in crates/sctpdump/data and examples, and the lines that it prints.
+addresses. The lines of JSON of each capture have to be what docs/sctpdump.schema.json says. The runs are those of tools/dump_runs.txt: a line
+'$ sctpdump ..', run in crates/sctpdump/data and examples, and the lines that it prints.
 The last line is 'N passed, M failed'; the status is 0 where nothing failed.
 """
+import ipaddress
 import json
 import os
 import re
@@ -18,6 +20,8 @@ import subprocess
 import sys
 import tempfile
 
+import check_dump
+
 ROOT = os.path.dirname(os.path.dirname(os.path.abspath(__file__)))
 
 # A COOKIE-ACK from port 5000 to 5001 (RFC 4960 3, 3.3.12), with its checksum.
@@ -27,7 +31,7 @@ INNER4 = ("10.1.2.3", "10.4.5.6")
 INNER6 = ("2001:db8::1", "2001:db8::2")
 OUTER4 = ("192.0.2.1", "192.0.2.2")
 
-ETHERNET, LOOPBACK, RAW, COOKED, COOKED_2, PPI = 1, 0, 101, 113, 276, 192
+ETHERNET, LOOPBACK, RAW, COOKED, COOKED_2, PPI, EXPORTED = 1, 0, 101, 113, 276, 192, 252
 
 
 def ipv4(payload, protocol=132, ends=INNER4, fragment=0, total=None):
@@ -72,6 +76,19 @@ def tunnel(payload, depth=1):
     return payload
 
 
+def octets(end):
+    """The bytes of an address."""
+    return ipaddress.ip_address(end).packed
+
+
+def exported(tags, is_ended=True):
+    """A PDU as Wireshark exports it (its file epan/exported_pdu.h): tags of a number, the length of a value, and the value, one of number 0, the PDU."""
+    end = [(0, b"")] if is_ended else []
+    return b"".join(struct.pack(">HH", number, len(value)) + value for number, value in [*tags, *end]) + (DATAGRAM if is_ended else b"")
+
+
+NAME = (12, b"sctp")
+
 V4, V6 = ipv4(DATAGRAM), ipv6(DATAGRAM)
 
 # What it is, the link type, the frame, and the addresses between which the datagram goes, or why none is shown.
@@ -115,6 +132,16 @@ FRAMES = [
     ("a tunnel on loopback", LOOPBACK, struct.pack("<I", 2) + tunnel(V4), INNER4),
     ("a tunnel in a cooked frame", COOKED, bytes(14) + b"\x08\x00" + tunnel(V4), INNER4),
     ("a tunnel in a cooked frame of version 2", COOKED_2, b"\x08\x00" + bytes(18) + tunnel(V4), INNER4),
+    ("an exported PDU", EXPORTED, exported([NAME]), (None, None)),
+    ("one whose name is padded", EXPORTED, exported([(12, b"sctp\0\0\0\0")]), (None, None)),
+    ("one with addresses of IPv4", EXPORTED, exported([NAME, *zip((20, 21), map(octets, INNER4))]), INNER4),
+    ("one with addresses of IPv6", EXPORTED, exported([*zip((22, 23), map(octets, INNER6)), NAME]), INNER6),
+    ("one with other tags", EXPORTED, exported([(24, b"\0\0\0\4"), NAME, (36, b"text"), (30, b"\0\0\0\1")]), (None, None)),
+    ("one for another dissector", EXPORTED, exported([(12, b"data")]), "no SCTP"),
+    ("one for another dissector whose name begins so", EXPORTED, exported([(12, b"sctpx\0\0\0")]), "no SCTP"),
+    ("one for no dissector", EXPORTED, exported([(24, b"\0\0\0\4")]), "no SCTP"),
+    ("one with no last tag", EXPORTED, exported([NAME], False), "frame cut off"),
+    ("one with a tag that is cut off", EXPORTED, exported([NAME])[:10], "frame cut off"),
     ("a link type that is not known", PPI, bytes(60), "unknown link type 192"),
 ]
 
@@ -137,16 +164,19 @@ def seen_by_us(program, path):
         return record["not_shown"]
     if record.get("right") is not True or record["source_port"] != 5000 or record["destination_port"] != 5001:
         return f"another datagram: {record}"
-    return record["source"], record["destination"]
+    return record.get("source"), record.get("destination")
 
 
 def seen_by_tshark(path):
     """Returns the innermost addresses of the frame, if it holds SCTP."""
-    wanted = ["-e", "sctp.srcport", "-e", "ip.src", "-e", "ip.dst", "-e", "ipv6.src", "-e", "ipv6.dst", "-e", "frame.protocols"]
-    ran = subprocess.run(["tshark", "-r", path, "-T", "fields", *wanted], capture_output=True, text=True)
+    fields = ["sctp.srcport", "ip.src", "ip.dst", "ipv6.src", "ipv6.dst"]
+    fields += [f"exported_pdu.ip{version}_{end}" for version in ("v4", "v6") for end in ("src", "dst")] + ["frame.protocols"]
+    ran = subprocess.run(["tshark", "-r", path, "-T", "fields", *(it for field in fields for it in ("-e", field))], capture_output=True, text=True)
     port, *ends, protocols = ran.stdout.rstrip("\n").split("\t")
     if port != "5000":
         return None
+    if protocols.startswith("exported_pdu"):
+        return next((tuple(ends[at:at + 2]) for at in (4, 6) if ends[at]), (None, None))
     versions = [it for it in protocols.split(":") if it in ("ip", "ipv6")]
     at = 0 if versions[-1] == "ip" else 2
     return ends[at].split(",")[-1], ends[at + 1].split(",")[-1]
@@ -208,6 +238,18 @@ def run_tests(program, path):
     return counts
 
 
+def json_tests(program):
+    """Returns how many captures give lines of JSON that docs/sctpdump.schema.json allows in each view, and how many do not."""
+    counts, whole = [0, 0], check_dump.schema()
+    for folder in ("crates/sctpdump/data", "examples"):
+        for path in (f"{ROOT}/{folder}/{name}" for name in sorted(os.listdir(f"{ROOT}/{folder}")) if name.endswith((".hex", ".pcap", ".log", ".txt"))):
+            lines = [line for view in ([], ["--summary"], ["--messages"]) for line in check_dump.said(program, [*view, path], path)]
+            faults = list(filter(None, (check_dump.unfit(line, whole, whole) for line in lines)))
+            print("".join(f"{path}: {fault}\n" for fault in faults), end="")
+            counts[bool(faults)] += 1
+    return counts
+
+
 def tells_version(program):
     """Whether `--version` says the version of include/sctp.h."""
     with open(f"{ROOT}/include/sctp.h", encoding="utf-8") as header:
@@ -223,7 +265,8 @@ def main(words):
     has_tshark = "--tshark" in words
     words = [word for word in words if word != "--tshark"]
     program = os.path.abspath(words[0] if words else f"{ROOT}/crates/sctpdump/out/sctpdump")
-    passed, failed = (a + b for a, b in zip(frame_tests(program, has_tshark), run_tests(program, f"{ROOT}/tools/dump_runs.txt")))
+    runs = run_tests(program, f"{ROOT}/tools/dump_runs.txt")
+    passed, failed = (sum(counts) for counts in zip(frame_tests(program, has_tshark), runs, json_tests(program)))
     if tells_version(program):
         passed += 1
     else:

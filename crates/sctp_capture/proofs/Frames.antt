@@ -1,9 +1,10 @@
 -- Which parts of a frame its headers rule out.
 use Rattle.std.proofs.Common.{◌≡◌, ℕ, ◌+◌, ◌/◌, ◌<◌, ◌≤◌, ◌⊎◌, inl, inr, List, length, Result, Ok, Err, IfErr, arith}
-use Rattle.std.specs.Prelude.{slice_index}
+use Rattle.std.specs.Prelude.{slice_index, ◌≢◌}
 use Rattle.sctp_base.specs.Field.{u16_at}
 use Rattle.std.proofs.lemmas.Bool.{cases_order}
-use Rattle.sctp_capture.specs.Frame.{InUdp, IsCarried, IsIpv4Payload, IsIpv6Payload, IsIpPayload, IsTypePlace, IsMplsPlace, IsNetworkPlace, IsEthernetPlace, IsRawIp, IsPlace}
+use Rattle.sctp_capture.specs.Frame.{InUdp, IsCarried, IsIpv4Payload, IsIpv6Payload, IsIpPayload, IsTypePlace, IsMplsPlace, IsNetworkPlace, IsEthernetPlace, IsRawIp, IsPlace, InFrame}
+use Rattle.sctp_capture.specs.Exported.{IsExported, IsHeld}
 
 -- what holds with no look at the error
 pub of_err : {T E : Type 0} (r : Result T E) (P : E → Type 0) → ((y : E) → P y) → IfErr r P
@@ -114,3 +115,26 @@ only_place link_type frame a b (inr (inl x)) y = only_behind frame a b x.1 (only
 only_place link_type frame a b (inr (inr (inl x))) y = let e = only_raw link_type frame b x.0 y in omega (arith, e, x.1)
 only_place link_type frame a b (inr (inr (inr (inl x)))) y = let e = only_cooked link_type frame b x.0 y in omega (arith, e, x.1)
 only_place link_type frame a b (inr (inr (inr (inr x)))) y = let e = only_cooked_2 link_type frame b x.0 y in omega (arith, e, x.1)
+
+not_placed : (link_type : ℕ) (frame : List ℕ) (at : ℕ) → link_type ≡ 252 → IsPlace link_type frame at → ⊥
+not_placed link_type frame at is (inl (inl e, _)) = omega (arith, is, e)
+not_placed link_type frame at is (inl (inr e, _)) = omega (arith, is, e)
+not_placed link_type frame at is (inr (inl it)) = let e = it.0 in omega (arith, is, e)
+not_placed link_type frame at is (inr (inr (inl (inl e, _)))) = omega (arith, is, e)
+not_placed link_type frame at is (inr (inr (inl (inr (inl e), _)))) = omega (arith, is, e)
+not_placed link_type frame at is (inr (inr (inl (inr (inr (inl e)), _)))) = omega (arith, is, e)
+not_placed link_type frame at is (inr (inr (inl (inr (inr (inr (inl e))), _)))) = omega (arith, is, e)
+not_placed link_type frame at is (inr (inr (inl (inr (inr (inr (inr e))), _)))) = omega (arith, is, e)
+not_placed link_type frame at is (inr (inr (inr (inl it)))) = let e = it.0 in omega (arith, is, e)
+not_placed link_type frame at is (inr (inr (inr (inr it)))) = let e = it.0 in omega (arith, is, e)
+
+-- a frame of link type 252 holds what is exported
+pub held_exported : (link_type port : ℕ) (frame bytes : List ℕ) (missing : ℕ) → link_type ≡ 252 → ((b : List ℕ) → IsExported frame b → ⊥) → IsHeld link_type port frame bytes missing → ⊥
+held_exported link_type port frame bytes missing is none (inl it) = not_placed link_type frame it.at is it.place
+held_exported link_type port frame bytes missing is none (inr it) = none bytes it.1
+
+-- one of another holds what an IP packet carries
+pub held_framed : (link_type port : ℕ) (frame bytes : List ℕ) (missing : ℕ) → link_type ≢ 252 → ((b : List ℕ) (m : ℕ) → InFrame link_type port frame b m → ⊥)
+    → IsHeld link_type port frame bytes missing → ⊥
+held_framed link_type port frame bytes missing other none (inl it) = none bytes missing it
+held_framed link_type port frame bytes missing other none (inr it) = other it.0

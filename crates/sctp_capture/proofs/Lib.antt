@@ -3,9 +3,12 @@ pub mod Entries
 pub mod Lines
 pub mod Digits
 pub mod Leads
+pub mod Dumps
+pub mod Texts
 pub mod Heads
 pub mod Uppers
 pub mod Frames
 pub mod Tunnels
+pub mod Tags
 pub mod BlockPieces
 pub mod Pieces

@@ -141,18 +141,14 @@ more_found held more (Some r) is holds = more_line held more r is holds
 
 -- ---- of an input
 
--- the line that is read of what is held is the next of the input
-pub line_next : (a b e : Option (List ℕ)) (held : List ℕ) (found : Option Record) → Keeps a (prepend_known held b) → HoldsLine held ⊎ IsAtEnd b → 0 < length held → IsLineFound held found
-    → IfSome (prepend_known held b) (λ xs. Keeps (Some (after_line xs)) e) → IfSome a (λ xs. (0 < length xs) × IsLineFound xs found × Keeps (Some (after_line xs)) e)
-line_next None b e held found keeps holds some is left = tt
-line_next (Some xs) None e held found keeps holds some is left = absurd keeps
-line_next (Some xs) (Some ys) e held found keeps (inl holds) some is left =
-    let longer : 0 < length (held ++ ys) = rw length-append (omega (arith, some)) in
-    rw (← keeps) (longer, more_found held ys found is holds, left)
-line_next (Some xs) (Some ys) e held found keeps (inr ended) some is left =
-    let same : held ++ ys ≡ held = ap (λ l. held ++ l) ended ∙ append-nil held in
-    let all : xs ≡ held = sym keeps ∙ same in
-    rw all (some, is, rw same at left)
+-- the line that is read of what is held is the first of the input
+pub line_single : (b e : Option (List ℕ)) (held : List ℕ) (found : Option Record) → HoldsLine held ⊎ IsAtEnd b → IsLineFound held found
+    → IfSome (prepend_known held b) (λ xs. Keeps (Some (after_line xs)) e) → IfSome (prepend_known held b) (λ xs. IsLineFound xs found × Keeps (Some (after_line xs)) e)
+line_single None e held found holds is left = tt
+line_single (Some ys) e held found (inl holds) is left = (more_found held ys found is holds, left)
+line_single (Some ys) e held found (inr ended) is left =
+    let all : held ++ ys ≡ held = ap (λ l. held ++ l) ended ∙ append-nil held in
+    (rw all is, left)
 
 -- where nothing is held nothing is left
 pub line_none : (a b : Option (List ℕ)) (held : List ℕ) → Keeps a (prepend_known held b) → HoldsLine held ⊎ IsAtEnd b → length held ≡ 0 → IfSome a (λ xs. xs ≡ [])

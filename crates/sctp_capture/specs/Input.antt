@@ -9,7 +9,8 @@ use Rattle.sctp_capture.specs.declared.input.Format.TheVariants.{Lines, Capture,
 use Rattle.sctp_capture.specs.declared.blocks.Taken.{Taken}
 use Rattle.sctp_capture.specs.declared.blocks.Taken.TheVariants as taken
 use Rattle.sctp_capture.specs.Kind.{IsNoOther}
-use Rattle.sctp_capture.specs.Record.{IsHead, IsEntry, IsLineFound, after_entry, after_line}
+use Rattle.sctp_capture.specs.Record.{IsHead, IsEntry, after_entry}
+use Rattle.sctp_capture.specs.Text.{IsText}
 use Rattle.sctp_capture.specs.Blocks.{Known, Piece, IsBegun, IsBlocks, IsBlock, IsEnd}
 
 -- the format of an input, and what is left to read of it then
@@ -21,10 +22,9 @@ IsOpened (Capture h) bytes left = IsHead bytes h × Keeps (Some (drop 24 bytes))
 IsOpened Blocks bytes left =
     ((h : Head) → IsHead bytes h → ⊥) × IsBlocks bytes × Keeps (Some bytes) left
 
--- the piece that the bytes begin with: a line, an entry, or a block
+-- the piece that the bytes begin with: a line or a dump, an entry, or a block
 abbrev pub IsPiece : Format → Known → List ℕ → Piece → Type 0
-IsPiece Lines k bytes p =
-    IsLineFound bytes p.found × (p.known ≡ k) × (p.left ≡ after_line bytes)
+IsPiece Lines k bytes p = IsText bytes p.found p.left × (p.known ≡ k)
 IsPiece (Capture h) k bytes p =
     IsSomeAnd p.found (IsEntry h bytes) × (p.known ≡ k) × (p.left ≡ after_entry h bytes)
 IsPiece Blocks k bytes p = IsBlock k bytes p
@@ -38,7 +38,7 @@ Pieces format k bytes (p ∷ ps) after rest =
 abbrev pub records_of : List Piece → List Record
 records_of pieces = flat_map (λ p. option_to_list p.found) pieces
 
--- The records of an input: the entries of a capture, those of its blocks that are records, or else its lines. They go
+-- The records of an input: the entries of a capture, those of its blocks that are records, or else its lines and dumps. They go
 -- to the last byte, or to where no next block can be found; or else this stopped them.
 pub record IsInput (stopped : Type 0) (bytes : List ℕ) (records : List Record) : Type 0 where
   pub format : Format

@@ -2,7 +2,11 @@ pub mod Window
 pub mod Record
 pub mod Fault
 pub mod Lead
+pub mod Dump
+pub mod Preamble
+pub mod Text
 pub mod Blocks
 pub mod Frame
+pub mod Exported
 pub mod Kind
 pub mod Input

@@ -11,8 +11,6 @@ use Rattle.sctp_capture.specs.declared.record.Time.{Time}
 use Rattle.sctp_capture.specs.declared.record.Fault.TheVariants.{NotHex, CutOff, TooLong}
 use Rattle.sctp_capture.specs.declared.record.Record.{Record}
 use Rattle.sctp_capture.specs.Lead.{lead_of, said_in}
-use Rattle.sctp_capture.specs.declared.blocks.Taken.{Taken}
-use Rattle.sctp_capture.specs.declared.blocks.Taken.TheVariants as taken
 
 -- the number that stands in the four bytes from a place on
 abbrev pub number_at : Order → List ℕ → ℕ → ℕ
@@ -105,14 +103,6 @@ IsBlankLine bytes = (length (line_in bytes) ≤ 524288) × (digits_in (said_in (
 abbrev pub IsLineFound : List ℕ → Option Record → Type 0
 IsLineFound bytes None = IsBlankLine bytes
 IsLineFound bytes (Some r) = IsLine bytes r
-
--- the next line, and what is left then; none at the end of the bytes
-abbrev pub IsNextLine : List ℕ → Option (List ℕ) → Taken → Type 0
-IsNextLine bytes left taken.End = bytes ≡ []
-IsNextLine bytes left taken.Nothing =
-    (0 < length bytes) × IsBlankLine bytes × Keeps (Some (after_line bytes)) left
-IsNextLine bytes left (taken.Record r) =
-    (0 < length bytes) × IsLine bytes r × Keeps (Some (after_line bytes)) left
 
 -- ---- the next entry
 

@@ -2,8 +2,10 @@
 
 ghost use Rattle.std.specs.Prelude.{◌≡◌, ◌≢◌, ◌↔◌, ◌+◌, ◌≤◌, ◌<◌, ◌^◌, ℕ, List, length, IsTrue, IfOk, IfErr, IfSome, IfNone, IsOkAnd, IsSomeAnd, None};
 ghost use Rattle.sctp_capture.specs.Frame.{InUdp, IsCarried, end_of, held_to, cut_to, IsIpv4Payload, IsAtomic, IsPassed, passed_bytes, IsUpper, IsIpv6Payload, IsIpPayload, InIp, IsTag, IsTypePlace, IsPppoePlace, IsMplsPlace, IsNetworkPlace, IsEthernetPlace, IsVersion0, gre_header, IsGrePlace, IsGre, IsTunnelled, IsInner, IsPlace, InFrame, IsIpv4At, IsIpv6At, AreEnds, HasEnds};
+ghost use Rattle.sctp_capture.specs.Exported.{IsExported, AreExportedEnds, IsHeld, AreHeldEnds};
 ghost use Rattle.sctp_base.specs.Field;
 
+use crate::exported::{exported_ends, exported_pdu};
 use crate::record::Fault;
 use sctp_base::field::read_u16;
 use std::net::IpAddr;
@@ -122,7 +124,7 @@ fn inside_transport(
 }
 
 /// The address in four bytes.
-fn ipv4_at(packet: &[u8], at: usize) -> IpAddr
+pub fn ipv4_at(packet: &[u8], at: usize) -> IpAddr
     requires { at + 4 ≤ length packet.now }
     ensures { IsIpv4At packet.now at result }
 {
@@ -161,7 +163,7 @@ fn ipv4_payload(packet: &[u8]) -> Result<Upper<'_>, Fault>
 }
 
 /// The address in sixteen bytes.
-fn ipv6_at(packet: &[u8], at: usize) -> IpAddr
+pub fn ipv6_at(packet: &[u8], at: usize) -> IpAddr
     requires { at + 16 ≤ length packet.now }
     ensures { IsIpv6At packet.now at result }
 {
@@ -479,31 +481,58 @@ fn place_in(link_type: u32, frame: &[u8]) -> Result<usize, Fault>
     }
 }
 
-/// The datagram of a frame of this link type: what an IP packet carries, alone or in UDP to or from `port` (RFC 6951), also where that packet
-/// stands in up to four tunnels of GRE, and its ends are then its own; or the frame as it is, where the link type is 248 (SCTP). Of one that
-/// the frame does not hold to its end it has what is there, and how many bytes are missing. Refuses with `OtherLink`, `Short`, `Fragment` or
-/// `OtherProtocol`, and only where the frame holds none. It takes no memory.
-pub fn datagram_in(link_type: u32, frame: &[u8], port: u16) -> Result<Datagram<'_>, Fault>
-    ensures alone { link_type ≡ 248
-        → IsOkAnd result (λ d. (d.ends ≡ None) × (d.bytes.now ≡ frame.now) × (d.missing ≡ 0)) }
-    ensures carried { link_type ≢ 248
-        → IfOk result (λ d. InFrame link_type port frame.now d.bytes.now d.missing) }
+/// The datagram of a frame that holds an IP packet.
+fn inside_frame(link_type: u32, frame: &[u8], port: u16) -> Result<Datagram<'_>, Fault>
+    ensures carried { IfOk result (λ d. InFrame link_type port frame.now d.bytes.now d.missing) }
     ensures refused { IfErr result
         (λ _. (bytes : List ℕ) → (missing : ℕ)
         → InFrame link_type port frame.now bytes missing → ⊥) }
-    ensures ends { link_type ≢ 248
-        → IfOk result (λ d. HasEnds link_type frame.now d.ends) }
+    ensures ends { IfOk result (λ d. HasEnds link_type frame.now d.ends) }
 {
-    if link_type == 248 {
-        return Ok(Datagram {
-            ends: None,
-            bytes: frame,
-            missing: 0,
-        });
-    }
     let at = place_in(link_type, frame)?;
     if frame.len() <= at {
         return Err(Fault::Short);
     }
     inside_ip(innermost(&frame[at..]), port)
+}
+
+/// The datagram of a PDU that Wireshark exported.
+fn inside_exported(frame: &[u8]) -> Result<Datagram<'_>, Fault>
+    ensures found { IfOk result (λ d. IsExported frame.now d.bytes.now × (d.missing ≡ 0)) }
+    ensures refused { IfErr result (λ _. (bytes : List ℕ) → IsExported frame.now bytes → ⊥) }
+    ensures ends { IfOk result (λ d. AreExportedEnds frame.now d.ends) }
+{
+    let bytes = exported_pdu(frame)?;
+    Ok(Datagram {
+        ends: exported_ends(frame),
+        bytes,
+        missing: 0,
+    })
+}
+
+/// The datagram of a frame of this link type: what an IP packet carries, alone or in UDP to or from `port` (RFC 6951), also where that packet
+/// stands in up to four tunnels of GRE, and its ends are then its own; what Wireshark exported for its dissector of SCTP (252), with the
+/// ends that it says; or the frame as it is, where the link type is 248 (SCTP). Of one that the frame does not hold to its end it has what
+/// is there, and how many bytes are missing. Refuses with `OtherLink`, `Short`, `Fragment` or `OtherProtocol`, and only where the frame
+/// holds none. It takes no memory.
+pub fn datagram_in(link_type: u32, frame: &[u8], port: u16) -> Result<Datagram<'_>, Fault>
+    ensures alone { link_type ≡ 248
+        → IsOkAnd result (λ d. (d.ends ≡ None) × (d.bytes.now ≡ frame.now) × (d.missing ≡ 0)) }
+    ensures carried { link_type ≢ 248
+        → IfOk result (λ d. IsHeld link_type port frame.now d.bytes.now d.missing) }
+    ensures refused { IfErr result
+        (λ _. (bytes : List ℕ) → (missing : ℕ)
+        → IsHeld link_type port frame.now bytes missing → ⊥) }
+    ensures ends { link_type ≢ 248
+        → IfOk result (λ d. AreHeldEnds link_type frame.now d.ends) }
+{
+    match link_type {
+        248 => Ok(Datagram {
+            ends: None,
+            bytes: frame,
+            missing: 0,
+        }),
+        252 => inside_exported(frame),
+        _ => inside_frame(link_type, frame, port),
+    }
 }

@@ -7,9 +7,8 @@ ghost use Rattle.sctp_capture.specs.Input.{IsOpened, Takes, taken_by, unread_by}
 
 use crate::blocks::{Section, Taken, begins_blocks, holds_block, next_block};
 use crate::kind::{Kind, other_kind};
-use crate::record::{
-    CAPTURE_HEADER, Head, Record, holds_entry, holds_line, next_entry, next_line, read_head,
-};
+use crate::record::{CAPTURE_HEADER, Head, Record, holds_entry, next_entry, read_head};
+use crate::text::{holds_text, next_text};
 use crate::window::Window;
 use std::alloc::{AllocError, Global};
 use std::io::Read;
@@ -34,7 +33,7 @@ impl From<AllocError> for ReadFault {
 /// What an input is.
 #[derive(Clone, Copy, Debug, PartialEq, Eq)]
 pub enum Format {
-    /// Lines of hex text, a datagram each.
+    /// Lines of hex text, a datagram each, and dumps of several lines.
     Lines,
     /// A classic capture.
     Capture(Head),
@@ -89,7 +88,7 @@ pub fn next_piece<R: Read + Drop>(
         (prepend_known window.new.held.items (R.remaining window.new.reader)))) }
 {
     match format {
-        Format::Lines => next_line(alloc, window),
+        Format::Lines => next_text(alloc, window),
         Format::Capture(head) => Ok(taken_of(next_entry(alloc, window, &head)?)),
         Format::Blocks => next_block(alloc, window, section),
     }
@@ -98,7 +97,7 @@ pub fn next_piece<R: Read + Drop>(
 /// Whether the next piece of an input is held whole, so that it can be taken with no wait.
 pub fn holds_piece(format: Format, section: &Section, held: &[u8]) -> bool {
     match format {
-        Format::Lines => holds_line(held),
+        Format::Lines => holds_text(held),
         Format::Capture(head) => holds_entry(&head, held),
         Format::Blocks => holds_block(section.order, held),
     }

@@ -38,7 +38,7 @@ fn fits(wanted: u8, byte: u8) -> bool
 }
 
 /// Whether a line begins as a pattern says.
-fn begins_so(pattern: &[u8], line: &[u8]) -> bool
+pub fn begins_so(pattern: &[u8], line: &[u8]) -> bool
     ensures is { result ≡ leads.begins_so pattern.now line.now }
     ensures long { IsTrue result → length pattern.now ≤ length line.now }
 {
@@ -54,7 +54,7 @@ fn begins_so(pattern: &[u8], line: &[u8]) -> bool
 }
 
 /// The direction that a mark says.
-fn direction_of(mark: u8) -> Direction
+pub fn direction_of(mark: u8) -> Direction
     ensures { result ≡ leads.direction_of mark }
 {
     if mark == b'I' {
@@ -66,7 +66,7 @@ fn direction_of(mark: u8) -> Direction
 
 /// The number that two digits say.
 /// Precondition: they are there.
-fn two_at(line: &[u8], at: usize) -> u64
+pub fn two_at(line: &[u8], at: usize) -> u64
     requires { at + 2 ≤ length line.now }
     ensures is { result ≡ leads.two_at line.now at }
     ensures few { result < 2295 }
@@ -76,7 +76,7 @@ fn two_at(line: &[u8], at: usize) -> u64
 
 /// The number that three digits say.
 /// Precondition: they are there.
-fn three_at(line: &[u8], at: usize) -> u64
+pub fn three_at(line: &[u8], at: usize) -> u64
     requires { at + 3 ≤ length line.now }
     ensures is { result ≡ leads.three_at line.now at }
     ensures few { result < 23150 }
@@ -86,7 +86,7 @@ fn three_at(line: &[u8], at: usize) -> u64
 
 /// The seconds of a time of day, as `12:34:56`.
 /// Precondition: it is there.
-fn seconds_at(line: &[u8], at: usize) -> u64
+pub fn seconds_at(line: &[u8], at: usize) -> u64
     requires { at + 8 ≤ length line.now }
     ensures { result ≡ leads.seconds_at line.now at }
 {

@@ -2,9 +2,13 @@
 #![tactic(auto)]
 
 pub mod blocks;
+pub mod dump;
+pub mod exported;
 pub mod frame;
 pub mod input;
 pub mod kind;
 pub mod lead;
+pub mod preamble;
 pub mod record;
+pub mod text;
 pub mod window;

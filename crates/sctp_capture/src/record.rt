@@ -7,9 +7,8 @@ ghost use Rattle.sctp_capture.specs.declared.record.Fault.TheVariants.{NotHex};
 ghost use Rattle.sctp_capture.specs.Fault.{fault_text};
 ghost use Rattle.sctp_capture.specs.Lead as leads;
 ghost use Rattle.sctp_capture.specs.Lead.{said_in};
-ghost use Rattle.sctp_capture.specs.Record.{IsHead, magic_of, number_at, IsEntry, entry_span, after_entry, line_in, HoldsLine, is_blank, digits_in, IsLineFound, after_line, IsNext, IsNextLine};
+ghost use Rattle.sctp_capture.specs.Record.{IsHead, magic_of, number_at, IsEntry, entry_span, after_entry, line_in, HoldsLine, is_blank, digits_in, IsLineFound, after_line, IsNext};
 
-use crate::blocks::Taken;
 use crate::input::ReadFault;
 use crate::lead::{Lead, lead_of};
 use crate::window::Window;
@@ -95,6 +94,8 @@ pub enum Fault {
     BadBlock,
     /// A block names an interface that was not described.
     NoInterface,
+    /// The offset of a dump's line is not how many bytes stand before it.
+    BadOffset,
 }
 
 impl fmt::Display for Fault {
@@ -111,6 +112,7 @@ impl fmt::Display for Fault {
             Fault::OtherLink(link_type) => write!(f, "unknown link type {link_type}"),
             Fault::BadBlock => f.write_str("wrong length in a block"),
             Fault::NoInterface => f.write_str("unknown interface"),
+            Fault::BadOffset => f.write_str("wrong offset in a dump"),
         }
     }
 }
@@ -280,7 +282,7 @@ pub fn next_entry<R: Read + Drop>(
 
 /// How many bytes stand before the first line feed, or in all.
 #[tactic(auto, using(crate::proofs::Lines::line_stops, crate::proofs::Lines::line_goes_on))]
-fn line_length(bytes: &[u8]) -> usize
+pub fn line_length(bytes: &[u8]) -> usize
     ensures { result ≡ length (line_in bytes.now) }
 {
     for i in 0..bytes.len() {
@@ -299,7 +301,7 @@ pub fn holds_line(held: &[u8]) -> bool
 }
 
 /// Holds the line at the front with its line feed, more than a line may have, or all that there is.
-fn fill_line<R: Read + Drop>(window: &mut Window<R>) -> Result<(), ReadFault>
+pub fn fill_line<R: Read + Drop>(window: &mut Window<R>) -> Result<(), ReadFault>
     ensures keeps { OnOk result
         (Keeps (prepend_known window.old.held.items (R.remaining window.old.reader))
         (prepend_known window.new.held.items (R.remaining window.new.reader))) }
@@ -315,7 +317,7 @@ fn fill_line<R: Read + Drop>(window: &mut Window<R>) -> Result<(), ReadFault>
 }
 
 /// The record of a line with this frame.
-fn line_record(
+pub fn line_record(
     time: Option<Time>,
     direction: Option<Direction>,
     frame: Result<Bytes, Fault>,
@@ -334,7 +336,7 @@ fn line_record(
 }
 
 /// Whether a byte may stand between hex digits: a space, a tab or a carriage return.
-fn is_blank(byte: u8) -> bool
+pub fn is_blank(byte: u8) -> bool
     ensures { result ≡ is_blank byte }
 {
     byte == b' ' || byte == b'\t' || byte == b'\r'
@@ -366,7 +368,7 @@ fn line_digits(alloc: Global, line: &[u8], lead: &Lead) -> Result<Vec<u8>, Alloc
 }
 
 /// Reads the line that the bytes begin with. There is no record where it has nothing behind its lead but blanks and a comment.
-fn read_line(alloc: Global, held: &[u8]) -> Result<Option<Record>, AllocError>
+pub fn read_line(alloc: Global, held: &[u8]) -> Result<Option<Record>, AllocError>
     ensures { IfOk result (IsLineFound held.now) }
 {
     let length = line_length(held);
@@ -396,7 +398,7 @@ fn read_hex(alloc: Global, text: &[u8]) -> Result<Result<Bytes, Fault>, AllocErr
 }
 
 /// Drops the line at the front, with its line feed.
-fn skip_line<R: Read + Drop>(window: &mut Window<R>) -> Result<(), ReadFault>
+pub fn skip_line<R: Read + Drop>(window: &mut Window<R>) -> Result<(), ReadFault>
     ensures { OnOk result
         (IfSome (prepend_known window.old.held.items (R.remaining window.old.reader)) (λ xs.
         Keeps (Some (after_line xs)) (prepend_known window.new.held.items
@@ -417,20 +419,20 @@ fn skip_line<R: Read + Drop>(window: &mut Window<R>) -> Result<(), ReadFault>
     Err(ReadFault::Input(None))
 }
 
-/// Takes the next line. There is none at the end of the input.
-pub fn next_line<R: Read + Drop>(alloc: Global, window: &mut Window<R>) -> Result<Taken, ReadFault>
+/// Takes the line at the front.
+/// Precondition: it is held.
+pub fn take_single<R: Read + Drop>(
+    alloc: Global,
+    window: &mut Window<R>,
+) -> Result<Option<Record>, ReadFault>
+    requires { (0 < length window.old.held.items) × (HoldsLine window.old.held.items
+        ⊎ IsAtEnd (R.remaining window.old.reader)) }
     ensures { IfOk result
-        (λ taken. IfSome (prepend_known window.old.held.items (R.remaining window.old.reader)) (λ xs.
-        IsNextLine xs (prepend_known window.new.held.items (R.remaining window.new.reader)) taken)) }
+        (λ found. IfSome (prepend_known window.old.held.items (R.remaining window.old.reader)) (λ xs.
+        IsLineFound xs found × Keeps (Some (after_line xs))
+        (prepend_known window.new.held.items (R.remaining window.new.reader)))) }
 {
-    fill_line(window)?;
-    if window.held().is_empty() {
-        return Ok(Taken::End);
-    }
     let found = read_line(alloc, window.held())?;
     skip_line(window)?;
-    match found {
-        Some(record) => Ok(Taken::Record(record)),
-        None => Ok(Taken::Nothing),
-    }
+    Ok(found)
 }

@@ -7,7 +7,7 @@ use Rattle.sctp_dissect.specs.Dissection.{ReadsHeader, Shows, Stops, IsShort}
 use Rattle.sctp_capture.specs.declared.record.Fault.{Fault}
 use Rattle.sctp_capture.specs.declared.record.Record.{Record}
 use Rattle.sctp_capture.specs.Fault.{fault_text}
-use Rattle.sctp_capture.specs.Frame.{InFrame}
+use Rattle.sctp_capture.specs.Exported.{IsHeld}
 use Rattle.sctp_show.specs.declared.page.Form.{Form}
 use Rattle.sctp_show.specs.declared.page.Form.TheVariants.{Text, Json}
 use Rattle.sctp_show.specs.declared.text.Options.{Options}
@@ -37,7 +37,7 @@ fault_line o number fault =
 -- the datagram in a frame: all of it, or what an IP packet carries, of which so many bytes are missing
 pub record Holds (link_type port : ℕ) (frame datagram : List ℕ) (missing : ℕ) : Type 0 where
   pub alone : link_type ≡ 248 → (datagram ≡ frame) × (missing ≡ 0)
-  pub carried : link_type ≢ 248 → InFrame link_type port frame datagram missing
+  pub carried : link_type ≢ 248 → IsHeld link_type port frame datagram missing
 
 -- what a datagram shows
 pub record IsSeen (sum : List ℕ → ℕ) (datagram : List ℕ) (d : Dissection) : Type 0 where

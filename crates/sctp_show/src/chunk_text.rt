@@ -200,7 +200,27 @@ fn put_parameter_name(page: &mut Page, typ: u16) -> Result<(), AllocError> {
     page.words("Parameter name", "name", name)
 }
 
-/// A parameter: its type and name, what it is read as or why it is refused, and its value.
+/// The chunk types that a parameter lists by their numbers, where it does: Supported Extensions (RFC 5061 4.2.7) and Chunk List (RFC 4895 3.2).
+fn put_chunk_types(
+    alloc: Global,
+    page: &mut Page,
+    typ: u16,
+    value: &[u8],
+) -> Result<(), AllocError> {
+    if typ != 32_776 && typ != 32_771 {
+        return Ok(());
+    }
+    let mut names = String::new(alloc);
+    for typ in value {
+        if !names.is_empty() {
+            names.push_str(", ")?;
+        }
+        ChunkName(*typ).put(&mut names)?;
+    }
+    page.words("Chunk types", "chunk_types", &names)
+}
+
+/// A parameter: its type and name, what it is read as or why it is refused, its value, and the chunk types that this lists.
 fn put_param(
     alloc: Global,
     page: &mut Page,
@@ -214,6 +234,7 @@ fn put_param(
     let length = u16_at(item.bytes.as_slice(), 2) as usize;
     let value = item.bytes.as_slice().get(4..length).unwrap_or(b"");
     page.bytes(alloc, "Parameter value", "value", value)?;
+    put_chunk_types(alloc, page, typ, value)?;
     page.in_json("}")
 }
 
@@ -249,7 +270,19 @@ fn put_name(alloc: Global, page: &mut Page, code: &ErrorCauseCode) -> Result<(),
     page.words("Cause", "is", &words)
 }
 
-/// A cause: its code, its name and its value.
+/// The type of the chunk that a cause has in it, where it has one: Unrecognized Chunk Type (RFC 4960 3.3.10.6).
+fn put_cause_chunk(alloc: Global, page: &mut Page, cause: &ErrorCause) -> Result<(), AllocError> {
+    match cause.raw.as_slice().first() {
+        Some(typ) if cause.code.0 == 6 => {
+            let mut name = String::new(alloc);
+            ChunkName(*typ).put(&mut name)?;
+            page.words("Unrecognized chunk", "chunk", &name)
+        }
+        _ => Ok(()),
+    }
+}
+
+/// A cause: its code, its name and its value, and the type of the chunk in it.
 fn put_cause(
     alloc: Global,
     page: &mut Page,
@@ -259,6 +292,7 @@ fn put_cause(
     page.row(is_first, "Cause code", "code", cause.code.0 as u32)?;
     put_name(alloc, page, &cause.code)?;
     page.bytes(alloc, "Cause value", "value", cause.raw.as_slice())?;
+    put_cause_chunk(alloc, page, cause)?;
     page.in_json("}")
 }
 

@@ -103,7 +103,7 @@ impl Summary {
             put_count(text, "", self.cut, " cut off, ")?;
         }
         put_count(text, "", self.refused, " refused, ")?;
-        put_count(text, "", self.wrong_checksums, " wrong checksums;")
+        put_count(text, "", self.wrong_checksums, " wrong checksums")
     }
 
     /// The same in JSON.
@@ -129,12 +129,14 @@ impl Summary {
 
     /// How many chunks of each type there were.
     fn put_kinds(&self, text: &mut String) -> Result<(), AllocError> {
+        let mut lead = "; ";
         for typ in 0..=255u8 {
             let count = self.count_of(typ);
             if count > 0 {
-                text.push_str(" ")?;
+                text.push_str(lead)?;
                 ChunkName(typ).put(text)?;
                 put_count(text, " ", count, "")?;
+                lead = " ";
             }
         }
         text.push_str("\n")

@@ -76,7 +76,9 @@ const COUNT_HELP: &str = "End after COUNT records are shown";
 const PORT_HELP: &str = "The UDP port of SCTP in UDP, in place of 9899";
 
 const FILE_HELP: &str =
-    "Captures (pcap, pcapng), or lines of hex text; - or none for standard input";
+    "Captures (pcap, pcapng), lines of hex text, or dumps; - or none for standard input";
+
+const READ_HELP: &str = "Read FILE, before those that stand alone";
 
 /// What a message calls the standard input.
 const STANDARD_INPUT: &str = "standard input";
@@ -399,6 +401,11 @@ fn with_input<'a>(alloc: Global, command: Command<'a>) -> Result<Command<'a>, Al
     command
         .arg(flag(alloc, "no-checksum", "Do not compute checksums"))?
         .arg(valued(alloc, "port", "N", PORT_HELP))?
+        .arg(
+            valued(alloc, "read", "FILE", READ_HELP)
+                .short('r')
+                .action(ArgAction::Append),
+        )?
         .arg(files(alloc))
 }
 
@@ -421,6 +428,18 @@ fn filter_in<'a>(
         }
     }
     Ok(Ok(filter))
+}
+
+/// The inputs: those of `-r`, and then those that stand alone.
+fn files_in<'a>(alloc: Global, matches: &ArgMatches<'a>) -> Result<Vec<&'a str>, AllocError> {
+    let mut files = Vec::new(alloc);
+    for file in matches.get_strs("read").unwrap_or(&[]) {
+        files.push(*file)?;
+    }
+    for file in matches.get_strs("file").unwrap_or(&[]) {
+        files.push(*file)?;
+    }
+    Ok(files)
 }
 
 /// What is to be printed. Ladders and pictures have one form, and but for records nothing is printed in full.
@@ -544,9 +563,9 @@ fn main(rt: HostRuntime) -> anyhow::Result<ExitCode> {
             return Ok(ExitCode::from(if e.use_stderr() { 2 } else { 0 }));
         }
     };
-    let files = matches.get_strs("file").unwrap_or(&[]);
+    let files = files_in(alloc, &matches)?;
     match task_in(&rt, &matches, files.len())? {
-        Some(task) => run_files(&rt, &task, files),
+        Some(task) => run_files(&rt, &task, &files),
         None => Ok(ExitCode::from(2)),
     }
 }

@@ -1,20 +1,15 @@
-use Rattle.std.proofs.Common.{arith}
+use Rattle.std.proofs.Common.{◌≡◌, ◌≢◌, arith}
+use Rattle.std.proofs.lemmas.Grind.{common_steps}
 use Rattle.std.proofs.lemmas.Result.{IfErr-weaker}
-use Rattle.sctp_capture.proofs.Frames.{of_err, only_place}
-use Rattle.sctp_capture.proofs.Tunnels.{no_room, only_inner}
+use Rattle.sctp_capture.proofs.Frames.{held_exported, held_framed}
 use Rattle.sctp_capture.proofs.frame.datagram_in.Goals as goal
 
-pub returns-in_err-at-clause-refused : goal.returns-in_err-at-clause-refused
-returns-in_err-at-clause-refused c = of_err c.from_residual.result _ (λ e bytes missing it.
-    no_room c.args.port c.args.frame.now it.packet bytes missing it.at (c.in_err-at.ensures.refused it.at it.place) it.inner it.inside)
+pub returns-in-252-clause-refused : goal.returns-in-252-clause-refused
+returns-in-252-clause-refused c =
+    let is : c.args.link_type ≡ 252 = grind (arith, common_steps) in
+    IfErr-weaker c.inside_exported.result _ _ (λ e none bytes missing it. held_exported c.args.link_type c.args.port c.args.frame.now bytes missing is none it) c.inside_exported.ensures.refused
 
-pub returns-clause-refused : goal.returns-clause-refused
-returns-clause-refused c = IfErr-weaker c.inside_ip.result _ _ (λ e no bytes missing it.
-    let same = only_place c.args.link_type c.args.frame.now it.at c.in_ok-at.at it.place c.in_ok-at.ensures.found in
-    let inner = only_inner 4 _ it.packet c.innermost.result.now (rw same at it.inner) c.innermost.ensures in
-    no bytes missing (rw inner at it.inside)) c.inside_ip.ensures.refused
-
-pub returns-then-frame-at-clause-refused : goal.returns-then-frame-at-clause-refused
-returns-then-frame-at-clause-refused c bytes missing it =
-    let same = only_place c.args.link_type c.args.frame.now it.at c.in_ok-at.at it.place c.in_ok-at.ensures.found in
-    no_room c.args.port c.args.frame.now it.packet bytes missing it.at (omega (arith, same, c.if-frame-at.true)) it.inner it.inside
+pub returns-in_default-clause-refused : goal.returns-in_default-clause-refused
+returns-in_default-clause-refused c =
+    let other : c.args.link_type ≢ 252 = grind (arith, common_steps) in
+    IfErr-weaker c.inside_frame.result _ _ (λ e none bytes missing it. held_framed c.args.link_type c.args.port c.args.frame.now bytes missing other none it) c.inside_frame.ensures.refused
