@@ -1,5 +1,6 @@
 -- Blocks of which some bytes are held, and what is left behind them.
-use Rattle.std.proofs.Common.{◌≡◌, ℕ, ◌+◌, ◌<◌, ◌≤◌, true, false, List, [], ◌++◌, length, take, drop, Some, None, Err, IfSome, refl, ap, sym, ◌∙◌, inl, inr, arith}
+use Rattle.std.proofs.Common.{◌≡◌, ℕ, ◌+◌, ◌<◌, ◌≤◌, true, false, List, [], ◌++◌, length, take, drop, Some, None, Err, IfSome, refl, ap, sym, ◌∙◌, inl, inr}
+use Rattle.std.proofs.Common.{arith}
 use Rattle.std.specs.Prelude.{Option, ◌⊎◌}
 use Rattle.std.specs.Io.KnownBytes.{Keeps, IsAtEnd, prepend_known}
 use Rattle.std.proofs.lemmas.List.{append-nil, length-append, take-append-le}
@@ -15,7 +16,9 @@ use Rattle.sctp_capture.specs.Input.{IsTaken}
 use Rattle.sctp_capture.proofs.Entries.{number_more}
 
 more_order : (o : Order) (held more : List ℕ) → 12 ≤ length held → order_in o (held ++ more) ≡ order_in o held
-more_order o held more long = rw (number_more Big held more 0 (omega (arith, long)), number_more Big held more 8 (omega (arith, long)), number_more Little held more 8 (omega (arith, long))) refl
+more_order o held more long = rw
+    (number_more Big held more 0 (omega (arith, long)), number_more Big held more 8 (omega (arith, long)), number_more Little held more 8 (omega (arith, long)))
+    refl
 
 more_head : (o : Order) (held more : List ℕ) (h : BlockHead) → IsBlockHead o held h → IsBlockHead o (held ++ more) h
 more_head o held more h is =
@@ -39,7 +42,8 @@ less_head o held more h long is = record {
   fours = is.fours;
 }
 
-more_gives : (k after : Known) (h : BlockHead) (held more : List ℕ) (r : Option Record) → HoldsBlock h held → Gives k h (take h.length held) r after → Gives k h (take h.length (held ++ more)) r after
+more_gives : (k after : Known) (h : BlockHead) (held more : List ℕ) (r : Option Record) → HoldsBlock h held → Gives k h (take h.length held) r after
+    → Gives k h (take h.length (held ++ more)) r after
 more_gives k after h held more r holds is = record {
   section = is.section;
   other = is.other;
@@ -50,8 +54,9 @@ more_gives k after h held more r holds is = record {
 }
 
 -- fewer than twelve bytes are left
-pub block_cut : (k : Known) (a b e : Option (List ℕ)) (held : List ℕ) (r : Record) → k.is_lost ≡ false → Keeps a (prepend_known held b) → (12 ≤ length held) ⊎ IsAtEnd b
-    → 0 < length held → length held < 12 → r.frame ≡ Err CutOff → IfSome (prepend_known held b) (λ xs. Keeps (Some (drop 12 xs)) e) → IfSome a (λ xs. IsTaken Blocks k xs (Some r) k e)
+pub block_cut : (k : Known) (a b e : Option (List ℕ)) (held : List ℕ) (r : Record) → k.is_lost ≡ false → Keeps a (prepend_known held b)
+    → (12 ≤ length held) ⊎ IsAtEnd b → 0 < length held → length held < 12 → r.frame ≡ Err CutOff
+    → IfSome (prepend_known held b) (λ xs. Keeps (Some (drop 12 xs)) e) → IfSome a (λ xs. IsTaken Blocks k xs (Some r) k e)
 block_cut k None b e held r next keeps full some few cut left = tt
 block_cut k (Some xs) None e held r next keeps full some few cut left = absurd keeps
 block_cut k (Some xs) (Some ys) e held r next keeps (inl long) some few cut left = absurd (omega (arith, long, few))
@@ -85,7 +90,8 @@ headed k after bytes e h r next is gives left =
 -- the block whose head is held is the next of the input
 pub block_next : (k after : Known) (a b c e : Option (List ℕ)) (first held : List ℕ) (h : BlockHead) (r : Option Record) → k.is_lost ≡ false
     → Keeps a (prepend_known first b) → IsBlockHead k.order first h → Keeps (prepend_known first b) (prepend_known held c) → HoldsBlock h held ⊎ IsAtEnd c
-    → Gives k h (take h.length held) r after → IfSome (prepend_known held c) (λ xs. Keeps (Some (drop h.length xs)) e) → IfSome a (λ xs. IsTaken Blocks k xs r after e)
+    → Gives k h (take h.length held) r after → IfSome (prepend_known held c) (λ xs. Keeps (Some (drop h.length xs)) e)
+    → IfSome a (λ xs. IsTaken Blocks k xs r after e)
 block_next k after None b c e first held h r next k1 is k2 holds gives left = tt
 block_next k after (Some xs) None c e first held h r next k1 is k2 holds gives left = absurd k1
 block_next k after (Some xs) (Some ys) None e first held h r next k1 is k2 holds gives left = absurd k2

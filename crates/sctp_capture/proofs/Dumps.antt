@@ -20,7 +20,8 @@ pub skip_ends : (k at : ℕ) (line : List ℕ) → k < 16 → is_passed (char_at
 skip_ends k at line lt e = let is : 16 - k ≡ suc (16 - (k + 1)) = omega arith in rw is (skip_stop (16 - (k + 1)) (at + k) line e)
 
 -- a byte that is passed is behind
-pub skip_goes : (k at : ℕ) (line : List ℕ) → k < 16 → is_passed (char_at line (at + k)) ≡ true → skip_at (16 - k) line (at + k) ≡ skip_at (16 - (k + 1)) line (at + (k + 1))
+pub skip_goes : (k at : ℕ) (line : List ℕ) → k < 16 → is_passed (char_at line (at + k)) ≡ true
+    → skip_at (16 - k) line (at + k) ≡ skip_at (16 - (k + 1)) line (at + (k + 1))
 skip_goes k at line lt e =
     let is : 16 - k ≡ suc (16 - (k + 1)) = omega arith in
     let place : at + k + 1 ≡ at + (k + 1) = omega arith in
@@ -49,7 +50,8 @@ pub digits_ends : (k at : ℕ) (line : List ℕ) → k < 9 → is_digit (char_at
 digits_ends k at line lt e = let is : 9 - k ≡ suc (9 - (k + 1)) = omega arith in rw is (digits_stop (9 - (k + 1)) (at + k) line e)
 
 -- one digit more
-pub digits_goes : (k at : ℕ) (line : List ℕ) → k < 9 → is_digit (char_at line (at + k)) ≡ true → digits_at (9 - k) line (at + k) ≡ 1 + digits_at (9 - (k + 1)) line (at + (k + 1))
+pub digits_goes : (k at : ℕ) (line : List ℕ) → k < 9 → is_digit (char_at line (at + k)) ≡ true
+    → digits_at (9 - k) line (at + k) ≡ 1 + digits_at (9 - (k + 1)) line (at + (k + 1))
 digits_goes k at line lt e =
     let is : 9 - k ≡ suc (9 - (k + 1)) = omega arith in
     let place : at + k + 1 ≡ at + (k + 1) = omega arith in
@@ -71,7 +73,8 @@ unfolding says
 says_step n at number line same = let it : (value_of (char_at line (at + n)) == number % 16) ≡ true = grind (arith, nat_tests) in rw it refl
 
 -- another digit than that of the number
-pub says_ends : (digits k at number : ℕ) (line : List ℕ) → k < digits → value_of (char_at line (at + (digits - 1 - k))) ≢ number % 16 → says (digits - k) line at number ≡ false
+pub says_ends : (digits k at number : ℕ) (line : List ℕ) → k < digits → value_of (char_at line (at + (digits - 1 - k))) ≢ number % 16
+    → says (digits - k) line at number ≡ false
 says_ends digits k at number line lt other =
     let is : digits - k ≡ suc (digits - 1 - k) = omega arith in rw is (says_no (digits - 1 - k) at number line other)
 
@@ -110,7 +113,8 @@ pub bytes_go : (n k at : ℕ) (line all said : List ℕ) → k < n → is_byte_a
     → all ≡ (said ++ byte_at line at ∷ []) ++ bytes_at (n - (k + 1)) line (next_at (n - (k + 1)) line at)
 bytes_go n k at line all said lt e so =
     let is : n - k ≡ suc (n - (k + 1)) = omega arith in
-    let more : bytes_at (n - k) line at ≡ byte_at line at ∷ bytes_at (n - (k + 1)) line (next_at (n - (k + 1)) line at) = rw is (bytes_step (n - (k + 1)) at line e) in
+    let more : bytes_at (n - k) line at ≡ byte_at line at ∷ bytes_at (n - (k + 1)) line (next_at (n - (k + 1)) line at) =
+    rw is (bytes_step (n - (k + 1)) at line e) in
     so ∙ ap (λ l. said ++ l) more ∙ sym (append_assoc said (byte_at line at ∷ []) (bytes_at (n - (k + 1)) line (next_at (n - (k + 1)) line at)))
 
 -- no more are looked for

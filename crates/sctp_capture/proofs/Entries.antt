@@ -1,5 +1,6 @@
 -- Entries of which some bytes are held.
-use Rattle.std.proofs.Common.{◌≡◌, ℕ, ◌+◌, ◌<◌, ◌≤◌, ◌-◌, List, [], ◌++◌, length, take, drop, slice_range, Some, None, IfSome, refl, ap, sym, ◌∙◌, inl, inr, arith}
+use Rattle.std.proofs.Common.{◌≡◌, ℕ, ◌+◌, ◌<◌, ◌≤◌, ◌-◌, List, [], ◌++◌, length, take, drop, slice_range, Some, None, IfSome, refl, ap, sym, ◌∙◌, inl, inr}
+use Rattle.std.proofs.Common.{arith}
 use Rattle.std.specs.Prelude.{Option, ◌⊎◌}
 use Rattle.std.specs.Io.KnownBytes.{Keeps, IsAtEnd, prepend_known}
 use Rattle.std.proofs.lemmas.Bool.{cases_lt}
@@ -75,10 +76,10 @@ wanted_holds h a held more first rest wanted is_first is_held (inr ended) least 
 
 -- the entry that is read of what is held is the next of the input
 pub entry_next : (h : Head) (a b c e : Option (List ℕ)) (first held : List ℕ) (wanted span : ℕ) (r : Record)
-    → Keeps a (prepend_known first b) → (16 ≤ length first) ⊎ IsAtEnd b → Keeps (prepend_known first b) (prepend_known held c) → (wanted ≤ length held) ⊎ IsAtEnd c
-    → 16 ≤ wanted → (16 ≤ length first → number_at h.order first 8 ≤ 262144 → wanted ≡ entry_span h first)
-    → 0 < length held → IsEntry h held r → (length held < 16 → span ≡ 16) → (16 ≤ length held → span ≡ entry_span h held)
-    → IfSome (prepend_known held c) (λ xs. Keeps (Some (drop span xs)) e) → IfSome a (λ xs. (0 < length xs) × IsEntry h xs r × Keeps (Some (after_entry h xs)) e)
+    → Keeps a (prepend_known first b) → (16 ≤ length first) ⊎ IsAtEnd b → Keeps (prepend_known first b) (prepend_known held c) → (wanted ≤ length held)
+    ⊎ IsAtEnd c → 16 ≤ wanted → (16 ≤ length first → number_at h.order first 8 ≤ 262144 → wanted ≡ entry_span h first) → 0 < length held → IsEntry h held r
+    → (length held < 16 → span ≡ 16) → (16 ≤ length held → span ≡ entry_span h held) → IfSome (prepend_known held c) (λ xs. Keeps (Some (drop span xs)) e)
+    → IfSome a (λ xs. (0 < length xs) × IsEntry h xs r × Keeps (Some (after_entry h xs)) e)
 entry_next h None b c e first held wanted span r k1 f1 k2 f2 least whole some is short long left = tt
 entry_next h (Some xs) None c e first held wanted span r k1 f1 k2 f2 least whole some is short long left = absurd k1
 entry_next h (Some xs) (Some ys) None e first held wanted span r k1 f1 k2 f2 least whole some is short long left = absurd k2
@@ -99,8 +100,8 @@ entry_next h (Some xs) (Some ys) (Some zs) e first held wanted span r k1 f1 k2 (
     rw all (some, is, rw drops at here)
 
 -- where nothing is held nothing is left
-pub entry_none : (a b c : Option (List ℕ)) (first held : List ℕ) (wanted : ℕ) → Keeps a (prepend_known first b) → Keeps (prepend_known first b) (prepend_known held c)
-    → (wanted ≤ length held) ⊎ IsAtEnd c → 16 ≤ wanted → length held ≡ 0 → IfSome a (λ xs. xs ≡ [])
+pub entry_none : (a b c : Option (List ℕ)) (first held : List ℕ) (wanted : ℕ) → Keeps a (prepend_known first b)
+    → Keeps (prepend_known first b) (prepend_known held c) → (wanted ≤ length held) ⊎ IsAtEnd c → 16 ≤ wanted → length held ≡ 0 → IfSome a (λ xs. xs ≡ [])
 entry_none None b c first held wanted k1 k2 f2 least none = tt
 entry_none (Some xs) None c first held wanted k1 k2 f2 least none = absurd k1
 entry_none (Some xs) (Some ys) None first held wanted k1 k2 f2 least none = absurd k2

@@ -3,7 +3,8 @@ use Rattle.std.proofs.Common.{◌≡◌, ℕ, ◌+◌, ◌/◌, ◌<◌, ◌≤�
 use Rattle.std.specs.Prelude.{slice_index, ◌≢◌}
 use Rattle.sctp_base.specs.Field.{u16_at}
 use Rattle.std.proofs.lemmas.Bool.{cases_order}
-use Rattle.sctp_capture.specs.Frame.{InUdp, IsCarried, IsIpv4Payload, IsIpv6Payload, IsIpPayload, IsTypePlace, IsMplsPlace, IsNetworkPlace, IsEthernetPlace, IsRawIp, IsPlace, InFrame}
+use Rattle.sctp_capture.specs.Frame.{InUdp, IsCarried, IsIpv4Payload, IsIpv6Payload, IsIpPayload, IsTypePlace, IsMplsPlace, IsNetworkPlace, IsEthernetPlace}
+use Rattle.sctp_capture.specs.Frame.{IsRawIp, IsPlace, InFrame}
 use Rattle.sctp_capture.specs.Exported.{IsExported, IsHeld}
 
 -- what holds with no look at the error
@@ -12,8 +13,8 @@ of_err (Ok x) P f = tt
 of_err (Err y) P f = f y
 
 -- the protocol of UDP leaves one form
-pub only_udp : (port protocol : ℕ) (payload : List ℕ) (cut : ℕ) (bytes : List ℕ) (missing : ℕ) → protocol ≡ 17 → IsCarried port protocol payload cut bytes missing
-    → InUdp port payload cut bytes missing
+pub only_udp : (port protocol : ℕ) (payload : List ℕ) (cut : ℕ) (bytes : List ℕ) (missing : ℕ) → protocol ≡ 17
+    → IsCarried port protocol payload cut bytes missing → InUdp port payload cut bytes missing
 only_udp port protocol payload cut bytes missing e (inl it) = absurd (omega (arith, e, it.0))
 only_udp port protocol payload cut bytes missing e (inr it) = it.1
 
@@ -129,7 +130,8 @@ not_placed link_type frame at is (inr (inr (inr (inl it)))) = let e = it.0 in om
 not_placed link_type frame at is (inr (inr (inr (inr it)))) = let e = it.0 in omega (arith, is, e)
 
 -- a frame of link type 252 holds what is exported
-pub held_exported : (link_type port : ℕ) (frame bytes : List ℕ) (missing : ℕ) → link_type ≡ 252 → ((b : List ℕ) → IsExported frame b → ⊥) → IsHeld link_type port frame bytes missing → ⊥
+pub held_exported : (link_type port : ℕ) (frame bytes : List ℕ) (missing : ℕ) → link_type ≡ 252 → ((b : List ℕ) → IsExported frame b → ⊥)
+    → IsHeld link_type port frame bytes missing → ⊥
 held_exported link_type port frame bytes missing is none (inl it) = not_placed link_type frame it.at is it.place
 held_exported link_type port frame bytes missing is none (inr it) = none bytes it.1
 

@@ -31,7 +31,8 @@ less_head held more h long is = record {
 }
 
 -- a capture is opened
-pub opened_capture : (a b c : Option (List ℕ)) (held : List ℕ) (h : Head) → Keeps a (prepend_known held b) → IsHead held h → Drops (prepend_known held b) c 24 → IfSome a (λ xs. IsOpened (Capture h) xs c)
+pub opened_capture : (a b c : Option (List ℕ)) (held : List ℕ) (h : Head) → Keeps a (prepend_known held b) → IsHead held h → Drops (prepend_known held b) c 24
+    → IfSome a (λ xs. IsOpened (Capture h) xs c)
 opened_capture None b c held h keeps is drops = tt
 opened_capture (Some xs) None c held h keeps is drops = absurd keeps
 opened_capture (Some xs) (Some ys) c held h keeps is drops =
@@ -50,8 +51,8 @@ less_other : (held more : List ℕ) → 4 ≤ length held → IsNoOther held →
 less_other held more long other = ap kind_by (number_more Big held more 0 long) ∙ other long
 
 -- lines are opened
-pub opened_lines : (a b : Option (List ℕ)) (held : List ℕ) → Keeps a (prepend_known held b) → (24 ≤ length held) ⊎ IsAtEnd b → ((h : Head) → IsHead held h → ⊥) → (IsBlocks held → ⊥) → IsNoOther held
-    → IfSome a (λ xs. IsOpened Lines xs (prepend_known held b))
+pub opened_lines : (a b : Option (List ℕ)) (held : List ℕ) → Keeps a (prepend_known held b) → (24 ≤ length held) ⊎ IsAtEnd b → ((h : Head) → IsHead held h → ⊥)
+    → (IsBlocks held → ⊥) → IsNoOther held → IfSome a (λ xs. IsOpened Lines xs (prepend_known held b))
 opened_lines None b held keeps full none blocks other = tt
 opened_lines (Some xs) None held keeps full none blocks other = absurd keeps
 opened_lines (Some xs) (Some ys) held keeps (inl long) none blocks other =
@@ -63,11 +64,12 @@ opened_lines (Some xs) (Some ys) held keeps (inr ended) none blocks other =
     (λ h is. none h (rw same at is), λ is. blocks (rw same at is), rw (← same) at other, keeps)
 
 -- blocks are opened
-pub opened_blocks : (a b : Option (List ℕ)) (held : List ℕ) → Keeps a (prepend_known held b) → (24 ≤ length held) ⊎ IsAtEnd b → ((h : Head) → IsHead held h → ⊥) → IsBlocks held
-    → IfSome a (λ xs. IsOpened Blocks xs (prepend_known held b))
+pub opened_blocks : (a b : Option (List ℕ)) (held : List ℕ) → Keeps a (prepend_known held b) → (24 ≤ length held) ⊎ IsAtEnd b → ((h : Head) → IsHead held h → ⊥)
+    → IsBlocks held → IfSome a (λ xs. IsOpened Blocks xs (prepend_known held b))
 opened_blocks None b held keeps full none is = tt
 opened_blocks (Some xs) None held keeps full none is = absurd keeps
-opened_blocks (Some xs) (Some ys) held keeps (inl long) none is = (λ h head. none h (less_head held ys h long (rw keeps head)), rw keeps at (more_blocks held ys is), keeps)
+opened_blocks (Some xs) (Some ys) held keeps (inl long) none is =
+    (λ h head. none h (less_head held ys h long (rw keeps head)), rw keeps at (more_blocks held ys is), keeps)
 opened_blocks (Some xs) (Some ys) held keeps (inr ended) none is =
     let same : xs ≡ held = sym keeps ∙ ap (λ l. held ++ l) ended ∙ append-nil held in
     (λ h head. none h (rw same at head), rw (← same) at is, keeps)

@@ -15,7 +15,8 @@ short_line (w ∷ ws) [] short = refl
 short_line (w ∷ ws) (x ∷ xs) short = goes_wrong (fits w x) w x ws xs refl (short_line ws xs (omega (arith, short)))
 
 -- nor one with another byte in a place
-pub other_byte : (pattern line : List ℕ) (i : ℕ) → i < length pattern → i < length line → fits (slice_index pattern i) (slice_index line i) ≡ false → begins_so pattern line ≡ false
+pub other_byte : (pattern line : List ℕ) (i : ℕ) → i < length pattern → i < length line → fits (slice_index pattern i) (slice_index line i) ≡ false
+    → begins_so pattern line ≡ false
 other_byte [] line i within there other = absurd (omega (arith, within))
 other_byte (w ∷ ws) [] i within there other = refl
 other_byte (w ∷ ws) (x ∷ xs) zero within there other = rw other refl
@@ -23,7 +24,8 @@ other_byte (w ∷ ws) (x ∷ xs) (suc i) within there other =
     goes_wrong (fits w x) w x ws xs refl (other_byte ws xs i (omega (arith, within)) (omega (arith, there)) other)
 
 -- one with all of its bytes does
-pub all_bytes : (pattern line : List ℕ) → length pattern ≤ length line → ((k : ℕ) → k < length pattern → fits (slice_index pattern k) (slice_index line k) ≡ true) → begins_so pattern line ≡ true
+pub all_bytes : (pattern line : List ℕ) → length pattern ≤ length line
+    → ((k : ℕ) → k < length pattern → fits (slice_index pattern k) (slice_index line k) ≡ true) → begins_so pattern line ≡ true
 all_bytes [] line long each = refl
 all_bytes (w ∷ ws) [] long each = absurd (omega (arith, long))
 all_bytes (w ∷ ws) (x ∷ xs) long each =

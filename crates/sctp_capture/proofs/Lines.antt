@@ -1,5 +1,6 @@
 -- Lines of bytes of which some are held.
-use Rattle.std.proofs.Common.{◌≡◌, ℕ, ◌+◌, ◌<◌, ◌≤◌, Bool, true, false, zero, suc, List, [], ◌∷◌, ◌++◌, length, take, drop, slice_index, None, Some, IfSome, refl, ap, sym, ◌∙◌, inl, inr, arith, add-one}
+use Rattle.std.proofs.Common.{◌≡◌, ℕ, ◌+◌, ◌<◌, ◌≤◌, Bool, true, false, zero, suc, List, [], ◌∷◌, ◌++◌, length, take, drop, slice_index, None, Some, IfSome}
+use Rattle.std.proofs.Common.{refl, ap, sym, ◌∙◌, inl, inr, arith, add-one}
 use Rattle.std.specs.Prelude.{Option, ◌≢◌, ◌⊎◌, ◌==◌, IsSomeAnd, MatchResult, Ok, Err}
 use Rattle.hex.specs.Hex.{decode_of}
 use Rattle.sctp_capture.specs.declared.record.Fault.TheVariants.{NotHex}
@@ -21,7 +22,8 @@ line_other : (x : ℕ) (xs : List ℕ) → x ≢ 10 → line_in (x ∷ xs) ≡ x
 line_other x xs e = let it : (x == 10) ≡ false = grind (arith, nat_tests) in rw it refl
 
 -- the first line feed ends the line
-pub line_stops : (bytes : List ℕ) (i : ℕ) → i < length bytes → slice_index bytes i ≡ 10 → ((k : ℕ) → k < i → slice_index bytes k ≢ 10) → i ≡ length (line_in bytes)
+pub line_stops : (bytes : List ℕ) (i : ℕ) → i < length bytes → slice_index bytes i ≡ 10 → ((k : ℕ) → k < i → slice_index bytes k ≢ 10)
+    → i ≡ length (line_in bytes)
 line_stops [] i within is before = absurd (omega (arith, within))
 line_stops (x ∷ xs) zero within is before = let first : x ≡ 10 = is in sym (ap length (line_feed x xs first))
 line_stops (x ∷ xs) (suc i) within is before =
@@ -50,14 +52,15 @@ line_front [] = (omega arith, refl)
 line_front (x ∷ xs) = front_by (x == 10) x xs refl (line_front xs)
 
 -- a line without digits says nothing
-pub blank_front : (bytes digits : List ℕ) (n : ℕ) → n ≡ length (line_in bytes) → digits ≡ digits_in (said_in (take n bytes)) → length digits ≡ 0 → digits_in (said_in (line_in bytes)) ≡ []
+pub blank_front : (bytes digits : List ℕ) (n : ℕ) → n ≡ length (line_in bytes) → digits ≡ digits_in (said_in (take n bytes)) → length digits ≡ 0
+    → digits_in (said_in (line_in bytes)) ≡ []
 blank_front bytes digits n is says none =
     let front : line_in bytes ≡ take n bytes = (line_front bytes).1 ∙ ap (λ k. take k bytes) (sym is) in
     ap (λ l. digits_in (said_in l)) front ∙ sym says ∙ nil_from_length digits none
 
 -- a line with digits is the record that they and its lead say
-pub line_is : (bytes digits : List ℕ) (n : ℕ) (r : Record) → n ≡ length (line_in bytes) → n ≤ 524288 → digits ≡ digits_in (said_in (take n bytes)) → 0 < length digits
-    → r.link_type ≡ 248 → r.time ≡ (lead_of (take n bytes)).time → r.direction ≡ (lead_of (take n bytes)).direction
+pub line_is : (bytes digits : List ℕ) (n : ℕ) (r : Record) → n ≡ length (line_in bytes) → n ≤ 524288 → digits ≡ digits_in (said_in (take n bytes))
+    → 0 < length digits → r.link_type ≡ 248 → r.time ≡ (lead_of (take n bytes)).time → r.direction ≡ (lead_of (take n bytes)).direction
     → MatchResult (decode_of digits) (λ frame. r.frame ≡ Ok frame) (λ _. r.frame ≡ Err NotHex) → IsLine bytes r
 line_is bytes digits n r is short says some link_type time direction text =
     let front : line_in bytes ≡ take n bytes = (line_front bytes).1 ∙ ap (λ k. take k bytes) (sym is) in
@@ -74,7 +77,8 @@ line_is bytes digits n r is short says some link_type time direction text =
 -- ---- more bytes behind
 
 abbrev IsCut : List ℕ → List ℕ → Type 0
-IsCut held more = length (line_in held) < length held → (line_in (held ++ more) ≡ line_in held) × (after_line (held ++ more) ≡ drop (suc (length (line_in held))) held ++ more)
+IsCut held more = length (line_in held) < length held
+    → (line_in (held ++ more) ≡ line_in held) × (after_line (held ++ more) ≡ drop (suc (length (line_in held))) held ++ more)
 
 cut_by : (b : Bool) (x : ℕ) (xs more : List ℕ) → (x == 10) ≡ b → IsCut xs more → IsCut (x ∷ xs) more
 cut_by true x xs more e rest = rw e (λ lt. (refl, refl))
@@ -143,7 +147,8 @@ more_found held more (Some r) is holds = more_line held more r is holds
 
 -- the line that is read of what is held is the first of the input
 pub line_single : (b e : Option (List ℕ)) (held : List ℕ) (found : Option Record) → HoldsLine held ⊎ IsAtEnd b → IsLineFound held found
-    → IfSome (prepend_known held b) (λ xs. Keeps (Some (after_line xs)) e) → IfSome (prepend_known held b) (λ xs. IsLineFound xs found × Keeps (Some (after_line xs)) e)
+    → IfSome (prepend_known held b) (λ xs. Keeps (Some (after_line xs)) e)
+    → IfSome (prepend_known held b) (λ xs. IsLineFound xs found × Keeps (Some (after_line xs)) e)
 line_single None e held found holds is left = tt
 line_single (Some ys) e held found (inl holds) is left = (more_found held ys found is holds, left)
 line_single (Some ys) e held found (inr ended) is left =
@@ -151,7 +156,8 @@ line_single (Some ys) e held found (inr ended) is left =
     (rw all is, left)
 
 -- where nothing is held nothing is left
-pub line_none : (a b : Option (List ℕ)) (held : List ℕ) → Keeps a (prepend_known held b) → HoldsLine held ⊎ IsAtEnd b → length held ≡ 0 → IfSome a (λ xs. xs ≡ [])
+pub line_none : (a b : Option (List ℕ)) (held : List ℕ) → Keeps a (prepend_known held b) → HoldsLine held ⊎ IsAtEnd b → length held ≡ 0
+    → IfSome a (λ xs. xs ≡ [])
 line_none None b held keeps holds none = tt
 line_none (Some xs) None held keeps holds none = absurd keeps
 line_none (Some xs) (Some ys) held keeps (inl (inl lt)) none = absurd (omega (arith, lt, none))
@@ -189,11 +195,13 @@ alike_cut None b c held alike lt drops = tt
 alike_cut (Some xs) None c held alike lt drops = absurd alike
 alike_cut (Some xs) (Some ys) c held alike lt drops =
     let left : after_line xs ≡ drop (suc (length (line_in held))) held ++ ys = alike ∙ (line_cut held ys lt).1 in
-    let same : drop (length (line_in held) + 1) (held ++ ys) ≡ drop (suc (length (line_in held))) held ++ ys = rw add-one (drop-append-le (suc (length (line_in held))) held ys (omega (arith, lt))) in
+    let same : drop (length (line_in held) + 1)
+    (held ++ ys) ≡ drop (suc (length (line_in held))) held ++ ys = rw add-one (drop-append-le (suc (length (line_in held))) held ys (omega (arith, lt))) in
     rw drops (same ∙ sym left)
 
 -- at the end of the input nothing is left
-pub alike_end : (a b : Option (List ℕ)) (held : List ℕ) → IsLeftAlike a (prepend_known held b) → length held ≡ 0 → IsAtEnd b → IfSome a (λ xs. Keeps (Some (after_line xs)) (prepend_known held b))
+pub alike_end : (a b : Option (List ℕ)) (held : List ℕ) → IsLeftAlike a (prepend_known held b) → length held ≡ 0 → IsAtEnd b
+    → IfSome a (λ xs. Keeps (Some (after_line xs)) (prepend_known held b))
 alike_end None b held alike none ended = tt
 alike_end (Some xs) None held alike none ended = absurd alike
 alike_end (Some xs) (Some ys) held alike none ended =

@@ -11,7 +11,8 @@ use Rattle.sctp_capture.specs.Text.{IsNextText}
 use Rattle.sctp_capture.specs.Blocks.{Known, Piece}
 use Rattle.sctp_capture.specs.Input.{Takes, taken_by}
 
-pub text_taken : (k : Known) (a left : Option (List ℕ)) (next : Taken) → IfSome a (λ xs. IsNextText xs left next) → IfSome a (λ xs. Takes Lines k xs next k left)
+pub text_taken : (k : Known) (a left : Option (List ℕ)) (next : Taken) → IfSome a (λ xs. IsNextText xs left next)
+    → IfSome a (λ xs. Takes Lines k xs next k left)
 text_taken k None left next is = tt
 text_taken k (Some xs) left taken.End is = inl is
 text_taken k (Some xs) left taken.Nothing is =
@@ -21,7 +22,8 @@ text_taken k (Some xs) left (taken.Record r) is =
     let p : Piece = record { found = Some r; known = k; left = is.0 } in
     (p, is.1, (is.2, refl), refl, refl, is.3)
 
-pub entry_taken : (h : Head) (k : Known) (a left : Option (List ℕ)) (next : Option Record) → IfSome a (λ xs. IsNext (IsEntry h) (after_entry h) xs left next) → IfSome a (λ xs. Takes (Capture h) k xs (taken_by next) k left)
+pub entry_taken : (h : Head) (k : Known) (a left : Option (List ℕ)) (next : Option Record) → IfSome a (λ xs. IsNext (IsEntry h) (after_entry h) xs left next)
+    → IfSome a (λ xs. Takes (Capture h) k xs (taken_by next) k left)
 entry_taken h k None left next is = tt
 entry_taken h k (Some xs) left None is = inl is
 entry_taken h k (Some xs) left (Some r) is =

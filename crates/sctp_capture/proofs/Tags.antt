@@ -16,7 +16,8 @@ tag_cut k number at frame lt short =
     rw (one_more k lt, cut) refl
 
 -- the tag that is looked for
-pub tag_here : (k number at : ℕ) (frame : List ℕ) → k < 64 → tag_end frame at ≤ length frame → u16_at frame at ≡ number → tag_at (64 - k) number frame at ≡ Some at
+pub tag_here : (k number at : ℕ) (frame : List ℕ) → k < 64 → tag_end frame at ≤ length frame → u16_at frame at ≡ number
+    → tag_at (64 - k) number frame at ≡ Some at
 unfolding tag_at
 tag_here k number at frame lt fits is =
     let whole : ltb (length frame) (tag_end frame at) ≡ false = grind (arith, nat_tests) in
@@ -24,7 +25,8 @@ tag_here k number at frame lt fits is =
     rw (one_more k lt, whole, it) refl
 
 -- the last tag
-pub tag_last : (k number at : ℕ) (frame : List ℕ) → k < 64 → tag_end frame at ≤ length frame → u16_at frame at ≢ number → u16_at frame at ≡ 0 → tag_at (64 - k) number frame at ≡ None
+pub tag_last : (k number at : ℕ) (frame : List ℕ) → k < 64 → tag_end frame at ≤ length frame → u16_at frame at ≢ number → u16_at frame at ≡ 0
+    → tag_at (64 - k) number frame at ≡ None
 unfolding tag_at
 tag_last k number at frame lt fits other zero =
     let whole : ltb (length frame) (tag_end frame at) ≡ false = grind (arith, nat_tests) in

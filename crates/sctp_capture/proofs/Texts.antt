@@ -1,5 +1,6 @@
 -- Dumps, line by line, of bytes of which some are held.
-use Rattle.std.proofs.Common.{◌≡◌, ℕ, ◌+◌, ◌<◌, ◌≤◌, Bool, true, false, zero, suc, List, [], ◌∷◌, ◌++◌, length, None, Some, IfSome, refl, ap, sym, ◌∙◌, inl, inr, arith, add-one}
+use Rattle.std.proofs.Common.{◌≡◌, ℕ, ◌+◌, ◌<◌, ◌≤◌, Bool, true, false, zero, suc, List, [], ◌∷◌, ◌++◌, length, None, Some, IfSome, refl, ap, sym, ◌∙◌, inl}
+use Rattle.std.proofs.Common.{inr, arith, add-one}
 use Rattle.std.specs.Prelude.{Option, ◌⊎◌, ◌&&◌, leb, ltb, min, Err}
 use Rattle.std.specs.Io.KnownBytes.{Keeps, IsAtEnd, prepend_known}
 use Rattle.std.proofs.lemmas.Bool.{cases_lt, true≢false}
@@ -62,8 +63,8 @@ long_line held ys long (inl holds) = elim (cases_lt (length (line_in held)) (len
     whole held ys long (inr much) = omega (arith, much)
 
 -- what is said of no line that is too long is said of the line that is held where it is of that of all the bytes
-pub same_said : {A : Type 0} (q : List ℕ → A) (other : A) → ((line : List ℕ) → 524288 < length line → q line ≡ other) → (held ys : List ℕ) → HoldsLine held ⊎ (ys ≡ [])
-    → q (line_in (held ++ ys)) ≡ q (line_in held)
+pub same_said : {A : Type 0} (q : List ℕ → A) (other : A) → ((line : List ℕ) → 524288 < length line → q line ≡ other) → (held ys : List ℕ)
+    → HoldsLine held ⊎ (ys ≡ []) → q (line_in (held ++ ys)) ≡ q (line_in held)
 same_said q other none held ys holds = elim (cases_lt 524288 (length (line_in held))) [
   | inl long ↦ none (line_in (held ++ ys)) (long_line held ys long holds) ∙ sym (none (line_in held) long)
   | inr short ↦ ap q (same_line held ys short holds)
@@ -113,8 +114,8 @@ unfolding after_lines
 lines_more n xs = rw add-one refl
 
 -- the first line says how many are looked for
-width_first : (xs said more line : List ℕ) (width also : ℕ) → said ≡ said_by 0 xs → width ≡ width_by 0 xs → line_in (after_lines 0 xs) ≡ line → more ≡ said ++ bytes_in width line
-    → also ≡ min (length more) 16 → also ≡ width_by 1 xs
+width_first : (xs said more line : List ℕ) (width also : ℕ) → said ≡ said_by 0 xs → width ≡ width_by 0 xs → line_in (after_lines 0 xs) ≡ line
+    → more ≡ said ++ bytes_in width line → also ≡ min (length more) 16 → also ≡ width_by 1 xs
 unfolding width_by said_by after_lines
 width_first xs said more line width also says wide is bytes first =
     let all : more ≡ bytes_in 16 (line_in xs) = bytes ∙ rw (says, wide, is) refl in
@@ -124,15 +125,15 @@ width_later : (m : ℕ) (xs : List ℕ) → width_by (suc m) xs ≡ width_by (su
 unfolding width_by
 width_later m xs = refl
 
-width_next : (n : ℕ) (xs said more line : List ℕ) (width also : ℕ) → said ≡ said_by n xs → width ≡ width_by n xs → line_in (after_lines n xs) ≡ line → more ≡ said ++ bytes_in width line
-    → (n ≡ 0 → also ≡ min (length more) 16) → (0 < n → also ≡ width) → also ≡ width_by (n + 1) xs
+width_next : (n : ℕ) (xs said more line : List ℕ) (width also : ℕ) → said ≡ said_by n xs → width ≡ width_by n xs → line_in (after_lines n xs) ≡ line
+    → more ≡ said ++ bytes_in width line → (n ≡ 0 → also ≡ min (length more) 16) → (0 < n → also ≡ width) → also ≡ width_by (n + 1) xs
 width_next zero xs said more line width also says wide is bytes first later = width_first xs said more line width also says wide is bytes (first refl)
 width_next (suc m) xs said more line width also says wide is bytes first later = rw add-one (later (omega arith) ∙ wide ∙ width_later m xs)
 
 -- one line more
-at_next : (xs : List ℕ) (n width wider : ℕ) (said more line : List ℕ) (right also : Bool) → IsAt xs n width said right → (0 < n → goes_on (line_in (after_lines n xs)) ≡ true) → length said ≤ 262144
-    → line_in (after_lines n xs) ≡ line → more ≡ said ++ bytes_in width line → also ≡ (says_offset line (length said) && right)
-    → (n ≡ 0 → wider ≡ min (length more) 16) → (0 < n → wider ≡ width) → IsAt xs (n + 1) wider more also
+at_next : (xs : List ℕ) (n width wider : ℕ) (said more line : List ℕ) (right also : Bool) → IsAt xs n width said right
+    → (0 < n → goes_on (line_in (after_lines n xs)) ≡ true) → length said ≤ 262144 → line_in (after_lines n xs) ≡ line → more ≡ said ++ bytes_in width line
+    → also ≡ (says_offset line (length said) && right) → (n ≡ 0 → wider ≡ min (length more) 16) → (0 < n → wider ≡ width) → IsAt xs (n + 1) wider more also
 at_next xs n width wider said more line right also at front room is bytes offset first later = record {
   goes = λ k some lt. elim (cases_lt k n) [
     | inl before ↦ at.goes k some before
@@ -154,9 +155,10 @@ keep_on p (Some zs) None kept keeps = absurd keeps
 keep_on p (Some zs) (Some ys) kept keeps = keeps ∙ kept
 
 -- the line that is held is taken, and more is held
-pub run_next : (a b c e : Option (List ℕ)) (held : List ℕ) (n width wider : ℕ) (said more : List ℕ) (right also : Bool) → IsRun a (prepend_known held b) n width said right → HoldsLine held ⊎ IsAtEnd b
-    → length (line_in held) ≤ 524288 → length said ≤ 262144 → more ≡ said ++ bytes_in width (line_in held) → also ≡ (says_offset (line_in held) (length said) && right)
-    → (n ≡ 0 → wider ≡ min (length more) 16) → (0 < n → wider ≡ width) → IfSome (prepend_known held b) (λ ys. Keeps (Some (after_line ys)) c) → Keeps c e → IsBehind a e (n + 1) wider more also
+pub run_next : (a b c e : Option (List ℕ)) (held : List ℕ) (n width wider : ℕ) (said more : List ℕ) (right also : Bool)
+    → IsRun a (prepend_known held b) n width said right → HoldsLine held ⊎ IsAtEnd b → length (line_in held) ≤ 524288 → length said ≤ 262144
+    → more ≡ said ++ bytes_in width (line_in held) → also ≡ (says_offset (line_in held) (length said) && right) → (n ≡ 0 → wider ≡ min (length more) 16)
+    → (0 < n → wider ≡ width) → IfSome (prepend_known held b) (λ ys. Keeps (Some (after_line ys)) c) → Keeps c e → IsBehind a e (n + 1) wider more also
 run_next None b c e held n width wider said more right also run holds short room bytes offset first later left keeps = tt
 run_next (Some xs) None c e held n width wider said more right also run holds short room bytes offset first later left keeps = absurd run.2
 run_next (Some xs) (Some ys) c e held n width wider said more right also run holds short room bytes offset first later left keeps =
@@ -165,8 +167,8 @@ run_next (Some xs) (Some ys) c e held n width wider said more right also run hol
     (at_next xs n width wider said more (line_in held) right also run.0 run.1 room is bytes offset first later, keep_on (after_lines (n + 1) xs) c e rest keeps)
 
 -- a dump that goes on in the line that is held
-pub run_more : (a b : Option (List ℕ)) (held : List ℕ) (n width : ℕ) (said : List ℕ) (right : Bool) → IsBehind a (prepend_known held b) n width said right → HoldsLine held ⊎ IsAtEnd b
-    → goes_on (line_in held) ≡ true → IsRun a (prepend_known held b) n width said right
+pub run_more : (a b : Option (List ℕ)) (held : List ℕ) (n width : ℕ) (said : List ℕ) (right : Bool) → IsBehind a (prepend_known held b) n width said right
+    → HoldsLine held ⊎ IsAtEnd b → goes_on (line_in held) ≡ true → IsRun a (prepend_known held b) n width said right
 run_more None b held n width said right behind holds goes = tt
 run_more (Some xs) None held n width said right behind holds goes = absurd behind.1
 run_more (Some xs) (Some ys) held n width said right behind holds goes =
@@ -177,9 +179,9 @@ run_more (Some xs) (Some ys) held n width said right behind holds goes =
     same_line_goes held ys holds goes = same_said goes_on false long_goes_on held ys holds ∙ goes
 
 -- one that does not
-pub run_done : (a b : Option (List ℕ)) (held : List ℕ) (n width : ℕ) (said : List ℕ) (right : Bool) (lead : Lead) (r : Record) → IsBehind a (prepend_known held b) n width said right → 0 < n
-    → HoldsLine held ⊎ IsAtEnd b → (262144 < length said) ⊎ (goes_on (line_in held) ≡ false) → IsDumpRecord lead said right r
-    → IfSome a (λ xs. (rest : List ℕ) × IsDump lead xs r rest × Keeps (Some rest) (prepend_known held b))
+pub run_done : (a b : Option (List ℕ)) (held : List ℕ) (n width : ℕ) (said : List ℕ) (right : Bool) (lead : Lead) (r : Record)
+    → IsBehind a (prepend_known held b) n width said right → 0 < n → HoldsLine held ⊎ IsAtEnd b → (262144 < length said) ⊎ (goes_on (line_in held) ≡ false)
+    → IsDumpRecord lead said right r → IfSome a (λ xs. (rest : List ℕ) × IsDump lead xs r rest × Keeps (Some rest) (prepend_known held b))
 run_done None b held n width said right lead r behind some holds ended is = tt
 run_done (Some xs) None held n width said right lead r behind some holds ended is = absurd behind.1
 run_done (Some xs) (Some ys) held n width said right lead r behind some holds ended is =
@@ -204,9 +206,9 @@ run_done (Some xs) (Some ys) held n width said right lead r behind some holds en
 -- ---- behind a mark or a time
 
 -- a dump stands behind it
-pub led_dump : (a c b e : Option (List ℕ)) (held : List ℕ) (lead : Lead) (r : Record) → IfSome a (λ xs. Keeps (Some (after_line xs)) c) → Keeps c (prepend_known held b)
-    → HoldsLine held ⊎ IsAtEnd b → is_dump (line_in held) ≡ true → IfSome (prepend_known held b) (λ ys. (rest : List ℕ) × IsDump lead ys r rest × Keeps (Some rest) e)
-    → IfSome a (λ xs. (rest : List ℕ) × IsLed lead (after_line xs) r rest × Keeps (Some rest) e)
+pub led_dump : (a c b e : Option (List ℕ)) (held : List ℕ) (lead : Lead) (r : Record) → IfSome a (λ xs. Keeps (Some (after_line xs)) c)
+    → Keeps c (prepend_known held b) → HoldsLine held ⊎ IsAtEnd b → is_dump (line_in held) ≡ true → IfSome (prepend_known held b) (λ ys. (rest : List ℕ)
+    × IsDump lead ys r rest × Keeps (Some rest) e) → IfSome a (λ xs. (rest : List ℕ) × IsLed lead (after_line xs) r rest × Keeps (Some rest) e)
 led_dump None c b e held lead r left keeps holds begun is = tt
 led_dump (Some xs) c None e held lead r left keeps holds begun is = absurd (keep_on (after_line xs) c None left keeps)
 led_dump (Some xs) c (Some ys) e held lead r left keeps holds begun is =
@@ -215,8 +217,8 @@ led_dump (Some xs) c (Some ys) e held lead r left keeps holds begun is =
     (is.0, record { dump = λ _. rw (← all) is.1; none = λ none. absurd (true≢false (sym begins ∙ none)) }, is.2)
 
 -- no dump does
-pub led_none : (a c b : Option (List ℕ)) (held : List ℕ) (lead : Lead) (r : Record) → IfSome a (λ xs. Keeps (Some (after_line xs)) c) → Keeps c (prepend_known held b)
-    → HoldsLine held ⊎ IsAtEnd b → is_dump (line_in held) ≡ false → r.frame ≡ Err NotHex
+pub led_none : (a c b : Option (List ℕ)) (held : List ℕ) (lead : Lead) (r : Record) → IfSome a (λ xs. Keeps (Some (after_line xs)) c)
+    → Keeps c (prepend_known held b) → HoldsLine held ⊎ IsAtEnd b → is_dump (line_in held) ≡ false → r.frame ≡ Err NotHex
     → IfSome a (λ xs. (rest : List ℕ) × IsLed lead (after_line xs) r rest × Keeps (Some rest) (prepend_known held b))
 led_none None c b held lead r left keeps holds none is = tt
 led_none (Some xs) c None held lead r left keeps holds none is = absurd (keep_on (after_line xs) c None left keeps)
@@ -232,7 +234,8 @@ longer held ys some = rw length-append (omega (arith, some))
 
 -- a dump is the next piece
 pub text_dump : (b e : Option (List ℕ)) (held : List ℕ) (r : Record) → HoldsLine held ⊎ IsAtEnd b → 0 < length held → is_dump (line_in held) ≡ true
-    → IfSome (prepend_known held b) (λ xs. (rest : List ℕ) × IsDump no_lead xs r rest × Keeps (Some rest) e) → IfSome (prepend_known held b) (λ xs. IsTextTaken xs (Some r) e)
+    → IfSome (prepend_known held b) (λ xs. (rest : List ℕ) × IsDump no_lead xs r rest × Keeps (Some rest) e)
+    → IfSome (prepend_known held b) (λ xs. IsTextTaken xs (Some r) e)
 text_dump None e held r holds some begun is = tt
 text_dump (Some ys) e held r holds some begun is =
     let begins : is_dump (line_in (held ++ ys)) ≡ true = same_said is_dump false long_is_dump held ys holds ∙ begun in (
@@ -251,9 +254,9 @@ lead_or other None = other
 lead_or other (Some lead) = lead
 
 -- what stands behind a mark or a time is
-pub text_led : (b e : Option (List ℕ)) (held : List ℕ) (lead : Lead) (r : Record) → HoldsLine held ⊎ IsAtEnd b → 0 < length held → is_dump (line_in held) ≡ false
-    → preamble_of (line_in held) ≡ Some lead → IfSome (prepend_known held b) (λ xs. (rest : List ℕ) × IsLed lead (after_line xs) r rest × Keeps (Some rest) e)
-    → IfSome (prepend_known held b) (λ xs. IsTextTaken xs (Some r) e)
+pub text_led : (b e : Option (List ℕ)) (held : List ℕ) (lead : Lead) (r : Record) → HoldsLine held ⊎ IsAtEnd b → 0 < length held
+    → is_dump (line_in held) ≡ false → preamble_of (line_in held) ≡ Some lead → IfSome (prepend_known held b)
+    (λ xs. (rest : List ℕ) × IsLed lead (after_line xs) r rest × Keeps (Some rest) e) → IfSome (prepend_known held b) (λ xs. IsTextTaken xs (Some r) e)
 unfolding lead_or
 text_led None e held lead r holds some none told is = tt
 text_led (Some ys) e held lead r holds some none told is =
@@ -294,7 +297,8 @@ text_line (Some ys) e held found holds some none told is =
     some_is_none lead e = grind (arith, nat_tests)
 
 -- the piece at the front of what is held is the next of the input
-pub text_next : (a p e : Option (List ℕ)) (found : Option Record) → Keeps a p → IfSome p (λ xs. IsTextTaken xs found e) → IfSome a (λ xs. IsNextText xs e (taken_text found))
+pub text_next : (a p e : Option (List ℕ)) (found : Option Record) → Keeps a p → IfSome p (λ xs. IsTextTaken xs found e)
+    → IfSome a (λ xs. IsNextText xs e (taken_text found))
 text_next None p e found keeps is = tt
 text_next (Some xs) None e found keeps is = absurd keeps
 text_next (Some xs) (Some zs) e None keeps is = rw (← keeps) is

@@ -4,7 +4,8 @@ use Rattle.std.specs.Prelude.{Option}
 use Rattle.std.specs.Option.{IfNone}
 use Rattle.std.proofs.lemmas.Grind.{common_steps}
 use Rattle.sctp_base.specs.Field.{u16_at}
-use Rattle.sctp_capture.specs.Frame.{IsIpPayload, IsVersion0, gre_header, gre_rest, IsNetworkPlace, IsEthernetPlace, IsGrePlace, IsGre, IsTunnelled, IsInner, InIp}
+use Rattle.sctp_capture.specs.Frame.{IsIpPayload, IsVersion0, gre_header, gre_rest, IsNetworkPlace, IsEthernetPlace, IsGrePlace, IsGre, IsTunnelled, IsInner}
+use Rattle.sctp_capture.specs.Frame.{InIp}
 use Rattle.sctp_capture.proofs.Uppers.{only_upper}
 use Rattle.sctp_capture.proofs.Frames.{has_header, only_network, only_behind}
 

@@ -1,7 +1,8 @@
 -- Why no packet is shown of a record, in words.
 use Rattle.std.specs.Prelude.{ℕ, List, ◌++◌, codes, decimal}
 use Rattle.sctp_capture.specs.declared.record.Fault.{Fault}
-use Rattle.sctp_capture.specs.declared.record.Fault.TheVariants.{NotHex, CutOff, TooLong, Short, Fragment, OtherProtocol, OtherLink, BadBlock, NoInterface, BadOffset}
+use Rattle.sctp_capture.specs.declared.record.Fault.TheVariants.{NotHex, CutOff, TooLong, Short, Fragment, OtherProtocol, OtherLink, BadBlock, NoInterface}
+use Rattle.sctp_capture.specs.declared.record.Fault.TheVariants.{BadOffset}
 
 abbrev pub fault_text : Fault → List ℕ
 fault_text NotHex = codes "not hex text"

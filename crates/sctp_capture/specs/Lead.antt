@@ -1,5 +1,6 @@
 -- What logs write before the hex text of a packet: usrsctp, browsers, and what text2pcap reads.
-use Rattle.std.specs.Prelude.{ℕ, ◌+◌, ◌-◌, ◌*◌, Bool, true, false, ◌==◌, ◌||◌, ◌&&◌, leb, if◌then◌else◌, List, [], ◌∷◌, length, slice_index, slice_range, codes, Some, None}
+use Rattle.std.specs.Prelude.{ℕ, ◌+◌, ◌-◌, ◌*◌, Bool, true, false, ◌==◌, ◌||◌, ◌&&◌, leb, if◌then◌else◌, List, [], ◌∷◌, length, slice_index, slice_range, codes}
+use Rattle.std.specs.Prelude.{Some, None}
 use Rattle.sctp_capture.specs.declared.record.Direction.{Direction}
 use Rattle.sctp_capture.specs.declared.record.Direction.TheVariants.{In, Out}
 use Rattle.sctp_capture.specs.declared.lead.Lead.{Lead}

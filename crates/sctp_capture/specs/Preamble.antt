@@ -1,5 +1,6 @@
 -- What stands on a line of its own before a dump: a mark, a time, or both.
-use Rattle.std.specs.Prelude.{ℕ, ◌+◌, ◌-◌, ◌*◌, ◌/◌, ◌%◌, Bool, true, false, ◌==◌, ◌||◌, ◌&&◌, ltb, if◌then◌else◌, List, length, slice_index, slice_range, codes, Option, Some, None}
+use Rattle.std.specs.Prelude.{ℕ, ◌+◌, ◌-◌, ◌*◌, ◌/◌, ◌%◌, Bool, true, false, ◌==◌, ◌||◌, ◌&&◌, ltb, if◌then◌else◌, List, length, slice_index, slice_range}
+use Rattle.std.specs.Prelude.{codes, Option, Some, None}
 use Rattle.sctp_capture.specs.declared.record.Direction.{Direction}
 use Rattle.sctp_capture.specs.declared.lead.Lead.{Lead}
 use Rattle.sctp_capture.specs.declared.preamble.Moment.{Moment}

@@ -30,7 +30,8 @@ HasRead format begun first k left records = IfSome first (λ xs. IsSomeAnd left 
 abbrev pub HasPrinted : Options → Option (List ℕ) → Option (List ℕ) → List Record → ℕ → Type 0
 HasPrinted o old new records shown = (texts : List (List ℕ)) × AreTexts o 1 records texts × (shown ≡ shown_in texts) × Appends old new (concat texts)
 
-pub record SoFar (o : Options) (format : Format) (begun : Known) (first : Option (List ℕ)) (k : Known) (left old new : Option (List ℕ)) (count unread shown : ℕ) : Type 0 where
+pub record SoFar (o : Options) (format : Format) (begun : Known) (first : Option (List ℕ)) (k : Known) (left old new : Option (List ℕ))
+    (count unread shown : ℕ) : Type 0 where
   pub records : List Record
   pub counted : length records ≡ count
   pub missed : unread_in records ≡ unread
@@ -63,8 +64,8 @@ records_next : (pieces : List Piece) (p : Piece) → records_of (pieces ++ p ∷
 records_next pieces p =
     flat_map-append (λ q. option_to_list q.found) pieces (p ∷ []) ∙ ap (λ l. records_of pieces ++ l) (append-nil (option_to_list p.found))
 
-read_next : (format : Format) (begun k after : Known) (a b c : Option (List ℕ)) (records : List Record) (found : Option Record) → HasRead format begun a k b records
-    → IfSome b (λ xs. IsTaken format k xs found after c) → HasRead format begun a after c (records ++ option_to_list found)
+read_next : (format : Format) (begun k after : Known) (a b c : Option (List ℕ)) (records : List Record) (found : Option Record)
+    → HasRead format begun a k b records → IfSome b (λ xs. IsTaken format k xs found after c) → HasRead format begun a after c (records ++ option_to_list found)
 read_next format begun k after None b c records found read next = tt
 read_next format begun k after (Some xs) None c records found read next = absurd read
 read_next format begun k after (Some xs) (Some ys) None records found read next = absurd next.5
@@ -79,10 +80,12 @@ read_next format begun k after (Some xs) (Some ys) (Some zs) records found read 
     record {
       pieces = read.pieces ++ p ∷ [];
       walk = subst Q same_left (subst P same_known walk);
-      are = ap (λ l. l ++ option_to_list found) read.are ∙ ap (λ o. records_of read.pieces ++ option_to_list o) (sym same_found) ∙ sym (records_next read.pieces p);
+      are = ap (λ l. l ++ option_to_list found) read.are ∙ ap (λ o. records_of read.pieces ++ option_to_list o) (sym same_found)
+          ∙ sym (records_next read.pieces p);
     }
 
-texts_next : (o : Options) (n : ℕ) (records : List Record) (texts : List (List ℕ)) (r : Record) (t : List ℕ) → AreTexts o n records texts → IsText o (n + length records) r t → AreTexts o n (records ++ r ∷ []) (texts ++ t ∷ [])
+texts_next : (o : Options) (n : ℕ) (records : List Record) (texts : List (List ℕ)) (r : Record) (t : List ℕ) → AreTexts o n records texts
+    → IsText o (n + length records) r t → AreTexts o n (records ++ r ∷ []) (texts ++ t ∷ [])
 texts_next o n [] [] r t all is = let here : n + 0 ≡ n = omega arith in (rw here at is, tt)
 texts_next o n [] (u ∷ us) r t all is = absurd all
 texts_next o n (q ∷ qs) [] r t all is = absurd all
@@ -94,24 +97,28 @@ shown_next : (texts : List (List ℕ)) (t : List ℕ) → shown_in (texts ++ t �
 shown_next [] t = omega arith
 shown_next (u ∷ us) t = let rest = shown_next us t in omega (arith, rest)
 
-printed_next : (o : Options) (old mid new : Option (List ℕ)) (records : List Record) (r : Record) (n shown more : ℕ) → n ≡ 1 + length records → HasPrinted o old mid records shown → PrintsRecord o n r more mid new
-    → HasPrinted o old new (records ++ r ∷ []) (shown + more)
+printed_next : (o : Options) (old mid new : Option (List ℕ)) (records : List Record) (r : Record) (n shown more : ℕ) → n ≡ 1 + length records
+    → HasPrinted o old mid records shown → PrintsRecord o n r more mid new → HasPrinted o old new (records ++ r ∷ []) (shown + more)
 printed_next o old mid new records r n shown more e printed next =
     let texts : List (List ℕ) = printed.0 in
     let t : List ℕ = next.0 in
     let joined : concat (texts ++ t ∷ []) ≡ concat texts ++ t = concat-append texts (t ∷ []) ∙ ap (λ l. concat texts ++ l) (append-nil t) in
     let was : shown ≡ shown_in texts = printed.2 in
     let one : more ≡ shown_by t = next.2 in
-    let count : shown + more ≡ shown_in (texts ++ t ∷ []) = rw (was, one) (sym (shown_next texts t)) in
-    (texts ++ t ∷ [], texts_next o 1 records texts r t printed.1 (rw e at next.1), count, rw joined (Appends-trans old mid new (concat texts) t printed.3 next.3))
+    let count : shown + more ≡ shown_in (texts ++ t ∷ []) = rw (was, one) (sym (shown_next texts t)) in (
+      texts ++ t ∷ [],
+      texts_next o 1 records texts r t printed.1 (rw e at next.1),
+      count,
+      rw joined (Appends-trans old mid new (concat texts) t printed.3 next.3),
+    )
 
 unread_next : (records : List Record) (r : Record) → unread_in (records ++ r ∷ []) ≡ unread_in records + unread_by r
 unread_next [] r = omega arith
 unread_next (q ∷ qs) r = let rest = unread_next qs r in omega (arith, rest)
 
 -- what was printed is sent off
-pub so_far_sent : (o : Options) (format : Format) (begun k : Known) (a b old mid new : Option (List ℕ)) (count unread shown : ℕ) → SoFar o format begun a k b old mid count unread shown
-    → Keeps mid new → SoFar o format begun a k b old new count unread shown
+pub so_far_sent : (o : Options) (format : Format) (begun k : Known) (a b old mid new : Option (List ℕ)) (count unread shown : ℕ)
+    → SoFar o format begun a k b old mid count unread shown → Keeps mid new → SoFar o format begun a k b old new count unread shown
 so_far_sent o format begun k a b old mid new count unread shown so kept =
     let texts : List (List ℕ) = so.printed.0 in
     record {
@@ -138,8 +145,9 @@ so_far_record o format begun k after a b c old mid new count unread shown more r
     }
 
 -- one piece more is read, which is no record
-pub so_far_nothing : (o : Options) (format : Format) (begun k after : Known) (a b c old new : Option (List ℕ)) (count unread shown : ℕ) → SoFar o format begun a k b old new count unread shown
-    → IfSome b (λ xs. IsTaken format k xs None after c) → SoFar o format begun a after c old new count unread shown
+pub so_far_nothing : (o : Options) (format : Format) (begun k after : Known) (a b c old new : Option (List ℕ)) (count unread shown : ℕ)
+    → SoFar o format begun a k b old new count unread shown → IfSome b (λ xs. IsTaken format k xs None after c)
+    → SoFar o format begun a after c old new count unread shown
 so_far_nothing o format begun k after a b c old new count unread shown so next =
     let same : so.records ++ [] ≡ so.records = append-nil so.records in
     let read : HasRead format begun a after c (so.records ++ []) = read_next format begun k after a b c so.records None so.read next in
@@ -160,8 +168,9 @@ pub at_stop : (k : Known) (b : Option (List ℕ)) (stopped : Type 0) → stopped
 at_stop k None stopped is = tt
 at_stop k (Some xs) stopped is = inr is
 
-all_read : (format : Format) (begun k : Known) (z a b : Option (List ℕ)) (records : List Record) (stopped : Type 0) → IsBegun begun → IfSome z (λ bytes. IsOpened format bytes a) → HasRead format begun a k b records
-    → IfSome b (λ xs. IsEnd k xs ⊎ stopped) → IfSome z (λ bytes. IsInput stopped bytes records)
+all_read : (format : Format) (begun k : Known) (z a b : Option (List ℕ)) (records : List Record) (stopped : Type 0) → IsBegun begun
+    → IfSome z (λ bytes. IsOpened format bytes a) → HasRead format begun a k b records → IfSome b (λ xs. IsEnd k xs ⊎ stopped)
+    → IfSome z (λ bytes. IsInput stopped bytes records)
 all_read format begun k None a b records stopped is_begun opened read next = tt
 all_read Lines begun k (Some bytes) None b records stopped is_begun opened read next = absurd opened.3
 all_read (Capture h) begun k (Some bytes) None b records stopped is_begun opened read next = absurd opened.1
@@ -182,9 +191,10 @@ all_read format begun k (Some bytes) (Some xs) (Some ys) records stopped is_begu
 }
 
 -- what a run did that ended here
-pub so_far_all : (o : Options) (format : Format) (begun k : Known) (z a b old mid new : Option (List ℕ)) (count unread shown : ℕ) (ending : List ℕ) (stopped : Type 0) → IsBegun begun
-    → IfSome z (λ bytes. IsOpened format bytes a) → SoFar o format begun a k b old mid count unread shown → IfSome b (λ xs. IsEnd k xs ⊎ stopped) → Appends mid new ending
-    → (records : List Record) × (count ≡ length records) × (unread ≡ unread_in records) × IfSome z (λ bytes. IsInput stopped bytes records) × Prints o records shown old new
+pub so_far_all : (o : Options) (format : Format) (begun k : Known) (z a b old mid new : Option (List ℕ)) (count unread shown : ℕ) (ending : List ℕ)
+    (stopped : Type 0) → IsBegun begun → IfSome z (λ bytes. IsOpened format bytes a) → SoFar o format begun a k b old mid count unread shown
+    → IfSome b (λ xs. IsEnd k xs ⊎ stopped) → Appends mid new ending → (records : List Record) × (count ≡ length records) × (unread ≡ unread_in records)
+    × IfSome z (λ bytes. IsInput stopped bytes records) × Prints o records shown old new
 so_far_all o format begun k z a b old mid new count unread shown ending stopped is_begun opened so next ends = (
   so.records,
   sym so.counted,

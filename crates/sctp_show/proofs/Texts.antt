@@ -10,18 +10,20 @@ use Rattle.sctp_show.specs.Text.{Holds, IsSeen, IsPacketText, IsText, IsFrameTex
 
 pub packet_is : {T E : Type 0} (bytes_of : T → List ℕ) (result : Result T E) (o : Options) (number : ℕ) (datagram : List ℕ) (missing : ℕ) (seen : Dissection)
     → IsSeen (sum_of (sum_for o.sum missing)) datagram seen
-    → IfOk result (λ t. passes o.filter seen ≡ true → (shown : List ℕ) × (bytes_of t ≡ numbered_text o.form number shown)) → IfOk result (λ t. passes o.filter seen ≡ false → bytes_of t ≡ [])
-    → IfOk result (λ t. IsPacketText o number datagram missing (bytes_of t))
+    → IfOk result (λ t. passes o.filter seen ≡ true → (shown : List ℕ) × (bytes_of t ≡ numbered_text o.form number shown))
+    → IfOk result (λ t. passes o.filter seen ≡ false → bytes_of t ≡ []) → IfOk result (λ t. IsPacketText o number datagram missing (bytes_of t))
 packet_is bytes_of (Ok t) o number datagram missing seen is shown hidden = record { seen = seen; is_seen = is; shown = shown; hidden = hidden }
 packet_is bytes_of (Err e) o number datagram missing seen is shown hidden = tt
 
-pub frame_some : {T E : Type 0} (bytes_of : T → List ℕ) (result : Result T E) (o : Options) (number link_type : ℕ) (frame datagram : List ℕ) (missing : ℕ) → Holds link_type o.port frame datagram missing
-    → IfOk result (λ t. IsPacketText o number datagram missing (bytes_of t)) → IfOk result (λ t. IsFrameText o number link_type frame (bytes_of t))
+pub frame_some : {T E : Type 0} (bytes_of : T → List ℕ) (result : Result T E) (o : Options) (number link_type : ℕ) (frame datagram : List ℕ) (missing : ℕ)
+    → Holds link_type o.port frame datagram missing → IfOk result (λ t. IsPacketText o number datagram missing (bytes_of t))
+    → IfOk result (λ t. IsFrameText o number link_type frame (bytes_of t))
 frame_some bytes_of (Ok t) o number link_type frame datagram missing holds is = inl (datagram, missing, holds, is)
 frame_some bytes_of (Err e) o number link_type frame datagram missing holds is = tt
 
-pub frame_none : {T E : Type 0} (bytes_of : T → List ℕ) (result : Result T E) (o : Options) (number link_type : ℕ) (frame : List ℕ) (fault : Fault) → ((datagram : List ℕ) → (missing : ℕ) → Holds link_type o.port frame datagram missing → ⊥)
-    → IfOk result (λ t. bytes_of t ≡ fault_line o number fault) → IfOk result (λ t. IsFrameText o number link_type frame (bytes_of t))
+pub frame_none : {T E : Type 0} (bytes_of : T → List ℕ) (result : Result T E) (o : Options) (number link_type : ℕ) (frame : List ℕ) (fault : Fault)
+    → ((datagram : List ℕ) → (missing : ℕ) → Holds link_type o.port frame datagram missing → ⊥) → IfOk result (λ t. bytes_of t ≡ fault_line o number fault)
+    → IfOk result (λ t. IsFrameText o number link_type frame (bytes_of t))
 frame_none bytes_of (Ok t) o number link_type frame fault none is = inr (none, (fault, is))
 frame_none bytes_of (Err e) o number link_type frame fault none is = tt
 

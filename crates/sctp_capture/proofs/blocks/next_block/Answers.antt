@@ -22,13 +22,15 @@ returns-in-None g c =
 pub returns-in-Some-found : goal.returns-in-Some-found
 returns-in-Some-found g c =
     let is : IsBlockHead c.args.section.now.order c.fill.new.self.held.items c.in-Some.head = rw c.held-3.ensures at c.in-Some.ensures.some in
-    block_next (known_of c.args.section.now) (known_of c.take_block.new.section) _ (g.R.Read.remaining c.fill.new.self.reader) (g.R.Read.remaining c.take_block.new.window.reader) _
+    block_next (known_of c.args.section.now) (known_of c.take_block.new.section) _ (g.R.Read.remaining c.fill.new.self.reader)
+    (g.R.Read.remaining c.take_block.new.window.reader) _
     c.fill.new.self.held.items c.take_block.new.window.held.items c.in-Some.head _ c.if-section.false c.in_ok-fill.ensures.keeps is
     c.in_ok-found.ensures.keeps c.in_ok-found.ensures.full (rw c.in-Some-found.is at c.in_ok-found.ensures.gives) c.in_ok-skip-2.ensures
 
 pub returns-in-None-found : goal.returns-in-None-found
 returns-in-None-found g c =
     let is : IsBlockHead c.args.section.now.order c.fill.new.self.held.items c.in-Some.head = rw c.held-3.ensures at c.in-Some.ensures.some in
-    block_next (known_of c.args.section.now) (known_of c.take_block.new.section) _ (g.R.Read.remaining c.fill.new.self.reader) (g.R.Read.remaining c.take_block.new.window.reader) _
+    block_next (known_of c.args.section.now) (known_of c.take_block.new.section) _ (g.R.Read.remaining c.fill.new.self.reader)
+    (g.R.Read.remaining c.take_block.new.window.reader) _
     c.fill.new.self.held.items c.take_block.new.window.held.items c.in-Some.head _ c.if-section.false c.in_ok-fill.ensures.keeps is
     c.in_ok-found.ensures.keeps c.in_ok-found.ensures.full (rw c.in-None-found.is at c.in_ok-found.ensures.gives) c.in_ok-skip-2.ensures

@@ -7,7 +7,8 @@ use Rattle.sctp_capture.proofs.dump.push_bytes.Goals as goal
 pub returns-then-not-is_byte_at : goal.returns-then-not-is_byte_at
 returns-then-not-is_byte_at c =
     let none : dumps.is_byte_at c.args.line.now c.loop-taken.place ≡ false = grind (arith, common_steps) in
-    bytes_end c.args.width c.loop-taken.taken c.loop-taken.place c.args.line.now _ c.loop-taken.said.items (omega (arith, c.loop-taken-test.true)) none c.loop-taken.invariant.are
+    bytes_end c.args.width c.loop-taken.taken c.loop-taken.place c.args.line.now _ c.loop-taken.said.items
+    (omega (arith, c.loop-taken-test.true)) none c.loop-taken.invariant.are
 
 pub loop-taken-preserved : goal.loop-taken-preserved
 loop-taken-preserved c =
@@ -15,8 +16,10 @@ loop-taken-preserved c =
     record {
       near = omega (arith, c.next_at-place.ensures.few, c.loop-taken.invariant.near);
       are = rw (c.next_at-place.ensures.is, c.in_ok-push.ensures.items, c.byte_at.ensures)
-          (bytes_go c.args.width c.loop-taken.taken c.loop-taken.place c.args.line.now _ c.loop-taken.said.items (omega (arith, c.loop-taken-test.true)) some c.loop-taken.invariant.are);
+          (bytes_go c.args.width c.loop-taken.taken c.loop-taken.place c.args.line.now _ c.loop-taken.said.items
+          (omega (arith, c.loop-taken-test.true)) some c.loop-taken.invariant.are);
     }
 
 pub returns : goal.returns
-returns c = bytes_full c.args.width c.loop-taken.taken c.loop-taken.place c.args.line.now _ c.loop-taken.said.items (omega (arith, c.loop-taken-test.false)) c.loop-taken.invariant.are
+returns c = bytes_full c.args.width c.loop-taken.taken c.loop-taken.place c.args.line.now _ c.loop-taken.said.items
+    (omega (arith, c.loop-taken-test.false)) c.loop-taken.invariant.are

@@ -12,7 +12,8 @@ returns-then-is_fragment-clause-refused c = λ p q upper.
 pub returns-then-not-is_passed-clause-found : goal.returns-then-not-is_passed-clause-found
 returns-then-not-is_passed-clause-found c =
     let other : IsPassed c.loop-passed.protocol c.loop-passed.rest.now → ⊥ = λ it. grind (arith, c.is_passed.ensures.1 it, c.if-not-is_passed.true) in
-    let parted : (c.loop-passed.protocol ≡ 44) × (IsAtomic c.loop-passed.rest.now → ⊥) → ⊥ = λ it. grind (arith, c.is_fragment.ensures.1 it, c.if-is_fragment.false) in
+    let parted : (c.loop-passed.protocol ≡ 44) × (IsAtomic c.loop-passed.rest.now → ⊥)
+    → ⊥ = λ it. grind (arith, c.is_fragment.ensures.1 it, c.if-is_fragment.false) in
     c.loop-passed.invariant.outward c.loop-passed.protocol c.loop-passed.rest.now
     (here c.loop-passed._passed c.loop-passed.protocol c.loop-passed.rest.now c.loop-passed-test.true
     other (no_header c.loop-passed.protocol c.loop-passed.rest.now other parted))

@@ -18,12 +18,15 @@ pub returns-then-not-branch : goal.returns-then-not-branch
 returns-then-not-branch g c =
     let held = c.loop.window.held.items in
     let le : length c.loop.window.held.items ≤ length (line_in c.loop.window.held.items) = grind (arith, common_steps) in
-    let next = alike_next _ (g.R.Read.remaining c.loop.window.reader) _ _ held c.loop.invariant le (rw c.held-held.ensures at c.advance-in-loop.ensures.drops) c.in_ok-read_more.ensures.keeps in
+    let next = alike_next _ (g.R.Read.remaining c.loop.window.reader) _ _ held c.loop.invariant le
+    (rw c.held-held.ensures at c.advance-in-loop.ensures.drops) c.in_ok-read_more.ensures.keeps in
     let none : length c.read_more.new.self.held.items ≡ 0 = grind (arith, common_steps) in
-    alike_end _ (g.R.Read.remaining c.read_more.new.self.reader) c.read_more.new.self.held.items next none (c.in_ok-read_more.ensures.end (grind (arith, common_steps)))
+    alike_end _ (g.R.Read.remaining c.read_more.new.self.reader) c.read_more.new.self.held.items next none
+    (c.in_ok-read_more.ensures.end (grind (arith, common_steps)))
 
 pub loop-preserved : goal.loop-preserved
 loop-preserved g c =
     let held = c.loop.window.held.items in
     let le : length c.loop.window.held.items ≤ length (line_in c.loop.window.held.items) = grind (arith, common_steps) in
-    alike_next _ (g.R.Read.remaining c.loop.window.reader) _ _ held c.loop.invariant le (rw c.held-held.ensures at c.advance-in-loop.ensures.drops) c.in_ok-read_more.ensures.keeps
+    alike_next _ (g.R.Read.remaining c.loop.window.reader) _ _ held c.loop.invariant le
+    (rw c.held-held.ensures at c.advance-in-loop.ensures.drops) c.in_ok-read_more.ensures.keeps

@@ -7,7 +7,8 @@ use Rattle.sctp_capture.proofs.text.next_text.Goals as goal
 pub returns-then-is_empty : goal.returns-then-is_empty
 returns-then-is_empty g c =
     let none : length c.fill_line.new.window.held.items ≡ 0 = grind (arith, common_steps) in
-    line_none _ (g.R.Read.remaining c.fill_line.new.window.reader) c.fill_line.new.window.held.items c.in_ok-fill_line.ensures.keeps c.in_ok-fill_line.ensures.full none
+    line_none _
+    (g.R.Read.remaining c.fill_line.new.window.reader) c.fill_line.new.window.held.items c.in_ok-fill_line.ensures.keeps c.in_ok-fill_line.ensures.full none
 
 pub returns : goal.returns
 returns g c = rw c.taken_text.ensures (text_next _ _ _ c.in_ok-take_text.field-0 c.in_ok-fill_line.ensures.keeps c.in_ok-take_text.ensures)

@@ -7,7 +7,8 @@ use Rattle.sctp_capture.proofs.text.take_dump.Given as goal
 
 abbrev pub invariant-loop-taken : goal.invariant-loop-taken
 invariant-loop-taken g l = record {
-  run : IsRun (prepend_known l.fn.window.held.items (g.R.Read.remaining l.fn.window.reader)) (prepend_known l.window.held.items (g.R.Read.remaining l.window.reader))
+  run : IsRun (prepend_known l.fn.window.held.items (g.R.Read.remaining l.fn.window.reader))
+      (prepend_known l.window.held.items (g.R.Read.remaining l.window.reader))
       l.taken l.width l.dump.said.items l.dump.is_right;
   holds : HoldsLine l.window.held.items ⊎ IsAtEnd (g.R.Read.remaining l.window.reader);
   short : length (line_in l.window.held.items) ≤ 524288;

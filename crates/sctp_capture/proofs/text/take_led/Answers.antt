@@ -9,7 +9,8 @@ use Rattle.sctp_capture.proofs.text.take_led.Goals as goal
 pub returns-then-is_dump : goal.returns-then-is_dump
 returns-then-is_dump g c =
     let yes : dumps.is_dump (line_in c.fill_line.new.window.held.items) ≡ true = grind (arith, common_steps) in
-    IfOk-weaker c.take_dump.result _ _ (λ r is. led_dump _ _ (g.R.Read.remaining c.fill_line.new.window.reader) _ c.fill_line.new.window.held.items c.args.lead r
+    IfOk-weaker c.take_dump.result _ _
+    (λ r is. led_dump _ _ (g.R.Read.remaining c.fill_line.new.window.reader) _ c.fill_line.new.window.held.items c.args.lead r
     c.in_ok-skip_line.ensures c.in_ok-fill_line.ensures.keeps c.in_ok-fill_line.ensures.full yes is) c.take_dump.ensures
 
 pub returns : goal.returns

@@ -10,7 +10,8 @@ reading-init c = record {
 
 pub reading-preserved : goal.reading-preserved
 reading-preserved c =
-    let more = reads_onto_more c.args.stream _ _ c.in-Ok-Some.message _ _ c.reading.invariant.reads (sym c.in-Ok-Some.ensures.message ∙ c.in-Ok-Some.field-0-is) in
+    let more =
+    reads_onto_more c.args.stream _ _ c.in-Ok-Some.message _ _ c.reading.invariant.reads (sym c.in-Ok-Some.ensures.message ∙ c.in-Ok-Some.field-0-is) in
     record {
       reads = rw (c.in_ok-push-in-Ok-Some.ensures.items, c.reserve.ensures.items, c.in-Ok-Some.ensures.ok) more;
       count = omega (arith, c.in_ok-push-in-Ok-Some.ensures.len, c.reserve.ensures.len);

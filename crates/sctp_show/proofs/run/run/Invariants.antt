@@ -11,5 +11,6 @@ invariant-pieces g l = record {
   few : l.shown ≤ l.records;
   limited : l.shown ≤ l.options.limit;
   so_far : SoFar l.options l.format (known_of l.initial.section) (prepend_known l.initial.window.held.items (g.R.Read.remaining l.initial.window.reader))
-      (known_of l.section) (prepend_known l.window.held.items (g.R.Read.remaining l.window.reader)) (g.W.Write.contents l.fn.output) (g.W.Write.contents l.output) l.records l.unread l.shown;
+      (known_of l.section) (prepend_known l.window.held.items (g.R.Read.remaining l.window.reader)) (g.W.Write.contents l.fn.output)
+      (g.W.Write.contents l.output) l.records l.unread l.shown;
 }

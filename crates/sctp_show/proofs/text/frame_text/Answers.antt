@@ -5,7 +5,10 @@ use Rattle.sctp_show.proofs.text.frame_text.Goals as goal
 pub returns-in-Ok : goal.returns-in-Ok
 returns-in-Ok g c =
     frame_some string_bytes c.packet_text.result c.args.options.now c.args.number c.args.record.now.link_type c.args.frame.now _ _
-    (record { alone = λ e. (rw c.as_slice.ensures at (c.in-Ok.ensures.alone e).1, (c.in-Ok.ensures.alone e).2); carried = λ n. rw c.as_slice.ensures at (c.in-Ok.ensures.carried n) }) c.packet_text.ensures
+    (record {
+      alone = λ e. (rw c.as_slice.ensures at (c.in-Ok.ensures.alone e).1, (c.in-Ok.ensures.alone e).2);
+      carried = λ n. rw c.as_slice.ensures at (c.in-Ok.ensures.carried n);
+    }) c.packet_text.ensures
 
 pub returns-in-Err : goal.returns-in-Err
 returns-in-Err g c =
