@@ -1,9 +1,8 @@
 -- A DATA chunk and its padding, in the parts that are written one after another.
-use Rattle.std.proofs.Common.{◌≡◌, ℕ, ◌+◌, ◌≤◌, ◌++◌, ◌∷◌, [], List, length, length-append, drop, refl, ap, sym, ◌∙◌, arith, rules}
+use Rattle.std.proofs.Common.{◌≡◌, ℕ, ◌+◌, ◌++◌, ◌∷◌, [], List, length, length-append, drop, refl, ap, sym, ◌∙◌, arith}
 use Rattle.std.specs.Prelude.{replicate}
 use Rattle.std.proofs.lemmas.List.{append_assoc, drop-drop, length-replicate}
 use Rattle.sctp_base.specs.Field.{be16, be32}
-use Rattle.sctp_base.proofs.Fields.{length_be16, length_be32}
 use Rattle.sctp_base.specs.Padding.{padding_of}
 use Rattle.sctp_chunks.specs.Wire.{data_chunk, encoding_of}
 use Rattle.sctp_data.specs.PayloadData.{Data, data_flags, data_value, payload_type_number}

@@ -24,7 +24,8 @@ use Rattle.sctp_receiver.specs.Skips.{is_ahead, names_too_far, skip_refusal}
 use Rattle.sctp_receiver.specs.Ssns.{is_lowest_complete, is_name_too_far, is_named_too_far, lowest_ssn}
 use Rattle.sctp_sender.specs.Abandonment.{Name, ahead, is_named, is_pair_of, named_up_to, pairs_of}
 use Rattle.sctp_sender.specs.Flight.{Flight}
-use Rattle.sctp_delivery.specs.Refused.{AfterEachUnlimitedSession, MayMake, NoneMadeIsRefused, is_due_named, reads_nothing_on}
+use Rattle.sctp_delivery.specs.Messages.{WhileFewTsns}
+use Rattle.sctp_delivery.specs.Refused.{MayMake, NoneMadeIsRefused, is_due_named, reads_nothing_on}
 use Rattle.sctp_delivery.specs.Sacks.{tsns_given}
 use Rattle.sctp_delivery.specs.Session.{Session, at_start}
 use Rattle.sctp_delivery.proofs.NotRefused.{begun-low}
@@ -283,6 +284,6 @@ module _ (first n : ℕ) (few : n < 2 ^ 31) (s : Session) (h : HasValid first n 
       closed true = open-all
       closed false = refl
 
-pub none-made : AfterEachUnlimitedSession NoneMadeIsRefused
-none-made tsn size max most cs s small some run few f may due =
-    made-taken tsn (tsns_given (at_start tsn size max most None) cs s run) few s (valid-session tsn size max most None cs s small some run few) f may due
+pub none-made : WhileFewTsns NoneMadeIsRefused
+none-made tsn size max most limits cs s small some run few f may due =
+    made-taken tsn (tsns_given (at_start tsn size max most limits) cs s run) few s (valid-session tsn size max most limits cs s small some run few) f may due

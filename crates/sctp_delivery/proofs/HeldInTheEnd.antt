@@ -138,9 +138,6 @@ module _ (first size max most : ℕ) (limits : Option Limits) (cs : List Call) (
       by (fragment d w after ∷ xs) e none o = subst (IsOpen (fragment d w after ∷ xs)) none o
 
   module _ (st : ℕ) where
-    abbrev to : ℕ → ℕ
-    to y = begun_to st y sent
-
     abbrev Fits : ℕ → List ChunkPayloadData → Type 0
     Fits = holds.Fits p st n (λ y. begun_to st y sent) (λ y. is_at st y sent) (λ c. WasSent sent (data_of c))
 

@@ -101,9 +101,6 @@ module _ (first n : ℕ) (few : n < 2 ^ 31) (old new : Session) (ns : List Numbe
   abbrev a : ℕ
   a = i.spread.step.numbered.acked
 
-  abbrev B : ℕ → ℕ
-  B k = begun_to st k sent
-
   abbrev r : Reception
   r = old.receiving.receiver
 

@@ -75,9 +75,6 @@ module _ (ws : List Numbered) (first : ℕ) (sent : List Entry) (line : IsLine w
   abbrev p : ℕ
   p = base first
 
-  abbrev B : ℕ → ℕ
-  B k = begun_to st k sent
-
   abbrev pub Pieces : ℕ → List ChunkPayloadData → Type 0
   Pieces = holds.Fits p st n (λ k. begun_to st k sent) (λ k. is_at st k sent) (λ c. WasSent sent (data_of c))
 

@@ -103,3 +103,4 @@ pub mod MessageSizes
 pub mod RefusedLaw
 pub mod ForwardLaw
 pub mod Taking
+pub mod ReadAfterRounds

@@ -54,9 +54,6 @@ module _ (ws : List Numbered) (first : ℕ) (sent : List Entry) (line : IsLine w
     abbrev to : ℕ → ℕ
     to k = begun_to st k sent
 
-    abbrev Was : ChunkPayloadData → Type 0
-    Was c = WasSent sent (data_of c)
-
     abbrev IsOf : ℕ → ChunkPayloadData → Type 0
     IsOf = holds.IsOf p st n (λ k. begun_to st k sent) (λ k. is_at st k sent) (λ c. WasSent sent (data_of c))
 

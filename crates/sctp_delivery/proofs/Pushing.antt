@@ -34,9 +34,6 @@ pub pushed : (ws : List Numbered) (first : ℕ) (number number' : ℕ → ℕ) (
     → Stands (w ∷ ws) first number' (with_message (c ∷ cs) q) next sent
 pushed ws first number number' q next sent s w c cs message stream waits' same turns' = by c.unordered refl message
   where
-    p : ℕ
-    p = q.pending.ordered_room
-
     by : (b : Bool) → c.unordered ≡ b → IsMessage b false (c ∷ cs) → Stands (w ∷ ws) first number'
         (record q { pending = append_chunks b (map (with_message_id q.next_message_id) (c ∷ cs)) q.pending; next_message_id = q.next_message_id + 1 }) next sent
     by true e m = record {

@@ -50,9 +50,6 @@ started ws first number now q next sent s = by (q.next_unstarted == q.next_messa
     keeps : KeepsMessage (with_deadline now)
     keeps = record { number = λ _. refl; begins = λ _. refl; ends = λ _. refl; kind = λ _. refl }
 
-    p : ChunkPayloadData → Bool
-    p = is_to_start q.next_unstarted
-
     by : (b : Bool) → Stands ws first number (if b then q
         else record q { pending = start_pending q.next_unstarted now q.pending; next_unstarted = q.next_message_id }) next sent
     by true = s

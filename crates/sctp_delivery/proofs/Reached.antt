@@ -2,9 +2,10 @@
 use Rattle.std.proofs.Common.{◌≡◌, ℕ, ◌+◌, ◌^◌, ◌<◌, ◌≤◌, true, List, [], ◌∷◌, ◌++◌, Option, refl, ap, sym, subst, arith}
 use Rattle.std.specs.List.{list_all}
 use Rattle.sctp_list_lemmas.specs.Serial.{distance}
-use Rattle.sctp_list_lemmas.proofs.More.{both}
+use Rattle.sctp_list_lemmas.proofs.More.{and, both}
 use Rattle.sctp_receiver.specs.declared.receiver.limits.Limits.{Limits}
 use Rattle.sctp_sender.specs.SenderRuns.{Ledger}
+use Rattle.sctp_delivery.specs.Complete.{is_reliable}
 use Rattle.sctp_delivery.specs.ReceiverCalls.{ReceiverCall}
 use Rattle.sctp_delivery.specs.Rounds.{is_exchange}
 use Rattle.sctp_delivery.specs.Sacks.{tsns_given}
@@ -141,6 +142,37 @@ reach-on first n (c ∷ cs) s t run i =
     let d = distance (next_tsn s) (next_tsn run.0) in
     let sum : (n + d) + tsns_given run.0 cs t run.1.1 ≡ n + (d + tsns_given run.0 cs t run.1.1) = omega arith in
     subst (λ k. IsReached first k t) sum (reach-on first (n + d) cs run.0 t run.1.1 (reach-one first n c s run.0 run.1.0 i))
+
+-- ## By reliable calls alone
+
+pub record IsReachedReliably (first n : ℕ) (s : Session) : Type 0 where
+  pub reached : IsReached first n s
+  pub reliable : list_all is_reliable reached.calls ≡ true
+
+all-more : (call : Call) (cs : List Call) → list_all is_reliable cs ≡ true → is_reliable call ≡ true → list_all is_reliable (cs ++ call ∷ []) ≡ true
+all-more call [] e f = and (is_reliable call) true f refl
+all-more call (c ∷ cs) e f =
+    let b = both (is_reliable c) (list_all is_reliable cs) e in
+    and (is_reliable c) (list_all is_reliable (cs ++ call ∷ [])) b.0 (all-more call cs b.1 f)
+
+reliably-one : (first n : ℕ) (call : Call) (s t : Session) → Follows call s t → is_reliable call ≡ true → IsReachedReliably first n s
+    → IsReachedReliably first (n + distance (next_tsn s) (next_tsn t)) t
+unfolding reach-one
+reliably-one first n call s t f e i = record {
+  reached = reach-one first n call s t f i.reached;
+  reliable = all-more call i.reached.calls i.reliable e;
+}
+
+pub reliably-on : (first n : ℕ) (cs : List Call) (s t : Session) (run : RunsTo s cs t) → list_all is_reliable cs ≡ true → IsReachedReliably first n s
+    → IsReachedReliably first (n + tsns_given s cs t run) t
+reliably-on first n [] s t run e i =
+    subst (λ k. IsReachedReliably first k t) {x = n} {y = n + 0} (omega arith) (subst (IsReachedReliably first n) (sym run) i)
+reliably-on first n (c ∷ cs) s t run e i =
+    let b = both (is_reliable c) (list_all is_reliable cs) e in
+    let d = distance (next_tsn s) (next_tsn run.0) in
+    let sum : (n + d) + tsns_given run.0 cs t run.1.1 ≡ n + (d + tsns_given run.0 cs t run.1.1) = omega arith in
+    subst (λ k. IsReachedReliably first k t) sum
+    (reliably-on first (n + d) cs run.0 t run.1.1 b.1 (reliably-one first n c s run.0 run.1.0 b.0 i))
 
 -- ## An exchange
 

@@ -31,10 +31,10 @@ after-sack k f = by (is_outdated k f)
     by false = (refl, refl)
 
 module _ (s t : Session) (a : IsAnswered s t) where
-  abbrev two : List Call
+  abbrev pub two : List Call
   two = of_receiver (reports a.credit) ∷ of_sender (takes_sack a.sack a.gone) ∷ []
 
-  abbrev run : RunsTo s two t
+  abbrev pub run : RunsTo s two t
   run = (a.reported, (a.reporting, (t, (a.taking, refl))))
 
   sender-same : a.reported.sending ≡ s.sending
@@ -55,7 +55,7 @@ module _ (s t : Session) (a : IsAnswered s t) where
       ap (λ u. distance u u) at ∙ distance-tsn p (n + 1) (n + 1) (omega arith) (omega arith)
       ∙ (let z : n + 1 - (n + 1) ≡ 0 = omega arith in z)
 
-  none-given : (p n : ℕ) → IsNumbered p n s.sending.sender.flight → tsns_given s two t run ≡ 0
+  pub none-given : (p n : ℕ) → IsNumbered p n s.sending.sender.flight → tsns_given s two t run ≡ 0
   none-given p n h =
       let one = ap (λ l. distance (next_tsn s) l.sender.flight.next_tsn) sender-same ∙ still p n h in
       let two' = ap (λ u. distance u (next_tsn t)) (ap (λ l. l.sender.flight.next_tsn) sender-same) ∙ ap (distance (next_tsn s)) same-next ∙ still p n h in

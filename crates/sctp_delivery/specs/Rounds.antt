@@ -1,5 +1,5 @@
 -- Exchanges that get through empty the sender (RFC 4960 6.2.1; RFC 3758 3.5).
-use Rattle.std.specs.Prelude.{◌≡◌, ℕ, zero, suc, ◌+◌, ◌-◌, ◌^◌, ◌<◌, ◌≤◌, ◌⊎◌, ◌||◌, Bool, true, false, List, [], ◌∷◌, length, All, Option, Some}
+use Rattle.std.specs.Prelude.{◌≡◌, ⊤, ℕ, zero, suc, ◌+◌, ◌-◌, ◌^◌, ◌<◌, ◌≤◌, ◌⊎◌, ◌||◌, Bool, true, false, List, [], ◌∷◌, length, All, Option, Some}
 use Rattle.std.specs.List.{list_all}
 use Rattle.sctp_list_lemmas.specs.Serial.{at_or_before}
 use Rattle.sctp_data.specs.declared.chunk.chunk_payload_data.ChunkPayloadData.{ChunkPayloadData}
@@ -10,7 +10,7 @@ use Rattle.sctp_sender.specs.declared.sender.flight.Released.{Released}
 use Rattle.sctp_sender.specs.Abandonment.{advanced_ack_point, skip_end}
 use Rattle.sctp_sender.specs.Flight.{Flight, can_resend}
 use Rattle.sctp_sender.specs.Sender.{Transmission}
-use Rattle.sctp_delivery.specs.Complete.{is_all_acknowledged}
+use Rattle.sctp_delivery.specs.Complete.{EachIsReadOnce, is_all_acknowledged, is_reliable, reads_nothing}
 use Rattle.sctp_delivery.specs.ReceiverCalls.{reports}
 use Rattle.sctp_delivery.specs.Sacks.{tsns_given, was_taken}
 use Rattle.sctp_delivery.specs.SenderCalls.{takes_sack, writes}
@@ -137,3 +137,28 @@ IsEmptyAfter k given s =
 -- so it is after as many rounds as chunks are left
 abbrev pub RoundsEnd : ℕ → Session → Type 0
 RoundsEnd given s = (k : ℕ) → chunks_left s.sending.sender ≤ k → IsEmptyAfter k given s
+
+-- ## What is read then
+
+-- none of their calls abandons or expires a message, or makes or takes a FORWARD-TSN
+abbrev pub AreReliable : (k : ℕ) (s t : Session) → Rounds k s t → Type 0
+AreReliable zero s t r = ⊤
+AreReliable (suc k) s t r =
+    (list_all is_reliable r.1.0.calls ≡ true) × AreReliable k r.0 t r.1.1
+
+-- after as many such rounds as chunks are left, each write was read exactly once, if on no stream is a message to read; so many TSNs
+-- were given out before
+abbrev pub AllIsReadAfterRounds : ℕ → Session → Type 0
+AllIsReadAfterRounds given s =
+    (k : ℕ) (t : Session) (rounds : Rounds k s t) → AreReliable k s t rounds
+    → given + tsns_in_rounds k s t rounds < 2 ^ 31 → chunks_left s.sending.sender ≤ k
+    → reads_nothing t.receiving.receiver ≡ true → EachIsReadOnce t
+
+-- P of how many TSNs were given out and of the session, after each such session of such calls alone
+abbrev pub AfterEachFitReliableSession : (ℕ → Session → Type 0) → Type 0
+AfterEachFitReliableSession P =
+    (tsn size max most : ℕ) (limits : Option Limits) (calls : List Call) (s : Session)
+    → tsn < 2 ^ 32 → 0 < size → (r : RunsTo (at_start tsn size max most limits) calls s)
+    → tsns_given (at_start tsn size max most limits) calls s r < 2 ^ 31
+    → list_all is_reliable calls ≡ true
+    → P (tsns_given (at_start tsn size max most limits) calls s r) s

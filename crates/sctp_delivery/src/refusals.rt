@@ -3,6 +3,7 @@
 ghost use Rattle.std.specs.Prelude.{◌≡◌, ◌≤◌, IfErr, IfOk, IsOk, OnErr, OnOk, true};
 ghost use Rattle.sctp_data.specs.ForwardTsn.{forward_tsn_of};
 ghost use Rattle.sctp_receiver.specs.declared.receiver.refusal.ReceiverRefusal.TheVariants.{OutOfMemory};
+ghost use Rattle.sctp_delivery.specs.Messages.{WhileFewTsns};
 ghost use Rattle.sctp_delivery.specs.ReceiverCalls.{ReceiverMakes, follows, takes};
 ghost use Rattle.sctp_delivery.specs.Refused.{AfterEachUnlimitedSession, IsInFlight, MayMake, is_due_named, is_takable};
 
@@ -13,10 +14,10 @@ use sctp_receiver::receiver::Receiver;
 use sctp_receiver::receiver::arrival::{Arrival, Forwarded};
 use sctp_receiver::receiver::refusal::ReceiverRefusal;
 
-/// Takes a DATA chunk of the other host. In whatever such session the receiver stands, where it takes messages as long as the sender
-/// writes, the chunk's stream is open, and nothing is to be read there, or the chunk is unordered: one with the wire fields of a chunk in
-/// flight, or made under its TSN, is refused for want of memory alone, where the message is not abandoned; and it may be handed over
-/// again.
+/// Takes a DATA chunk of the other host. In whatever session of fewer than 2^31 TSNs the receiver stands without limits, where it takes
+/// messages as long as the sender writes, the chunk's stream is open, and nothing is to be read there, or the chunk is unordered: one with
+/// the wire fields of a chunk in flight, or made under its TSN, is refused for want of memory alone, where the message is not abandoned;
+/// and it may be handed over again.
 pub fn take_chunk(
     receiver: &mut Receiver,
     chunk: &ChunkPayloadData,
@@ -33,8 +34,8 @@ pub fn take_chunk(
     receiver.data(chunk)
 }
 
-/// Follows a FORWARD-TSN of the other host. In whatever such session the receiver stands: where each stream that it names is open, and
-/// nothing is to be read there, one that the sender may make now is not refused.
+/// Follows a FORWARD-TSN of the other host. In whatever session of fewer than 2^31 TSNs the receiver stands, with limits or without: where
+/// each stream that it names is open, and nothing is to be read there, one that the sender may make now is not refused.
 pub fn follow(
     receiver: &mut Receiver,
     chunk: &ChunkForwardTsn,
@@ -43,7 +44,7 @@ pub fn follow(
         (ReceiverMakes (follows (forward_tsn_of chunk.now)) receiver.old receiver.new) }
     ensures err { OnErr result (receiver.new ≡ receiver.old) }
     ensures taken { is_due_named (forward_tsn_of chunk.now) receiver.old ≡ true
-        → AfterEachUnlimitedSession (λ s. s.receiving.receiver ≡ receiver.old
+        → WhileFewTsns (λ s. s.receiving.receiver ≡ receiver.old
         → MayMake (forward_tsn_of chunk.now) s.sending.sender → IsOk result) }
 {
     no_forward_tsn_is_refused();

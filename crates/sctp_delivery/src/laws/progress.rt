@@ -1,6 +1,7 @@
-//! A receiver that is read refuses nothing that an honest sender still needs taken: so it is in every session of fewer than 2^31 TSNs
-//! whose receiver has no limits.
+//! A receiver that is read refuses nothing that an honest sender still needs taken: so it is in every session of fewer than 2^31 TSNs, and
+//! of chunks where the receiver has no limits.
 
+ghost use Rattle.sctp_delivery.specs.Messages.{WhileFewTsns};
 ghost use Rattle.sctp_delivery.specs.Refused.{AfterEachUnlimitedSession, NoneInFlightIsRefused, NoneIsRefusedWhereRead, NoneMadeIsRefused};
 
 /// A DATA chunk that has the wire fields of a chunk in flight, or was made under its TSN, where the message is not abandoned, is refused
@@ -15,5 +16,5 @@ pub fn no_chunk_in_flight_is_refused()
 /// A FORWARD-TSN that the sender may make now is not refused, where each stream that it names is open, and nothing is to be read there
 /// (RFC 3758 3.6).
 pub fn no_forward_tsn_is_refused()
-    ensures { AfterEachUnlimitedSession NoneMadeIsRefused }
+    ensures { WhileFewTsns NoneMadeIsRefused }
 {}

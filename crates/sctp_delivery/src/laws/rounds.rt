@@ -2,7 +2,7 @@
 //! leaves fewer chunks in flight (RFC 4960 6.2.1; RFC 3758 3.5).
 
 ghost use Rattle.sctp_delivery.specs.Messages.{WhileFewTsns};
-ghost use Rattle.sctp_delivery.specs.Rounds.{AfterEachFitSessionOfFewTsns, CanBeAnswered, EachAnswerLeavesFewer, EachCanGoOn, EachRoundTakesOne, RoundsEnd, SkipsToPoint};
+ghost use Rattle.sctp_delivery.specs.Rounds.{AfterEachFitReliableSession, AfterEachFitSessionOfFewTsns, AllIsReadAfterRounds, CanBeAnswered, EachAnswerLeavesFewer, EachCanGoOn, EachRoundTakesOne, RoundsEnd, SkipsToPoint};
 ghost use Rattle.sctp_delivery.specs.Sacks.{AfterEachSessionOfFewTsns};
 
 /// Where the message of the first chunk in flight is abandoned, a FORWARD-TSN goes to the Advanced.Peer.Ack.Point: what is abandoned
@@ -36,4 +36,10 @@ pub fn a_sack_of_what_came_leaves_fewer()
 pub fn rounds_end()
     ensures fewer { AfterEachFitSessionOfFewTsns EachRoundTakesOne }
     ensures done { AfterEachFitSessionOfFewTsns RoundsEnd }
+{}
+
+/// Where no message is abandoned or expires: after as many rounds as chunks wait and are in flight together, and reads until on no stream
+/// is a message to read, each write was read exactly once. So it is in sessions that give out fewer than 2^31 TSNs.
+pub fn all_is_read_after_rounds()
+    ensures { AfterEachFitReliableSession AllIsReadAfterRounds }
 {}

@@ -1,9 +1,9 @@
-use Rattle.std.proofs.Common.{◌≡◌, ◌+◌, ◌++◌, length, replicate, drop, refl, ap, ap₂, sym, ◌∙◌, arith}
+use Rattle.std.proofs.Common.{◌≡◌, ◌+◌, ◌++◌, replicate, ap, ap₂, ◌∙◌}
 use Rattle.sctp_base.specs.Padding.{padding_of}
 use Rattle.sctp_base.specs.Field.{be16, be32}
 use Rattle.sctp_data.specs.PayloadData.{data_of}
 use Rattle.sctp_c.specs.Out.{at_front}
-use Rattle.sctp_c.proofs.DataOut.{head_of, joined, room}
+use Rattle.sctp_c.proofs.DataOut.{head_of, joined}
 use Rattle.sctp_c.proofs.data_out.put_data.Goals as goal
 
 pub returns : goal.returns
