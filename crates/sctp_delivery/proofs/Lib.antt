@@ -37,6 +37,7 @@ pub mod ValidMarks
 pub mod SackSteps
 pub mod SackMarks
 pub mod SackLaws
+pub mod StaysAcknowledged
 pub mod SpreadCalls
 pub mod ReadOnce
 pub mod OnceWritten

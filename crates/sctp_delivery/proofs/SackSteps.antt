@@ -124,7 +124,7 @@ written-open stream len t none closed = none-some StreamUnknown
     (sym none ∙ ap (λ o. if not (is_some o) then Some StreamUnknown else
     (if nat_lt t.max_message_size len then Some MessageTooLarge else (if is_full len t then Some QueueFull else None))) closed)
 
-order-short : (q : ChunkPayloadData → Bool) (f : Flight) (o : Option ℕ) → length
+pub order-short : (q : ChunkPayloadData → Bool) (f : Flight) (o : Option ℕ) → length
     (option_to_list o ++ map (λ (c : ChunkPayloadData). c.tsn) (filter q f.queue.inflight.chunks)) ≤ 1 + length f.queue.inflight.chunks
 order-short q f o =
     let a = length-append (option_to_list o) (map (λ (c : ChunkPayloadData). c.tsn) (filter q f.queue.inflight.chunks)) in

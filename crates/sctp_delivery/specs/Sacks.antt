@@ -1,5 +1,5 @@
 -- What SACKs and FORWARD-TSNs say in a session of two hosts (RFC 4960 3.3.4, 6.2.1; RFC 3758 3.5).
-use Rattle.std.specs.Prelude.{◌≡◌, ℕ, ◌+◌, ◌^◌, ◌<◌, nat_le, Bool, true, false, not, ◌&&◌, ◌||◌, List, [], ◌∷◌, length, All, Option, None}
+use Rattle.std.specs.Prelude.{◌≡◌, ℕ, ◌+◌, ◌^◌, ◌<◌, nat_le, Bool, true, false, not, ◌&&◌, ◌||◌, List, [], ◌∷◌, length, All, Contains, Option, None}
 use Rattle.std.specs.List.{list_any}
 use Rattle.sctp_list_lemmas.specs.Serial.{distance, at_or_before}
 use Rattle.sctp_data.specs.declared.chunk.chunk_payload_data.ChunkPayloadData.{ChunkPayloadData}
@@ -11,7 +11,7 @@ use Rattle.sctp_receiver.specs.Receiver.{max_sack_entries}
 use Rattle.sctp_serial.specs.DataChunks.{following_tsn, has_tsn}
 use Rattle.sctp_delivery.specs.ReceiverCalls as incoming
 use Rattle.sctp_delivery.specs.SenderCalls.{Made, data_chunk, forward_tsn}
-use Rattle.sctp_delivery.specs.Session.{Call, ReceiverFollows, RunsTo, Session, at_start}
+use Rattle.sctp_delivery.specs.Session.{Call, Follows, ReceiverFollows, RunsTo, Session, at_start}
 
 -- ## Sessions with few TSNs
 
@@ -75,6 +75,14 @@ abbrev pub AcknowledgedCame : Session → Type 0
 AcknowledgedCame s =
     All (λ c. is_reported s c ≡ true → (was_taken c.tsn s || c.abandoned) ≡ true)
     s.sending.sender.flight.queue.inflight.chunks
+
+-- in every call of either host a chunk in flight that is acknowledged stays so, while it is in flight
+abbrev pub StaysAcknowledged : Session → Type 0
+StaysAcknowledged s =
+    (call : Call) (t : Session) → Follows call s t → (c d : ChunkPayloadData)
+    → Contains s.sending.sender.flight.queue.inflight.chunks c
+    → Contains t.sending.sender.flight.queue.inflight.chunks d
+    → c.tsn ≡ d.tsn → c.acked ≡ true → d.acked ≡ true
 
 -- of the chunks that such a SACK would release, each that has bytes was taken
 abbrev pub ReleasedCame : Session → Type 0

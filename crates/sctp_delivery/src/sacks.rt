@@ -5,7 +5,7 @@ ghost use Rattle.std.specs.Prelude.{◌≡◌, ◌<◌, true, IfErr, IfOk, OnErr
 ghost use Rattle.sctp_data.specs.SelectiveAck.{sack_of};
 ghost use Rattle.sctp_sender.specs.declared.sender.refusal.SenderRefusal.TheVariants.{OutOfMemory};
 ghost use Rattle.sctp_delivery.specs.SenderCalls.{SenderMakes, takes_sack};
-ghost use Rattle.sctp_delivery.specs.Sacks.{AfterEachSessionOfFewTsns, AcknowledgedCame, AllReportedLeaves, LeftCame, NextSackTells, NoneIsRefused, NoneIsTakenTwice, PassAbandoned, ReleasedCame, ReportWhatCame, was_taken};
+ghost use Rattle.sctp_delivery.specs.Sacks.{AfterEachSessionOfFewTsns, AcknowledgedCame, AllReportedLeaves, LeftCame, NextSackTells, NoneIsRefused, NoneIsTakenTwice, PassAbandoned, ReleasedCame, ReportWhatCame, StaysAcknowledged, was_taken};
 
 use sctp_data::chunk::chunk_selective_ack::ChunkSelectiveAck;
 use sctp_sender::sender::Sender;
@@ -38,6 +38,12 @@ pub fn what_is_acknowledged_came_or_was_abandoned()
     ensures released { AfterEachSessionOfFewTsns (λ first count s. ReleasedCame s) }
     ensures left { AfterEachSessionOfFewTsns (λ first count s. LeftCame first s) }
     ensures passed { AfterEachSessionOfFewTsns (λ first count s. PassAbandoned s) }
+{}
+
+/// A chunk in flight that is acknowledged stays so in every call of either host, while it is in flight: nothing that the sender does,
+/// and no SACK that comes late or out of order, makes it outstanding again (RFC 4960 6.2.1).
+pub fn what_is_acknowledged_stays_so()
+    ensures { AfterEachSessionOfFewTsns (λ first count s. StaysAcknowledged s) }
 {}
 
 /// A SACK of the receiver that has as its cumulative TSN the last one given out leaves nothing in flight.

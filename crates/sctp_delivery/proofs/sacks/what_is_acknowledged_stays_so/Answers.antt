@@ -1,0 +1,5 @@
+use Rattle.sctp_delivery.proofs.StaysAcknowledged as laws
+use Rattle.sctp_delivery.proofs.sacks.what_is_acknowledged_stays_so.Goals as goal
+
+pub returns : goal.returns
+returns c = laws.stays-acknowledged
