@@ -1,22 +1,22 @@
 use bytes::{Bytes, BytesMut};
 use sctp_base::error::Error;
-use sctp_base::param::Param;
-use sctp_base::param::param_chunk_list::ParamChunkList;
-use sctp_base::param::param_forward_tsn_supported::ParamForwardTsnSupported;
-use sctp_base::param::param_header::ParamHeader;
-use sctp_base::param::param_heartbeat_info::ParamHeartbeatInfo;
-use sctp_base::param::param_kind::{ParamKind, build_param};
-use sctp_base::param::param_outgoing_reset_request::ParamOutgoingResetRequest;
-use sctp_base::param::param_random::ParamRandom;
-use sctp_base::param::param_reconfig_response::{ParamReconfigResponse, ReconfigResult};
-use sctp_base::param::param_requested_hmac_algorithm::{
+use sctp_params::param::Param;
+use sctp_params::param::param_chunk_list::ParamChunkList;
+use sctp_params::param::param_forward_tsn_supported::ParamForwardTsnSupported;
+use sctp_params::param::param_header::ParamHeader;
+use sctp_params::param::param_heartbeat_info::ParamHeartbeatInfo;
+use sctp_params::param::param_kind::{ParamKind, build_param};
+use sctp_params::param::param_outgoing_reset_request::ParamOutgoingResetRequest;
+use sctp_params::param::param_random::ParamRandom;
+use sctp_params::param::param_reconfig_response::{ParamReconfigResponse, ReconfigResult};
+use sctp_params::param::param_requested_hmac_algorithm::{
     HmacAlgorithm, ParamRequestedHmacAlgorithm,
 };
-use sctp_base::param::param_state_cookie::ParamStateCookie;
-use sctp_base::param::param_supported_address_types::ParamSupportedAddressTypes;
-use sctp_base::param::param_supported_extensions::ParamSupportedExtensions;
-use sctp_base::param::param_type::ParamType;
-use sctp_base::param::param_unknown::ParamUnknown;
+use sctp_params::param::param_state_cookie::ParamStateCookie;
+use sctp_params::param::param_supported_address_types::ParamSupportedAddressTypes;
+use sctp_params::param::param_supported_extensions::ParamSupportedExtensions;
+use sctp_params::param::param_type::ParamType;
+use sctp_params::param::param_unknown::ParamUnknown;
 use sctp_base::util::{CT_FORWARD_TSN, CT_RECONFIG};
 use std::alloc::Global;
 use std::fmt::Display;

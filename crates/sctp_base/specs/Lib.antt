@@ -4,14 +4,4 @@ pub mod Field
 pub mod Outcome
 pub mod Walk
 pub mod Each
-pub mod ParamFraming
-pub mod ParamType
-pub mod AddressTypes
-pub mod ResetRequest
-pub mod ReconfigResponse
-pub mod HmacAlgorithm
-pub mod Param
-pub mod ParamKinds
-pub mod ParamFault
-pub mod ParamKind
 pub mod Sources

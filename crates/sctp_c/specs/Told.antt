@@ -1,9 +1,9 @@
 -- What a caller in C is told of chunks and parameters: their fields as plain numbers, and lists by their lengths.
 use Rattle.std.specs.Prelude.{◌≡◌, ℕ, ◌-◌, min, List, length, map}
 use Rattle.sctp_base.specs.Padding.{padded_length}
-use Rattle.sctp_base.specs.Param.{Parameter, param_number_of}
-use Rattle.sctp_base.specs.ParamFraming.{param_declared_length}
-use Rattle.sctp_base.specs.ParamKind.{ReadsParam}
+use Rattle.sctp_params.specs.Param.{Parameter, param_number_of}
+use Rattle.sctp_params.specs.ParamFraming.{param_declared_length}
+use Rattle.sctp_params.specs.ParamKind.{ReadsParam}
 use Rattle.sctp_chunks.specs.Init.{Init}
 use Rattle.sctp_chunks.specs.Wire.{ReadsChunk, data_chunk, sack_chunk, init_chunk, forward_tsn_chunk}
 use Rattle.sctp_data.specs.PayloadData.{Data, payload_type_number, weight}

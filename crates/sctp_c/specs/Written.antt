@@ -3,9 +3,9 @@ use Rattle.std.specs.Prelude.{◌≡◌, ℕ, ◌<◌, ◌⊎◌, ◌==◌, if�
 use Rattle.sctp_base.specs.declared.error.Error.{Error}
 use Rattle.sctp_base.specs.declared.error.Error.TheVariants.{ErrLengthTooLarge}
 use Rattle.sctp_base.specs.Field.{be16, be32}
-use Rattle.sctp_base.specs.Param.{Parameter}
-use Rattle.sctp_base.specs.ParamFraming.{param_framed}
-use Rattle.sctp_base.specs.ParamKind.{ReadsParam, ParamFault}
+use Rattle.sctp_params.specs.Param.{Parameter}
+use Rattle.sctp_params.specs.ParamFraming.{param_framed}
+use Rattle.sctp_params.specs.ParamKind.{ReadsParam, ParamFault}
 use Rattle.sctp_chunks.specs.Framing.{chunk_encoding}
 use Rattle.sctp_chunks.specs.Kind.{KindFault}
 use Rattle.sctp_chunks.specs.Wire.{Wire, ReadsChunk, encoding_of, type_of, value_of}

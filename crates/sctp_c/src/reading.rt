@@ -2,8 +2,8 @@
 
 ghost use Rattle.std.specs.Prelude.{◌≡◌, ◌≢◌, ℕ, length, map, IfOk, IfErr};
 ghost use Rattle.sctp_base.specs.Outcome.{OrMemory, GivesUnlessMemory};
-ghost use Rattle.sctp_base.specs.Param.{Parameter};
-ghost use Rattle.sctp_base.specs.ParamKind.{ReadsParam, ParamFault, parameter_of};
+ghost use Rattle.sctp_params.specs.Param.{Parameter};
+ghost use Rattle.sctp_params.specs.ParamKind.{ReadsParam, ParamFault, parameter_of};
 ghost use Rattle.sctp_chunks.specs.Fault.{DataFault, SackFault, ForwardTsnFault, InitFault, ShutdownFault};
 ghost use Rattle.sctp_chunks.specs.Init.{Init};
 ghost use Rattle.sctp_chunks.specs.Wire.{Wire, ReadsChunk, data_chunk, sack_chunk, forward_tsn_chunk, init_chunk, shutdown_chunk};
@@ -18,7 +18,7 @@ use crate::code::{SCTP_OK, of_error};
 use bytes::Bytes;
 use sctp_base::error::Result;
 use sctp_base::field::read_u16;
-use sctp_base::param::param_kind::{ParamKind, build_param};
+use sctp_params::param::param_kind::{ParamKind, build_param};
 use sctp_base::util::get_padding_size;
 use sctp_chunks::chunk::Chunk;
 use sctp_chunks::chunk::chunk_forward_tsn::{ChunkForwardTsn, ChunkForwardTsnStream};

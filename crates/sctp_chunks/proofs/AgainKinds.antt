@@ -20,7 +20,7 @@ use Rattle.sctp_chunks.specs.IForwardTsn.{IForwardTsn, ReadsIForwardTsn, i_forwa
 use Rattle.sctp_data.specs.ForwardTsn.{FitsStream}
 use Rattle.sctp_chunks.specs.Fits.{Fits, FitsInit, FitsBlock, FitsSack, FitsForwardTsn, FitsEntry, FitsIForwardTsn, Canonical}
 use Rattle.sctp_chunks.specs.Wire.{Wire, data_chunk, init_chunk, sack_chunk, heartbeat_chunk, heartbeat_ack_chunk, reconfig_chunk, HasLength, abort_chunk, shutdown_chunk, shutdown_ack_chunk, error_chunk, cookie_echo_chunk, cookie_ack_chunk, shutdown_complete_chunk, forward_tsn_chunk, i_forward_tsn_chunk, ReadsValue, ReadsChunk, HasEncoding, type_of, flags_of, value_of, encoding_of}
-use Rattle.sctp_base.proofs.ParamLengths.{length_flat_map}
+use Rattle.sctp_params.proofs.ParamLengths.{length_flat_map}
 use Rattle.sctp_chunks.proofs.Lengths.{length_init_value, length_sack_value, length_forward_tsn_value, length_i_forward_tsn_value}
 use Rattle.sctp_chunks.proofs.Again.{data_again, framed_reads, framed_value}
 use Rattle.sctp_chunks.proofs.AgainLists.{items_again}

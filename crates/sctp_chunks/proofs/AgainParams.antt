@@ -5,11 +5,11 @@ use Rattle.std.proofs.lemmas.List.{append-nil, length-replicate}
 use Rattle.std.proofs.Math.ListN.{drop_of_length-le}
 use Rattle.sctp_base.specs.Padding.{padding_of}
 use Rattle.sctp_base.specs.Walk.{Walks}
-use Rattle.sctp_base.specs.ParamFraming.{param_declared_length, after_param}
-use Rattle.sctp_base.specs.Param.{Parameter, heartbeat_info, ReadsBack, param_encoding, param_value_of}
-use Rattle.sctp_base.specs.ParamKind.{IsReadAs, ReadsParam}
-use Rattle.sctp_base.proofs.ParamLengths.{length_param_encoding}
-use Rattle.sctp_base.proofs.ParamAgain.{declared_param_encoding, after_param_encoding}
+use Rattle.sctp_params.specs.ParamFraming.{param_declared_length, after_param}
+use Rattle.sctp_params.specs.Param.{Parameter, heartbeat_info, ReadsBack, param_encoding, param_value_of}
+use Rattle.sctp_params.specs.ParamKind.{IsReadAs, ReadsParam}
+use Rattle.sctp_params.proofs.ParamLengths.{length_param_encoding}
+use Rattle.sctp_params.proofs.ParamAgain.{declared_param_encoding, after_param_encoding}
 use Rattle.sctp_chunks.specs.Params.{ReadsParams, ReadBack, padded_param, params_encoding}
 use Rattle.sctp_chunks.specs.Heartbeat.{ReadsHeartbeat, IsReadHeartbeat}
 use Rattle.sctp_chunks.specs.Reconfig.{ReadsPair, PairReadsBack, pair_encoding}

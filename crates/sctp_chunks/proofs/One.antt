@@ -3,10 +3,10 @@ use Rattle.std.proofs.Common.{◌≡◌, ℕ, ◌<◌, ◌≤◌, Bool, true, fa
 use Rattle.sctp_base.proofs.Walks.{walks_one}
 use Rattle.sctp_chunks.specs.declared.chunk.error_cause.ErrorCause.{ErrorCause}
 use Rattle.std.specs.Prelude.{Option, Some, None}
-use Rattle.sctp_base.specs.Param.{Parameter, heartbeat_info}
-use Rattle.sctp_base.specs.ParamKind.{ReadsParam}
-use Rattle.sctp_base.specs.ParamFraming.{after_param}
-use Rattle.sctp_base.proofs.ParamOne.{reads_one_param, no_param}
+use Rattle.sctp_params.specs.Param.{Parameter, heartbeat_info}
+use Rattle.sctp_params.specs.ParamKind.{ReadsParam}
+use Rattle.sctp_params.specs.ParamFraming.{after_param}
+use Rattle.sctp_params.proofs.ParamOne.{reads_one_param, no_param}
 use Rattle.sctp_chunks.specs.Framing.{value_at}
 use Rattle.sctp_chunks.specs.Params.{ReadsParams}
 use Rattle.sctp_chunks.specs.Init.{Init, ReadsInit, init_in, ack_type}

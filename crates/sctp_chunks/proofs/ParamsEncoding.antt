@@ -6,11 +6,11 @@ use Rattle.std.proofs.lemmas.Bool.{eqb-true}
 use Rattle.std.proofs.Math.ListN.{drop_of_length-le}
 use Rattle.sctp_base.specs.Padding.{padded_length}
 use Rattle.sctp_base.specs.Walk.{Walks}
-use Rattle.sctp_base.specs.declared.param.param_kind.ParamKind.{ParamKind}
-use Rattle.sctp_base.specs.Param.{Parameter, heartbeat_info, param_value_of, param_encoding}
-use Rattle.sctp_base.specs.ParamKind.{IsReadAs, ReadsParam, parameter_of}
-use Rattle.sctp_base.specs.ParamFraming.{param_declared_length, after_param}
-use Rattle.sctp_base.proofs.ParamLengths.{length_param_encoding, param_no_longer}
+use Rattle.sctp_params.specs.declared.param.param_kind.ParamKind.{ParamKind}
+use Rattle.sctp_params.specs.Param.{Parameter, heartbeat_info, param_value_of, param_encoding}
+use Rattle.sctp_params.specs.ParamKind.{IsReadAs, ReadsParam, parameter_of}
+use Rattle.sctp_params.specs.ParamFraming.{param_declared_length, after_param}
+use Rattle.sctp_params.proofs.ParamLengths.{length_param_encoding, param_no_longer}
 use Rattle.sctp_chunks.specs.Params.{padded_param, params_encoding, gap}
 use Rattle.sctp_chunks.specs.Heartbeat.{ReadsHeartbeat, IsOneInfo}
 use Rattle.sctp_chunks.specs.Reconfig.{ReadsPair, pair_encoding}

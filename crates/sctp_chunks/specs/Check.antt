@@ -2,7 +2,7 @@
 use Rattle.std.specs.Prelude.{◌≡◌, ◌≢◌, ◌<◌, ◌≤◌, ◌⊎◌, Option, Some, None}
 use Rattle.sctp_base.specs.declared.error.Error.{Error}
 use Rattle.sctp_base.specs.declared.error.Error.TheVariants as errors
-use Rattle.sctp_base.specs.Param.{Parameter}
+use Rattle.sctp_params.specs.Param.{Parameter}
 use Rattle.sctp_chunks.specs.Init.{Init}
 use Rattle.sctp_chunks.specs.Heartbeat.{OneInfoFault}
 use Rattle.sctp_chunks.specs.Reconfig.{IsPair, PairFault}

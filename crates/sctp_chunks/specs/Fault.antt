@@ -5,8 +5,8 @@ use Rattle.sctp_base.specs.Walk.{Walks}
 use Rattle.sctp_chunks.specs.declared.chunk.error_cause.ErrorCause.{ErrorCause}
 use Rattle.sctp_chunks.specs.ErrorCause.{IsCause, ReadsCause, after_cause}
 use Rattle.sctp_data.specs.SelectiveAck.{blocks_in, duplicates_in}
-use Rattle.sctp_base.specs.ParamFraming.{IsParam, param_type_at, after_param}
-use Rattle.sctp_base.specs.ParamKind.{ParamFault}
+use Rattle.sctp_params.specs.ParamFraming.{IsParam, param_type_at, after_param}
+use Rattle.sctp_params.specs.ParamKind.{ParamFault}
 use Rattle.sctp_chunks.specs.Params.{ParamsFault}
 use Rattle.sctp_base.specs.declared.error.Error.{Error}
 use Rattle.sctp_base.specs.declared.error.Error.TheVariants as errors

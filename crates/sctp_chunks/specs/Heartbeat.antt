@@ -1,8 +1,8 @@
 -- HEARTBEAT and HEARTBEAT-ACK: what the sender wants back (RFC 4960 3.3.5, 3.3.6).
 use Rattle.std.specs.Prelude.{◌≡◌, ◌≢◌, ℕ, List, [], ◌∷◌}
-use Rattle.sctp_base.specs.Param.{Parameter, heartbeat_info, ReadsBack, param_type_of}
-use Rattle.sctp_base.specs.ParamKind.{IsReadAs, ReadsParam}
-use Rattle.sctp_base.specs.declared.param.param_type.ParamType.TheVariants as types
+use Rattle.sctp_params.specs.Param.{Parameter, heartbeat_info, ReadsBack, param_type_of}
+use Rattle.sctp_params.specs.ParamKind.{IsReadAs, ReadsParam}
+use Rattle.sctp_params.specs.declared.param.param_type.ParamType.TheVariants as types
 use Rattle.sctp_base.specs.declared.error.Error.{Error}
 use Rattle.sctp_base.specs.declared.error.Error.TheVariants as errors
 

@@ -9,7 +9,7 @@ use Rattle.sctp_data.specs.SelectiveAck.{sack_of}
 use Rattle.sctp_chunks.specs.Init.{init_of}
 use Rattle.sctp_chunks.specs.Reconfig.{reconfig_of}
 use Rattle.sctp_data.specs.ForwardTsn.{forward_tsn_of}
-use Rattle.sctp_base.specs.ParamKind.{parameter_of}
+use Rattle.sctp_params.specs.ParamKind.{parameter_of}
 use Rattle.sctp_chunks.specs.IForwardTsn.{i_forward_tsn_of}
 use Rattle.sctp_data.specs.ChunkSet.{IsFreshData}
 use Rattle.sctp_chunks.specs.Framing.{type_at}

@@ -3,9 +3,9 @@ use Rattle.std.specs.Prelude.{ℕ, ◌<◌, ◌≤◌, Bool, true, false, List, 
 use Rattle.std.specs.List.{AllByRecursion}
 use Rattle.sctp_base.specs.Padding.{padding_of}
 use Rattle.sctp_base.specs.Walk.{Walks}
-use Rattle.sctp_base.specs.ParamFraming.{after_param}
-use Rattle.sctp_base.specs.Param.{Parameter, ReadsBack, param_encoding}
-use Rattle.sctp_base.specs.ParamKind.{IsReadAs, ReadsParam, ParamFault}
+use Rattle.sctp_params.specs.ParamFraming.{after_param}
+use Rattle.sctp_params.specs.Param.{Parameter, ReadsBack, param_encoding}
+use Rattle.sctp_params.specs.ParamKind.{IsReadAs, ReadsParam, ParamFault}
 use Rattle.sctp_base.specs.declared.error.Error.{Error}
 
 -- the parameters, by their declared lengths; up to three bytes after the last one are ignored

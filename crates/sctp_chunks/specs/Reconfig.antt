@@ -1,10 +1,10 @@
 -- RECONFIG: streams are reset or added (RFC 6525 3.1).
 use Rattle.std.specs.Prelude.{◌≡◌, ℕ, ◌⊎◌, true, false, Option, Some, None, option_map, List, [], ◌++◌, length}
-use Rattle.sctp_base.specs.ParamFraming.{after_param}
-use Rattle.sctp_base.specs.Param.{Parameter, ReadsBack, param_type_of}
-use Rattle.sctp_base.specs.ParamKind.{IsReadAs, ReadsParam, parameter_of}
-use Rattle.sctp_base.specs.declared.param.param_type.ParamType.{ParamType}
-use Rattle.sctp_base.specs.declared.param.param_type.ParamType.TheVariants as types
+use Rattle.sctp_params.specs.ParamFraming.{after_param}
+use Rattle.sctp_params.specs.Param.{Parameter, ReadsBack, param_type_of}
+use Rattle.sctp_params.specs.ParamKind.{IsReadAs, ReadsParam, parameter_of}
+use Rattle.sctp_params.specs.declared.param.param_type.ParamType.{ParamType}
+use Rattle.sctp_params.specs.declared.param.param_type.ParamType.TheVariants as types
 use Rattle.sctp_base.specs.declared.error.Error.{Error}
 use Rattle.sctp_base.specs.declared.error.Error.TheVariants as errors
 use Rattle.sctp_chunks.specs.Params.{padded_param}

@@ -10,7 +10,7 @@ use Rattle.sctp_chunks.specs.Init.{Init, ReadsInit, ack_type, init_value}
 use Rattle.sctp_chunks.specs.Heartbeat.{ReadsHeartbeat, IsOneInfo}
 use Rattle.sctp_chunks.specs.Reconfig.{Reconfig, ReadsPair, reconfig_value}
 use Rattle.sctp_chunks.specs.ErrorCause.{ReadsCauses, causes_encoding}
-use Rattle.sctp_base.specs.Param.{Parameter}
+use Rattle.sctp_params.specs.Param.{Parameter}
 use Rattle.sctp_data.specs.ForwardTsn.{ForwardTsn, ReadsForwardTsn, forward_tsn_value}
 use Rattle.sctp_chunks.specs.IForwardTsn.{IForwardTsn, ReadsIForwardTsn, i_forward_tsn_value}
 

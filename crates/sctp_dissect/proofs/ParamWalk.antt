@@ -5,7 +5,7 @@ use Rattle.std.specs.List.{flat_map}
 use Rattle.std.proofs.lemmas.List.{take-append-drop, length-take}
 use Rattle.sctp_base.specs.Walk.{Walks}
 use Rattle.sctp_base.specs.Padding.{padded_length}
-use Rattle.sctp_base.specs.ParamFraming.{param_declared_length, after_param}
+use Rattle.sctp_params.specs.ParamFraming.{param_declared_length, after_param}
 use Rattle.sctp_dissect.specs.declared.params.ParamItem.{ParamItem}
 use Rattle.sctp_dissect.specs.Params.{param_span, ShowsParam, param_bytes}
 use Rattle.sctp_dissect.proofs.Walk.{drop_taken}

@@ -3,16 +3,16 @@
 ghost use Rattle.std.specs.Prelude.{◌≡◌, ◌↔◌, ◌++◌, List, IsTrue, IfOk};
 ghost use Rattle.std.specs.List.{flat_map};
 ghost use Rattle.sctp_base.specs.Walk.{Walks};
-ghost use Rattle.sctp_base.specs.Param.{Parameter};
-ghost use Rattle.sctp_base.specs.ParamFraming.{IsParam, after_param};
-ghost use Rattle.sctp_base.specs.ParamKind.{ReadsParam, ParamFault};
+ghost use Rattle.sctp_params.specs.Param.{Parameter};
+ghost use Rattle.sctp_params.specs.ParamFraming.{IsParam, after_param};
+ghost use Rattle.sctp_params.specs.ParamKind.{ReadsParam, ParamFault};
 ghost use Rattle.sctp_dissect.specs.Params.{param_span, IsRawParam, ReadsAsParam, ShowsParam, param_bytes};
 
 use bytes::Bytes;
 use sctp_base::error::Error;
 use sctp_base::field::read_u16;
-use sctp_base::param::param_header::PARAM_HEADER_LENGTH;
-use sctp_base::param::param_kind::{ParamKind, build_param};
+use sctp_params::param::param_header::PARAM_HEADER_LENGTH;
+use sctp_params::param::param_kind::{ParamKind, build_param};
 use sctp_base::util::get_padding_size;
 use std::alloc::{AllocError, Global};
 
@@ -64,7 +64,7 @@ fn is_param(rest: &[u8]) -> bool
 }
 
 /// The parameter at the front, which is refused.
-#[tactic(auto, unfolding(sctp_base::specs::ParamFraming::param_value_at))]
+#[tactic(auto, unfolding(sctp_params::specs::ParamFraming::param_value_at))]
 fn read_raw_param(rest: &Bytes, refusal: Error) -> Result<RawParam, AllocError>
     requires whole { IsParam rest.now }
     requires refusal { ParamFault refusal rest.now }

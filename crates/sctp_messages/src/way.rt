@@ -2,8 +2,8 @@
 
 use crate::reading::{read_all, take_chunk};
 use sctp_base::field::{read_u16, read_u32};
-use sctp_base::param::param_kind::ParamKind;
-use sctp_base::param::param_outgoing_reset_request::ParamOutgoingResetRequest;
+use sctp_params::param::param_kind::ParamKind;
+use sctp_params::param::param_outgoing_reset_request::ParamOutgoingResetRequest;
 use sctp_base::util::sna32lt;
 use sctp_chunks::chunk::chunk_kind::ChunkKind;
 use sctp_chunks::chunk::chunk_reconfig::ChunkReconfig;

@@ -1,7 +1,7 @@
 //! HEARTBEAT-ACK: the answer to a HEARTBEAT.
 
 ghost use Rattle.std.specs.Prelude.{map};
-ghost use Rattle.sctp_base.specs.ParamKind.{parameter_of};
+ghost use Rattle.sctp_params.specs.ParamKind.{parameter_of};
 ghost use Rattle.sctp_chunks.specs.Wire.{heartbeat_ack_chunk, IsHeartbeatAck};
 ghost use Rattle.sctp_chunks.specs.Fault.{HeartbeatAckFault};
 
@@ -11,9 +11,9 @@ use super::chunk_heartbeat::read_info;
 use super::params::{params_length, put_params};
 use bytes::{Bytes, BytesMut};
 use sctp_base::error::{Error, Result};
-use sctp_base::param::Param;
-use sctp_base::param::param_kind::ParamKind;
-use sctp_base::param::param_type::ParamType;
+use sctp_params::param::Param;
+use sctp_params::param::param_kind::ParamKind;
+use sctp_params::param::param_type::ParamType;
 use sctp_base::util::{CT_HEARTBEAT_ACK, ChunkType};
 use std::alloc::Global;
 use std::fmt;

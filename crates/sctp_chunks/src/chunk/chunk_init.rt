@@ -1,8 +1,8 @@
 //! INIT and INIT-ACK: how an association begins.
 
 ghost use Rattle.std.specs.Prelude.{◌≡◌, ◌++◌, ◌∷◌, [], map, IfOk, OnOk, OnErr, IsOkUnless};
-ghost use Rattle.sctp_base.specs.Param.{supported_extensions};
-ghost use Rattle.sctp_base.specs.ParamKind.{parameter_of};
+ghost use Rattle.sctp_params.specs.Param.{supported_extensions};
+ghost use Rattle.sctp_params.specs.ParamKind.{parameter_of};
 ghost use Rattle.sctp_base.specs.declared.error.Error.TheVariants.{ErrOutOfMemory};
 ghost use Rattle.sctp_chunks.specs.Init.{init_of};
 ghost use Rattle.sctp_chunks.specs.Wire.{init_chunk, IsInit};
@@ -14,8 +14,8 @@ use super::params::{params_length, put_params, read_params};
 use bytes::{Bytes, BytesMut};
 use sctp_base::error::{Error, Result};
 use sctp_base::field::{put_u16, put_u32, read_u16, read_u32};
-use sctp_base::param::param_kind::ParamKind;
-use sctp_base::param::param_supported_extensions::ParamSupportedExtensions;
+use sctp_params::param::param_kind::ParamKind;
+use sctp_params::param::param_supported_extensions::ParamSupportedExtensions;
 use sctp_base::util::{CT_FORWARD_TSN, CT_INIT, CT_INIT_ACK, CT_RECONFIG, ChunkType};
 use std::alloc::Global;
 use std::fmt;

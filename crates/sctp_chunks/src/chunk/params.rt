@@ -2,23 +2,23 @@
 
 ghost use Rattle.std.specs.Prelude.{◌≡◌, ◌<◌, ◌≤◌, ◌+◌, ◌-◌, ◌++◌, ◌||◌, ◌==◌, List, length, map, drop, min, ◌^◌, IfOk, IfErr};
 ghost use Rattle.sctp_base.specs.Outcome.{OrMemory, GivesUnlessMemory};
-ghost use Rattle.sctp_base.specs.ParamFraming.{after_param};
-ghost use Rattle.sctp_base.specs.Param.{Parameter, ReadsBack, param_value_of};
-ghost use Rattle.sctp_base.specs.ParamKind.{IsReadAs, ReadsParam, ParamFault, parameter_of};
+ghost use Rattle.sctp_params.specs.ParamFraming.{after_param};
+ghost use Rattle.sctp_params.specs.Param.{Parameter, ReadsBack, param_value_of};
+ghost use Rattle.sctp_params.specs.ParamKind.{IsReadAs, ReadsParam, ParamFault, parameter_of};
 ghost use Rattle.sctp_chunks.specs.Params.{ReadsParams, ReadBack, ParamsFault, padded_param, params_encoding, gap};
 
 use bytes::{Bytes, BytesMut};
 use sctp_base::error::Result;
 use sctp_base::field::read_u16;
-use sctp_base::param::Param;
-use sctp_base::param::param_header::PARAM_HEADER_LENGTH;
-use sctp_base::param::param_kind::{ParamKind, build_param};
+use sctp_params::param::Param;
+use sctp_params::param::param_header::PARAM_HEADER_LENGTH;
+use sctp_params::param::param_kind::{ParamKind, build_param};
 use sctp_base::util::get_padding_size;
 use std::alloc::Global;
 
 /// Reads the parameter at the front, and how many bytes it takes with the padding
 /// that stands there: the last one's may be missing. Refuses as `build_param` does.
-#[tactic(auto, using(std::proofs::lemmas::List::drop_min), unfolding(sctp_base::specs::ParamFraming::after_param))]
+#[tactic(auto, using(std::proofs::lemmas::List::drop_min), unfolding(sctp_params::specs::ParamFraming::after_param))]
 pub fn read_param(alloc: Global, rest: &Bytes) -> Result<(ParamKind, usize)>
     ensures found { IfOk result (λ x. ReadsParam rest.now (parameter_of x.0)) }
     ensures again { IfOk result (λ x. ReadsBack IsReadAs (parameter_of x.0)) }
@@ -66,7 +66,7 @@ pub fn gap_after(param: &ParamKind, bare: bool) -> usize
 
 /// Appends a parameter, with its padding unless it is to stand bare. It takes no memory.
 /// Precondition: that is under 65,536 bytes, and the buffer has room for them.
-#[tactic(auto, using(crate::proofs::ParamsEncoding::length_padded_param, sctp_base::proofs::ParamLengths::length_param_encoding, crate::proofs::ParamsEncoding::padded_is))]
+#[tactic(auto, using(crate::proofs::ParamsEncoding::length_padded_param, sctp_params::proofs::ParamLengths::length_param_encoding, crate::proofs::ParamsEncoding::padded_is))]
 pub fn put_param(buf: &mut BytesMut, param: &ParamKind, bare: bool)
     requires encoding { length (padded_param bare (parameter_of param.now)) < 2 ^ 16 }
     requires room { length (padded_param bare (parameter_of param.now)) ≤ buf.old.spare }

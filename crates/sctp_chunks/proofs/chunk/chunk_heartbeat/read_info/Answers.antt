@@ -1,5 +1,5 @@
 use Rattle.std.proofs.lemmas.Result.{err_from_is_err_and}
-use Rattle.sctp_base.specs.Param.{heartbeat_info}
+use Rattle.sctp_params.specs.Param.{heartbeat_info}
 use Rattle.sctp_chunks.proofs.chunk.chunk_heartbeat.read_info.Goals as goal
 
 pub returns-in_err-param-clause-only : goal.returns-in_err-param-clause-only

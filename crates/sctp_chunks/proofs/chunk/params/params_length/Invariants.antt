@@ -1,6 +1,6 @@
 use Rattle.std.proofs.Common.{◌≡◌, ◌+◌, ◌-◌, ◌^◌, ◌<◌, length, drop, min}
 use Rattle.std.specs.Prelude.{map}
-use Rattle.sctp_base.specs.ParamKind.{parameter_of}
+use Rattle.sctp_params.specs.ParamKind.{parameter_of}
 use Rattle.sctp_chunks.specs.Params.{params_encoding}
 use Rattle.sctp_chunks.proofs.chunk.params.params_length.Given as goal
 

@@ -1,7 +1,7 @@
 use Rattle.std.proofs.Common.{◌+◌, length, append_assoc, refl}
-use Rattle.sctp_base.specs.Param.{param_value_of}
-use Rattle.sctp_base.specs.ParamKind.{parameter_of}
-use Rattle.sctp_base.proofs.ParamLengths.{length_param_encoding}
+use Rattle.sctp_params.specs.Param.{param_value_of}
+use Rattle.sctp_params.specs.ParamKind.{parameter_of}
+use Rattle.sctp_params.proofs.ParamLengths.{length_param_encoding}
 use Rattle.sctp_chunks.proofs.ParamsEncoding.{padded_is, zeros, gap_small}
 use Rattle.sctp_chunks.proofs.chunk.params.put_param.Goals as goal
 

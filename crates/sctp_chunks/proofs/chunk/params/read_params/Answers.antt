@@ -2,11 +2,11 @@ use Rattle.std.proofs.Common.{◌≡◌, ◌∷◌, ◌++◌, [], List, length, 
 use Rattle.std.specs.Prelude.{map}
 use Rattle.std.proofs.lemmas.Result.{err_from_is_err_and}
 use Rattle.std.proofs.lemmas.List.{map-append}
-use Rattle.sctp_base.specs.Param.{Parameter, ReadsBack}
-use Rattle.sctp_base.specs.ParamKind.{IsReadAs, ReadsParam, parameter_of}
-use Rattle.sctp_base.specs.ParamFraming.{after_param}
+use Rattle.sctp_params.specs.Param.{Parameter, ReadsBack}
+use Rattle.sctp_params.specs.ParamKind.{IsReadAs, ReadsParam, parameter_of}
+use Rattle.sctp_params.specs.ParamFraming.{after_param}
 use Rattle.sctp_base.proofs.Walks.{walks_none, walks_next, walks_step}
-use Rattle.sctp_base.proofs.ParamOne.{no_param}
+use Rattle.sctp_params.proofs.ParamOne.{no_param}
 use Rattle.sctp_chunks.specs.Params.{ReadBack, ParamsFault}
 use Rattle.sctp_chunks.proofs.One.{params_one}
 use Rattle.sctp_chunks.proofs.chunk.params.read_params.Goals as goal

@@ -1,8 +1,8 @@
 use Rattle.std.proofs.Common.{length}
 use Rattle.std.specs.Prelude.{map}
 use Rattle.sctp_base.specs.Walk.{Walks}
-use Rattle.sctp_base.specs.ParamKind.{ReadsParam, parameter_of}
-use Rattle.sctp_base.specs.ParamFraming.{after_param}
+use Rattle.sctp_params.specs.ParamKind.{ReadsParam, parameter_of}
+use Rattle.sctp_params.specs.ParamFraming.{after_param}
 use Rattle.sctp_chunks.specs.Params.{ReadBack}
 use Rattle.sctp_chunks.proofs.chunk.params.read_params.Given as goal
 

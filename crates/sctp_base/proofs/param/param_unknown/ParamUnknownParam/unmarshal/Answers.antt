@@ -1,6 +1,0 @@
-use Rattle.std.proofs.Common.{arith}
-use Rattle.sctp_base.proofs.ParamAgain.{reads_back}
-use Rattle.sctp_base.proofs.param.param_unknown.ParamUnknownParam.unmarshal.Goals as goal
-
-pub returns-clause-again : goal.returns-clause-again
-returns-clause-again c = reads_back _ _ c.in_ok-header.ensures.has_value c.in_ok-header.ensures.value (omega arith)

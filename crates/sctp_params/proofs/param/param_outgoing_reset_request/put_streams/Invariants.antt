@@ -1,0 +1,10 @@
+use Rattle.std.proofs.Common.{◌≡◌, ◌+◌, ◌*◌, ◌++◌, take}
+use Rattle.std.specs.List.{flat_map}
+use Rattle.sctp_base.specs.Field.{be16}
+use Rattle.sctp_params.proofs.param.param_outgoing_reset_request.put_streams.Given as goal
+
+abbrev pub invariant-loop-stream : goal.invariant-loop-stream
+invariant-loop-stream l = record {
+  items : l.buf.items ≡ l.fn.buf.items ++ flat_map be16 (take l.stream-index l.streams);
+  spare : l.buf.spare + 2 * l.stream-index ≡ l.fn.buf.spare;
+}

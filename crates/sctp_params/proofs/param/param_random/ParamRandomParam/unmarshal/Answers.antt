@@ -1,0 +1,6 @@
+use Rattle.std.proofs.Common.{arith}
+use Rattle.sctp_params.proofs.ParamAgain.{reads_back}
+use Rattle.sctp_params.proofs.param.param_random.ParamRandomParam.unmarshal.Goals as goal
+
+pub returns-clause-again : goal.returns-clause-again
+returns-clause-again c = reads_back _ _ c.in_ok-_header.ensures.has_value c.in_ok-_header.ensures.value (omega arith)

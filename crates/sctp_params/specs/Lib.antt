@@ -1,0 +1,10 @@
+pub mod ParamFraming
+pub mod ParamType
+pub mod AddressTypes
+pub mod ResetRequest
+pub mod ReconfigResponse
+pub mod HmacAlgorithm
+pub mod Param
+pub mod ParamKinds
+pub mod ParamFault
+pub mod ParamKind
