@@ -42,7 +42,7 @@ CALLERS = {
 }
 TRAITS = {
     "sctp_chunks::ChunkHeartbeat::value_length": "sctp_chunks/src/chunk.rt",
-    "sctp_base::ParamSupportedExtensions::put_value": "sctp_base/src/param.rt",
+    "sctp_params::ParamSupportedExtensions::put_value": "sctp_params/src/param.rt",
 }
 DEFINITIONS = {
     "crc32c::Crc::update": {"Holds"},

@@ -15,7 +15,9 @@ field_again [] fits = inl (refl, refl)
 field_again (byte ∷ bytes) fits = inr (λ e. cc, decode_of-encode_lower (byte ∷ bytes) fits)
 
 -- what is no hex text is no field
-pub refused : (text : List ℕ) (e : FromHexError) (r : FieldFault) → ((r ≡ OutOfMemory) × (e ≡ hex_errors.OutOfMemory)) ⊎ ((r ≡ NotHex) × (e ≢ hex_errors.OutOfMemory)) → (e ≡ hex_errors.OutOfMemory) ⊎ (decode_of text ≡ Err e) → (text ≡ dash → ⊥) → (r ≡ OutOfMemory) ⊎ ((r ≡ NotHex) × ((b : List ℕ) → IsField text b → ⊥))
+pub refused : (text : List ℕ) (e : FromHexError) (r : FieldFault)
+    → ((r ≡ OutOfMemory) × (e ≡ hex_errors.OutOfMemory)) ⊎ ((r ≡ NotHex) × (e ≢ hex_errors.OutOfMemory))
+    → (e ≡ hex_errors.OutOfMemory) ⊎ (decode_of text ≡ Err e) → (text ≡ dash → ⊥) → (r ≡ OutOfMemory) ⊎ ((r ≡ NotHex) × ((b : List ℕ) → IsField text b → ⊥))
 refused text e r (inl memory) why other = inl memory.0
 refused text e r (inr other_fault) (inl memory) other = absurd (other_fault.1 memory)
 refused text e r (inr other_fault) (inr bad) other = inr (other_fault.0, none)

@@ -49,13 +49,15 @@ u16_at_take bytes n at le = ap (from_be_bytes w16) (front (n - at) (omega arith)
     front m e long = rw (e, drop-take, take-take) refl
 
 -- numbers of two bytes each, from a place on, are written as they stood
-pub written_each : {A : Type 0} (f : ℕ → A) (g : A → List ℕ) (bytes : List ℕ) (at n : ℕ) (place : ℕ → ℕ) → ((i : ℕ) → place i ≡ at + 2 * i) → AreBytes bytes → at + 2 * n ≤ length bytes
-    → ((i : ℕ) → i < n → g (f (u16_at bytes (place i))) ≡ be16 (u16_at bytes (place i))) → flat_map g (each n (λ i. f (u16_at bytes (place i)))) ≡ take (2 * n) (drop at bytes)
+pub written_each : {A : Type 0} (f : ℕ → A) (g : A → List ℕ) (bytes : List ℕ) (at n : ℕ) (place : ℕ → ℕ) → ((i : ℕ) → place i ≡ at + 2 * i) → AreBytes bytes
+    → at + 2 * n ≤ length bytes → ((i : ℕ) → i < n → g (f (u16_at bytes (place i))) ≡ be16 (u16_at bytes (place i)))
+    → flat_map g (each n (λ i. f (u16_at bytes (place i)))) ≡ take (2 * n) (drop at bytes)
 unfolding each
 written_each f g bytes at zero place is h le same = refl
 written_each f g bytes at (suc n) place is h le same =
     let before = written_each f g bytes at n place is h (omega arith) (λ i lt. same i (omega arith)) in
-    let one : g (f (u16_at bytes (place n))) ≡ take 2 (drop (at + 2 * n) bytes) = same n (omega arith) ∙ be16_u16 bytes (place n) h (omega (arith, is n)) ∙ ap (λ k. take 2 (drop k bytes)) (is n) in
+    let one : g (f (u16_at bytes (place n))) ≡ take 2 (drop (at + 2 * n) bytes) = same n (omega arith) ∙ be16_u16 bytes (place n) h (omega (arith, is n))
+    ∙ ap (λ k. take 2 (drop k bytes)) (is n) in
     let more : 2 * suc n ≡ 2 * n + 2 = omega arith in
     let both : take (2 * suc n) (drop at bytes) ≡ take (2 * n) (drop at bytes) ++ take 2 (drop (at + 2 * n) bytes) = rw (more, take-add, drop-drop) refl in
     rw (flat_map-append, before) (ap (λ (x : List ℕ). take (2 * n) (drop at bytes) ++ x) (append-nil _ ∙ one) ∙ sym both)

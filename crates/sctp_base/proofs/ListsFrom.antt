@@ -1,5 +1,6 @@
 -- Lists of lists, from a place on.
-use Rattle.std.proofs.Common.{◌≡◌, ℕ, zero, suc, ◌+◌, ◌<◌, ◌≤◌, List, [], ◌∷◌, ◌++◌, length, length-append, get_or, set, take, drop, refl, sym, ap, ◌∙◌, append_assoc, arith}
+use Rattle.std.proofs.Common.{◌≡◌, ℕ, zero, suc, ◌+◌, ◌<◌, ◌≤◌, List, [], ◌∷◌, ◌++◌, length, length-append, get_or, set, take, drop, refl, sym, ap, ◌∙◌}
+use Rattle.std.proofs.Common.{append_assoc, arith}
 use Rattle.std.specs.List.{concat}
 use Rattle.std.proofs.lemmas.List.{drop_more, take-append-drop, nil_from_length}
 
@@ -14,7 +15,8 @@ shorter (xs ∷ xss) zero = omega arith
 shorter (xs ∷ xss) (suc i) = omega (arith, shorter xss i, length-append xs (concat xss))
 
 -- from a place on where only empty lists stand before the changed one
-pub concat-set : (xss : List (List ℕ)) (from place : ℕ) (v : List ℕ) → from ≤ place → place < length xss → concat (drop place xss) ≡ concat (drop from xss) → concat (drop from (set xss place v)) ≡ v ++ concat (drop (suc place) xss)
+pub concat-set : (xss : List (List ℕ)) (from place : ℕ) (v : List ℕ) → from ≤ place → place < length xss → concat (drop place xss) ≡ concat (drop from xss)
+    → concat (drop from (set xss place v)) ≡ v ++ concat (drop (suc place) xss)
 concat-set [] from place v le lt e = absurd (omega arith)
 concat-set (xs ∷ xss) zero zero v le lt e = refl
 concat-set (xs ∷ xss) zero (suc place) v le lt e =
@@ -35,13 +37,15 @@ drop-set (xs ∷ xss) (suc place) v = drop-set xss place v
 module _ (xss : List (List ℕ)) (from place : ℕ) (le : from ≤ place) (lt : place < length xss) (skipped : concat (drop place xss) ≡ concat (drop from xss)) where
   -- after a whole list was taken
   pub left_whole : concat (drop from (set xss place [])) ≡ concat (drop (place + 1) (set xss place []))
-  left_whole = concat-set xss from place [] le lt skipped ∙ ap concat (sym (drop-set xss place [])) ∙ ap (λ i. concat (drop i (set xss place []))) {x = suc place} {y = place + 1} (omega arith)
+  left_whole = concat-set xss from place [] le lt skipped ∙ ap concat (sym (drop-set xss place []))
+      ∙ ap (λ i. concat (drop i (set xss place []))) {x = suc place} {y = place + 1} (omega arith)
 
   -- after a part was
   pub left_part : (v : List ℕ) → concat (drop from (set xss place v)) ≡ concat (drop place (set xss place v))
   left_part v = concat-set xss from place v le lt skipped ∙ sym (concat-set xss place place v (omega arith) lt refl)
 
-  pub joins_part : (n : ℕ) (piece rest d : List ℕ) → piece ≡ take n (get_or xss place d) → rest ≡ drop n (get_or xss place d) → piece ++ concat (drop place (set xss place rest)) ≡ concat (drop from xss)
+  pub joins_part : (n : ℕ) (piece rest d : List ℕ) → piece ≡ take n (get_or xss place d) → rest ≡ drop n (get_or xss place d)
+      → piece ++ concat (drop place (set xss place rest)) ≡ concat (drop from xss)
   joins_part n piece rest d p r =
       let x = get_or xss place d in
       let tail = concat (drop (suc place) xss) in

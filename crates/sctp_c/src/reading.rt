@@ -18,7 +18,6 @@ use crate::code::{SCTP_OK, of_error};
 use bytes::Bytes;
 use sctp_base::error::Result;
 use sctp_base::field::read_u16;
-use sctp_params::param::param_kind::{ParamKind, build_param};
 use sctp_base::util::get_padding_size;
 use sctp_chunks::chunk::Chunk;
 use sctp_chunks::chunk::chunk_forward_tsn::{ChunkForwardTsn, ChunkForwardTsnStream};
@@ -26,6 +25,7 @@ use sctp_chunks::chunk::chunk_init::ChunkInit;
 use sctp_chunks::chunk::chunk_payload_data::ChunkPayloadData;
 use sctp_chunks::chunk::chunk_selective_ack::{ChunkSelectiveAck, GapAckBlock};
 use sctp_chunks::chunk::chunk_shutdown::ChunkShutdown;
+use sctp_params::param::param_kind::{ParamKind, build_param};
 use std::alloc::Global;
 
 /// A DATA chunk but for its user data, which are `length` bytes from byte 16 of the chunk on (RFC 4960 3.3.1). The flags are 0 or 1.

@@ -19,10 +19,10 @@ use crate::reading::SctpInit;
 use bytes::{Bytes, BytesMut};
 use sctp_base::error::{Error, Result};
 use sctp_base::field::{put_u16, put_u32};
-use sctp_params::param::param_kind::build_param;
 use sctp_chunks::chunk::chunk_header::put_header;
 use sctp_chunks::chunk::chunk_kind::ChunkKind;
 use sctp_chunks::chunk::{Chunk, ChunkType};
+use sctp_params::param::param_kind::build_param;
 use std::alloc::Global;
 
 // A header, and the value behind it.

@@ -1,5 +1,6 @@
 -- What is written reads back.
-use Rattle.std.proofs.Common.{◌≡◌, ℕ, ◌+◌, ◌-◌, ◌^◌, ◌<◌, Bool, true, false, List, [], ◌∷◌, ◌++◌, length, take, drop, All, refl, sym, ap, ◌∙◌, arith, append_assoc, length-append}
+use Rattle.std.proofs.Common.{◌≡◌, ℕ, ◌+◌, ◌-◌, ◌^◌, ◌<◌, Bool, true, false, List, [], ◌∷◌, ◌++◌, length, take, drop, All, refl, sym, ap, ◌∙◌, arith}
+use Rattle.std.proofs.Common.{append_assoc, length-append}
 use Rattle.std.proofs.lemmas.List.{take_at, drop_at}
 use Rattle.sctp_base.specs.Field.{be16, be32, u16_at, u32_at}
 use Rattle.sctp_base.proofs.Fields.{length_be16, length_be32, u16_at_be16, u32_at_be32}
@@ -29,14 +30,17 @@ module _ (typ flags : ℕ) (value rest : List ℕ) (short : 4 + length value < 2
       let four : length front ≡ 4 = omega (arith, length_be16 (4 + length value)) in
       let e : encoding ≡ front ++ (value ++ rest) = ap (λ (x : List ℕ). typ ∷ flags ∷ x) (append_assoc (be16 (4 + length value)) value rest) in
       let n : declared_length encoding - 4 ≡ length value = omega (arith, framed_declared) in
-      rw n (ap (λ (x : List ℕ). take (length value) (drop 4 x)) e ∙ ap (take (length value)) (drop_at front (value ++ rest) 4 four) ∙ take_at value rest (length value) refl)
+      rw n (ap (λ (x : List ℕ). take (length value) (drop 4 x)) e ∙ ap (take (length value)) (drop_at front (value ++ rest) 4 four)
+      ∙ take_at value rest (length value) refl)
 
   pub framed_rest : drop (4 + length value) encoding ≡ rest
-  framed_rest = drop_at (chunk_encoding typ flags value) rest (4 + length value) (omega (arith, length-append (be16 (4 + length value)) value, length_be16 (4 + length value)))
+  framed_rest = drop_at (chunk_encoding typ flags value) rest (4 + length value)
+      (omega (arith, length-append (be16 (4 + length value)) value, length_be16 (4 + length value)))
 
   pub framed_reads : (length rest < 4 → All (λ x. x ≡ 0) rest) → IsFramed encoding
   framed_reads zeros =
-      let len : length encoding ≡ 4 + length value + length rest = omega (arith, length-append (chunk_encoding typ flags value) rest, length-append (be16 (4 + length value)) value, length_be16 (4 + length value)) in
+      let len : length encoding ≡ 4 + length value + length rest =
+      omega (arith, length-append (chunk_encoding typ flags value) rest, length-append (be16 (4 + length value)) value, length_be16 (4 + length value)) in
       record {
         headed = omega (arith, len);
         least = omega (arith, framed_declared);
@@ -67,7 +71,8 @@ payload_type_fits Unknown = omega arith
 abbrev flags_by : (e b u i : Bool) → ℕ
 flags_by e b u i = weight e 1 + weight b 2 + weight u 4 + weight i 8
 
-flags_again : (e b u i : Bool) → (has_flag (flags_by e b u i) 1 ≡ e) × (has_flag (flags_by e b u i) 2 ≡ b) × (has_flag (flags_by e b u i) 4 ≡ u) × (has_flag (flags_by e b u i) 8 ≡ i)
+flags_again : (e b u i : Bool)
+    → (has_flag (flags_by e b u i) 1 ≡ e) × (has_flag (flags_by e b u i) 2 ≡ b) × (has_flag (flags_by e b u i) 4 ≡ u) × (has_flag (flags_by e b u i) 8 ≡ i)
 flags_again true true true true = (refl, refl, refl, refl)
 flags_again true true true false = (refl, refl, refl, refl)
 flags_again true true false true = (refl, refl, refl, refl)
@@ -92,13 +97,16 @@ data_again d fits =
     let tail : List ℕ = be32 n ++ d.user_data in
     let all : data_value d ≡ be32 d.tsn ++ (be16 d.stream_identifier ++ (be16 d.stream_sequence_number ++ tail)) = simp append_assoc in
     let tsn : u32_at (data_value d) 0 ≡ d.tsn = ap (λ (x : List ℕ). u32_at x 0) all ∙ u32_at_be32 [] _ d.tsn 0 refl fits.tsn in
-    let sid : u16_at (data_value d) 4 ≡ d.stream_identifier = ap (λ (x : List ℕ). u16_at x 4) all ∙ u16_at_be16 (be32 d.tsn) _ d.stream_identifier 4 (length_be32 d.tsn) fits.stream_identifier in
+    let sid : u16_at (data_value d) 4 ≡ d.stream_identifier = ap (λ (x : List ℕ). u16_at x 4) all
+    ∙ u16_at_be16 (be32 d.tsn) _ d.stream_identifier 4 (length_be32 d.tsn) fits.stream_identifier in
     let ssn : u16_at (data_value d) 6 ≡ d.stream_sequence_number =
     ap (λ (x : List ℕ). u16_at x 6) (all ∙ sym (append_assoc (be32 d.tsn) (be16 d.stream_identifier) (be16 d.stream_sequence_number ++ tail)))
-    ∙ u16_at_be16 (be32 d.tsn ++ be16 d.stream_identifier) tail d.stream_sequence_number 6 (simp (length-append, length_be16, length_be32) refl) fits.stream_sequence_number in
+    ∙ u16_at_be16 (be32 d.tsn ++ be16 d.stream_identifier) tail d.stream_sequence_number 6
+    (simp (length-append, length_be16, length_be32) refl) fits.stream_sequence_number in
     let front : List ℕ = be32 d.tsn ++ be16 d.stream_identifier ++ be16 d.stream_sequence_number in
     let eight : length front ≡ 8 = simp (length-append, length_be16, length_be32) refl in
-    let ppi : u32_at (data_value d) 8 ≡ n = ap (λ (x : List ℕ). u32_at x 8) (append_assoc front (be32 n) d.user_data) ∙ u32_at_be32 front d.user_data n 8 eight (payload_type_fits d.payload_type) in
+    let ppi : u32_at (data_value d) 8 ≡ n = ap (λ (x : List ℕ). u32_at x 8) (append_assoc front (be32 n) d.user_data)
+    ∙ u32_at_be32 front d.user_data n 8 eight (payload_type_fits d.payload_type) in
     let user : drop 12 (data_value d) ≡ d.user_data = drop_at (front ++ be32 n) d.user_data 12 (simp (length-append, length_be16, length_be32) refl) in
     let f = flags_again d.ending_fragment d.beginning_fragment d.unordered d.immediate_sack in
     record {

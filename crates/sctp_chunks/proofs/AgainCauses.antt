@@ -1,5 +1,6 @@
 -- Causes that are written read back.
-use Rattle.std.proofs.Common.{◌≡◌, ℕ, ◌+◌, ◌-◌, ◌^◌, ◌<◌, List, [], ◌∷◌, ◌++◌, length, take, drop, refl, sym, ap, subst, ◌∙◌, arith, append_assoc, length-append}
+use Rattle.std.proofs.Common.{◌≡◌, ℕ, ◌+◌, ◌-◌, ◌^◌, ◌<◌, List, [], ◌∷◌, ◌++◌, length, take, drop, refl, sym, ap, subst, ◌∙◌, arith, append_assoc}
+use Rattle.std.proofs.Common.{length-append}
 use Rattle.std.specs.List.{AllByRecursion}
 use Rattle.std.proofs.lemmas.List.{take_at, drop_at}
 use Rattle.std.proofs.lemmas.List.Concat.{flat_map-cons}
@@ -7,7 +8,8 @@ use Rattle.sctp_base.specs.Field.{be16, u16_at}
 use Rattle.sctp_base.specs.Walk.{Walks}
 use Rattle.sctp_base.proofs.Fields.{length_be16, u16_at_be16}
 use Rattle.sctp_chunks.specs.declared.chunk.error_cause.ErrorCause.{ErrorCause}
-use Rattle.sctp_chunks.specs.ErrorCause.{ReadsCause, ReadsCauses, HasCauseEncoding, after_cause, cause_declared_length, cause_value_at, cause_encoding, causes_encoding}
+use Rattle.sctp_chunks.specs.ErrorCause.{ReadsCause, ReadsCauses, HasCauseEncoding, after_cause, cause_declared_length, cause_value_at, cause_encoding}
+use Rattle.sctp_chunks.specs.ErrorCause.{causes_encoding}
 use Rattle.sctp_chunks.specs.Fits.{FitsCause}
 use Rattle.sctp_chunks.proofs.Causes.{length_cause_encoding}
 
@@ -35,7 +37,8 @@ module _ (c : ErrorCause) (rest : List ℕ) (fits : FitsCause c) (short : HasCau
       let four : length front ≡ 4 = omega (arith, length-append (be16 c.code.0) (be16 n), length_be16 c.code.0, length_be16 n) in
       let e : encoding ≡ front ++ (c.raw ++ rest) = regroup ∙ sym (append_assoc (be16 c.code.0) (be16 n) (c.raw ++ rest)) in
       let m : cause_declared_length encoding - 4 ≡ length c.raw = omega (arith, cause_length) in
-      rw m (ap (λ (x : List ℕ). take (length c.raw) (drop 4 x)) e ∙ ap (take (length c.raw)) (drop_at front (c.raw ++ rest) 4 four) ∙ take_at c.raw rest (length c.raw) refl)
+      rw m (ap (λ (x : List ℕ). take (length c.raw) (drop 4 x)) e ∙ ap (take (length c.raw)) (drop_at front (c.raw ++ rest) 4 four)
+      ∙ take_at c.raw rest (length c.raw) refl)
 
   cause_after : after_cause encoding ≡ rest
   unfolding after_cause
@@ -49,12 +52,14 @@ module _ (c : ErrorCause) (rest : List ℕ) (fits : FitsCause c) (short : HasCau
         fields = sym (rw (cause_code, cause_value) refl);
       }
 
-causes_walk : (cs : List ErrorCause) → AllByRecursion FitsCause cs → length (causes_encoding cs) < 2 ^ 16 → Walks ReadsCause after_cause (causes_encoding cs) cs []
+causes_walk : (cs : List ErrorCause) → AllByRecursion FitsCause cs → length (causes_encoding cs) < 2 ^ 16
+    → Walks ReadsCause after_cause (causes_encoding cs) cs []
 unfolding Walks
 causes_walk [] fits short = refl
 causes_walk (c ∷ cs) fits short =
     let e : causes_encoding (c ∷ cs) ≡ cause_encoding c ++ causes_encoding cs = flat_map-cons cause_encoding c cs in
-    let len : length (causes_encoding (c ∷ cs)) ≡ length (cause_encoding c) + length (causes_encoding cs) = ap length e ∙ length-append (cause_encoding c) (causes_encoding cs) in
+    let len : length (causes_encoding (c ∷ cs)) ≡ length (cause_encoding c) + length (causes_encoding cs) = ap length e
+    ∙ length-append (cause_encoding c) (causes_encoding cs) in
     let own : HasCauseEncoding c = omega (arith, len, length_cause_encoding c, short) in
     let others = causes_walk cs fits.1 (omega (arith, len, short)) in
     let P : List ℕ → Type 0 = λ b. ReadsCause b c × Walks ReadsCause after_cause (after_cause b) cs [] in

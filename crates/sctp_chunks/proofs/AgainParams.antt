@@ -53,14 +53,20 @@ unfolding params_encoding padded_param
 one_again p back = alone p back
 
 pub heartbeat_again : (ps : List Parameter) → IsReadHeartbeat ps → ReadsHeartbeat (params_encoding true ps) ps
-heartbeat_again ps h = record { info = h.info; one = h.one; reads = let P : List Parameter → Type 0 = λ qs. ReadsParam (params_encoding true qs) (heartbeat_info h.info) in subst P (sym h.one) (one_again (heartbeat_info h.info) h.again) }
+heartbeat_again ps h = record {
+  info = h.info;
+  one = h.one;
+  reads = let P : List Parameter → Type 0 = λ qs. ReadsParam (params_encoding true qs) (heartbeat_info h.info) in
+      subst P (sym h.one) (one_again (heartbeat_info h.info) h.again);
+}
 
 pub pair_again : (a b : Option Parameter) → PairReadsBack a b → ReadsPair (pair_encoding a b) a b
 unfolding padded_param
 pair_again None b back = absurd back
 pair_again (Some a) None back = (alone a back, ap length (after_alone a back))
 pair_again (Some a) (Some b) back =
-    let e : (param_encoding a ++ zeros a) ++ param_encoding b ≡ param_encoding a ++ (zeros a ++ param_encoding b) = append_assoc (param_encoding a) (zeros a) (param_encoding b) in
+    let e : (param_encoding a ++ zeros a) ++ param_encoding b ≡ param_encoding a ++ (zeros a ++ param_encoding b) = append_assoc (param_encoding a) (zeros a)
+    (param_encoding b) in
     let P : List ℕ → Type 0 = λ x. ReadsParam x a × ReadsParam (after_param x) b in
     let Q : List ℕ → Type 0 = λ x. ReadsParam x b in
     subst P (sym e) (back.0.reads (zeros a ++ param_encoding b), subst Q (sym (after_padded a (param_encoding b) back.0)) (alone b back.1))

@@ -1,5 +1,6 @@
 -- Causes that were read, and causes as they are written.
-use Rattle.std.proofs.Common.{◌≡◌, ℕ, zero, suc, ◌+◌, ◌-◌, ◌≤◌, ◌<◌, List, [], ◌∷◌, ◌++◌, length, take, drop, get_or, refl, ap, ◌∙◌, arith, length-append, length-take, length-drop}
+use Rattle.std.proofs.Common.{◌≡◌, ℕ, zero, suc, ◌+◌, ◌-◌, ◌≤◌, ◌<◌, List, [], ◌∷◌, ◌++◌, length, take, drop, get_or, refl, ap, ◌∙◌, arith, length-append}
+use Rattle.std.proofs.Common.{length-take, length-drop}
 use Rattle.std.proofs.lemmas.List.{append-nil, take_more}
 use Rattle.std.proofs.lemmas.List.Concat.{flat_map-cons, flat_map-append}
 use Rattle.sctp_base.proofs.Fields.{length_be16}
@@ -18,13 +19,20 @@ causes_at [] i d lt = absurd (omega arith)
 causes_at (c ∷ cs) zero d lt = rw (flat_map-cons, length-append, length_cause_encoding c) (omega arith)
 causes_at (c ∷ cs) (suc i) d lt =
     let more = causes_at cs i d (omega arith) in
-    let here : length (causes_encoding (take (suc i) (c ∷ cs))) ≡ length (cause_encoding c) + length (causes_encoding (take i cs)) = rw (flat_map-cons, length-append) refl in
+    let here : length (causes_encoding (take (suc i) (c ∷ cs))) ≡ length (cause_encoding c) + length (causes_encoding (take i cs)) =
+    rw (flat_map-cons, length-append) refl in
     let all : length (causes_encoding (c ∷ cs)) ≡ length (cause_encoding c) + length (causes_encoding cs) = rw (flat_map-cons, length-append) refl in
     omega (arith, more, here, all)
 
 cause_short : (bytes : List ℕ) (c : ErrorCause) → ReadsCause bytes c → length (cause_encoding c) ≤ cause_declared_length bytes
 unfolding cause_value_at
-cause_short bytes c r = omega (arith, length_cause_encoding c, ap (λ (x : ErrorCause). length x.raw) r.fields, length-take (cause_declared_length bytes - 4) (drop 4 bytes), r.is_cause.least)
+cause_short bytes c r = omega (
+  arith,
+  length_cause_encoding c,
+  ap (λ (x : ErrorCause). length x.raw) r.fields,
+  length-take (cause_declared_length bytes - 4) (drop 4 bytes),
+  r.is_cause.least,
+)
 
 walked_short : (bytes : List ℕ) (cs : List ErrorCause) (rest : List ℕ) → Walks ReadsCause after_cause bytes cs rest → length (causes_encoding cs) ≤ length bytes
 unfolding Walks after_cause
@@ -39,7 +47,8 @@ pub causes_short : (bytes : List ℕ) (cs : List ErrorCause) → ReadsCauses byt
 causes_short bytes cs r = walked_short bytes cs r.rest r.walk
 
 -- one cause more
-pub causes_next : (cs : List ErrorCause) (i : ℕ) (d : ErrorCause) → i < length cs → causes_encoding (take (i + 1) cs) ≡ causes_encoding (take i cs) ++ cause_encoding (get_or cs i d)
+pub causes_next : (cs : List ErrorCause) (i : ℕ) (d : ErrorCause) → i < length cs
+    → causes_encoding (take (i + 1) cs) ≡ causes_encoding (take i cs) ++ cause_encoding (get_or cs i d)
 causes_next cs i d lt = rw (take_more cs i d lt, flat_map-append, flat_map-cons, append-nil) refl
 
 pub causes_next_length : (cs : List ErrorCause) (i : ℕ) (d : ErrorCause) → i < length cs

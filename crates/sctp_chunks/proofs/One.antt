@@ -17,7 +17,9 @@ use Rattle.sctp_data.specs.SelectiveAck.{Sack}
 use Rattle.sctp_chunks.specs.ErrorCause.{ReadsCause, ReadsCauses, after_cause}
 use Rattle.sctp_data.specs.ForwardTsn.{ForwardTsn}
 use Rattle.sctp_chunks.specs.IForwardTsn.{IForwardTsn}
-use Rattle.sctp_chunks.specs.Wire.{Wire, data_chunk, init_chunk, sack_chunk, heartbeat_chunk, heartbeat_ack_chunk, reconfig_chunk, IsInit, abort_chunk, shutdown_chunk, shutdown_ack_chunk, error_chunk, cookie_echo_chunk, cookie_ack_chunk, shutdown_complete_chunk, forward_tsn_chunk, i_forward_tsn_chunk, ReadsChunk}
+use Rattle.sctp_chunks.specs.Wire.{Wire, data_chunk, init_chunk, sack_chunk, heartbeat_chunk, heartbeat_ack_chunk, reconfig_chunk, IsInit, abort_chunk}
+use Rattle.sctp_chunks.specs.Wire.{shutdown_chunk, shutdown_ack_chunk, error_chunk, cookie_echo_chunk, cookie_ack_chunk, shutdown_complete_chunk}
+use Rattle.sctp_chunks.specs.Wire.{forward_tsn_chunk, i_forward_tsn_chunk, ReadsChunk}
 
 -- no cause stands where fewer than four bytes are left
 pub no_cause : (bytes : List ℕ) → length bytes < 4 → (c : ErrorCause) → ReadsCause bytes c → ⊥
@@ -27,10 +29,12 @@ pub cause_one : (bytes : List ℕ) (c d : ErrorCause) → ReadsCause bytes c →
 cause_one bytes c d r s = r.fields ∙ sym s.fields
 
 pub causes_one : (bytes : List ℕ) (cs ds : List ErrorCause) → ReadsCauses bytes cs → ReadsCauses bytes ds → cs ≡ ds
-causes_one bytes cs ds r s = walks_one ReadsCause after_cause cause_one bytes cs ds r.rest s.rest (no_cause r.rest r.ended) (no_cause s.rest s.ended) r.walk s.walk
+causes_one bytes cs ds r s =
+    walks_one ReadsCause after_cause cause_one bytes cs ds r.rest s.rest (no_cause r.rest r.ended) (no_cause s.rest s.ended) r.walk s.walk
 
 pub params_one : (bytes : List ℕ) (ps qs : List Parameter) → ReadsParams bytes ps → ReadsParams bytes qs → ps ≡ qs
-params_one bytes ps qs r s = walks_one ReadsParam after_param reads_one_param bytes ps qs r.rest s.rest (no_param r.rest r.ended) (no_param s.rest s.ended) r.walk s.walk
+params_one bytes ps qs r s =
+    walks_one ReadsParam after_param reads_one_param bytes ps qs r.rest s.rest (no_param r.rest r.ended) (no_param s.rest s.ended) r.walk s.walk
 
 same_ack : (a b : Bool) → ack_type a ≡ ack_type b → a ≡ b
 same_ack true true e = refl
@@ -49,13 +53,15 @@ inits_one flags value i j typ r s =
     r.fields ∙ same ∙ sym s.fields
 
 pub heartbeats_one : (value : List ℕ) (ps qs : List Parameter) → ReadsHeartbeat value ps → ReadsHeartbeat value qs → ps ≡ qs
-heartbeats_one value ps qs r s = let e : heartbeat_info r.info ≡ heartbeat_info s.info = reads_one_param value (heartbeat_info r.info) (heartbeat_info s.info) r.reads s.reads in r.one ∙ rw e (sym s.one)
+heartbeats_one value ps qs r s = let e : heartbeat_info r.info ≡ heartbeat_info s.info = reads_one_param value (heartbeat_info r.info)
+    (heartbeat_info s.info) r.reads s.reads in r.one ∙ rw e (sym s.one)
 
 pub pairs_one : (value : List ℕ) (a b c d : Option Parameter) → ReadsPair value a b → ReadsPair value c d → (a ≡ c) × (b ≡ d)
 pairs_one value (Some a) None (Some c) None r s = (ap Some (reads_one_param value a c r.0 s.0), refl)
 pairs_one value (Some a) None (Some c) (Some d) r s = absurd (omega (arith, r.1, s.1.is_param.headed))
 pairs_one value (Some a) (Some b) (Some c) None r s = absurd (omega (arith, s.1, r.1.is_param.headed))
-pairs_one value (Some a) (Some b) (Some c) (Some d) r s = (ap Some (reads_one_param value a c r.0 s.0), ap Some (reads_one_param (after_param value) b d r.1 s.1))
+pairs_one value (Some a) (Some b) (Some c) (Some d) r s =
+    (ap Some (reads_one_param value a c r.0 s.0), ap Some (reads_one_param (after_param value) b d r.1 s.1))
 pairs_one value None b _ _ r s = absurd r
 pairs_one value _ _ None d r s = absurd s
 
@@ -117,7 +123,8 @@ shutdown_complete_one bytes w r s = reads_one bytes shutdown_complete_chunk w r 
 pub forward_tsn_one : (bytes : List ℕ) (f : ForwardTsn) (w : Wire) → ReadsChunk bytes (forward_tsn_chunk f) → ReadsChunk bytes w → forward_tsn_chunk f ≡ w
 forward_tsn_one bytes f w r s = reads_one bytes (forward_tsn_chunk f) w r s
 
-pub i_forward_tsn_one : (bytes : List ℕ) (f : IForwardTsn) (w : Wire) → ReadsChunk bytes (i_forward_tsn_chunk f) → ReadsChunk bytes w → i_forward_tsn_chunk f ≡ w
+pub i_forward_tsn_one : (bytes : List ℕ) (f : IForwardTsn) (w : Wire) → ReadsChunk bytes (i_forward_tsn_chunk f) → ReadsChunk bytes w
+    → i_forward_tsn_chunk f ≡ w
 i_forward_tsn_one bytes f w r s = reads_one bytes (i_forward_tsn_chunk f) w r s
 
 pub init_one : (bytes : List ℕ) (i : Init) (w : Wire) → ReadsChunk bytes (init_chunk i) → ReadsChunk bytes w → init_chunk i ≡ w
@@ -131,7 +138,8 @@ init_params bytes _ k r = absurd k
 pub heartbeat_one : (bytes : List ℕ) (ps : List Parameter) (w : Wire) → ReadsChunk bytes (heartbeat_chunk ps) → ReadsChunk bytes w → heartbeat_chunk ps ≡ w
 heartbeat_one bytes ps w r s = reads_one bytes (heartbeat_chunk ps) w r s
 
-pub heartbeat_ack_one : (bytes : List ℕ) (ps : List Parameter) (w : Wire) → ReadsChunk bytes (heartbeat_ack_chunk ps) → ReadsChunk bytes w → heartbeat_ack_chunk ps ≡ w
+pub heartbeat_ack_one : (bytes : List ℕ) (ps : List Parameter) (w : Wire) → ReadsChunk bytes (heartbeat_ack_chunk ps) → ReadsChunk bytes w
+    → heartbeat_ack_chunk ps ≡ w
 heartbeat_ack_one bytes ps w r s = reads_one bytes (heartbeat_ack_chunk ps) w r s
 
 pub reconfig_one : (bytes : List ℕ) (q : Reconfig) (w : Wire) → ReadsChunk bytes (reconfig_chunk q) → ReadsChunk bytes w → reconfig_chunk q ≡ w

@@ -12,7 +12,8 @@ use Rattle.sctp_chunks.specs.Params.{ReadBack}
 use Rattle.sctp_chunks.specs.Init.{Init}
 use Rattle.sctp_chunks.specs.Heartbeat.{IsReadHeartbeat}
 use Rattle.sctp_chunks.specs.Reconfig.{PairReadsBack}
-use Rattle.sctp_chunks.specs.Wire.{Wire, data_chunk, init_chunk, sack_chunk, heartbeat_chunk, heartbeat_ack_chunk, reconfig_chunk, abort_chunk, shutdown_chunk, error_chunk, forward_tsn_chunk, i_forward_tsn_chunk}
+use Rattle.sctp_chunks.specs.Wire.{Wire, data_chunk, init_chunk, sack_chunk, heartbeat_chunk, heartbeat_ack_chunk, reconfig_chunk, abort_chunk, shutdown_chunk}
+use Rattle.sctp_chunks.specs.Wire.{error_chunk, forward_tsn_chunk, i_forward_tsn_chunk}
 
 pub record FitsData (d : Data) : Type 0 where
   pub tsn : d.tsn < 2 ^ 32

@@ -3,7 +3,9 @@ use Rattle.std.specs.Prelude.{◌≡◌, ◌≢◌, ℕ, ◌≤◌, ◌⊎◌, L
 use Rattle.sctp_base.specs.declared.error.Error.{Error}
 use Rattle.sctp_base.specs.declared.error.Error.TheVariants as errors
 use Rattle.sctp_chunks.specs.declared.chunk.chunk_kind.ChunkKind.{ChunkKind}
-use Rattle.sctp_chunks.specs.declared.chunk.chunk_kind.ChunkKind.TheVariants.{PayloadData, Init as InitKind, SelectiveAck, Heartbeat, HeartbeatAck, Abort, Shutdown, ShutdownAck, Error as ErrorKind, CookieEcho, CookieAck, ShutdownComplete, Reconfig as ReconfigKind, ForwardTsn, IForwardTsn}
+use Rattle.sctp_chunks.specs.declared.chunk.chunk_kind.ChunkKind.TheVariants.{PayloadData, Init as InitKind, SelectiveAck, Heartbeat, HeartbeatAck, Abort}
+use Rattle.sctp_chunks.specs.declared.chunk.chunk_kind.ChunkKind.TheVariants.{Shutdown, ShutdownAck, Error as ErrorKind, CookieEcho, CookieAck}
+use Rattle.sctp_chunks.specs.declared.chunk.chunk_kind.ChunkKind.TheVariants.{ShutdownComplete, Reconfig as ReconfigKind, ForwardTsn, IForwardTsn}
 use Rattle.sctp_data.specs.PayloadData.{data_of}
 use Rattle.sctp_data.specs.SelectiveAck.{sack_of}
 use Rattle.sctp_chunks.specs.Init.{init_of}
@@ -13,8 +15,11 @@ use Rattle.sctp_params.specs.ParamKind.{parameter_of}
 use Rattle.sctp_chunks.specs.IForwardTsn.{i_forward_tsn_of}
 use Rattle.sctp_data.specs.ChunkSet.{IsFreshData}
 use Rattle.sctp_chunks.specs.Framing.{type_at}
-use Rattle.sctp_chunks.specs.Wire.{Wire, data_chunk, init_chunk, sack_chunk, heartbeat_chunk, heartbeat_ack_chunk, reconfig_chunk, abort_chunk, shutdown_chunk, shutdown_ack_chunk, error_chunk, cookie_echo_chunk, cookie_ack_chunk, shutdown_complete_chunk, forward_tsn_chunk, i_forward_tsn_chunk, type_of}
-use Rattle.sctp_chunks.specs.Fault.{HeaderFault, OpenFault, DataFault, InitFault, SackFault, HeartbeatFault, HeartbeatAckFault, ReconfigFault, AbortFault, ShutdownFault, ErrorFault, ForwardTsnFault, IForwardTsnFault}
+use Rattle.sctp_chunks.specs.Wire.{Wire, data_chunk, init_chunk, sack_chunk, heartbeat_chunk, heartbeat_ack_chunk, reconfig_chunk, abort_chunk, shutdown_chunk}
+use Rattle.sctp_chunks.specs.Wire.{shutdown_ack_chunk, error_chunk, cookie_echo_chunk, cookie_ack_chunk, shutdown_complete_chunk, forward_tsn_chunk}
+use Rattle.sctp_chunks.specs.Wire.{i_forward_tsn_chunk, type_of}
+use Rattle.sctp_chunks.specs.Fault.{HeaderFault, OpenFault, DataFault, InitFault, SackFault, HeartbeatFault, HeartbeatAckFault, ReconfigFault, AbortFault}
+use Rattle.sctp_chunks.specs.Fault.{ShutdownFault, ErrorFault, ForwardTsnFault, IForwardTsnFault}
 
 abbrev pub wire_of : ChunkKind → Wire
 wire_of (PayloadData c) = data_chunk (data_of c)

@@ -11,14 +11,18 @@ use Rattle.sctp_dissect.specs.Causes.{cause_span, after_padded_cause, ShowsCause
 use Rattle.sctp_dissect.proofs.Walk.{drop_taken}
 
 -- the items and the rest join to the bytes
-pub causes_join : (bytes : List ℕ) (items : List CauseItem) (rest : List ℕ) → Walks ShowsCause after_padded_cause bytes items rest → flat_map cause_bytes items ++ rest ≡ bytes
+pub causes_join : (bytes : List ℕ) (items : List CauseItem) (rest : List ℕ) → Walks ShowsCause after_padded_cause bytes items rest
+    → flat_map cause_bytes items ++ rest ≡ bytes
 unfolding Walks after_padded_cause cause_span
 causes_join bytes [] rest w = sym w
 causes_join bytes (i ∷ is) rest w =
-    let others : flat_map cause_bytes is ++ rest ≡ drop (padded_length (cause_declared_length bytes)) bytes = causes_join (after_padded_cause bytes) is rest w.1 in
+    let others : flat_map cause_bytes is ++ rest ≡ drop (padded_length (cause_declared_length bytes)) bytes =
+    causes_join (after_padded_cause bytes) is rest w.1 in
     let first : i.bytes ≡ take (padded_length (cause_declared_length bytes)) bytes = w.0.bytes in
-    let both : take (padded_length (cause_declared_length bytes)) bytes ++ drop (padded_length (cause_declared_length bytes)) bytes ≡ bytes = take-append-drop (padded_length (cause_declared_length bytes)) bytes in
-    let regrouped : (i.bytes ++ flat_map cause_bytes is) ++ rest ≡ i.bytes ++ (flat_map cause_bytes is ++ rest) = append_assoc i.bytes (flat_map cause_bytes is) rest in
+    let both : take (padded_length (cause_declared_length bytes)) bytes ++ drop (padded_length (cause_declared_length bytes)) bytes ≡ bytes =
+    take-append-drop (padded_length (cause_declared_length bytes)) bytes in
+    let regrouped : (i.bytes ++ flat_map cause_bytes is) ++ rest ≡ i.bytes ++ (flat_map cause_bytes is ++ rest) =
+    append_assoc i.bytes (flat_map cause_bytes is) rest in
     cc
 
 -- what an item leaves
@@ -26,7 +30,8 @@ pub left_after_cause : (rest : List ℕ) (item : CauseItem) (k : ℕ) → ShowsC
 unfolding after_padded_cause cause_span
 left_after_cause rest item k shows e =
     let bytes : item.bytes ≡ take (padded_length (cause_declared_length rest)) rest = shows.bytes in
-    let same : drop (length (take (padded_length (cause_declared_length rest)) rest)) rest ≡ drop (padded_length (cause_declared_length rest)) rest = drop_taken (padded_length (cause_declared_length rest)) rest in
+    let same : drop (length (take (padded_length (cause_declared_length rest)) rest)) rest ≡ drop (padded_length (cause_declared_length rest)) rest =
+    drop_taken (padded_length (cause_declared_length rest)) rest in
     cc
 
 -- an item has at least four bytes, and no more than there are
@@ -34,6 +39,7 @@ pub cause_some : (rest : List ℕ) (item : CauseItem) (k : ℕ) → ShowsCause r
 unfolding cause_span
 cause_some rest item k shows e =
     let bytes : item.bytes ≡ take (padded_length (cause_declared_length rest)) rest = shows.bytes in
-    let counted : length (take (padded_length (cause_declared_length rest)) rest) ≡ min (padded_length (cause_declared_length rest)) (length rest) = length-take (padded_length (cause_declared_length rest)) rest in
+    let counted : length (take (padded_length (cause_declared_length rest)) rest) ≡ min (padded_length (cause_declared_length rest))
+    (length rest) = length-take (padded_length (cause_declared_length rest)) rest in
     let same : k ≡ min (padded_length (cause_declared_length rest)) (length rest) = cc in
     (omega (arith, shows.reading.is_cause.headed, shows.reading.is_cause.least), omega arith)

@@ -17,7 +17,8 @@ module _ (sum : List ℕ → ℕ) (raw body : List ℕ) (h : Header) (d : Dissec
       let first : h.bytes ≡ take 12 raw = head.bytes in
       let others : flat_map item_bytes d.items.items ++ d.rest ≡ body = walk_joins body d.items.items d.rest walk in
       let both : take 12 raw ++ drop 12 raw ≡ raw = take-append-drop 12 raw in
-      let regrouped : (h.bytes ++ flat_map item_bytes d.items.items) ++ d.rest ≡ h.bytes ++ (flat_map item_bytes d.items.items ++ d.rest) = append_assoc h.bytes (flat_map item_bytes d.items.items) d.rest in
+      let regrouped : (h.bytes ++ flat_map item_bytes d.items.items) ++ d.rest ≡ h.bytes ++ (flat_map item_bytes d.items.items ++ d.rest) =
+      append_assoc h.bytes (flat_map item_bytes d.items.items) d.rest in
       let all : (h.bytes ++ flat_map item_bytes d.items.items) ++ d.rest ≡ raw = cc in
       rw has all
 
@@ -31,7 +32,12 @@ module _ (sum : List ℕ → ℕ) (raw body : List ℕ) (h : Header) (d : Dissec
       let right : u32_le_at raw 8 ≡ sum (checksum_input raw) = reads.is_headed.checksum in
       let sums : h.checksum ≡ h.computed = cc in
       record {
-        header = rw has (sums, reads.source_port ∙ sym head.source_port, reads.destination_port ∙ sym head.destination_port, reads.verification_tag ∙ sym head.verification_tag);
+        header = rw has (
+          sums,
+          reads.source_port ∙ sym head.source_port,
+          reads.destination_port ∙ sym head.destination_port,
+          reads.verification_tag ∙ sym head.verification_tag,
+        );
         chunks = all.chunks;
         rest = all.rest;
         fault = all.fault;

@@ -11,14 +11,17 @@ use Rattle.sctp_dissect.specs.Params.{param_span, ShowsParam, param_bytes}
 use Rattle.sctp_dissect.proofs.Walk.{drop_taken}
 
 -- the items and the rest join to the bytes
-pub params_join : (bytes : List ℕ) (items : List ParamItem) (rest : List ℕ) → Walks ShowsParam after_param bytes items rest → flat_map param_bytes items ++ rest ≡ bytes
+pub params_join : (bytes : List ℕ) (items : List ParamItem) (rest : List ℕ) → Walks ShowsParam after_param bytes items rest
+    → flat_map param_bytes items ++ rest ≡ bytes
 unfolding Walks after_param param_span
 params_join bytes [] rest w = sym w
 params_join bytes (i ∷ is) rest w =
     let others : flat_map param_bytes is ++ rest ≡ drop (padded_length (param_declared_length bytes)) bytes = params_join (after_param bytes) is rest w.1 in
     let first : i.bytes ≡ take (padded_length (param_declared_length bytes)) bytes = w.0.bytes in
-    let both : take (padded_length (param_declared_length bytes)) bytes ++ drop (padded_length (param_declared_length bytes)) bytes ≡ bytes = take-append-drop (padded_length (param_declared_length bytes)) bytes in
-    let regrouped : (i.bytes ++ flat_map param_bytes is) ++ rest ≡ i.bytes ++ (flat_map param_bytes is ++ rest) = append_assoc i.bytes (flat_map param_bytes is) rest in
+    let both : take (padded_length (param_declared_length bytes)) bytes ++ drop (padded_length (param_declared_length bytes)) bytes ≡ bytes =
+    take-append-drop (padded_length (param_declared_length bytes)) bytes in
+    let regrouped : (i.bytes ++ flat_map param_bytes is) ++ rest ≡ i.bytes ++ (flat_map param_bytes is ++ rest) =
+    append_assoc i.bytes (flat_map param_bytes is) rest in
     cc
 
 -- what an item leaves
@@ -26,7 +29,8 @@ pub left_after_param : (rest : List ℕ) (item : ParamItem) (k : ℕ) → ShowsP
 unfolding after_param param_span
 left_after_param rest item k shows e =
     let bytes : item.bytes ≡ take (padded_length (param_declared_length rest)) rest = shows.bytes in
-    let same : drop (length (take (padded_length (param_declared_length rest)) rest)) rest ≡ drop (padded_length (param_declared_length rest)) rest = drop_taken (padded_length (param_declared_length rest)) rest in
+    let same : drop (length (take (padded_length (param_declared_length rest)) rest)) rest ≡ drop (padded_length (param_declared_length rest)) rest =
+    drop_taken (padded_length (param_declared_length rest)) rest in
     cc
 
 -- an item has at least four bytes, and no more than there are
@@ -34,6 +38,7 @@ pub param_some : (rest : List ℕ) (item : ParamItem) (k : ℕ) → ShowsParam r
 unfolding param_span
 param_some rest item k shows e =
     let bytes : item.bytes ≡ take (padded_length (param_declared_length rest)) rest = shows.bytes in
-    let counted : length (take (padded_length (param_declared_length rest)) rest) ≡ min (padded_length (param_declared_length rest)) (length rest) = length-take (padded_length (param_declared_length rest)) rest in
+    let counted : length (take (padded_length (param_declared_length rest)) rest) ≡ min (padded_length (param_declared_length rest))
+    (length rest) = length-take (padded_length (param_declared_length rest)) rest in
     let same : k ≡ min (padded_length (param_declared_length rest)) (length rest) = cc in
     (omega (arith, shows.whole.headed, shows.whole.least), omega arith)

@@ -30,8 +30,10 @@ walk_joins bytes [] rest w = sym w
 walk_joins bytes (i ∷ is) rest w =
     let others : flat_map item_bytes is ++ rest ≡ drop (padded_length (declared_length bytes)) bytes = walk_joins (after bytes) is rest w.1 in
     let first : i.bytes ≡ take (padded_length (declared_length bytes)) bytes = w.0.bytes in
-    let both : take (padded_length (declared_length bytes)) bytes ++ drop (padded_length (declared_length bytes)) bytes ≡ bytes = take-append-drop (padded_length (declared_length bytes)) bytes in
-    let regrouped : (i.bytes ++ flat_map item_bytes is) ++ rest ≡ i.bytes ++ (flat_map item_bytes is ++ rest) = append_assoc i.bytes (flat_map item_bytes is) rest in
+    let both : take (padded_length (declared_length bytes)) bytes ++ drop (padded_length (declared_length bytes)) bytes ≡ bytes =
+    take-append-drop (padded_length (declared_length bytes)) bytes in
+    let regrouped : (i.bytes ++ flat_map item_bytes is) ++ rest ≡ i.bytes ++ (flat_map item_bytes is ++ rest) =
+    append_assoc i.bytes (flat_map item_bytes is) rest in
     cc
 
 -- what an item leaves
@@ -39,7 +41,8 @@ pub left_after : (rest : List ℕ) (item : Item) (k : ℕ) → Shows rest item �
 unfolding after span
 left_after rest item k shows e =
     let bytes : item.bytes ≡ take (padded_length (declared_length rest)) rest = shows.bytes in
-    let same : drop (length (take (padded_length (declared_length rest)) rest)) rest ≡ drop (padded_length (declared_length rest)) rest = drop_taken (padded_length (declared_length rest)) rest in
+    let same : drop (length (take (padded_length (declared_length rest)) rest)) rest ≡ drop (padded_length (declared_length rest)) rest =
+    drop_taken (padded_length (declared_length rest)) rest in
     cc
 
 -- an item has at least four bytes, and no more than there are
@@ -47,7 +50,8 @@ pub taken_some : (rest : List ℕ) (item : Item) (k : ℕ) → Shows rest item �
 unfolding span
 taken_some rest item k shows e =
     let bytes : item.bytes ≡ take (padded_length (declared_length rest)) rest = shows.bytes in
-    let counted : length (take (padded_length (declared_length rest)) rest) ≡ min (padded_length (declared_length rest)) (length rest) = length-take (padded_length (declared_length rest)) rest in
+    let counted : length (take (padded_length (declared_length rest)) rest) ≡ min (padded_length (declared_length rest))
+    (length rest) = length-take (padded_length (declared_length rest)) rest in
     let same : k ≡ min (padded_length (declared_length rest)) (length rest) = cc in
     (omega (arith, shows.whole.headed, shows.whole.least), omega arith)
 
@@ -57,7 +61,8 @@ strict_step bytes (Strict k) w reads is_w = let same : wire_of k ≡ w = cc in r
 strict_step bytes (Raw r) w reads is_w = cc
 
 -- where each item is read, the reader of packets walks the same way
-pub strict_walk : (bytes : List ℕ) (items : List Item) (ws : List Wire) → Walks Shows after bytes items [] → map (λ item. wire_in item.reading) items ≡ map Some ws → Walks Steps after bytes ws []
+pub strict_walk : (bytes : List ℕ) (items : List Item) (ws : List Wire) → Walks Shows after bytes items []
+    → map (λ item. wire_in item.reading) items ≡ map Some ws → Walks Steps after bytes ws []
 unfolding Walks
 strict_walk bytes [] [] w e = w
 strict_walk bytes [] (v ∷ ws) w e = cc

@@ -11,9 +11,9 @@ ghost use Rattle.sctp_dissect.specs.Params.{param_span, IsRawParam, ReadsAsParam
 use bytes::Bytes;
 use sctp_base::error::Error;
 use sctp_base::field::read_u16;
+use sctp_base::util::get_padding_size;
 use sctp_params::param::param_header::PARAM_HEADER_LENGTH;
 use sctp_params::param::param_kind::{ParamKind, build_param};
-use sctp_base::util::get_padding_size;
 use std::alloc::{AllocError, Global};
 
 /// A parameter that is refused by the reader of parameters.

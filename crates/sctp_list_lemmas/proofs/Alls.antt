@@ -1,5 +1,6 @@
 -- What is so of each number of a list.
-use Rattle.std.proofs.Common.{◌≡◌, ℕ, zero, suc, ◌+◌, ◌<◌, ◌≤◌, Bool, true, false, List, [], ◌∷◌, ◌++◌, length, take, drop, Some, refl, ap, sym, ◌∙◌, inl, inr, arith, add-zero}
+use Rattle.std.proofs.Common.{◌≡◌, ℕ, zero, suc, ◌+◌, ◌<◌, ◌≤◌, Bool, true, false, List, [], ◌∷◌, ◌++◌, length, take, drop, Some, refl, ap, sym, ◌∙◌, inl, inr}
+use Rattle.std.proofs.Common.{arith, add-zero}
 use Rattle.std.specs.Prelude.{◌⊎◌, if◌then◌else◌, ◌==◌, ◌&&◌}
 use Rattle.std.specs.List.{list_all, filter}
 use Rattle.std.proofs.Math.Nat.{eq-or-lt_of_le}
@@ -7,11 +8,13 @@ use Rattle.std.proofs.lemmas.Bool.Decides.{nat_tests}
 use Rattle.sctp_list_lemmas.specs.Kept.{numbers_where, leading, first_of}
 use Rattle.sctp_list_lemmas.proofs.More.{not_both, both, and, same_test}
 
-pub all-kept : (t p : ℕ → Bool) (from count : ℕ) → ((k : ℕ) → from ≤ k → k < from + count → p k ≡ true → t k ≡ true) → list_all t (numbers_where p from count) ≡ true
+pub all-kept : (t p : ℕ → Bool) (from count : ℕ) → ((k : ℕ) → from ≤ k → k < from + count → p k ≡ true → t k ≡ true)
+    → list_all t (numbers_where p from count) ≡ true
 all-kept t p from zero h = refl
 all-kept t p from (suc count) h = step (p from) refl (all-kept t p (from + 1) count (λ k a b e. h k (omega arith) (omega arith) e))
   where
-    step : (b : Bool) → p from ≡ b → list_all t (numbers_where p (from + 1) count) ≡ true → list_all t (if b then from ∷ numbers_where p (from + 1) count else numbers_where p (from + 1) count) ≡ true
+    step : (b : Bool) → p from ≡ b → list_all t (numbers_where p (from + 1) count) ≡ true
+        → list_all t (if b then from ∷ numbers_where p (from + 1) count else numbers_where p (from + 1) count) ≡ true
     step true e ih = and (t from) (list_all t (numbers_where p (from + 1) count)) (h from (omega arith) (omega arith) e) ih
     step false e ih = ih
 
@@ -19,7 +22,8 @@ pub all-at : (t p : ℕ → Bool) (k from count : ℕ) → from ≤ k → k < fr
 all-at t p k from zero a b e h = absurd (omega arith)
 all-at t p k from (suc count) a b e h = step (p from) refl h (eq-or-lt_of_le a) (λ l g. all-at t p k (from + 1) count l (omega arith) e g)
   where
-    step : (c : Bool) → p from ≡ c → list_all t (if c then from ∷ numbers_where p (from + 1) count else numbers_where p (from + 1) count) ≡ true → (from ≡ k) ⊎ (from < k) → (from + 1 ≤ k → list_all t (numbers_where p (from + 1) count) ≡ true → t k ≡ true) → t k ≡ true
+    step : (c : Bool) → p from ≡ c → list_all t (if c then from ∷ numbers_where p (from + 1) count else numbers_where p (from + 1) count) ≡ true
+        → (from ≡ k) ⊎ (from < k) → (from + 1 ≤ k → list_all t (numbers_where p (from + 1) count) ≡ true → t k ≡ true) → t k ≡ true
     step true f g (inl z) ih = ap t (sym z) ∙ (both (t from) (list_all t (numbers_where p (from + 1) count)) g).0
     step true f g (inr l) ih = ih (omega arith) (both (t from) (list_all t (numbers_where p (from + 1) count)) g).1
     step false f g (inl z) ih = absurd (not_both (sym f ∙ ap p z ∙ e))
@@ -70,11 +74,14 @@ all-passed q (x ∷ xs) = step (q x) refl (all-passed q xs)
     step true e ih = and (q x) (list_all q (filter q xs)) e ih
     step false e ih = ih
 
-pub all-same : (t q : ℕ → Bool) (p : ℕ → Bool) (from count : ℕ) → ((k : ℕ) → from ≤ k → k < from + count → p k ≡ true → t k ≡ q k) → list_all t (numbers_where p from count) ≡ list_all q (numbers_where p from count)
+pub all-same : (t q : ℕ → Bool) (p : ℕ → Bool) (from count : ℕ) → ((k : ℕ) → from ≤ k → k < from + count → p k ≡ true → t k ≡ q k)
+    → list_all t (numbers_where p from count) ≡ list_all q (numbers_where p from count)
 all-same t q p from zero h = refl
 all-same t q p from (suc count) h = step (p from) refl (all-same t q p (from + 1) count (λ k a b e. h k (omega arith) (omega arith) e))
   where
-    step : (b : Bool) → p from ≡ b → list_all t (numbers_where p (from + 1) count) ≡ list_all q (numbers_where p (from + 1) count) → list_all t (if b then from ∷ numbers_where p (from + 1) count else numbers_where p (from + 1) count) ≡ list_all q (if b then from ∷ numbers_where p (from + 1) count else numbers_where p (from + 1) count)
+    step : (b : Bool) → p from ≡ b → list_all t (numbers_where p (from + 1) count) ≡ list_all q (numbers_where p (from + 1) count)
+        → list_all t (if b then from ∷ numbers_where p (from + 1) count else numbers_where p (from + 1) count)
+        ≡ list_all q (if b then from ∷ numbers_where p (from + 1) count else numbers_where p (from + 1) count)
     step true e ih = rw (h from (omega arith) (omega arith) e, ih) refl
     step false e ih = ih
 
@@ -89,16 +96,23 @@ all-both t q (x ∷ xs) = ap (λ b. (t x && q x) && b) (all-both t q xs) ∙ fou
     four false b c d = refl
 
 -- those that pass two tests are as many as those that pass the first where each of these passes the second
-pub all-count : (a b : ℕ → Bool) (from count : ℕ) → list_all b (numbers_where a from count) ≡ (length (numbers_where (λ k. a k && b k) from count) == length (numbers_where a from count))
-all-count a b from count = same_test (list_all b (numbers_where a from count)) (length (numbers_where (λ k. a k && b k) from count) == length (numbers_where a from count))
+pub all-count : (a b : ℕ → Bool) (from count : ℕ)
+    → list_all b (numbers_where a from count) ≡ (length (numbers_where (λ k. a k && b k) from count) == length (numbers_where a from count))
+all-count a b from count =
+    same_test (list_all b (numbers_where a from count)) (length (numbers_where (λ k. a k && b k) from count) == length (numbers_where a from count))
     (λ e. let z = full from count e in grind (arith, nat_tests))
     (λ e. let z : length (numbers_where (λ k. a k && b k) from count) ≡ length (numbers_where a from count) = grind (arith, nat_tests) in back from count z)
   where
-    full : (from count : ℕ) → list_all b (numbers_where a from count) ≡ true → length (numbers_where (λ k. a k && b k) from count) ≡ length (numbers_where a from count)
+    full : (from count : ℕ) → list_all b (numbers_where a from count) ≡ true
+        → length (numbers_where (λ k. a k && b k) from count) ≡ length (numbers_where a from count)
     full from zero e = refl
     full from (suc count) e = step (a from) e (λ h. full (from + 1) count h)
       where
-        step : (c : Bool) → list_all b (if c then from ∷ numbers_where a (from + 1) count else numbers_where a (from + 1) count) ≡ true → (list_all b (numbers_where a (from + 1) count) ≡ true → length (numbers_where (λ k. a k && b k) (from + 1) count) ≡ length (numbers_where a (from + 1) count)) → length (if c && b from then from ∷ numbers_where (λ k. a k && b k) (from + 1) count else numbers_where (λ k. a k && b k) (from + 1) count) ≡ length (if c then from ∷ numbers_where a (from + 1) count else numbers_where a (from + 1) count)
+        step : (c : Bool) → list_all b (if c then from ∷ numbers_where a (from + 1) count else numbers_where a (from + 1) count) ≡ true
+            → (list_all b (numbers_where a (from + 1) count) ≡ true
+            → length (numbers_where (λ k. a k && b k) (from + 1) count) ≡ length (numbers_where a (from + 1) count))
+            → length (if c && b from then from ∷ numbers_where (λ k. a k && b k) (from + 1) count else numbers_where (λ k. a k && b k) (from + 1) count)
+            ≡ length (if c then from ∷ numbers_where a (from + 1) count else numbers_where a (from + 1) count)
         step true e ih = let h = both (b from) (list_all b (numbers_where a (from + 1) count)) e in rw h.0 (ap suc (ih h.1))
         step false e ih = ih e
 
@@ -106,29 +120,40 @@ all-count a b from count = same_test (list_all b (numbers_where a from count)) (
     less from zero = omega arith
     less from (suc count) = step (a from) (b from) (less (from + 1) count)
       where
-        step : (c d : Bool) → length (numbers_where (λ k. a k && b k) (from + 1) count) ≤ length (numbers_where a (from + 1) count) → length (if c && d then from ∷ numbers_where (λ k. a k && b k) (from + 1) count else numbers_where (λ k. a k && b k) (from + 1) count) ≤ length (if c then from ∷ numbers_where a (from + 1) count else numbers_where a (from + 1) count)
+        step : (c d : Bool) → length (numbers_where (λ k. a k && b k) (from + 1) count) ≤ length (numbers_where a (from + 1) count)
+            → length (if c && d then from ∷ numbers_where (λ k. a k && b k) (from + 1) count else numbers_where (λ k. a k && b k) (from + 1) count)
+            ≤ length (if c then from ∷ numbers_where a (from + 1) count else numbers_where a (from + 1) count)
         step true true ih = omega (arith, ih)
         step true false ih = omega (arith, ih)
         step false d ih = ih
 
-    back : (from count : ℕ) → length (numbers_where (λ k. a k && b k) from count) ≡ length (numbers_where a from count) → list_all b (numbers_where a from count) ≡ true
+    back : (from count : ℕ) → length (numbers_where (λ k. a k && b k) from count) ≡ length (numbers_where a from count)
+        → list_all b (numbers_where a from count) ≡ true
     back from zero e = refl
     back from (suc count) e = step (a from) (b from) refl e (λ h. back (from + 1) count h)
       where
-        step : (c d : Bool) → b from ≡ d → length (if c && d then from ∷ numbers_where (λ k. a k && b k) (from + 1) count else numbers_where (λ k. a k && b k) (from + 1) count) ≡ length (if c then from ∷ numbers_where a (from + 1) count else numbers_where a (from + 1) count) → (length (numbers_where (λ k. a k && b k) (from + 1) count) ≡ length (numbers_where a (from + 1) count) → list_all b (numbers_where a (from + 1) count) ≡ true) → list_all b (if c then from ∷ numbers_where a (from + 1) count else numbers_where a (from + 1) count) ≡ true
+        step : (c d : Bool) → b from ≡ d
+            → length (if c && d then from ∷ numbers_where (λ k. a k && b k) (from + 1) count else numbers_where (λ k. a k && b k) (from + 1) count)
+            ≡ length (if c then from ∷ numbers_where a (from + 1) count else numbers_where a (from + 1) count)
+            → (length (numbers_where (λ k. a k && b k) (from + 1) count) ≡ length (numbers_where a (from + 1) count)
+            → list_all b (numbers_where a (from + 1) count) ≡ true)
+            → list_all b (if c then from ∷ numbers_where a (from + 1) count else numbers_where a (from + 1) count) ≡ true
         step true true f e ih = and (b from) (list_all b (numbers_where a (from + 1) count)) f (ih (omega (arith, e)))
         step true false f e ih = absurd (omega (arith, e, less (from + 1) count))
         step false d f e ih = ih e
 
 -- the kept numbers in two parts
 pub kept-split : (t : ℕ → Bool) (from a b : ℕ) → numbers_where t from (a + b) ≡ numbers_where t from a ++ numbers_where t (from + a) b
-kept-split t from zero b = let z : from + 0 ≡ from = add-zero from in let y : 0 + b ≡ b = omega arith in ap (numbers_where t from) y ∙ ap (λ k. numbers_where t k b) (sym z)
+kept-split t from zero b = let z : from + 0 ≡ from = add-zero from in let y : 0 + b ≡ b = omega arith in
+    ap (numbers_where t from) y ∙ ap (λ k. numbers_where t k b) (sym z)
 kept-split t from (suc a) b =
     let z : suc a + b ≡ suc (a + b) = omega arith in
     let y : from + 1 + a ≡ from + suc a = omega arith in
     ap (numbers_where t from) z ∙ step (t from) (kept-split t (from + 1) a b ∙ ap (λ k. numbers_where t (from + 1) a ++ numbers_where t k b) y)
   where
-    step : (c : Bool) → numbers_where t (from + 1) (a + b) ≡ numbers_where t (from + 1) a ++ numbers_where t (from + suc a) b → (if c then from ∷ numbers_where t (from + 1) (a + b) else numbers_where t (from + 1) (a + b)) ≡ (if c then from ∷ numbers_where t (from + 1) a else numbers_where t (from + 1) a) ++ numbers_where t (from + suc a) b
+    step : (c : Bool) → numbers_where t (from + 1) (a + b) ≡ numbers_where t (from + 1) a ++ numbers_where t (from + suc a) b
+        → (if c then from ∷ numbers_where t (from + 1) (a + b) else numbers_where t (from + 1) (a + b))
+        ≡ (if c then from ∷ numbers_where t (from + 1) a else numbers_where t (from + 1) a) ++ numbers_where t (from + suc a) b
     step true ih = ap (λ l. from ∷ l) ih
     step false ih = ih
 

@@ -27,15 +27,20 @@ unfolding comes_before
 not_before_from a b h = grind (arith, nat_tests)
 
 -- seen from a base that both are after by at most half a circle, the order is that of the distances
-pub before_by_distance : (c x y : ℕ) → c < 2 ^ 32 → x < 2 ^ 32 → y < 2 ^ 32 → 0 < distance c x → distance c x ≤ 2 ^ 31 → 0 < distance c y → distance c y ≤ 2 ^ 31 → distance c x < distance c y → comes_before x y ≡ true
+pub before_by_distance : (c x y : ℕ) → c < 2 ^ 32 → x < 2 ^ 32 → y < 2 ^ 32 → 0 < distance c x → distance c x ≤ 2 ^ 31 → 0 < distance c y
+    → distance c y ≤ 2 ^ 31 → distance c x < distance c y → comes_before x y ≡ true
 before_by_distance c x y hc hx hy px qx py qy lt = elim (distance_cases c x hc hx) [
   | inl p ↦ elim (distance_cases c y hc hy) [
-    | inl q ↦ elim (distance_cases x y hx hy) [ inl r ↦ comes_before_from x y (omega arith) (omega arith) | inr r ↦ comes_before_from x y (omega arith) (omega arith) ]
-    | inr q ↦ elim (distance_cases x y hx hy) [ inl r ↦ comes_before_from x y (omega arith) (omega arith) | inr r ↦ comes_before_from x y (omega arith) (omega arith) ]
+    | inl q ↦ elim (distance_cases x y hx
+        hy) [ inl r ↦ comes_before_from x y (omega arith) (omega arith) | inr r ↦ comes_before_from x y (omega arith) (omega arith) ]
+    | inr q ↦ elim (distance_cases x y hx
+        hy) [ inl r ↦ comes_before_from x y (omega arith) (omega arith) | inr r ↦ comes_before_from x y (omega arith) (omega arith) ]
   ]
   | inr p ↦ elim (distance_cases c y hc hy) [
-    | inl q ↦ elim (distance_cases x y hx hy) [ inl r ↦ comes_before_from x y (omega arith) (omega arith) | inr r ↦ comes_before_from x y (omega arith) (omega arith) ]
-    | inr q ↦ elim (distance_cases x y hx hy) [ inl r ↦ comes_before_from x y (omega arith) (omega arith) | inr r ↦ comes_before_from x y (omega arith) (omega arith) ]
+    | inl q ↦ elim (distance_cases x y hx
+        hy) [ inl r ↦ comes_before_from x y (omega arith) (omega arith) | inr r ↦ comes_before_from x y (omega arith) (omega arith) ]
+    | inr q ↦ elim (distance_cases x y hx
+        hy) [ inl r ↦ comes_before_from x y (omega arith) (omega arith) | inr r ↦ comes_before_from x y (omega arith) (omega arith) ]
   ]
 ]
 
@@ -46,7 +51,8 @@ before_asym a b ha hb h = let f = before_is a b h in elim (distance_cases a b ha
   | inr p ↦ elim (distance_cases b a hb ha) [ inl q ↦ not_before_from b a (omega (arith, f)) | inr q ↦ not_before_from b a (omega (arith, f)) ]
 ]
 
-module _ (c x y : ℕ) (hc : c < 2 ^ 32) (hx : x < 2 ^ 32) (hy : y < 2 ^ 32) (px : 0 < distance c x) (qx : distance c x ≤ 2 ^ 31) (py : 0 < distance c y) (qy : distance c y ≤ 2 ^ 31) where
+module _ (c x y : ℕ) (hc : c < 2 ^ 32) (hx : x < 2 ^ 32) (hy : y < 2 ^ 32) (px : 0 < distance c x) (qx : distance c x ≤ 2 ^ 31) (py : 0 < distance c y)
+    (qy : distance c y ≤ 2 ^ 31) where
   -- and the distances rise along the order
   pub distance_by_before : IsTrue (comes_before x y) → distance c x < distance c y
   distance_by_before h = let f = before_is x y h in elim (distance_cases c x hc hx) [
@@ -68,7 +74,8 @@ module _ (c x y : ℕ) (hc : c < 2 ^ 32) (hx : x < 2 ^ 32) (hy : y < 2 ^ 32) (px
   ]
 
 -- in one window, of two different numbers one is before the other
-pub before_total : (c x y : ℕ) → c < 2 ^ 32 → x < 2 ^ 32 → y < 2 ^ 32 → 0 < distance c x → distance c x ≤ 2 ^ 31 → 0 < distance c y → distance c y ≤ 2 ^ 31 → x ≢ y → comes_before x y ≡ false → comes_before y x ≡ true
+pub before_total : (c x y : ℕ) → c < 2 ^ 32 → x < 2 ^ 32 → y < 2 ^ 32 → 0 < distance c x → distance c x ≤ 2 ^ 31 → 0 < distance c y → distance c y ≤ 2 ^ 31
+    → x ≢ y → comes_before x y ≡ false → comes_before y x ≡ true
 before_total c x y hc hx hy px qx py qy differ not_before = elim (cases_lt (distance c y) (distance c x)) [
   | inl low ↦ before_by_distance c y x hc hy hx py qy px qx low
   | inr high ↦ elim (cases_lt (distance c x) (distance c y)) [
@@ -78,7 +85,8 @@ before_total c x y hc hx hy px qx py qy differ not_before = elim (cases_lt (dist
 ]
 
 -- in one window the order is transitive
-pub before_trans : (c x y z : ℕ) → c < 2 ^ 32 → x < 2 ^ 32 → y < 2 ^ 32 → z < 2 ^ 32 → 0 < distance c x → distance c x ≤ 2 ^ 31 → 0 < distance c y → distance c y ≤ 2 ^ 31 → 0 < distance c z → distance c z ≤ 2 ^ 31 → IsTrue (comes_before x y) → IsTrue (comes_before y z) → comes_before x z ≡ true
+pub before_trans : (c x y z : ℕ) → c < 2 ^ 32 → x < 2 ^ 32 → y < 2 ^ 32 → z < 2 ^ 32 → 0 < distance c x → distance c x ≤ 2 ^ 31 → 0 < distance c y
+    → distance c y ≤ 2 ^ 31 → 0 < distance c z → distance c z ≤ 2 ^ 31 → IsTrue (comes_before x y) → IsTrue (comes_before y z) → comes_before x z ≡ true
 before_trans c x y z hc hx hy hz px qx py qy pz qz h k =
     let e : distance c x < distance c y = distance_by_before c x y hc hx hy px qx py qy h in
     let f : distance c y < distance c z = distance_by_before c y z hc hy hz py qy pz qz k in

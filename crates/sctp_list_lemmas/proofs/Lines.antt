@@ -16,8 +16,10 @@ kept-at p from zero [] n ys e = cc
 kept-at p from zero (x ∷ xs) n ys e = cc
 kept-at p from (suc count) xs n ys e = step (p from) refl xs e (λ zs h. kept-at p (from + 1) count zs n ys h)
   where
-    step : (b : Bool) → p from ≡ b → (xs : List ℕ) → (if b then from ∷ numbers_where p (from + 1) count else numbers_where p (from + 1) count) ≡ xs ++ n ∷ ys → ((zs : List ℕ) → numbers_where p (from + 1) count ≡ zs ++ n ∷ ys → IsAt p (from + 1) count n (length zs)) → IsAt p from (suc count) n (length xs)
-    step true pf [] e ih = let same : from ≡ n = cc in record { k = 0; is = rw (add-zero) (sym same); low = omega arith; passes = rw (← same) pf; place_is = refl }
+    step : (b : Bool) → p from ≡ b → (xs : List ℕ) → (if b then from ∷ numbers_where p (from + 1) count else numbers_where p (from + 1) count) ≡ xs ++ n ∷ ys
+        → ((zs : List ℕ) → numbers_where p (from + 1) count ≡ zs ++ n ∷ ys → IsAt p (from + 1) count n (length zs)) → IsAt p from (suc count) n (length xs)
+    step true pf [] e ih = let same : from ≡ n = cc in
+        record { k = 0; is = rw (add-zero) (sym same); low = omega arith; passes = rw (← same) pf; place_is = refl }
     step true pf (x ∷ xs) e ih =
         let rest : numbers_where p (from + 1) count ≡ xs ++ n ∷ ys = cc in
         let r = ih xs rest in
@@ -30,7 +32,8 @@ pub leading-append : (p : ℕ → Bool) (xs ys : List ℕ) → leading p xs ≡ 
 leading-append p [] ys e = refl
 leading-append p (x ∷ xs) ys e = step (p x) e (λ h. leading-append p xs ys h)
   where
-    step : (b : Bool) → (if b then x ∷ leading p xs else []) ≡ x ∷ xs → (leading p xs ≡ xs → leading p (xs ++ ys) ≡ xs ++ leading p ys) → (if b then x ∷ leading p (xs ++ ys) else []) ≡ x ∷ (xs ++ leading p ys)
+    step : (b : Bool) → (if b then x ∷ leading p xs else []) ≡ x ∷ xs → (leading p xs ≡ xs → leading p (xs ++ ys) ≡ xs ++ leading p ys)
+        → (if b then x ∷ leading p (xs ++ ys) else []) ≡ x ∷ (xs ++ leading p ys)
     step true e ih = ap (λ l. x ∷ l) (ih cc)
     step false e ih = cc
 

@@ -32,5 +32,6 @@ pub total-lengths : (xs : List (List ℕ)) → total_over (λ i. length (get_or 
 total-lengths [] = refl
 total-lengths (x ∷ xs) =
     let shift = total-shift (λ i. length (get_or (x ∷ xs) i [])) 0 (length xs) in
-    let later = total-kept_same (λ i. length (get_or (x ∷ xs) (i + 1) [])) (λ i. length (get_or xs i [])) always 0 (length xs) (λ k a b. ap (λ j. length (get_or (x ∷ xs) j [])) (add-one k)) in
+    let later = total-kept_same (λ i. length (get_or (x ∷ xs) (i + 1) [])) (λ i. length (get_or xs i [])) always 0 (length xs)
+    (λ k a b. ap (λ j. length (get_or (x ∷ xs) j [])) (add-one k)) in
     omega (arith, shift, later, total-lengths xs)

@@ -60,7 +60,8 @@ pub comes_before-cum : (first c k : ℕ) → c < k + 2 ^ 31 → k < c + 2 ^ 31 -
 unfolding comes_before
 comes_before-cum first c k a b = step (cases_lt k c)
   where
-    step : (k < c) ⊎ (c ≤ k) → (nat_lt 0 (distance (tsn_before first c) (tsn first k)) && nat_lt (distance (tsn_before first c) (tsn first k)) (2 ^ 31)) ≡ nat_le c k
+    step : (k < c) ⊎ (c ≤ k)
+        → (nat_lt 0 (distance (tsn_before first c) (tsn first k)) && nat_lt (distance (tsn_before first c) (tsn first k)) (2 ^ 31)) ≡ nat_le c k
     step (inl lt) = rw (far first c k a lt) (grind (arith, nat_tests))
     step (inr ge) = rw (near first c k ge b) (grind (arith, nat_tests))
 

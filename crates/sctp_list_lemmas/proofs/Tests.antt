@@ -20,11 +20,13 @@ any-out t p from (suc count) e = step (p from) refl e (λ h. any-out t p (from +
     later : Found t p (from + 1) count → Found t p from (suc count)
     later r = (r.0, omega (arith, r.1), omega (arith, r.2), r.3, r.4)
 
-    side : p from ≡ true → (t from ≡ true) ⊎ (list_any t (numbers_where p (from + 1) count) ≡ true) → (list_any t (numbers_where p (from + 1) count) ≡ true → Found t p (from + 1) count) → Found t p from (suc count)
+    side : p from ≡ true → (t from ≡ true) ⊎ (list_any t (numbers_where p (from + 1) count) ≡ true)
+        → (list_any t (numbers_where p (from + 1) count) ≡ true → Found t p (from + 1) count) → Found t p from (suc count)
     side f (inl h) ih = (from, omega arith, omega arith, f, h)
     side f (inr h) ih = later (ih h)
 
-    step : (b : Bool) → p from ≡ b → list_any t (if b then from ∷ numbers_where p (from + 1) count else numbers_where p (from + 1) count) ≡ true → (list_any t (numbers_where p (from + 1) count) ≡ true → Found t p (from + 1) count) → Found t p from (suc count)
+    step : (b : Bool) → p from ≡ b → list_any t (if b then from ∷ numbers_where p (from + 1) count else numbers_where p (from + 1) count) ≡ true
+        → (list_any t (numbers_where p (from + 1) count) ≡ true → Found t p (from + 1) count) → Found t p from (suc count)
     step true f e ih = side f (or-split (t from) (list_any t (numbers_where p (from + 1) count)) e) ih
     step false f e ih = later (ih e)
 
@@ -32,7 +34,8 @@ pub any-in : (t p : ℕ → Bool) (k from count : ℕ) → from ≤ k → k < fr
 any-in t p k from zero a b f h = absurd (omega arith)
 any-in t p k from (suc count) a b f h = step (p from) refl (eq-or-lt_of_le a) (λ l. any-in t p k (from + 1) count l (omega arith) f h)
   where
-    step : (c : Bool) → p from ≡ c → (from ≡ k) ⊎ (from < k) → (from + 1 ≤ k → list_any t (numbers_where p (from + 1) count) ≡ true) → list_any t (if c then from ∷ numbers_where p (from + 1) count else numbers_where p (from + 1) count) ≡ true
+    step : (c : Bool) → p from ≡ c → (from ≡ k) ⊎ (from < k) → (from + 1 ≤ k → list_any t (numbers_where p (from + 1) count) ≡ true)
+        → list_any t (if c then from ∷ numbers_where p (from + 1) count else numbers_where p (from + 1) count) ≡ true
     step true g (inl e) ih = or-left (t from) (list_any t (numbers_where p (from + 1) count)) (ap t e ∙ h)
     step true g (inr l) ih = or-right (t from) (list_any t (numbers_where p (from + 1) count)) (ih (omega arith))
     step false g (inl e) ih = absurd (not_both (sym g ∙ ap p e ∙ f))
@@ -42,7 +45,8 @@ pub all-out : (t p : ℕ → Bool) (k from count : ℕ) → list_all t (numbers_
 all-out t p k from zero e a b f = absurd (omega arith)
 all-out t p k from (suc count) e a b f = step (p from) refl e (eq-or-lt_of_le a) (λ h l. all-out t p k (from + 1) count h l (omega arith) f)
   where
-    step : (c : Bool) → p from ≡ c → list_all t (if c then from ∷ numbers_where p (from + 1) count else numbers_where p (from + 1) count) ≡ true → (from ≡ k) ⊎ (from < k) → (list_all t (numbers_where p (from + 1) count) ≡ true → from + 1 ≤ k → t k ≡ true) → t k ≡ true
+    step : (c : Bool) → p from ≡ c → list_all t (if c then from ∷ numbers_where p (from + 1) count else numbers_where p (from + 1) count) ≡ true
+        → (from ≡ k) ⊎ (from < k) → (list_all t (numbers_where p (from + 1) count) ≡ true → from + 1 ≤ k → t k ≡ true) → t k ≡ true
     step true g e (inl z) ih = ap t (sym z) ∙ (both (t from) (list_all t (numbers_where p (from + 1) count)) e).0
     step true g e (inr l) ih = ih (both (t from) (list_all t (numbers_where p (from + 1) count)) e).1 (omega arith)
     step false g e (inl z) ih = absurd (not_both (sym g ∙ ap p z ∙ f))
@@ -54,7 +58,8 @@ all-more t u (x ∷ xs) h e = let a = both (t x) (list_all t xs) e in and (u x) 
 
 pub among-kept : (p : ℕ → Bool) (n from count : ℕ) → from ≤ n → list_any (λ k. k == n) (numbers_where p from count) ≡ (nat_lt n (from + count) && p n)
 among-kept p n from count low = same_test (list_any (λ k. k == n) (numbers_where p from count)) (nat_lt n (from + count) && p n)
-    (λ e. let r = any-out (λ k. k == n) p from count e in let z : r.0 ≡ n = same-is r.0 n r.4 in let l : n < from + count = omega (arith, r.2, z) in and (nat_lt n (from + count)) (p n) (grind (arith, nat_tests)) (ap p (sym z) ∙ r.3))
+    (λ e. let r = any-out (λ k. k == n) p from count e in let z : r.0 ≡ n = same-is r.0 n r.4 in let l : n < from + count = omega (arith, r.2, z) in
+    and (nat_lt n (from + count)) (p n) (grind (arith, nat_tests)) (ap p (sym z) ∙ r.3))
     (λ e. let a = both (nat_lt n (from + count)) (p n) e in let x = a.0 in any-in (λ k. k == n) p n from count low (grind (arith, nat_tests)) a.1 (same-yes n))
 
 pub any-append : (t : ℕ → Bool) (xs ys : List ℕ) → list_any t (xs ++ ys) ≡ (list_any t xs || list_any t ys)

@@ -35,7 +35,9 @@ at_or_before16-index i j a b = step (cases_lt j i)
 
 -- and they are one where their indexes are
 pub same16-index : (i j : ℕ) → i < j + 2 ^ 15 → j < i + 2 ^ 15 → (i % 2 ^ 16 == j % 2 ^ 16) ≡ (i == j)
-same16-index i j a b = same_test (i % 2 ^ 16 == j % 2 ^ 16) (i == j) (λ e. let h : i % 2 ^ 16 ≡ j % 2 ^ 16 = grind (arith, nat_tests) in let k : i ≡ j = omega arith in grind (arith, nat_tests)) (λ e. let h : i ≡ j = grind (arith, nat_tests) in let k : i % 2 ^ 16 ≡ j % 2 ^ 16 = omega arith in grind (arith, nat_tests))
+same16-index i j a b = same_test (i % 2 ^ 16 == j % 2 ^ 16) (i == j)
+    (λ e. let h : i % 2 ^ 16 ≡ j % 2 ^ 16 = grind (arith, nat_tests) in let k : i ≡ j = omega arith in grind (arith, nat_tests))
+    (λ e. let h : i ≡ j = grind (arith, nat_tests) in let k : i % 2 ^ 16 ≡ j % 2 ^ 16 = omega arith in grind (arith, nat_tests))
 
 pub next16 : (i : ℕ) → (i % 2 ^ 16 + 1) % 2 ^ 16 ≡ (i + 1) % 2 ^ 16
 next16 i = omega arith

@@ -2,14 +2,14 @@
 
 use crate::reading::{read_all, take_chunk};
 use sctp_base::field::{read_u16, read_u32};
-use sctp_params::param::param_kind::ParamKind;
-use sctp_params::param::param_outgoing_reset_request::ParamOutgoingResetRequest;
 use sctp_base::util::sna32lt;
 use sctp_chunks::chunk::chunk_kind::ChunkKind;
 use sctp_chunks::chunk::chunk_reconfig::ChunkReconfig;
 use sctp_data::chunk::chunk_forward_tsn::{ChunkForwardTsn, ChunkForwardTsnStream};
 use sctp_data::chunk::chunk_payload_data::ChunkPayloadData;
 use sctp_dissect::dissection::{Item, Reading};
+use sctp_params::param::param_kind::ParamKind;
+use sctp_params::param::param_outgoing_reset_request::ParamOutgoingResetRequest;
 use sctp_reassembly::chunks::Chunks;
 use sctp_reassembly::reassembly_queue::ReassemblyQueue;
 use sctp_receiver::receiver::Receiver;

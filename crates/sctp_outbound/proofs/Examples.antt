@@ -51,10 +51,12 @@ abbrev numbers_after : List Call → List (ℕ × ℕ)
 numbers_after calls = map (λ (c : ChunkPayloadData). (c.message_id, c.tsn)) (after_all calls (at_first 4294967295)).put
 
 -- an unordered message that comes while another is partially sent waits for its end
-waits_for_its_end : numbers_after (three_fragments ∷ send_next 0 ∷ urgent ∷ send_next 0 ∷ send_next 0 ∷ send_next 0 ∷ []) ≡ (1, 2) ∷ (0, 1) ∷ (0, 0) ∷ (0, 4294967295) ∷ []
+waits_for_its_end : numbers_after (three_fragments ∷ send_next 0 ∷ urgent ∷ send_next 0 ∷ send_next 0 ∷ send_next 0 ∷ [])
+    ≡ (1, 2) ∷ (0, 1) ∷ (0, 0) ∷ (0, 4294967295) ∷ []
 waits_for_its_end = refl
 
 -- the terminal chunk of a message that is abandoned has the TSN behind its fragments, also where one is acknowledged and gone
-ends_behind : numbers_after (three_fragments ∷ send_next 0 ∷ send_next 0 ∷ mark_as_acked 4294967295 ∷ pop 4294967295 ∷ urgent ∷ abandon 0 ∷ send_next 0 ∷ []) ≡ (1, 2) ∷ (0, 1) ∷ (0, 0) ∷ (0, 4294967295) ∷ []
+ends_behind : numbers_after (three_fragments ∷ send_next 0 ∷ send_next 0 ∷ mark_as_acked 4294967295 ∷ pop 4294967295 ∷ urgent ∷ abandon 0 ∷ send_next 0 ∷ [])
+    ≡ (1, 2) ∷ (0, 1) ∷ (0, 0) ∷ (0, 4294967295) ∷ []
 unfolding comes_before distance
 ends_behind = refl

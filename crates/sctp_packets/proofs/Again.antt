@@ -1,5 +1,6 @@
 -- A packet that is written reads back.
-use Rattle.std.proofs.Common.{◌≡◌, ℕ, ◌+◌, ◌<◌, ◌^◌, List, [], ◌∷◌, ◌++◌, length, take, drop, replicate, All, refl, sym, ap, ◌∙◌, subst, arith, append_assoc, length-append}
+use Rattle.std.proofs.Common.{◌≡◌, ℕ, ◌+◌, ◌<◌, ◌^◌, List, [], ◌∷◌, ◌++◌, length, take, drop, replicate, All, refl, sym, ap, ◌∙◌, subst, arith, append_assoc}
+use Rattle.std.proofs.Common.{length-append}
 use Rattle.std.specs.List.{AllByRecursion}
 use Rattle.std.proofs.lemmas.List.{take_at, drop_at, append-nil, length-replicate}
 use Rattle.std.proofs.lemmas.List.Elements.{All-replicate}
@@ -13,7 +14,8 @@ use Rattle.sctp_chunks.specs.Fits.{Fits, Canonical}
 use Rattle.sctp_chunks.proofs.Again.{framed_declared}
 use Rattle.sctp_chunks.proofs.AgainKinds.{chunk_again}
 use Rattle.sctp_base.specs.Walk.{Walks}
-use Rattle.sctp_packets.specs.Packet.{Parts, Steps, after, IsCanonical, padded_encoding, body_of, head_encoding, head_of, packet_encoding, checksum_input, ReadsPacket, HavePacketEncoding, FitsParts}
+use Rattle.sctp_packets.specs.Packet.{Parts, Steps, after, IsCanonical, padded_encoding, body_of, head_encoding, head_of, packet_encoding, checksum_input}
+use Rattle.sctp_packets.specs.Packet.{ReadsPacket, HavePacketEncoding, FitsParts}
 use Rattle.sctp_packets.proofs.Sealed.{length_head_encoding}
 use Rattle.sctp_packets.proofs.Written.{length_encoding}
 
@@ -27,7 +29,8 @@ body_next w ws = rw flat_map-cons (append_assoc (encoding_of w) (pad w) (body_of
 -- fewer than four bytes after a chunk are its padding
 zeros_after : (w : Wire) (ws : List Wire) → length (pad w ++ body_of ws) < 4 → All (λ x. x ≡ 0) (pad w ++ body_of ws)
 zeros_after w [] short = rw append-nil (All-replicate (λ (x : ℕ). x ≡ 0) (padding_of (length (encoding_of w))) 0 refl)
-zeros_after w (v ∷ ws) short = absurd (omega (arith, length-append (pad w) (body_of (v ∷ ws)), ap length (body_next v ws), length-append (encoding_of v) (pad v ++ body_of ws), length_encoding v))
+zeros_after w (v ∷ ws) short = absurd (omega
+    (arith, length-append (pad w) (body_of (v ∷ ws)), ap length (body_next v ws), length-append (encoding_of v) (pad v ++ body_of ws), length_encoding v))
 
 pub body_again : (ws : List Wire) → AllByRecursion Canonical ws → AllByRecursion Fits ws → AllByRecursion HasEncoding ws → Walks Steps after (body_of ws) ws []
 unfolding Walks after
@@ -45,12 +48,14 @@ body_again (w ∷ ws) plain fits short =
       whole = omega (arith, len, length-append (encoding_of w) rest, length-append (pad w) (body_of ws), length-append (encoding_of w) (pad w));
     } in
     let regroup : whole ≡ (encoding_of w ++ pad w) ++ body_of ws = sym (append_assoc (encoding_of w) (pad w) (body_of ws)) in
-    let left : drop (padded_length (declared_length whole)) whole ≡ body_of ws = ap (drop (padded_length (declared_length whole))) regroup ∙ drop_at (encoding_of w ++ pad w) (body_of ws) _ len in
+    let left : drop (padded_length (declared_length whole)) whole ≡ body_of ws = ap (drop (padded_length (declared_length whole))) regroup
+    ∙ drop_at (encoding_of w ++ pad w) (body_of ws) _ len in
     let P : List ℕ → Type 0 = λ b. Steps b w × Walks Steps after (drop (padded_length (declared_length b)) b) ws [] in
     let Q : List ℕ → Type 0 = λ b. Walks Steps after b ws [] in
     subst P (sym e) (step, subst Q (sym left) (body_again ws plain.1 fits.1 short.1))
 
-pub packet_again : (sum : List ℕ → ℕ) (p : Parts) → FitsParts p → IsCanonical p → HavePacketEncoding p → sum (head_of p ++ four_zeroes ++ body_of p.chunks) < 2 ^ 32 → ReadsPacket sum (packet_encoding sum p) p
+pub packet_again : (sum : List ℕ → ℕ) (p : Parts) → FitsParts p → IsCanonical p → HavePacketEncoding p
+    → sum (head_of p ++ four_zeroes ++ body_of p.chunks) < 2 ^ 32 → ReadsPacket sum (packet_encoding sum p) p
 unfolding head_encoding
 packet_again sum p fits plain short sum_fits =
     let s = p.source_port in
@@ -72,6 +77,7 @@ packet_again sum p fits plain short sum_fits =
       is_headed = record { long = omega (arith, length-append (head_of p ++ le32 total) body, twelve); checksum = stored ∙ ap sum (sym same) };
       source_port = sym (ap (λ (x : List ℕ). u16_at x 0) all ∙ u16_at_be16 [] _ s 0 refl fits.source_port);
       destination_port = sym (ap (λ (x : List ℕ). u16_at x 2) all ∙ u16_at_be16 (be16 s) _ d 2 (length_be16 s) fits.destination_port);
-      verification_tag = sym (ap (λ (x : List ℕ). u32_at x 4) (all ∙ sym (append_assoc (be16 s) (be16 d) _)) ∙ u32_at_be32 (be16 s ++ be16 d) _ v 4 four fits.verification_tag);
+      verification_tag = sym (ap (λ (x : List ℕ). u32_at x 4) (all ∙ sym (append_assoc (be16 s) (be16 d) _))
+          ∙ u32_at_be32 (be16 s ++ be16 d) _ v 4 four fits.verification_tag);
       chunks = rw rest (body_again p.chunks plain fits.chunks short);
     }

@@ -12,7 +12,8 @@ no_step : (w : Wire) → Steps [] w → ⊥
 no_step w r = omega (arith, r.chunk.is_framed.headed)
 
 -- whoever walks over all of the bytes takes a step wherever another walk stands before the end
-pub goes_on : (bytes : List ℕ) (ws vs : List Wire) (rest : List ℕ) → Walks Steps after bytes ws rest → Walks Steps after bytes vs [] → 0 < length rest → (w : Wire) × Steps rest w
+pub goes_on : (bytes : List ℕ) (ws vs : List Wire) (rest : List ℕ) → Walks Steps after bytes ws rest → Walks Steps after bytes vs [] → 0 < length rest
+    → (w : Wire) × Steps rest w
 goes_on bytes ws vs rest so_far whole some =
     let more : (rest ≡ [] → ⊥) = λ e. omega (arith, ap length e) in
     walks_step Steps after bytes ws vs rest [] no_step more so_far whole

@@ -1,5 +1,6 @@
 -- What is written of chunks.
-use Rattle.std.proofs.Common.{◌≡◌, ℕ, zero, suc, ◌+◌, ◌-◌, ◌<◌, ◌≤◌, List, [], ◌∷◌, ◌++◌, length, get_or, take, replicate, refl, arith, ap, ◌∙◌, length-append, append_assoc, inl, inr}
+use Rattle.std.proofs.Common.{◌≡◌, ℕ, zero, suc, ◌+◌, ◌-◌, ◌<◌, ◌≤◌, List, [], ◌∷◌, ◌++◌, length, get_or, take, replicate, refl, arith, ap, ◌∙◌, length-append}
+use Rattle.std.proofs.Common.{append_assoc, inl, inr}
 use Rattle.std.specs.Prelude.{map}
 use Rattle.std.specs.List.{AllByRecursion}
 use Rattle.std.proofs.lemmas.List.{length-replicate}
@@ -26,8 +27,8 @@ first_fault_at e (c ∷ cs) zero d lt encodings fault = inl fault
 first_fault_at e (c ∷ cs) (suc i) d lt encodings fault = inr (encodings.0, first_fault_at e cs i d (omega arith) encodings.1 fault)
 
 -- chunks that have an encoding, and one more
-pub encodings_next : (cs : List ChunkKind) (i : ℕ) (d : ChunkKind) → i < length cs → AllByRecursion HasEncoding (map wire_of (take i cs)) → HasEncoding (wire_of (get_or cs i d))
-    → AllByRecursion HasEncoding (take (suc i) (map wire_of cs))
+pub encodings_next : (cs : List ChunkKind) (i : ℕ) (d : ChunkKind) → i < length cs → AllByRecursion HasEncoding (map wire_of (take i cs))
+    → HasEncoding (wire_of (get_or cs i d)) → AllByRecursion HasEncoding (take (suc i) (map wire_of cs))
 encodings_next [] i d lt encodings encoding = absurd (omega arith)
 encodings_next (c ∷ cs) zero d lt encodings encoding = (encoding, tt)
 encodings_next (c ∷ cs) (suc i) d lt encodings encoding = (encodings.0, encodings_next cs i d (omega arith) encodings.1 encoding)
@@ -72,7 +73,13 @@ length_body_take (suc n) (w ∷ ws) = omega (arith, length_body_take n ws, lengt
 pub length_packet_encoding : (sum : List ℕ → ℕ) (p : Parts) → length (packet_encoding sum p) ≡ 12 + length (body_of p.chunks)
 length_packet_encoding sum p =
     let total = sum (head_of p ++ four_zeroes ++ body_of p.chunks) in
-    omega (arith, length-append (head_of p ++ le32 total) (body_of p.chunks), length-append (head_of p) (le32 total), length_le32 total, length_head_encoding p.source_port p.destination_port p.verification_tag)
+    omega (
+      arith,
+      length-append (head_of p ++ le32 total) (body_of p.chunks),
+      length-append (head_of p) (le32 total),
+      length_le32 total,
+      length_head_encoding p.source_port p.destination_port p.verification_tag,
+    )
 
 -- room for the encoding of a packet is room for its header and its first chunks
 pub lacks_encoding : (sum : List ℕ → ℕ) (room : ℕ) (p : Parts) → LacksRoom room 12 p.chunks → room < length (packet_encoding sum p)

@@ -1,5 +1,6 @@
 -- What was read is written, and read again.
-use Rattle.std.proofs.Common.{◌≡◌, ℕ, ◌+◌, ◌*◌, ◌-◌, ◌/◌, ◌^◌, ◌<◌, Bool, true, false, List, [], ◌∷◌, ◌++◌, length, take, drop, refl, sym, ap, ◌∙◌, arith, append_assoc, length-append, inl, inr}
+use Rattle.std.proofs.Common.{◌≡◌, ℕ, ◌+◌, ◌*◌, ◌-◌, ◌/◌, ◌^◌, ◌<◌, Bool, true, false, List, [], ◌∷◌, ◌++◌, length, take, drop, refl, sym, ap, ◌∙◌, arith}
+use Rattle.std.proofs.Common.{append_assoc, length-append, inl, inr}
 use Rattle.std.specs.Prelude.{Option, Some, None, if◌then◌else◌, nat_le}
 use Rattle.std.specs.List.{flat_map}
 use Rattle.std.proofs.Math.Seq.{take-length, take-add}
@@ -12,7 +13,9 @@ use Rattle.sctp_params.proofs.ParamLengths.{length_response_value, value_no_long
 use Rattle.sctp_base.specs.declared.util.ChunkType.{ChunkType}
 use Rattle.sctp_params.specs.declared.param.param_type.ParamType.{ParamType}
 use Rattle.sctp_params.specs.declared.param.param_reconfig_response.ReconfigResult.{ReconfigResult}
-use Rattle.sctp_params.specs.declared.param.param_reconfig_response.ReconfigResult.TheVariants.{SuccessNop, SuccessPerformed, Denied, ErrorWrongSsn, ErrorRequestAlreadyInProgress, ErrorBadSequenceNumber, InProgress, Unknown}
+use Rattle.sctp_params.specs.declared.param.param_reconfig_response.ReconfigResult.TheVariants.{SuccessNop, SuccessPerformed, Denied, ErrorWrongSsn}
+use Rattle.sctp_params.specs.declared.param.param_reconfig_response.ReconfigResult.TheVariants.{ErrorRequestAlreadyInProgress, ErrorBadSequenceNumber}
+use Rattle.sctp_params.specs.declared.param.param_reconfig_response.ReconfigResult.TheVariants.{InProgress, Unknown}
 use Rattle.sctp_params.specs.declared.param.param_reconfig_response.ParamReconfigResponse.{ParamReconfigResponse}
 use Rattle.sctp_params.specs.declared.param.param_requested_hmac_algorithm.HmacAlgorithm.{HmacAlgorithm}
 use Rattle.sctp_base.specs.Each.{each}
@@ -24,7 +27,9 @@ use Rattle.sctp_params.specs.ReconfigResponse.{ReadsResponse, response_value, re
 use Rattle.sctp_params.specs.HmacAlgorithm.{ReadsAlgorithms, algorithms_value, algorithm_encoding, algorithm_from, algorithm_number, IsRequestable}
 use Rattle.sctp_params.specs.ParamFraming.{IsParam, IsParamValue, param_type_at, param_declared_length, param_value_at, param_framed, after_param}
 use Rattle.sctp_params.specs.ParamKind.{IsReadAs, HasReadType}
-use Rattle.sctp_params.specs.Param.{Parameter, heartbeat_info, state_cookie, supported_address_types, outgoing_reset_request, reconfig_response, random, chunk_list, requested_hmac_algorithm, supported_extensions, forward_tsn_supported, unknown_param, ReadsParamValue, ReadsBack, HasOwnType, HasParamEncoding, param_number_of, param_value_of, param_encoding, chunk_types, chunk_type_numbers}
+use Rattle.sctp_params.specs.Param.{Parameter, heartbeat_info, state_cookie, supported_address_types, outgoing_reset_request, reconfig_response, random}
+use Rattle.sctp_params.specs.Param.{chunk_list, requested_hmac_algorithm, supported_extensions, forward_tsn_supported, unknown_param, ReadsParamValue}
+use Rattle.sctp_params.specs.Param.{ReadsBack, HasOwnType, HasParamEncoding, param_number_of, param_value_of, param_encoding, chunk_types, chunk_type_numbers}
 
 -- ---- framing
 
@@ -48,11 +53,19 @@ module _ (typ : ℕ) (value rest : List ℕ) (fits : typ < 2 ^ 16) (short : 4 + 
       let four : length front ≡ 4 = omega (arith, length-append (be16 typ) (be16 (4 + length value)), length_be16 typ, length_be16 (4 + length value)) in
       let e : encoding ≡ front ++ (value ++ rest) = append_assoc front value rest in
       let n : param_declared_length encoding - 4 ≡ length value = omega (arith, framed_declared) in
-      rw n (ap (λ (x : List ℕ). take (length value) (drop 4 x)) e ∙ ap (take (length value)) (drop_at front (value ++ rest) 4 four) ∙ take_at value rest (length value) refl)
+      rw n (ap (λ (x : List ℕ). take (length value) (drop 4 x)) e ∙ ap (take (length value)) (drop_at front (value ++ rest) 4 four)
+      ∙ take_at value rest (length value) refl)
 
   pub framed_reads : IsParam encoding
   framed_reads =
-      let n : length encoding ≡ 4 + length value + length rest = omega (arith, length-append (param_framed typ value) rest, length-append (be16 typ ++ be16 (4 + length value)) value, length-append (be16 typ) (be16 (4 + length value)), length_be16 typ, length_be16 (4 + length value)) in
+      let n : length encoding ≡ 4 + length value + length rest = omega (
+        arith,
+        length-append (param_framed typ value) rest,
+        length-append (be16 typ ++ be16 (4 + length value)) value,
+        length-append (be16 typ) (be16 (4 + length value)),
+        length_be16 typ,
+        length_be16 (4 + length value),
+      ) in
       record {
         headed = omega (arith, n);
         least = omega (arith, framed_declared);
@@ -66,7 +79,8 @@ unfolding address_types_value
 address_types_again value ts v r =
     let n = length value / 2 in
     let all : 2 * n ≡ length value = omega (arith, r.even) in
-    let written = written_each type_from type_encoding value 0 n (λ i. 2 * i) (λ i. omega arith) v.bytes (omega arith) (λ i lt. ap be16 (number_of_type_from (u16_at value (2 * i)))) in
+    let written = written_each type_from type_encoding value 0 n (λ i. 2 * i) (λ i. omega arith) v.bytes (omega arith)
+    (λ i lt. ap be16 (number_of_type_from (u16_at value (2 * i)))) in
     rw r.types (written ∙ rw all (take-length value))
 
 reset_request_again : (value : List ℕ) (r : ResetRequest) → IsParamValue value → ReadsResetRequest value r → reset_request_value r ≡ value
@@ -76,7 +90,8 @@ reset_request_again value r v h =
     let cut : length (drop 12 value) ≡ length value - 12 = length-drop 12 value in
     let all : 2 * n ≡ length (drop 12 value) = omega (arith, h.even, h.headed, cut) in
     let streams : flat_map be16 (each n (λ i. u16_at value (12 + 2 * i))) ≡ drop 12 value =
-    written_each (λ k. k) be16 value 12 n (λ i. 12 + 2 * i) (λ i. refl) v.bytes (omega (arith, h.headed)) (λ i lt. refl) ∙ rw all (take-length (drop 12 value)) in
+    written_each (λ k. k) be16 value 12 n (λ i. 12 + 2 * i) (λ i. refl) v.bytes (omega (arith, h.headed)) (λ i lt. refl)
+    ∙ rw all (take-length (drop 12 value)) in
     let first : be32 (u32_at value 0) ≡ take 4 value = be32_u32 value 0 v.bytes (omega (arith, h.headed)) in
     let second : be32 (u32_at value 4) ≡ take 4 (drop 4 value) = be32_u32 value 4 v.bytes (omega (arith, h.headed)) in
     let third : be32 (u32_at value 8) ≡ take 4 (drop 8 value) = be32_u32 value 8 v.bytes (omega (arith, h.headed)) in
@@ -89,11 +104,13 @@ unfolding algorithm_number algorithm_from
 algorithm_number_again n (inl e) = rw e refl
 algorithm_number_again n (inr e) = rw e refl
 
-algorithms_again : (value : List ℕ) (hs : List HmacAlgorithm) → IsParamValue value → ReadsAlgorithms value hs → algorithms_value hs ≡ take (2 * (length value / 2)) value
+algorithms_again : (value : List ℕ) (hs : List HmacAlgorithm) → IsParamValue value → ReadsAlgorithms value hs
+    → algorithms_value hs ≡ take (2 * (length value / 2)) value
 unfolding algorithms_value
 algorithms_again value hs v r =
     let n = length value / 2 in
-    let written = written_each algorithm_from algorithm_encoding value 0 n (λ i. 2 * i) (λ i. omega arith) v.bytes (omega arith) (λ i lt. ap be16 (algorithm_number_again (u16_at value (2 * i)) (r.requestable i lt))) in
+    let written = written_each algorithm_from algorithm_encoding value 0 n (λ i. 2 * i) (λ i. omega arith) v.bytes (omega arith)
+    (λ i lt. ap be16 (algorithm_number_again (u16_at value (2 * i)) (r.requestable i lt))) in
     rw r.algorithms written
 
 algorithms_read : (value : List ℕ) (hs : List HmacAlgorithm) → ReadsAlgorithms value hs → ReadsAlgorithms (take (2 * (length value / 2)) value) hs
@@ -104,7 +121,8 @@ algorithms_read value hs r =
     let same = λ (i : ℕ) (lt : i < n). u16_at_take value (2 * n) (2 * i) (omega arith) in
     record {
       requestable = λ i lt. let k : i < n = omega (arith, lt, half) in rw (same i k) (r.requestable i k);
-      algorithms = r.algorithms ∙ rw half (sym (each_same n (λ i. algorithm_from (u16_at (take (2 * n) value) (2 * i))) (λ i. algorithm_from (u16_at value (2 * i))) (λ i lt. ap algorithm_from (same i lt))));
+      algorithms = r.algorithms ∙ rw half (sym (each_same n (λ i. algorithm_from (u16_at (take (2 * n) value) (2 * i)))
+          (λ i. algorithm_from (u16_at value (2 * i))) (λ i lt. ap algorithm_from (same i lt))));
     }
 
 result_again : (r : ReconfigResult) → (result_from (result_number r) ≡ r) × (result_number r < 2 ^ 32)
@@ -121,14 +139,16 @@ result_again Unknown = (refl, omega arith)
 abbrev responding : ℕ → ReconfigResult → Option (ℕ × ℕ) → ParamReconfigResponse
 responding number outcome tsns = record { reconfig_response_sequence_number = number; result = outcome; next_tsns = tsns }
 
-response_plain : (number : ℕ) (outcome : ReconfigResult) → number < 2 ^ 32 → ReadsResponse (response_value (responding number outcome None)) (responding number outcome None)
+response_plain : (number : ℕ) (outcome : ReconfigResult) → number < 2 ^ 32
+    → ReadsResponse (response_value (responding number outcome None)) (responding number outcome None)
 unfolding response_value
 response_plain number outcome fits =
     let value : List ℕ = response_value (responding number outcome None) in
     let code = result_number outcome in
     let all : value ≡ be32 number ++ (be32 code ++ []) = append_assoc (be32 number) (be32 code) [] in
     let first : u32_at value 0 ≡ number = ap (λ (x : List ℕ). u32_at x 0) all ∙ u32_at_be32 [] (be32 code ++ []) number 0 refl fits in
-    let second : u32_at value 4 ≡ code = ap (λ (x : List ℕ). u32_at x 4) all ∙ u32_at_be32 (be32 number) [] code 4 (length_be32 number) (result_again outcome).1 in
+    let second : u32_at value 4 ≡ code = ap (λ (x : List ℕ). u32_at x 4) all
+    ∙ u32_at_be32 (be32 number) [] code 4 (length_be32 number) (result_again outcome).1 in
     let len : length value ≡ 8 = length_response_value (responding number outcome None) in
     record { long = omega (arith, len); fields = sym (rw (first, second, len, (result_again outcome).0) refl) }
 
@@ -142,9 +162,12 @@ response_tsns number outcome sender receiver fits sender_fits receiver_fits =
     let eight : length front ≡ 8 = simp (length-append, length_be32) refl in
     let twelve : length (front ++ be32 sender) ≡ 12 = simp (length-append, length_be32) refl in
     let all : value ≡ be32 number ++ (be32 code ++ (be32 sender ++ be32 receiver)) = append_assoc (be32 number) (be32 code) (be32 sender ++ be32 receiver) in
-    let last : value ≡ (front ++ be32 sender) ++ (be32 receiver ++ []) = sym (append_assoc front (be32 sender) (be32 receiver)) ∙ ap (λ (x : List ℕ). (front ++ be32 sender) ++ x) (sym (append-nil (be32 receiver))) in
-    let first : u32_at value 0 ≡ number = ap (λ (x : List ℕ). u32_at x 0) all ∙ u32_at_be32 [] (be32 code ++ (be32 sender ++ be32 receiver)) number 0 refl fits in
-    let second : u32_at value 4 ≡ code = ap (λ (x : List ℕ). u32_at x 4) all ∙ u32_at_be32 (be32 number) (be32 sender ++ be32 receiver) code 4 (length_be32 number) (result_again outcome).1 in
+    let last : value ≡ (front ++ be32 sender) ++ (be32 receiver ++ []) = sym (append_assoc front (be32 sender) (be32 receiver))
+    ∙ ap (λ (x : List ℕ). (front ++ be32 sender) ++ x) (sym (append-nil (be32 receiver))) in
+    let first : u32_at value 0 ≡ number = ap (λ (x : List ℕ). u32_at x 0) all
+    ∙ u32_at_be32 [] (be32 code ++ (be32 sender ++ be32 receiver)) number 0 refl fits in
+    let second : u32_at value 4 ≡ code = ap (λ (x : List ℕ). u32_at x 4) all
+    ∙ u32_at_be32 (be32 number) (be32 sender ++ be32 receiver) code 4 (length_be32 number) (result_again outcome).1 in
     let third : u32_at value 8 ≡ sender = u32_at_be32 front (be32 receiver) sender 8 eight sender_fits in
     let fourth : u32_at value 12 ≡ receiver = ap (λ (x : List ℕ). u32_at x 12) last ∙ u32_at_be32 (front ++ be32 sender) [] receiver 12 twelve receiver_fits in
     let len : length value ≡ 16 = length_response_value (responding number outcome (Some (sender, receiver))) in
@@ -153,7 +176,9 @@ response_tsns number outcome sender receiver fits sender_fits receiver_fits =
 response_again : (value : List ℕ) (r : ParamReconfigResponse) → IsParamValue value → ReadsResponse value r → ReadsResponse (response_value r) r
 response_again value r v h = rw h.fields (step (nat_le 16 (length value)))
   where
-    step : (b : Bool) → ReadsResponse (response_value (responding (u32_at value 0) (result_from (u32_at value 4)) (if b then Some (u32_at value 8, u32_at value 12) else None))) (responding (u32_at value 0) (result_from (u32_at value 4)) (if b then Some (u32_at value 8, u32_at value 12) else None))
+    step : (b : Bool) → ReadsResponse
+        (response_value (responding (u32_at value 0) (result_from (u32_at value 4)) (if b then Some (u32_at value 8, u32_at value 12) else None)))
+        (responding (u32_at value 0) (result_from (u32_at value 4)) (if b then Some (u32_at value 8, u32_at value 12) else None))
     step true = response_tsns _ _ _ _ (u32_fits value 0 v.bytes) (u32_fits value 8 v.bytes) (u32_fits value 12 v.bytes)
     step false = response_plain _ _ (u32_fits value 0 v.bytes)
 
@@ -197,7 +222,8 @@ own_again p has b = record {
 
 -- ---- for walks over parameters
 
-pub declared_param_encoding : (p : Parameter) (rest : List ℕ) → HasParamEncoding p → param_declared_length (param_encoding p ++ rest) ≡ 4 + length (param_value_of p)
+pub declared_param_encoding : (p : Parameter) (rest : List ℕ) → HasParamEncoding p
+    → param_declared_length (param_encoding p ++ rest) ≡ 4 + length (param_value_of p)
 unfolding param_encoding
 declared_param_encoding p rest short =
     let n = length (param_value_of p) in
@@ -206,9 +232,12 @@ declared_param_encoding p rest short =
     ap (λ (x : List ℕ). u16_at x 2) e ∙ u16_at_be16 front (param_value_of p ++ rest) (4 + n) 2 (length_be16 (param_number_of p)) short
 
 -- behind a parameter's encoding and its padding stands what was put there
-pub after_param_encoding : (p : Parameter) (padding rest : List ℕ) → HasParamEncoding p → length padding ≡ padding_of (4 + length (param_value_of p)) → after_param (param_encoding p ++ (padding ++ rest)) ≡ rest
+pub after_param_encoding : (p : Parameter) (padding rest : List ℕ) → HasParamEncoding p → length padding ≡ padding_of (4 + length (param_value_of p))
+    → after_param (param_encoding p ++ (padding ++ rest)) ≡ rest
 unfolding after_param
 after_param_encoding p padding rest short e =
     let n = length (param_value_of p) in
-    let all : length (param_encoding p ++ padding) ≡ padded_length (4 + n) = omega (arith, length-append (param_encoding p) padding, length_param_encoding p, e) in
-    rw (declared_param_encoding p (padding ++ rest) short, ← append_assoc (param_encoding p) padding rest) (drop_at (param_encoding p ++ padding) rest (padded_length (4 + n)) all)
+    let all : length (param_encoding p ++ padding) ≡ padded_length (4 + n) =
+    omega (arith, length-append (param_encoding p) padding, length_param_encoding p, e) in
+    rw (declared_param_encoding p (padding ++ rest) short, ← append_assoc (param_encoding p) padding rest)
+    (drop_at (param_encoding p ++ padding) rest (padded_length (4 + n)) all)

@@ -3,11 +3,14 @@ use Rattle.std.specs.Prelude.{◌≡◌, ◌≢◌, ℕ, ◌^◌, ◌<◌, ◌�
 use Rattle.sctp_base.specs.declared.error.Error.{Error}
 use Rattle.sctp_base.specs.declared.error.Error.TheVariants as errors
 use Rattle.sctp_params.specs.declared.param.param_kind.ParamKind.{ParamKind}
-use Rattle.sctp_params.specs.declared.param.param_kind.ParamKind.TheVariants.{HeartbeatInfo, StateCookie, SupportedAddressTypes, OutgoingResetRequest, ReconfigResponse, Random, ChunkList, RequestedHmacAlgorithm, SupportedExtensions, ForwardTsnSupported, Unknown}
+use Rattle.sctp_params.specs.declared.param.param_kind.ParamKind.TheVariants.{HeartbeatInfo, StateCookie, SupportedAddressTypes, OutgoingResetRequest}
+use Rattle.sctp_params.specs.declared.param.param_kind.ParamKind.TheVariants.{ReconfigResponse, Random, ChunkList, RequestedHmacAlgorithm, SupportedExtensions}
+use Rattle.sctp_params.specs.declared.param.param_kind.ParamKind.TheVariants.{ForwardTsnSupported, Unknown}
 use Rattle.sctp_params.specs.ParamFraming.{param_type_at}
 use Rattle.sctp_params.specs.ParamFault.{ParamHeaderFault, AddressTypesFault, ResetRequestFault, ResponseFault, AlgorithmsFault}
 use Rattle.sctp_params.specs.ResetRequest.{reset_request_of}
-use Rattle.sctp_params.specs.Param.{Parameter, heartbeat_info, state_cookie, supported_address_types, outgoing_reset_request, reconfig_response, random, chunk_list, requested_hmac_algorithm, supported_extensions, forward_tsn_supported, unknown_param, Reads, HasOwnType}
+use Rattle.sctp_params.specs.Param.{Parameter, heartbeat_info, state_cookie, supported_address_types, outgoing_reset_request, reconfig_response, random}
+use Rattle.sctp_params.specs.Param.{chunk_list, requested_hmac_algorithm, supported_extensions, forward_tsn_supported, unknown_param, Reads, HasOwnType}
 
 -- the wire part of each kind
 abbrev pub parameter_of : ParamKind → Parameter

@@ -1,6 +1,7 @@
 -- The kinds of parameters, each read under any type number but where it says otherwise.
 use Rattle.std.specs.Prelude.{◌≡◌, ℕ}
-use Rattle.sctp_params.specs.Param.{Parameter, heartbeat_info, state_cookie, supported_address_types, outgoing_reset_request, reconfig_response, random, chunk_list, requested_hmac_algorithm, supported_extensions, forward_tsn_supported, unknown_param}
+use Rattle.sctp_params.specs.Param.{Parameter, heartbeat_info, state_cookie, supported_address_types, outgoing_reset_request, reconfig_response, random}
+use Rattle.sctp_params.specs.Param.{chunk_list, requested_hmac_algorithm, supported_extensions, forward_tsn_supported, unknown_param}
 
 abbrev pub IsHeartbeatInfo : ℕ → Parameter → Type 0
 IsHeartbeatInfo typ (heartbeat_info b) = Unit {0}

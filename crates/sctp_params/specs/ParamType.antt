@@ -1,7 +1,11 @@
 -- The types of parameters: their numbers and their printed names (RFC 4960 3.2.1, RFC 3758 3.1, RFC 4895 3, RFC 5061 4, RFC 6525 4).
 use Rattle.std.specs.Prelude.{ℕ, ◌==◌, if◌then◌else◌, List, [], ◌∷◌, codes}
 use Rattle.sctp_params.specs.declared.param.param_type.ParamType.{ParamType}
-use Rattle.sctp_params.specs.declared.param.param_type.ParamType.TheVariants.{HeartbeatInfo, Ipv4Addr, Ipv6Addr, StateCookie, UnrecognizedParam, CookiePreservative, HostNameAddr, SupportedAddrTypes, OutSsnResetReq, IncSsnResetReq, SsnTsnResetReq, ReconfigResp, AddOutStreamsReq, AddIncStreamsReq, Random, ChunkList, ReqHmacAlgo, Padding, SupportedExt, ForwardTsnSupp, AddIpAddr, DelIpaddr, ErrClauseInd, SetPriAddr, SuccessInd, AdaptLayerInd, Unknown}
+use Rattle.sctp_params.specs.declared.param.param_type.ParamType.TheVariants.{HeartbeatInfo, Ipv4Addr, Ipv6Addr, StateCookie, UnrecognizedParam}
+use Rattle.sctp_params.specs.declared.param.param_type.ParamType.TheVariants.{CookiePreservative, HostNameAddr, SupportedAddrTypes, OutSsnResetReq}
+use Rattle.sctp_params.specs.declared.param.param_type.ParamType.TheVariants.{IncSsnResetReq, SsnTsnResetReq, ReconfigResp, AddOutStreamsReq, AddIncStreamsReq}
+use Rattle.sctp_params.specs.declared.param.param_type.ParamType.TheVariants.{Random, ChunkList, ReqHmacAlgo, Padding, SupportedExt, ForwardTsnSupp, AddIpAddr}
+use Rattle.sctp_params.specs.declared.param.param_type.ParamType.TheVariants.{DelIpaddr, ErrClauseInd, SetPriAddr, SuccessInd, AdaptLayerInd, Unknown}
 
 abbrev pub type_number : ParamType → ℕ
 type_number HeartbeatInfo = 1

@@ -22,11 +22,11 @@ pub mod param_supported_extensions;
 pub mod param_type;
 pub mod param_unknown;
 
-use sctp_base::error::Result;
-use sctp_base::util::ChunkType;
 use bytes::{Bytes, BytesMut};
 use param_header::{PARAM_HEADER_LENGTH, ParamHeader, put_header};
 use param_type::ParamType;
+use sctp_base::error::Result;
+use sctp_base::util::ChunkType;
 use std::alloc::Global;
 use std::fmt;
 

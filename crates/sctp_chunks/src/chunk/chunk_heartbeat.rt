@@ -13,9 +13,9 @@ use super::chunk_header::{open_chunk, share_value};
 use super::params::{params_length, put_params};
 use bytes::{Bytes, BytesMut};
 use sctp_base::error::{Error, Result};
+use sctp_base::util::{CT_HEARTBEAT, ChunkType};
 use sctp_params::param::param_header::PARAM_HEADER_LENGTH;
 use sctp_params::param::param_kind::{ParamKind, build_param};
-use sctp_base::util::{CT_HEARTBEAT, ChunkType};
 use std::alloc::Global;
 use std::fmt;
 

@@ -14,9 +14,9 @@ use super::params::{params_length, put_params, read_params};
 use bytes::{Bytes, BytesMut};
 use sctp_base::error::{Error, Result};
 use sctp_base::field::{put_u16, put_u32, read_u16, read_u32};
+use sctp_base::util::{CT_FORWARD_TSN, CT_INIT, CT_INIT_ACK, CT_RECONFIG, ChunkType};
 use sctp_params::param::param_kind::ParamKind;
 use sctp_params::param::param_supported_extensions::ParamSupportedExtensions;
-use sctp_base::util::{CT_FORWARD_TSN, CT_INIT, CT_INIT_ACK, CT_RECONFIG, ChunkType};
 use std::alloc::Global;
 use std::fmt;
 

@@ -14,11 +14,11 @@ use super::chunk_header::{open_chunk, share_value};
 use super::params::{param_length, put_param, read_param};
 use bytes::{Bytes, BytesMut};
 use sctp_base::error::{Error, Result};
+use sctp_base::util::{CT_RECONFIG, ChunkType};
 use sctp_params::param::Param;
 use sctp_params::param::param_header::PARAM_HEADER_LENGTH;
 use sctp_params::param::param_kind::{ParamKind, build_param};
 use sctp_params::param::param_type::ParamType;
-use sctp_base::util::{CT_RECONFIG, ChunkType};
 use std::alloc::Global;
 use std::fmt;
 

@@ -10,10 +10,10 @@ ghost use Rattle.sctp_chunks.specs.Params.{ReadsParams, ReadBack, ParamsFault, p
 use bytes::{Bytes, BytesMut};
 use sctp_base::error::Result;
 use sctp_base::field::read_u16;
+use sctp_base::util::get_padding_size;
 use sctp_params::param::Param;
 use sctp_params::param::param_header::PARAM_HEADER_LENGTH;
 use sctp_params::param::param_kind::{ParamKind, build_param};
-use sctp_base::util::get_padding_size;
 use std::alloc::Global;
 
 /// Reads the parameter at the front, and how many bytes it takes with the padding

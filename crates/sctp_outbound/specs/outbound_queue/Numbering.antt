@@ -6,7 +6,9 @@ use Rattle.sctp_data.specs.declared.chunk.chunk_payload_data.ChunkPayloadData.{C
 use Rattle.sctp_list_lemmas.specs.Lists.{change_where}
 use Rattle.sctp_serial.specs.DataChunks.{has_tsn, following_tsn}
 use Rattle.sctp_outbound.specs.Marks.{as_acknowledged, is_of, is_outstanding, with_miss_indicator, with_nsent, with_retransmit, with_since}
-use Rattle.sctp_outbound.specs.outbound_queue.OutboundQueue.{Outbound, new_outbound, abandoned_of, all_started, terminal_chunk, expired_of, expiring, expiring_tail, message_of, as_sent, sent_next, to_abandon, tsn_after_of, with_inflight, with_message}
+use Rattle.sctp_outbound.specs.outbound_queue.OutboundQueue.{Outbound, new_outbound, abandoned_of, all_started, terminal_chunk, expired_of, expiring}
+use Rattle.sctp_outbound.specs.outbound_queue.OutboundQueue.{expiring_tail, message_of, as_sent, sent_next, to_abandon, tsn_after_of, with_inflight}
+use Rattle.sctp_outbound.specs.outbound_queue.OutboundQueue.{with_message}
 use Rattle.sctp_outbound.specs.payload_queue.PayloadQueue.{without_front}
 use Rattle.sctp_outbound.specs.pending_queue.PendingQueue as pending
 use Rattle.sctp_outbound.specs.pending_queue.Whole.{IsMessageOrNone}

@@ -7,9 +7,9 @@ ghost use Rattle.sctp_params.specs.ParamFault.{ChunkListFault};
 use super::param_header::open_param;
 use super::param_type::ParamType;
 use super::{Param, put_chunk_types, read_chunk_types, write_joined};
+use bytes::{Bytes, BytesMut};
 use sctp_base::error::{Error, Result};
 use sctp_base::util::ChunkType;
-use bytes::{Bytes, BytesMut};
 use std::alloc::Global;
 use std::fmt;
 

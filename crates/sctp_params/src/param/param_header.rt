@@ -9,9 +9,9 @@ ghost use Rattle.sctp_params.specs.ParamFraming.{IsParam, IsParamValue, param_ty
 ghost use Rattle.sctp_params.specs.ParamFault.{ParamHeaderFault};
 
 use super::param_type::ParamType;
+use bytes::{Bytes, BytesMut};
 use sctp_base::error::{Error, Result};
 use sctp_base::field::{put_u16, read_u16};
-use bytes::{Bytes, BytesMut};
 use std::alloc::Global;
 use std::fmt;
 

@@ -19,9 +19,9 @@ use super::param_supported_address_types::ParamSupportedAddressTypes;
 use super::param_supported_extensions::ParamSupportedExtensions;
 use super::param_type::ParamType;
 use super::param_unknown::ParamUnknown;
+use bytes::{Bytes, BytesMut};
 use sctp_base::error::{Error, Result};
 use sctp_base::field::read_u16;
-use bytes::{Bytes, BytesMut};
 use std::alloc::Global;
 use std::fmt;
 

@@ -7,8 +7,8 @@ ghost use Rattle.sctp_params.specs.ParamFault.{ParamHeaderFault};
 use super::Param;
 use super::param_header::share_param;
 use super::param_type::ParamType;
-use sctp_base::error::Result;
 use bytes::{Bytes, BytesMut};
+use sctp_base::error::Result;
 use std::alloc::Global;
 use std::fmt;
 

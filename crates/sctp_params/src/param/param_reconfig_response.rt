@@ -9,9 +9,9 @@ ghost use Rattle.sctp_params.specs.ParamFault.{ResponseFault};
 use super::Param;
 use super::param_header::open_param;
 use super::param_type::ParamType;
+use bytes::{Bytes, BytesMut};
 use sctp_base::error::{Error, Result};
 use sctp_base::field::{put_u32, read_u32};
-use bytes::{Bytes, BytesMut};
 use std::alloc::Global;
 use std::fmt;
 

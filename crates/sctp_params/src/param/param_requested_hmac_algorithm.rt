@@ -12,9 +12,9 @@ ghost use Rattle.sctp_params.specs.ParamFault.{AlgorithmsFault, HasOtherAlgorith
 use super::param_header::open_param;
 use super::param_type::ParamType;
 use super::{Param, write_joined};
+use bytes::{Bytes, BytesMut};
 use sctp_base::error::{Error, Result};
 use sctp_base::field::{put_u16, read_u16};
-use bytes::{Bytes, BytesMut};
 use std::alloc::Global;
 use std::fmt;
 

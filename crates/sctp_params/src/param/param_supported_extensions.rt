@@ -7,9 +7,9 @@ ghost use Rattle.sctp_params.specs.ParamFault.{ParamHeaderFault};
 use super::param_header::open_param;
 use super::param_type::ParamType;
 use super::{Param, put_chunk_types, read_chunk_types, write_joined};
+use bytes::{Bytes, BytesMut};
 use sctp_base::error::Result;
 use sctp_base::util::ChunkType;
-use bytes::{Bytes, BytesMut};
 use std::alloc::Global;
 use std::fmt;
 

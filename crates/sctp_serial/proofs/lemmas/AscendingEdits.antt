@@ -1,5 +1,6 @@
 -- Numbers in serial order: where one goes, by how far it lies from the first, and edits that keep the order.
-use Rattle.std.proofs.Common.{◌≡◌, ◌≢◌, ℕ, zero, suc, ◌+◌, ◌-◌, ◌*◌, ◌^◌, ◌<◌, ◌≤◌, ◌⊎◌, ◌==◌, Bool, true, false, IsTrue, List, [], ◌∷◌, length, map, get_or, take, drop, refl, sym, ap, subst, ◌∙◌, inl, inr, mod-eq_of_lt, arith}
+use Rattle.std.proofs.Common.{◌≡◌, ◌≢◌, ℕ, zero, suc, ◌+◌, ◌-◌, ◌*◌, ◌^◌, ◌<◌, ◌≤◌, ◌⊎◌, ◌==◌, Bool, true, false, IsTrue, List, [], ◌∷◌, length, map, get_or}
+use Rattle.std.proofs.Common.{take, drop, refl, sym, ap, subst, ◌∙◌, inl, inr, mod-eq_of_lt, arith}
 use native.Mathlib.Nat.{mod-eq-sub-mod}
 use Rattle.std.specs.List.{All, AllPairs, insert, list_any, remove, position_or_len, filter}
 use Rattle.std.specs.List.Sorted.{IsNonDecreasingBy, IsPartitionPoint}
@@ -9,7 +10,8 @@ use Rattle.std.proofs.lemmas.List.{get_or-map, get_or_default, get_or-take, get_
 use Rattle.std.proofs.lemmas.List.Elements.{All-drop, All-take, All-filter}
 use Rattle.std.proofs.lemmas.List.Quantifiers.{all_pairs_remove}
 use Rattle.std.proofs.lemmas.List.Kept.{AllPairs-filter}
-use Rattle.std.proofs.lemmas.List.Edits.{length-insert, get_or-insert_below, get_or-insert_at, get_or-insert_above, length-remove, get_or-remove_below, get_or-remove_above}
+use Rattle.std.proofs.lemmas.List.Edits.{length-insert, get_or-insert_below, get_or-insert_at, get_or-insert_above, length-remove, get_or-remove_below}
+use Rattle.std.proofs.lemmas.List.Edits.{get_or-remove_above}
 use Rattle.std.proofs.lemmas.List.Folds.{list_any_none}
 use Rattle.std.proofs.lemmas.List.Sums.{position_or_len_is}
 use Rattle.sctp_list_lemmas.specs.Lists.{insert_before}
@@ -126,7 +128,8 @@ pub before_upper_half : (a b : ℕ) → a < 2 ^ 16 → b < 2 ^ 16 → comes_befo
 unfolding comes_before comes_before16
 before_upper_half a b ha hb = let x = distance_upper_half a b ha hb in grind (arith, nat_tests)
 
-pub before_upper_half_of : (n a e : ℕ) → n < 2 ^ 16 → upper_half a ≡ upper_half n → upper_half e < 2 ^ 32 → comes_before16 a e ≡ comes_before (upper_half n) (upper_half e)
+pub before_upper_half_of : (n a e : ℕ) → n < 2 ^ 16 → upper_half a ≡ upper_half n → upper_half e < 2 ^ 32
+    → comes_before16 a e ≡ comes_before (upper_half n) (upper_half e)
 before_upper_half_of n a e h same small =
     let x = upper_half_is a in
     let y = upper_half_is n in
@@ -146,15 +149,19 @@ module _ {X : Type 0} (num : X → ℕ) where
       let len = length-map xs num in
       record {
         small = λ k d lt. subst (λ t. t < 2 ^ 32) (get_or-map num xs k d 0 lt) (a.in_range k 0 (omega arith));
-        rises = λ i j d lt short. subst (λ t. IsTrue (comes_before t (num (get_or xs j d)))) (get_or-map num xs i d 0 (omega arith)) (subst (λ t. IsTrue (comes_before (get_or (map num xs) i 0) t)) (get_or-map num xs j d 0 short) (a.ascending i j 0 lt (omega arith)));
+        rises = λ i j d lt short. subst (λ t. IsTrue (comes_before t (num (get_or xs j d)))) (get_or-map num xs i d 0 (omega arith))
+            (subst (λ t. IsTrue (comes_before (get_or (map num xs) i 0) t)) (get_or-map num xs j d 0 short) (a.ascending i j 0 lt (omega arith)));
       }
 
   pub ascending : (xs : List X) → Ascends xs → IsAscending (map num xs)
   ascending xs s =
       let len = length-map xs num in
       record {
-        in_range = λ k d lt. let x = an_element xs k (omega arith) in subst (λ t. t < 2 ^ 32) (sym (get_or-map num xs k x d (omega arith))) (s.small k x (omega arith));
-        ascending = λ i j d lt short. let x = an_element xs j (omega arith) in subst (λ t. IsTrue (comes_before t (get_or (map num xs) j d))) (sym (get_or-map num xs i x d (omega arith))) (subst (λ t. IsTrue (comes_before (num (get_or xs i x)) t)) (sym (get_or-map num xs j x d (omega arith))) (s.rises i j x lt (omega arith)));
+        in_range = λ k d lt. let x = an_element xs k (omega arith) in
+            subst (λ t. t < 2 ^ 32) (sym (get_or-map num xs k x d (omega arith))) (s.small k x (omega arith));
+        ascending = λ i j d lt short. let x = an_element xs j (omega arith) in
+            subst (λ t. IsTrue (comes_before t (get_or (map num xs) j d))) (sym (get_or-map num xs i x d (omega arith)))
+            (subst (λ t. IsTrue (comes_before (num (get_or xs i x)) t)) (sym (get_or-map num xs j x d (omega arith))) (s.rises i j x lt (omega arith)));
       }
 
   -- the number of an element that was read
@@ -167,18 +174,22 @@ module _ {X : Type 0} (num : X → ℕ) where
     pub near : (k : ℕ) (d : X) → k < place → distance first (num (get_or xs k d)) ≤ distance first n
     pub far : (k : ℕ) (d : X) → place ≤ k → k < length xs → distance first n < distance first (num (get_or xs k d))
 
-  insert_small : (xs : List X) (place : ℕ) (y : X) → place ≤ length xs → num y < 2 ^ 32 → All (λ x. num x < 2 ^ 32) xs → All (λ x. num x < 2 ^ 32) (insert xs place y)
+  insert_small : (xs : List X) (place : ℕ) (y : X) → place ≤ length xs → num y < 2 ^ 32 → All (λ x. num x < 2 ^ 32) xs
+      → All (λ x. num x < 2 ^ 32) (insert xs place y)
   insert_small xs place y le small h k d short = let n = length-insert xs place y le in elim (cases_lt k place) [
     | inl low ↦ subst (λ x. num x < 2 ^ 32) (sym (get_or-insert_below xs place y d k low le)) (h k d (omega arith))
     | inr high ↦ elim (cases_eq k place) [
-      | inl here ↦ subst (λ j. num (get_or (insert xs place y) j d) < 2 ^ 32) (sym here) (subst (λ x. num x < 2 ^ 32) (sym (get_or-insert_at xs place y d le)) small)
-      | inr above ↦ subst (λ j. num (get_or (insert xs place y) j d) < 2 ^ 32) {x = k - 1 + 1} (omega arith) (subst (λ x. num x < 2 ^ 32) (sym (get_or-insert_above xs place y d (k - 1) (omega arith) le)) (h (k - 1) d (omega arith)))
+      | inl here ↦
+          subst (λ j. num (get_or (insert xs place y) j d) < 2 ^ 32) (sym here) (subst (λ x. num x < 2 ^ 32) (sym (get_or-insert_at xs place y d le)) small)
+      | inr above ↦ subst (λ j. num (get_or (insert xs place y) j d) < 2 ^ 32) {x = k - 1 + 1} (omega arith)
+          (subst (λ x. num x < 2 ^ 32) (sym (get_or-insert_above xs place y d (k - 1) (omega arith) le)) (h (k - 1) d (omega arith)))
     ]
   ]
 
 -- ## Where a number goes
 
-module _ {X : Type 0} (num : X → ℕ) (xs : List X) (s : Ascends num xs) (first : ℕ) (is_first : (d : X) → num (get_or xs 0 d) ≡ first) (some : 0 < length xs) where
+module _ {X : Type 0} (num : X → ℕ) (xs : List X) (s : Ascends num xs) (first : ℕ) (is_first : (d : X) → num (get_or xs 0 d) ≡ first)
+    (some : 0 < length xs) where
   one : X
   one = an_element xs 0 some
 
@@ -187,7 +198,8 @@ module _ {X : Type 0} (num : X → ℕ) (xs : List X) (s : Ascends num xs) (firs
 
   pub half : (k : ℕ) (d : X) → k < length xs → distance first (num (get_or xs k d)) < 2 ^ 31
   half zero d lt = subst (λ t. distance first t < 2 ^ 31) (sym (is_first d)) (omega (arith, distance_self first first_small))
-  half (suc k) d lt = (before_is first (num (get_or xs (suc k) d)) (subst (λ t. IsTrue (comes_before t (num (get_or xs (suc k) d)))) (is_first d) (s.rises 0 (suc k) d (omega arith) lt))).1
+  half (suc k) d lt = (before_is first (num (get_or xs (suc k) d))
+      (subst (λ t. IsTrue (comes_before t (num (get_or xs (suc k) d)))) (is_first d) (s.rises 0 (suc k) d (omega arith) lt))).1
 
   -- each lies farther than those in front of it
   pub farther : (i j : ℕ) (d : X) → i < j → j < length xs → distance first (num (get_or xs i d)) < distance first (num (get_or xs j d))
@@ -206,20 +218,24 @@ module _ {X : Type 0} (num : X → ℕ) (xs : List X) (s : Ascends num xs) (firs
     | inr ge ↦ subst (λ k. distance first (num (get_or xs i d)) ≤ distance first (num (get_or xs k d))) {x = i} (omega arith) (omega arith)
   ]
 
-  pub place_from_split : (n place : ℕ) → place ≤ length xs → IsPartitionPoint (λ x. distance first (num x) ≤ distance first n) (λ x. distance first n < distance first (num x)) xs place → IsPlaceByDistance num xs first n place
+  pub place_from_split : (n place : ℕ) → place ≤ length xs → IsPartitionPoint (λ x. distance first (num x) ≤ distance first n)
+      (λ x. distance first n < distance first (num x)) xs place → IsPlaceByDistance num xs first n place
   place_from_split n place le p = record { in_range = le; near = λ k d lt. p.0 k d (omega arith) lt; far = p.1 }
 
   -- the first at least is in front of it
   pub place_positive : (n place : ℕ) → IsPlaceByDistance num xs first n place → 0 < place
-  place_positive n zero p = let at : distance first (num (get_or xs 0 one)) ≡ 0 = ap (distance first) (is_first one) ∙ distance_self first first_small in let up = p.far 0 one (omega arith) some in absurd (omega arith)
+  place_positive n zero p = let at : distance first (num (get_or xs 0 one)) ≡ 0 = ap (distance first) (is_first one) ∙ distance_self first first_small in
+      let up = p.far 0 one (omega arith) some in absurd (omega arith)
   place_positive n (suc place) p = omega arith
 
   -- what lies no nearer than the last goes behind it
-  pub place_behind : (n : ℕ) (last : X) → last ≡ get_or xs (length xs - 1) last → distance first (num last) ≤ distance first n → IsPlaceByDistance num xs first n (length xs)
+  pub place_behind : (n : ℕ) (last : X) → last ≡ get_or xs (length xs - 1) last → distance first (num last) ≤ distance first n
+      → IsPlaceByDistance num xs first n (length xs)
   place_behind n last read le = record {
     in_range = omega arith;
     near = λ k d lt.
-        let end : distance first (num (get_or xs (length xs - 1) d)) ≡ distance first (num last) = ap (distance first) (number_read num xs (length xs - 1) last (omega arith) read d) in
+        let end : distance first (num (get_or xs (length xs - 1) d)) ≡ distance first (num last) = ap (distance first)
+        (number_read num xs (length xs - 1) last (omega arith) read d) in
         elim (cases_lt k (length xs - 1)) [
           | inl inner ↦ let up = farther k (length xs - 1) d inner (omega arith) in omega arith
           | inr at ↦ subst (λ i. distance first (num (get_or xs i d)) ≤ distance first n) {x = length xs - 1} (omega arith) (omega arith)
@@ -232,7 +248,8 @@ module _ {X : Type 0} (num : X → ℕ) (xs : List X) (s : Ascends num xs) (firs
     pub next_place : position_or_len (λ x. comes_before n (num x)) xs ≡ place
     next_place = position_or_len_is (λ x. comes_before n (num x)) xs place one p.in_range
         (λ k lt. not_before_nearer first n (num (get_or xs k one)) first_small small (s.small k one (omega (arith, p.in_range))) (p.near k one lt) near)
-        (λ lt. before_farther first n (num (get_or xs place one)) first_small small (s.small place one lt) (p.far place one (omega arith) lt) (half place one lt))
+        (λ lt.
+        before_farther first n (num (get_or xs place one)) first_small small (s.small place one lt) (p.far place one (omega arith) lt) (half place one lt))
 
     -- one that has the number stands right in front of it
     in_front : (k : ℕ) (d : X) → k < length xs → num (get_or xs k d) ≡ n → k + 1 ≡ place
@@ -250,7 +267,8 @@ module _ {X : Type 0} (num : X → ℕ) (xs : List X) (s : Ascends num xs) (firs
 
     pub found_place : (d : X) → 0 < place → num (get_or xs (place - 1) d) ≡ n → position_or_len (λ x. num x == n) xs ≡ place - 1
     found_place d pos same = position_or_len_is (λ x. num x == n) xs (place - 1) d (omega (arith, p.in_range))
-        (λ k lt. fails (num (get_or xs k d) == n) (λ h. let e : num (get_or xs k d) ≡ n = grind (arith, nat_tests) in let at = in_front k d (omega (arith, p.in_range)) e in absurd (omega arith)))
+        (λ k lt. fails (num (get_or xs k d) == n) (λ h. let e : num (get_or xs k d) ≡ n = grind (arith, nat_tests) in
+        let at = in_front k d (omega (arith, p.in_range)) e in absurd (omega arith)))
         (λ lt. grind (arith, nat_tests))
 
     pub none_has : ((d : X) → 0 < place → num (get_or xs (place - 1) d) ≢ n) → All (λ x. (num x == n) ≡ false) xs
@@ -265,7 +283,8 @@ module _ {X : Type 0} (num : X → ℕ) (xs : List X) (s : Ascends num xs) (firs
         let other = absent k d (omega (arith, p.in_range)) in
         let here : e < 2 ^ 32 = s.small k d (omega (arith, p.in_range)) in
         let le = p.near k d lt in
-        let ne : distance first e ≢ distance first n = (λ h. let one_number = same_distance first e n first_small here small h in false≢true (sym other ∙ grind (arith, nat_tests))) in
+        let ne : distance first e ≢ distance first n =
+        (λ h. let one_number = same_distance first e n first_small here small h in false≢true (sym other ∙ grind (arith, nat_tests))) in
         before_farther first e n first_small here small (omega arith) near
 
     pub keeps_between : All (λ x. (num x == n) ≡ false) xs → (y : X) → num y ≡ n → Ascends num (insert xs place y)
@@ -273,13 +292,15 @@ module _ {X : Type 0} (num : X → ℕ) (xs : List X) (s : Ascends num xs) (firs
       small = insert_small num xs place y p.in_range (subst (λ t. t < 2 ^ 32) (sym same) small) s.small;
       rises = pairs_insert (λ a b. IsTrue (comes_before (num a) (num b))) xs place y p.in_range s.rises
           (λ k d lt. subst (λ t. IsTrue (comes_before (num (get_or xs k d)) t)) (sym same) (in_order absent k d lt))
-          (λ k d le lt. subst (λ t. IsTrue (comes_before t (num (get_or xs k d)))) (sym same) (before_farther first n (num (get_or xs k d)) first_small small (s.small k d lt) (p.far k d le lt) (half k d lt)));
+          (λ k d le lt. subst (λ t. IsTrue (comes_before t (num (get_or xs k d)))) (sym same)
+          (before_farther first n (num (get_or xs k d)) first_small small (s.small k d lt) (p.far k d le lt) (half k d lt)));
     }
 
   -- a number before the first
   module _ (n : ℕ) (small : n < 2 ^ 32) (before : comes_before n first ≡ true) where
     pub front_place : position_or_len (λ x. comes_before n (num x)) xs ≡ 0
-    front_place = position_or_len_is (λ x. comes_before n (num x)) xs 0 one (omega arith) (λ k lt. absurd (omega arith)) (λ lt. subst (λ t. comes_before n t ≡ true) (sym (is_first one)) before)
+    front_place = position_or_len_is (λ x. comes_before n (num x)) xs 0 one (omega arith) (λ k lt. absurd (omega arith))
+        (λ lt. subst (λ t. comes_before n t ≡ true) (sym (is_first one)) before)
 
     pub none_has_front : All (λ x. (num x == n) ≡ false) xs
     none_has_front k d lt = fails (num (get_or xs k d) == n) (λ h.
@@ -291,7 +312,8 @@ module _ {X : Type 0} (num : X → ℕ) (xs : List X) (s : Ascends num xs) (firs
         let self = distance_self first first_small in
         absurd (omega (arith, round)))
 
-    before_each : (last : X) → last ≡ get_or xs (length xs - 1) last → distance n (num last) < 2 ^ 31 → (k : ℕ) (d : X) → k < length xs → IsTrue (comes_before n (num (get_or xs k d)))
+    before_each : (last : X) → last ≡ get_or xs (length xs - 1) last → distance n (num last) < 2 ^ 31 → (k : ℕ) (d : X) → k < length xs
+        → IsTrue (comes_before n (num (get_or xs k d)))
     before_each last read near k d lt =
         let e = num (get_or xs k d) in
         let l = num last in
@@ -308,7 +330,8 @@ module _ {X : Type 0} (num : X → ℕ) (xs : List X) (s : Ascends num xs) (firs
     pub keeps_front : (last : X) → last ≡ get_or xs (length xs - 1) last → distance n (num last) < 2 ^ 31 → (y : X) → num y ≡ n → Ascends num (insert xs 0 y)
     keeps_front last read near y same = record {
       small = insert_small num xs 0 y (omega arith) (subst (λ t. t < 2 ^ 32) (sym same) small) s.small;
-      rises = pairs_insert (λ a b. IsTrue (comes_before (num a) (num b))) xs 0 y (omega arith) s.rises (λ k d lt. absurd (omega arith)) (λ k d le lt. subst (λ t. IsTrue (comes_before t (num (get_or xs k d)))) (sym same) (before_each last read near k d lt));
+      rises = pairs_insert (λ a b. IsTrue (comes_before (num a) (num b))) xs 0 y (omega arith) s.rises (λ k d lt. absurd (omega arith))
+          (λ k d le lt. subst (λ t. IsTrue (comes_before t (num (get_or xs k d)))) (sym same) (before_each last read near k d lt));
     }
 
 -- ## Edits that keep the order
@@ -329,7 +352,8 @@ module _ {X : Type 0} (num : X → ℕ) where
     small = All-drop (λ x. num x < 2 ^ 32) n xs s.small;
     rises = λ i j d lt short.
         let len = length-drop n xs in
-        subst (λ y. IsTrue (comes_before (num y) (num (get_or (drop n xs) j d)))) (sym (get_or-drop n xs i d)) (subst (λ y. IsTrue (comes_before (num (get_or xs (n + i) d)) (num y))) (sym (get_or-drop n xs j d)) (s.rises (n + i) (n + j) d (omega arith) (omega arith)));
+        subst (λ y. IsTrue (comes_before (num y) (num (get_or (drop n xs) j d)))) (sym (get_or-drop n xs i d)) (subst (λ y.
+        IsTrue (comes_before (num (get_or xs (n + i) d)) (num y))) (sym (get_or-drop n xs j d)) (s.rises (n + i) (n + j) d (omega arith) (omega arith)));
   }
 
   pub ascends_take : (n : ℕ) (xs : List X) → Ascends num xs → Ascends num (take n xs)
@@ -337,7 +361,8 @@ module _ {X : Type 0} (num : X → ℕ) where
     small = All-take (λ x. num x < 2 ^ 32) n xs s.small;
     rises = λ i j d lt short.
         let len = length-take n xs in
-        subst (λ y. IsTrue (comes_before (num y) (num (get_or (take n xs) j d)))) (sym (get_or-take n xs i d (omega arith))) (subst (λ y. IsTrue (comes_before (num (get_or xs i d)) (num y))) (sym (get_or-take n xs j d (omega arith))) (s.rises i j d lt (omega arith)));
+        subst (λ y. IsTrue (comes_before (num y) (num (get_or (take n xs) j d)))) (sym (get_or-take n xs i d (omega arith)))
+        (subst (λ y. IsTrue (comes_before (num (get_or xs i d)) (num y))) (sym (get_or-take n xs j d (omega arith))) (s.rises i j d lt (omega arith)));
   }
 
   pub ascends_those : (p : X → Bool) (xs : List X) → Ascends num xs → Ascends num (filter p xs)
@@ -378,11 +403,13 @@ module _ {X : Type 0} (num : X → ℕ) (xs : List X) (first : ℕ) (small : fir
       let at : (d : X) → num (get_or xs 0 d) ≡ first = (λ d. number_read num xs 0 x some read d ∙ same) in
       record {
         small = λ k d lt. subst (λ i. num (get_or xs i d) < 2 ^ 32) {x = 0} (omega arith) (subst (λ t. t < 2 ^ 32) (sym (at d)) small);
-        near = λ k d lt. subst (λ i. distance first (num (get_or xs i d)) ≤ 0) {x = 0} (omega arith) (subst (λ t. distance first t ≤ 0) (sym (at d)) (omega (arith, distance_self first small)));
+        near = λ k d lt. subst (λ i. distance first (num (get_or xs i d)) ≤ 0) {x = 0} (omega arith)
+            (subst (λ t. distance first t ≤ 0) (sym (at d)) (omega (arith, distance_self first small)));
         farther = λ i j d lt short. absurd (omega arith);
       }
 
-  pub rising_more : (far place : ℕ) (x : X) → place < length xs → x ≡ get_or xs place x → num x < 2 ^ 32 → far < distance first (num x) → IsRising num xs first far place → IsRising num xs first (distance first (num x)) (place + 1)
+  pub rising_more : (far place : ℕ) (x : X) → place < length xs → x ≡ get_or xs place x → num x < 2 ^ 32 → far < distance first (num x)
+      → IsRising num xs first far place → IsRising num xs first (distance first (num x)) (place + 1)
   rising_more far place x within read fits up r =
       let at : (d : X) → num (get_or xs place d) ≡ num x = (λ d. number_read num xs place x within read d) in
       record {
@@ -392,18 +419,21 @@ module _ {X : Type 0} (num : X → ℕ) (xs : List X) (first : ℕ) (small : fir
         ];
         near = λ k d lt. elim (cases_lt k place) [
           | inl low ↦ let le = r.near k d low in omega arith
-          | inr here ↦ subst (λ i. distance first (num (get_or xs i d)) ≤ distance first (num x)) {x = place} (omega arith) (subst (λ t. distance first t ≤ distance first (num x)) (sym (at d)) (omega arith))
+          | inr here ↦ subst (λ i. distance first (num (get_or xs i d)) ≤ distance first (num x)) {x = place} (omega arith)
+              (subst (λ t. distance first t ≤ distance first (num x)) (sym (at d)) (omega arith))
         ];
         farther = λ i j d lt short. elim (cases_lt j place) [
           | inl low ↦ r.farther i j d lt low
-          | inr here ↦ subst (λ k. distance first (num (get_or xs i d)) < distance first (num (get_or xs k d))) {x = place} (omega arith) (subst (λ t. distance first (num (get_or xs i d)) < distance first t) (sym (at d)) (let le = r.near i d (omega arith) in omega arith))
+          | inr here ↦ subst (λ k. distance first (num (get_or xs i d)) < distance first (num (get_or xs k d))) {x = place} (omega arith)
+              (subst (λ t. distance first (num (get_or xs i d)) < distance first t) (sym (at d)) (let le = r.near i d (omega arith) in omega arith))
         ];
       }
 
   pub rising_all : (far : ℕ) → far < 2 ^ 31 → IsRising num xs first far (length xs) → Ascends num xs
   rising_all far half r = record {
     small = r.small;
-    rises = λ i j d lt short. let le = r.near j d short in before_farther first (num (get_or xs i d)) (num (get_or xs j d)) small (r.small i d (omega arith)) (r.small j d short) (r.farther i j d lt short) (omega arith);
+    rises = λ i j d lt short. let le = r.near j d short in before_farther first (num (get_or xs i d)) (num (get_or xs j d)) small (r.small i d (omega arith))
+        (r.small j d short) (r.farther i j d lt short) (omega arith);
   }
 
 -- ## Insertions
@@ -414,7 +444,8 @@ order_if true ns f = f refl
 order_if false ns f = tt
 
 -- has tests for the number, and before compares an element that has it with those of the list
-module _ {X : Type 0} (has : X → Bool) (num : X → ℕ) (before : X → X → Bool) (n : ℕ) (small : n < 2 ^ 32) (tests : (x : X) → has x ≡ (num x == n)) (compares : (x e : X) → num x ≡ n → num e < 2 ^ 32 → before x e ≡ comes_before n (num e)) where
+module _ {X : Type 0} (has : X → Bool) (num : X → ℕ) (before : X → X → Bool) (n : ℕ) (small : n < 2 ^ 32) (tests : (x : X) → has x ≡ (num x == n))
+    (compares : (x e : X) → num x ≡ n → num e < 2 ^ 32 → before x e ≡ comes_before n (num e)) where
   number : (x : X) → IsTrue (has x) → num x ≡ n
   number x h = let e = sym (tests x) ∙ h in grind (arith, nat_tests)
 
@@ -436,7 +467,8 @@ module _ {X : Type 0} (has : X → Bool) (num : X → ℕ) (before : X → X →
     none absent = list_any_none has xs (λ k d lt. tests (get_or xs k d) ∙ absent k d lt)
 
     -- no nearer than the first, by less than half a circle
-    pub insertion_between : (place : ℕ) → distance first n < 2 ^ 31 → IsPlaceByDistance num xs first n place → ((d : X) → 0 < place → num (get_or xs (place - 1) d) ≢ n) → IsInsertion has num before xs place true
+    pub insertion_between : (place : ℕ) → distance first n < 2 ^ 31 → IsPlaceByDistance num xs first n place
+        → ((d : X) → 0 < place → num (get_or xs (place - 1) d) ≢ n) → IsInsertion has num before xs place true
     insertion_between place near p differs =
         let absent = none_has num xs s first is_first some n place small near p differs in
         record {
@@ -447,16 +479,20 @@ module _ {X : Type 0} (has : X → Bool) (num : X → ℕ) (before : X → X →
         }
 
     -- before the first
-    pub insertion_in_front : (mark : Bool) (last : X) → last ≡ get_or xs (length xs - 1) last → comes_before n first ≡ true → (mark ≡ true → distance n (num last) < 2 ^ 31) → IsInsertion has num before xs 0 mark
+    pub insertion_in_front : (mark : Bool) (last : X) → last ≡ get_or xs (length xs - 1) last → comes_before n first ≡ true
+        → (mark ≡ true → distance n (num last) < 2 ^ 31) → IsInsertion has num before xs 0 mark
     insertion_in_front mark last read front near =
         let absent = none_has_front num xs s first is_first some n small front in
         record {
           absent = none absent;
           in_range = omega arith;
           goes = λ x h. put x (number x h) 0 (front_place num xs s first is_first some n small front);
-          order = λ x h. order_if mark (map num (insert xs 0 x)) (λ on. ascending num (insert xs 0 x) (keeps_front num xs s first is_first some n small front last read (near on) x (number x h)));
+          order = λ x h. order_if mark (map num (insert xs 0 x))
+              (λ on. ascending num (insert xs 0 x) (keeps_front num xs s first is_first some n small front last read (near on) x (number x h)));
         }
 
     -- where it is there
-    pub there : (d : X) (place : ℕ) → distance first n < 2 ^ 31 → IsPlaceByDistance num xs first n place → 0 < place → num (get_or xs (place - 1) d) ≡ n → position_or_len has xs ≡ place - 1
-    there d place near p pos same = same_position has (λ x. num x == n) xs (λ k e lt. tests (get_or xs k e)) ∙ found_place num xs s first is_first some n place small near p d pos same
+    pub there : (d : X) (place : ℕ) → distance first n < 2 ^ 31 → IsPlaceByDistance num xs first n place → 0 < place → num (get_or xs (place - 1) d) ≡ n
+        → position_or_len has xs ≡ place - 1
+    there d place near p pos same = same_position has (λ x. num x == n) xs (λ k e lt. tests (get_or xs k e))
+        ∙ found_place num xs s first is_first some n place small near p d pos same

@@ -1,5 +1,6 @@
 -- Lists: places, removals, changes.
-use Rattle.std.proofs.Common.{◌≡◌, ℕ, zero, suc, ◌++◌, take, drop, length-take-le, ◌≤◌, ◌<◌, Bool, true, false, ◌||◌, not, if◌then◌else◌, List, [], ◌∷◌, length, get_or, set, refl, sym, ap, ◌∙◌, subst, arith}
+use Rattle.std.proofs.Common.{◌≡◌, ℕ, zero, suc, ◌++◌, take, drop, length-take-le, ◌≤◌, ◌<◌, Bool, true, false, ◌||◌, not, if◌then◌else◌, List, [], ◌∷◌, length}
+use Rattle.std.proofs.Common.{get_or, set, refl, sym, ap, ◌∙◌, subst, arith}
 use Rattle.std.proofs.lemmas.Bool.{true≢false}
 use Rattle.std.specs.List.{All, list_any, position_or_len, remove, insert}
 use Rattle.std.proofs.Math.ListN.{take-append-drop}
@@ -39,9 +40,11 @@ module _ {X : Type 0} (p : X → Bool) where
   first_changed f [] d = refl
   first_changed f (x ∷ xs) d = at_head (p x) refl (first_changed f xs d)
     where
-      at_head : (b : Bool) → p x ≡ b → change_first p f xs ≡ set xs (position_or_len p xs) (f (get_or xs (position_or_len p xs) d)) → (if p x then f x ∷ xs else x ∷ change_first p f xs) ≡ set (x ∷ xs) (position_or_len p (x ∷ xs)) (f (get_or (x ∷ xs) (position_or_len p (x ∷ xs)) d))
+      at_head : (b : Bool) → p x ≡ b → change_first p f xs ≡ set xs (position_or_len p xs) (f (get_or xs (position_or_len p xs) d))
+          → (if p x then f x ∷ xs else x ∷ change_first p f xs) ≡ set (x ∷ xs) (position_or_len p (x ∷ xs)) (f (get_or (x ∷ xs) (position_or_len p (x ∷ xs)) d))
       at_head true e rec = ap (λ b. if b then f x ∷ xs else x ∷ change_first p f xs) e ∙ ap (λ i. set (x ∷ xs) i (f (get_or (x ∷ xs) i d))) (sym (here x xs e))
-      at_head false e rec = ap (λ b. if b then f x ∷ xs else x ∷ change_first p f xs) e ∙ ap (λ ys. x ∷ ys) rec ∙ ap (λ i. set (x ∷ xs) i (f (get_or (x ∷ xs) i d))) (sym (later x xs e))
+      at_head false e rec = ap (λ b. if b then f x ∷ xs else x ∷ change_first p f xs) e ∙ ap (λ ys. x ∷ ys) rec
+          ∙ ap (λ i. set (x ∷ xs) i (f (get_or (x ∷ xs) i d))) (sym (later x xs e))
 
 -- tests that agree on each element find the same place
 pub same_position : {X : Type 0} (p q : X → Bool) (xs : List X) → All (λ x. p x ≡ q x) xs → position_or_len p xs ≡ position_or_len q xs
@@ -57,7 +60,8 @@ pub after_leading-position : {X : Type 0} (p : X → Bool) (xs : List X) → aft
 after_leading-position p [] = refl
 after_leading-position {X = X} p (x ∷ xs) = at_head (p x) refl (after_leading-position p xs)
   where
-    at_head : (b : Bool) → p x ≡ b → after_leading p xs ≡ drop (position_or_len (λ y. not (p y)) xs) xs → (if p x then after_leading p xs else x ∷ xs) ≡ drop (position_or_len (λ y. not (p y)) (x ∷ xs)) (x ∷ xs)
+    at_head : (b : Bool) → p x ≡ b → after_leading p xs ≡ drop (position_or_len (λ y. not (p y)) xs) xs
+        → (if p x then after_leading p xs else x ∷ xs) ≡ drop (position_or_len (λ y. not (p y)) (x ∷ xs)) (x ∷ xs)
     at_head true e rec = ap (λ b. if b then after_leading p xs else x ∷ xs) e ∙ rec ∙ ap (λ i. drop i (x ∷ xs)) (sym (later (λ y. not (p y)) x xs (ap not e)))
     at_head false e rec = ap (λ b. if b then after_leading p xs else x ∷ xs) e ∙ ap (λ i. drop i (x ∷ xs)) (sym (here (λ y. not (p y)) x xs (ap not e)))
 
@@ -66,9 +70,11 @@ pub inserted-position : {X : Type 0} (before : X → X → Bool) (x : X) (xs : L
 inserted-position before x [] = refl
 inserted-position {X = X} before x (e ∷ es) = at_head (before x e) refl (inserted-position before x es)
   where
-    at_head : (b : Bool) → before x e ≡ b → insert_before before x es ≡ insert es (position_or_len (before x) es) x → (if before x e then x ∷ e ∷ es else e ∷ insert_before before x es) ≡ insert (e ∷ es) (position_or_len (before x) (e ∷ es)) x
+    at_head : (b : Bool) → before x e ≡ b → insert_before before x es ≡ insert es (position_or_len (before x) es) x
+        → (if before x e then x ∷ e ∷ es else e ∷ insert_before before x es) ≡ insert (e ∷ es) (position_or_len (before x) (e ∷ es)) x
     at_head true h rec = ap (λ b. if b then x ∷ e ∷ es else e ∷ insert_before before x es) h ∙ ap (λ i. insert (e ∷ es) i x) (sym (here (before x) e es h))
-    at_head false h rec = ap (λ b. if b then x ∷ e ∷ es else e ∷ insert_before before x es) h ∙ ap (λ ys. e ∷ ys) rec ∙ ap (λ i. insert (e ∷ es) i x) (sym (later (before x) e es h))
+    at_head false h rec = ap (λ b. if b then x ∷ e ∷ es else e ∷ insert_before before x es) h ∙ ap (λ ys. e ∷ ys) rec
+        ∙ ap (λ i. insert (e ∷ es) i x) (sym (later (before x) e es h))
 
 -- the element between two lists
 pub remove_seam : {X : Type 0} (front : List X) (y : X) (zs : List X) (n : ℕ) → length front ≡ n → remove (front ++ y ∷ zs) n ≡ front ++ zs

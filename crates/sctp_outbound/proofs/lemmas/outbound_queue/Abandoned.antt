@@ -1,5 +1,6 @@
 -- Messages that are abandoned.
-use Rattle.std.proofs.Common.{◌≡◌, ◌==◌, ℕ, zero, suc, ◌-◌, ◌<◌, Bool, true, false, ◌||◌, max, if◌then◌else◌, List, [], ◌∷◌, ◌++◌, get_or, Option, Some, None, is_some, refl, sym, ap, ap₂, ◌∙◌, subst, inl, inr, arith}
+use Rattle.std.proofs.Common.{◌≡◌, ◌==◌, ℕ, zero, suc, ◌-◌, ◌<◌, Bool, true, false, ◌||◌, max, if◌then◌else◌, List, [], ◌∷◌, ◌++◌, get_or, Option, Some, None}
+use Rattle.std.proofs.Common.{is_some, refl, sym, ap, ap₂, ◌∙◌, subst, inl, inr, arith}
 use Rattle.std.specs.List.{All, find, list_any, filter}
 use Rattle.std.proofs.lemmas.Bool.{false≢true, cases_lt}
 use Rattle.std.proofs.lemmas.Bool.Decides.{nat_tests}
@@ -79,7 +80,8 @@ no_last m q h e =
     let both = none_of_two (filter (is_of m) q.ordered) (filter (is_of m) q.unordered) (last_none _ e) in
     step (list_any (is_of m) q.unordered) refl h both
   where
-    step : (b : Bool) → list_any (is_of m) q.unordered ≡ b → (b || list_any (is_of m) q.ordered) ≡ true → (filter (is_of m) q.ordered ≡ []) × (filter (is_of m) q.unordered ≡ []) → ⊥
+    step : (b : Bool) → list_any (is_of m) q.unordered ≡ b → (b || list_any (is_of m) q.ordered) ≡ true
+        → (filter (is_of m) q.ordered ≡ []) × (filter (is_of m) q.unordered ≡ []) → ⊥
     step true e h both = some_those (is_of m) q.unordered e both.1
     step false e h both = some_those (is_of m) q.ordered h both.0
 
@@ -106,7 +108,8 @@ those_empty p (x ∷ xs) h = step (p x) h (those_empty p xs)
     step false h ih = ih h
 
 -- the partially sent message waits
-pub half_waits : (os us : List ChunkPayloadData) (sel : Option Selected) (ro ru n m : ℕ) (xs : List ChunkPayloadData) → IsSendable (made os us sel ro ru) xs n → half_of sel ≡ Some m → waits m (made os us sel ro ru) ≡ true
+pub half_waits : (os us : List ChunkPayloadData) (sel : Option Selected) (ro ru n m : ℕ) (xs : List ChunkPayloadData) → IsSendable (made os us sel ro ru) xs n
+    → half_of sel ≡ Some m → waits m (made os us sel ro ru) ≡ true
 half_waits os us None ro ru n m xs s h = absurd (none-some m h)
 half_waits os us (Some sel) ro ru n m xs s h = by sel.unordered s.ordered s.unordered
   where
@@ -117,7 +120,8 @@ half_waits os us (Some sel) ro ru n m xs s h = by sel.unordered s.ordered s.unor
     in_front kind [] w = absurd w
     in_front kind (c ∷ cs) w = let it : (c.message_id == m) ≡ true = grind (arith, nat_tests, w.0.1, same) in or-left _ _ it
 
-    by : (k : Bool) → IsWhole false n (if k then free 0 else begun sel.message_id) os → IsWhole true n (if k then begun sel.message_id else free 0) us → (list_any (is_of m) us || list_any (is_of m) os) ≡ true
+    by : (k : Bool) → IsWhole false n (if k then free 0 else begun sel.message_id) os → IsWhole true n (if k then begun sel.message_id else free 0) us
+        → (list_any (is_of m) us || list_any (is_of m) os) ≡ true
     by true w v = or-left _ _ (in_front true us v)
     by false w v = or-right _ _ (in_front false os w)
 
@@ -126,7 +130,8 @@ selected_stays m None h = refl
 selected_stays m (Some s) h = let other : (s.message_id == m) ≡ false = fails _ (λ e. h (ap Some (grind (arith, nat_tests)))) in rw other refl
 
 -- a message with no tail leaves the pending queue as it is
-without_none : (os us : List ChunkPayloadData) (sel : Option Selected) (ro ru n m : ℕ) (xs : List ChunkPayloadData) → IsSendable (made os us sel ro ru) xs n → waits m (made os us sel ro ru) ≡ false → without m (made os us sel ro ru) ≡ made os us sel ro ru
+without_none : (os us : List ChunkPayloadData) (sel : Option Selected) (ro ru n m : ℕ) (xs : List ChunkPayloadData) → IsSendable (made os us sel ro ru) xs n
+    → waits m (made os us sel ro ru) ≡ false → without m (made os us sel ro ru) ≡ made os us sel ro ru
 without_none os us sel ro ru n m xs s h =
     let none = neither (list_any (is_of m) us) (list_any (is_of m) os) h in
     let ordered = those-none (is_of m) os (fails_all (is_of m) os none.1) in
@@ -139,21 +144,38 @@ last_removed_none m q h =
     let none = neither (list_any (is_of m) q.unordered) (list_any (is_of m) q.ordered) h in
     ap₂ (λ cs ds. last_of (cs ++ ds)) (those_empty (is_of m) q.ordered none.1) (those_empty (is_of m) q.unordered none.0)
 
-pub abandoned_none : (m tsn : ℕ) (q : Outbound) → IsSendable q.pending q.inflight.chunks q.next_message_id → waits m q.pending ≡ false → abandon_chunks m tsn q ≡ record q { inflight = payload.with_chunks q.inflight (change_where (is_of m) as_abandoned q.inflight.chunks) }
+pub abandoned_none : (m tsn : ℕ) (q : Outbound) → IsSendable q.pending q.inflight.chunks q.next_message_id → waits m q.pending ≡ false
+    → abandon_chunks m tsn q ≡ record q { inflight = payload.with_chunks q.inflight (change_where (is_of m) as_abandoned q.inflight.chunks) }
 abandoned_none m tsn q s h =
-    ap (λ o. record q { pending = without m q.pending; inflight = with_terminal_chunk o tsn (payload.with_chunks q.inflight (change_where (is_of m) as_abandoned q.inflight.chunks)) }) (last_removed_none m q.pending h)
-    ∙ ap (λ p. record q { pending = p; inflight = payload.with_chunks q.inflight (change_where (is_of m) as_abandoned q.inflight.chunks) }) (without_none q.pending.ordered q.pending.unordered q.pending.selected q.pending.ordered_room q.pending.unordered_room q.next_message_id m q.inflight.chunks s h)
+    ap (λ o. record q {
+      pending = without m q.pending;
+      inflight = with_terminal_chunk o tsn (payload.with_chunks q.inflight (change_where (is_of m) as_abandoned q.inflight.chunks));
+    }) (last_removed_none m q.pending h)
+    ∙ ap (λ p. record q { pending = p; inflight = payload.with_chunks q.inflight (change_where (is_of m) as_abandoned q.inflight.chunks) }) (without_none
+    q.pending.ordered q.pending.unordered q.pending.selected q.pending.ordered_room q.pending.unordered_room q.next_message_id m q.inflight.chunks s h)
 
 -- room that was made for the terminal chunk is gone after it
-pub abandoned_room : (m tsn : ℕ) (q : Outbound) → waits m q.pending ≡ true → abandon_chunks m tsn (record q { inflight = record q.inflight { room = max 1 q.inflight.room } }) ≡ abandon_chunks m tsn q
+pub abandoned_room : (m tsn : ℕ) (q : Outbound) → waits m q.pending ≡ true
+    → abandon_chunks m tsn (record q { inflight = record q.inflight { room = max 1 q.inflight.room } }) ≡ abandon_chunks m tsn q
 abandoned_room m tsn q h = step (last_removed m q.pending) refl
   where
     one : max 1 q.inflight.room - 1 ≡ q.inflight.room - 1
     one = omega arith
 
-    step : (o : Option ChunkPayloadData) → last_removed m q.pending ≡ o → record q { pending = without m q.pending; inflight = with_terminal_chunk o tsn (payload.with_chunks (record q.inflight { room = max 1 q.inflight.room }) (change_where (is_of m) as_abandoned q.inflight.chunks)) } ≡ record q { pending = without m q.pending; inflight = with_terminal_chunk o tsn (payload.with_chunks q.inflight (change_where (is_of m) as_abandoned q.inflight.chunks)) }
+    step : (o : Option ChunkPayloadData) → last_removed m q.pending ≡ o → record q {
+      pending = without m q.pending;
+      inflight = with_terminal_chunk o tsn
+          (payload.with_chunks (record q.inflight { room = max 1 q.inflight.room }) (change_where (is_of m) as_abandoned q.inflight.chunks));
+    } ≡ record q {
+      pending = without m q.pending;
+      inflight = with_terminal_chunk o tsn (payload.with_chunks q.inflight (change_where (is_of m) as_abandoned q.inflight.chunks));
+    }
     step None e = absurd (no_last m q.pending h e)
-    step (Some c) e = ap (λ r. record q { pending = without m q.pending; inflight = record (payload.push_chunk (payload.with_chunks q.inflight (change_where (is_of m) as_abandoned q.inflight.chunks)) (terminal_chunk tsn c)) { room = r } }) one
+    step (Some c) e = ap (λ r. record q {
+      pending = without m q.pending;
+      inflight = record (payload.push_chunk (payload.with_chunks q.inflight (change_where (is_of m) as_abandoned q.inflight.chunks)) (terminal_chunk tsn c))
+          { room = r };
+    }) one
 
 pub waits_known : (m : ℕ) (q : Pending) (b : Bool) → (list_any (is_of m) q.unordered || list_any (is_of m) q.ordered) ≡ b → waits m q ≡ b
 waits_known m q b h = h
@@ -164,7 +186,8 @@ those_are : (m : ℕ) (xs : List ChunkPayloadData) → All (λ c. c.message_id �
 those_are m [] = λ k d lt. absurd (omega arith)
 those_are m (x ∷ xs) = step (x.message_id == m) refl (those_are m xs)
   where
-    step : (b : Bool) → (x.message_id == m) ≡ b → All (λ (c : ChunkPayloadData). c.message_id ≡ m) (filter (is_of m) xs) → All (λ (c : ChunkPayloadData). c.message_id ≡ m) (if b then x ∷ filter (is_of m) xs else filter (is_of m) xs)
+    step : (b : Bool) → (x.message_id == m) ≡ b → All (λ (c : ChunkPayloadData). c.message_id ≡ m) (filter (is_of m) xs)
+        → All (λ (c : ChunkPayloadData). c.message_id ≡ m) (if b then x ∷ filter (is_of m) xs else filter (is_of m) xs)
     step true e ih zero d lt = grind (arith, nat_tests)
     step true e ih (suc k) d lt = ih k d (omega arith)
     step false e ih k d lt = ih k d lt
@@ -181,29 +204,38 @@ all_append P (x ∷ xs) ys a b (suc k) d lt = all_append P xs ys (λ j e short. 
 
 -- what is removed of a message is of it
 pub last_is_of : (m : ℕ) (q : Pending) (c : ChunkPayloadData) → last_removed m q ≡ Some c → c.message_id ≡ m
-last_is_of m q c e = last_is (λ x. x.message_id ≡ m) _ c (all_append (λ x. x.message_id ≡ m) (filter (is_of m) q.ordered) (filter (is_of m) q.unordered) (those_are m q.ordered) (those_are m q.unordered)) e
+last_is_of m q c e = last_is (λ x. x.message_id ≡ m) _ c
+    (all_append (λ x. x.message_id ≡ m) (filter (is_of m) q.ordered) (filter (is_of m) q.unordered) (those_are m q.ordered) (those_are m q.unordered)) e
 
 -- a message that waits has a number below the next
 number_below : (m n : ℕ) (q : Pending) (xs : List ChunkPayloadData) → IsSendable q xs n → waits m q ≡ true → m < n
 number_below m n q xs s h = elim (cases_lt m n) [
   | inl lt ↦ lt
-  | inr le ↦ absurd (false≢true (sym (or_false _ _ (none_past true n m le (stage_of true q.selected) q.unordered s.unordered) (none_past false n m le (stage_of false q.selected) q.ordered s.ordered)) ∙ h))
+  | inr le ↦ absurd (false≢true (sym (or_false _ _ (none_past true n m le (stage_of true q.selected) q.unordered s.unordered)
+      (none_past false n m le (stage_of false q.selected) q.ordered s.ordered)) ∙ h))
 ]
 
-pub sendable-abandoned : (q : Pending) (xs : List ChunkPayloadData) (n m : ℕ) (t : ChunkPayloadData) → t.message_id ≡ m → waits m q ≡ true → IsSendable q xs n → IsSendable (without m q) (insert_before chunk_before t (change_where (is_of m) as_abandoned xs)) n
+pub sendable-abandoned : (q : Pending) (xs : List ChunkPayloadData) (n m : ℕ) (t : ChunkPayloadData) → t.message_id ≡ m → waits m q ≡ true → IsSendable q xs n
+    → IsSendable (without m q) (insert_before chunk_before t (change_where (is_of m) as_abandoned xs)) n
 sendable-abandoned q xs n m t same h s =
     let keeps : KeepsMessage as_abandoned = record { number = λ _. refl; begins = λ _. refl; ends = λ _. refl; kind = λ _. refl } in
-    let gone = sendable-without q.ordered q.unordered q.selected q.ordered_room q.unordered_room _ n m (sendable-marked q xs n (is_of m) as_abandoned keeps s) in
+    let gone =
+    sendable-without q.ordered q.unordered q.selected q.ordered_room q.unordered_room _ n m (sendable-marked q xs n (is_of m) as_abandoned keeps s) in
     let ys = change_where (is_of m) as_abandoned xs in
     let below = number_below m n q xs s h in
     record {
       ordered = gone.ordered;
       unordered = gone.unordered;
       apart = gone.apart;
-      sent = λ k e w. other k (m == k) refl (sym (list_any-inserted (is_of k) chunk_before t ys ∙ ap (λ j. j == k || list_any (is_of k) ys) same) ∙ e) w (gone.sent k);
-      below = λ k le. let differs : (m == k) ≡ false = grind (arith, nat_tests) in list_any-inserted (is_of k) chunk_before t ys ∙ ap (λ j. j == k || list_any (is_of k) ys) same ∙ or_false _ _ differs (gone.below k le);
+      sent = λ k e w.
+          other k (m == k) refl (sym (list_any-inserted (is_of k) chunk_before t ys ∙ ap (λ j. j == k || list_any (is_of k) ys) same) ∙ e) w (gone.sent k);
+      below = λ k le. let differs : (m == k) ≡ false = grind (arith, nat_tests) in
+          list_any-inserted (is_of k) chunk_before t ys ∙ ap (λ j. j == k || list_any (is_of k) ys) same ∙ or_false _ _ differs (gone.below k le);
     }
   where
-    other : (k : ℕ) (b : Bool) → (m == k) ≡ b → (m == k || list_any (is_of k) (change_where (is_of m) as_abandoned xs)) ≡ true → waits k (without m q) ≡ true → (list_any (is_of k) (change_where (is_of m) as_abandoned xs) ≡ true → waits k (without m q) ≡ true → partially_sent (without m q) ≡ Some k) → partially_sent (without m q) ≡ Some k
-    other k true e h w f = let it : m ≡ k = grind (arith, nat_tests) in absurd (false≢true (sym (subst (λ j. waits j (without m q) ≡ false) it (or_false _ _ (none_without m q.unordered) (none_without m q.ordered))) ∙ w))
+    other : (k : ℕ) (b : Bool) → (m == k) ≡ b → (m == k || list_any (is_of k) (change_where (is_of m) as_abandoned xs)) ≡ true → waits k (without m q) ≡ true
+        → (list_any (is_of k) (change_where (is_of m) as_abandoned xs) ≡ true → waits k (without m q) ≡ true → partially_sent (without m q) ≡ Some k)
+        → partially_sent (without m q) ≡ Some k
+    other k true e h w f = let it : m ≡ k = grind (arith, nat_tests) in
+        absurd (false≢true (sym (subst (λ j. waits j (without m q) ≡ false) it (or_false _ _ (none_without m q.unordered) (none_without m q.ordered))) ∙ w))
     other k false e h w f = f (subst (λ b. (b || list_any (is_of k) (change_where (is_of m) as_abandoned xs)) ≡ true) e h) w

@@ -1,5 +1,6 @@
 -- Where the chunks of a message stand.
-use Rattle.std.proofs.Common.{◌≡◌, ℕ, zero, suc, ◌<◌, Bool, true, false, ◌||◌, if◌then◌else◌, List, [], ◌∷◌, ◌++◌, length, take, drop, get_or, refl, sym, ap, ◌∙◌, arith}
+use Rattle.std.proofs.Common.{◌≡◌, ℕ, zero, suc, ◌<◌, Bool, true, false, ◌||◌, if◌then◌else◌, List, [], ◌∷◌, ◌++◌, length, take, drop, get_or, refl, sym, ap}
+use Rattle.std.proofs.Common.{◌∙◌, arith}
 use Rattle.std.specs.List.{list_any}
 use Rattle.std.proofs.lemmas.Bool.{eq-eqb}
 use Rattle.sctp_list_lemmas.proofs.Cases.{or-right}
@@ -14,7 +15,8 @@ neither true b h = cc
 neither false b h = (refl, h)
 
 -- where none passes, none is changed
-pub unchanged : (p : ChunkPayloadData → Bool) (f : ChunkPayloadData → ChunkPayloadData) (xs : List ChunkPayloadData) → list_any p xs ≡ false → change_where p f xs ≡ xs
+pub unchanged : (p : ChunkPayloadData → Bool) (f : ChunkPayloadData → ChunkPayloadData) (xs : List ChunkPayloadData) → list_any p xs ≡ false
+    → change_where p f xs ≡ xs
 unchanged p f [] h = refl
 unchanged p f (x ∷ xs) h =
     let e = neither (p x) (list_any p xs) h in

@@ -1,5 +1,6 @@
 -- Which chunks a TSN passes.
-use Rattle.std.proofs.Common.{◌≡◌, ◌+◌, ◌-◌, ◌^◌, ◌<◌, ◌≤◌, ℕ, zero, suc, true, false, List, [], ◌∷◌, ◌++◌, length, get_or, take, drop, get_or-drop, length-drop, inl, inr, refl, sym, ap, ◌∙◌, subst, add-one, arith}
+use Rattle.std.proofs.Common.{◌≡◌, ◌+◌, ◌-◌, ◌^◌, ◌<◌, ◌≤◌, ℕ, zero, suc, true, false, List, [], ◌∷◌, ◌++◌, length, get_or, take, drop, get_or-drop}
+use Rattle.std.proofs.Common.{length-drop, inl, inr, refl, sym, ap, ◌∙◌, subst, add-one, arith}
 use Rattle.std.specs.List.{remove}
 use Rattle.std.proofs.lemmas.Bool.{cases_lt, false≢true}
 use Rattle.std.proofs.lemmas.Bool.Decides.{nat_tests}
@@ -59,7 +60,8 @@ module _ (xs : List ChunkPayloadData) (serial : IsSerial xs) (d : ChunkPayloadDa
   ahead : (i k : ℕ) → i ≤ k → k < length xs → distance (get_or xs i d).tsn (get_or xs k d).tsn < 2 ^ 31
   ahead i k le short = elim (cases_lt i k) [
     | inl later ↦ (before_is (get_or xs i d).tsn (get_or xs k d).tsn (serial.ascending i k d later short)).1
-    | inr same ↦ subst (λ j. distance (get_or xs i d).tsn (get_or xs j d).tsn < 2 ^ 31) {x = i} (omega arith) (let none = distance_self (get_or xs i d).tsn (serial.in_range i d (omega arith)) in omega arith)
+    | inr same ↦ subst (λ j. distance (get_or xs i d).tsn (get_or xs j d).tsn < 2 ^ 31) {x = i} (omega arith)
+        (let none = distance_self (get_or xs i d).tsn (serial.in_range i d (omega arith)) in omega arith)
   ]
 
   -- and no farther than a still later one
@@ -69,18 +71,21 @@ module _ (xs : List ChunkPayloadData) (serial : IsSerial xs) (d : ChunkPayloadDa
       | inl last ↦
           let p = before_is (get_or xs i d).tsn (get_or xs k d).tsn (serial.ascending i k d later (omega arith)) in
           let q = before_is (get_or xs i d).tsn (get_or xs l d).tsn (serial.ascending i l d (omega arith) short) in
-          let lt = distance_by_before (get_or xs i d).tsn (get_or xs k d).tsn (get_or xs l d).tsn (serial.in_range i d (omega arith)) (serial.in_range k d (omega arith)) (serial.in_range l d short)
+          let lt = distance_by_before (get_or xs i d).tsn (get_or xs k d).tsn (get_or xs l d).tsn (serial.in_range i d (omega arith))
+          (serial.in_range k d (omega arith)) (serial.in_range l d short)
           p.0 (omega (arith, p)) q.0 (omega (arith, q)) (serial.ascending k l d last short) in
           omega (arith, lt)
-      | inr same ↦ subst (λ j. distance (get_or xs i d).tsn (get_or xs k d).tsn ≤ distance (get_or xs i d).tsn (get_or xs j d).tsn) {x = k} (omega arith) (omega arith)
+      | inr same ↦
+          subst (λ j. distance (get_or xs i d).tsn (get_or xs k d).tsn ≤ distance (get_or xs i d).tsn (get_or xs j d).tsn) {x = k} (omega arith) (omega arith)
     ]
-    | inr same ↦ subst (λ j. distance (get_or xs i d).tsn (get_or xs j d).tsn ≤ distance (get_or xs i d).tsn (get_or xs l d).tsn) {x = i} (omega arith) (let none = distance_self (get_or xs i d).tsn (serial.in_range i d (omega arith)) in omega arith)
+    | inr same ↦ subst (λ j. distance (get_or xs i d).tsn (get_or xs j d).tsn ≤ distance (get_or xs i d).tsn (get_or xs l d).tsn) {x = i} (omega arith)
+        (let none = distance_self (get_or xs i d).tsn (serial.in_range i d (omega arith)) in omega arith)
   ]
 
 module _ (tsn : ℕ) (xs : List ChunkPayloadData) (fits : tsn < 2 ^ 32) (serial : IsSerial xs) where
   -- where neither a chunk nor the last is passed, none from the one to the other is
-  pub none_passed : (i : ℕ) (d : ChunkPayloadData) → i < length xs → at_or_before (get_or xs i d).tsn tsn ≡ false → at_or_before (get_or xs (length xs - 1) d).tsn tsn ≡ false
-      → (k : ℕ) → i ≤ k → k < length xs → at_or_before (get_or xs k d).tsn tsn ≡ false
+  pub none_passed : (i : ℕ) (d : ChunkPayloadData) → i < length xs → at_or_before (get_or xs i d).tsn tsn ≡ false
+      → at_or_before (get_or xs (length xs - 1) d).tsn tsn ≡ false → (k : ℕ) → i ≤ k → k < length xs → at_or_before (get_or xs k d).tsn tsn ≡ false
   none_passed i d lt first last k le short =
       let x = (get_or xs i d).tsn in
       let y = (get_or xs k d).tsn in
@@ -115,7 +120,8 @@ module _ (tsn : ℕ) (xs : List ChunkPayloadData) (fits : tsn < 2 ^ 32) (serial 
       ]
 
   -- so the rest stays
-  pub rest_stays : (i : ℕ) (x : ChunkPayloadData) → i < length xs → at_or_before (get_or xs i x).tsn tsn ≡ false → at_or_before (get_or xs (length xs - 1) x).tsn tsn ≡ false → past tsn (drop i xs) ≡ drop i xs
+  pub rest_stays : (i : ℕ) (x : ChunkPayloadData) → i < length xs → at_or_before (get_or xs i x).tsn tsn ≡ false
+      → at_or_before (get_or xs (length xs - 1) x).tsn tsn ≡ false → past tsn (drop i xs) ≡ drop i xs
   rest_stays i x lt first last = those-none (λ (c : ChunkPayloadData). at_or_before c.tsn tsn) (drop i xs) (λ k d short.
       let n = length-drop i xs in
       let fit : i + k < length xs = omega arith in
@@ -127,7 +133,8 @@ pub stays_behind : (tsn : ℕ) (xs ys : List ChunkPayloadData) (j : ℕ) (x : Ch
     → at_or_before (get_or xs 0 x).tsn tsn ≡ false → at_or_before (get_or xs (length xs - 1) x).tsn tsn ≡ true → FrontGoesFirst tsn ys → ⊥
 stays_behind tsn xs ys j x fits serial e some first last front =
     let n : length xs ≡ length ys - j = ap length e ∙ length-drop j ys in
-    let end : get_or xs (length xs - 1) x ≡ get_or ys (length ys - 1) x = ap (λ zs. get_or zs (length xs - 1) x) e ∙ get_or-drop j ys (length xs - 1) x ∙ ap (λ k. get_or ys k x) (omega arith) in
+    let end : get_or xs (length xs - 1) x ≡ get_or ys (length ys - 1) x = ap (λ zs. get_or zs (length xs - 1) x) e ∙ get_or-drop j ys (length xs - 1) x
+    ∙ ap (λ k. get_or ys k x) (omega arith) in
     let here : get_or xs 0 x ≡ get_or ys j x = ap (λ zs. get_or zs 0 x) e ∙ get_or-drop j ys 0 x ∙ ap (λ k. get_or ys k x) (omega arith) in
     let passed = subst (λ (c : ChunkPayloadData). at_or_before c.tsn tsn ≡ true) end last in
     let each = each_passed tsn ys fits serial x (front x passed) passed j (omega arith) in
@@ -141,11 +148,14 @@ rest_removed xs ys j e some = first xs some ∙ ap (drop 1) e ∙ drop-drop 1 j 
     first [] lt = absurd (omega arith)
     first (z ∷ zs) lt = refl
 
-stays_suc : (tsn : ℕ) (xs : List ChunkPayloadData) (i : ℕ) (x : ChunkPayloadData) → i < length xs → x ≡ get_or xs i x → at_or_before x.tsn tsn ≡ false → take (suc i) xs ++ past tsn (drop (suc i) xs) ≡ take i xs ++ past tsn (drop i xs)
+stays_suc : (tsn : ℕ) (xs : List ChunkPayloadData) (i : ℕ) (x : ChunkPayloadData) → i < length xs → x ≡ get_or xs i x → at_or_before x.tsn tsn ≡ false
+    → take (suc i) xs ++ past tsn (drop (suc i) xs) ≡ take i xs ++ past tsn (drop i xs)
 stays_suc tsn [] i x lt e stays = absurd (omega arith)
-stays_suc tsn (y ∷ ys) zero x lt e stays = let here : at_or_before y.tsn tsn ≡ false = ap (λ (c : ChunkPayloadData). at_or_before c.tsn tsn) (sym e) ∙ stays in rw here refl
+stays_suc tsn (y ∷ ys) zero x lt e stays = let here : at_or_before y.tsn tsn ≡ false = ap (λ (c : ChunkPayloadData). at_or_before c.tsn tsn) (sym e) ∙ stays in
+    rw here refl
 stays_suc tsn (y ∷ ys) (suc i) x lt e stays = ap (λ zs. y ∷ zs) (stays_suc tsn ys i x (omega arith) e stays)
 
 -- a chunk that stays is one more of those before the place
-pub stays_step : (tsn : ℕ) (xs : List ChunkPayloadData) (i : ℕ) (x : ChunkPayloadData) → i < length xs → x ≡ get_or xs i x → at_or_before x.tsn tsn ≡ false → take (i + 1) xs ++ past tsn (drop (i + 1) xs) ≡ take i xs ++ past tsn (drop i xs)
+pub stays_step : (tsn : ℕ) (xs : List ChunkPayloadData) (i : ℕ) (x : ChunkPayloadData) → i < length xs → x ≡ get_or xs i x → at_or_before x.tsn tsn ≡ false
+    → take (i + 1) xs ++ past tsn (drop (i + 1) xs) ≡ take i xs ++ past tsn (drop i xs)
 stays_step tsn xs i x lt e stays = rw add-one (stays_suc tsn xs i x lt e stays)

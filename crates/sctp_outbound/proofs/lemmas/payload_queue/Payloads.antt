@@ -6,15 +6,19 @@ use Rattle.sctp_outbound.specs.payload_queue.PayloadQueue.{Payload, with_chunks,
 use Rattle.sctp_serial.specs.DataChunks.{has_tsn}
 
 -- two queues that differ in nothing else
-pub same_but_chunks : {duplicates : List ℕ} {room : ℕ} {xs ys : List ChunkPayloadData} → xs ≡ ys → (let q : Payload = record { chunks = xs; duplicates = duplicates; room = room } in q) ≡ record { chunks = ys; duplicates = duplicates; room = room }
+pub same_but_chunks : {duplicates : List ℕ} {room : ℕ} {xs ys : List ChunkPayloadData} → xs ≡ ys
+    → (let q : Payload = record { chunks = xs; duplicates = duplicates; room = room } in q) ≡ record { chunks = ys; duplicates = duplicates; room = room }
 same_but_chunks {duplicates} {room} e = ap (λ cs. let q : Payload = record { chunks = cs; duplicates = duplicates; room = room } in q) e
 
 -- a chunk leaves its place as room, and then the room is what it was
-pub room_back : (q mid new : Payload) (cs : List ChunkPayloadData) (room : ℕ) → room ≡ q.room → mid ≡ record q { chunks = cs; room = mid.room } → length mid.chunks + mid.room ≡ length q.chunks + q.room → length cs ≤ length q.chunks → new ≡ record mid { room = min room mid.room } → new ≡ with_chunks q cs
+pub room_back : (q mid new : Payload) (cs : List ChunkPayloadData) (room : ℕ) → room ≡ q.room → mid ≡ record q { chunks = cs; room = mid.room }
+    → length mid.chunks + mid.room ≡ length q.chunks + q.room → length cs ≤ length q.chunks → new ≡ record mid { room = min room mid.room }
+    → new ≡ with_chunks q cs
 room_back q mid new cs room was is places few limited =
     let same : length mid.chunks ≡ length cs = ap (λ (p : Payload). length p.chunks) is in
     let low : min room mid.room ≡ q.room = omega arith in
-    limited ∙ ap (λ (p : Payload). let n : Payload = record p { room = min room mid.room } in n) is ∙ ap (λ (n : ℕ). let p : Payload = record q { chunks = cs; room = n } in p) low
+    limited ∙ ap (λ (p : Payload). let n : Payload = record p { room = min room mid.room } in n) is
+    ∙ ap (λ (n : ℕ). let p : Payload = record q { chunks = cs; room = n } in p) low
 
 pub without_front_short : (tsn : ℕ) (cs : List ChunkPayloadData) → length (without_front tsn cs) ≤ length cs
 without_front_short tsn [] = omega arith

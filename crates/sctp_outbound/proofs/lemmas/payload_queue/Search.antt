@@ -15,9 +15,11 @@ pub record Narrowed (chunks : List ChunkPayloadData) (tsn low high : ℕ) : Type
   pub none_left : (k : ℕ) (d : ChunkPayloadData) → k < low → (get_or chunks k d).tsn ≢ tsn
   pub none_right : (k : ℕ) (d : ChunkPayloadData) → high ≤ k → k < length chunks → (get_or chunks k d).tsn ≢ tsn
   pub left : (b : ℕ) → IsWindow b chunks tsn → (k : ℕ) (d : ChunkPayloadData) → k < low → IsTrue (comes_before (get_or chunks k d).tsn tsn)
-  pub right : (b : ℕ) → IsWindow b chunks tsn → (k : ℕ) (d : ChunkPayloadData) → high ≤ k → k < length chunks → IsTrue (comes_before tsn (get_or chunks k d).tsn)
+  pub right : (b : ℕ) → IsWindow b chunks tsn → (k : ℕ) (d : ChunkPayloadData) → high ≤ k → k < length chunks
+      → IsTrue (comes_before tsn (get_or chunks k d).tsn)
 
-module _ (chunks : List ChunkPayloadData) (serial : IsSerial chunks) (tsn low high middle : ℕ) (fits : tsn < 2 ^ 32) (n : Narrowed chunks tsn low high) (chunk : ChunkPayloadData) (at_least : low ≤ middle) (below : middle < high) (read : chunk ≡ get_or chunks middle chunk) (differs : chunk.tsn ≢ tsn) where
+module _ (chunks : List ChunkPayloadData) (serial : IsSerial chunks) (tsn low high middle : ℕ) (fits : tsn < 2 ^ 32) (n : Narrowed chunks tsn low high)
+    (chunk : ChunkPayloadData) (at_least : low ≤ middle) (below : middle < high) (read : chunk ≡ get_or chunks middle chunk) (differs : chunk.tsn ≢ tsn) where
   within : middle < length chunks
   within = omega (arith, n.in_range)
 
@@ -38,12 +40,14 @@ module _ (chunks : List ChunkPayloadData) (serial : IsSerial chunks) (tsn low hi
     ordered = omega arith;
     in_range = n.in_range;
     none_left = λ k d lt same. elim (cases_lt k middle) [
-      | inl below_it ↦ absurd (false≢true (sym (before_asym chunk.tsn tsn small fits h) ∙ subst (λ t. IsTrue (comes_before t chunk.tsn)) same (rises k d below_it)))
+      | inl below_it ↦
+          absurd (false≢true (sym (before_asym chunk.tsn tsn small fits h) ∙ subst (λ t. IsTrue (comes_before t chunk.tsn)) same (rises k d below_it)))
       | inr above ↦ differs (sym (number_here d) ∙ ap (λ i. (get_or chunks i d).tsn) (omega arith) ∙ same)
     ];
     none_right = n.none_right;
     left = λ b w k d lt. elim (cases_lt k middle) [
-      | inl below_it ↦ before_trans b (get_or chunks k d).tsn chunk.tsn tsn w.base_in_range (serial.in_range k d (omega arith)) small fits (w.held k d (omega arith)).0 (w.held k d (omega arith)).1 (here b w).0 (here b w).1 w.number.0 w.number.1 (rises k d below_it) h
+      | inl below_it ↦ before_trans b (get_or chunks k d).tsn chunk.tsn tsn w.base_in_range (serial.in_range k d (omega arith)) small fits
+          (w.held k d (omega arith)).0 (w.held k d (omega arith)).1 (here b w).0 (here b w).1 w.number.0 w.number.1 (rises k d below_it) h
       | inr above ↦ subst (λ t. IsTrue (comes_before t tsn)) (sym (number_here d) ∙ ap (λ i. (get_or chunks i d).tsn) (omega arith)) h
     ];
     right = n.right;
@@ -63,7 +67,8 @@ module _ (chunks : List ChunkPayloadData) (serial : IsSerial chunks) (tsn low hi
     ];
     left = n.left;
     right = λ b w k d le short. elim (cases_lt middle k) [
-      | inl above ↦ before_trans b tsn chunk.tsn (get_or chunks k d).tsn w.base_in_range fits small (serial.in_range k d short) w.number.0 w.number.1 (here b w).0 (here b w).1 (w.held k d short).0 (w.held k d short).1 (turned b w) (falls k d above short)
+      | inl above ↦ before_trans b tsn chunk.tsn (get_or chunks k d).tsn w.base_in_range fits small (serial.in_range k d short) w.number.0 w.number.1
+          (here b w).0 (here b w).1 (w.held k d short).0 (w.held k d short).1 (turned b w) (falls k d above short)
       | inr at_it ↦ subst (λ t. IsTrue (comes_before tsn t)) (sym (number_here d) ∙ ap (λ i. (get_or chunks i d).tsn) (omega arith)) (turned b w)
     ];
   }
@@ -101,7 +106,9 @@ narrowed_none chunks tsn = record {
 }
 
 -- what comes after the last goes behind it
-pub behind_last : (chunks : List ChunkPayloadData) → IsSerial chunks → (tsn : ℕ) (chunk : ChunkPayloadData) → tsn < 2 ^ 32 → 0 < length chunks → chunk ≡ get_or chunks (length chunks - 1) chunk → IsTrue (comes_before chunk.tsn tsn) → Narrowed chunks tsn (length chunks) (length chunks)
+pub behind_last : (chunks : List ChunkPayloadData) → IsSerial chunks → (tsn : ℕ) (chunk : ChunkPayloadData) → tsn < 2 ^ 32 → 0 < length chunks
+    → chunk ≡ get_or chunks (length chunks - 1) chunk → IsTrue (comes_before chunk.tsn tsn) → Narrowed chunks tsn (length chunks) (length chunks)
 behind_last chunks serial tsn chunk fits some read h =
     subst (λ n. Narrowed chunks tsn n (length chunks)) {x = length chunks - 1 + 1} (omega arith)
-    (narrowed_right chunks serial tsn 0 (length chunks) (length chunks - 1) fits (narrowed_none chunks tsn) chunk (omega arith) (omega arith) read (λ e. false≢true (sym (before_irrefl tsn fits) ∙ subst (λ t. IsTrue (comes_before t tsn)) e h)) h)
+    (narrowed_right chunks serial tsn 0 (length chunks) (length chunks - 1) fits (narrowed_none chunks tsn) chunk (omega arith) (omega arith) read
+    (λ e. false≢true (sym (before_irrefl tsn fits) ∙ subst (λ t. IsTrue (comes_before t tsn)) e h)) h)

@@ -1,5 +1,6 @@
 -- Messages stay whole while chunks come, leave and change.
-use Rattle.std.proofs.Common.{nat_le, get_or, take, length, ◌⊎◌, inl, inr, ◌≡◌, ◌==◌, ℕ, zero, suc, ◌+◌, ◌<◌, ◌≤◌, Bool, true, false, not, ◌||◌, if◌then◌else◌, List, [], ◌∷◌, ◌++◌, map, Option, Some, None, refl, sym, ap₂, ◌∙◌, subst, arith}
+use Rattle.std.proofs.Common.{nat_le, get_or, take, length, ◌⊎◌, inl, inr, ◌≡◌, ◌==◌, ℕ, zero, suc, ◌+◌, ◌<◌, ◌≤◌, Bool, true, false, not, ◌||◌, if◌then◌else◌}
+use Rattle.std.proofs.Common.{List, [], ◌∷◌, ◌++◌, map, Option, Some, None, refl, sym, ap₂, ◌∙◌, subst, arith}
 use Rattle.std.specs.List.{All, list_any}
 use Rattle.std.proofs.lemmas.Bool.{cases_lt}
 use Rattle.std.proofs.lemmas.List.{get_or-take, get_or_default, length-take-le}
@@ -25,25 +26,31 @@ after_below false m n lt = lt
 -- ## Whole lists
 
 -- a lower start and a higher bound
-pub weaken_bound : (kind : Bool) (low high : ℕ) → low ≤ high → (stage : Stage) (xs : List ChunkPayloadData) → IsWhole kind low stage xs → IsWhole kind high stage xs
+pub weaken_bound : (kind : Bool) (low high : ℕ) → low ≤ high → (stage : Stage) (xs : List ChunkPayloadData) → IsWhole kind low stage xs
+    → IsWhole kind high stage xs
 weaken_bound kind low high le (free least) [] w = w
 weaken_bound kind low high le (begun message) [] w = w
 weaken_bound kind low high le (free least) (c ∷ cs) w = (w.0, w.1, omega (arith, w.2), weaken_bound kind low high le (stage_after c) cs w.3)
 weaken_bound kind low high le (begun message) (c ∷ cs) w = (w.0, w.1, omega (arith, w.2), weaken_bound kind low high le (stage_after c) cs w.3)
 
-pub weaken_start : (kind : Bool) (below low high : ℕ) → low ≤ high → (xs : List ChunkPayloadData) → IsWhole kind below (free high) xs → IsWhole kind below (free low) xs
+pub weaken_start : (kind : Bool) (below low high : ℕ) → low ≤ high → (xs : List ChunkPayloadData) → IsWhole kind below (free high) xs
+    → IsWhole kind below (free low) xs
 weaken_start kind below low high le [] w = w
 weaken_start kind below low high le (c ∷ cs) w = ((w.0.0, omega (arith, w.0.1)), w.1, w.2, w.3)
 
 -- a further message behind
-pub IsWhole-append : (kind : Bool) (n m : ℕ) → n ≤ m → (stage : Stage) (xs ys : List ChunkPayloadData) → IsBelow stage n → IsWhole kind n stage xs → IsWhole kind m (free n) ys → IsWhole kind m stage (xs ++ ys)
+pub IsWhole-append : (kind : Bool) (n m : ℕ) → n ≤ m → (stage : Stage) (xs ys : List ChunkPayloadData) → IsBelow stage n → IsWhole kind n stage xs
+    → IsWhole kind m (free n) ys → IsWhole kind m stage (xs ++ ys)
 IsWhole-append kind n m le (free least) [] ys b w v = weaken_start kind m least n b ys v
 IsWhole-append kind n m le (begun message) [] ys b w v = absurd w
-IsWhole-append kind n m le (free least) (c ∷ cs) ys b w v = (w.0, w.1, omega (arith, w.2), IsWhole-append kind n m le (stage_after c) cs ys (after_below c.ending_fragment c.message_id n w.2) w.3 v)
-IsWhole-append kind n m le (begun message) (c ∷ cs) ys b w v = (w.0, w.1, omega (arith, w.2), IsWhole-append kind n m le (stage_after c) cs ys (after_below c.ending_fragment c.message_id n w.2) w.3 v)
+IsWhole-append kind n m le (free least) (c ∷ cs) ys b w v =
+    (w.0, w.1, omega (arith, w.2), IsWhole-append kind n m le (stage_after c) cs ys (after_below c.ending_fragment c.message_id n w.2) w.3 v)
+IsWhole-append kind n m le (begun message) (c ∷ cs) ys b w v =
+    (w.0, w.1, omega (arith, w.2), IsWhole-append kind n m le (stage_after c) cs ys (after_below c.ending_fragment c.message_id n w.2) w.3 v)
 
 -- a message with its number
-pub IsWhole-message : (kind goes_on : Bool) (n : ℕ) (xs : List ChunkPayloadData) → IsMessage kind goes_on xs → IsWhole kind (n + 1) (if goes_on then begun n else free n) (map (with_message_id n) xs)
+pub IsWhole-message : (kind goes_on : Bool) (n : ℕ) (xs : List ChunkPayloadData) → IsMessage kind goes_on xs
+    → IsWhole kind (n + 1) (if goes_on then begun n else free n) (map (with_message_id n) xs)
 IsWhole-message kind goes_on n [] h = absurd h
 IsWhole-message kind true n (c ∷ []) h = ((h.0, refl), h.2, omega arith, rw h.1 tt)
 IsWhole-message kind false n (c ∷ []) h = ((h.0, omega arith), h.2, omega arith, rw h.1 tt)
@@ -56,30 +63,37 @@ stage_without m (free least) = free least
 stage_without m (begun j) = if j == m then free (j + 1) else begun j
 
 module _ (kind : Bool) (below m : ℕ) where
-  after_it : (b : Bool) (k : ℕ) (xs : List ChunkPayloadData) → (k == m) ≡ true → IsWhole kind below (stage_without m (if b then free (k + 1) else begun k)) xs → IsWhole kind below (free (k + 1)) xs
+  after_it : (b : Bool) (k : ℕ) (xs : List ChunkPayloadData) → (k == m) ≡ true → IsWhole kind below (stage_without m (if b then free (k + 1) else begun k)) xs
+      → IsWhole kind below (free (k + 1)) xs
   after_it true k xs e w = w
   after_it false k xs e w = subst (λ (b : Bool). IsWhole kind below (if b then free (k + 1) else begun k) xs) e w
 
-  after_other : (b : Bool) (k : ℕ) (xs : List ChunkPayloadData) → (k == m) ≡ false → IsWhole kind below (stage_without m (if b then free (k + 1) else begun k)) xs → IsWhole kind below (if b then free (k + 1) else begun k) xs
+  after_other : (b : Bool) (k : ℕ) (xs : List ChunkPayloadData) → (k == m) ≡ false
+      → IsWhole kind below (stage_without m (if b then free (k + 1) else begun k)) xs → IsWhole kind below (if b then free (k + 1) else begun k) xs
   after_other true k xs e w = w
   after_other false k xs e w = subst (λ (b : Bool). IsWhole kind below (if b then free (k + 1) else begun k) xs) e w
 
   -- without a message the others are whole
-  pub IsWhole-without : (stage : Stage) (xs : List ChunkPayloadData) → IsWhole kind below stage xs → IsWhole kind below (stage_without m stage) (without_message m xs)
+  pub IsWhole-without : (stage : Stage) (xs : List ChunkPayloadData) → IsWhole kind below stage xs
+      → IsWhole kind below (stage_without m stage) (without_message m xs)
   IsWhole-without (free least) [] w = w
   IsWhole-without (begun j) [] w = absurd w
   IsWhole-without (free least) (c ∷ cs) w = step (c.message_id == m) refl (IsWhole-without (stage_after c) cs w.3)
     where
-      step : (b : Bool) → (c.message_id == m) ≡ b → IsWhole kind below (stage_without m (stage_after c)) (without_message m cs) → IsWhole kind below (free least) (if not b then c ∷ without_message m cs else without_message m cs)
-      step true e ih = weaken_start kind below least (c.message_id + 1) (omega (arith, w.0.1)) (without_message m cs) (after_it c.ending_fragment c.message_id (without_message m cs) e ih)
+      step : (b : Bool) → (c.message_id == m) ≡ b → IsWhole kind below (stage_without m (stage_after c)) (without_message m cs)
+          → IsWhole kind below (free least) (if not b then c ∷ without_message m cs else without_message m cs)
+      step true e ih = weaken_start kind below least (c.message_id + 1) (omega (arith, w.0.1)) (without_message m cs)
+          (after_it c.ending_fragment c.message_id (without_message m cs) e ih)
       step false e ih = (w.0, w.1, w.2, after_other c.ending_fragment c.message_id (without_message m cs) e ih)
   IsWhole-without (begun j) (c ∷ cs) w = step (c.message_id == m) refl (IsWhole-without (stage_after c) cs w.3)
     where
       same : (b : Bool) → (c.message_id == m) ≡ b → (j == m) ≡ b
       same b e = subst (λ k. (k == m) ≡ b) w.0.1 e
 
-      step : (b : Bool) → (c.message_id == m) ≡ b → IsWhole kind below (stage_without m (stage_after c)) (without_message m cs) → IsWhole kind below (if j == m then free (j + 1) else begun j) (if not b then c ∷ without_message m cs else without_message m cs)
-      step true e ih = rw (same true e) (subst (λ k. IsWhole kind below (free (k + 1)) (without_message m cs)) w.0.1 (after_it c.ending_fragment c.message_id (without_message m cs) e ih))
+      step : (b : Bool) → (c.message_id == m) ≡ b → IsWhole kind below (stage_without m (stage_after c)) (without_message m cs)
+          → IsWhole kind below (if j == m then free (j + 1) else begun j) (if not b then c ∷ without_message m cs else without_message m cs)
+      step true e ih = rw (same true e)
+          (subst (λ k. IsWhole kind below (free (k + 1)) (without_message m cs)) w.0.1 (after_it c.ending_fragment c.message_id (without_message m cs) e ih))
       step false e ih = rw (same false e) (w.0, w.1, w.2, after_other c.ending_fragment c.message_id (without_message m cs) e ih)
 
 -- a change that leaves what a message is known by
@@ -109,7 +123,8 @@ module _ (p : ChunkPayloadData → Bool) (f : ChunkPayloadData → ChunkPayloadD
   same_stage : (c : ChunkPayloadData) → stage_after (if p c then f c else c) ≡ stage_after c
   same_stage c = ap₂ (λ b k. if b then free (k + 1) else begun k) (if_ends (p c) c) (if_number (p c) c)
 
-  pub IsWhole-change_where : (kind : Bool) (below : ℕ) (stage : Stage) (xs : List ChunkPayloadData) → IsWhole kind below stage xs → IsWhole kind below stage (change_where p f xs)
+  pub IsWhole-change_where : (kind : Bool) (below : ℕ) (stage : Stage) (xs : List ChunkPayloadData) → IsWhole kind below stage xs
+      → IsWhole kind below stage (change_where p f xs)
   IsWhole-change_where kind below (free least) [] w = w
   IsWhole-change_where kind below (begun j) [] w = w
   IsWhole-change_where kind below (free least) (c ∷ cs) w = (
@@ -134,8 +149,10 @@ module _ (p : ChunkPayloadData → Bool) (f : ChunkPayloadData → ChunkPayloadD
 -- no message with the number of the bound or past it waits
 pub none_past : (kind : Bool) (n m : ℕ) → n ≤ m → (stage : Stage) (xs : List ChunkPayloadData) → IsWhole kind n stage xs → list_any (is_of m) xs ≡ false
 none_past kind n m le stage [] w = refl
-none_past kind n m le (free least) (c ∷ cs) w = let differs : (c.message_id == m) ≡ false = grind (arith, nat_tests, w.2) in rw differs (none_past kind n m le (stage_after c) cs w.3)
-none_past kind n m le (begun j) (c ∷ cs) w = let differs : (c.message_id == m) ≡ false = grind (arith, nat_tests, w.2) in rw differs (none_past kind n m le (stage_after c) cs w.3)
+none_past kind n m le (free least) (c ∷ cs) w = let differs : (c.message_id == m) ≡ false = grind (arith, nat_tests, w.2) in
+    rw differs (none_past kind n m le (stage_after c) cs w.3)
+none_past kind n m le (begun j) (c ∷ cs) w = let differs : (c.message_id == m) ≡ false = grind (arith, nat_tests, w.2) in
+    rw differs (none_past kind n m le (stage_after c) cs w.3)
 
 -- nor one that the stage is past
 abbrev pub IsPast : ℕ → Stage → Type 0
@@ -146,7 +163,8 @@ stays_past : (m : ℕ) (b : Bool) (k : ℕ) → m < k → IsPast m (if b then fr
 stays_past m true k lt = omega arith
 stays_past m false k lt = lt
 
-pub none_before : (kind : Bool) (n m : ℕ) (stage : Stage) (xs : List ChunkPayloadData) → IsPast m stage → IsWhole kind n stage xs → list_any (is_of m) xs ≡ false
+pub none_before : (kind : Bool) (n m : ℕ) (stage : Stage) (xs : List ChunkPayloadData) → IsPast m stage → IsWhole kind n stage xs
+    → list_any (is_of m) xs ≡ false
 none_before kind n m stage [] past w = refl
 none_before kind n m (free least) (c ∷ cs) past w =
     let later : m < c.message_id = omega (arith, w.0.1) in
@@ -162,7 +180,8 @@ pub none_without : (m : ℕ) (xs : List ChunkPayloadData) → list_any (is_of m)
 none_without m [] = refl
 none_without m (c ∷ cs) = step (c.message_id == m) refl (none_without m cs)
   where
-    step : (b : Bool) → (c.message_id == m) ≡ b → list_any (is_of m) (without_message m cs) ≡ false → list_any (is_of m) (if not b then c ∷ without_message m cs else without_message m cs) ≡ false
+    step : (b : Bool) → (c.message_id == m) ≡ b → list_any (is_of m) (without_message m cs) ≡ false
+        → list_any (is_of m) (if not b then c ∷ without_message m cs else without_message m cs) ≡ false
     step true e ih = ih
     step false e ih = rw e ih
 
@@ -171,7 +190,8 @@ pub list_any-message : (m n : ℕ) (xs : List ChunkPayloadData) → list_any (is
 list_any-message m n [] h = cc
 list_any-message m n (c ∷ cs) h = step (n == m) refl h (list_any-message m n cs)
   where
-    step : (b : Bool) → (n == m) ≡ b → (b || list_any (is_of m) (map (with_message_id n) cs)) ≡ true → (list_any (is_of m) (map (with_message_id n) cs) ≡ true → (n == m) ≡ true) → (n == m) ≡ true
+    step : (b : Bool) → (n == m) ≡ b → (b || list_any (is_of m) (map (with_message_id n) cs)) ≡ true
+        → (list_any (is_of m) (map (with_message_id n) cs) ≡ true → (n == m) ≡ true) → (n == m) ≡ true
     step true e h ih = e
     step false e h ih = ih h
 
@@ -180,7 +200,8 @@ pub begun_below : (kind : Bool) (n j : ℕ) (xs : List ChunkPayloadData) → IsW
 begun_below kind n j [] w = absurd w
 begun_below kind n j (c ∷ cs) w = omega (arith, w.0.1, w.2)
 
-pub stage_below : (kind : Bool) (sel : Option Selected) (n : ℕ) (xs : List ChunkPayloadData) → IsWhole kind n (stage_of kind sel) xs → IsBelow (stage_of kind sel) n
+pub stage_below : (kind : Bool) (sel : Option Selected) (n : ℕ) (xs : List ChunkPayloadData) → IsWhole kind n (stage_of kind sel) xs
+    → IsBelow (stage_of kind sel) n
 stage_below true None n xs w = omega arith
 stage_below false None n xs w = omega arith
 stage_below true (Some s) n xs w = by s.unordered w
@@ -208,23 +229,29 @@ after_least c = step c.ending_fragment
     step false = omega arith
 
 -- no number is below that of the stage
-numbers_from : (kind : Bool) (below : ℕ) (stage : Stage) (xs : List ChunkPayloadData) → IsWhole kind below stage xs → All (λ c. least_of stage ≤ c.message_id) xs
+numbers_from : (kind : Bool) (below : ℕ) (stage : Stage) (xs : List ChunkPayloadData) → IsWhole kind below stage xs
+    → All (λ c. least_of stage ≤ c.message_id) xs
 numbers_from kind below (free least) [] w k d lt = absurd (omega arith)
 numbers_from kind below (begun message) [] w k d lt = absurd w
 numbers_from kind below (free least) (c ∷ cs) w zero d lt = w.0.1
 numbers_from kind below (begun message) (c ∷ cs) w zero d lt = omega (arith, w.0.1)
-numbers_from kind below (free least) (c ∷ cs) w (suc k) d lt = omega (arith, w.0.1, after_least c, numbers_from kind below (stage_after c) cs w.3 k d (omega arith))
-numbers_from kind below (begun message) (c ∷ cs) w (suc k) d lt = omega (arith, w.0.1, after_least c, numbers_from kind below (stage_after c) cs w.3 k d (omega arith))
+numbers_from kind below (free least) (c ∷ cs) w (suc k) d lt =
+    omega (arith, w.0.1, after_least c, numbers_from kind below (stage_after c) cs w.3 k d (omega arith))
+numbers_from kind below (begun message) (c ∷ cs) w (suc k) d lt =
+    omega (arith, w.0.1, after_least c, numbers_from kind below (stage_after c) cs w.3 k d (omega arith))
 
 -- the numbers of complete messages ascend
 pub numbers_ascend : (kind : Bool) (below : ℕ) (stage : Stage) (xs : List ChunkPayloadData) → IsWhole kind below stage xs → NumbersAscend xs
 numbers_ascend kind below (free least) [] w = λ i j d lt short. absurd (omega arith)
 numbers_ascend kind below (begun message) [] w = absurd w
-numbers_ascend kind below (free least) (c ∷ cs) w = pairs_cons (λ (a b : ChunkPayloadData). a.message_id ≤ b.message_id) c cs (λ k d lt. omega (arith, after_least c, numbers_from kind below (stage_after c) cs w.3 k d lt)) (numbers_ascend kind below (stage_after c) cs w.3)
-numbers_ascend kind below (begun message) (c ∷ cs) w = pairs_cons (λ (a b : ChunkPayloadData). a.message_id ≤ b.message_id) c cs (λ k d lt. omega (arith, after_least c, numbers_from kind below (stage_after c) cs w.3 k d lt)) (numbers_ascend kind below (stage_after c) cs w.3)
+numbers_ascend kind below (free least) (c ∷ cs) w = pairs_cons (λ (a b : ChunkPayloadData). a.message_id ≤ b.message_id) c cs
+    (λ k d lt. omega (arith, after_least c, numbers_from kind below (stage_after c) cs w.3 k d lt)) (numbers_ascend kind below (stage_after c) cs w.3)
+numbers_ascend kind below (begun message) (c ∷ cs) w = pairs_cons (λ (a b : ChunkPayloadData). a.message_id ≤ b.message_id) c cs
+    (λ k d lt. omega (arith, after_least c, numbers_from kind below (stage_after c) cs w.3 k d lt)) (numbers_ascend kind below (stage_after c) cs w.3)
 
 -- before a chunk of a lower number no lifetime starts
-pub none_to_start : (first : ℕ) (xs : List ChunkPayloadData) (place : ℕ) (x : ChunkPayloadData) → NumbersAscend xs → place < length xs → x ≡ get_or xs place x → x.message_id < first → All (λ c. is_to_start first c ≡ false) (take (place + 1) xs)
+pub none_to_start : (first : ℕ) (xs : List ChunkPayloadData) (place : ℕ) (x : ChunkPayloadData) → NumbersAscend xs → place < length xs → x ≡ get_or xs place x
+    → x.message_id < first → All (λ c. is_to_start first c ≡ false) (take (place + 1) xs)
 none_to_start first xs place x ascend within read low k d lt =
     let n : length (take (place + 1) xs) ≡ place + 1 = length-take-le (place + 1) xs (omega (arith, within)) in
     let short : k < place + 1 = omega (arith, n, lt) in

@@ -1,5 +1,6 @@
 -- What waits: removals and changes in place.
-use Rattle.std.proofs.Common.{◌≡◌, ◌+◌, ◌≤◌, Bool, true, false, not, if◌then◌else◌, List, [], ◌∷◌, ◌++◌, length, Option, Some, None, option_to_list, refl, sym, ap, ap₂, ◌∙◌, append-nil, arith}
+use Rattle.std.proofs.Common.{◌≡◌, ◌+◌, ◌≤◌, Bool, true, false, not, if◌then◌else◌, List, [], ◌∷◌, ◌++◌, length, Option, Some, None, option_to_list, refl, sym}
+use Rattle.std.proofs.Common.{ap, ap₂, ◌∙◌, append-nil, arith}
 use Rattle.std.specs.Option.{option_or}
 use Rattle.std.proofs.lemmas.List.Sums.{sum_by-cons}
 use Rattle.std.specs.List.{filter}
@@ -18,7 +19,8 @@ pub removed_le : (p : ChunkPayloadData → Bool) (xs : List ChunkPayloadData) �
 removed_le p xs = let both = removed_and_left p xs in omega arith
 
 -- a change that leaves the bytes
-pub bytes_of-change_where : (p : ChunkPayloadData → Bool) (f : ChunkPayloadData → ChunkPayloadData) → ((c : ChunkPayloadData) → length (f c).user_data ≡ length c.user_data) → (xs : List ChunkPayloadData) → bytes_of (change_where p f xs) ≡ bytes_of xs
+pub bytes_of-change_where : (p : ChunkPayloadData → Bool) (f : ChunkPayloadData → ChunkPayloadData)
+    → ((c : ChunkPayloadData) → length (f c).user_data ≡ length c.user_data) → (xs : List ChunkPayloadData) → bytes_of (change_where p f xs) ≡ bytes_of xs
 bytes_of-change_where p f same [] = refl
 bytes_of-change_where p f same (x ∷ xs) =
     sum_by-cons (λ (c : ChunkPayloadData). length c.user_data) (if p x then f x else x) (change_where p f xs)
@@ -30,7 +32,8 @@ bytes_of-change_where p f same (x ∷ xs) =
     step false = refl
 
 -- the last of a list with a chunk before it
-pub last_after : (last : Option ChunkPayloadData) (c : ChunkPayloadData) (cs : List ChunkPayloadData) → last_of (option_to_list last ++ c ∷ cs) ≡ last_of (c ∷ cs)
+pub last_after : (last : Option ChunkPayloadData) (c : ChunkPayloadData) (cs : List ChunkPayloadData)
+    → last_of (option_to_list last ++ c ∷ cs) ≡ last_of (c ∷ cs)
 last_after None c cs = refl
 last_after (Some d) c cs = refl
 

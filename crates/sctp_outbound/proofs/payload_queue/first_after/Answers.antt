@@ -6,7 +6,8 @@ use Rattle.sctp_outbound.proofs.payload_queue.first_after.Goals as goal
 pub returns-then-not-sna32lte-clause-first : goal.returns-then-not-sna32lte-clause-first
 returns-then-not-sna32lte-clause-first c =
     let xs = c.args.held.now.chunks in
-    first_at_front c.args.cumulative_tsn xs c.ranges.cumulative_tsn.fits c.requires c.in-Some.front (front_is xs c.in-Some.front c.in-Some.ensures) (sym c.sna32lte.ensures.value ∙ c.if-not-sna32lte.true)
+    first_at_front c.args.cumulative_tsn xs c.ranges.cumulative_tsn.fits c.requires c.in-Some.front (front_is xs c.in-Some.front c.in-Some.ensures)
+    (sym c.sna32lte.ensures.value ∙ c.if-not-sna32lte.true)
 
 pub overflow_add-result : goal.overflow_add-result
 overflow_add-result c =
@@ -18,9 +19,11 @@ overflow_add-result c =
     ]
 
 pub returns-in-Ok-clause-first : goal.returns-in-Ok-clause-first
-returns-in-Ok-clause-first c = first_found c.args.cumulative_tsn c.args.held.now.chunks c.ranges.cumulative_tsn.fits c.requires c.in-Ok.place c.in-Ok.field-0-1.now c.in-Ok.ensures.found
+returns-in-Ok-clause-first c =
+    first_found c.args.cumulative_tsn c.args.held.now.chunks c.ranges.cumulative_tsn.fits c.requires c.in-Ok.place c.in-Ok.field-0-1.now c.in-Ok.ensures.found
 
 pub returns-in-Err-clause-first : goal.returns-in-Err-clause-first
 returns-in-Err-clause-first c =
     let xs = c.args.held.now.chunks in
-    first_absent c.args.cumulative_tsn xs c.ranges.cumulative_tsn.fits c.requires c.in-Some.front (front_is xs c.in-Some.front c.in-Some.ensures) (sym c.sna32lte.ensures.value ∙ c.if-not-sna32lte.false) c.in-Err.place c.in-Err.ensures.place
+    first_absent c.args.cumulative_tsn xs c.ranges.cumulative_tsn.fits c.requires c.in-Some.front (front_is xs c.in-Some.front c.in-Some.ensures)
+    (sym c.sna32lte.ensures.value ∙ c.if-not-sna32lte.false) c.in-Err.place c.in-Err.ensures.place

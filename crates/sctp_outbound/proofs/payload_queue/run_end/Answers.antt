@@ -37,8 +37,10 @@ returns-then-distance-step-clause-run c =
     let last = c.loop-step.last in
     let step = c.loop-step.step in
     let short : last + step < length xs = omega (arith, c.requires.in_range) in
-    run_cut xs c.args.place last (last + step) c.args.end c.run_end_between.result.0 (omega arith) c.requires.in_range c.loop-step.invariant.from c.loop-step.invariant.rising
-    (breaks_ahead xs c.requires.serial last c.loop-step.tsn step c.look.result.now short c.loop-step.invariant.number c.look.ensures.value (λ e. c.if-distance-step.true (c.distance.ensures.value ∙ e)))
+    run_cut xs c.args.place last (last + step) c.args.end c.run_end_between.result.0
+    (omega arith) c.requires.in_range c.loop-step.invariant.from c.loop-step.invariant.rising
+    (breaks_ahead xs c.requires.serial last c.loop-step.tsn step c.look.result.now short c.loop-step.invariant.number c.look.ensures.value
+    (λ e. c.if-distance-step.true (c.distance.ensures.value ∙ e)))
     c.run_end_between.ensures.run
 
 pub returns-then-distance-step-clause-cost : goal.returns-then-distance-step-clause-cost
@@ -46,8 +48,10 @@ returns-then-distance-step-clause-cost c =
     let inv = c.loop-step.invariant in
     let more = one_more c.args.turns.now c.loop-step.turns c.look.new.turns inv.not_back c.look.ensures.turn in
     let run = c.run_end_between.ensures.run in
-    let second = no_greater (c.run_end_between.new.turns - c.look.new.turns) inv.power.0 c.loop-step.step inv.power.1 (omega (arith, c.run_end_between.ensures.cost, inv.known)) in
-    turns_of_both c.args.turns.now c.look.new.turns c.run_end_between.new.turns _ (omega arith) c.run_end_between.ensures.not_back (omega (arith, more, inv.cost, inv.from, run.from)) (omega (arith, second, inv.known, inv.from, run.from))
+    let second = no_greater (c.run_end_between.new.turns - c.look.new.turns) inv.power.0 c.loop-step.step inv.power.1
+    (omega (arith, c.run_end_between.ensures.cost, inv.known)) in
+    turns_of_both c.args.turns.now c.look.new.turns c.run_end_between.new.turns _ (omega arith) c.run_end_between.ensures.not_back
+    (omega (arith, more, inv.cost, inv.from, run.from)) (omega (arith, second, inv.known, inv.from, run.from))
 
 pub loop-step-preserved : goal.loop-step-preserved
 loop-step-preserved c =
@@ -67,7 +71,8 @@ loop-step-preserved c =
       ];
       number = number_ahead xs c.requires.serial last c.loop-step.tsn step c.look.result.now short inv.number c.look.ensures.value;
       rising = rising_on xs c.args.place last (last + step) inv.rising
-          (rises_ahead xs c.requires.serial last c.loop-step.tsn step c.look.result.now short inv.number c.look.ensures.value (sym c.distance.ensures.value ∙ c.if-distance-step.false));
+          (rises_ahead xs c.requires.serial last c.loop-step.tsn step c.look.result.now short inv.number c.look.ensures.value (sym c.distance.ensures.value
+          ∙ c.if-distance-step.false));
       not_back = omega arith;
       cost = omega (arith, more, inv.cost, inv.known, inv.from);
     }
@@ -76,5 +81,7 @@ pub returns-clause-cost : goal.returns-clause-cost
 returns-clause-cost c =
     let inv = c.loop-step.invariant in
     let run = c.run_end_between-2.ensures.run in
-    let second = no_greater (c.run_end_between-2.new.turns - c.loop-step.turns) inv.power.0 c.loop-step.step inv.power.1 (omega (arith, c.run_end_between-2.ensures.cost, inv.known)) in
-    turns_of_both c.args.turns.now c.loop-step.turns c.run_end_between-2.new.turns _ inv.not_back c.run_end_between-2.ensures.not_back (omega (arith, inv.cost, inv.from, run.from)) (omega (arith, second, inv.known, inv.from, run.from))
+    let second = no_greater (c.run_end_between-2.new.turns - c.loop-step.turns) inv.power.0 c.loop-step.step inv.power.1
+    (omega (arith, c.run_end_between-2.ensures.cost, inv.known)) in
+    turns_of_both c.args.turns.now c.loop-step.turns c.run_end_between-2.new.turns _ inv.not_back c.run_end_between-2.ensures.not_back
+    (omega (arith, inv.cost, inv.from, run.from)) (omega (arith, second, inv.known, inv.from, run.from))

@@ -10,7 +10,8 @@ loop-last-preserved-then-distance-middle c =
     let half = (c.loop-last.beyond - c.loop-last.last) / 2 in
     let more = one_more c.args.turns.now c.loop-last.turns c.look.new.turns c.loop-last.invariant.not_back c.look.ensures.turn in
     let short : last + half < length xs = omega (arith, c.requires.in_range, c.loop-last.invariant.in_range) in
-    let on = rises_ahead xs c.requires.serial last c.loop-last.tsn half c.look.result.now short c.loop-last.invariant.number c.look.ensures.value (sym c.distance.ensures.value ∙ c.if-distance-middle.true ∙ omega arith) in
+    let on = rises_ahead xs c.requires.serial last c.loop-last.tsn half c.look.result.now short c.loop-last.invariant.number c.look.ensures.value
+    (sym c.distance.ensures.value ∙ c.if-distance-middle.true ∙ omega arith) in
     record {
       from = omega arith;
       ordered = omega arith;
@@ -37,7 +38,8 @@ loop-last-preserved c =
       in_range = omega (arith, c.loop-last.invariant.in_range);
       number = c.loop-last.invariant.number;
       rising = c.loop-last.invariant.rising;
-      breaks = λ lt. breaks_ahead xs c.requires.serial last c.loop-last.tsn half c.look.result.now short c.loop-last.invariant.number c.look.ensures.value (λ e. c.if-distance-middle.false (c.distance.ensures.value ∙ e ∙ omega arith));
+      breaks = λ lt. breaks_ahead xs c.requires.serial last c.loop-last.tsn half c.look.result.now short c.loop-last.invariant.number c.look.ensures.value
+          (λ e. c.if-distance-middle.false (c.distance.ensures.value ∙ e ∙ omega arith));
       seen = number_ahead xs c.requires.serial last c.loop-last.tsn half c.look.result.now short c.loop-last.invariant.number c.look.ensures.value;
       not_back = omega arith;
       cost_left = rw more (halved _ (c.loop-last.beyond - last - 1) _ _ c.loop-last.invariant.cost_left (omega arith));

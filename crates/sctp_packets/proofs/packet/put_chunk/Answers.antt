@@ -8,7 +8,8 @@ use Rattle.sctp_packets.proofs.packet.put_chunk.Goals as goal
 pub returns-in-Ok-clause-ok : goal.returns-in-Ok-clause-ok
 returns-in-Ok-clause-ok c = (
   c.in_ok-end.ensures.ok.0,
-  padded_after c.args.buf.now.items c.marshal_to.new.buf.items c.put_bytes.new.self.items (wire_of c.args.chunk.now) c.get_padding_size-padding.result c.in_ok-end.ensures.ok.1 (search rules) (search rules),
+  padded_after c.args.buf.now.items c.marshal_to.new.buf.items c.put_bytes.new.self.items
+      (wire_of c.args.chunk.now) c.get_padding_size-padding.result c.in_ok-end.ensures.ok.1 (search rules) (search rules),
 )
 
 pub returns-in_err-end-clause-refused : goal.returns-in_err-end-clause-refused
@@ -24,7 +25,14 @@ pub returns-in-Ok-clause-spare : goal.returns-in-Ok-clause-spare
 returns-in-Ok-clause-spare c =
     let w = wire_of c.args.chunk.now in
     let taken : c.in_ok-end.end - c.len-start.result ≡ 4 + length (value_of w) =
-    omega (arith, length_encoding w, ap length c.in_ok-end.ensures.ok.1, length-append c.args.buf.now.items (encoding_of w), c.in_ok-end.ensures.ok.2, c.len-start.ensures.value) in
+    omega (
+      arith,
+      length_encoding w,
+      ap length c.in_ok-end.ensures.ok.1,
+      length-append c.args.buf.now.items (encoding_of w),
+      c.in_ok-end.ensures.ok.2,
+      c.len-start.ensures.value,
+    ) in
     let padding = rw taken at c.get_padding_size-padding.ensures in
     omega (arith, length_padded_encoding w, padding, c.in_ok-end.ensures.spare, c.in-Ok.ensures.spare)
 
@@ -32,6 +40,13 @@ pub returns-in-Err-clause-refused : goal.returns-in-Err-clause-refused
 returns-in-Err-clause-refused c =
     let w = wire_of c.args.chunk.now in
     let taken : c.in_ok-end.end - c.len-start.result ≡ 4 + length (value_of w) =
-    omega (arith, length_encoding w, ap length c.in_ok-end.ensures.ok.1, length-append c.args.buf.now.items (encoding_of w), c.in_ok-end.ensures.ok.2, c.len-start.ensures.value) in
+    omega (
+      arith,
+      length_encoding w,
+      ap length c.in_ok-end.ensures.ok.1,
+      length-append c.args.buf.now.items (encoding_of w),
+      c.in_ok-end.ensures.ok.2,
+      c.len-start.ensures.value,
+    ) in
     let padding = rw taken at c.get_padding_size-padding.ensures in
     inr (refl, c.in_ok-end.ensures.ok.0, omega (arith, length_padded_encoding w, padding, c.in_ok-end.ensures.spare, c.in-Err.ensures.spare))

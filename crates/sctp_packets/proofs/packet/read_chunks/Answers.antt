@@ -13,13 +13,20 @@ use Rattle.sctp_packets.proofs.Walk.{goes_on, walks_same, all_next}
 use Rattle.sctp_packets.proofs.packet.read_chunks.Goals as goal
 
 pub walk-init : goal.walk-init
-walk-init c = record { walk = rw c.new-chunks.ensures.items (walks_none Steps after c.args.raw); rewritable = rw c.new-chunks.ensures.items tt; canonical = rw c.new-chunks.ensures.items tt; fresh = rw c.new-chunks.ensures.items tt }
+walk-init c = record {
+  walk = rw c.new-chunks.ensures.items (walks_none Steps after c.args.raw);
+  rewritable = rw c.new-chunks.ensures.items tt;
+  canonical = rw c.new-chunks.ensures.items tt;
+  fresh = rw c.new-chunks.ensures.items tt;
+}
 
 pub walk-preserved : goal.walk-preserved
 unfolding after
 walk-preserved c =
-    let next = walks_next Steps after c.args.raw (map wire_of c.walk.chunks.items) c.walk.rest (wire_of c.in_ok-chunk.chunk) c.walk.invariant.walk c.in_ok-chunk.ensures.found in
-    let encodings = all_next HasEncoding (map wire_of c.walk.chunks.items) (wire_of c.in_ok-chunk.chunk) c.walk.invariant.rewritable c.in_ok-chunk.ensures.rewritable in
+    let next = walks_next Steps after c.args.raw (map wire_of c.walk.chunks.items) c.walk.rest
+    (wire_of c.in_ok-chunk.chunk) c.walk.invariant.walk c.in_ok-chunk.ensures.found in
+    let encodings = all_next HasEncoding (map wire_of c.walk.chunks.items)
+    (wire_of c.in_ok-chunk.chunk) c.walk.invariant.rewritable c.in_ok-chunk.ensures.rewritable in
     let again = all_next Canonical (map wire_of c.walk.chunks.items) (wire_of c.in_ok-chunk.chunk) c.walk.invariant.canonical c.in_ok-chunk.ensures.canonical in
     record {
       walk = rw (c.in_ok-push.ensures.items, map-append, c.advance.ensures, c.in_ok-chunk.ensures.length) next;

@@ -9,7 +9,8 @@ use Rattle.sctp_receiver.proofs.DataEach.{takes-keeps}
 use Rattle.transfer_tests.proofs.saving_tests.is_taken.Goals as goal
 
 -- whatever the receiver answers
-kept : (one : ChunkPayloadData) (old new : Reception) (r : Result Arrival ReceiverRefusal) → IfOk r (λ a. Takes one a old new) → OnErr r (new ≡ old) → numbers_of new.streams ≡ numbers_of old.streams
+kept : (one : ChunkPayloadData) (old new : Reception) (r : Result Arrival ReceiverRefusal) → IfOk r (λ a. Takes one a old new) → OnErr r (new ≡ old)
+    → numbers_of new.streams ≡ numbers_of old.streams
 kept one old new (Ok a) ok err = (takes-keeps one a old new ok).0
 kept one old new (Err e) ok err = ap (λ (r : Reception). numbers_of r.streams) err
 

@@ -18,7 +18,8 @@ pub returns-in_err-cause-clause-only : goal.returns-in_err-cause-clause-only
 returns-in_err-cause-clause-only c = λ cs whole.
     let p = err_from_is_err_and c.from_residual.result c.from_residual.ensures.1 in
     let more : (c.walk.rest ≡ whole.rest → ⊥) = λ e. omega (arith, ap length e, whole.ended) in
-    let next = walks_step ReadsCause after_cause c.args.raw c.walk.causes.items cs c.walk.rest whole.rest (no_cause whole.rest whole.ended) more c.walk.invariant whole.walk in
+    let next = walks_step ReadsCause after_cause c.args.raw c.walk.causes.items cs c.walk.rest whole.rest
+    (no_cause whole.rest whole.ended) more c.walk.invariant whole.walk in
     rw (p.1, p.2) (c.in_err-cause.ensures.only next.0 next.1)
 
 pub returns-in_err-cause-clause-fault : goal.returns-in_err-cause-clause-fault
@@ -31,4 +32,5 @@ returns-in_err-cause-clause-fault c =
     ])
 
 pub returns-clause-only : goal.returns-clause-only
-returns-clause-only c = λ cs whole. causes_one c.args.raw c.walk.causes.items cs (record { rest = c.walk.rest; walk = c.walk.invariant; ended = omega arith }) whole
+returns-clause-only c =
+    λ cs whole. causes_one c.args.raw c.walk.causes.items cs (record { rest = c.walk.rest; walk = c.walk.invariant; ended = omega arith }) whole

@@ -9,5 +9,6 @@ invariant-loop-i l = record {
   items : l.buf.items ++ params_encoding l.bare (map parameter_of (drop l.i l.params)) ≡ l.fn.buf.items ++ params_encoding l.bare (map parameter_of l.params);
   encoding : length (params_encoding l.bare (map parameter_of (drop l.i l.params))) < 2 ^ 16;
   room : length (params_encoding l.bare (map parameter_of (drop l.i l.params))) ≤ l.buf.spare;
-  spare : l.buf.spare + length (params_encoding l.bare (map parameter_of l.params)) ≡ l.fn.buf.spare + length (params_encoding l.bare (map parameter_of (drop l.i l.params)));
+  spare : l.buf.spare + length (params_encoding l.bare (map parameter_of l.params))
+      ≡ l.fn.buf.spare + length (params_encoding l.bare (map parameter_of (drop l.i l.params)));
 }

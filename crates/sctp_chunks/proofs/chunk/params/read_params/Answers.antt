@@ -20,7 +20,8 @@ walk-init c = record { walk = rw c.new-params.ensures.items (walks_none ReadsPar
 
 pub walk-preserved : goal.walk-preserved
 walk-preserved c =
-    let next = walks_next ReadsParam after_param c.args.raw (map parameter_of c.walk.params.items) c.walk.rest (parameter_of c.in_ok-param.param) c.walk.invariant.walk c.in_ok-param.ensures.found in
+    let next = walks_next ReadsParam after_param c.args.raw (map parameter_of c.walk.params.items) c.walk.rest
+    (parameter_of c.in_ok-param.param) c.walk.invariant.walk c.in_ok-param.ensures.found in
     let backs = one_more (map parameter_of c.walk.params.items) (parameter_of c.in_ok-param.param) c.walk.invariant.again c.in_ok-param.ensures.again in
     record {
       walk = rw (c.in_ok-push.ensures.items, map-append, c.advance.ensures, c.in_ok-param.ensures.after) next;
@@ -31,7 +32,8 @@ pub returns-in_err-param-clause-only : goal.returns-in_err-param-clause-only
 returns-in_err-param-clause-only c = λ ps whole.
     let p = err_from_is_err_and c.from_residual.result c.from_residual.ensures.1 in
     let more : (c.walk.rest ≡ whole.rest → ⊥) = λ e. omega (arith, ap length e, whole.ended) in
-    let next = walks_step ReadsParam after_param c.args.raw (map parameter_of c.walk.params.items) ps c.walk.rest whole.rest (no_param whole.rest whole.ended) more c.walk.invariant.walk whole.walk in
+    let next = walks_step ReadsParam after_param c.args.raw (map parameter_of c.walk.params.items) ps c.walk.rest whole.rest
+    (no_param whole.rest whole.ended) more c.walk.invariant.walk whole.walk in
     rw (p.1, p.2) (c.in_err-param.ensures.only next.0 next.1)
 
 pub returns-in_err-param-clause-fault : goal.returns-in_err-param-clause-fault

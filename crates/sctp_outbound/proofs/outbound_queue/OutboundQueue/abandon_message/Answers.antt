@@ -18,14 +18,19 @@ invariant_of-self c =
 pub returns-then-not-rest_waits-clause-ok : goal.returns-then-not-rest_waits-clause-ok
 returns-then-not-rest_waits-clause-ok c =
     let q = c.self.inside in
-    let old : Outbound = record { pending = q.pending; inflight = q.inflight; next_message_id = q.next_message_id; next_unstarted = q.next_unstarted_message_id } in
-    rw (← c.self.view_is, c.abandon_between.ensures.abandoned) (sym (abandoned_none c.args.message_id c.args.next_tsn.now old c.self.invariant.sendable (subst (λ (o : Outbound). waits c.args.message_id o.pending ≡ false) (sym c.self.view_is) (sym c.rest_waits.ensures ∙ c.if-not-rest_waits.true))))
+    let old : Outbound =
+    record { pending = q.pending; inflight = q.inflight; next_message_id = q.next_message_id; next_unstarted = q.next_unstarted_message_id } in
+    rw (← c.self.view_is, c.abandon_between.ensures.abandoned) (sym (abandoned_none c.args.message_id c.args.next_tsn.now old c.self.invariant.sendable
+    (subst (λ (o : Outbound). waits c.args.message_id o.pending ≡ false) (sym c.self.view_is) (sym c.rest_waits.ensures ∙ c.if-not-rest_waits.true))))
 
 pub returns-clause-ok : goal.returns-clause-ok
 returns-clause-ok c =
     let q = c.self.inside in
-    let old : Outbound = record { pending = q.pending; inflight = q.inflight; next_message_id = q.next_message_id; next_unstarted = q.next_unstarted_message_id } in
+    let old : Outbound =
+    record { pending = q.pending; inflight = q.inflight; next_message_id = q.next_message_id; next_unstarted = q.next_unstarted_message_id } in
     c.abandon_with_tail-bytes.ensures.abandoned
-    ∙ ap (λ i. let r : Outbound = record { pending = q.pending; inflight = i; next_message_id = q.next_message_id; next_unstarted = q.next_unstarted_message_id } in abandon_chunks c.args.message_id c.args.next_tsn.now r) c.in_ok-reserve.ensures.ok
-    ∙ abandoned_room c.args.message_id c.args.next_tsn.now old (subst (λ (o : Outbound). waits c.args.message_id o.pending ≡ true) (sym c.self.view_is) (sym c.rest_waits.ensures ∙ c.if-not-rest_waits.false))
+    ∙ ap (λ i. let r : Outbound =
+    record { pending = q.pending; inflight = i; next_message_id = q.next_message_id; next_unstarted = q.next_unstarted_message_id } in
+    abandon_chunks c.args.message_id c.args.next_tsn.now r) c.in_ok-reserve.ensures.ok ∙ abandoned_room c.args.message_id c.args.next_tsn.now old
+    (subst (λ (o : Outbound). waits c.args.message_id o.pending ≡ true) (sym c.self.view_is) (sym c.rest_waits.ensures ∙ c.if-not-rest_waits.false))
     ∙ ap (abandon_chunks c.args.message_id c.args.next_tsn.now) c.self.view_is

@@ -17,12 +17,14 @@ unreachable-requires c =
 pub push_no_check-requires-clause-fresh : goal.push_no_check-requires-clause-fresh
 push_no_check-requires-clause-fresh c =
     let fresh = subst (λ q. is_held q.inflight.chunks c.args.tsn ≡ false) (sym c.self.view_is) c.requires.fresh in
-    rw c.abandon_between-in_flight.ensures.abandoned (is_held-change_where (is_of c.args.message_id) as_abandoned (λ _. refl) c.args.tsn c.self.inside.inflight.chunks ∙ fresh)
+    rw c.abandon_between-in_flight.ensures.abandoned
+    (is_held-change_where (is_of c.args.message_id) as_abandoned (λ _. refl) c.args.tsn c.self.inside.inflight.chunks ∙ fresh)
 
 pub push_no_check-requires-clause-window : goal.push_no_check-requires-clause-window
 push_no_check-requires-clause-window c =
     let window = subst (λ q. SpansOneWindow q.inflight.chunks c.args.tsn) (sym c.self.view_is) c.requires.window in
-    rw c.abandon_between-in_flight.ensures.abandoned (window-change_where (is_of c.args.message_id) as_abandoned (λ _. refl) c.args.tsn c.self.inside.inflight.chunks window)
+    rw c.abandon_between-in_flight.ensures.abandoned
+    (window-change_where (is_of c.args.message_id) as_abandoned (λ _. refl) c.args.tsn c.self.inside.inflight.chunks window)
 
 pub invariant_of-self : goal.invariant_of-self
 invariant_of-self c =
@@ -32,7 +34,8 @@ invariant_of-self c =
     let same = last_is_of c.args.message_id q c.in-Some.mark (sym c.remove_message-pending.ensures.last ∙ c.in-Some.is) in
     let more = sum_by-inserted (λ (y : ChunkPayloadData). length y.user_data) chunk_before t c.abandon_between-in_flight.new.self.chunks in
     rw (c.in-Ok.ensures.ok, c.clear.ensures) record {
-      sendable = rw (c.remove_message-pending.ensures.rest, c.abandon_between-in_flight.ensures.abandoned) (sendable-abandoned q c.self.inside.inflight.chunks c.self.inside.next_message_id c.args.message_id t same tail c.self.invariant.sendable);
+      sendable = rw (c.remove_message-pending.ensures.rest, c.abandon_between-in_flight.ensures.abandoned)
+          (sendable-abandoned q c.self.inside.inflight.chunks c.self.inside.next_message_id c.args.message_id t same tail c.self.invariant.sendable);
       fits = omega (arith, c.self.invariant.fits, c.remove_message-pending.ensures.left, c.abandon_between-in_flight.ensures.left);
     }
 

@@ -14,7 +14,8 @@ not_first false b h = refl
 pub returns-clause-half : goal.returns-clause-half
 returns-clause-half c =
     let q = c.self.inside in
-    let old : Outbound = record { pending = q.pending; inflight = q.inflight; next_message_id = q.next_message_id; next_unstarted = q.next_unstarted_message_id } in
+    let old : Outbound =
+    record { pending = q.pending; inflight = q.inflight; next_message_id = q.next_message_id; next_unstarted = q.next_unstarted_message_id } in
     let x = c.in-Some.chunk.now in
     let goes_on = not_first _ _ (sym c.is_expired_tail.ensures ∙ c.if-not-is_expired_tail.false) in
     let half = half_in_front q.pending q.inflight.chunks q.next_message_id x c.self.invariant.sendable (sym c.in-Some.ensures) goes_on in
@@ -23,7 +24,8 @@ returns-clause-half c =
 pub abandon_message-requires-clause-between : goal.abandon_message-requires-clause-between
 abandon_message-requires-clause-between c =
     let m = c.in-Some.chunk.now.message_id in
-    subst (λ (o : Outbound). IsBetween m 0 c.len-len.result o.inflight.chunks) c.self.view_is (rw c.len-len.ensures (between-all m c.self.inside.inflight.chunks))
+    subst (λ (o : Outbound). IsBetween m 0 c.len-len.result o.inflight.chunks) c.self.view_is
+    (rw c.len-len.ensures (between-all m c.self.inside.inflight.chunks))
 
 pub abandon_message-requires-clause-half : goal.abandon_message-requires-clause-half
 abandon_message-requires-clause-half c =

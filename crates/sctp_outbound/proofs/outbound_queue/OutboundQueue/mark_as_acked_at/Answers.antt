@@ -12,6 +12,7 @@ invariant_of-self c =
     let is = c.mark_as_acked_at.ensures.alone any_chunk in
     let left = rw is at c.mark_as_acked_at.ensures.left in
     rw is record {
-      sendable = sendable-marked _ _ _ (has_tsn (slice_index_or c.self.inside.inflight.chunks c.args.place any_chunk).tsn) as_acknowledged keeps c.self.invariant.sendable;
+      sendable = sendable-marked _ _ _
+          (has_tsn (slice_index_or c.self.inside.inflight.chunks c.args.place any_chunk).tsn) as_acknowledged keeps c.self.invariant.sendable;
       fits = omega (arith, left, c.self.invariant.fits);
     }

@@ -8,4 +8,6 @@ pub peek_at-requires : goal.peek_at-requires
 peek_at-requires c = has_end_of c.self.inside.pending c.self.inside.inflight.chunks c.self.inside.next_message_id c.self.invariant.sendable
 
 pub returns : goal.returns
-returns c = c.peek_at.ensures ∙ order_is c.args.sends c.self.inside.pending c.self.inside.inflight.chunks c.self.inside.next_message_id c.self.invariant.sendable ∙ ap (λ q. next_pending (after_sends c.args.sends q.pending)) c.self.view_is
+returns c = c.peek_at.ensures
+    ∙ order_is c.args.sends c.self.inside.pending c.self.inside.inflight.chunks c.self.inside.next_message_id c.self.invariant.sendable
+    ∙ ap (λ q. next_pending (after_sends c.args.sends q.pending)) c.self.view_is

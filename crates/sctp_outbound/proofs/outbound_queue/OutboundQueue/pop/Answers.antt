@@ -4,6 +4,7 @@ use Rattle.sctp_outbound.proofs.outbound_queue.OutboundQueue.pop.Goals as goal
 
 pub invariant_of-self : goal.invariant_of-self
 invariant_of-self c = rw c.pop.ensures.rest record {
-  sendable = sendable-fewer _ c.self.inside.inflight.chunks _ _ (λ m. list_any-without_front m c.args.tsn c.self.inside.inflight.chunks) c.self.invariant.sendable;
+  sendable =
+      sendable-fewer _ c.self.inside.inflight.chunks _ _ (λ m. list_any-without_front m c.args.tsn c.self.inside.inflight.chunks) c.self.invariant.sendable;
   fits = omega (arith, without_front_le c.args.tsn c.self.inside.inflight.chunks, c.self.invariant.fits);
 }

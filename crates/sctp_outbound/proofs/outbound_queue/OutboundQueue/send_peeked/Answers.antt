@@ -13,7 +13,8 @@ same_chunk x y e = cc
 pub unreachable-requires-in_default-pop : goal.unreachable-requires-in_default-pop
 unreachable-requires-in_default-pop c =
     let front = c.in-Some.chunk.now in
-    none-some _ (c.in_default-pop.ensures.popped ∙ (sendable-sent c.self.inside.pending c.self.inside.inflight.chunks c.self.inside.next_message_id front front refl c.self.invariant.sendable (sym c.in-Some.ensures)).taken)
+    none-some _ (c.in_default-pop.ensures.popped ∙ (sendable-sent c.self.inside.pending c.self.inside.inflight.chunks c.self.inside.next_message_id front front
+    refl c.self.invariant.sendable (sym c.in-Some.ensures)).taken)
 
 pub invariant_of-self : goal.invariant_of-self
 invariant_of-self c =
@@ -24,7 +25,8 @@ invariant_of-self c =
     let xs = c.self.inside.inflight.chunks in
     let taken = (sendable-sent q xs c.self.inside.next_message_id front front refl c.self.invariant.sendable (sym c.in-Some.ensures)).taken in
     let same = same_chunk x front (c.in-Some-pop.ensures.popped ∙ taken) in
-    let on = sendable-sent q xs c.self.inside.next_message_id front t (ap (λ (y : ChunkPayloadData). y.message_id) same) c.self.invariant.sendable (sym c.in-Some.ensures) in
+    let on = sendable-sent q xs c.self.inside.next_message_id front t (ap (λ (y : ChunkPayloadData). y.message_id) same) c.self.invariant.sendable
+    (sym c.in-Some.ensures) in
     let left = popped_bytes front.beginning_fragment front.unordered q front taken in
     let more = sum_by-inserted (λ (y : ChunkPayloadData). length y.user_data) chunk_before t xs in
     rw (c.pop.ensures.rest, c.in-Ok.ensures.ok) record {

@@ -15,6 +15,7 @@ invariant_of-self c =
     let same = ap (λ (q : Payload). bytes_of q.chunks) is in
     let counted = c.take_back_at.ensures.counted any_chunk in
     rw is record {
-      sendable = sendable-marked _ _ _ (has_tsn (slice_index_or c.self.inside.inflight.chunks c.args.place any_chunk).tsn) (as_taken_back c.args.user_data) keeps c.self.invariant.sendable;
+      sendable = sendable-marked _ _ _ (has_tsn (slice_index_or c.self.inside.inflight.chunks c.args.place any_chunk).tsn)
+          (as_taken_back c.args.user_data) keeps c.self.invariant.sendable;
       fits = omega (arith, same, counted, ap total_bytes c.self.view_is, c.requires.bytes);
     }

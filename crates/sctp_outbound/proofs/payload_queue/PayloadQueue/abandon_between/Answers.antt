@@ -11,7 +11,8 @@ use Rattle.sctp_outbound.proofs.payload_queue.PayloadQueue.abandon_between.Goals
 
 pub loop-place-preserved : goal.loop-place-preserved
 loop-place-preserved c =
-    let b : IsBetween c.args.message_id c.args.start c.args.end c.self.inside.held.chunks = subst (λ (q : Payload). IsBetween c.args.message_id c.args.start c.args.end q.chunks) (sym c.self.view_is) c.requires in
+    let b : IsBetween c.args.message_id c.args.start c.args.end c.self.inside.held.chunks =
+    subst (λ (q : Payload). IsBetween c.args.message_id c.args.start c.args.end q.chunks) (sym c.self.view_is) c.requires in
     let xs = c.self.inside.held.chunks in
     let ys = c.loop-place.self-inside.held.chunks in
     let i = c.loop-place.place in
@@ -22,7 +23,8 @@ loop-place-preserved c =
     let bytes = sum_by-set (λ (x : _). length x.user_data) ys i (as_abandoned (get_or ys i x)) x short in
     let same : (get_or ys i x) ≡ x = read in
     rw (c.mark.ensures.changed x) record {
-      changed = ap (λ u. set ys i (as_abandoned u)) same ∙ changed_step (is_of c.args.message_id) as_abandoned xs ys i x within c.loop-place.invariant.changed c.look.ensures.value (grind (arith, nat_tests, c.if-look-message_id.false));
+      changed = ap (λ u. set ys i (as_abandoned u)) same ∙ changed_step (is_of c.args.message_id) as_abandoned xs ys i x within c.loop-place.invariant.changed
+          c.look.ensures.value (grind (arith, nat_tests, c.if-look-message_id.false));
       same_length = length-set ys i _ ∙ c.loop-place.invariant.same_length;
       serial = serial_set_of as_abandoned (λ _. refl) ys i x short c.loop-place.invariant.serial;
       counted = omega (arith, c.loop-place.invariant.counted, c.mark.ensures.left x);
@@ -33,12 +35,14 @@ loop-place-preserved c =
 
 pub loop-place-preserved-then-look-message_id : goal.loop-place-preserved-then-look-message_id
 loop-place-preserved-then-look-message_id c =
-    let b : IsBetween c.args.message_id c.args.start c.args.end c.self.inside.held.chunks = subst (λ (q : Payload). IsBetween c.args.message_id c.args.start c.args.end q.chunks) (sym c.self.view_is) c.requires in
+    let b : IsBetween c.args.message_id c.args.start c.args.end c.self.inside.held.chunks =
+    subst (λ (q : Payload). IsBetween c.args.message_id c.args.start c.args.end q.chunks) (sym c.self.view_is) c.requires in
     let xs = c.self.inside.held.chunks in
     let ys = c.loop-place.self-inside.held.chunks in
     let within : c.loop-place.place < length xs = omega (arith, b.inside) in
     record {
-      changed = unchanged_step (is_of c.args.message_id) as_abandoned xs ys c.loop-place.place c.look.result.now within c.loop-place.invariant.changed c.look.ensures.value (grind (arith, nat_tests, c.if-look-message_id.true));
+      changed = unchanged_step (is_of c.args.message_id) as_abandoned xs ys c.loop-place.place c.look.result.now within c.loop-place.invariant.changed
+          c.look.ensures.value (grind (arith, nat_tests, c.if-look-message_id.true));
       same_length = c.loop-place.invariant.same_length;
       serial = c.loop-place.invariant.serial;
       counted = c.loop-place.invariant.counted;
@@ -49,7 +53,8 @@ loop-place-preserved-then-look-message_id c =
 
 pub loop-place-init : goal.loop-place-init
 loop-place-init c =
-    let b : IsBetween c.args.message_id c.args.start c.args.end c.self.inside.held.chunks = subst (λ (q : Payload). IsBetween c.args.message_id c.args.start c.args.end q.chunks) (sym c.self.view_is) c.requires in
+    let b : IsBetween c.args.message_id c.args.start c.args.end c.self.inside.held.chunks =
+    subst (λ (q : Payload). IsBetween c.args.message_id c.args.start c.args.end q.chunks) (sym c.self.view_is) c.requires in
     record {
       changed = none-yet c.args.message_id as_abandoned c.args.start c.args.end c.self.inside.held.chunks b;
       same_length = refl;
@@ -62,8 +67,10 @@ loop-place-init c =
 
 pub returns-clause-abandoned : goal.returns-clause-abandoned
 returns-clause-abandoned c =
-    let b : IsBetween c.args.message_id c.args.start c.args.end c.self.inside.held.chunks = subst (λ (q : Payload). IsBetween c.args.message_id c.args.start c.args.end q.chunks) (sym c.self.view_is) c.requires in
+    let b : IsBetween c.args.message_id c.args.start c.args.end c.self.inside.held.chunks =
+    subst (λ (q : Payload). IsBetween c.args.message_id c.args.start c.args.end q.chunks) (sym c.self.view_is) c.requires in
     let xs = c.self.inside.held.chunks in
     let last : c.loop-place.place ≡ c.args.end = omega (arith, b.order) in
-    let all = c.loop-place.invariant.changed ∙ ap (λ k. change_where (is_of c.args.message_id) as_abandoned (take k xs) ++ drop k xs) last ∙ each-changed c.args.message_id as_abandoned c.args.start c.args.end xs b in
+    let all = c.loop-place.invariant.changed ∙ ap (λ k. change_where (is_of c.args.message_id) as_abandoned (take k xs) ++ drop k xs) last
+    ∙ each-changed c.args.message_id as_abandoned c.args.start c.args.end xs b in
     rw (← c.self.view_is) (cc)

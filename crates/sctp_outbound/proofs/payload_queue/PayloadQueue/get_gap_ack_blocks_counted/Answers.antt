@@ -19,10 +19,13 @@ allowed n t most l h =
     omega arith
 
 pub returns-clause-runs : goal.returns-clause-runs
-returns-clause-runs c = all_of 18446744073709551615 c.in_ok-blocks.blocks.items _ (omega (arith, c.in_ok-blocks.blocks.ok, c.in_ok-blocks.blocks.small)) c.in_ok-blocks.ensures.runs
+returns-clause-runs c =
+    all_of 18446744073709551615 c.in_ok-blocks.blocks.items _ (omega (arith, c.in_ok-blocks.blocks.ok, c.in_ok-blocks.blocks.small)) c.in_ok-blocks.ensures.runs
 
 pub returns-clause-cost_of_runs : goal.returns-clause-cost_of_runs
-returns-clause-cost_of_runs c = allowed _ _ 18446744073709551615 (length (runs_of (gap_offsets c.args.cumulative_tsn c.args.self.now.chunks))) c.get_gap_ack_blocks_within.ensures.cost_of_runs
+returns-clause-cost_of_runs c = allowed _ _ 18446744073709551615
+    (length (runs_of (gap_offsets c.args.cumulative_tsn c.args.self.now.chunks))) c.get_gap_ack_blocks_within.ensures.cost_of_runs
 
 pub returns-in_err-blocks-clause-cost_of_runs : goal.returns-in_err-blocks-clause-cost_of_runs
-returns-in_err-blocks-clause-cost_of_runs c = allowed _ _ 18446744073709551615 (length (runs_of (gap_offsets c.args.cumulative_tsn c.args.self.now.chunks))) c.get_gap_ack_blocks_within.ensures.cost_of_runs
+returns-in_err-blocks-clause-cost_of_runs c = allowed _ _ 18446744073709551615
+    (length (runs_of (gap_offsets c.args.cumulative_tsn c.args.self.now.chunks))) c.get_gap_ack_blocks_within.ensures.cost_of_runs

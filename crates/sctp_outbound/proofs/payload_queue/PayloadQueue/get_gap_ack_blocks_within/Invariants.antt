@@ -14,7 +14,9 @@ invariant-loop-place l = record {
   seen : IfSome l.seen (λ tsn. (d : ChunkPayloadData) → (get_or l.self-inside.held.chunks l.place d).tsn ≡ tsn);
   ahead : AscendsFrom l.cumulative_tsn l.self-inside.held.chunks l.place;
   ascend : BlocksAscend l.blocks.items;
-  behind : (j : ℕ) (d : ChunkPayloadData) → l.place ≤ j → j < length l.self-inside.held.chunks → distance l.cumulative_tsn (get_or l.self-inside.held.chunks j d).tsn < 2 ^ 16 → All (λ b. b.end + 1 < distance l.cumulative_tsn (get_or l.self-inside.held.chunks j d).tsn) l.blocks.items;
+  behind : (j : ℕ) (d : ChunkPayloadData) → l.place ≤ j → j < length l.self-inside.held.chunks
+      → distance l.cumulative_tsn (get_or l.self-inside.held.chunks j d).tsn < 2 ^ 16
+      → All (λ b. b.end + 1 < distance l.cumulative_tsn (get_or l.self-inside.held.chunks j d).tsn) l.blocks.items;
   exact : (n : ℕ) → is_in_blocks l.blocks.items n ≡ list_any (is_reported l.cumulative_tsn n) (take l.place l.self-inside.held.chunks);
   not_back : l.fn.turns ≤ l.turns;
   cost : IsWithinDigits (length l.self-inside.held.chunks) (l.turns - l.fn.turns - 34 * length l.blocks.items);

@@ -20,4 +20,5 @@ returns-clause-ok c =
     let window = subst (λ q. SpansOneWindow q.chunks c.args.chunk.tsn) (sym c.self.view_is) c.requires.window in
     let place = subst (λ q. IsPlaceFor q.chunks c.args.chunk.tsn c.args.place) (sym c.self.view_is) c.requires.place in
     let same = inserted-place c.self.inside.held.chunks c.args.chunk c.args.place c.requires.fits c.self.invariant.serial place window in
-    rw (← c.self.view_is, c.in_ok-insert.ensures.ok) (ap (λ xs. let q : Payload = record { chunks = xs; duplicates = c.self.inside.dup_tsn.items; room = c.self.inside.held.room - 1 } in q) (sym same))
+    rw (← c.self.view_is, c.in_ok-insert.ensures.ok)
+    (ap (λ xs. let q : Payload = record { chunks = xs; duplicates = c.self.inside.dup_tsn.items; room = c.self.inside.held.room - 1 } in q) (sym same))

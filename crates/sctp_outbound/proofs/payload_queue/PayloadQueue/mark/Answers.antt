@@ -24,13 +24,15 @@ pub returns-in-Ok-clause-changed : goal.returns-in-Ok-clause-changed
 returns-in-Ok-clause-changed c =
     let xs = c.self.inside.held.chunks in
     let chunk = c.in-Ok.field-0-1.now in
-    rw (← c.self.view_is, c.mark-left.ensures.changed chunk) (same_but_chunks (sym (change_where-only (has_tsn c.args.tsn) (with_mark c.args.mark) xs c.in-Ok.place chunk (only_here xs c.args.tsn c.in-Ok.place chunk c.self.invariant.serial c.in-Ok.ensures.found))))
+    rw (← c.self.view_is, c.mark-left.ensures.changed chunk) (same_but_chunks (sym (change_where-only (has_tsn c.args.tsn)
+    (with_mark c.args.mark) xs c.in-Ok.place chunk (only_here xs c.args.tsn c.in-Ok.place chunk c.self.invariant.serial c.in-Ok.ensures.found))))
 
 pub returns-in-Ok-clause-held : goal.returns-in-Ok-clause-held
 returns-in-Ok-clause-held c = rw (← c.self.view_is) (sym (ap is_some (find_held _ c.args.tsn c.self.invariant.serial _ _ c.in-Ok.ensures.found)))
 
 pub returns-clause-changed : goal.returns-clause-changed
-returns-clause-changed c = rw (← c.self.view_is) (same_but_chunks (sym (change_where-none (has_tsn c.args.tsn) (with_mark c.args.mark) _ (fails_from_absent _ c.args.tsn c.in-Err.ensures.absent))))
+returns-clause-changed c = rw (← c.self.view_is)
+    (same_but_chunks (sym (change_where-none (has_tsn c.args.tsn) (with_mark c.args.mark) _ (fails_from_absent _ c.args.tsn c.in-Err.ensures.absent))))
 
 pub returns-clause-held : goal.returns-clause-held
 returns-clause-held c = rw (← c.self.view_is) (sym (ap is_some (not_found _ c.args.tsn c.in-Err.ensures.absent)))

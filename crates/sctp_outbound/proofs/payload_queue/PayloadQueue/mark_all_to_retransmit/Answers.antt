@@ -16,7 +16,8 @@ loop-place-preserved c =
     let bytes = sum_by-set (λ (x : _). length x.user_data) ys i (with_retransmit true (get_or ys i x)) x short in
     let read = sym c.look.ensures.value in
     rw (c.mark.ensures.changed x) record {
-      changed = ap (λ u. set ys i (with_retransmit true u)) read ∙ changed_step is_outstanding (with_retransmit true) xs ys i x within c.loop-place.invariant.changed c.look.ensures.value (sym c.is_outstanding.ensures ∙ c.if-not-is_outstanding.false);
+      changed = ap (λ u. set ys i (with_retransmit true u)) read ∙ changed_step is_outstanding (with_retransmit true) xs ys i x within
+          c.loop-place.invariant.changed c.look.ensures.value (sym c.is_outstanding.ensures ∙ c.if-not-is_outstanding.false);
       same_length = length-set ys i _ ∙ c.loop-place.invariant.same_length;
       serial = serial_set_of (with_retransmit true) (λ _. refl) ys i x short c.loop-place.invariant.serial;
       counted = omega (arith, c.loop-place.invariant.counted);
@@ -30,7 +31,8 @@ loop-place-preserved-then-not-is_outstanding c =
     let ys = c.loop-place.self-inside.held.chunks in
     let within : c.loop-place.place < length xs = omega arith in
     record {
-      changed = unchanged_step is_outstanding (with_retransmit true) xs ys c.loop-place.place c.look.result.now within c.loop-place.invariant.changed c.look.ensures.value (sym c.is_outstanding.ensures ∙ c.if-not-is_outstanding.true);
+      changed = unchanged_step is_outstanding (with_retransmit true) xs ys c.loop-place.place c.look.result.now within c.loop-place.invariant.changed
+          c.look.ensures.value (sym c.is_outstanding.ensures ∙ c.if-not-is_outstanding.true);
       same_length = c.loop-place.invariant.same_length;
       serial = c.loop-place.invariant.serial;
       counted = c.loop-place.invariant.counted;

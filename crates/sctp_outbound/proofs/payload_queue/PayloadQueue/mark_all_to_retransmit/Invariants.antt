@@ -7,7 +7,8 @@ use Rattle.sctp_outbound.proofs.payload_queue.PayloadQueue.mark_all_to_retransmi
 
 abbrev pub invariant-loop-place : goal.invariant-loop-place
 invariant-loop-place l = record {
-  changed : l.self-inside.held.chunks ≡ change_where is_outstanding (with_retransmit true) (take l.place l.initial.self-inside.held.chunks) ++ drop l.place l.initial.self-inside.held.chunks;
+  changed : l.self-inside.held.chunks ≡ change_where is_outstanding (with_retransmit true)
+      (take l.place l.initial.self-inside.held.chunks) ++ drop l.place l.initial.self-inside.held.chunks;
   same_length : length l.self-inside.held.chunks ≡ length l.initial.self-inside.held.chunks;
   serial : IsSerial l.self-inside.held.chunks;
   counted : l.self-inside.n_bytes ≡ bytes_of l.self-inside.held.chunks;

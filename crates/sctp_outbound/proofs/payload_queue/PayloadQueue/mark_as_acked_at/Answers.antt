@@ -42,4 +42,5 @@ returns-clause-alone c = λ d.
     let lt : c.args.place < length xs = omega (arith, ap (λ (q : Payload). length q.chunks) c.self.view_is) in
     let chunk : ChunkPayloadData = slice_index_or xs c.args.place d in
     let at : IsHeldAt xs chunk.tsn c.args.place chunk = record { in_range = lt; value = get_or_default xs c.args.place chunk d lt; number = refl } in
-    rw (← c.self.view_is, c.mark-left.ensures.changed d) (same_but_chunks (sym (change_where-only (has_tsn chunk.tsn) as_acknowledged xs c.args.place d (only_here xs chunk.tsn c.args.place chunk c.self.invariant.serial at))))
+    rw (← c.self.view_is, c.mark-left.ensures.changed d) (same_but_chunks
+    (sym (change_where-only (has_tsn chunk.tsn) as_acknowledged xs c.args.place d (only_here xs chunk.tsn c.args.place chunk c.self.invariant.serial at))))

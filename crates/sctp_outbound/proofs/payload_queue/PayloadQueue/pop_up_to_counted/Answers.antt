@@ -22,7 +22,8 @@ loop-place-preserved-then-sna32lte c =
       serial = serial_remove xs c.loop-place.place within c.loop-place.invariant.serial;
       counted = omega (arith, c.loop-place.invariant.counted);
       in_range = omega arith;
-      kept = removed_step _ xs c.loop-place.place c.look-chunk.result.now within c.look-chunk.ensures.value (ap not (sym c.sna32lte.ensures.value ∙ c.if-sna32lte.true)) ∙ c.loop-place.invariant.kept;
+      kept = removed_step _ xs c.loop-place.place c.look-chunk.result.now within c.look-chunk.ensures.value
+          (ap not (sym c.sna32lte.ensures.value ∙ c.if-sna32lte.true)) ∙ c.loop-place.invariant.kept;
       room = c.loop-place.invariant.room;
       same = c.loop-place.invariant.same;
       not_back = omega arith;
@@ -38,11 +39,13 @@ returns-then-not-is_last_up_to-clause-kept c =
     let i = c.loop-place.place in
     let x = c.look-chunk.result.now in
     let tsn = c.args.cumulative_tsn in
-    let here : at_or_before (get_or xs i x).tsn tsn ≡ false = ap (λ (y : ChunkPayloadData). at_or_before y.tsn tsn) (sym c.look-chunk.ensures.value) ∙ sym c.sna32lte.ensures.value ∙ c.if-sna32lte.false in
+    let here : at_or_before (get_or xs i x).tsn tsn ≡ false = ap (λ (y : ChunkPayloadData). at_or_before y.tsn tsn) (sym c.look-chunk.ensures.value)
+    ∙ sym c.sna32lte.ensures.value ∙ c.if-sna32lte.false in
     let last = sym (c.is_last_up_to.ensures.is x) ∙ c.if-not-is_last_up_to.true in
     let rest = rest_stays tsn xs c.ranges.cumulative_tsn.fits c.loop-place.invariant.serial i x (omega arith) here last in
     let all : xs ≡ past tsn c.self.inside.held.chunks = sym (take-append-drop i xs) ∙ ap (λ ys. take i xs ++ ys) (sym rest) ∙ c.loop-place.invariant.kept in
-    rw (← c.self.view_is, c.loop-place.invariant.room, c.loop-place.invariant.same) (ap (λ ys. let q : Payload = record { chunks = ys; duplicates = c.self.inside.dup_tsn.items; room = c.self.inside.held.room } in q) all)
+    rw (← c.self.view_is, c.loop-place.invariant.room, c.loop-place.invariant.same)
+    (ap (λ ys. let q : Payload = record { chunks = ys; duplicates = c.self.inside.dup_tsn.items; room = c.self.inside.held.room } in q) all)
 
 pub loop-place-preserved : goal.loop-place-preserved
 loop-place-preserved c =
@@ -63,6 +66,8 @@ loop-place-preserved c =
       cost = omega arith;
       few = λ front.
           let q = inv.few front in
-          let first : at_or_before (get_or xs 0 x).tsn tsn ≡ false = subst (λ i. at_or_before (get_or xs i x).tsn tsn ≡ false) (q.0) (ap (λ (y : ChunkPayloadData). at_or_before y.tsn tsn) (sym c.look-chunk.ensures.value) ∙ here) in
-          absurd (stays_behind tsn xs c.self.inside.held.chunks (q.1) x c.ranges.cumulative_tsn.fits c.self.invariant.serial (q.2) (omega arith) first last front);
+          let first : at_or_before (get_or xs 0 x).tsn tsn ≡ false = subst (λ i. at_or_before (get_or xs i x).tsn tsn ≡ false) (q.0)
+          (ap (λ (y : ChunkPayloadData). at_or_before y.tsn tsn) (sym c.look-chunk.ensures.value) ∙ here) in
+          absurd
+          (stays_behind tsn xs c.self.inside.held.chunks (q.1) x c.ranges.cumulative_tsn.fits c.self.invariant.serial (q.2) (omega arith) first last front);
     }

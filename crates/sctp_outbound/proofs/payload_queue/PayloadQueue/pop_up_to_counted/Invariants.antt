@@ -9,13 +9,14 @@ invariant-loop-place l = record {
   serial : IsSerial l.self-inside.held.chunks;
   counted : l.self-inside.n_bytes ≡ bytes_of l.self-inside.held.chunks;
   in_range : l.place ≤ length l.self-inside.held.chunks;
-  kept : take l.place l.self-inside.held.chunks ++ past l.cumulative_tsn (drop l.place l.self-inside.held.chunks) ≡ past l.cumulative_tsn l.initial.self-inside.held.chunks;
+  kept : take l.place l.self-inside.held.chunks ++ past l.cumulative_tsn (drop l.place l.self-inside.held.chunks)
+      ≡ past l.cumulative_tsn l.initial.self-inside.held.chunks;
   room : l.self-inside.held.room ≡ l.initial.self-inside.held.room;
   same : l.self-inside.dup_tsn ≡ l.initial.self-inside.dup_tsn;
   not_back : l.initial.turns ≤ l.turns;
   cost : l.turns + (length l.self-inside.held.chunks - l.place) ≤ l.initial.turns + length l.initial.self-inside.held.chunks;
-  few : FrontGoesFirst l.cumulative_tsn l.initial.self-inside.held.chunks → (l.place ≡ 0) × (gone : ℕ) × (l.self-inside.held.chunks ≡ drop gone l.initial.self-inside.held.chunks)
-      × (l.turns ≤ l.initial.turns + gone);
+  few : FrontGoesFirst l.cumulative_tsn l.initial.self-inside.held.chunks
+      → (l.place ≡ 0) × (gone : ℕ) × (l.self-inside.held.chunks ≡ drop gone l.initial.self-inside.held.chunks) × (l.turns ≤ l.initial.turns + gone);
 }
 
 abbrev pub decreases-loop-place : goal.decreases-loop-place

@@ -20,15 +20,18 @@ invariant_of-self c =
 
 pub returns-in-Ok-clause-taken : goal.returns-in-Ok-clause-taken
 returns-in-Ok-clause-taken c =
-    rw (← c.self.view_is) (sym (find_held _ c.args.tsn c.self.invariant.serial _ _ c.in-Ok.ensures.found ∙ ap Some (read_is _ _ _ _ c.in-Ok.ensures.found c.remove_leaving_room-chunk.ensures.value)))
+    rw (← c.self.view_is) (sym (find_held _ c.args.tsn c.self.invariant.serial _ _ c.in-Ok.ensures.found
+    ∙ ap Some (read_is _ _ _ _ c.in-Ok.ensures.found c.remove_leaving_room-chunk.ensures.value)))
 
 pub returns-in-Ok-clause-rest : goal.returns-in-Ok-clause-rest
 returns-in-Ok-clause-rest c =
     let xs = c.self.inside.held.chunks in
-    rw (← c.self.view_is, c.remove_leaving_room-chunk.ensures.removed) (same_but_chunks (sym (those-only (has_tsn c.args.tsn) xs c.in-Ok.place (only_here xs c.args.tsn c.in-Ok.place _ c.self.invariant.serial c.in-Ok.ensures.found))))
+    rw (← c.self.view_is, c.remove_leaving_room-chunk.ensures.removed) (same_but_chunks
+    (sym (those-only (has_tsn c.args.tsn) xs c.in-Ok.place (only_here xs c.args.tsn c.in-Ok.place _ c.self.invariant.serial c.in-Ok.ensures.found))))
 
 pub returns-clause-taken : goal.returns-clause-taken
 returns-clause-taken c = rw (← c.self.view_is) (sym (not_found _ c.args.tsn c.in-Err.ensures.absent))
 
 pub returns-clause-rest : goal.returns-clause-rest
-returns-clause-rest c = rw (← c.self.view_is) (same_but_chunks (sym (those-none (has_tsn c.args.tsn) _ (fails_from_absent _ c.args.tsn c.in-Err.ensures.absent))))
+returns-clause-rest c =
+    rw (← c.self.view_is) (same_but_chunks (sym (those-none (has_tsn c.args.tsn) _ (fails_from_absent _ c.args.tsn c.in-Err.ensures.absent))))

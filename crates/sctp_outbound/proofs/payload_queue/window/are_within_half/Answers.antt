@@ -7,10 +7,13 @@ returns-clause-yes c last =
     let xs = c.args.held.now.chunks in
     let first = c.is_within_half.ensures.yes c.if-not-is_within_half.false in
     let read = subst (λ n. c.look-2.result.now ≡ get_or xs (n - 1) c.look-2.result.now) c.len-len.ensures c.look-2.ensures.value in
-    all_between xs c.requires c.args.base c.ranges.base.fits c.look.result.now c.look-2.result.now (omega arith) c.look.ensures.value read first (c.is_within_half-2.ensures.yes last)
+    all_between xs c.requires c.args.base c.ranges.base.fits c.look.result.now c.look-2.result.now (omega arith) c.look.ensures.value read first
+    (c.is_within_half-2.ensures.yes last)
 
 pub returns-clause-no : goal.returns-clause-no
-returns-clause-no c all = c.is_within_half-2.ensures.no (read_within c.args.held.now.chunks c.args.base (c.len-len.result - 1) c.look-2.result.now (omega arith) c.look-2.ensures.value all)
+returns-clause-no c all = c.is_within_half-2.ensures.no
+    (read_within c.args.held.now.chunks c.args.base (c.len-len.result - 1) c.look-2.result.now (omega arith) c.look-2.ensures.value all)
 
 pub returns-then-not-is_within_half-clause-no : goal.returns-then-not-is_within_half-clause-no
-returns-then-not-is_within_half-clause-no c all = sym c.if-not-is_within_half.true ∙ c.is_within_half.ensures.no (read_within c.args.held.now.chunks c.args.base 0 c.look.result.now (omega arith) c.look.ensures.value all)
+returns-then-not-is_within_half-clause-no c all = sym c.if-not-is_within_half.true
+    ∙ c.is_within_half.ensures.no (read_within c.args.held.now.chunks c.args.base 0 c.look.result.now (omega arith) c.look.ensures.value all)

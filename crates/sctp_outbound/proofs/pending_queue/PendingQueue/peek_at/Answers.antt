@@ -14,11 +14,13 @@ returns-then-behind-len c =
     let q = c.self.inside in
     let ended = subst (λ p. has_end p.selected p.ordered ≡ true) (sym c.self.view_is) c.requires in
     let first = subst (λ p. c.in-Some.first ≡ ordered_first p.selected p.ordered) (sym c.self.view_is) c.in-Some.ensures.some.0 in
-    rw (← c.self.view_is) (c.get-then-behind-len.ensures ∙ sym (at_unordered q.selected q.ordered.chunks q.unordered.chunks c.args.index (c.args.index - c.in-Some.first) ended (omega (arith, first, c.in-Some.ensures.some.1)) (omega arith)))
+    rw (← c.self.view_is) (c.get-then-behind-len.ensures ∙ sym (at_unordered q.selected q.ordered.chunks q.unordered.chunks c.args.index
+    (c.args.index - c.in-Some.first) ended (omega (arith, first, c.in-Some.ensures.some.1)) (omega arith)))
 
 pub returns : goal.returns
 returns c =
     let q = c.self.inside in
     let ended = subst (λ p. has_end p.selected p.ordered ≡ true) (sym c.self.view_is) c.requires in
     let first = subst (λ p. c.in-Some.first ≡ ordered_first p.selected p.ordered) (sym c.self.view_is) c.in-Some.ensures.some.0 in
-    rw (← c.self.view_is) (c.get-2.ensures ∙ sym (at_last q.selected q.ordered.chunks q.unordered.chunks c.args.index (c.args.index - c.len-2.result) ended (omega (arith, c.in-Some.ensures.some.1)) (omega (arith, first, c.in-Some.ensures.some.1))))
+    rw (← c.self.view_is) (c.get-2.ensures ∙ sym (at_last q.selected q.ordered.chunks q.unordered.chunks c.args.index (c.args.index - c.len-2.result) ended
+    (omega (arith, c.in-Some.ensures.some.1)) (omega (arith, first, c.in-Some.ensures.some.1))))

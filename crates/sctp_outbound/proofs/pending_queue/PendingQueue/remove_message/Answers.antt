@@ -6,4 +6,6 @@ use Rattle.sctp_outbound.proofs.lemmas.pending_queue.Waiting.{last_of-append}
 use Rattle.sctp_outbound.proofs.pending_queue.PendingQueue.remove_message.Goals as goal
 
 pub returns-clause-last : goal.returns-clause-last
-returns-clause-last c = rw (← c.self.view_is) (c.or.ensures ∙ ap₂ option_or c.remove_message-unordered_bytes.ensures.last c.remove_message-ordered_bytes.ensures.last ∙ sym (last_of-append (filter (is_of c.args.message_id) c.self.inside.ordered.chunks) (filter (is_of c.args.message_id) c.self.inside.unordered.chunks)))
+returns-clause-last c =
+    rw (← c.self.view_is) (c.or.ensures ∙ ap₂ option_or c.remove_message-unordered_bytes.ensures.last c.remove_message-ordered_bytes.ensures.last
+    ∙ sym (last_of-append (filter (is_of c.args.message_id) c.self.inside.ordered.chunks) (filter (is_of c.args.message_id) c.self.inside.unordered.chunks)))

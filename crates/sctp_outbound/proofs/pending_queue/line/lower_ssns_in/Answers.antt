@@ -13,7 +13,8 @@ loop-place-preserved c =
     let x = c.index_mut-chunk.result.now in
     let within : i < length xs = omega (arith, c.args.chunks.now.ok.0) in
     record {
-      changed = changed_step (is_on c.args.stream_identifier) (one_lower) xs ys i x within c.loop-place.invariant.changed c.index_mut-chunk.ensures.value (grind (arith, nat_tests, c.if-chunk-stream_identifier.false));
+      changed = changed_step (is_on c.args.stream_identifier) (one_lower) xs ys i x within c.loop-place.invariant.changed c.index_mut-chunk.ensures.value
+          (grind (arith, nat_tests, c.if-chunk-stream_identifier.false));
       same_length = length-set ys i _ ∙ c.loop-place.invariant.same_length;
       len = c.loop-place.invariant.len;
       capacity = c.loop-place.invariant.capacity;
@@ -27,7 +28,8 @@ loop-place-preserved-then-chunk-stream_identifier c =
     let x = c.index_mut-chunk.result.now in
     let within : i < length xs = omega (arith, c.args.chunks.now.ok.0) in
     record {
-      changed = rewritten_step (is_on c.args.stream_identifier) (one_lower) xs ys i x within c.loop-place.invariant.changed c.index_mut-chunk.ensures.value (grind (arith, nat_tests, c.if-chunk-stream_identifier.true));
+      changed = rewritten_step (is_on c.args.stream_identifier) (one_lower) xs ys i x within c.loop-place.invariant.changed c.index_mut-chunk.ensures.value
+          (grind (arith, nat_tests, c.if-chunk-stream_identifier.true));
       same_length = length-set ys i _ ∙ c.loop-place.invariant.same_length;
       len = c.loop-place.invariant.len;
       capacity = c.loop-place.invariant.capacity;

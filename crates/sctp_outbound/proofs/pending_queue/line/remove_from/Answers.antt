@@ -21,7 +21,13 @@ overflow_add-bytes c =
     let named = ap (λ (y : ChunkPayloadData). y.message_id) (c.in-Some.ensures.value ∙ get_or_default xs i x c.index.result.now within ∙ sym c.index.ensures) in
     let passes : is_of c.args.message_id x ≡ true = grind (arith, nat_tests, named, c.if-index-message_id.false) in
     let next = ap bytes_of (removed_next (is_of c.args.message_id) xs i x within c.in-Some.ensures.value passes) in
-    omega (arith, next, sum_by-cons (λ (y : ChunkPayloadData). length y.user_data) x (filter (is_of c.args.message_id) (drop i (remove xs i))), c.loop-place.invariant.removed, removed_le (is_of c.args.message_id) c.args.chunks.now.items)
+    omega (
+      arith,
+      next,
+      sum_by-cons (λ (y : ChunkPayloadData). length y.user_data) x (filter (is_of c.args.message_id) (drop i (remove xs i))),
+      c.loop-place.invariant.removed,
+      removed_le (is_of c.args.message_id) c.args.chunks.now.items,
+    )
 
 pub loop-place-preserved : goal.loop-place-preserved
 loop-place-preserved c =
@@ -38,7 +44,12 @@ loop-place-preserved c =
       in_range = omega arith;
       kept = removed_step (λ y. not (is_of c.args.message_id y)) xs i x within c.in-Some.ensures.value (ap not passes) ∙ c.loop-place.invariant.kept;
       removed = omega (arith, ap bytes_of next, sum_by-cons (λ (y : ChunkPayloadData). length y.user_data) x left, c.loop-place.invariant.removed);
-      left = omega (arith, sum_by-remove (λ (y : ChunkPayloadData). length y.user_data) xs i x within, ap (λ (y : ChunkPayloadData). length y.user_data) c.in-Some.ensures.value, c.loop-place.invariant.left);
+      left = omega (
+        arith,
+        sum_by-remove (λ (y : ChunkPayloadData). length y.user_data) xs i x within,
+        ap (λ (y : ChunkPayloadData). length y.user_data) c.in-Some.ensures.value,
+        c.loop-place.invariant.left,
+      );
       last = sym (last_after c.loop-place.last x left) ∙ ap (λ ys. last_of (option_to_list c.loop-place.last ++ ys)) (sym next) ∙ c.loop-place.invariant.last;
       len = omega (arith, c.in-Some.ensures.len, c.loop-place.invariant.len);
       capacity = c.in-Some.ensures.capacity ∙ c.loop-place.invariant.capacity;

@@ -12,7 +12,8 @@ invariant-loop-place l = record {
   kept : take l.place l.chunks.items ++ without_message l.message_id (drop l.place l.chunks.items) ≡ without_message l.message_id l.initial.chunks.items;
   removed : l.bytes + removed_bytes l.message_id (drop l.place l.chunks.items) ≡ removed_bytes l.message_id l.initial.chunks.items;
   left : bytes_of l.chunks.items + l.bytes ≡ bytes_of l.initial.chunks.items;
-  last : last_of (option_to_list l.last ++ filter (is_of l.message_id) (drop l.place l.chunks.items)) ≡ last_of (filter (is_of l.message_id) l.initial.chunks.items);
+  last : last_of (option_to_list l.last ++ filter (is_of l.message_id) (drop l.place l.chunks.items))
+      ≡ last_of (filter (is_of l.message_id) l.initial.chunks.items);
   len : deque_len l.chunks ≤ deque_len l.initial.chunks;
   capacity : deque_capacity l.chunks ≡ deque_capacity l.initial.chunks;
 }

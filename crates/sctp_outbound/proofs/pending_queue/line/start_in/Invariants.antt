@@ -6,7 +6,8 @@ use Rattle.sctp_outbound.proofs.pending_queue.line.start_in.Given as goal
 
 abbrev pub invariant-loop-place : goal.invariant-loop-place
 invariant-loop-place l = record {
-  changed : l.chunks.items ≡ change_where (is_to_start l.first_message_id) (with_deadline l.now) (take l.place l.initial.chunks.items) ++ drop l.place l.initial.chunks.items;
+  changed : l.chunks.items ≡ change_where (is_to_start l.first_message_id) (with_deadline l.now)
+      (take l.place l.initial.chunks.items) ++ drop l.place l.initial.chunks.items;
   same_length : length l.chunks.items ≡ length l.initial.chunks.items;
   len : deque_len l.chunks ≡ deque_len l.initial.chunks;
   capacity : deque_capacity l.chunks ≡ deque_capacity l.initial.chunks;

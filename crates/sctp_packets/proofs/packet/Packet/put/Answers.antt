@@ -15,7 +15,8 @@ returns-in_err-put_chunks-clause-kept g c =
 pub store_checksum-requires : goal.store_checksum-requires
 store_checksum-requires g c =
     let p = parts_of c.args.self.now in
-    let long = unsealed_long c.args.buf.now.items (head_of p) (body_of (map wire_of c.deref.result.now)) (length_head_encoding p.source_port p.destination_port p.verification_tag) in
+    let long = unsealed_long c.args.buf.now.items (head_of p) (body_of (map wire_of c.deref.result.now))
+    (length_head_encoding p.source_port p.destination_port p.verification_tag) in
     rw (c.len-start.ensures.value, c.in_ok-put_chunks.ensures.ok.1, c.in_ok-put_head.ensures.ok) long
 
 pub returns-clause-ok : goal.returns-clause-ok
@@ -33,7 +34,8 @@ returns-clause-sum_fits g c =
     let p = parts_of c.args.self.now in
     let whole : c.put_chunks.new.buf.items ≡ (c.args.buf.now.items ++ head_of p ++ four_zeroes) ++ body_of p.chunks =
     rw (c.in_ok-put_chunks.ensures.ok.1, c.in_ok-put_head.ensures.ok, c.deref.ensures.value) refl in
-    let e = summed_is c.args.buf.now.items (head_of p) (body_of p.chunks) _ c.len-start.result (length_head_encoding p.source_port p.destination_port p.verification_tag) c.len-start.ensures.value whole in
+    let e = summed_is c.args.buf.now.items (head_of p)
+    (body_of p.chunks) _ c.len-start.result (length_head_encoding p.source_port p.destination_port p.verification_tag) c.len-start.ensures.value whole in
     let P : List ℕ → Type 0 = λ b. g.C.Checksum.sum c.args.checksum.now b < 2 ^ 32 in
     subst P e c.store_checksum.ensures.fits
 

@@ -24,5 +24,8 @@ returns-clause-rewritable c =
     let found = c.in_ok-params.ensures.found in
     let short = params_encoding_short false _ _ found.rest found.walk in
     let part = ap length c.in_ok-share_value.ensures.part in
-    let cut = length-drop 16 (value_at c.args.raw.now) in
-    (tt, init_has_length _ _ short (omega (arith, part, cut, ap length c.in_ok-header.ensures.value, c.in_ok-header.ensures.short, c.if-value-lt-INIT_CHUNK_MIN_LENGTH.false)))
+    let cut = length-drop 16 (value_at c.args.raw.now) in (
+      tt,
+      init_has_length _ _ short
+          (omega (arith, part, cut, ap length c.in_ok-header.ensures.value, c.in_ok-header.ensures.short, c.if-value-lt-INIT_CHUNK_MIN_LENGTH.false)),
+    )
