@@ -1,7 +1,5 @@
 -- The numbers of the open streams, in the order in which they were opened.
-use Rattle.std.specs.Prelude.{◌≡◌, ◌==◌, ℕ, Bool, not, ◌↔◌, List, slice_get, Some}
-use Rattle.std.specs.Ordering.{nat_cmp}
-use Rattle.std.specs.BTreeMap.{BTreeMap, get}
+use Rattle.std.specs.Prelude.{◌≡◌, ◌==◌, ℕ, Bool, not, List, slice_get, Some}
 
 -- the number stands there, and nowhere else
 pub record IsOnlyPlace (s : ℕ) (ns : List ℕ) (k : ℕ) : Type 0 where
@@ -12,9 +10,9 @@ pub record IsOnlyPlace (s : ℕ) (ns : List ℕ) (k : ℕ) : Type 0 where
 abbrev pub IsAbsent : ℕ → List ℕ → Type 0
 IsAbsent s ns = (k : ℕ) → slice_get ns k ≡ Some s → ⊥
 
--- the index has a number at a place exactly where the number stands there
-abbrev pub IsIndexed : BTreeMap ℕ ℕ → List ℕ → Type 0
-IsIndexed places ns = (s k : ℕ) → (get nat_cmp places s ≡ Some k) ↔ (slice_get ns k ≡ Some s)
+-- the table has, at each number, the place where it stands
+abbrev pub IsPlaced : List ℕ → List ℕ → Type 0
+IsPlaced places ns = (s k : ℕ) → slice_get ns k ≡ Some s → slice_get places s ≡ Some k
 
 -- a number is another one than s
 abbrev pub is_other : ℕ → ℕ → Bool

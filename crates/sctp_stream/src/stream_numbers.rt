@@ -1,31 +1,35 @@
 //! The numbers of the open streams, and where each stands.
 
-ghost use Rattle.std.specs.Prelude.{◌≡◌, ◌++◌, ◌∷◌, [], OnOk, OnErr, IsOkUnless, MatchOption, length, vec_len, vec_capacity, ◌<◌, ◌≤◌};
+ghost use Rattle.std.specs.Prelude.{◌≡◌, ◌++◌, ◌∷◌, [], OnOk, OnErr, IsOkUnless, MatchOption, Some, ℕ, length, slice_get, vec_len, vec_capacity, ◌<◌, ◌≤◌, ◌^◌};
 ghost use Rattle.std.specs.List.{filter};
 ghost use Rattle.sctp_base.specs.declared.error.Error.TheVariants.{ErrOutOfMemory};
 ghost use Rattle.sctp_stream.specs.Numbers.{IsOnlyPlace, IsAbsent, is_other};
 
 use sctp_base::error::Result;
 use std::alloc::Global;
-use std::collections::BTreeMap;
 use std::marker::Model;
 
-/// The numbers of the open streams, in the order in which they were opened. The place of each is found without a walk over them.
+/// The numbers of the open streams, in the order in which they were opened. The place of each is found in two steps, whatever their
+/// count: in a table with two bytes for each number up to the greatest that was put, so in at most 128 KiB.
 #[derive(Drop)]
 pub struct StreamNumbers {
     numbers: Vec<u16>,
-    places: BTreeMap<u16, usize>,
+    // The place of each number, at the number. What stands at a number that is not among them means nothing.
+    places: Vec<u16>,
 }
 
 impl Model for StreamNumbers {
-    ghost use Rattle.std.specs.Prelude.{ℕ, List};
-    ghost use Rattle.sctp_stream.specs.Numbers.{IsIndexed};
+    ghost use Rattle.std.specs.Prelude.{ℕ, List, ◌≤◌, ◌^◌, length};
+    ghost use Rattle.sctp_stream.specs.Numbers.{IsPlaced};
 
     ghost Value = { List ℕ };
 
     ghost view = { λ n. n.numbers.items };
 
-    ghost invariant = { λ n. IsIndexed n.places n.numbers.items };
+    ghost invariant = { λ n. record {
+      placed : IsPlaced n.places.items n.numbers.items;
+      short : length n.places.items ≤ 2 ^ 16;
+    } };
 }
 
 impl StreamNumbers {
@@ -35,7 +39,7 @@ impl StreamNumbers {
     {
         StreamNumbers {
             numbers: Vec::new(alloc),
-            places: BTreeMap::new(alloc),
+            places: Vec::new(alloc),
         }
     }
 
@@ -43,7 +47,12 @@ impl StreamNumbers {
     pub fn place_of(&self, stream: u16) -> Option<usize>
         ensures { MatchOption result (IsAbsent stream self.now) (IsOnlyPlace stream self.now) }
     {
-        self.places.get(&stream).copied()
+        let place = element(&self.places, stream as usize)? as usize;
+        let number = element(&self.numbers, place)?;
+        if number != stream {
+            return None;
+        }
+        Some(place)
     }
 
     /// Puts a number behind the others. Refuses only for memory, and the numbers are as they were then.
@@ -55,8 +64,9 @@ impl StreamNumbers {
         ensures memory { IsOkUnless result ErrOutOfMemory }
     {
         self.numbers.reserve(1)?;
+        lengthen(&mut self.places, stream)?;
         let place = self.numbers.len();
-        self.places.insert(stream, place)?;
+        self.places[stream as usize] = place as u16;
         put(&mut self.numbers, stream);
         Ok(())
     }
@@ -65,14 +75,37 @@ impl StreamNumbers {
     pub fn remove(&mut self, stream: u16)
         ensures { self.new ≡ filter (is_other stream) self.old }
     {
-        let Some(place) = self.places.remove(&stream) else {
+        let Some(place) = self.place_of(stream) else {
             return;
         };
         self.numbers.remove(place);
         for later in place..self.numbers.len() {
-            let _ = self.places.insert(self.numbers[later], later);
+            self.places[self.numbers[later] as usize] = later as u16;
         }
     }
+}
+
+// The element at a place, None past the last one.
+fn element(items: &Vec<u16>, place: usize) -> Option<u16>
+    ensures { result ≡ slice_get items.now.items place }
+{
+    items.get(place).copied()
+}
+
+// Makes a table so long that it has an entry at the number. Refuses only for memory.
+fn lengthen(places: &mut Vec<u16>, stream: u16) -> Result<()>
+    requires { length places.old.items ≤ 2 ^ 16 }
+    ensures kept { (s k : ℕ) → slice_get places.old.items s ≡ Some k
+        → slice_get places.new.items s ≡ Some k }
+    ensures ok { OnOk result (stream < length places.new.items) }
+    ensures short { length places.new.items ≤ 2 ^ 16 }
+    ensures memory { IsOkUnless result ErrOutOfMemory }
+{
+    let len = stream as usize + 1;
+    if places.len() < len {
+        places.resize(len, 0)?;
+    }
+    Ok(())
 }
 
 /// Puts an item where room was made for it.
