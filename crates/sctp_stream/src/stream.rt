@@ -290,7 +290,7 @@ impl StreamState {
     {
         let len = raw.len();
         let size = self.max_payload_size.get() as usize;
-        let mut chunks = Vec::new(alloc);
+        let mut chunks = Vec::with_capacity(alloc, len.div_ceil(size))?;
         let mut at = 0;
         while at < len {
             let end = at + size.min(len - at);
