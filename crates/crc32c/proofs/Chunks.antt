@@ -6,7 +6,7 @@ use Rattle.std.proofs.Math.Nat.{zero-mul, suc-mul}
 use Rattle.std.proofs.lemmas.List.{drop-drop, take-append-drop}
 use Rattle.std.proofs.lemmas.List.Sums.{fold-append}
 
-pub fold-first_chunks : (f : ℕ → ℕ → ℕ) (n k : ℕ) (s : List ℕ) (r : ℕ)
+pub fold-first_chunks : {A : Type 0} (f : ℕ → A → ℕ) (n k : ℕ) (s : List A) (r : ℕ)
     → fold f (fold (fold f) r (first_chunks n k s)) (drop (k * n) s) ≡ fold f r s
 fold-first_chunks f n zero s r = ap (λ it. fold f r (drop it s)) (zero-mul n)
 fold-first_chunks f n (suc k) s r =

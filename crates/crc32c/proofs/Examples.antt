@@ -37,3 +37,8 @@ after_none = refl
 after_one : zero_bytes 2 1 ≡ 0x13a29877
 unfolding shift shift_bits zero_bytes
 after_one = refl
+
+-- and with fifteen, the last row of the tables
+after_fifteen : zero_bytes 16 1 ≡ 0xf20c0dfe
+unfolding shift shift_bits zero_bytes
+after_fifteen = refl

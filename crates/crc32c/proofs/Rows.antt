@@ -11,7 +11,7 @@ unfoldable row : ℕ → List ℕ
 row zero = map (shift_bits 8) (range_with_len 0 256)
 row (suc k) = map (shift_bits 8) (row k)
 
-tables_are : TABLES ≡ map row (range_with_len 0 8)
+tables_are : TABLES ≡ map row (range_with_len 0 16)
 unfolding shift shift_bits row
 tables_are = refl
 
@@ -33,9 +33,9 @@ row_at (suc k) b h =
     get_or-map (shift_bits 8) (row k) b 0 0 short
     ∙ ap (shift_bits 8) (row_at k b h) ∙ sym (zero_bytes-up (suc k) b)
 
-pub table_at : (k b : ℕ) → k < 8 → b < 256
+pub table_at : (k b : ℕ) → k < 16 → b < 256
     → get_or (get_or TABLES k []) b 0 ≡ zero_bytes (suc k) b
 table_at k b hk hb =
     ap (λ rows. get_or (get_or rows k []) b 0) tables_are
-    ∙ ap (λ it. get_or it b 0) (get_or-map-range_with_len row zero 8 k k [] hk (omega arith))
+    ∙ ap (λ it. get_or it b 0) (get_or-map-range_with_len row zero 16 k k [] hk (omega arith))
     ∙ row_at k b hb

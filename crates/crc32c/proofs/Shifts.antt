@@ -1,7 +1,6 @@
 -- Shifting is linear, so bytes are shifted as one word, and a word as its bytes.
 use Rattle.std.proofs.Common.{◌≡◌, ◌∙◌, ℕ, zero, suc, ◌+◌, ◌*◌, ◌/◌, ◌%◌, ◌^◌, ◌<◌, List, [], ◌∷◌, length, get_or, refl, sym, ap, arith}
 use Rattle.std.specs.Prelude.{bit_xor, fold, if◌then◌else◌, ◌==◌}
-use Rattle.std.specs.Int.{w64, from_le_bytes}
 use Rattle.std.specs.Int.Bits.{xor_assoc, xor_self, xor_zero_r, xor_comm, xor_shr, xor_mod, xor_block}
 use Rattle.crc32c.specs.Castagnoli.{shift, shift_bits, byte_step, zero_bytes}
 
@@ -33,7 +32,7 @@ shift_xor a b =
     (λ i. beside (xor_mod a b 1 i) (xor_shr a b 1 i))
     ∙ by_parity (a % 2) (b % 2) (a / 2) (b / 2) (omega arith) (omega arith)
 
-shifted_xor : (bits a b : ℕ)
+pub shifted_xor : (bits a b : ℕ)
     → shift_bits bits (bit_xor a b) ≡ bit_xor (shift_bits bits a) (shift_bits bits b)
 unfolding shift_bits
 shifted_xor zero a b = refl
@@ -58,7 +57,7 @@ shifted_byte m =
     ∙ ap (shift_bits 1) (shift_half (m * 4) (m * 2) (omega arith))
     ∙ shift_half (m * 2) m refl
 
-zero_bytes_xor : (k a b : ℕ) → zero_bytes k (bit_xor a b) ≡ bit_xor (zero_bytes k a) (zero_bytes k b)
+pub zero_bytes_xor : (k a b : ℕ) → zero_bytes k (bit_xor a b) ≡ bit_xor (zero_bytes k a) (zero_bytes k b)
 unfolding zero_bytes
 zero_bytes_xor zero a b = refl
 zero_bytes_xor (suc k) a b = ap (zero_bytes k) (shifted_xor 8 a b) ∙ zero_bytes_xor k (shift_bits 8 a) (shift_bits 8 b)
@@ -105,43 +104,3 @@ byte_step-by_table r b h =
     let high : bit_xor r b / 256 ≡ r / 256 =
     xor_shr r b 8 ∙ ap (bit_xor (r / 256)) none ∙ xor_zero_r (r / 256) in
     zero_bytes-suc 0 (bit_xor r b) ∙ ap (bit_xor (zero_bytes 1 (bit_xor r b % 256))) high
-
--- the eight bytes of a word
-pub eight_bytes : (x : ℕ) → x < 2 ^ 64 → zero_bytes 8 x
-    ≡ bit_xor (zero_bytes 8 (x % 256)) (bit_xor (zero_bytes 7 (x / 2 ^ 8 % 256))
-    (bit_xor (zero_bytes 6 (x / 2 ^ 16 % 256)) (bit_xor (zero_bytes 5 (x / 2 ^ 24 % 256))
-    (bit_xor (zero_bytes 4 (x / 2 ^ 32 % 256)) (bit_xor (zero_bytes 3 (x / 2 ^ 40 % 256))
-    (bit_xor (zero_bytes 2 (x / 2 ^ 48 % 256)) (zero_bytes 1 (x / 2 ^ 56 % 256))))))))
-eight_bytes x h =
-    zero_bytes-suc 7 x
-    ∙ ap (bit_xor (zero_bytes 8 (x % 256))) (from 6 (x / 2 ^ 8) (x / 2 ^ 16) (omega arith)
-    ∙ ap (bit_xor (zero_bytes 7 (x / 2 ^ 8 % 256))) (from 5 (x / 2 ^ 16) (x / 2 ^ 24) (omega arith)
-    ∙ ap (bit_xor (zero_bytes 6 (x / 2 ^ 16 % 256))) (from 4 (x / 2 ^ 24) (x / 2 ^ 32) (omega arith)
-    ∙ ap (bit_xor (zero_bytes 5 (x / 2 ^ 24 % 256))) (from 3 (x / 2 ^ 32) (x / 2 ^ 40) (omega arith)
-    ∙ ap (bit_xor (zero_bytes 4 (x / 2 ^ 32 % 256))) (from 2 (x / 2 ^ 40) (x / 2 ^ 48) (omega arith)
-    ∙ ap (bit_xor (zero_bytes 3 (x / 2 ^ 40 % 256))) (from 1 (x / 2 ^ 48) (x / 2 ^ 56) (omega arith)
-    ∙ ap (bit_xor (zero_bytes 2 (x / 2 ^ 48 % 256))) (ap (zero_bytes 1) (omega arith))))))))
-  where
-    from : (k y above : ℕ) → y / 256 ≡ above
-        → zero_bytes (suc k) y ≡ bit_xor (zero_bytes (suc k) (y % 256)) (zero_bytes k above)
-    from k y above e =
-        zero_bytes-suc k y ∙ ap (λ n. bit_xor (zero_bytes (suc k) (y % 256)) (zero_bytes k n)) e
-
-word_of-le : (bs : List ℕ) → length bs ≡ 8 → word_of bs ≡ from_le_bytes w64 bs
-unfolding word_of
-word_of-le (a ∷ b ∷ c ∷ d ∷ e ∷ f ∷ g ∷ h ∷ []) len = omega arith
-word_of-le [] len = absurd (omega arith)
-word_of-le (a ∷ []) len = absurd (omega arith)
-word_of-le (a ∷ b ∷ []) len = absurd (omega arith)
-word_of-le (a ∷ b ∷ c ∷ []) len = absurd (omega arith)
-word_of-le (a ∷ b ∷ c ∷ d ∷ []) len = absurd (omega arith)
-word_of-le (a ∷ b ∷ c ∷ d ∷ e ∷ []) len = absurd (omega arith)
-word_of-le (a ∷ b ∷ c ∷ d ∷ e ∷ f ∷ []) len = absurd (omega arith)
-word_of-le (a ∷ b ∷ c ∷ d ∷ e ∷ f ∷ g ∷ []) len = absurd (omega arith)
-word_of-le (a ∷ b ∷ c ∷ d ∷ e ∷ f ∷ g ∷ h ∷ i ∷ bs) len = absurd (omega arith)
-
--- eight bytes as one word
-pub fold-eight : (r : ℕ) (bs : List ℕ) → length bs ≡ 8 → ((i : ℕ) → get_or bs i 0 < 256)
-    → fold byte_step r bs ≡ zero_bytes 8 (bit_xor r (from_le_bytes w64 bs))
-fold-eight r bs len bytes =
-    fold-word_of bs r bytes ∙ (λ i. zero_bytes (len i) (bit_xor r (word_of-le bs len i)))

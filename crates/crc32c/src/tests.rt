@@ -22,6 +22,37 @@ fn thirty_two_bytes(rt: HostRuntime) {
     assert_eq!(rt; crc32c(&falling), 0x113f_db5c);
 }
 
+/// The command of 48 bytes in RFC 3720 B.4.
+#[test]
+fn forty_eight_bytes(rt: HostRuntime) {
+    let command =
+        b"\x01\xc0\x00\x00\x00\x00\x00\x00\x00\x00\x00\x00\x00\x00\x00\x00\x14\x00\x00\x00\x00\x00\x04\x00\x00\x00\x00\x14\x00\x00\x00\x18\x28\x00\x00\x00\x00\x00\x00\x00\x02\x00\x00\x00\x00\x00\x00\x00";
+    assert_eq!(rt; crc32c(command), 0xd996_3a56);
+}
+
+/// The remainder after a further byte, bit by bit.
+fn bit_by_bit(remainder: u32, byte: u8) -> u32 {
+    let mut remainder = remainder ^ u32::from(byte);
+    for _ in 0..8 {
+        let odd = remainder & 1 == 1;
+        remainder = (remainder >> 1) ^ if odd { 0x82f6_3b78 } else { 0 };
+    }
+    remainder
+}
+
+/// Each length up to several steps of sixteen bytes, with all that may be left, against the sum bit by bit.
+#[test]
+fn lengths(rt: HostRuntime) {
+    let mut raw = [0u8; 84];
+    let mut remainder = u32::MAX;
+    for len in 0..84u8 {
+        assert_eq!(rt; crc32c(&raw[..usize::from(len)]), remainder ^ u32::MAX);
+        let byte = len.wrapping_mul(151) ^ 0x5a;
+        raw[usize::from(len)] = byte;
+        remainder = bit_by_bit(remainder, byte);
+    }
+}
+
 /// Datagrams of the same kind, a message that opens a channel or carries text, as three stacks wrote them: their checksum
 /// stands in bytes 8 to 11, low byte first.
 const DATAGRAMS: [&[u8]; 3] = [

@@ -6,7 +6,7 @@ use Rattle.crc32c.specs.declared.tables.TheConstants.{TABLES}
 use Rattle.crc32c.proofs.Rows.{table_at}
 use Rattle.crc32c.proofs.steps.after_zeros.Goals as goal
 
-entry : (zeros word : ℕ) → 0 < zeros → zeros < 9
+entry : (zeros word : ℕ) → 0 < zeros → zeros < 17
     → get_or (get_or TABLES (zeros - 1) []) (bit_and word 255) 0 ≡ zero_bytes zeros (word % 256)
 entry zeros word some few =
     let again : suc (zeros - 1) ≡ zeros = omega arith in
