@@ -181,16 +181,15 @@ def within(section, own):
 
 
 def is_named(path, name):
-    """Tells whether the page names what cites a section: a call or type of a library, no constant, error, binding for C, program or test."""
+    """Tells whether what cites a section counts for the page: a call or type of a library, no constant, error, binding for C, program or test."""
     crate = path.split("/")[1]
     is_library = not crate.endswith("_tests") and not os.path.exists(f"crates/{crate}/src/main.rt") and crate not in ("sctp_c", "uses", "benchlib")
     return bool(name) and "/src/" in path and is_library and not name.isupper() and name != "Error"
 
 
-def cell(places):
-    """Returns a row's names: what cites the section, each once; where only specs do, their files; "" where all else does."""
-    named = sorted({f"`{name}`" for path, _, name in places if is_named(path, name)})
-    return ", ".join(named) or ", ".join(sorted({f"`{os.path.basename(path)}`" for path, _, _ in places if "/specs/" in path}))
+def is_placed(places):
+    """Tells whether the page lists a section: a call, a type or a definition of the libraries cites it."""
+    return any(is_named(path, name) or "/specs/" in path for path, _, name in places)
 
 
 def rules():
@@ -208,28 +207,20 @@ def rules():
         print(f"| {rule} | {section} | {words} | {named} | {tested} |")
 
 
-def rows_of(citations):
-    """Returns the rows of the page: an RFC, a section, and the names; an RFC without titles is one row with all its sections."""
-    rows = [(rfc, section, cell(citations[(rfc, section)]))
-            for rfc, titles in TITLES.items() for section in sorted({it[1] for it in citations if it[0] == rfc and it[1]}, key=order)]
-    for rfc in sorted({it[0] for it in citations} - set(TITLES), key=int):
-        named = {it: places for it, places in citations.items() if it[0] == rfc and it[1] and cell(places)}
-        rows.append((rfc, ", ".join(sorted((it[1] for it in named), key=order)), cell(set().union(*named.values()))))
-    return [it for it in rows if it[2]]
+def sections_of(rfc, citations):
+    """Returns the sections of an RFC that the page lists, in their order."""
+    return sorted((section for other, section in citations if other == rfc and section and is_placed(citations[(other, section)])), key=order)
 
 
 def page(citations):
     print("# Which rule of an RFC stands where\n")
-    print("Made by `python3 tools/rfc.py --page` out of the comments. `python3 tools/rfc.py RFC SECTION` prints the title of a section, and of each call")
-    print("that cites it the place, clauses and tests; `python3 tools/trace.py NAME` a call's contract and its definitions. RFC 9260 replaced RFC 4960;")
-    print("the numbers are those of RFC 4960.")
+    print("Made by `python3 tools/rfc.py --page` out of the comments. RFC 9260 replaced RFC 4960; the numbers are those of RFC 4960.")
     rules()
-    print("\n## By section\n\nThe calls and types of the libraries whose comments cite a section, or files of definitions.")
-    before = ""
-    for rfc, sections, names in rows_of(citations):
-        group = f"RFC {rfc}" if rfc in TITLES else "Others"
-        print((f"\n{group}:\n\n" if group != before else "") + f"- {'' if rfc in TITLES else rfc + ' '}{sections}: {names}")
-        before = group
+    print("\n## Sections that comments cite\n\nOf calls, types and definitions of the libraries; `python3 tools/rfc.py RFC SECTION` names these, with their "
+          "places, clauses and tests.\n")
+    for rfc in [*TITLES, *sorted({it[0] for it in citations} - set(TITLES), key=int)]:
+        if sections := sections_of(rfc, citations):
+            print(f"- RFC {rfc}: {', '.join(sections)}")
     print("\n## Not cited\n")
     for rfc, titles in TITLES.items():
         for section in sorted(titles, key=order):
