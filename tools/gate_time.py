@@ -20,7 +20,7 @@ MINUTE = 0.1
 GAIN = {1: 1, 2: 1.45, 3: 1.7, 4: 1.9}
 # how much of the table's time it takes where so many processors are at work: measured for two, guessed for one and three
 SHARE = {1: 0.8, 2: 0.8, 3: 0.9}
-ROW = re.compile(r"\| `(\w+)` \|[^|]*\|" + r" *([\d.]*) *\|" * 3)
+ROW = re.compile(r"\| `(\w+)` \|[^|]*\|" + r"(?: *([\d.]*) *\|)?" * 3)
 
 
 def times_of(page):
