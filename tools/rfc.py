@@ -218,14 +218,17 @@ def page(citations):
     rules()
     print("\n## Sections that comments cite\n\nOf calls, types and definitions of the libraries; `python3 tools/rfc.py RFC SECTION` names these, with their "
           "places, clauses and tests.\n")
-    for rfc in [*TITLES, *sorted({it[0] for it in citations} - set(TITLES), key=int)]:
-        if sections := sections_of(rfc, citations):
-            print(f"- RFC {rfc}: {', '.join(sections)}")
-    print("\n## Not cited\n")
+    for rfc in TITLES:
+        print(f"- RFC {rfc}: {', '.join(sections_of(rfc, citations))}")
+    others = [rfc for rfc in sorted({it[0] for it in citations} - set(TITLES), key=int) if sections_of(rfc, citations)]
+    print(f"- others: RFC {', '.join(others)}\n\n## Not cited\n")
+    missing = {}
     for rfc, titles in TITLES.items():
         for section in sorted(titles, key=order):
             if (rfc, section) not in citations:
-                print(f"- RFC {rfc} {section}: {REASONS.get((rfc, section), titles[section])}")
+                missing.setdefault((rfc, REASONS.get((rfc, section), titles[section])), []).append(section)
+    for (rfc, reason), sections in missing.items():
+        print(f"- RFC {rfc} {', '.join(sections)}: {reason}")
 
 
 def main():
