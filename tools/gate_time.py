@@ -20,13 +20,13 @@ MINUTE = 0.1
 GAIN = {1: 1, 2: 1.45, 3: 1.7, 4: 1.9}
 # how much of the table's time it takes where so many processors are at work: measured for two, guessed for one and three
 SHARE = {1: 0.8, 2: 0.8, 3: 0.9}
-ROW = re.compile(r"\| `(\w+)` \|[^|]*\|" + r" *([\d.]*) *\|" * 3)
+ROW = re.compile(r"(\w+) +\d+" + r"(?: +([\d.]+|-))?" * 3 + "$")
 
 
 def times_of(page):
     """Returns for each crate of the table the processor minutes of its proof, its tests and its wrong bodies."""
     with open(page, encoding="utf-8") as it:
-        return {row[1]: [float(minutes or 0) for minutes in row.groups()[1:]] for row in map(ROW.match, it) if row}
+        return {row[1]: [float((minutes or "").strip("-") or 0) for minutes in row.groups()[1:]] for row in map(ROW.match, it) if row}
 
 
 def tasks_of(rt, crates, times, processors, ended):

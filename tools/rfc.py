@@ -6,10 +6,9 @@
 
 run at the top of the repository. With nothing it lists the sections and how often each is cited; with an RFC (`4960`), and a section of it
 (`6.2.1`, which takes those below it too), it prints each call with its clauses' names and the tests that call it, and each definition of the specs.
-With --page it prints docs/RFC.md, which begins with rules by their words, and ends with status 1 where one of those names what isn't there. A
+With --page it prints docs/RFC.md, the rules by their words, and ends with status 1 where one of those names what isn't there. A
 citation is `RFC 4960 6.5, 6.6` in a comment; it counts for what the comment stands before, or for its file.
 """
-import os
 import re
 import sys
 
@@ -180,19 +179,6 @@ def within(section, own):
     return not section or own == section or own.startswith(section + ".")
 
 
-def is_named(path, name):
-    """Tells whether the page names what cites a section: a call or type of a library, no constant, error, binding for C, program or test."""
-    crate = path.split("/")[1]
-    is_library = not crate.endswith("_tests") and not os.path.exists(f"crates/{crate}/src/main.rt") and crate not in ("sctp_c", "uses", "benchlib")
-    return bool(name) and "/src/" in path and is_library and not name.isupper() and name != "Error"
-
-
-def cell(places):
-    """Returns a row's names: what cites the section, each once; where only specs do, their files; "" where all else does."""
-    named = sorted({f"`{name}`" for path, _, name in places if is_named(path, name)})
-    return ", ".join(named) or ", ".join(sorted({f"`{os.path.basename(path)}`" for path, _, _ in places if "/specs/" in path}))
-
-
 def rules():
     """Prints the table of RULES; ends with status 1 where one of them names what isn't there."""
     functions = {it.title() for it in Sources().functions}
@@ -200,7 +186,7 @@ def rules():
     missing += [title for rule in RULES for title in rule[3] + rule[4] if title not in functions]
     if missing:
         sys.exit("rfc.py: RULES names what is not there: " + ", ".join(missing))
-    print("\n## Rules by their words\n\n| rule | RFC | definition | call | test |\n|---|---|---|---|---|")
+    print("| rule | RFC | definition | call | test |\n|---|---|---|---|---|")
     for rule, section, definitions, calls, tests in RULES:
         words = ", ".join(f"`{crate}::{word}`" for crate, _, word in definitions)
         named = ", ".join(f"`{it.partition('::')[2]}`" for it in calls)
@@ -208,45 +194,36 @@ def rules():
         print(f"| {rule} | {section} | {words} | {named} | {tested} |")
 
 
-def rows_of(citations):
-    """Returns the rows of the page: an RFC, a section, and the names; an RFC without titles is one row with all its sections."""
-    rows = [(rfc, section, cell(citations[(rfc, section)]))
-            for rfc, titles in TITLES.items() for section in sorted({it[1] for it in citations if it[0] == rfc and it[1]}, key=order)]
-    for rfc in sorted({it[0] for it in citations} - set(TITLES), key=int):
-        named = {it: places for it, places in citations.items() if it[0] == rfc and it[1] and cell(places)}
-        rows.append((rfc, ", ".join(sorted((it[1] for it in named), key=order)), cell(set().union(*named.values()))))
-    return [it for it in rows if it[2]]
-
-
-def page(citations):
-    print("# Which rule of an RFC stands where\n")
-    print("Made by `python3 tools/rfc.py --page` out of the comments. `python3 tools/rfc.py RFC SECTION` prints the title of a section, and of each call")
-    print("that cites it the place, clauses and tests; `python3 tools/trace.py NAME` a call's contract and its definitions. RFC 9260 replaced RFC 4960;")
-    print("the numbers are those of RFC 4960.")
-    rules()
-    print("\n## By section\n\nThe calls and types of the libraries whose comments cite a section, or files of definitions.")
-    before = ""
-    for rfc, sections, names in rows_of(citations):
-        group = f"RFC {rfc}" if rfc in TITLES else "Others"
-        print((f"\n{group}:\n\n" if group != before else "") + f"- {'' if rfc in TITLES else rfc + ' '}{sections}: {names}")
-        before = group
-    print("\n## Not cited\n")
+def not_cited(citations):
+    """Prints the sections that nothing cites, and why."""
+    missing = {}
     for rfc, titles in TITLES.items():
         for section in sorted(titles, key=order):
             if (rfc, section) not in citations:
-                print(f"- RFC {rfc} {section}: {REASONS.get((rfc, section), titles[section])}")
+                missing.setdefault((rfc, REASONS.get((rfc, section), titles[section])), []).append(section)
+    for (rfc, reason), sections in missing.items():
+        print(f"- not cited: RFC {rfc} {', '.join(sections)}: {reason}")
+
+
+def page():
+    print("# Which rule of an RFC stands where\n")
+    print("Made by `python3 tools/rfc.py --page`. `python3 tools/rfc.py` lists the sections that comments cite, and those that none cites;")
+    print("`python3 tools/rfc.py RFC SECTION` the calls and definitions that cite one, with clauses and tests. RFC 9260 replaced RFC 4960; the")
+    print("numbers are those of RFC 4960.\n")
+    rules()
 
 
 def main():
-    citations = all_citations()
     if sys.argv[1:] == ["--page"]:
-        page(citations)
-    elif sys.argv[1:]:
+        return page()
+    citations = all_citations()
+    if sys.argv[1:]:
         sources = Sources()
         show(sys.argv[1], sys.argv[2] if len(sys.argv) > 2 else "", citations, sources, Callers(sources))
     else:
         for (rfc, section), places in sorted(citations.items(), key=lambda it: (it[0][0], order(it[0][1]))):
             print(f"RFC {rfc} {section or '(whole)'}  {len(places)}")
+        not_cited(citations)
 
 
 main()

@@ -1,14 +1,15 @@
 #!/usr/bin/env python3
-"""Prints, of a call, where its code, contract, definitions, proof, wrong bodies and tests stand; or where a word of the clauses is defined.
+"""Prints, of a call, its comment and contract, and where its code, definitions, proof, wrong bodies and tests stand; or where a word is defined.
 
     python3 tools/trace.py NAME
+    python3 tools/trace.py CRATE
     python3 tools/trace.py --all
 
 run at the top of the repository. NAME is a function (`sna32lt`), a type's function (`PayloadQueue::push`), or either behind a crate's
 name (`sctp_outbound::PayloadQueue::push`), public or not; or a word of the clauses (`after_sack`, `sctp_receiver::is_stale`), of which it prints
-the definition and the calls whose clauses name it. With --all it prints each public call of a library that misses something: a clause or a test that
-reaches it, and a wrong body or a caller, or, of a law, its proof; then a count, and the exit status is 0 where nothing is missing. It reads
-texts alone, and proves nothing.
+the definition and the calls whose clauses name it. Of a CRATE it lists the public calls, each with the first sentence of its comment and the names
+of its clauses. With --all it prints each public call of a library that misses something: a clause or a test that reaches it, and a wrong body or a
+caller, or, of a law, its proof; then a count, and the exit status is 0 where nothing is missing. It reads texts alone, and proves nothing.
 
 Definitions are those of the words that the clauses name, where they stand in a crate of this repository. What has no clause of its own and is a
 trait's has the trait's. A caller is a function that calls it by a value of its type, as far as parameters, fields and results tell; where they
@@ -154,9 +155,18 @@ def show(title, rows, none, most=12):
         print(f"    and {len(rows) - most} more")
 
 
+def comment_of(call):
+    """Returns the lines of the comment above a call."""
+    lines, begin = lines_of(call.path), call.line - 1
+    while begin and re.match(r"\s*(///|#\[)", lines[begin - 1]):
+        begin -= 1
+    return [it.strip().removeprefix("///").strip() for it in lines[begin:call.line - 1] if it.strip().startswith("///")]
+
+
 def trace(call, traits, bodies, callers):
     print(f"{call.title()}{'' if call.is_public else '  (private)'}")
     show("code", [f"{call.path}:{call.line}"], "")
+    show("comment", comment_of(call), "none", 60)
     origin = traits.get((call.path, call.line))
     show("contract", ([origin] if origin else []) + call.clauses, "no clause: it is safe and total", len(call.clauses) + 1)
     show("definitions", definitions_of(call), "none beside those of its types")
@@ -179,6 +189,16 @@ def text_at(place):
     return lines[begin:end]
 
 
+def list_calls(crate, sources):
+    """Prints the public calls of a crate, but for those that a trait has."""
+    for it in sources.functions:
+        if it.crate == crate and it.is_public and not it.is_test and not it.trait:
+            first = re.match(r"(.*?\.)(\s|$)", " ".join(comment_of(it)))
+            clauses = re.findall(r"\bensures (\w+) \{", " ".join(it.clauses))
+            print(f"{it.title()}  {it.path}:{it.line}")
+            print(f"    {first[1] if first else 'no comment'}" + (f" ({', '.join(clauses)})" if clauses else ""))
+
+
 def trace_word(word, sources, rooms):
     """Prints the definition of a word of the clauses in these crates, and the calls whose clauses name it; returns whether there is such a word."""
     found = [at for crate in rooms for path in files_below(f"crates/{crate}/specs", ".antt")
@@ -198,6 +218,8 @@ def main():
     if len(sys.argv) != 2:
         sys.exit(__doc__)
     sources = Sources()
+    if sys.argv[1] in crates():
+        return list_calls(sys.argv[1], sources)
     traits, callers = with_traits(sources), Callers(sources)
     bodies = {crate: wrong_bodies_of(crate) for crate in crates()}
     if sys.argv[1] != "--all":

@@ -1,5 +1,5 @@
 #!/usr/bin/env python3
-"""Asks trace.py's reading for what was found by hand: callers of twenty-one calls, contracts of traits, and definitions.
+"""Asks trace.py's reading for what was found by hand: callers of twenty-one calls, contracts of traits, definitions, and comments.
 
     python3 tools/trace_test.py
 
@@ -9,7 +9,7 @@ looks by hand again. Prints what differs; the exit status is 0 where nothing doe
 import sys
 
 from sources import Sources
-from trace import Callers, definitions_of, with_traits
+from trace import Callers, comment_of, definitions_of, with_traits
 
 CALLERS = {
     "sctp_sender::InFlight::expire_late": {"sctp_sender/sender/abandonment expire_late"},
@@ -48,6 +48,11 @@ DEFINITIONS = {
     "crc32c::Crc::update": {"Holds"},
     "sctp_receiver::Receiver::data_each": {"TakesEach", "StopsAt"},
 }
+# how a comment begins, and how many lines it has
+COMMENTS = {
+    "sctp_sender::Sender::retransmit_all": ("Marks each outstanding chunk in flight for retransmission", 2),
+    "sctp_delivery::a_sack_of_all_leaves_nothing": ("A SACK of the receiver that has as its cumulative TSN", 1),
+}
 
 
 def main():
@@ -71,7 +76,12 @@ def main():
         if found != want:
             wrong += 1
             print(f"{title}: definitions {sorted(found)}, not {sorted(want)}")
-    print(f"{len(CALLERS) + len(TRAITS) + len(DEFINITIONS)} asked, {wrong} differ")
+    for title, (begins, count) in COMMENTS.items():
+        found = comment_of(calls[title])
+        if len(found) != count or not found[0].startswith(begins):
+            wrong += 1
+            print(f"{title}: comment of {len(found)} lines, {found[:1]}")
+    print(f"{len(CALLERS) + len(TRAITS) + len(DEFINITIONS) + len(COMMENTS)} asked, {wrong} differ")
     sys.exit(1 if wrong else 0)
 
 
