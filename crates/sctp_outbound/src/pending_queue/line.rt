@@ -19,6 +19,9 @@ use std::alloc::Global;
 use std::collections::VecDeque;
 use std::marker::Model;
 
+// For how many chunks an empty line keeps memory, where its room does not ask for more: 139,264 bytes.
+const MOST_KEPT: usize = 1024;
+
 /// Chunks in the order in which they came. The next `room` pushes take no memory.
 #[derive(Drop)]
 pub(crate) struct Line {
@@ -184,7 +187,17 @@ impl Line {
     {
         let chunk = self.chunks.pop_front()?;
         self.n_bytes -= chunk.user_data.len();
+        self.give_back();
         Some(chunk)
+    }
+
+    // Gives back memory where no chunk waits: all but that for `MOST_KEPT` chunks and for the room.
+    fn give_back(&mut self)
+        ensures { self.new ≡ self.old }
+    {
+        if self.chunks.is_empty() && self.chunks.capacity() > MOST_KEPT {
+            self.chunks.shrink_to(MOST_KEPT.max(self.room));
+        }
     }
 
     /// Removes what waits of a message, and answers its bytes and the last of it.
@@ -197,6 +210,7 @@ impl Line {
     {
         let (bytes, last) = remove_from(&mut self.chunks, message_id);
         self.n_bytes -= bytes;
+        self.give_back();
         (bytes, last)
     }
 
