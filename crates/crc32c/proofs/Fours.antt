@@ -41,7 +41,7 @@ unfolding word_of
 word_of-four a b c d = omega arith
 
 -- four bytes as one word
-pub fold-four : (r : ℕ) (bs : List ℕ) → length bs ≡ 4 → ((i : ℕ) → get_or bs i 0 < 256)
+fold-four : (r : ℕ) (bs : List ℕ) → length bs ≡ 4 → ((i : ℕ) → get_or bs i 0 < 256)
     → fold byte_step r bs ≡ zero_bytes 4 (bit_xor r (from_le_bytes w32 bs))
 fold-four r bs len bytes =
     let items = four_items 0 bs len in
@@ -59,7 +59,7 @@ four-zero_bytes k r bs len bytes =
     ap (λ n. zero_bytes n (bit_xor r (from_le_bytes w32 bs))) more
     ∙ sym (ap (zero_bytes k) (fold-four r bs len bytes))
 
--- a remainder before some bytes, and beside it the bytes alone
+-- of two remainders joined, one is followed by as many zero bytes
 fold-alone : (bs : List ℕ) (r s : ℕ)
     → fold byte_step (bit_xor r s) bs ≡ bit_xor (zero_bytes (length bs) r) (fold byte_step s bs)
 unfolding byte_step zero_bytes
@@ -68,12 +68,14 @@ fold-alone (b ∷ bs) r s =
     ap (λ n. fold byte_step n bs) (ap (shift_bits 8) (xor_assoc r s b) ∙ shifted_xor 8 r (bit_xor s b))
     ∙ fold-alone bs (shift_bits 8 r) (shift_bits 8 (bit_xor s b))
 
+-- a remainder after as many zero bytes as there are bytes, and beside it what the bytes leave from 0
 pub fold-beside : (bs : List ℕ) (r n : ℕ) → length bs ≡ n
     → fold byte_step r bs ≡ bit_xor (zero_bytes n r) (fold byte_step 0 bs)
 fold-beside bs r n len =
     ap (λ x. fold byte_step x bs) (sym (xor_zero_r r)) ∙ fold-alone bs r 0
     ∙ ap (λ k. bit_xor (zero_bytes k r) (fold byte_step 0 bs)) len
 
+-- the same of four bytes and zero bytes after them
 pub four-beside : (k r : ℕ) (bs : List ℕ) → length bs ≡ 4
     → zero_bytes k (fold byte_step r bs) ≡ bit_xor (zero_bytes (k + 4) r) (zero_bytes k (fold byte_step 0 bs))
 unfolding zero_bytes

@@ -36,8 +36,8 @@ fn four_then_zeros(remainder: u32, four: &[u8; 4], zeros: usize) -> u32
     word_after_zeros(zeros + 4, remainder ^ u32::from_le_bytes(*four))
 }
 
-/// The remainder of four bytes and then so many zero bytes alone: exclusive or joins it to that
-/// of the bytes before them.
+/// What four bytes and then so many zero bytes leave where the remainder before them is 0. From
+/// another one they leave the exclusive or of this and of what it becomes after as many zero bytes.
 #[inline(always)]
 fn four_alone(four: &[u8; 4], zeros: usize) -> u32
     requires tables { zeros ≤ 12 }
@@ -47,8 +47,8 @@ fn four_alone(four: &[u8; 4], zeros: usize) -> u32
     four_then_zeros(0, four, zeros)
 }
 
-/// The remainder of four bytes alone, as `four_alone` with no zero bytes. Each byte is loaded by
-/// itself: that is fewer instructions and more loads than to cut it out of a word.
+/// `four_alone` with no zero bytes. Each byte is loaded by itself, which takes fewer instructions
+/// and more loads than to cut it out of a word.
 #[inline(always)]
 fn last_four_alone(four: &[u8; 4]) -> u32
     ensures { (r : ℕ) → fold byte_step r four.now ≡ bit_xor (zero_bytes 4 r) result }
