@@ -50,7 +50,8 @@ module _ {X : Type 0} (p : X → Bool) where
   none-between xs (suc i) zero le h = absurd (omega (arith, le))
   none-between [] zero (suc j) le h = refl
   none-between [] (suc i) (suc j) le h = refl
-  none-between (x ∷ xs) zero (suc j) le h = ap (λ b. if b then x ∷ filter p (take j xs) else filter p (take j xs)) (h 0 x (omega arith) (omega arith) (omega arith))
+  none-between (x ∷ xs) zero (suc j) le h =
+      ap (λ b. if b then x ∷ filter p (take j xs) else filter p (take j xs)) (h 0 x (omega arith) (omega arith) (omega arith))
       ∙ none-between xs zero j (omega arith) (λ k d low high in'. h (suc k) d (omega arith) (omega (arith, high)) (omega (arith, in')))
   none-between (x ∷ xs) (suc i) (suc j) le h = ap (λ ys. if p x then x ∷ ys else ys)
       (none-between xs i j (omega (arith, le)) (λ k d low high in'. h (suc k) d (omega (arith, low)) (omega (arith, high)) (omega (arith, in'))))
@@ -146,7 +147,8 @@ open-front p count sorted cs picks k d low high in' =
     picks k d in' ∙ ap (λ b. not (get_or cs k d).acked && (b || is_in_blocks sorted (suc k - count))) front ∙ and-true (not (get_or cs k d).acked)
 
 pub at-start : (count : ℕ) (sorted : List GapAckBlock) (cs : List ChunkPayloadData) (rs : List Released) → ascends_from 0 sorted ≡ true → count ≤ length cs
-    → ((p : ChunkPayloadData → Bool) → PicksOpen p 0 count cs → rs ≡ map (released_of no_message) (filter p (take count cs))) → IsToldTo count sorted sorted cs rs
+    → ((p : ChunkPayloadData → Bool) → PicksOpen p 0 count cs → rs ≡ map (released_of no_message) (filter p (take count cs)))
+    → IsToldTo count sorted sorted cs rs
 at-start count sorted cs rs e le f = record {
   last = 0;
   within = omega (arith, le);
@@ -183,13 +185,15 @@ module _ (count : ℕ) (sorted rest : List GapAckBlock) (b : GapAckBlock) (cs : 
   pub block-within : ((n : ℕ) → is_in_blocks sorted n ≡ true → count + n ≤ length cs) → count + b.end ≤ length cs
   block-within within = within b.end (in-this b.end a.runs (omega arith))
 
-  module _ (from to : ℕ) (first : from + 1 ≡ count + b.start) (end : to ≡ count + b.end) (p : ChunkPayloadData → Bool) (picks : PicksAnew p count sorted cs) where
+  module _ (from to : ℕ) (first : from + 1 ≡ count + b.start) (end : to ≡ count + b.end) (p : ChunkPayloadData → Bool)
+      (picks : PicksAnew p count sorted cs) where
     back : (k : ℕ) → count + t.last ≤ k → nat_lt k count ≡ false
     back k low = grind (arith, nat_tests, low)
 
     pub open-block : PicksOpen p from to cs
     open-block k d low high in' =
-        let here : is_in_blocks sorted (suc k - count) ≡ true = let h = a.behind in in-this (suc k - count) (omega (arith, low, first)) (omega (arith, high, end, low, first, h)) in
+        let here : is_in_blocks sorted (suc k - count) ≡ true = let h = a.behind in
+        in-this (suc k - count) (omega (arith, low, first)) (omega (arith, high, end, low, first, h)) in
         picks k d in' ∙ ap (λ b. not (get_or cs k d).acked && b) (or-right (nat_lt k count) (is_in_blocks sorted (suc k - count)) here)
         ∙ and-true (not (get_or cs k d).acked)
 
@@ -197,7 +201,8 @@ module _ (count : ℕ) (sorted rest : List GapAckBlock) (b : GapAckBlock) (cs : 
     gap = t.told p picks ∙ ap (map (released_of no_message))
         (sym (none-between p cs (count + t.last) from (let h = a.behind in omega (arith, h, first)) (λ k d low high in'.
         picks k d in' ∙ ap (λ b. not (get_or cs k d).acked && (b || is_in_blocks sorted (suc k - count))) (back k low)
-        ∙ ap (λ b. not (get_or cs k d).acked && b) (before-this (suc k - count) (omega (arith, low)) (omega (arith, high, first, low))) ∙ and-none (not (get_or cs k d).acked))))
+        ∙ ap (λ b. not (get_or cs k d).acked && b) (before-this (suc k - count) (omega (arith, low)) (omega (arith, high, first, low)))
+        ∙ and-none (not (get_or cs k d).acked))))
 
   pub next-block : (from to : ℕ) → from + 1 ≡ count + b.start → to ≡ count + b.end → ((n : ℕ) → is_in_blocks sorted n ≡ true → count + n ≤ length cs)
       → (rs' : List Released) → ((p : ChunkPayloadData → Bool) → PicksOpen p from to cs → rs ≡ map (released_of no_message) (filter p (take from cs))

@@ -9,7 +9,8 @@ use Rattle.sctp_list_lemmas.proofs.Edits.{length-change_where}
 use Rattle.sctp_data.specs.declared.chunk.chunk_payload_data.ChunkPayloadData.{ChunkPayloadData}
 use Rattle.sctp_data.specs.declared.chunk.chunk_selective_ack.GapAckBlock.{GapAckBlock}
 use Rattle.sctp_outbound.specs.Marks.{as_abandoned, is_of}
-use Rattle.sctp_outbound.specs.outbound_queue.OutboundQueue.{Outbound, abandoned_of, all_started, as_sent, expired_of, sent_next, sent_of, terminal_chunk, with_message, with_terminal_chunk}
+use Rattle.sctp_outbound.specs.outbound_queue.OutboundQueue.{Outbound, abandoned_of, all_started, as_sent, expired_of, sent_next, sent_of, terminal_chunk}
+use Rattle.sctp_outbound.specs.outbound_queue.OutboundQueue.{with_message, with_terminal_chunk}
 use Rattle.sctp_outbound.specs.payload_queue.PayloadQueue as payload
 use Rattle.sctp_outbound.specs.pending_queue.PendingQueue.{last_removed, next_pending}
 use Rattle.sctp_serial.specs.DataChunks.{following_tsn}
@@ -42,7 +43,8 @@ module _ (bs : List GapAckBlock) (cs : List ChunkPayloadData) (known : AreKnown 
   pub part-changed-known : (p : ChunkPayloadData → Bool) (f : ChunkPayloadData → ChunkPayloadData) → ((c : ChunkPayloadData) → (f c).acked ≡ c.acked)
       → (i : ℕ) → AreKnown bs (change_where p f (take i cs) ++ drop i cs)
   part-changed-known p f same i = same-known (change_where p f (take i cs) ++ drop i cs)
-      (map-append (λ (c : ChunkPayloadData). c.acked) (change_where p f (take i cs)) (drop i cs) ∙ ap (λ bits. bits ++ flags (drop i cs)) (changed-flags p f same (take i cs))
+      (map-append (λ (c : ChunkPayloadData). c.acked) (change_where p f (take i cs)) (drop i cs)
+      ∙ ap (λ bits. bits ++ flags (drop i cs)) (changed-flags p f same (take i cs))
       ∙ sym (map-append (λ (c : ChunkPayloadData). c.acked) (take i cs) (drop i cs)) ∙ ap flags (take-append-drop i cs))
 
   pub more-known : (ds : List ChunkPayloadData) (x : ChunkPayloadData) → flags ds ≡ flags cs → AreKnown bs (ds ++ x ∷ [])
@@ -90,7 +92,8 @@ abandoned-known bs f inv known (Some m) then' is = subst (λ (o : Outbound). Are
     by None = same-known bs f.queue.inflight.chunks known xs same
     by (Some c) =
         let t = terminal_chunk f.next_tsn c in
-        let at-end = put-behind t xs (following_tsn f.acked_tsn) (omega arith) (omega (arith, n, inv.few)) run (let next = inv.next in omega (arith, next, n)) in
+        let at-end = put-behind t xs (following_tsn f.acked_tsn) (omega arith)
+        (omega (arith, n, inv.few)) run (let next = inv.next in omega (arith, next, n)) in
         subst (AreKnown bs) (sym at-end) (more-known bs f.queue.inflight.chunks known xs t same)
 
 pub started-known : (bs : List GapAckBlock) (q r : Outbound) (now : ℕ) → r ≡ all_started now q → AreKnown bs q.inflight.chunks → AreKnown bs r.inflight.chunks

@@ -59,8 +59,8 @@ module _ (cs : List ChunkPayloadData) (m : ℕ) where
   pub none-back : (place : ℕ) → IsClosedBack place 0 → list_any (is_open_of m) (take place cs) ≡ false
   none-back place t = none-taken (is_open_of m) cs place (λ i d lt in'. t.none i d (omega arith) lt)
 
-  pub other-back : StandSideBySide (messages_of cs) → (place start : ℕ) → IsClosedBack place start → place < length cs → 0 < start → ((d : ChunkPayloadData) → (get_or cs (start - 1) d).message_id ≢ m)
-      → list_any (is_open_of m) (take place cs) ≡ false
+  pub other-back : StandSideBySide (messages_of cs) → (place start : ℕ) → IsClosedBack place start → place < length cs → 0 < start
+      → ((d : ChunkPayloadData) → (get_or cs (start - 1) d).message_id ≢ m) → list_any (is_open_of m) (take place cs) ≡ false
   other-back beside place start t in' pos differ = none-taken (is_open_of m) cs place (λ i d lt less. elim (cases_lt i start) [
     | inl before ↦ other m (get_or cs i d) (λ e. apart i start d before (omega arith) (omega (arith, t.low, in')) (sym e ∙ sym (t.own d)))
     | inr ge ↦ t.none i d ge lt
@@ -101,8 +101,8 @@ module _ (cs : List ChunkPayloadData) (m : ℕ) where
   pub none-on : (place end : ℕ) → IsClosedOn place end → length cs ≤ end → list_any (is_open_of m) (drop place cs) ≡ false
   none-on place end t all = none-dropped (is_open_of m) cs place (λ j d le lt. t.none j d le (omega (arith, lt, all)))
 
-  pub other-on : StandSideBySide (messages_of cs) → (place end : ℕ) → IsClosedOn place end → end < length cs → place < end → ((d : ChunkPayloadData) → (get_or cs end d).message_id ≢ m)
-      → list_any (is_open_of m) (drop place cs) ≡ false
+  pub other-on : StandSideBySide (messages_of cs) → (place end : ℕ) → IsClosedOn place end → end < length cs → place < end
+      → ((d : ChunkPayloadData) → (get_or cs end d).message_id ≢ m) → list_any (is_open_of m) (drop place cs) ≡ false
   other-on beside place end t in' pos differ = none-dropped (is_open_of m) cs place (λ j d le lt. elim (cases_lt j end) [
     | inl before ↦ t.none j d le before
     | inr ge ↦ other m (get_or cs j d) (λ e. apart (end - 1) j d (omega (arith, pos)) ge lt (t.own d pos ∙ e))

@@ -1,5 +1,6 @@
 -- Which places in flight a SACK reports.
-use Rattle.std.proofs.Common.{◌≡◌, ℕ, zero, suc, ◌+◌, ◌-◌, ◌<◌, ◌≤◌, ◌%◌, ◌^◌, Bool, true, false, List, [], ◌∷◌, length, length-drop, map, drop, get_or, Option, Some}
+use Rattle.std.proofs.Common.{◌≡◌, ℕ, zero, suc, ◌+◌, ◌-◌, ◌<◌, ◌≤◌, ◌%◌, ◌^◌, Bool, true, false, List, [], ◌∷◌, length, length-drop, map, drop, get_or, Option}
+use Rattle.std.proofs.Common.{Some}
 use Rattle.std.proofs.Common.{None, refl, ap, sym, ◌∙◌, inl, inr, arith}
 use Rattle.std.specs.Prelude.{if◌then◌else◌, ◌&&◌, ◌||◌, not, nat_le, nat_lt}
 use Rattle.std.specs.List.{filter, list_all, list_any}
@@ -20,7 +21,8 @@ use Rattle.sctp_serial.specs.DataChunks.{following_tsn}
 use Rattle.sctp_sender.specs.declared.sender.flight.Released.{Released}
 use Rattle.sctp_sender.specs.declared.sender.refusal.SenderRefusal.{SenderRefusal}
 use Rattle.sctp_sender.specs.declared.sender.refusal.SenderRefusal.TheVariants.{InflightQueueTsnPop, TsnRequestNotExist}
-use Rattle.sctp_sender.specs.Flight.{Flight, IsContiguous, count_acked, is_half, is_outdated, is_whole, is_within, released_of, reports, reports_anew, sack_refusal}
+use Rattle.sctp_sender.specs.Flight.{Flight, IsContiguous, count_acked, is_half, is_outdated, is_whole, is_within, released_of, reports, reports_anew}
+use Rattle.sctp_sender.specs.Flight.{sack_refusal}
 use Rattle.sctp_sender.specs.Reporting.{AreKnown, AreSorted}
 use Rattle.sctp_sender.specs.Telling.{PicksAnew, is_closed, is_open_of, is_reached, judged, no_message}
 use Rattle.sctp_sender.proofs.Anew.{all-at, any-place, both}
@@ -119,7 +121,8 @@ module _ (f : Flight) (inv : IsContiguous f) (s : Sack) (fits : s.cumulative_tsn
     reached k d lt = elim (cases_lt k count) [
       | inl low ↦
           let front : nat_lt k count ≡ true = grind (arith, nat_tests, low) in
-          reports-at k d lt ∙ ap (λ b. b || is_in_blocks s.gap_ack_blocks (suc k - count)) front ∙ sym (ap (λ b. b || is_in_blocks sorted (suc k - count)) front)
+          reports-at k d lt ∙ ap (λ b. b || is_in_blocks s.gap_ack_blocks (suc k - count)) front
+          ∙ sym (ap (λ b. b || is_in_blocks sorted (suc k - count)) front)
       | inr high ↦ reports-at k d lt ∙ ap (λ b. nat_lt k count || b) (sym (are.same (suc k - count) (omega (arith, high))))
     ]
 
@@ -172,4 +175,5 @@ told-judged s f half is-half cs ds is are = each (filter (reports_anew s) cs)
     each [] = refl
     each (x ∷ xs) =
         ap (λ (k : Bool). let r : Released = record (released_of no_message x) { is_message_acked = k } in
-        r ∷ map (judged half ds) (map (released_of no_message) xs)) (closed x.message_id) ∙ ap (λ (rs : List Released). released_of (is_whole s f) x ∷ rs) (each xs)
+        r ∷ map (judged half ds) (map (released_of no_message) xs)) (closed x.message_id)
+        ∙ ap (λ (rs : List Released). released_of (is_whole s f) x ∷ rs) (each xs)

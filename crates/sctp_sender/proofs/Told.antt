@@ -88,7 +88,8 @@ one-acknowledged first cs ys rs i k r d small run few more is lt tsn so_far =
     let n : length ys ≡ length cs = ap length so_far ∙ length-change_where (is_told (take i rs)) as_acknowledged cs in
     let its-run : IsRunFrom first ys = ap (λ (zs : List ChunkPayloadData). map (λ (c : ChunkPayloadData). c.tsn) zs) so_far
     ∙ changed-run (is_told (take i rs)) as_acknowledged (λ c. refl) cs ∙ run ∙ ap (tsns_from first) (sym n) in
-    let only : OnlyAt (has_tsn r.tsn) ys k = subst (λ t. OnlyAt (has_tsn t) ys k) (sym tsn) (only-at ys first k small its-run (omega (arith, few, n)) (omega (arith, lt, n))) in
+    let only : OnlyAt (has_tsn r.tsn) ys k = subst (λ t. OnlyAt (has_tsn t) ys k) (sym tsn)
+    (only-at ys first k small its-run (omega (arith, few, n)) (omega (arith, lt, n))) in
     let told : (c : ChunkPayloadData) → (is_told (take i rs) c || has_tsn r.tsn c) ≡ is_told (take (i + 1) rs) c = λ c.
     ap (λ b. is_told (take i rs) c || b) (sym (or-none (has_tsn r.tsn c))) ∙ sym (list_any-append (is_told_as c) (take i rs) (r ∷ []))
     ∙ ap (list_any (is_told_as c)) (ap (λ y. take i rs ++ y ∷ []) is ∙ sym (take_more rs i r more)) in
@@ -141,7 +142,8 @@ pub told-are : (p : ChunkPayloadData → Bool) (w : ℕ → Bool) (first : ℕ) 
 told-are p w first cs small run few = change-same as_acknowledged (is_told (map (released_of w) (filter p cs))) p cs (λ k d lt.
     let c : ChunkPayloadData = get_or cs k d in
     let here : c.tsn ≡ (first + k) % 2 ^ 32 = tsn-at cs first k d small run lt in
-    let only : OnlyAt (λ (x : ChunkPayloadData). has_tsn x.tsn c) cs k = turned c (subst (λ t. OnlyAt (has_tsn t) cs k) (sym here) (only-at cs first k small run few lt)) in
+    let only : OnlyAt (λ (x : ChunkPayloadData). has_tsn x.tsn c) cs k =
+    turned c (subst (λ t. OnlyAt (has_tsn t) cs k) (sym here) (only-at cs first k small run few lt)) in
     told-of-those p w c cs ∙ only-any p (λ (x : ChunkPayloadData). has_tsn x.tsn c) cs k d only)
   where
     turn : (a b : ℕ) → nat_eq a b ≡ nat_eq b a

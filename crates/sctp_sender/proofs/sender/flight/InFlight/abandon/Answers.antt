@@ -28,12 +28,15 @@ invariant_of-self-2 c =
     record {
       contiguous = (after-abandoning f _ c.abandon_between.new.self c.abandon_between.new.next_tsn c.self.invariant.contiguous room c.in_ok-abandoned.ensures.ok
           c.in_ok-abandoned.ensures.raised
-          (abandoned-in-line f.queue (following_tsn f.acked_tsn) (omega arith) c.self.invariant.contiguous.few c.self.invariant.contiguous.run c.are_whole.ensures
-          c.self.invariant.contiguous.side_by_side (to_abandon (find (has_tsn c.args.tsn) f.queue.inflight.chunks)) f.next_tsn (let next = c.self.invariant.contiguous.next in
+          (abandoned-in-line f.queue (following_tsn f.acked_tsn)
+          (omega arith) c.self.invariant.contiguous.few c.self.invariant.contiguous.run c.are_whole.ensures
+          c.self.invariant.contiguous.side_by_side (to_abandon (find (has_tsn c.args.tsn) f.queue.inflight.chunks)) f.next_tsn (let next =
+          c.self.invariant.contiguous.next in
           omega (arith, next)) (found-half f.queue c.are_whole.ensures c.args.tsn (find (has_tsn c.args.tsn) f.queue.inflight.chunks) refl)
           c.abandon_between.new.self c.in_ok-abandoned.ensures.ok));
       ascend = c.self.invariant.ascend;
-      known = abandoned-known c.self.inside.known.items f c.self.invariant.contiguous c.self.invariant.known (to_abandon (find (has_tsn c.args.tsn) f.queue.inflight.chunks)) c.abandon_between.new.self c.in_ok-abandoned.ensures.ok;
+      known = abandoned-known c.self.inside.known.items f c.self.invariant.contiguous c.self.invariant.known
+          (to_abandon (find (has_tsn c.args.tsn) f.queue.inflight.chunks)) c.abandon_between.new.self c.in_ok-abandoned.ensures.ok;
     }
 
 pub abandon_between-requires-clause-between : goal.abandon_between-requires-clause-between

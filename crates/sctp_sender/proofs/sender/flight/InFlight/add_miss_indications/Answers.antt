@@ -19,5 +19,6 @@ invariant_of-self c =
           (part-marked-in-line f.queue c.count_missing.new.queue can_miss missed c.count_before-count.result
           (λ d. refl) c.count_missing.ensures.missed c.self.invariant.contiguous.side_by_side) c.self.invariant.contiguous);
       ascend = c.self.invariant.ascend;
-      known = subst (λ (o : Outbound). AreKnown c.self.inside.known.items o.inflight.chunks) (sym c.count_missing.ensures.missed) (part-changed-known c.self.inside.known.items f.queue.inflight.chunks c.self.invariant.known can_miss missed (λ d. refl) c.count_before-count.result);
+      known = subst (λ (o : Outbound). AreKnown c.self.inside.known.items o.inflight.chunks) (sym c.count_missing.ensures.missed)
+          (part-changed-known c.self.inside.known.items f.queue.inflight.chunks c.self.invariant.known can_miss missed (λ d. refl) c.count_before-count.result);
     }

@@ -19,5 +19,6 @@ invariant_of-self c =
           (marked-in-line f.queue c.set_nsent.new.self (has_tsn c.args.tsn) (with_nsent c.saturating_add-nsent.result)
           (λ d. refl) c.set_nsent.ensures.changed c.self.invariant.contiguous.side_by_side) c.self.invariant.contiguous);
       ascend = c.self.invariant.ascend;
-      known = subst (λ (o : Outbound). AreKnown c.self.inside.known.items o.inflight.chunks) (sym c.set_nsent.ensures.changed) (changed-known c.self.inside.known.items f.queue.inflight.chunks c.self.invariant.known (has_tsn c.args.tsn) (with_nsent c.saturating_add-nsent.result) (λ d. refl));
+      known = subst (λ (o : Outbound). AreKnown c.self.inside.known.items o.inflight.chunks) (sym c.set_nsent.ensures.changed) (changed-known
+          c.self.inside.known.items f.queue.inflight.chunks c.self.invariant.known (has_tsn c.args.tsn) (with_nsent c.saturating_add-nsent.result) (λ d. refl));
     }

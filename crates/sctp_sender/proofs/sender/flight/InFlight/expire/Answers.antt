@@ -11,8 +11,10 @@ invariant_of-self c =
     let f : Flight = record { queue = c.self.inside.queue; next_tsn = c.self.inside.next_tsn; acked_tsn = c.self.inside.acked_tsn } in
     let o = expiring c.args.now f.queue in
     record {
-      contiguous = (kept f (record f { queue = c.expire_pending.new.self }) (expired-chunks o f.queue c.expire_pending.new.self c.expire_pending.ensures.expired) refl refl
-          (expired-in-line o f.queue c.expire_pending.new.self c.expire_pending.ensures.expired c.self.invariant.contiguous.side_by_side) c.self.invariant.contiguous);
+      contiguous = (kept f (record f { queue = c.expire_pending.new.self })
+          (expired-chunks o f.queue c.expire_pending.new.self c.expire_pending.ensures.expired) refl refl
+          (expired-in-line o f.queue c.expire_pending.new.self c.expire_pending.ensures.expired c.self.invariant.contiguous.side_by_side)
+          c.self.invariant.contiguous);
       ascend = c.self.invariant.ascend;
       known = expired-known c.self.inside.known.items f.queue c.expire_pending.new.self o c.expire_pending.ensures.expired c.self.invariant.known;
     }

@@ -29,7 +29,9 @@ invariant_of-self-2 c =
           (abandoned-in-line f.queue (following_tsn f.acked_tsn)
           (omega arith) c.self.invariant.contiguous.few c.self.invariant.contiguous.run c.are_whole.ensures c.self.invariant.contiguous.side_by_side
           (message_of (expiring_tail c.args.now f.queue)) f.next_tsn (let next = c.self.invariant.contiguous.next in omega (arith, next)) (λ m h w.
-          tail-half f.queue c.are_whole.ensures c.args.now (next_pending f.queue.pending) refl m h) c.expire_pending_tail.new.self c.in_ok-abandoned.ensures.ok));
+          tail-half f.queue c.are_whole.ensures c.args.now (next_pending f.queue.pending) refl m h) c.expire_pending_tail.new.self
+          c.in_ok-abandoned.ensures.ok));
       ascend = c.self.invariant.ascend;
-      known = abandoned-known c.self.inside.known.items f c.self.invariant.contiguous c.self.invariant.known (message_of (expiring_tail c.args.now f.queue)) c.expire_pending_tail.new.self c.in_ok-abandoned.ensures.ok;
+      known = abandoned-known c.self.inside.known.items f c.self.invariant.contiguous c.self.invariant.known
+          (message_of (expiring_tail c.args.now f.queue)) c.expire_pending_tail.new.self c.in_ok-abandoned.ensures.ok;
     }

@@ -52,7 +52,8 @@ returns-clause-tsn c =
     let can = can-go f c.args.tsn (omega (arith, far, c.if-ahead-eq0.false)) (omega (arith, far, point, c.if-ahead-distance.false)) in
     let near : ahead f c.args.tsn ≤ length f.queue.inflight.chunks = omega (arith, far, point, within, c.if-ahead-distance.false) in
     let last : IsLastEnd c.up_to_end-count.result (ahead f c.args.tsn) f.queue.inflight.chunks = rw (← far) c.up_to_end-count.ensures in
-    rw (← c.self.view_is) (ends-at f c.self.invariant.contiguous c.args.tsn can near any_chunk c.up_to_end-count.result last (omega (arith, c.if-count-eq0.false)))
+    rw (← c.self.view_is)
+    (ends-at f c.self.invariant.contiguous c.args.tsn can near any_chunk c.up_to_end-count.result last (omega (arith, c.if-count-eq0.false)))
 
 pub returns-clause-names : goal.returns-clause-names
 returns-clause-names c =

@@ -39,7 +39,8 @@ returns-clause-past c =
     let within = point-within f c.self.invariant.contiguous in
     let few : c.in_ok-count.count < 2 ^ 31 = omega (arith, point, within, c.self.invariant.contiguous.few, c.in_ok-count.ensures.count) in
     rw (← c.self.view_is)
-    (past f c.self.invariant.contiguous.in_range c.in_ok-count.count few (omega (arith, point, c.in_ok-count.ensures.count)) (omega (arith, c.if-count-eq0.false)))
+    (past f c.self.invariant.contiguous.in_range c.in_ok-count.count few (omega (arith, point, c.in_ok-count.ensures.count))
+    (omega (arith, c.if-count-eq0.false)))
 
 pub returns-clause-ended : goal.returns-clause-ended
 returns-clause-ended c =
@@ -50,7 +51,8 @@ returns-clause-ended c =
     let few : c.in_ok-count.count < 2 ^ 31 = omega (arith, point, within, c.self.invariant.contiguous.few, c.in_ok-count.ensures.count) in
     let some : 0 < c.in_ok-count.count = omega (arith, c.if-count-eq0.false) in
     let can = past f c.self.invariant.contiguous.in_range c.in_ok-count.count few (omega (arith, point, c.in_ok-count.ensures.count)) some in
-    rw (← c.self.view_is) (is-end-at f c.self.invariant.contiguous c.in_ok-count.count any_chunk can some (omega (arith, point, within, c.in_ok-count.ensures.count))
+    rw (← c.self.view_is)
+    (is-end-at f c.self.invariant.contiguous c.in_ok-count.count any_chunk can some (omega (arith, point, within, c.in_ok-count.ensures.count))
     (c.in_ok-count.ensures.ended some any_chunk))
 
 pub returns-clause-names : goal.returns-clause-names

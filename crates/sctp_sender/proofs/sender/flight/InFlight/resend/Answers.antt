@@ -22,7 +22,9 @@ invariant_of-self c =
           (marked-in-line f.queue c.note_sent_again.new.queue (has_tsn c.args.tsn) (sent_again c.saturating_add-count.result c.args.now)
           (λ d. refl) c.note_sent_again.ensures c.self.invariant.contiguous.side_by_side) c.self.invariant.contiguous);
       ascend = c.self.invariant.ascend;
-      known = subst (λ (o : Outbound). AreKnown c.self.inside.known.items o.inflight.chunks) (sym c.note_sent_again.ensures) (changed-known c.self.inside.known.items f.queue.inflight.chunks c.self.invariant.known (has_tsn c.args.tsn) (sent_again c.saturating_add-count.result c.args.now) (λ d. refl));
+      known = subst (λ (o : Outbound). AreKnown c.self.inside.known.items o.inflight.chunks) (sym c.note_sent_again.ensures)
+          (changed-known c.self.inside.known.items f.queue.inflight.chunks c.self.invariant.known (has_tsn c.args.tsn)
+          (sent_again c.saturating_add-count.result c.args.now) (λ d. refl));
     }
 
 pub returns-clause-noted : goal.returns-clause-noted

@@ -1,4 +1,4 @@
-use Rattle.std.proofs.Common.{◌≡◌, true, List,  ap, sym, subst, ◌∙◌}
+use Rattle.std.proofs.Common.{◌≡◌, true, List, ap, sym, subst, ◌∙◌}
 use Rattle.std.specs.List.{All}
 use Rattle.sctp_data.specs.declared.chunk.chunk_selective_ack.GapAckBlock.{GapAckBlock}
 use Rattle.sctp_outbound.specs.outbound_queue.OutboundQueue.{Outbound}

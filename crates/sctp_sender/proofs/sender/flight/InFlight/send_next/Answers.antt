@@ -24,8 +24,10 @@ invariant_of-self-2 c =
     let f : Flight = record { queue = c.self.inside.queue; next_tsn = c.self.inside.next_tsn; acked_tsn = c.self.inside.acked_tsn } in
     let room : may_send f ≡ true = rw (← c.self.view_is) at c.requires in
     record {
-      contiguous = (sent f c.args.now c.send_next.new.self c.send_next.new.next_tsn c.self.invariant.contiguous room c.in_ok-sent.ensures.ok c.in_ok-sent.ensures.raised
-          (sent-in-line f.queue (following_tsn f.acked_tsn) (omega arith) c.self.invariant.contiguous.few c.self.invariant.contiguous.run c.are_whole.ensures c.self.invariant.contiguous.side_by_side
+      contiguous =
+          (sent f c.args.now c.send_next.new.self c.send_next.new.next_tsn c.self.invariant.contiguous room c.in_ok-sent.ensures.ok c.in_ok-sent.ensures.raised
+          (sent-in-line f.queue (following_tsn f.acked_tsn)
+          (omega arith) c.self.invariant.contiguous.few c.self.invariant.contiguous.run c.are_whole.ensures c.self.invariant.contiguous.side_by_side
           c.args.now f.next_tsn (let next = c.self.invariant.contiguous.next in omega (arith, next)) c.send_next.new.self c.in_ok-sent.ensures.ok));
       ascend = c.self.invariant.ascend;
       known = sent-known c.self.inside.known.items f c.self.invariant.contiguous c.self.invariant.known c.args.now c.send_next.new.self c.in_ok-sent.ensures.ok;

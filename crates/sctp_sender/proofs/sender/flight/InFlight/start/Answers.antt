@@ -11,7 +11,8 @@ invariant_of-self c =
     record {
       contiguous = (kept f (record f { queue = c.start_timed_messages.new.self })
           (started-chunks c.args.now f.queue c.start_timed_messages.new.self c.start_timed_messages.ensures) refl refl
-          (started-in-line c.args.now f.queue c.start_timed_messages.new.self c.start_timed_messages.ensures c.self.invariant.contiguous.side_by_side) c.self.invariant.contiguous);
+          (started-in-line c.args.now f.queue c.start_timed_messages.new.self c.start_timed_messages.ensures c.self.invariant.contiguous.side_by_side)
+          c.self.invariant.contiguous);
       ascend = c.self.invariant.ascend;
       known = started-known c.self.inside.known.items f.queue c.start_timed_messages.new.self c.args.now c.start_timed_messages.ensures c.self.invariant.known;
     }
