@@ -102,7 +102,7 @@ messages-part-changed p f same cs i =
     ∙ sym (messages-append (take i cs) (drop i cs)) ∙ ap messages_of (take-append-drop i cs)
 
 -- a chunk with the next TSN goes to the end
-put-behind : (x : ChunkPayloadData) (cs : List ChunkPayloadData) (first : ℕ) → first < 2 ^ 32 → length cs < 2 ^ 31 → IsRunFrom first cs
+pub put-behind : (x : ChunkPayloadData) (cs : List ChunkPayloadData) (first : ℕ) → first < 2 ^ 32 → length cs < 2 ^ 31 → IsRunFrom first cs
     → x.tsn ≡ (first + length cs) % 2 ^ 32 → insert_before chunk_before x cs ≡ cs ++ x ∷ []
 put-behind x [] first small few run is = refl
 put-behind x (c ∷ cs) first small few run is =

@@ -4,7 +4,7 @@ pub mod MarkedPlaces
 pub mod Offsets
 pub mod InLine
 pub mod CompleteMessages
-pub mod ToldWhole
+pub mod Anew
 pub mod Walks
 pub mod Sent
 pub mod Sacks
@@ -17,6 +17,9 @@ pub mod Points
 pub mod Skips
 pub mod Lates
 pub mod Places
+pub mod Told
+pub mod Opened
+pub mod Known
 pub mod Ends
 pub mod Worn
 pub mod Settled
@@ -24,6 +27,7 @@ pub mod Accounts
 pub mod FarNumbers
 pub mod Closed
 pub mod Keepings
+pub mod Reported
 pub mod TakenBacks
 pub mod Lows
 mod Examples

@@ -1,5 +1,5 @@
 -- Where the chunks of a message stand in flight.
-use Rattle.std.proofs.Common.{◌≡◌, ◌≢◌, ℕ, zero, suc, ◌+◌, ◌-◌, ◌<◌, ◌≤◌, ◌%◌, ◌^◌, Bool, true, false, List, [], ◌∷◌, length, take, drop, get_or, Some, refl}
+use Rattle.std.proofs.Common.{◌≡◌, ℕ, zero, suc, ◌+◌, ◌<◌, ◌≤◌, ◌%◌, ◌^◌, Bool, true, false, List, [], ◌∷◌, length, take, drop, get_or, Some, refl}
 use Rattle.std.proofs.Common.{ap, sym, ◌∙◌, arith}
 use Rattle.std.specs.Prelude.{◌||◌, find}
 use Rattle.std.specs.List.{list_any}
@@ -16,7 +16,7 @@ use Rattle.sctp_sender.proofs.Lates.{found-passes}
 use Rattle.sctp_sender.proofs.Points.{found-place}
 use Rattle.sctp_sender.proofs.Runs.{tsn-at}
 
-away : (acked k : ℕ) → acked < 2 ^ 32 → k < 2 ^ 31 → distance acked ((following_tsn acked + k) % 2 ^ 32) ≡ suc k
+pub away : (acked k : ℕ) → acked < 2 ^ 32 → k < 2 ^ 31 → distance acked ((following_tsn acked + k) % 2 ^ 32) ≡ suc k
 unfolding distance
 away acked k small few = omega arith
 
@@ -32,14 +32,14 @@ place-is f inv tsn c found =
     ∙ tsn-at cs (following_tsn f.acked_tsn) h.0 c (omega (arith, inv.in_range)) inv.run h.1 in
     (h.0, h.1, ap (distance f.acked_tsn) (sym own ∙ at) ∙ away f.acked_tsn h.0 inv.in_range (omega (arith, h.1, inv.few)), h.2)
 
-none-taken : (p : ChunkPayloadData → Bool) (cs : List ChunkPayloadData) (n : ℕ)
+pub none-taken : (p : ChunkPayloadData → Bool) (cs : List ChunkPayloadData) (n : ℕ)
     → ((i : ℕ) (d : ChunkPayloadData) → i < n → i < length cs → p (get_or cs i d) ≡ false) → list_any p (take n cs) ≡ false
 none-taken p cs zero none = refl
 none-taken p [] (suc n) none = refl
 none-taken p (c ∷ cs) (suc n) none = ap (λ b. b || list_any p (take n cs)) (none 0 c (omega arith) (omega arith))
     ∙ none-taken p cs n (λ i d lt in'. none (suc i) d (omega (arith, lt)) (omega (arith, in')))
 
-none-dropped : (p : ChunkPayloadData → Bool) (cs : List ChunkPayloadData) (n : ℕ)
+pub none-dropped : (p : ChunkPayloadData → Bool) (cs : List ChunkPayloadData) (n : ℕ)
     → ((j : ℕ) (d : ChunkPayloadData) → n ≤ j → j < length cs → p (get_or cs j d) ≡ false) → list_any p (drop n cs) ≡ false
 none-dropped p [] zero none = refl
 none-dropped p [] (suc n) none = refl

@@ -113,7 +113,7 @@ same-tsn : (base cum : ℕ) → base < 2 ^ 32 → cum < 2 ^ 32 → distance base
 unfolding distance
 same-tsn base cum small fits none = omega arith
 
-back : (base cum : ℕ) → base < 2 ^ 32 → cum < 2 ^ 32 → 0 < distance base cum → distance base cum < 2 ^ 31 → at_or_before (following_tsn base) cum ≡ true
+pub back : (base cum : ℕ) → base < 2 ^ 32 → cum < 2 ^ 32 → 0 < distance base cum → distance base cum < 2 ^ 31 → at_or_before (following_tsn base) cum ≡ true
 unfolding at_or_before
 back base cum small fits pos near = let h = one-less base cum small fits pos in grind (arith, nat_tests, h, near)
 

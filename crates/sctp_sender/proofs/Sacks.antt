@@ -17,11 +17,11 @@ use Rattle.sctp_sender.specs.Reporting.{after_blocks}
 use Rattle.sctp_outbound.specs.payload_queue.Blocks.{is_in_blocks}
 use Rattle.sctp_serial.specs.DataChunks.{following_tsn}
 
-cum-is : (acked cum : ℕ) → acked < 2 ^ 32 → cum < 2 ^ 32 → cum ≡ (acked + distance acked cum) % 2 ^ 32
+pub cum-is : (acked cum : ℕ) → acked < 2 ^ 32 → cum < 2 ^ 32 → cum ≡ (acked + distance acked cum) % 2 ^ 32
 unfolding distance
 cum-is acked cum small fits = omega arith
 
-apart : (t base far : ℕ) → base < 2 ^ 32 → far + 1 < 2 ^ 31 → t ≡ (base + far + 1) % 2 ^ 32 → distance base t ≡ far + 1
+pub apart : (t base far : ℕ) → base < 2 ^ 32 → far + 1 < 2 ^ 31 → t ≡ (base + far + 1) % 2 ^ 32 → distance base t ≡ far + 1
 unfolding distance
 apart t base far small near is = omega arith
 

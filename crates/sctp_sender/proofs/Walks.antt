@@ -1,13 +1,9 @@
 -- A list that is gone through from its front, and one that is changed where a test passes.
-use Rattle.std.proofs.Common.{◌≡◌, ℕ, zero, suc, ◌+◌, ◌<◌, Bool, true, false, List, [], ◌∷◌, ◌++◌, length, drop, get_or, slice_get, Option, Some, None, refl}
+use Rattle.std.proofs.Common.{◌≡◌, ℕ, zero, suc, ◌+◌, ◌<◌, Bool, true, false, List, [], ◌∷◌, length, drop, get_or, slice_get, Option, Some, None, refl}
 use Rattle.std.proofs.Common.{ap, sym, ◌∙◌, arith}
-use Rattle.std.specs.Prelude.{if◌then◌else◌, ◌||◌, find, is_some, map, nat_eq, take}
-use Rattle.std.specs.List.{filter, list_any}
-use Rattle.std.proofs.lemmas.List.{append-nil, map-append}
+use Rattle.std.specs.Prelude.{if◌then◌else◌, find, is_some}
 use Rattle.std.proofs.lemmas.Option.{none-some}
 use Rattle.sctp_list_lemmas.specs.Lists.{change_where, insert_before}
-use Rattle.sctp_list_lemmas.proofs.Edits.{list_any-append, those-more}
-use Rattle.sctp_data.specs.declared.chunk.chunk_payload_data.ChunkPayloadData.{ChunkPayloadData}
 
 pub none-of : {X : Type 0} (o : Option X) → is_some o ≡ false → o ≡ None
 none-of None h = refl
@@ -66,31 +62,3 @@ module _ {X : Type 0} (p : X → Bool) where
           → find p (if b then x ∷ y ∷ ys else y ∷ insert_before before x ys) ≡ Some x
       by true k f none ih = ap (λ j. if j then Some x else find p (y ∷ ys)) h
       by false k f none ih = later k f none ih
-
--- ## The messages of those that pass
-
-or-none : (a : Bool) → (a || false) ≡ a
-or-none true = refl
-or-none false = refl
-
-abbrev pub message_of : ChunkPayloadData → ℕ
-message_of c = c.message_id
-
-module _ (p : ChunkPayloadData → Bool) (cs : List ChunkPayloadData) (i : ℕ) (x : ChunkPayloadData) (m : ℕ) (lt : i < length cs) (here : get_or cs i x ≡ x) where
-  abbrev before : List ChunkPayloadData
-  before = filter p (take i cs)
-
-  one-more : (b : Bool) → p x ≡ b
-      → list_any (nat_eq m) (map message_of (filter p (take (i + 1) cs))) ≡ list_any (nat_eq m) (map message_of (before ++ (if b then x ∷ [] else [])))
-  one-more b e =
-      ap (λ ys. list_any (nat_eq m) (map message_of ys))
-      (those-more p cs i x lt ∙ ap (λ (y : ChunkPayloadData). before ++ (if p y then y ∷ [] else [])) here ∙ ap (λ k. before ++ (if k then x ∷ [] else [])) e)
-
-  pub message-more : p x ≡ true
-      → list_any (nat_eq m) (map message_of (filter p (take (i + 1) cs))) ≡ (list_any (nat_eq m) (map message_of before) || nat_eq m x.message_id)
-  message-more e =
-      one-more true e ∙ ap (list_any (nat_eq m)) (map-append message_of before (x ∷ [])) ∙ list_any-append (nat_eq m) (map message_of before)
-      (x.message_id ∷ []) ∙ ap (λ b. list_any (nat_eq m) (map message_of before) || b) (or-none (nat_eq m x.message_id))
-
-  pub message-same : p x ≡ false → list_any (nat_eq m) (map message_of (filter p (take (i + 1) cs))) ≡ list_any (nat_eq m) (map message_of before)
-  message-same e = one-more false e ∙ ap (λ ys. list_any (nat_eq m) (map message_of ys)) (append-nil before)

@@ -13,10 +13,13 @@ mod places;
 mod reporting;
 mod resending;
 mod skipping;
+mod sorting;
+mod telling;
 mod walking;
 
 use crate::sender::refusal::SenderRefusal;
 use sctp_data::chunk::chunk_payload_data::ChunkPayloadData;
+use sctp_data::chunk::chunk_selective_ack::GapAckBlock;
 use sctp_outbound::outbound_queue::OutboundQueue;
 use std::alloc::Global;
 use std::marker::Model;
@@ -50,10 +53,15 @@ pub struct InFlight {
     queue: OutboundQueue,
     next_tsn: u32,
     acked_tsn: u32,
+    // The gap ack blocks of the last SACK that was taken, in ascending order: distances from `acked_tsn`. None where a report was taken
+    // back since. What they report is acknowledged, and the next SACK does not look at it.
+    known: Vec<GapAckBlock>,
 }
 
 impl Model for InFlight {
     ghost use Rattle.sctp_sender.specs.Flight.{Flight, IsContiguous};
+    ghost use Rattle.std.specs.Prelude.{◌≡◌, true};
+    ghost use Rattle.sctp_sender.specs.Reporting.{AreKnown, ascends_from};
 
     ghost Value = { Flight };
 
@@ -63,11 +71,16 @@ impl Model for InFlight {
       acked_tsn = f.acked_tsn;
     } };
 
-    ghost invariant = { λ f. IsContiguous (record {
-      queue = f.queue;
-      next_tsn = f.next_tsn;
-      acked_tsn = f.acked_tsn;
-    }) };
+    ghost invariant = { λ f.
+        record {
+          contiguous : IsContiguous (record {
+            queue = f.queue;
+            next_tsn = f.next_tsn;
+            acked_tsn = f.acked_tsn;
+          });
+          ascend : ascends_from 0 f.known.items ≡ true;
+          known : AreKnown f.known.items f.queue.inflight.chunks;
+        } };
 }
 
 impl InFlight {
@@ -84,6 +97,7 @@ impl InFlight {
             queue: OutboundQueue::new(alloc),
             next_tsn: first_tsn,
             acked_tsn: first_tsn.wrapping_sub(1),
+            known: Vec::new(alloc),
         }
     }
 

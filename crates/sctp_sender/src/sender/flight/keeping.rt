@@ -77,7 +77,10 @@ impl InFlight {
             → All (λ b. can_resend b.tsn self.new ≡ true)
             (told_back backs.items self.old.queue.inflight.chunks) }
     {
-        restore_each(&mut self.queue, backs);
+        if !restore_each(&mut self.queue, backs) {
+            return;
+        }
+        self.known.clear();
     }
 }
 
@@ -272,19 +275,23 @@ fn taken_back(chunk: &ChunkPayloadData, bytes: &Bytes) -> TakenBack
     }
 }
 
-// Gives each chunk in flight what comes back of it, from the last place on.
-fn restore_each(queue: &mut OutboundQueue, backs: Kept)
+// Gives each chunk in flight what comes back of it, from the last place on. Answers whether anything does.
+fn restore_each(queue: &mut OutboundQueue, backs: Kept) -> bool
     requires within { length backs.items ≤ length queue.old.inflight.chunks }
     requires bytes { total_bytes queue.old
         + bytes_back (told_back backs.items queue.old.inflight.chunks) < 2 ^ 64 }
-    ensures { queue.new
+    ensures restored { queue.new
         ≡ with_inflight queue.old (restored backs.items queue.old.inflight.chunks) }
+    ensures none { result ≡ false → queue.new ≡ queue.old }
 {
+    let mut any = false;
     let mut backs = backs;
     while let Some(back) = backs.pop() {
         let Some(bytes) = back else {
             continue;
         };
         queue.take_back_at(backs.len(), bytes);
+        any = true;
     }
+    any
 }

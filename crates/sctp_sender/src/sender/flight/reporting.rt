@@ -1,7 +1,6 @@
 //! What a SACK reports, and what it makes of what is in flight (RFC 4960 6.2.1).
 
 ghost use Rattle.std.specs.Prelude.{◌≡◌, ◌≢◌, ◌-◌, ◌&&◌, ◌||◌, Bool, not, nat_eq, nat_lt, ◌+◌, ◌<◌, ◌≤◌, ◌^◌, ◌⊎◌, [], ℕ, true, false, Some, None, OnOk, OnErr, IfOk, IfErr, IsOk, length, map, drop, take, vec_capacity, slice_index_or};
-ghost use Rattle.std.specs.HashSet.{contains};
 ghost use Rattle.std.specs.List.{list_all, list_any, filter};
 ghost use Rattle.sctp_list_lemmas.specs.Lists.{change_where};
 ghost use Rattle.sctp_data.specs.SelectiveAck.{sack_of};
@@ -11,10 +10,12 @@ ghost use Rattle.sctp_outbound.specs.outbound_queue.OutboundQueue.{with_inflight
 ghost use Rattle.sctp_outbound.specs.pending_queue.Whole.{partially_sent};
 ghost use Rattle.sctp_serial.specs.DataChunks.{tsns};
 ghost use Rattle.sctp_sender.specs.declared.sender.refusal.SenderRefusal.TheVariants.{OutOfMemory};
-ghost use Rattle.sctp_sender.specs.Flight.{tsns_from, reports_anew, is_within, is_half, leaves_open, open_messages, released_of};
+ghost use Rattle.sctp_sender.specs.Flight.{tsns_from, reports_anew, is_within};
 ghost use Rattle.sctp_sender.specs.Reporting.{after_block, after_blocks, goes_from_to, HasEnds, Marks};
 ghost use Rattle.sctp_sender.specs.SideBySide.{IsApartAt, StandSideBySide, messages_of};
 
+use super::sorting::sorted_blocks;
+use super::telling::{acknowledge_told, judge_each, tell_anew};
 use super::{InFlight, Released};
 use crate::sender::refusal::SenderRefusal;
 use sctp_base::util::{sna32lt, sna32lte};
@@ -24,7 +25,6 @@ use sctp_outbound::outbound_queue::OutboundQueue;
 use sctp_serial::serial::distance;
 use sctp_stream::stream_numbers::put;
 use std::alloc::Global;
-use std::collections::HashSet;
 
 impl InFlight {
     ghost use Rattle.sctp_outbound.specs.outbound_queue.OutboundQueue.{total_bytes};
@@ -41,6 +41,10 @@ impl InFlight {
     /// - `OutOfMemory`, and not where it is out of date.
     ///
     /// All is as it was then.
+    ///
+    /// It looks a few times at each block; at each chunk that it reports, but not where the SACK taken before it has a block too; at the
+    /// chunks of the messages of what it reports anew, and at one on each side; and at what leaves. Blocks that do not ascend it marks
+    /// first, distance by distance, with memory for as many marks, at most 65,536.
     pub fn acked(
         &mut self,
         alloc: Global,
@@ -63,26 +67,14 @@ impl InFlight {
             return Ok(released);
         }
         let count = distance(self.acked_tsn, sack.cumulative_tsn_ack) as usize;
-        let marks = marks_of(alloc, &sack.gap_ack_blocks)?;
-        // what lies behind is not reported
-        let reach = self.queue.inflight_len().min(count + marks.len());
-        if released.reserve(reach).is_err() {
-            return Err(SenderRefusal::OutOfMemory);
-        }
-        let end = message_end(&self.queue, reach);
-        let unfinished = open_messages(alloc, &self.queue, sack, &marks, end)?;
+        let sorted = sorted_blocks(alloc, &sack.gap_ack_blocks)?;
+        tell_anew(&self.queue, &self.known, count, &sorted, &mut released)?;
+        acknowledge_told(&mut self.queue, self.acked_tsn, &released);
         let half = half_of(&self.queue);
-        mark_reported(
-            &mut self.queue,
-            sack,
-            &marks,
-            reach,
-            &unfinished,
-            half,
-            &mut released,
-        );
+        judge_each(&self.queue, self.acked_tsn, half, &mut released);
         pop_run(&mut self.queue, self.acked_tsn.wrapping_add(1), count);
         self.acked_tsn = sack.cumulative_tsn_ack;
+        self.known = sorted;
         Ok(released)
     }
 
@@ -253,49 +245,6 @@ pub(super) fn begins_another(queue: &OutboundQueue, place: usize) -> bool
     before.message_id != chunk.message_id
 }
 
-// The messages of which a SACK leaves a chunk in flight before a place unacknowledged, or abandoned.
-fn open_messages(
-    alloc: Global,
-    queue: &OutboundQueue,
-    sack: &ChunkSelectiveAck,
-    marks: &[bool],
-    end: usize,
-) -> Result<HashSet<u64>, SenderRefusal>
-    requires marks { Marks marks.now (sack_of sack.now).gap_ack_blocks }
-    requires end { end ≤ length queue.now.inflight.chunks }
-    ensures ok { IfOk result (λ set. (m : ℕ) → contains nat_eq set m ≡ list_any (nat_eq m)
-        (open_messages (sack_of sack.now) (take end queue.now.inflight.chunks))) }
-    ensures memory { IfErr result (λ e. e ≡ OutOfMemory) }
-{
-    let mut unfinished = HashSet::new(alloc);
-    for place in 0..end {
-        let Some(chunk) = queue.inflight_at(place) else {
-            unreachable!()
-        };
-        if !leaves_open(sack, marks, chunk) {
-            continue;
-        }
-        let Ok(_) = unfinished.insert(chunk.message_id) else {
-            return Err(SenderRefusal::OutOfMemory);
-        };
-    }
-    Ok(unfinished)
-}
-
-// Whether a SACK leaves the chunk unacknowledged, or it is abandoned.
-fn leaves_open(sack: &ChunkSelectiveAck, marks: &[bool], chunk: &ChunkPayloadData) -> bool
-    requires { Marks marks.now (sack_of sack.now).gap_ack_blocks }
-    ensures { result ≡ leaves_open (sack_of sack.now) chunk.now }
-{
-    if chunk.abandoned {
-        return true;
-    }
-    if chunk.acked {
-        return false;
-    }
-    !is_reported(sack, marks, chunk.tsn)
-}
-
 // The message that is partially sent, if there is one.
 fn half_of(queue: &OutboundQueue) -> Option<u64>
     ensures { result ≡ partially_sent queue.now.pending }
@@ -308,70 +257,6 @@ fn half_of(queue: &OutboundQueue) -> Option<u64>
         return None;
     }
     Some(chunk.message_id)
-}
-
-// Whether it is neither the message that is partially sent nor one of these.
-fn is_whole(unfinished: &HashSet<u64>, half: Option<u64>, message: u64) -> bool
-    ensures { result
-        ≡ (not (is_half half message) && not (contains nat_eq unfinished.now message)) }
-{
-    if half == Some(message) {
-        return false;
-    }
-    !unfinished.contains(&message)
-}
-
-// Acknowledges each chunk in flight that a SACK reports anew, and tells of it. From the place `reach` on it reports none.
-fn mark_reported(
-    queue: &mut OutboundQueue,
-    sack: &ChunkSelectiveAck,
-    marks: &[bool],
-    reach: usize,
-    unfinished: &HashSet<u64>,
-    half: Option<u64>,
-    released: &mut Vec<Released>,
-)
-    requires marks { Marks marks.now (sack_of sack.now).gap_ack_blocks }
-    requires reach { reach ≤ length queue.old.inflight.chunks }
-    requires beyond { (k : ℕ) (d : ChunkPayloadData) → reach ≤ k
-        → k < length queue.old.inflight.chunks
-        → reports_anew (sack_of sack.now) (slice_index_or queue.old.inflight.chunks k d) ≡ false }
-    requires empty { released.old.items ≡ [] }
-    requires room { reach ≤ vec_capacity released.old }
-    ensures marked { queue.new ≡ with_inflight queue.old
-        (change_where (reports_anew (sack_of sack.now)) as_acknowledged queue.old.inflight.chunks) }
-    ensures told { released.new.items
-        ≡ map (released_of (λ m. not (is_half half m) && not (contains nat_eq unfinished.now m)))
-        (filter (reports_anew (sack_of sack.now)) queue.old.inflight.chunks) }
-{
-    for place in 0..reach {
-        let Some(chunk) = queue.inflight_at(place) else {
-            unreachable!()
-        };
-        if chunk.acked || !is_reported(sack, marks, chunk.tsn) {
-            continue;
-        }
-        let whole = is_whole(unfinished, half, chunk.message_id);
-        put(released, released_of(chunk, whole));
-        queue.mark_as_acked_at(place);
-    }
-}
-
-// What is told of a chunk.
-fn released_of(chunk: &ChunkPayloadData, is_message_acked: bool) -> Released
-    ensures { (whole : ℕ → Bool) → whole chunk.now.message_id ≡ is_message_acked
-        → result ≡ released_of whole chunk.now }
-{
-    Released {
-        tsn: chunk.tsn,
-        stream: chunk.stream_identifier,
-        bytes: chunk.user_data.len(),
-        nsent: chunk.nsent,
-        since: chunk.since,
-        message: chunk.message_id,
-        is_message_acked,
-        is_low: false,
-    }
 }
 
 // Takes so many chunks from the front, which have TSNs one after another.

@@ -7,29 +7,37 @@ use Rattle.sctp_outbound.specs.outbound_queue.OutboundQueue.{has_tail, to_abando
 use Rattle.sctp_sender.specs.Flight.{Flight, may_send}
 use Rattle.sctp_sender.proofs.InLine.{abandoned-in-line, found-half}
 use Rattle.sctp_sender.proofs.Flights.{fresh, window, after-abandoning}
+use Rattle.sctp_sender.proofs.Known.{abandoned-known}
 use Rattle.sctp_sender.proofs.sender.flight.InFlight.abandon.Goals as goal
 
 pub abandon_between-requires-clause-fresh : goal.abandon_between-requires-clause-fresh
 abandon_between-requires-clause-fresh c =
     let f : Flight = record { queue = c.self.inside.queue; next_tsn = c.self.inside.next_tsn; acked_tsn = c.self.inside.acked_tsn } in
-    fresh f c.self.invariant
+    fresh f c.self.invariant.contiguous
 
 pub abandon_between-requires-clause-window : goal.abandon_between-requires-clause-window
 abandon_between-requires-clause-window c =
     let f : Flight = record { queue = c.self.inside.queue; next_tsn = c.self.inside.next_tsn; acked_tsn = c.self.inside.acked_tsn } in
-    window f c.self.invariant
+    window f c.self.invariant.contiguous
 
 pub invariant_of-self-2 : goal.invariant_of-self-2
 invariant_of-self-2 c =
     let f : Flight = record { queue = c.self.inside.queue; next_tsn = c.self.inside.next_tsn; acked_tsn = c.self.inside.acked_tsn } in
     let room : has_tail (to_abandon (find (has_tsn c.args.tsn) f.queue.inflight.chunks)) f.queue ≡ true
     → may_send f ≡ true = rw (← c.self.view_is) at c.requires in
-    after-abandoning f _ c.abandon_between.new.self c.abandon_between.new.next_tsn c.self.invariant room c.in_ok-abandoned.ensures.ok
-    c.in_ok-abandoned.ensures.raised
-    (abandoned-in-line f.queue (following_tsn f.acked_tsn) (omega arith) c.self.invariant.few c.self.invariant.run c.are_whole.ensures
-    c.self.invariant.side_by_side (to_abandon (find (has_tsn c.args.tsn) f.queue.inflight.chunks)) f.next_tsn (let next = c.self.invariant.next in
-    omega (arith, next)) (found-half f.queue c.are_whole.ensures c.args.tsn (find (has_tsn c.args.tsn) f.queue.inflight.chunks) refl)
-    c.abandon_between.new.self c.in_ok-abandoned.ensures.ok)
+    record {
+      contiguous = (after-abandoning f _ c.abandon_between.new.self c.abandon_between.new.next_tsn c.self.invariant.contiguous room c.in_ok-abandoned.ensures.ok
+          c.in_ok-abandoned.ensures.raised
+          (abandoned-in-line f.queue (following_tsn f.acked_tsn)
+          (omega arith) c.self.invariant.contiguous.few c.self.invariant.contiguous.run c.are_whole.ensures
+          c.self.invariant.contiguous.side_by_side (to_abandon (find (has_tsn c.args.tsn) f.queue.inflight.chunks)) f.next_tsn (let next =
+          c.self.invariant.contiguous.next in
+          omega (arith, next)) (found-half f.queue c.are_whole.ensures c.args.tsn (find (has_tsn c.args.tsn) f.queue.inflight.chunks) refl)
+          c.abandon_between.new.self c.in_ok-abandoned.ensures.ok));
+      ascend = c.self.invariant.ascend;
+      known = abandoned-known c.self.inside.known.items f c.self.invariant.contiguous c.self.invariant.known
+          (to_abandon (find (has_tsn c.args.tsn) f.queue.inflight.chunks)) c.abandon_between.new.self c.in_ok-abandoned.ensures.ok;
+    }
 
 pub abandon_between-requires-clause-between : goal.abandon_between-requires-clause-between
 abandon_between-requires-clause-between c =

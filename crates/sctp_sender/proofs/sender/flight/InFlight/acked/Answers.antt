@@ -1,115 +1,318 @@
-use Rattle.std.proofs.Common.{◌≡◌, ◌<◌, ◌≤◌, [], length, map, refl, ap, sym, ◌∙◌, arith}
-use Rattle.std.specs.Prelude.{if◌then◌else◌, nat_eq}
-use Rattle.std.specs.HashSet.{contains}
+use Rattle.std.proofs.Common.{◌≡◌, ◌≤◌, List, [], length, map, drop, refl, ap, sym, subst, ◌∙◌, arith}
+use Rattle.std.specs.Prelude.{if◌then◌else◌}
 use Rattle.std.specs.List.{filter}
-use Rattle.sctp_outbound.specs.pending_queue.Whole.{partially_sent}
-use Rattle.sctp_data.specs.SelectiveAck.{sack_of}
+use Rattle.sctp_list_lemmas.specs.Lists.{change_where}
 use Rattle.sctp_list_lemmas.specs.Serial.{distance}
-use Rattle.sctp_outbound.specs.outbound_queue.OutboundQueue.{Outbound}
-use Rattle.sctp_sender.specs.Flight.{Flight, is_outdated, is_whole, sack_refusal, released_of, reports_anew}
-use Rattle.sctp_sender.specs.Reporting.{after_blocks}
-use Rattle.sctp_sender.specs.SideBySide.{messages_of, number_of_half}
-use Rattle.sctp_sender.proofs.InLine.{shorter}
-use Rattle.sctp_sender.proofs.ToldWhole.{told-whole}
-use Rattle.sctp_sender.proofs.Sacks.{run, count, beyond, contiguous, taken-is}
-use Rattle.sctp_sender.proofs.Keepings.{taken-within}
-use Rattle.sctp_sender.proofs.Settled.{after-bytes}
 use Rattle.sctp_list_lemmas.proofs.Cases.{negated}
+use Rattle.sctp_data.specs.SelectiveAck.{sack_of}
+use Rattle.sctp_data.specs.declared.chunk.chunk_selective_ack.GapAckBlock.{GapAckBlock}
+use Rattle.sctp_outbound.specs.Marks.{as_acknowledged}
+use Rattle.sctp_outbound.specs.outbound_queue.OutboundQueue.{Outbound, with_inflight}
+use Rattle.sctp_outbound.specs.pending_queue.Whole.{partially_sent}
+use Rattle.sctp_serial.specs.DataChunks.{following_tsn}
+use Rattle.sctp_sender.specs.declared.sender.flight.Released.{Released}
+use Rattle.sctp_sender.specs.Flight.{Flight, is_outdated, is_whole, sack_refusal, released_of, reports_anew}
+use Rattle.sctp_sender.specs.Reporting.{AreKnown, AreSorted}
+use Rattle.sctp_sender.specs.SideBySide.{StandSideBySide, messages_of, number_of_half}
+use Rattle.sctp_sender.specs.Telling.{AreInFlight, PicksAnew, is_told, judged, no_message}
+use Rattle.sctp_sender.proofs.InLine.{messages-changed, shorter}
+use Rattle.sctp_sender.proofs.Keepings.{taken-within}
+use Rattle.sctp_sender.proofs.Reported.{ends, known-then, picks, told-judged}
+use Rattle.sctp_sender.proofs.Runs.{IsRunFrom}
+use Rattle.sctp_sender.proofs.Sacks.{contiguous, count, run, taken-is}
+use Rattle.sctp_sender.proofs.Settled.{after-bytes}
+use Rattle.sctp_sender.proofs.Told.{of-changed, told-are, told-in-flight}
 use Rattle.sctp_sender.proofs.sender.flight.InFlight.acked.Goals as goal
 
-pub mark_reported-requires-clause-beyond : goal.mark_reported-requires-clause-beyond
-mark_reported-requires-clause-beyond c = λ k d far lt.
+pub tell_anew-requires-clause-within : goal.tell_anew-requires-clause-within
+tell_anew-requires-clause-within c =
     let f : Flight = record { queue = c.self.inside.queue; next_tsn = c.self.inside.next_tsn; acked_tsn = c.self.inside.acked_tsn } in
+    let s = sack_of c.args.sack.now in
+    let cs = f.queue.inflight.chunks in
+    let p = reports_anew s in
+    let inv = c.self.invariant.contiguous in
+    let fits = c.distance-count.ensures.to_fits in
     let current = ap (is_outdated (sack_of c.args.sack.now)) c.self.view_is
     ∙ negated (is_outdated (sack_of c.args.sack.now) c.args.self.now) (sym c.in_ok-is_current.ensures.answer ∙ c.if-not-branch.false) in
-    let taken = taken-within (sack_of c.args.sack.now) f (ap (sack_refusal (sack_of c.args.sack.now)) c.self.view_is
-    ∙ c.in_ok-is_current.ensures.accepted refl) current in
-    let behind : c.min-reach.result ≤ k = far in
-    let less : k < length f.queue.inflight.chunks = lt in
-    let marks : length c.in_ok-marks.marks.items ≡ after_blocks c.args.sack.now.gap_ack_blocks.items = c.in_ok-marks.ensures.count
-    ∙ ap after_blocks c.deref.ensures.value in
-    beyond f c.self.invariant (sack_of c.args.sack.now) c.distance-count.ensures.to_fits k d
-    (omega (arith, behind, less, marks, c.min-reach.ensures, c.distance-count.ensures.value, c.inflight_len.ensures)) less
+    let none = ap (sack_refusal (sack_of c.args.sack.now)) c.self.view_is ∙ c.in_ok-is_current.ensures.accepted refl in
+    let are : AreSorted c.in_ok-sorted.sorted.items s.gap_ack_blocks = subst (AreSorted c.in_ok-sorted.sorted.items) c.deref.ensures.value
+    c.in_ok-sorted.ensures.ok in
+    let lent : AreSorted c.deref-3.result.now s.gap_ack_blocks = subst (λ (bs : List GapAckBlock). AreSorted bs s.gap_ack_blocks)
+    (sym c.deref-3.ensures.value) are in
+    λ n h. let e = ends f inv s fits none current c.deref-3.result.now lent n h in omega (arith, e, c.distance-count.ensures.value)
+
+pub acknowledge_told-requires-clause-told : goal.acknowledge_told-requires-clause-told
+acknowledge_told-requires-clause-told c =
+    let f : Flight = record { queue = c.self.inside.queue; next_tsn = c.self.inside.next_tsn; acked_tsn = c.self.inside.acked_tsn } in
+    let s = sack_of c.args.sack.now in
+    let cs = f.queue.inflight.chunks in
+    let p = reports_anew s in
+    let inv = c.self.invariant.contiguous in
+    let fits = c.distance-count.ensures.to_fits in
+    let current = ap (is_outdated (sack_of c.args.sack.now)) c.self.view_is
+    ∙ negated (is_outdated (sack_of c.args.sack.now) c.args.self.now) (sym c.in_ok-is_current.ensures.answer ∙ c.if-not-branch.false) in
+    let none = ap (sack_refusal (sack_of c.args.sack.now)) c.self.view_is ∙ c.in_ok-is_current.ensures.accepted refl in
+    let are : AreSorted c.in_ok-sorted.sorted.items s.gap_ack_blocks = subst (AreSorted c.in_ok-sorted.sorted.items) c.deref.ensures.value
+    c.in_ok-sorted.ensures.ok in
+    let lent : AreSorted c.deref-3.result.now s.gap_ack_blocks = subst (λ (bs : List GapAckBlock). AreSorted bs s.gap_ack_blocks)
+    (sym c.deref-3.ensures.value) are in
+    let told : c.tell_anew.new.released.items ≡ map (released_of no_message) (filter p cs) = c.in_ok-tell_anew.ensures.told p
+    (subst (λ k. PicksAnew p k c.deref-3.result.now cs) (sym c.distance-count.ensures.value) (picks f inv s fits none current c.deref-3.result.now lent)) in
+    subst (λ (rs : List Released). AreInFlight rs cs) (sym (c.deref-4.ensures.value ∙ told)) (told-in-flight p no_message cs cs (λ r h. h))
+
+pub judge_each-requires-clause-run : goal.judge_each-requires-clause-run
+judge_each-requires-clause-run c =
+    let f : Flight = record { queue = c.self.inside.queue; next_tsn = c.self.inside.next_tsn; acked_tsn = c.self.inside.acked_tsn } in
+    let s = sack_of c.args.sack.now in
+    let cs = f.queue.inflight.chunks in
+    let p = reports_anew s in
+    let inv = c.self.invariant.contiguous in
+    let fits = c.distance-count.ensures.to_fits in
+    let current = ap (is_outdated (sack_of c.args.sack.now)) c.self.view_is
+    ∙ negated (is_outdated (sack_of c.args.sack.now) c.args.self.now) (sym c.in_ok-is_current.ensures.answer ∙ c.if-not-branch.false) in
+    let none = ap (sack_refusal (sack_of c.args.sack.now)) c.self.view_is ∙ c.in_ok-is_current.ensures.accepted refl in
+    let are : AreSorted c.in_ok-sorted.sorted.items s.gap_ack_blocks = subst (AreSorted c.in_ok-sorted.sorted.items) c.deref.ensures.value
+    c.in_ok-sorted.ensures.ok in
+    let lent : AreSorted c.deref-3.result.now s.gap_ack_blocks = subst (λ (bs : List GapAckBlock). AreSorted bs s.gap_ack_blocks)
+    (sym c.deref-3.ensures.value) are in
+    let told : c.tell_anew.new.released.items ≡ map (released_of no_message) (filter p cs) = c.in_ok-tell_anew.ensures.told p
+    (subst (λ k. PicksAnew p k c.deref-3.result.now cs) (sym c.distance-count.ensures.value) (picks f inv s fits none current c.deref-3.result.now lent)) in
+    let marked : c.acknowledge_told.new.queue ≡ with_inflight f.queue (change_where p as_acknowledged cs) = c.acknowledge_told.ensures
+    ∙ ap (with_inflight f.queue) (ap (λ (rs : List Released). change_where (is_told rs) as_acknowledged cs) (c.deref-4.ensures.value ∙ told)
+    ∙ told-are p no_message (following_tsn f.acked_tsn) cs (omega arith) inv.run inv.few) in
+    subst (λ (o : Outbound). IsRunFrom (following_tsn f.acked_tsn) o.inflight.chunks) (sym marked) (run f inv s fits)
+
+pub judge_each-requires-clause-few : goal.judge_each-requires-clause-few
+judge_each-requires-clause-few c =
+    let f : Flight = record { queue = c.self.inside.queue; next_tsn = c.self.inside.next_tsn; acked_tsn = c.self.inside.acked_tsn } in
+    let s = sack_of c.args.sack.now in
+    let cs = f.queue.inflight.chunks in
+    let p = reports_anew s in
+    let inv = c.self.invariant.contiguous in
+    let fits = c.distance-count.ensures.to_fits in
+    let current = ap (is_outdated (sack_of c.args.sack.now)) c.self.view_is
+    ∙ negated (is_outdated (sack_of c.args.sack.now) c.args.self.now) (sym c.in_ok-is_current.ensures.answer ∙ c.if-not-branch.false) in
+    let none = ap (sack_refusal (sack_of c.args.sack.now)) c.self.view_is ∙ c.in_ok-is_current.ensures.accepted refl in
+    let are : AreSorted c.in_ok-sorted.sorted.items s.gap_ack_blocks = subst (AreSorted c.in_ok-sorted.sorted.items) c.deref.ensures.value
+    c.in_ok-sorted.ensures.ok in
+    let lent : AreSorted c.deref-3.result.now s.gap_ack_blocks = subst (λ (bs : List GapAckBlock). AreSorted bs s.gap_ack_blocks)
+    (sym c.deref-3.ensures.value) are in
+    let told : c.tell_anew.new.released.items ≡ map (released_of no_message) (filter p cs) = c.in_ok-tell_anew.ensures.told p
+    (subst (λ k. PicksAnew p k c.deref-3.result.now cs) (sym c.distance-count.ensures.value) (picks f inv s fits none current c.deref-3.result.now lent)) in
+    let marked : c.acknowledge_told.new.queue ≡ with_inflight f.queue (change_where p as_acknowledged cs) = c.acknowledge_told.ensures
+    ∙ ap (with_inflight f.queue) (ap (λ (rs : List Released). change_where (is_told rs) as_acknowledged cs) (c.deref-4.ensures.value ∙ told)
+    ∙ told-are p no_message (following_tsn f.acked_tsn) cs (omega arith) inv.run inv.few) in
+    let n = ap (λ (o : Outbound). length o.inflight.chunks) marked in
+    let k = count f inv s fits in
+    let few = inv.few in
+    omega (arith, n, k, few)
+
+pub judge_each-requires-clause-beside : goal.judge_each-requires-clause-beside
+judge_each-requires-clause-beside c =
+    let f : Flight = record { queue = c.self.inside.queue; next_tsn = c.self.inside.next_tsn; acked_tsn = c.self.inside.acked_tsn } in
+    let s = sack_of c.args.sack.now in
+    let cs = f.queue.inflight.chunks in
+    let p = reports_anew s in
+    let inv = c.self.invariant.contiguous in
+    let fits = c.distance-count.ensures.to_fits in
+    let current = ap (is_outdated (sack_of c.args.sack.now)) c.self.view_is
+    ∙ negated (is_outdated (sack_of c.args.sack.now) c.args.self.now) (sym c.in_ok-is_current.ensures.answer ∙ c.if-not-branch.false) in
+    let none = ap (sack_refusal (sack_of c.args.sack.now)) c.self.view_is ∙ c.in_ok-is_current.ensures.accepted refl in
+    let are : AreSorted c.in_ok-sorted.sorted.items s.gap_ack_blocks = subst (AreSorted c.in_ok-sorted.sorted.items) c.deref.ensures.value
+    c.in_ok-sorted.ensures.ok in
+    let lent : AreSorted c.deref-3.result.now s.gap_ack_blocks = subst (λ (bs : List GapAckBlock). AreSorted bs s.gap_ack_blocks)
+    (sym c.deref-3.ensures.value) are in
+    let told : c.tell_anew.new.released.items ≡ map (released_of no_message) (filter p cs) = c.in_ok-tell_anew.ensures.told p
+    (subst (λ k. PicksAnew p k c.deref-3.result.now cs) (sym c.distance-count.ensures.value) (picks f inv s fits none current c.deref-3.result.now lent)) in
+    let marked : c.acknowledge_told.new.queue ≡ with_inflight f.queue (change_where p as_acknowledged cs) = c.acknowledge_told.ensures
+    ∙ ap (with_inflight f.queue) (ap (λ (rs : List Released). change_where (is_told rs) as_acknowledged cs) (c.deref-4.ensures.value ∙ told)
+    ∙ told-are p no_message (following_tsn f.acked_tsn) cs (omega arith) inv.run inv.few) in
+    subst (λ (o : Outbound). StandSideBySide (messages_of o.inflight.chunks)) (sym marked)
+    (subst StandSideBySide (sym (messages-changed p as_acknowledged (λ d. refl) cs))
+    (shorter (messages_of cs) (number_of_half (partially_sent f.queue.pending)) inv.side_by_side))
+
+pub judge_each-requires-clause-told : goal.judge_each-requires-clause-told
+judge_each-requires-clause-told c =
+    let f : Flight = record { queue = c.self.inside.queue; next_tsn = c.self.inside.next_tsn; acked_tsn = c.self.inside.acked_tsn } in
+    let s = sack_of c.args.sack.now in
+    let cs = f.queue.inflight.chunks in
+    let p = reports_anew s in
+    let inv = c.self.invariant.contiguous in
+    let fits = c.distance-count.ensures.to_fits in
+    let current = ap (is_outdated (sack_of c.args.sack.now)) c.self.view_is
+    ∙ negated (is_outdated (sack_of c.args.sack.now) c.args.self.now) (sym c.in_ok-is_current.ensures.answer ∙ c.if-not-branch.false) in
+    let none = ap (sack_refusal (sack_of c.args.sack.now)) c.self.view_is ∙ c.in_ok-is_current.ensures.accepted refl in
+    let are : AreSorted c.in_ok-sorted.sorted.items s.gap_ack_blocks = subst (AreSorted c.in_ok-sorted.sorted.items) c.deref.ensures.value
+    c.in_ok-sorted.ensures.ok in
+    let lent : AreSorted c.deref-3.result.now s.gap_ack_blocks = subst (λ (bs : List GapAckBlock). AreSorted bs s.gap_ack_blocks)
+    (sym c.deref-3.ensures.value) are in
+    let told : c.tell_anew.new.released.items ≡ map (released_of no_message) (filter p cs) = c.in_ok-tell_anew.ensures.told p
+    (subst (λ k. PicksAnew p k c.deref-3.result.now cs) (sym c.distance-count.ensures.value) (picks f inv s fits none current c.deref-3.result.now lent)) in
+    let marked : c.acknowledge_told.new.queue ≡ with_inflight f.queue (change_where p as_acknowledged cs) = c.acknowledge_told.ensures
+    ∙ ap (with_inflight f.queue) (ap (λ (rs : List Released). change_where (is_told rs) as_acknowledged cs) (c.deref-4.ensures.value ∙ told)
+    ∙ told-are p no_message (following_tsn f.acked_tsn) cs (omega arith) inv.run inv.few) in
+    subst (λ (rs : List Released). AreInFlight rs c.acknowledge_told.new.queue.inflight.chunks) (sym told)
+    (subst (λ (o : Outbound). AreInFlight (map (released_of no_message) (filter p cs)) o.inflight.chunks) (sym marked)
+    (told-in-flight p no_message cs (change_where p as_acknowledged cs) (λ r h. of-changed p r cs ∙ h)))
 
 pub pop_run-requires-clause-run : goal.pop_run-requires-clause-run
 pop_run-requires-clause-run c =
     let f : Flight = record { queue = c.self.inside.queue; next_tsn = c.self.inside.next_tsn; acked_tsn = c.self.inside.acked_tsn } in
+    let s = sack_of c.args.sack.now in
+    let cs = f.queue.inflight.chunks in
+    let p = reports_anew s in
+    let inv = c.self.invariant.contiguous in
+    let fits = c.distance-count.ensures.to_fits in
     let current = ap (is_outdated (sack_of c.args.sack.now)) c.self.view_is
     ∙ negated (is_outdated (sack_of c.args.sack.now) c.args.self.now) (sym c.in_ok-is_current.ensures.answer ∙ c.if-not-branch.false) in
-    let taken = taken-within (sack_of c.args.sack.now) f (ap (sack_refusal (sack_of c.args.sack.now)) c.self.view_is
-    ∙ c.in_ok-is_current.ensures.accepted refl) current in
-    rw (c.mark_reported.ensures.marked) (run f c.self.invariant (sack_of c.args.sack.now) c.distance-count.ensures.to_fits)
+    let none = ap (sack_refusal (sack_of c.args.sack.now)) c.self.view_is ∙ c.in_ok-is_current.ensures.accepted refl in
+    let are : AreSorted c.in_ok-sorted.sorted.items s.gap_ack_blocks = subst (AreSorted c.in_ok-sorted.sorted.items) c.deref.ensures.value
+    c.in_ok-sorted.ensures.ok in
+    let lent : AreSorted c.deref-3.result.now s.gap_ack_blocks = subst (λ (bs : List GapAckBlock). AreSorted bs s.gap_ack_blocks)
+    (sym c.deref-3.ensures.value) are in
+    let told : c.tell_anew.new.released.items ≡ map (released_of no_message) (filter p cs) = c.in_ok-tell_anew.ensures.told p
+    (subst (λ k. PicksAnew p k c.deref-3.result.now cs) (sym c.distance-count.ensures.value) (picks f inv s fits none current c.deref-3.result.now lent)) in
+    let marked : c.acknowledge_told.new.queue ≡ with_inflight f.queue (change_where p as_acknowledged cs) = c.acknowledge_told.ensures
+    ∙ ap (with_inflight f.queue) (ap (λ (rs : List Released). change_where (is_told rs) as_acknowledged cs) (c.deref-4.ensures.value ∙ told)
+    ∙ told-are p no_message (following_tsn f.acked_tsn) cs (omega arith) inv.run inv.few) in
+    subst (λ (o : Outbound). IsRunFrom (following_tsn f.acked_tsn) o.inflight.chunks) (sym marked) (run f inv s fits)
 
 pub pop_run-requires-clause-within : goal.pop_run-requires-clause-within
 pop_run-requires-clause-within c =
     let f : Flight = record { queue = c.self.inside.queue; next_tsn = c.self.inside.next_tsn; acked_tsn = c.self.inside.acked_tsn } in
+    let s = sack_of c.args.sack.now in
+    let cs = f.queue.inflight.chunks in
+    let p = reports_anew s in
+    let inv = c.self.invariant.contiguous in
+    let fits = c.distance-count.ensures.to_fits in
     let current = ap (is_outdated (sack_of c.args.sack.now)) c.self.view_is
     ∙ negated (is_outdated (sack_of c.args.sack.now) c.args.self.now) (sym c.in_ok-is_current.ensures.answer ∙ c.if-not-branch.false) in
-    let taken = taken-within (sack_of c.args.sack.now) f (ap (sack_refusal (sack_of c.args.sack.now)) c.self.view_is
-    ∙ c.in_ok-is_current.ensures.accepted refl) current in
-    let n = ap (λ (o : Outbound). length o.inflight.chunks) c.mark_reported.ensures.marked in
-    let k = count f c.self.invariant (sack_of c.args.sack.now) c.distance-count.ensures.to_fits in
-    omega (arith, taken, c.inflight_len.ensures, n, k)
+    let none = ap (sack_refusal (sack_of c.args.sack.now)) c.self.view_is ∙ c.in_ok-is_current.ensures.accepted refl in
+    let are : AreSorted c.in_ok-sorted.sorted.items s.gap_ack_blocks = subst (AreSorted c.in_ok-sorted.sorted.items) c.deref.ensures.value
+    c.in_ok-sorted.ensures.ok in
+    let lent : AreSorted c.deref-3.result.now s.gap_ack_blocks = subst (λ (bs : List GapAckBlock). AreSorted bs s.gap_ack_blocks)
+    (sym c.deref-3.ensures.value) are in
+    let told : c.tell_anew.new.released.items ≡ map (released_of no_message) (filter p cs) = c.in_ok-tell_anew.ensures.told p
+    (subst (λ k. PicksAnew p k c.deref-3.result.now cs) (sym c.distance-count.ensures.value) (picks f inv s fits none current c.deref-3.result.now lent)) in
+    let marked : c.acknowledge_told.new.queue ≡ with_inflight f.queue (change_where p as_acknowledged cs) = c.acknowledge_told.ensures
+    ∙ ap (with_inflight f.queue) (ap (λ (rs : List Released). change_where (is_told rs) as_acknowledged cs) (c.deref-4.ensures.value ∙ told)
+    ∙ told-are p no_message (following_tsn f.acked_tsn) cs (omega arith) inv.run inv.few) in
+    let taken = taken-within s f none current in
+    let within : distance f.acked_tsn c.args.sack.now.cumulative_tsn_ack ≤ length f.queue.inflight.chunks = taken in
+    let n = ap (λ (o : Outbound). length o.inflight.chunks) marked in
+    let k = count f inv s fits in
+    omega (arith, within, c.distance-count.ensures.value, n, k)
 
 pub invariant_of-self : goal.invariant_of-self
 invariant_of-self c =
     let f : Flight = record { queue = c.self.inside.queue; next_tsn = c.self.inside.next_tsn; acked_tsn = c.self.inside.acked_tsn } in
+    let s = sack_of c.args.sack.now in
+    let cs = f.queue.inflight.chunks in
+    let p = reports_anew s in
+    let inv = c.self.invariant.contiguous in
+    let fits = c.distance-count.ensures.to_fits in
     let current = ap (is_outdated (sack_of c.args.sack.now)) c.self.view_is
     ∙ negated (is_outdated (sack_of c.args.sack.now) c.args.self.now) (sym c.in_ok-is_current.ensures.answer ∙ c.if-not-branch.false) in
-    let taken = taken-within (sack_of c.args.sack.now) f (ap (sack_refusal (sack_of c.args.sack.now)) c.self.view_is
-    ∙ c.in_ok-is_current.ensures.accepted refl) current in
-    let within : distance f.acked_tsn c.args.sack.now.cumulative_tsn_ack ≤ length f.queue.inflight.chunks =
-    omega (arith, taken, c.inflight_len.ensures, c.distance-count.ensures.value) in
-    contiguous f c.self.invariant (sack_of c.args.sack.now) c.distance-count.ensures.to_fits within c.mark_reported.new.queue c.pop_run.new.queue
-    c.mark_reported.ensures.marked (rw (c.distance-count.ensures.value) at c.pop_run.ensures)
+    let none = ap (sack_refusal (sack_of c.args.sack.now)) c.self.view_is ∙ c.in_ok-is_current.ensures.accepted refl in
+    let are : AreSorted c.in_ok-sorted.sorted.items s.gap_ack_blocks = subst (AreSorted c.in_ok-sorted.sorted.items) c.deref.ensures.value
+    c.in_ok-sorted.ensures.ok in
+    let lent : AreSorted c.deref-3.result.now s.gap_ack_blocks = subst (λ (bs : List GapAckBlock). AreSorted bs s.gap_ack_blocks)
+    (sym c.deref-3.ensures.value) are in
+    let told : c.tell_anew.new.released.items ≡ map (released_of no_message) (filter p cs) = c.in_ok-tell_anew.ensures.told p
+    (subst (λ k. PicksAnew p k c.deref-3.result.now cs) (sym c.distance-count.ensures.value) (picks f inv s fits none current c.deref-3.result.now lent)) in
+    let marked : c.acknowledge_told.new.queue ≡ with_inflight f.queue (change_where p as_acknowledged cs) = c.acknowledge_told.ensures
+    ∙ ap (with_inflight f.queue) (ap (λ (rs : List Released). change_where (is_told rs) as_acknowledged cs) (c.deref-4.ensures.value ∙ told)
+    ∙ told-are p no_message (following_tsn f.acked_tsn) cs (omega arith) inv.run inv.few) in
+    let taken = taken-within s f none current in
+    let within : distance f.acked_tsn c.args.sack.now.cumulative_tsn_ack ≤ length f.queue.inflight.chunks = taken in
+    let left = c.pop_run.ensures ∙ ap (λ k. with_inflight c.acknowledge_told.new.queue (drop k c.acknowledge_told.new.queue.inflight.chunks))
+    c.distance-count.ensures.value in
+    record {
+      contiguous = contiguous f inv s fits within c.acknowledge_told.new.queue c.pop_run.new.queue marked left;
+      ascend = are.ascend;
+      known = subst (λ (o : Outbound). AreKnown c.in_ok-sorted.sorted.items o.inflight.chunks)
+          (sym (left ∙ ap (λ (o : Outbound). with_inflight o (drop (distance f.acked_tsn s.cumulative_tsn_ack) o.inflight.chunks)) marked))
+          (known-then f inv s fits none current c.in_ok-sorted.sorted.items are);
+    }
 
 pub returns-clause-ok : goal.returns-clause-ok
 returns-clause-ok c =
     let f : Flight = record { queue = c.self.inside.queue; next_tsn = c.self.inside.next_tsn; acked_tsn = c.self.inside.acked_tsn } in
+    let s = sack_of c.args.sack.now in
+    let cs = f.queue.inflight.chunks in
+    let p = reports_anew s in
+    let inv = c.self.invariant.contiguous in
+    let fits = c.distance-count.ensures.to_fits in
     let current = ap (is_outdated (sack_of c.args.sack.now)) c.self.view_is
     ∙ negated (is_outdated (sack_of c.args.sack.now) c.args.self.now) (sym c.in_ok-is_current.ensures.answer ∙ c.if-not-branch.false) in
-    let taken = taken-within (sack_of c.args.sack.now) f (ap (sack_refusal (sack_of c.args.sack.now)) c.self.view_is
-    ∙ c.in_ok-is_current.ensures.accepted refl) current in
-    let within : distance f.acked_tsn c.args.sack.now.cumulative_tsn_ack ≤ length f.queue.inflight.chunks =
-    omega (arith, taken, c.inflight_len.ensures, c.distance-count.ensures.value) in
-    rw (← c.self.view_is) (taken-is f c.self.invariant (sack_of c.args.sack.now) c.distance-count.ensures.to_fits within c.mark_reported.new.queue
-    c.pop_run.new.queue c.mark_reported.ensures.marked (rw (c.distance-count.ensures.value) at c.pop_run.ensures) (current))
+    let none = ap (sack_refusal (sack_of c.args.sack.now)) c.self.view_is ∙ c.in_ok-is_current.ensures.accepted refl in
+    let are : AreSorted c.in_ok-sorted.sorted.items s.gap_ack_blocks = subst (AreSorted c.in_ok-sorted.sorted.items) c.deref.ensures.value
+    c.in_ok-sorted.ensures.ok in
+    let lent : AreSorted c.deref-3.result.now s.gap_ack_blocks = subst (λ (bs : List GapAckBlock). AreSorted bs s.gap_ack_blocks)
+    (sym c.deref-3.ensures.value) are in
+    let told : c.tell_anew.new.released.items ≡ map (released_of no_message) (filter p cs) = c.in_ok-tell_anew.ensures.told p
+    (subst (λ k. PicksAnew p k c.deref-3.result.now cs) (sym c.distance-count.ensures.value) (picks f inv s fits none current c.deref-3.result.now lent)) in
+    let marked : c.acknowledge_told.new.queue ≡ with_inflight f.queue (change_where p as_acknowledged cs) = c.acknowledge_told.ensures
+    ∙ ap (with_inflight f.queue) (ap (λ (rs : List Released). change_where (is_told rs) as_acknowledged cs) (c.deref-4.ensures.value ∙ told)
+    ∙ told-are p no_message (following_tsn f.acked_tsn) cs (omega arith) inv.run inv.few) in
+    let taken = taken-within s f none current in
+    let within : distance f.acked_tsn c.args.sack.now.cumulative_tsn_ack ≤ length f.queue.inflight.chunks = taken in
+    let left = c.pop_run.ensures ∙ ap (λ k. with_inflight c.acknowledge_told.new.queue (drop k c.acknowledge_told.new.queue.inflight.chunks))
+    c.distance-count.ensures.value in
+    rw (← c.self.view_is) (taken-is f inv s fits within c.acknowledge_told.new.queue c.pop_run.new.queue marked left current)
 
 pub returns-clause-released : goal.returns-clause-released
 returns-clause-released c =
     let f : Flight = record { queue = c.self.inside.queue; next_tsn = c.self.inside.next_tsn; acked_tsn = c.self.inside.acked_tsn } in
+    let s = sack_of c.args.sack.now in
+    let cs = f.queue.inflight.chunks in
+    let p = reports_anew s in
+    let inv = c.self.invariant.contiguous in
+    let fits = c.distance-count.ensures.to_fits in
     let current = ap (is_outdated (sack_of c.args.sack.now)) c.self.view_is
     ∙ negated (is_outdated (sack_of c.args.sack.now) c.args.self.now) (sym c.in_ok-is_current.ensures.answer ∙ c.if-not-branch.false) in
-    let taken = taken-within (sack_of c.args.sack.now) f (ap (sack_refusal (sack_of c.args.sack.now)) c.self.view_is
-    ∙ c.in_ok-is_current.ensures.accepted refl) current in
+    let none = ap (sack_refusal (sack_of c.args.sack.now)) c.self.view_is ∙ c.in_ok-is_current.ensures.accepted refl in
+    let are : AreSorted c.in_ok-sorted.sorted.items s.gap_ack_blocks = subst (AreSorted c.in_ok-sorted.sorted.items) c.deref.ensures.value
+    c.in_ok-sorted.ensures.ok in
+    let lent : AreSorted c.deref-3.result.now s.gap_ack_blocks = subst (λ (bs : List GapAckBlock). AreSorted bs s.gap_ack_blocks)
+    (sym c.deref-3.ensures.value) are in
+    let told : c.tell_anew.new.released.items ≡ map (released_of no_message) (filter p cs) = c.in_ok-tell_anew.ensures.told p
+    (subst (λ k. PicksAnew p k c.deref-3.result.now cs) (sym c.distance-count.ensures.value) (picks f inv s fits none current c.deref-3.result.now lent)) in
+    let marked : c.acknowledge_told.new.queue ≡ with_inflight f.queue (change_where p as_acknowledged cs) = c.acknowledge_told.ensures
+    ∙ ap (with_inflight f.queue) (ap (λ (rs : List Released). change_where (is_told rs) as_acknowledged cs) (c.deref-4.ensures.value ∙ told)
+    ∙ told-are p no_message (following_tsn f.acked_tsn) cs (omega arith) inv.run inv.few) in
+    let taken = taken-within s f none current in
+    let within : distance f.acked_tsn c.args.sack.now.cumulative_tsn_ack ≤ length f.queue.inflight.chunks = taken in
+    let left = c.pop_run.ensures ∙ ap (λ k. with_inflight c.acknowledge_told.new.queue (drop k c.acknowledge_told.new.queue.inflight.chunks))
+    c.distance-count.ensures.value in
+    let mine = c.judge_each.ensures ∙ ap (map (judged c.half_of-half.result c.acknowledge_told.new.queue.inflight.chunks)) told
+    ∙ told-judged s f c.half_of-half.result (c.half_of-half.ensures ∙ ap (λ (o : Outbound). partially_sent o.pending) marked) cs
+    c.acknowledge_told.new.queue.inflight.chunks refl (ap (λ (o : Outbound). o.inflight.chunks) marked) in
     let g : Flight = record { queue = c.pop_run.new.queue; next_tsn = c.self.inside.next_tsn; acked_tsn = c.args.sack.now.cumulative_tsn_ack } in
-    let within : distance f.acked_tsn c.args.sack.now.cumulative_tsn_ack ≤ length f.queue.inflight.chunks =
-    omega (arith, taken, c.inflight_len.ensures, c.distance-count.ensures.value) in
-    let is = taken-is f c.self.invariant (sack_of c.args.sack.now) c.distance-count.ensures.to_fits within c.mark_reported.new.queue c.pop_run.new.queue
-    c.mark_reported.ensures.marked (rw (c.distance-count.ensures.value) at c.pop_run.ensures) current in
-    let s = sack_of c.args.sack.now in
-    let told = c.mark_reported.ensures.told ∙ told-whole f c.self.invariant s c.distance-count.ensures.to_fits
-    (λ m. contains nat_eq c.in_ok-unfinished.unfinished m) c.half_of-half.result c.half_of-half.ensures c.message_end-end.result
-    (let marks : length c.in_ok-marks.marks.items ≡ after_blocks c.args.sack.now.gap_ack_blocks.items = c.in_ok-marks.ensures.count
-    ∙ ap after_blocks c.deref.ensures.value in
-    omega (arith, marks, c.min-reach.ensures, c.message_end-end.ensures.from, c.distance-count.ensures.value, c.inflight_len.ensures))
-    (c.message_end-end.ensures.apart (shorter (messages_of f.queue.inflight.chunks)
-    (number_of_half (partially_sent f.queue.pending)) c.self.invariant.side_by_side)) c.in_ok-unfinished.ensures.ok in
-    rw (← c.self.view_is) (after-bytes s f g c.mark_reported.new.released.items current is told)
+    let is = taken-is f inv s fits within c.acknowledge_told.new.queue c.pop_run.new.queue marked left current in
+    rw (← c.self.view_is) (after-bytes s f g c.judge_each.new.released.items current is mine)
 
 pub returns-clause-answer : goal.returns-clause-answer
 returns-clause-answer c =
     let f : Flight = record { queue = c.self.inside.queue; next_tsn = c.self.inside.next_tsn; acked_tsn = c.self.inside.acked_tsn } in
+    let s = sack_of c.args.sack.now in
+    let cs = f.queue.inflight.chunks in
+    let p = reports_anew s in
+    let inv = c.self.invariant.contiguous in
+    let fits = c.distance-count.ensures.to_fits in
     let current = ap (is_outdated (sack_of c.args.sack.now)) c.self.view_is
     ∙ negated (is_outdated (sack_of c.args.sack.now) c.args.self.now) (sym c.in_ok-is_current.ensures.answer ∙ c.if-not-branch.false) in
-    let taken = taken-within (sack_of c.args.sack.now) f (ap (sack_refusal (sack_of c.args.sack.now)) c.self.view_is
-    ∙ c.in_ok-is_current.ensures.accepted refl) current in
-    let s = sack_of c.args.sack.now in
-    let told = c.mark_reported.ensures.told ∙ told-whole f c.self.invariant s c.distance-count.ensures.to_fits
-    (λ m. contains nat_eq c.in_ok-unfinished.unfinished m) c.half_of-half.result c.half_of-half.ensures c.message_end-end.result
-    (let marks : length c.in_ok-marks.marks.items ≡ after_blocks c.args.sack.now.gap_ack_blocks.items = c.in_ok-marks.ensures.count
-    ∙ ap after_blocks c.deref.ensures.value in
-    omega (arith, marks, c.min-reach.ensures, c.message_end-end.ensures.from, c.distance-count.ensures.value, c.inflight_len.ensures))
-    (c.message_end-end.ensures.apart (shorter (messages_of f.queue.inflight.chunks)
-    (number_of_half (partially_sent f.queue.pending)) c.self.invariant.side_by_side)) c.in_ok-unfinished.ensures.ok in
-    rw (← c.self.view_is) (told ∙ ap (λ b. if b then [] else map (released_of (is_whole s f)) (filter (reports_anew s) f.queue.inflight.chunks)) (sym current))
+    let none = ap (sack_refusal (sack_of c.args.sack.now)) c.self.view_is ∙ c.in_ok-is_current.ensures.accepted refl in
+    let are : AreSorted c.in_ok-sorted.sorted.items s.gap_ack_blocks = subst (AreSorted c.in_ok-sorted.sorted.items) c.deref.ensures.value
+    c.in_ok-sorted.ensures.ok in
+    let lent : AreSorted c.deref-3.result.now s.gap_ack_blocks = subst (λ (bs : List GapAckBlock). AreSorted bs s.gap_ack_blocks)
+    (sym c.deref-3.ensures.value) are in
+    let told : c.tell_anew.new.released.items ≡ map (released_of no_message) (filter p cs) = c.in_ok-tell_anew.ensures.told p
+    (subst (λ k. PicksAnew p k c.deref-3.result.now cs) (sym c.distance-count.ensures.value) (picks f inv s fits none current c.deref-3.result.now lent)) in
+    let marked : c.acknowledge_told.new.queue ≡ with_inflight f.queue (change_where p as_acknowledged cs) = c.acknowledge_told.ensures
+    ∙ ap (with_inflight f.queue) (ap (λ (rs : List Released). change_where (is_told rs) as_acknowledged cs) (c.deref-4.ensures.value ∙ told)
+    ∙ told-are p no_message (following_tsn f.acked_tsn) cs (omega arith) inv.run inv.few) in
+    let mine = c.judge_each.ensures ∙ ap (map (judged c.half_of-half.result c.acknowledge_told.new.queue.inflight.chunks)) told
+    ∙ told-judged s f c.half_of-half.result (c.half_of-half.ensures ∙ ap (λ (o : Outbound). partially_sent o.pending) marked) cs
+    c.acknowledge_told.new.queue.inflight.chunks refl (ap (λ (o : Outbound). o.inflight.chunks) marked) in
+    rw (← c.self.view_is) (mine ∙ ap (λ b. if b then [] else map (released_of (is_whole s f)) (filter (reports_anew s) f.queue.inflight.chunks)) (sym current))

@@ -1,4 +1,4 @@
-use Rattle.std.proofs.Common.{ap, refl, ◌∙◌}
+use Rattle.std.proofs.Common.{ap, refl, ◌∙◌, subst, sym}
 use Rattle.sctp_outbound.specs.outbound_queue.OutboundQueue.{Outbound}
 use Rattle.sctp_serial.specs.DataChunks.{tsns}
 use Rattle.sctp_sender.specs.Flight.{Flight}
@@ -6,12 +6,19 @@ use Rattle.sctp_sender.specs.Resending.{can_miss, missed}
 use Rattle.sctp_sender.proofs.MarkedRuns.{part-run}
 use Rattle.sctp_sender.proofs.InLine.{part-marked-in-line}
 use Rattle.sctp_sender.proofs.Flights.{kept}
+use Rattle.sctp_sender.specs.Reporting.{AreKnown}
+use Rattle.sctp_sender.proofs.Known.{part-changed-known}
 use Rattle.sctp_sender.proofs.sender.flight.InFlight.add_miss_indications.Goals as goal
 
 pub invariant_of-self : goal.invariant_of-self
 invariant_of-self c =
     let f : Flight = record { queue = c.self.inside.queue; next_tsn = c.self.inside.next_tsn; acked_tsn = c.self.inside.acked_tsn } in
-    kept f (record f { queue = c.count_missing.new.queue }) (ap (λ (o : Outbound). tsns o.inflight.chunks) c.count_missing.ensures.missed
-    ∙ part-run can_miss missed (λ d. refl) f.queue.inflight.chunks c.count_before-count.result) refl refl
-    (part-marked-in-line f.queue c.count_missing.new.queue can_miss missed c.count_before-count.result
-    (λ d. refl) c.count_missing.ensures.missed c.self.invariant.side_by_side) c.self.invariant
+    record {
+      contiguous = (kept f (record f { queue = c.count_missing.new.queue }) (ap (λ (o : Outbound). tsns o.inflight.chunks) c.count_missing.ensures.missed
+          ∙ part-run can_miss missed (λ d. refl) f.queue.inflight.chunks c.count_before-count.result) refl refl
+          (part-marked-in-line f.queue c.count_missing.new.queue can_miss missed c.count_before-count.result
+          (λ d. refl) c.count_missing.ensures.missed c.self.invariant.contiguous.side_by_side) c.self.invariant.contiguous);
+      ascend = c.self.invariant.ascend;
+      known = subst (λ (o : Outbound). AreKnown c.self.inside.known.items o.inflight.chunks) (sym c.count_missing.ensures.missed)
+          (part-changed-known c.self.inside.known.items f.queue.inflight.chunks c.self.invariant.known can_miss missed (λ d. refl) c.count_before-count.result);
+    }

@@ -1,4 +1,4 @@
-use Rattle.std.proofs.Common.{ap, refl, ◌∙◌}
+use Rattle.std.proofs.Common.{ap, refl, ◌∙◌, subst, sym}
 use Rattle.sctp_outbound.specs.Marks.{with_nsent}
 use Rattle.sctp_outbound.specs.outbound_queue.OutboundQueue.{Outbound}
 use Rattle.sctp_serial.specs.DataChunks.{has_tsn, tsns}
@@ -6,12 +6,19 @@ use Rattle.sctp_sender.specs.Flight.{Flight}
 use Rattle.sctp_sender.proofs.Runs.{changed-run}
 use Rattle.sctp_sender.proofs.InLine.{marked-in-line}
 use Rattle.sctp_sender.proofs.Flights.{kept}
+use Rattle.sctp_sender.specs.Reporting.{AreKnown}
+use Rattle.sctp_sender.proofs.Known.{changed-known}
 use Rattle.sctp_sender.proofs.sender.flight.InFlight.count_resend.Goals as goal
 
 pub invariant_of-self : goal.invariant_of-self
 invariant_of-self c =
     let f : Flight = record { queue = c.self.inside.queue; next_tsn = c.self.inside.next_tsn; acked_tsn = c.self.inside.acked_tsn } in
-    kept f (record f { queue = c.set_nsent.new.self }) (ap (λ (o : Outbound). tsns o.inflight.chunks) c.set_nsent.ensures.changed
-    ∙ changed-run (has_tsn c.args.tsn) (with_nsent c.saturating_add-nsent.result) (λ d. refl) f.queue.inflight.chunks) refl refl
-    (marked-in-line f.queue c.set_nsent.new.self (has_tsn c.args.tsn) (with_nsent c.saturating_add-nsent.result)
-    (λ d. refl) c.set_nsent.ensures.changed c.self.invariant.side_by_side) c.self.invariant
+    record {
+      contiguous = (kept f (record f { queue = c.set_nsent.new.self }) (ap (λ (o : Outbound). tsns o.inflight.chunks) c.set_nsent.ensures.changed
+          ∙ changed-run (has_tsn c.args.tsn) (with_nsent c.saturating_add-nsent.result) (λ d. refl) f.queue.inflight.chunks) refl refl
+          (marked-in-line f.queue c.set_nsent.new.self (has_tsn c.args.tsn) (with_nsent c.saturating_add-nsent.result)
+          (λ d. refl) c.set_nsent.ensures.changed c.self.invariant.contiguous.side_by_side) c.self.invariant.contiguous);
+      ascend = c.self.invariant.ascend;
+      known = subst (λ (o : Outbound). AreKnown c.self.inside.known.items o.inflight.chunks) (sym c.set_nsent.ensures.changed) (changed-known
+          c.self.inside.known.items f.queue.inflight.chunks c.self.invariant.known (has_tsn c.args.tsn) (with_nsent c.saturating_add-nsent.result) (λ d. refl));
+    }

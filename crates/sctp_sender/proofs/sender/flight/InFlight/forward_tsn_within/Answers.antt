@@ -1,7 +1,7 @@
-use Rattle.std.proofs.Common.{◌≡◌, ◌-◌, ◌/◌, ◌<◌, ◌≤◌, ◌^◌, ◌⊎◌, inl, inr, refl, ap, sym, ◌∙◌, arith}
+use Rattle.std.proofs.Common.{◌≡◌, ◌-◌, ◌/◌, ◌<◌, ◌^◌, refl, ap, ◌∙◌, arith}
 use Rattle.sctp_list_lemmas.specs.Serial.{distance}
 use Rattle.sctp_sender.specs.Flight.{Flight}
-use Rattle.sctp_sender.specs.Abandonment.{IsTooLong, ahead, advanced_ack_point}
+use Rattle.sctp_sender.specs.Abandonment.{ahead, advanced_ack_point}
 use Rattle.sctp_sender.proofs.Ends.{all-long, is-end-at, later-long, short-of}
 use Rattle.sctp_sender.proofs.Points.{point-within}
 use Rattle.sctp_sender.proofs.Runs.{any_chunk}
@@ -11,14 +11,14 @@ use Rattle.sctp_sender.proofs.sender.flight.InFlight.forward_tsn_within.Goals as
 pub returns-then-bytes-lt8-clause-none : goal.returns-then-bytes-lt8-clause-none
 returns-then-bytes-lt8-clause-none c =
     let f : Flight = record { queue = c.self.inside.queue; next_tsn = c.self.inside.next_tsn; acked_tsn = c.self.inside.acked_tsn } in
-    rw (← c.self.view_is) (λ _. short-of f c.self.invariant c.args.bytes c.if-bytes-lt8.true)
+    rw (← c.self.view_is) (λ _. short-of f c.self.invariant.contiguous c.args.bytes c.if-bytes-lt8.true)
 
 pub pairs_to_end-requires : goal.pairs_to_end-requires
 pairs_to_end-requires c =
     let f : Flight = record { queue = c.self.inside.queue; next_tsn = c.self.inside.next_tsn; acked_tsn = c.self.inside.acked_tsn } in
     let point : c.distance-most.result ≡ ahead f (advanced_ack_point f) = c.distance-most.ensures.value
     ∙ ap (distance f.acked_tsn) (rw (← c.self.view_is) at c.advanced_ack_point.ensures) in
-    let within = point-within f c.self.invariant in
+    let within = point-within f c.self.invariant.contiguous in
     omega (arith, point, within)
 
 pub returns-then-count-eq0-clause-none : goal.returns-then-count-eq0-clause-none
@@ -26,9 +26,9 @@ returns-then-count-eq0-clause-none c =
     let f : Flight = record { queue = c.self.inside.queue; next_tsn = c.self.inside.next_tsn; acked_tsn = c.self.inside.acked_tsn } in
     let point : c.distance-most.result ≡ ahead f (advanced_ack_point f) = c.distance-most.ensures.value
     ∙ ap (distance f.acked_tsn) (rw (← c.self.view_is) at c.advanced_ack_point.ensures) in
-    let within = point-within f c.self.invariant in
-    rw (← c.self.view_is) (λ _. all-long f c.self.invariant c.args.bytes ((c.args.bytes - 8) / 4) c.in_ok-count.count c.distance-most.result
-    c.if-bytes-lt8.false refl point c.if-count-eq0.true (later-long f c.self.invariant c.args.bytes
+    let within = point-within f c.self.invariant.contiguous in
+    rw (← c.self.view_is) (λ _. all-long f c.self.invariant.contiguous c.args.bytes ((c.args.bytes - 8) / 4) c.in_ok-count.count c.distance-most.result
+    c.if-bytes-lt8.false refl point c.if-count-eq0.true (later-long f c.self.invariant.contiguous c.args.bytes
     ((c.args.bytes - 8) / 4) c.in_ok-count.count c.distance-most.result c.if-bytes-lt8.false refl point c.in_ok-count.ensures.furthest))
 
 pub returns-clause-past : goal.returns-clause-past
@@ -36,21 +36,23 @@ returns-clause-past c =
     let f : Flight = record { queue = c.self.inside.queue; next_tsn = c.self.inside.next_tsn; acked_tsn = c.self.inside.acked_tsn } in
     let point : c.distance-most.result ≡ ahead f (advanced_ack_point f) = c.distance-most.ensures.value
     ∙ ap (distance f.acked_tsn) (rw (← c.self.view_is) at c.advanced_ack_point.ensures) in
-    let within = point-within f c.self.invariant in
-    let few : c.in_ok-count.count < 2 ^ 31 = omega (arith, point, within, c.self.invariant.few, c.in_ok-count.ensures.count) in
+    let within = point-within f c.self.invariant.contiguous in
+    let few : c.in_ok-count.count < 2 ^ 31 = omega (arith, point, within, c.self.invariant.contiguous.few, c.in_ok-count.ensures.count) in
     rw (← c.self.view_is)
-    (past f c.self.invariant.in_range c.in_ok-count.count few (omega (arith, point, c.in_ok-count.ensures.count)) (omega (arith, c.if-count-eq0.false)))
+    (past f c.self.invariant.contiguous.in_range c.in_ok-count.count few (omega (arith, point, c.in_ok-count.ensures.count))
+    (omega (arith, c.if-count-eq0.false)))
 
 pub returns-clause-ended : goal.returns-clause-ended
 returns-clause-ended c =
     let f : Flight = record { queue = c.self.inside.queue; next_tsn = c.self.inside.next_tsn; acked_tsn = c.self.inside.acked_tsn } in
     let point : c.distance-most.result ≡ ahead f (advanced_ack_point f) = c.distance-most.ensures.value
     ∙ ap (distance f.acked_tsn) (rw (← c.self.view_is) at c.advanced_ack_point.ensures) in
-    let within = point-within f c.self.invariant in
-    let few : c.in_ok-count.count < 2 ^ 31 = omega (arith, point, within, c.self.invariant.few, c.in_ok-count.ensures.count) in
+    let within = point-within f c.self.invariant.contiguous in
+    let few : c.in_ok-count.count < 2 ^ 31 = omega (arith, point, within, c.self.invariant.contiguous.few, c.in_ok-count.ensures.count) in
     let some : 0 < c.in_ok-count.count = omega (arith, c.if-count-eq0.false) in
-    let can = past f c.self.invariant.in_range c.in_ok-count.count few (omega (arith, point, c.in_ok-count.ensures.count)) some in
-    rw (← c.self.view_is) (is-end-at f c.self.invariant c.in_ok-count.count any_chunk can some (omega (arith, point, within, c.in_ok-count.ensures.count))
+    let can = past f c.self.invariant.contiguous.in_range c.in_ok-count.count few (omega (arith, point, c.in_ok-count.ensures.count)) some in
+    rw (← c.self.view_is)
+    (is-end-at f c.self.invariant.contiguous c.in_ok-count.count any_chunk can some (omega (arith, point, within, c.in_ok-count.ensures.count))
     (c.in_ok-count.ensures.ended some any_chunk))
 
 pub returns-clause-names : goal.returns-clause-names
@@ -58,17 +60,17 @@ returns-clause-names c =
     let f : Flight = record { queue = c.self.inside.queue; next_tsn = c.self.inside.next_tsn; acked_tsn = c.self.inside.acked_tsn } in
     let point : c.distance-most.result ≡ ahead f (advanced_ack_point f) = c.distance-most.ensures.value
     ∙ ap (distance f.acked_tsn) (rw (← c.self.view_is) at c.advanced_ack_point.ensures) in
-    let within = point-within f c.self.invariant in
-    let few : c.in_ok-count.count < 2 ^ 31 = omega (arith, point, within, c.self.invariant.few, c.in_ok-count.ensures.count) in
-    rw (← c.self.view_is) (names f c.self.invariant.in_range c.in_ok-count.count few c.in_ok-count.streams.items c.in_ok-count.ensures.names)
+    let within = point-within f c.self.invariant.contiguous in
+    let few : c.in_ok-count.count < 2 ^ 31 = omega (arith, point, within, c.self.invariant.contiguous.few, c.in_ok-count.ensures.count) in
+    rw (← c.self.view_is) (names f c.self.invariant.contiguous.in_range c.in_ok-count.count few c.in_ok-count.streams.items c.in_ok-count.ensures.names)
 
 pub returns-clause-furthest : goal.returns-clause-furthest
 returns-clause-furthest c =
     let f : Flight = record { queue = c.self.inside.queue; next_tsn = c.self.inside.next_tsn; acked_tsn = c.self.inside.acked_tsn } in
     let point : c.distance-most.result ≡ ahead f (advanced_ack_point f) = c.distance-most.ensures.value
     ∙ ap (distance f.acked_tsn) (rw (← c.self.view_is) at c.advanced_ack_point.ensures) in
-    let within = point-within f c.self.invariant in
-    let few : c.in_ok-count.count < 2 ^ 31 = omega (arith, point, within, c.self.invariant.few, c.in_ok-count.ensures.count) in
-    let there = far f c.self.invariant.in_range c.in_ok-count.count few in
-    rw (← c.self.view_is, there) (later-long f c.self.invariant c.args.bytes
+    let within = point-within f c.self.invariant.contiguous in
+    let few : c.in_ok-count.count < 2 ^ 31 = omega (arith, point, within, c.self.invariant.contiguous.few, c.in_ok-count.ensures.count) in
+    let there = far f c.self.invariant.contiguous.in_range c.in_ok-count.count few in
+    rw (← c.self.view_is, there) (later-long f c.self.invariant.contiguous c.args.bytes
     ((c.args.bytes - 8) / 4) c.in_ok-count.count c.distance-most.result c.if-bytes-lt8.false refl point c.in_ok-count.ensures.furthest)

@@ -41,5 +41,5 @@ returns-clause-ok c =
       ),
     ) in
     let is = ap (λ n. trimmed (drop n (take end (keep_each s f.queue.inflight.chunks ks)))) c.distance-count.ensures.value
-    ∙ kept-is f c.self.invariant s c.distance-count.ensures.to_fits ks end far current le in
+    ∙ kept-is f c.self.invariant.contiguous s c.distance-count.ensures.to_fits ks end far current le in
     rw (← c.self.view_is) (subst (λ xs. IfOk c.keep_each.result (λ after. after.items ≡ xs)) is c.keep_each.ensures.ok)

@@ -1,5 +1,4 @@
-use Rattle.std.proofs.Common.{◌≡◌, ◌-◌, ◌+◌, ◌<◌, ◌≤◌, suc, ap, sym, ◌∙◌, length, arith}
-use Rattle.sctp_list_lemmas.specs.Serial.{distance}
+use Rattle.std.proofs.Common.{◌≡◌, suc, ◌∙◌, arith}
 use Rattle.sctp_outbound.specs.pending_queue.Whole.{partially_sent}
 use Rattle.sctp_sender.specs.Flight.{Flight}
 use Rattle.sctp_sender.specs.SideBySide.{messages_of, number_of_half}
@@ -11,7 +10,7 @@ pub returns-then-ahead-eq0 : goal.returns-then-ahead-eq0
 returns-then-ahead-eq0 c =
     let f : Flight = record { queue = c.self.inside.queue; next_tsn = c.self.inside.next_tsn; acked_tsn = c.self.inside.acked_tsn } in
     rw (← c.self.view_is) (λ x found.
-    let h = place-is f c.self.invariant c.args.tsn x found in
+    let h = place-is f c.self.invariant.contiguous c.args.tsn x found in
     let far : c.distance-ahead.result ≡ suc h.0 = c.distance-ahead.ensures.value ∙ h.2 in
     absurd (omega (arith, far, h.1, c.if-ahead-eq0.true)))
 
@@ -19,7 +18,7 @@ pub returns-then-ahead-inflight_len : goal.returns-then-ahead-inflight_len
 returns-then-ahead-inflight_len c =
     let f : Flight = record { queue = c.self.inside.queue; next_tsn = c.self.inside.next_tsn; acked_tsn = c.self.inside.acked_tsn } in
     rw (← c.self.view_is) (λ x found.
-    let h = place-is f c.self.invariant c.args.tsn x found in
+    let h = place-is f c.self.invariant.contiguous c.args.tsn x found in
     let far : c.distance-ahead.result ≡ suc h.0 = c.distance-ahead.ensures.value ∙ h.2 in
     absurd (omega (arith, far, h.1, c.if-ahead-inflight_len.true, c.inflight_len.ensures)))
 
@@ -27,9 +26,9 @@ pub returns : goal.returns
 returns c =
     let f : Flight = record { queue = c.self.inside.queue; next_tsn = c.self.inside.next_tsn; acked_tsn = c.self.inside.acked_tsn } in
     let cs = f.queue.inflight.chunks in
-    let beside = shorter (messages_of cs) (number_of_half (partially_sent f.queue.pending)) c.self.invariant.side_by_side in
+    let beside = shorter (messages_of cs) (number_of_half (partially_sent f.queue.pending)) c.self.invariant.contiguous.side_by_side in
     rw (← c.self.view_is) (λ x found.
-    let h = place-is f c.self.invariant c.args.tsn x found in
+    let h = place-is f c.self.invariant.contiguous c.args.tsn x found in
     let far : c.distance-ahead.result ≡ suc h.0 = c.distance-ahead.ensures.value ∙ h.2 in
     between cs c.message_start-start.result c.message_end-end.result h.0 x (omega (arith, far, c.message_start-start.ensures.to))
     (omega (arith, far, c.message_end-end.ensures.from)) c.message_end-end.ensures.to (c.message_start-start.ensures.apart beside)

@@ -1,4 +1,4 @@
-use Rattle.std.proofs.Common.{ap, refl, sym, ◌∙◌, Some}
+use Rattle.std.proofs.Common.{ap, refl, sym, ◌∙◌, Some, subst}
 use Rattle.std.specs.Prelude.{find}
 use Rattle.sctp_data.specs.declared.chunk.chunk_payload_data.ChunkPayloadData.{ChunkPayloadData}
 use Rattle.sctp_sender.proofs.Walks.{found-changed}
@@ -9,15 +9,23 @@ use Rattle.sctp_sender.specs.Resending.{sent_again}
 use Rattle.sctp_sender.proofs.Runs.{changed-run}
 use Rattle.sctp_sender.proofs.InLine.{marked-in-line}
 use Rattle.sctp_sender.proofs.Flights.{kept}
+use Rattle.sctp_sender.specs.Reporting.{AreKnown}
+use Rattle.sctp_sender.proofs.Known.{changed-known}
 use Rattle.sctp_sender.proofs.sender.flight.InFlight.resend.Goals as goal
 
 pub invariant_of-self : goal.invariant_of-self
 invariant_of-self c =
     let f : Flight = record { queue = c.self.inside.queue; next_tsn = c.self.inside.next_tsn; acked_tsn = c.self.inside.acked_tsn } in
-    kept f (record f { queue = c.note_sent_again.new.queue }) (ap (λ (o : Outbound). tsns o.inflight.chunks) c.note_sent_again.ensures
-    ∙ changed-run (has_tsn c.args.tsn) (sent_again c.saturating_add-count.result c.args.now) (λ d. refl) f.queue.inflight.chunks) refl refl
-    (marked-in-line f.queue c.note_sent_again.new.queue (has_tsn c.args.tsn) (sent_again c.saturating_add-count.result c.args.now)
-    (λ d. refl) c.note_sent_again.ensures c.self.invariant.side_by_side) c.self.invariant
+    record {
+      contiguous = (kept f (record f { queue = c.note_sent_again.new.queue }) (ap (λ (o : Outbound). tsns o.inflight.chunks) c.note_sent_again.ensures
+          ∙ changed-run (has_tsn c.args.tsn) (sent_again c.saturating_add-count.result c.args.now) (λ d. refl) f.queue.inflight.chunks) refl refl
+          (marked-in-line f.queue c.note_sent_again.new.queue (has_tsn c.args.tsn) (sent_again c.saturating_add-count.result c.args.now)
+          (λ d. refl) c.note_sent_again.ensures c.self.invariant.contiguous.side_by_side) c.self.invariant.contiguous);
+      ascend = c.self.invariant.ascend;
+      known = subst (λ (o : Outbound). AreKnown c.self.inside.known.items o.inflight.chunks) (sym c.note_sent_again.ensures)
+          (changed-known c.self.inside.known.items f.queue.inflight.chunks c.self.invariant.known (has_tsn c.args.tsn)
+          (sent_again c.saturating_add-count.result c.args.now) (λ d. refl));
+    }
 
 pub returns-clause-noted : goal.returns-clause-noted
 returns-clause-noted c =

@@ -1,4 +1,5 @@
 use Rattle.std.proofs.Common.{◌≡◌, ◌<◌, ◌++◌, ◌∷◌, [], List, ℕ, None, Some, Option, length, length-append, length-set, set, get_or, refl, ap, sym, ◌∙◌, arith}
+use Rattle.std.proofs.lemmas.Bool.{false≢true}
 use Rattle.sctp_outbound.specs.Marks.{as_taken_back}
 use Rattle.sctp_outbound.specs.outbound_queue.OutboundQueue.{Outbound, with_inflight}
 use Rattle.sctp_sender.specs.Keeping.{restored}
@@ -9,6 +10,7 @@ use Rattle.sctp_sender.proofs.sender.flight.keeping.restore_each.Goals as goal
 pub loop-back-init : goal.loop-back-init
 loop-back-init c = record {
   goes_on = refl;
+  none = λ e. refl;
   within = c.requires.within;
   fits = let w = told-weight c.args.backs.items c.args.queue.now.inflight.chunks c.requires.within in omega (arith, w, c.requires.bytes);
 }
@@ -26,6 +28,7 @@ loop-back-preserved-in_default-back c =
       goes_on = ap (with_inflight q) (sym (restored-none bs q.inflight.chunks)) ∙ ap (λ ks. with_inflight q (restored ks q.inflight.chunks)) (sym items)
           ∙ inv.goes_on;
       within = omega (arith, n, m, inv.within);
+      none = inv.none;
       fits = omega (arith, w, inv.fits);
     }
 
@@ -50,6 +53,7 @@ loop-back-preserved c =
           ap (λ (o : Outbound). with_inflight o (restored bs o.inflight.chunks)) back ∙ ap (with_inflight q) (sym (restored-last bs bytes cs any_chunk lt))
           ∙ ap (λ ks. with_inflight q (restored ks cs)) (sym items) ∙ inv.goes_on;
       within = omega (arith, lt, long);
+      none = λ e. absurd (false≢true (sym e));
       fits = omega (arith, w, inv.fits, c.take_back_at.ensures.counted any_chunk);
     }
 
@@ -68,7 +72,7 @@ take_back_at-requires-clause-bytes c =
     let w = ap weight (c.in-Some.ensures.items ∙ ap (λ k. bs ++ k ∷ []) c.in-Some-back.is) ∙ weight-last bs (Some bytes) in
     omega (arith, w, c.loop-back.invariant.fits)
 
-pub returns : goal.returns
-returns c =
+pub returns-clause-restored : goal.returns-clause-restored
+returns-clause-restored c =
     let n : length c.loop-back.backs.items ≡ 0 = sym c.loop-back.backs.ok.0 ∙ c.in_default.ensures.cases.0 in
     ap (with_inflight c.loop-back.queue) (sym (none-left c.loop-back.backs.items c.loop-back.queue.inflight.chunks n)) ∙ c.loop-back.invariant.goes_on

@@ -1,0 +1,12 @@
+use Rattle.std.proofs.Common.{◌≡◌, ◌++◌, map, take, drop}
+use Rattle.std.specs.Prelude.{IfSome}
+use Rattle.sctp_sender.specs.Telling.{AreInFlight, is_closed, judged}
+use Rattle.sctp_sender.proofs.sender.flight.telling.judge_each.Given as goal
+
+abbrev pub invariant-loop-one : goal.invariant-loop-one
+invariant-loop-one l = record {
+  noted : map (judged l.half l.queue.inflight.chunks) l.fn.released.items
+      ≡ take l.one-index l.one-items ++ map (judged l.half l.queue.inflight.chunks) (drop l.one-index l.one-items);
+  there : AreInFlight (drop l.one-index l.one-items) l.queue.inflight.chunks;
+  last : IfSome l.last (λ k. k.1 ≡ is_closed l.half l.queue.inflight.chunks k.0);
+}

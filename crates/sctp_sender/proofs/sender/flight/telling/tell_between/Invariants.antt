@@ -1,0 +1,18 @@
+use Rattle.std.proofs.Common.{◌≡◌, ◌+◌, ◌-◌, ◌≤◌, Bool, length, map, take}
+use Rattle.std.specs.List.{filter}
+use Rattle.sctp_data.specs.declared.chunk.chunk_payload_data.ChunkPayloadData.{ChunkPayloadData}
+use Rattle.sctp_sender.specs.Flight.{released_of}
+use Rattle.sctp_sender.specs.Telling.{PicksOpen, no_message}
+use Rattle.sctp_sender.proofs.sender.flight.telling.tell_between.Given as goal
+
+abbrev pub invariant-loop-place : goal.invariant-loop-place
+invariant-loop-place l = record {
+  from : l.places.0 ≤ l.place;
+  within : l.place ≤ l.places.1;
+  told : (p : ChunkPayloadData → Bool) → PicksOpen p l.places.0 l.places.1 l.queue.inflight.chunks
+      → l.initial.released.items ≡ map (released_of no_message) (filter p (take l.places.0 l.queue.inflight.chunks))
+      → l.released.items ≡ map (released_of no_message) (filter p (take l.place l.queue.inflight.chunks));
+}
+
+abbrev pub decreases-loop-place : goal.decreases-loop-place
+decreases-loop-place l = (l.places.1 - l.place) + (length l.known - l.next)
