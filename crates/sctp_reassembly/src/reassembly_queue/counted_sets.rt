@@ -1,9 +1,10 @@
 //! Sets of fragments, whose chunks are counted.
 
-ghost use Rattle.std.specs.Prelude.{◌≡◌, ◌+◌, ◌-◌, ◌^◌, ◌<◌, ◌≤◌, [], ◌∷◌, ◌++◌, length, min, not, drop, set, remove, slice_index_or, option_map, MatchOption, OnOk, OnErr, IfOk, IfErr, IfSome, IfNone, IsOk};
+ghost use Rattle.std.specs.Prelude.{◌≡◌, ◌+◌, ◌-◌, ◌*◌, ◌^◌, ◌<◌, ◌≤◌, [], ◌∷◌, ◌++◌, length, min, not, drop, set, remove, slice_index_or, option_map, MatchOption, OnOk, OnErr, IfOk, IfErr, IfSome, IfNone, IsOk};
 ghost use Rattle.std.specs.List.{insert, filter};
 ghost use Rattle.sctp_data.specs.ChunkSet.{ChunkSet};
 ghost use Rattle.sctp_base.specs.declared.error.Error.TheVariants.{ErrOutOfMemory};
+ghost use Rattle.sctp_reassembly.specs.reassembly_queue.Orders.{digits, IsInOrder};
 ghost use Rattle.sctp_reassembly.specs.reassembly_queue.Counts.{set_chunks};
 ghost use Rattle.sctp_list_lemmas.specs.Lists.{change_at};
 ghost use Rattle.sctp_reassembly.specs.declared.reassembly_queue.chunks.Placed.{Placed};
@@ -16,6 +17,7 @@ use crate::reassembly_queue::chunks::{Fragments, Placed};
 use crate::reassembly_queue::fragment::Fragment;
 use crate::reassembly_queue::{resets, skips};
 use sctp_base::error::Result;
+use sctp_serial::turns::Turns;
 use std::alloc::Global;
 use std::collections::VecDeque;
 use std::marker::Model;
@@ -89,10 +91,16 @@ impl CountedSets {
     }
 
     /// Puts a chunk into the set at a place, and says where it is there and whether that set is complete then; None where its
-    /// TSN is there already.
+    /// TSN is there already. Its turns are added: where the TSNs of that set ascend before and after, the digits of the number of
+    /// its fragments and six more at most.
     /// Precondition: the place has a set.
     /// Refuses only for memory, and nothing changes then.
-    pub(crate) fn put_into(&mut self, place: usize, chunk: Fragment) -> Result<Option<Placed>>
+    pub(crate) fn put_into(
+        &mut self,
+        place: usize,
+        chunk: Fragment,
+        turns: &mut Turns,
+    ) -> Result<Option<Placed>>
         requires { place < length self.old.items }
         ensures ok { OnOk result ((d : ChunkSet) → self.new.items ≡ set self.old.items place
             (with_chunk chunk (slice_index_or self.old.items place d))) }
@@ -105,9 +113,16 @@ impl CountedSets {
             × (change_at (without_chunk p.place) place self.new.items ≡ self.old.items))) }
         ensures err { OnErr result (self.new.items ≡ self.old.items) }
         ensures memory { IfErr result (λ e. e ≡ ErrOutOfMemory) }
+        ensures not_back { turns.old ≤ turns.new }
+        ensures cost { (d : ChunkSet) → turns.new
+            ≤ turns.old + 3 * length (slice_index_or self.old.items place d).chunks + 7 }
+        ensures few { (d : ChunkSet) → IsInOrder (slice_index_or self.old.items place d)
+            → IsInOrder (slice_index_or self.new.items place d) → turns.new
+            ≤ turns.old + digits (length (slice_index_or self.old.items place d).chunks) + 6 }
     {
+        turns.tick();
         let set = &mut self.sets[place];
-        let put = set.put_placed(chunk)?;
+        let put = set.put_placed(chunk, turns)?;
         if put.is_some() {
             self.n_chunks = self.n_chunks.saturating_add(1);
         }
