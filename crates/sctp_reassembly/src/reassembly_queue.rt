@@ -12,7 +12,7 @@ ghost use Rattle.sctp_serial.specs.Runs.{HasNoRun};
 ghost use Rattle.sctp_serial.specs.Window.{IsSerial};
 ghost use Rattle.sctp_serial.specs.Ascending.{IsAscending, upper_half};
 ghost use Rattle.sctp_reassembly.specs.reassembly_queue.Orders.{digits, IsOrderly};
-ghost use Rattle.sctp_reassembly.specs.reassembly_queue.Costs.{ordered_push_looks, ordered_push_walk};
+ghost use Rattle.sctp_reassembly.specs.reassembly_queue.Costs.{ordered_push_looks, ordered_push_walk, read_walk};
 ghost use Rattle.sctp_reassembly.specs.reassembly_queue.Skips.{after_bounded_skip, applicable, is_upto};
 ghost use Rattle.sctp_reassembly.specs.reassembly_queue.Undo.{undone, CanUndo};
 ghost use Rattle.sctp_base.specs.declared.error.Error.TheVariants.{ErrOutOfMemory, ErrInboundPacketTooLarge};
@@ -444,7 +444,21 @@ impl ReassemblyQueue {
         ensures rest { self.new ≡ state_read self.old }
         ensures counted { IsCounted self.old → IsCounted self.new }
     {
-        let set = self.take_message()?;
+        self.read_counted(&mut Turns::new())
+    }
+
+    /// The same, and what it looks at is added: five turns at most where the sets of ordered messages are in order (`IsOrderly`) and
+    /// fewer than 2^64 - 1 chunks are held, and `read_walk` whatever is held.
+    pub fn read_counted(&mut self, turns: &mut Turns) -> Option<Chunks>
+        ensures message { result ≡ option_map at_start (message_read self.old.held) }
+        ensures rest { self.new ≡ state_read self.old }
+        ensures counted { IsCounted self.old → IsCounted self.new }
+        ensures not_back { turns.old ≤ turns.new }
+        ensures few { IsOrderly self.old.held.ordered → held_chunks self.old.held < 2 ^ 64 - 1
+            → turns.new ≤ turns.old + 5 }
+        ensures walk { turns.new ≤ turns.old + read_walk self.old.held }
+    {
+        let set = self.take_message(turns)?;
         self.release(set.len());
         Some(Chunks::of(set))
     }
@@ -458,18 +472,23 @@ impl ReassemblyQueue {
     }
 
     /// The same, without the byte count.
-    fn take_message(&mut self) -> Option<Fragments>
+    fn take_message(&mut self, turns: &mut Turns) -> Option<Fragments>
         ensures message { result ≡ message_read self.old.held }
         ensures rest { self.new ≡ record self.old { held = rest_read self.old.held } }
+        ensures not_back { turns.old ≤ turns.new }
+        ensures few { IsOrderly self.old.held.ordered → held_chunks self.old.held < 2 ^ 64 - 1
+            → turns.new ≤ turns.old + 5 }
+        ensures walk { turns.new ≤ turns.old + read_walk self.old.held }
     {
-        if let Some(set) = self.unordered.pop_front() {
+        if let Some(set) = self.unordered.pop_front(turns) {
             return Some(set);
         }
+        turns.tick();
         let set = self.ordered.front()?;
-        if !set.is_complete() || !sna16lte(set.ssn(), self.next_ssn) {
+        if !set.is_complete_counted(turns) || !sna16lte(set.ssn(), self.next_ssn) {
             return None;
         }
-        let set = self.ordered.pop_front()?;
+        let set = self.ordered.pop_front(turns)?;
         if set.ssn() == self.next_ssn {
             self.next_ssn = self.next_ssn.wrapping_add(1);
         }

@@ -79,14 +79,18 @@ impl CountedSets {
         self.n_chunks
     }
 
-    /// Takes out the first set.
-    pub(crate) fn pop_front(&mut self) -> Option<Fragments>
+    /// Takes out the first set. Its turns are added: one at most while fewer than 2^64 - 1 chunks are held, else one for each set.
+    pub(crate) fn pop_front(&mut self, turns: &mut Turns) -> Option<Fragments>
         ensures some { IfSome result (λ s. self.old.items ≡ s ∷ self.new.items) }
         ensures none { IfNone result ((self.old.items ≡ []) × (self.new.items ≡ self.old.items)) }
         ensures rest { self.new.items ≡ drop 1 self.old.items }
+        ensures not_back { turns.old ≤ turns.new }
+        ensures cost { turns.new ≤ turns.old + length self.old.items }
+        ensures few { set_chunks self.old.items < 2 ^ 64 - 1 → turns.new ≤ turns.old + 1 }
     {
         let set = self.sets.pop_front()?;
-        self.n_chunks = chunks_without(self.n_chunks, set.fragments().len(), &self.sets);
+        turns.tick();
+        self.n_chunks = chunks_without(self.n_chunks, set.fragments().len(), &self.sets, turns);
         Some(set)
     }
 
@@ -138,7 +142,7 @@ impl CountedSets {
         ensures { self.new.items ≡ change_at (without_chunk at) place self.old.items }
     {
         self.sets[place].remove(at);
-        self.n_chunks = chunks_without(self.n_chunks, 1, &self.sets);
+        self.n_chunks = chunks_without(self.n_chunks, 1, &self.sets, &mut Turns::new());
     }
 
     /// Takes out the set at a place. It takes no memory.
@@ -151,7 +155,7 @@ impl CountedSets {
             Some(set) => set.fragments().len(),
             None => 0,
         };
-        self.n_chunks = chunks_without(self.n_chunks, gone, &self.sets);
+        self.n_chunks = chunks_without(self.n_chunks, gone, &self.sets, &mut Turns::new());
     }
 
     /// Takes out the last set. It takes no memory.
@@ -163,7 +167,8 @@ impl CountedSets {
         let Some(set) = self.sets.pop_back() else {
             unreachable!()
         };
-        self.n_chunks = chunks_without(self.n_chunks, set.fragments().len(), &self.sets);
+        let gone = set.fragments().len();
+        self.n_chunks = chunks_without(self.n_chunks, gone, &self.sets, &mut Turns::new());
         set
     }
 
@@ -214,7 +219,7 @@ impl CountedSets {
             ≡ min (set_bytes (filter (is_discarded last_ssn bound) self.old.items)) (2 ^ 64 - 1) }
     {
         let gone = skips::discard(&mut self.sets, last_ssn, bound);
-        self.n_chunks = chunks_in(&self.sets);
+        self.n_chunks = chunks_in(&self.sets, &mut Turns::new());
         gone
     }
 
@@ -230,7 +235,7 @@ impl CountedSets {
         ensures bytes { result ≡ min (dropped_bytes last_tsn self.old.items) (2 ^ 64 - 1) }
     {
         let gone = resets::end_use(&mut self.sets, last_tsn, moved);
-        let left = chunks_in(&self.sets);
+        let left = chunks_in(&self.sets, &mut Turns::new());
         self.n_chunks = left;
         gone
     }
@@ -249,23 +254,33 @@ fn clone_sets(alloc: Global, sets: &VecDeque<Fragments>) -> Result<VecDeque<Frag
 }
 
 // How many chunks sets have, up to the greatest number.
-fn chunks_in(sets: &VecDeque<Fragments>) -> usize
-    ensures { result ≡ min (set_chunks sets.now.items) (2 ^ 64 - 1) }
+fn chunks_in(sets: &VecDeque<Fragments>, turns: &mut Turns) -> usize
+    ensures value { result ≡ min (set_chunks sets.now.items) (2 ^ 64 - 1) }
+    ensures turns { turns.new ≡ turns.old + length sets.now.items }
 {
     let mut count = 0usize;
     for place in 0..sets.len() {
+        turns.tick();
         count = count.saturating_add(sets[place].fragments().len());
     }
     count
 }
 
 // The chunks of the sets that are left, where so many were taken of so many: past the greatest number they are counted anew.
-fn chunks_without(n_chunks: usize, gone: usize, sets: &VecDeque<Fragments>) -> usize
-    ensures { n_chunks ≡ min (gone + set_chunks sets.now.items) (2 ^ 64 - 1)
+fn chunks_without(
+    n_chunks: usize,
+    gone: usize,
+    sets: &VecDeque<Fragments>,
+    turns: &mut Turns,
+) -> usize
+    ensures value { n_chunks ≡ min (gone + set_chunks sets.now.items) (2 ^ 64 - 1)
         → result ≡ min (set_chunks sets.now.items) (2 ^ 64 - 1) }
+    ensures not_back { turns.old ≤ turns.new }
+    ensures cost { turns.new ≤ turns.old + length sets.now.items }
+    ensures few { n_chunks < 2 ^ 64 - 1 → turns.new ≡ turns.old }
 {
     if n_chunks < usize::MAX {
         return n_chunks.saturating_sub(gone);
     }
-    chunks_in(sets)
+    chunks_in(sets, turns)
 }

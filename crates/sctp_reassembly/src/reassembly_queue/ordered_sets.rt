@@ -115,14 +115,18 @@ impl OrderedSets {
         self.sets.as_deque().front()
     }
 
-    /// Takes out the first set.
-    pub(crate) fn pop_front(&mut self) -> Option<Fragments>
+    /// Takes out the first set. Its turns are added: one at most where numbers ascend and fewer than 2^64 - 1 chunks are held.
+    pub(crate) fn pop_front(&mut self, turns: &mut Turns) -> Option<Fragments>
         ensures some { IfSome result (λ s. self.old ≡ s ∷ self.new) }
         ensures none { IfNone result ((self.old ≡ []) × (self.new ≡ self.old)) }
+        ensures not_back { turns.old ≤ turns.new }
+        ensures cost { turns.new ≤ turns.old + 2 * length self.old }
+        ensures few { IsAscending (map (λ s. upper_half s.ssn) self.old)
+            → set_chunks self.old < 2 ^ 64 - 1 → turns.new ≤ turns.old + 1 }
     {
-        let set = self.sets.pop_front();
+        let set = self.sets.pop_front(turns);
         let sets = self.sets.as_deque();
-        self.ascending = still_ascending(self.ascending, sets, &mut Turns::new());
+        self.ascending = still_ascending(self.ascending, sets, turns);
         set
     }
 

@@ -66,7 +66,8 @@ pub record IsCut {X : Type 0} (num : X → ℕ) (far : ℕ) (xs : List X) (low h
   pub near : (k : ℕ) (d : X) → k < low → num (get_or xs k d) ≤ far
   pub beyond : (k : ℕ) (d : X) → high ≤ k → k < length xs → far < num (get_or xs k d)
 
-module _ {X : Type 0} (num : X → ℕ) (far : ℕ) (xs : List X) (sorted : IsNonDecreasingBy num xs) (low high middle : ℕ) (cut : IsCut num far xs low high) (x : X) (from : low ≤ middle) (to : middle < high) (read : x ≡ get_or xs middle x) where
+module _ {X : Type 0} (num : X → ℕ) (far : ℕ) (xs : List X) (sorted : IsNonDecreasingBy num xs) (low high middle : ℕ) (cut : IsCut num far xs low high) (x : X)
+    (from : low ≤ middle) (to : middle < high) (read : x ≡ get_or xs middle x) where
   here : (d : X) → num (get_or xs middle d) ≡ num x
   here d = number_read num xs middle x (omega (arith, cut.in_range)) read d
 

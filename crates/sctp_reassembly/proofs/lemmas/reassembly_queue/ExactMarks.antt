@@ -34,32 +34,41 @@ module _ {X : Type 0} (num : X → ℕ) where
   pub out_of_order_insert : (xs : List X) (i : ℕ) (x : X) → i ≤ length xs → (IsAscending (map num xs) → ⊥) → IsAscending (map num (insert xs i x)) → ⊥
   out_of_order_insert xs i x le not_yet a =
       let n = length-insert xs i x le in
-      not_yet (ascending num xs (subst (Ascends num) (remove-insert xs i x le) (ascends_remove num (insert xs i x) i (omega arith) (ascends num (insert xs i x) a))))
+      not_yet (ascending num xs
+      (subst (Ascends num) (remove-insert xs i x le) (ascends_remove num (insert xs i x) i (omega arith) (ascends num (insert xs i x) a))))
 
   -- two numbers of which the first is not before the second
-  pub not_ascending : (xs : List X) (i j : ℕ) (d : X) → i < j → j < length xs → 2 ^ 31 ≤ distance (num (get_or xs i d)) (num (get_or xs j d)) → IsAscending (map num xs) → ⊥
+  pub not_ascending : (xs : List X) (i j : ℕ) (d : X) → i < j → j < length xs → 2 ^ 31 ≤ distance (num (get_or xs i d)) (num (get_or xs j d))
+      → IsAscending (map num xs) → ⊥
   not_ascending xs i j d lt short far a = let b = before_is _ _ ((ascends num xs a).rises i j d lt short) in absurd (omega (arith, b.1))
 
   -- one in front of others, too far from the last
-  pub too_far_in_front : (xs : List X) (x last : X) → 0 < length xs → last ≡ get_or xs (length xs - 1) last → 2 ^ 31 ≤ distance (num x) (num last) → IsAscending (map num (insert xs 0 x)) → ⊥
+  pub too_far_in_front : (xs : List X) (x last : X) → 0 < length xs → last ≡ get_or xs (length xs - 1) last → 2 ^ 31 ≤ distance (num x) (num last)
+      → IsAscending (map num (insert xs 0 x)) → ⊥
   too_far_in_front xs x last some read far =
       let n = length-insert xs 0 x (omega arith) in
       let front : get_or (insert xs 0 x) 0 last ≡ x = get_or-insert_at xs 0 x last (omega arith) in
-      let end : get_or (insert xs 0 x) (length xs - 1 + 1) last ≡ last = get_or-insert_above xs 0 x last (length xs - 1) (omega arith) (omega arith) ∙ sym read in
+      let end : get_or (insert xs 0 x) (length xs - 1 + 1) last ≡ last = get_or-insert_above xs 0 x last (length xs - 1) (omega arith) (omega arith)
+      ∙ sym read in
       not_ascending (insert xs 0 x) 0 (length xs - 1 + 1) last (omega arith) (omega arith)
-      (subst (λ y. 2 ^ 31 ≤ distance (num y) (num (get_or (insert xs 0 x) (length xs - 1 + 1) last))) (sym front) (subst (λ y. 2 ^ 31 ≤ distance (num x) (num y)) (sym end) far))
+      (subst (λ y. 2 ^ 31 ≤ distance (num y) (num (get_or (insert xs 0 x) (length xs - 1 + 1) last))) (sym front)
+      (subst (λ y. 2 ^ 31 ≤ distance (num x) (num y)) (sym end) far))
 
   -- one behind others, half a circle from the first
-  pub too_far_behind : (xs : List X) (x first : X) → 0 < length xs → first ≡ get_or xs 0 first → 2 ^ 31 ≤ distance (num first) (num x) → IsAscending (map num (insert xs (length xs) x)) → ⊥
+  pub too_far_behind : (xs : List X) (x first : X) → 0 < length xs → first ≡ get_or xs 0 first → 2 ^ 31 ≤ distance (num first) (num x)
+      → IsAscending (map num (insert xs (length xs) x)) → ⊥
   too_far_behind xs x first some read far =
       let n = length-insert xs (length xs) x (omega arith) in
       let front : get_or (insert xs (length xs) x) 0 first ≡ first = get_or-insert_below xs (length xs) x first 0 some (omega arith) ∙ sym read in
       let end : get_or (insert xs (length xs) x) (length xs) first ≡ x = get_or-insert_at xs (length xs) x first (omega arith) in
       not_ascending (insert xs (length xs) x) 0 (length xs) first some (omega arith)
-      (subst (λ y. 2 ^ 31 ≤ distance (num y) (num (get_or (insert xs (length xs) x) (length xs) first))) (sym front) (subst (λ y. 2 ^ 31 ≤ distance (num first) (num y)) (sym end) far))
+      (subst (λ y. 2 ^ 31 ≤ distance (num y) (num (get_or (insert xs (length xs) x) (length xs) first))) (sym front)
+      (subst (λ y. 2 ^ 31 ≤ distance (num first) (num y)) (sym end) far))
 
   -- a step that does not lead farther from the first, or leads half a circle from it
-  pub step_out_of_order : (xs : List X) (first : ℕ) → ((d : X) → num (get_or xs 0 d) ≡ first) → (place far : ℕ) (x : X) → 0 < place → place < length xs → x ≡ get_or xs place x → ((d : X) → distance first (num (get_or xs (place - 1) d)) ≡ far) → (far < distance first (num x) → 2 ^ 31 ≤ distance first (num x)) → IsAscending (map num xs) → ⊥
+  pub step_out_of_order : (xs : List X) (first : ℕ) → ((d : X) → num (get_or xs 0 d) ≡ first) → (place far : ℕ) (x : X) → 0 < place → place < length xs
+      → x ≡ get_or xs place x → ((d : X) → distance first (num (get_or xs (place - 1) d)) ≡ far)
+      → (far < distance first (num x) → 2 ^ 31 ≤ distance first (num x)) → IsAscending (map num xs) → ⊥
   step_out_of_order xs first is_first place far x pos lt read last out a =
       let s = ascends num xs a in
       let some : 0 < length xs = omega arith in
@@ -72,7 +81,9 @@ module _ {X : Type 0} (num : X → ℕ) where
 
 -- ## A number half a circle from the first
 
-module _ {X : Type 0} (has : X → Bool) (num : X → ℕ) (before : X → X → Bool) (n : ℕ) (small : n < 2 ^ 32) (tests : (x : X) → has x ≡ (num x == n)) (compares : (x e : X) → num x ≡ n → num e < 2 ^ 32 → before x e ≡ comes_before n (num e)) (xs : List X) (s : Ascends num xs) (first : ℕ) (is_first : (d : X) → num (get_or xs 0 d) ≡ first) (some : 0 < length xs) (opposite : distance first n ≡ 2 ^ 31) where
+module _ {X : Type 0} (has : X → Bool) (num : X → ℕ) (before : X → X → Bool) (n : ℕ) (small : n < 2 ^ 32) (tests : (x : X) → has x ≡ (num x == n))
+    (compares : (x e : X) → num x ≡ n → num e < 2 ^ 32 → before x e ≡ comes_before n (num e)) (xs : List X) (s : Ascends num xs) (first : ℕ)
+    (is_first : (d : X) → num (get_or xs 0 d) ≡ first) (some : 0 < length xs) (opposite : distance first n ≡ 2 ^ 31) where
   number : (x : X) → IsTrue (has x) → num x ≡ n
   number x h = let e = sym (tests x) ∙ h in grind (arith, nat_tests)
 
@@ -91,7 +102,8 @@ module _ {X : Type 0} (has : X → Bool) (num : X → ℕ) (before : X → X →
       not_before_from n e (omega arith)
 
   end_place : position_or_len (λ x. comes_before n (num x)) xs ≡ length xs
-  end_place = position_or_len_is (λ x. comes_before n (num x)) xs (length xs) (an_element xs 0 some) (omega arith) (λ k lt. not_before k (an_element xs 0 some) lt) (λ lt. absurd (omega arith))
+  end_place = position_or_len_is (λ x. comes_before n (num x)) xs (length xs) (an_element xs 0 some) (omega arith)
+      (λ k lt. not_before k (an_element xs 0 some) lt) (λ lt. absurd (omega arith))
 
   -- it comes before none
   pub insertion_opposite : IsInsertion has num before xs (length xs) false

@@ -16,7 +16,8 @@ loop-place-init c =
     let first = c.tsn_of-first.result in
     record {
       rising = rising_one num xs first c.tsn_of-first.ensures.fits x c.index-chunks-0.is (sym c.tsn_of-first.ensures.value) some;
-      last = λ d. ap (distance first) (ap num (get_or_default xs 0 d x some ∙ sym c.index-chunks-0.is) ∙ sym c.tsn_of-first.ensures.value) ∙ distance_self first c.tsn_of-first.ensures.fits;
+      last = λ d. ap (distance first) (ap num (get_or_default xs 0 d x some ∙ sym c.index-chunks-0.is) ∙ sym c.tsn_of-first.ensures.value)
+          ∙ distance_self first c.tsn_of-first.ensures.fits;
       half = omega arith;
       small = c.tsn_of-first.ensures.fits;
       turns = omega arith;
@@ -39,7 +40,8 @@ returns-then-next-far-clause-exact c =
     let y = c.index-chunks-place.result in
     let some : 0 < length xs = omega (arith, c.if-len-eq0.false) in
     let first = c.tsn_of-first.result in
-    let at : c.distance-next.result ≡ distance first y.tsn = c.distance-next.ensures.value ∙ ap (λ (z : ChunkPayloadData). distance first z.tsn) c.deref.ensures in
+    let at : c.distance-next.result ≡ distance first y.tsn = c.distance-next.ensures.value
+    ∙ ap (λ (z : ChunkPayloadData). distance first z.tsn) c.deref.ensures in
     step_out_of_order num xs first (λ d. ap num (get_or_default xs 0 d x some ∙ sym c.index-chunks-0.is) ∙ sym c.tsn_of-first.ensures.value) c.loop-place.place
     c.loop-place.far y (omega (arith, c.loop-place.auto)) (omega arith) c.index-chunks-place.is c.loop-place.invariant.last
     (λ up. elim c.then-next-far.branch [

@@ -12,7 +12,8 @@ loop-low-preserved-then-here-far c =
     let at : c.distance-here.result ≡ num x = c.distance-here.ensures.value ∙ ap num c.deref.ensures in
     let more = one_more c.args.turns.now c.loop-low.turns c.tick.new.self c.loop-low.invariant.not_back c.tick.ensures in
     record {
-      cut = cut_on num c.args.far _ c.requires _ _ _ c.loop-low.invariant.cut x (omega arith) (omega arith) c.index-chunks-middle.is (omega (arith, at, c.if-here-far.true));
+      cut = cut_on num c.args.far _ c.requires _ _ _ c.loop-low.invariant.cut x (omega arith)
+          (omega arith) c.index-chunks-middle.is (omega (arith, at, c.if-here-far.true));
       not_back = omega arith;
       cost_left = rw more (halved _ (c.loop-low.high - c.loop-low.low) _ _ c.loop-low.invariant.cost_left (omega arith));
       cost = rw more (digits_left _ _ _ c.loop-low.invariant.cost_left (omega arith));
@@ -25,7 +26,8 @@ loop-low-preserved c =
     let at : c.distance-here.result ≡ num x = c.distance-here.ensures.value ∙ ap num c.deref.ensures in
     let more = one_more c.args.turns.now c.loop-low.turns c.tick.new.self c.loop-low.invariant.not_back c.tick.ensures in
     record {
-      cut = cut_back num c.args.far _ c.requires _ _ _ c.loop-low.invariant.cut x (omega arith) (omega arith) c.index-chunks-middle.is (omega (arith, at, c.if-here-far.false));
+      cut = cut_back num c.args.far _ c.requires _ _ _ c.loop-low.invariant.cut x (omega arith)
+          (omega arith) c.index-chunks-middle.is (omega (arith, at, c.if-here-far.false));
       not_back = omega arith;
       cost_left = rw more (halved _ (c.loop-low.high - c.loop-low.low) _ _ c.loop-low.invariant.cost_left (omega arith));
       cost = rw more (digits_left _ _ _ c.loop-low.invariant.cost_left (omega arith));

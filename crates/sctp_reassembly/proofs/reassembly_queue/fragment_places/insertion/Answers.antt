@@ -97,8 +97,8 @@ returns-then-far-clause-exact c y same =
     let xs = c.args.chunks.now in
     let x = c.index-chunks-0.result in
     let some : 0 < length xs = omega (arith, c.if-len-eq0.false) in
-    let far : distance x.tsn y.tsn ≡ c.distance-far.result = ap (λ t. distance t y.tsn) (sym c.tsn_of-first.ensures.value) ∙ ap (distance c.tsn_of-first.result) same
-    ∙ sym c.distance-far.ensures.value in
+    let far : distance x.tsn y.tsn ≡ c.distance-far.result = ap (λ t. distance t y.tsn) (sym c.tsn_of-first.ensures.value)
+    ∙ ap (distance c.tsn_of-first.result) same ∙ sym c.distance-far.ensures.value in
     too_far_behind num xs y x some c.index-chunks-0.is (omega (arith, far, c.if-far.true))
 
 pub returns-then-far-2-clause-exact : goal.returns-then-far-2-clause-exact

@@ -155,7 +155,8 @@ returns-then-far-clause-exact c y same =
     let x = c.index.result.now in
     let first = c.upper_half-first.result in
     let some : 0 < length xs = omega (arith, c.if-len-eq0.false, c.len-len.ensures) in
-    let far : distance (num x) (num y) ≡ c.distance-far.result = ap (λ t. distance t (num y)) (sym (c.upper_half-first.ensures.value ∙ ap upper_half c.ssn.ensures))
+    let far : distance (num x) (num y) ≡ c.distance-far.result = ap (λ t. distance t (num y))
+    (sym (c.upper_half-first.ensures.value ∙ ap upper_half c.ssn.ensures))
     ∙ ap (distance first) (ap upper_half same ∙ sym c.upper_half-number.ensures.value) ∙ sym c.distance-far.ensures.value in
     subst (λ place. IsAscending (map num (insert xs place y)) → ⊥) {x = length xs} (omega (arith, c.len-len.ensures))
     (too_far_behind num xs y x some c.index.ensures (omega (arith, far, c.if-far.true)))

@@ -155,7 +155,8 @@ returns-in_default-clause-few c =
     let d = new_set c.args.chunk in
     let at = rw (c.deref.ensures, c.as_deque.ensures) at c.in-Ok.ensures.there in
     let seek = rw c.as_deque.ensures at c.seek.ensures.few in
-    let long : length c.put_into.new.self.items ≡ length xs = ap length (c.in_ok-put-in-Ok.ensures.ok d) ∙ length-set xs i (with_chunk c.args.chunk (get_or xs i d)) in
+    let long : length c.put_into.new.self.items ≡ length xs = ap length (c.in_ok-put-in-Ok.ensures.ok d)
+    ∙ length-set xs i (with_chunk c.args.chunk (get_or xs i d)) in
     rw (← c.self.view_is) (λ a b.
     few_there c.args.chunk xs i at c.args.turns.now c.seek.new.turns c.put_into.new.turns c.put_into.new.self.items long
     (seek (mark_on c.self.inside.ascending _ c.self.invariant.exact a.numbers)) c.put_into.ensures.few a b)
@@ -174,7 +175,8 @@ returns-in-Some-clause-few c =
     let d = new_set c.args.chunk in
     let at = rw (c.deref.ensures, c.as_deque.ensures) at c.in-Ok.ensures.there in
     let seek = rw c.as_deque.ensures at c.seek.ensures.few in
-    let long : length c.put_into.new.self.items ≡ length xs = ap length (c.in_ok-put-in-Ok.ensures.ok d) ∙ length-set xs i (with_chunk c.args.chunk (get_or xs i d)) in
+    let long : length c.put_into.new.self.items ≡ length xs = ap length (c.in_ok-put-in-Ok.ensures.ok d)
+    ∙ length-set xs i (with_chunk c.args.chunk (get_or xs i d)) in
     rw (← c.self.view_is) (λ a b.
     few_there c.args.chunk xs i at c.args.turns.now c.seek.new.turns c.put_into.new.turns c.put_into.new.self.items long
     (seek (mark_on c.self.inside.ascending _ c.self.invariant.exact a.numbers)) c.put_into.ensures.few a b)
