@@ -2,9 +2,11 @@
 pub mod Around
 pub mod Outward
 pub mod Chunks
+pub mod Costs
 pub mod Counts
 pub mod Fragments
 pub mod Loose
+pub mod Orders
 pub mod PoolUndo
 pub mod ReassemblyQueue
 pub mod Resets

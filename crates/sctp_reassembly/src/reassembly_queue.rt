@@ -1,6 +1,6 @@
 //! Fragments that become messages again (RFC 4960 6.5, 6.6).
 
-ghost use Rattle.std.specs.Prelude.{◌≡◌, ℕ, ◌==◌, nat_lt, ◌+◌, ◌-◌, ◌%◌, ◌^◌, ◌<◌, ◌≤◌, [], ◌∷◌, length, min, OnOk, OnErr, true, false, IfOk, IfErr, IfSome, IfNone, IsOk, IsTrue, Ok, Err, Some, None, MatchOption, not, is_some, option_map, slice_index_or, if◌then◌else◌};
+ghost use Rattle.std.specs.Prelude.{◌≡◌, ℕ, ◌==◌, nat_lt, ◌+◌, ◌-◌, ◌*◌, ◌%◌, ◌^◌, ◌<◌, ◌≤◌, [], ◌∷◌, length, map, min, OnOk, OnErr, true, false, IfOk, IfErr, IfSome, IfNone, IsOk, IsTrue, Ok, Err, Some, None, MatchOption, not, is_some, option_map, slice_index_or, if◌then◌else◌};
 ghost use Rattle.std.specs.List.{list_any, position_or_len, filter};
 ghost use Rattle.sctp_list_lemmas.specs.Serial.{comes_before16, at_or_before, at_or_before16};
 ghost use Rattle.sctp_reassembly.specs.reassembly_queue.ReassemblyQueue.{is_passed, set_bytes, set_of_run};
@@ -10,6 +10,9 @@ ghost use Rattle.sctp_reassembly.specs.reassembly_queue.Loose.{place_among};
 ghost use Rattle.sctp_reassembly.specs.reassembly_queue.Sizes.{projected_size, size_before, size_after};
 ghost use Rattle.sctp_serial.specs.Runs.{HasNoRun};
 ghost use Rattle.sctp_serial.specs.Window.{IsSerial};
+ghost use Rattle.sctp_serial.specs.Ascending.{IsAscending, upper_half};
+ghost use Rattle.sctp_reassembly.specs.reassembly_queue.Orders.{digits, IsOrderly};
+ghost use Rattle.sctp_reassembly.specs.reassembly_queue.Costs.{ordered_push_looks, ordered_push_walk, read_walk};
 ghost use Rattle.sctp_reassembly.specs.reassembly_queue.Skips.{after_bounded_skip, applicable, is_upto};
 ghost use Rattle.sctp_reassembly.specs.reassembly_queue.Undo.{undone, CanUndo};
 ghost use Rattle.sctp_base.specs.declared.error.Error.TheVariants.{ErrOutOfMemory, ErrInboundPacketTooLarge};
@@ -17,6 +20,7 @@ ghost use Rattle.sctp_base.specs.declared.error.Error.TheVariants.{ErrOutOfMemor
 pub mod chunks;
 mod counted_sets;
 pub mod fragment;
+mod fragment_places;
 mod incomplete;
 mod ordered_sets;
 mod outward;
@@ -222,6 +226,35 @@ impl ReassemblyQueue {
         Ok(whole)
     }
 
+    /// The same, and what an ordered chunk looks at is added: a turn for each look at a set or at a fragment. Moves of
+    /// pointers are no turns, and no turn of an unordered chunk is counted.
+    /// Where the numbers of the sets and the TSNs in each ascend within half a circle (`IsOrderly`), before and after, the turns are
+    /// at most `ordered_push_looks`, and `ordered_push_walk` whatever the numbers.
+    pub fn push_counted(&mut self, chunk: ChunkPayloadData, turns: &mut Turns) -> Result<bool>
+        ensures other_stream { (chunk.stream_identifier == self.old.si) ≡ false
+            → (result ≡ Ok false) × (self.new ≡ self.old) }
+        ensures ordered { (chunk.stream_identifier == self.old.si) ≡ true → chunk.unordered ≡ false
+            → IfOk result (λ whole. (self.new ≡ after_ordered_push chunk self.old)
+            × (whole ≡ is_complete_with chunk self.old.held)) }
+        ensures unordered { (chunk.stream_identifier == self.old.si) ≡ true → chunk.unordered ≡ true
+            → IfOk result (λ whole. PushesUnordered chunk self.old self.new whole) }
+        ensures fits { IsOk result → is_too_large chunk self.old ≡ false }
+        ensures refused { IfErr result (λ e. e
+            ≡ (if is_too_large chunk self.old then ErrInboundPacketTooLarge else ErrOutOfMemory)) }
+        ensures err { OnErr result (self.new ≡ self.old) }
+        ensures counted { held_bytes self.old.held + length chunk.user_data < 2 ^ 64
+            → IsCounted self.old → IsCounted self.new }
+        ensures not_back { turns.old ≤ turns.new }
+        ensures ordered_cost { chunk.unordered ≡ false → IsOrderly self.old.held.ordered
+            → IsOrderly self.new.held.ordered
+            → turns.new ≤ turns.old + ordered_push_looks chunk self.old.held }
+        ensures ordered_walk { chunk.unordered ≡ false
+            → turns.new ≤ turns.old + ordered_push_walk chunk self.old.held }
+    {
+        let (whole, _undo) = self.push_undoable_counted(chunk, turns)?;
+        Ok(whole)
+    }
+
     /// Whether `push` refuses a chunk with `ErrInboundPacketTooLarge`: it is of this stream, and its bytes and those held of
     /// its message are together more than `max_message_size`. A chunk that `push` would not keep counts as well, so that a
     /// repeat of an ordered fragment counts twice. It takes no memory.
@@ -232,7 +265,7 @@ impl ReassemblyQueue {
             return false;
         }
         let place = self.place_of(chunk);
-        self.is_too_large_at(chunk, place)
+        self.is_too_large_at(chunk, place, &mut Turns::new())
     }
 
     // Where an unordered chunk goes among the unassembled fragments.
@@ -252,13 +285,17 @@ impl ReassemblyQueue {
     }
 
     // Whether the message of the chunk, which goes to this place among the unassembled fragments if it is unordered, would be too
-    // long with it.
-    fn is_too_large_at(&self, chunk: &ChunkPayloadData, place: usize) -> bool
+    // long with it. The turns of an ordered one are added.
+    fn is_too_large_at(&self, chunk: &ChunkPayloadData, place: usize, turns: &mut Turns) -> bool
         requires place { chunk.now.unordered ≡ true
             → place ≡ place_among chunk.now.tsn self.now.held.unassembled }
         requires fits { chunk.now.unordered ≡ true → chunk.now.tsn < 2 ^ 32 }
-        ensures { result ≡ nat_lt self.now.max_message_size
+        ensures value { result ≡ nat_lt self.now.max_message_size
             (projected_size chunk.now self.now.held.ordered self.now.held.unassembled) }
+        ensures not_back { turns.old ≤ turns.new }
+        ensures cost { turns.new ≤ turns.old + 2 * length self.now.held.ordered + 5 }
+        ensures few { IsAscending (map (λ s. upper_half s.ssn) self.now.held.ordered)
+            → turns.new ≤ turns.old + digits (length self.now.held.ordered) + 5 }
     {
         if chunk.unordered && self.fits_beside_all(chunk) {
             return false;
@@ -267,7 +304,7 @@ impl ReassemblyQueue {
             unordered_size(chunk, self.unordered_chunks.unassembled(), place)
         } else {
             self.ordered
-                .bytes_there(chunk.stream_sequence_number)
+                .bytes_there(chunk.stream_sequence_number, turns)
                 .saturating_add(chunk.user_data.len())
         };
         projected > self.max_message_size as usize
@@ -289,14 +326,24 @@ impl ReassemblyQueue {
         unassembled.is_serial() && all <= self.max_message_size as usize
     }
 
-    /// Takes an ordered chunk, and says how it is undone. Refuses only for memory.
-    fn push_ordered(&mut self, chunk: ChunkPayloadData) -> Result<(bool, PushUndo)>
+    /// Takes an ordered chunk, and says how it is undone. Refuses only for memory. Its turns are added.
+    fn push_ordered(
+        &mut self,
+        chunk: ChunkPayloadData,
+        turns: &mut Turns,
+    ) -> Result<(bool, PushUndo)>
         ensures ok { OnOk result (self.new ≡ after_ordered_push chunk self.old) }
         ensures answer { IfOk result (λ put. put.0 ≡ is_complete_with chunk self.old.held) }
         ensures undo { IfOk result (λ put. undone put.1 self.new ≡ self.old) }
         ensures can { IfOk result (λ put. CanUndo put.1 self.new) }
         ensures err { OnErr result (self.new ≡ self.old) }
         ensures memory { IfErr result (λ e. e ≡ ErrOutOfMemory) }
+        ensures not_back { turns.old ≤ turns.new }
+        ensures cost { turns.new ≤ turns.old + 2 * length self.old.held.ordered
+            + 3 * length (chunks_of_ssn chunk.stream_sequence_number self.old.held.ordered) + 11 }
+        ensures few { IsOrderly self.old.held.ordered → IsOrderly self.new.held.ordered
+            → turns.new ≤ turns.old + digits (length self.old.held.ordered) + digits
+            (length (chunks_of_ssn chunk.stream_sequence_number self.old.held.ordered)) + 11 }
     {
         let before = self.n_bytes;
         if sna16lt(chunk.stream_sequence_number, self.next_ssn) {
@@ -304,7 +351,7 @@ impl ReassemblyQueue {
         }
         let len = chunk.user_data.len();
         let fragment = Fragment::new(self.alloc, chunk)?;
-        let Some(put) = self.ordered.put(self.alloc, fragment)? else {
+        let Some(put) = self.ordered.put(self.alloc, fragment, turns)? else {
             return Ok((false, PushUndo::of(PushChange::NotKept, before)));
         };
         self.n_bytes = before.saturating_add(len);
@@ -397,7 +444,21 @@ impl ReassemblyQueue {
         ensures rest { self.new ≡ state_read self.old }
         ensures counted { IsCounted self.old → IsCounted self.new }
     {
-        let set = self.take_message()?;
+        self.read_counted(&mut Turns::new())
+    }
+
+    /// The same, and what it looks at is added: five turns at most where the sets of ordered messages are in order (`IsOrderly`) and
+    /// fewer than 2^64 - 1 chunks are held, and `read_walk` whatever is held.
+    pub fn read_counted(&mut self, turns: &mut Turns) -> Option<Chunks>
+        ensures message { result ≡ option_map at_start (message_read self.old.held) }
+        ensures rest { self.new ≡ state_read self.old }
+        ensures counted { IsCounted self.old → IsCounted self.new }
+        ensures not_back { turns.old ≤ turns.new }
+        ensures few { IsOrderly self.old.held.ordered → held_chunks self.old.held < 2 ^ 64 - 1
+            → turns.new ≤ turns.old + 5 }
+        ensures walk { turns.new ≤ turns.old + read_walk self.old.held }
+    {
+        let set = self.take_message(turns)?;
         self.release(set.len());
         Some(Chunks::of(set))
     }
@@ -411,18 +472,23 @@ impl ReassemblyQueue {
     }
 
     /// The same, without the byte count.
-    fn take_message(&mut self) -> Option<Fragments>
+    fn take_message(&mut self, turns: &mut Turns) -> Option<Fragments>
         ensures message { result ≡ message_read self.old.held }
         ensures rest { self.new ≡ record self.old { held = rest_read self.old.held } }
+        ensures not_back { turns.old ≤ turns.new }
+        ensures few { IsOrderly self.old.held.ordered → held_chunks self.old.held < 2 ^ 64 - 1
+            → turns.new ≤ turns.old + 5 }
+        ensures walk { turns.new ≤ turns.old + read_walk self.old.held }
     {
-        if let Some(set) = self.unordered.pop_front() {
+        if let Some(set) = self.unordered.pop_front(turns) {
             return Some(set);
         }
+        turns.tick();
         let set = self.ordered.front()?;
-        if !set.is_complete() || !sna16lte(set.ssn(), self.next_ssn) {
+        if !set.is_complete_counted(turns) || !sna16lte(set.ssn(), self.next_ssn) {
             return None;
         }
-        let set = self.ordered.pop_front()?;
+        let set = self.ordered.pop_front(turns)?;
         if set.ssn() == self.next_ssn {
             self.next_ssn = self.next_ssn.wrapping_add(1);
         }

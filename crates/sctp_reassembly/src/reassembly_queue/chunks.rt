@@ -1,26 +1,25 @@
 //! The fragments of one message.
 
 ghost use Rattle.std.specs.Prelude.{◌≡◌, ◌==◌, ◌+◌, ◌*◌, ◌%◌, ◌^◌, ◌-◌, ◌<◌, ◌≤◌, ◌&&◌, [], ◌∷◌, length, map, min, take, drop, ◌++◌, option_map, slice_index_or, true, false, not, OnOk, OnErr, IfOk, IfErr, IfSome, IfNone, MatchOption, if◌then◌else◌};
-ghost use Rattle.std.specs.List.{list_any, position_or_len, insert, concat};
-ghost use Rattle.std.specs.List.Sorted.{IsNonDecreasingBy, IsPartitionPoint};
+ghost use Rattle.std.specs.List.{concat};
 ghost use Rattle.sctp_reassembly.specs.reassembly_queue.Chunks.{left_from, left_of, piece_of, left_after, taken_whole, bytes_given};
 ghost use Rattle.sctp_reassembly.specs.declared.reassembly_queue.chunks.Chunk.{Chunk};
 ghost use Rattle.sctp_reassembly.specs.declared.reassembly_queue.chunks.Placed.{Placed};
 ghost use Rattle.sctp_data.specs.declared.chunk.chunk_payload_data.ChunkPayloadData.{ChunkPayloadData};
-ghost use Rattle.sctp_list_lemmas.specs.Serial.{comes_before, distance};
-ghost use Rattle.sctp_list_lemmas.specs.Lists.{insert_before};
 ghost use Rattle.sctp_reassembly.specs.reassembly_queue.Fragments.{payload_of, is_complete, with_chunk, without_chunk, answer_with, is_complete_after};
 ghost use Rattle.sctp_reassembly.specs.reassembly_queue.Resets.{chunks_upto, rest_past};
-ghost use Rattle.sctp_serial.specs.DataChunks.{bytes_of, has_tsn, chunk_before};
-ghost use Rattle.sctp_serial.specs.Ascending.{IsAscending, IsOrder, IsInsertion};
+ghost use Rattle.sctp_serial.specs.DataChunks.{bytes_of};
+ghost use Rattle.sctp_serial.specs.Ascending.{IsAscending, IsOrder};
+ghost use Rattle.sctp_reassembly.specs.reassembly_queue.Orders.{digits, IsOffOnlyOutOfOrder};
 ghost use Rattle.sctp_base.specs.declared.error.Error.TheVariants.{ErrOutOfMemory, ErrShortBuffer};
 
 use crate::reassembly_queue::fragment::Fragment;
+use crate::reassembly_queue::fragment_places::{insertion, tsn_of};
 use bytes::{Bytes, BytesMut};
 use sctp_base::error::{Error, Result};
-use sctp_base::util::{sna32lt, sna32lte};
+use sctp_base::util::sna32lte;
 use sctp_data::chunk::chunk_payload_data::{ChunkPayloadData, PayloadProtocolIdentifier};
-use sctp_serial::serial::{Insertion, distance};
+use sctp_serial::serial::distance;
 use sctp_serial::turns::Turns;
 use std::alloc::Global;
 use std::marker::Model;
@@ -33,7 +32,7 @@ pub struct Fragments {
     chunks: Vec<Fragment>,
     // the length of their user data, up to the greatest usize
     n_bytes: usize,
-    // whether their TSNs are known to ascend
+    // whether their TSNs ascend
     ascending: bool,
 }
 
@@ -42,6 +41,7 @@ impl Model for Fragments {
     ghost use Rattle.sctp_data.specs.ChunkSet.{ChunkSet};
     ghost use Rattle.sctp_serial.specs.DataChunks.{bytes_of};
     ghost use Rattle.sctp_serial.specs.Ascending.{IsOrder};
+    ghost use Rattle.sctp_reassembly.specs.reassembly_queue.Orders.{IsOffOnlyOutOfOrder};
 
     ghost Value = { ChunkSet };
 
@@ -51,6 +51,7 @@ impl Model for Fragments {
       counted : s.n_bytes
           ≡ min (bytes_of s.chunks.items) (2 ^ 64 - 1);
       order : IsOrder s.ascending (map (λ c. c.tsn) s.chunks.items);
+      exact : IsOffOnlyOutOfOrder s.ascending (map (λ c. c.tsn) s.chunks.items);
     } };
 }
 
@@ -59,8 +60,22 @@ impl Fragments {
     pub fn new(ssn: u16, ppi: PayloadProtocolIdentifier, chunks: Vec<Fragment>) -> Self
         ensures { result ≡ record { ssn = ssn; ppi = ppi; chunks = chunks.items } }
     {
-        let n_bytes = bytes_in(&chunks);
-        let ascending = is_ascending(&chunks);
+        Fragments::new_counted(ssn, ppi, chunks, &mut Turns::new())
+    }
+
+    /// The same, and its turns are added: two for each fragment at most.
+    pub(crate) fn new_counted(
+        ssn: u16,
+        ppi: PayloadProtocolIdentifier,
+        chunks: Vec<Fragment>,
+        turns: &mut Turns,
+    ) -> Self
+        ensures value { result ≡ record { ssn = ssn; ppi = ppi; chunks = chunks.items } }
+        ensures not_back { turns.old ≤ turns.new }
+        ensures cost { turns.new ≤ turns.old + 2 * length chunks.items }
+    {
+        let n_bytes = bytes_in(&chunks, turns);
+        let ascending = is_ascending(&chunks, turns);
         Fragments {
             ssn,
             ppi,
@@ -112,7 +127,18 @@ impl Fragments {
     pub fn is_complete(&self) -> bool
         ensures { result ≡ is_complete self.now.chunks }
     {
-        are_complete(self.ascending, &self.chunks)
+        self.is_complete_counted(&mut Turns::new())
+    }
+
+    /// The same, and its turns are added: two at most, but where TSNs do not ascend.
+    pub(crate) fn is_complete_counted(&self, turns: &mut Turns) -> bool
+        ensures value { result ≡ is_complete self.now.chunks }
+        ensures not_back { turns.old ≤ turns.new }
+        ensures cost { turns.new ≤ turns.old + length self.now.chunks + 2 }
+        ensures few { IsAscending (map (λ c. c.tsn) self.now.chunks)
+            → turns.new ≤ turns.old + 2 }
+    {
+        are_complete(self.ascending, &self.chunks, turns)
     }
 
     /// How many bytes the fragments carry, or the greatest number where they are more.
@@ -131,14 +157,19 @@ impl Fragments {
         ensures memory { IfErr result (λ e. e ≡ ErrOutOfMemory) }
     {
         let fragment = Fragment::new(*self.chunks.allocator(), chunk)?;
-        match self.put_placed(fragment)? {
+        match self.put_placed(fragment, &mut Turns::new())? {
             Some(put) => Ok(Some(put.whole)),
             None => Ok(None),
         }
     }
 
     /// The same, and says where the fragment is, from which `remove` takes it out again.
-    pub(crate) fn put_placed(&mut self, chunk: Fragment) -> Result<Option<Placed>>
+    /// Its turns are added: where TSNs ascend before and after, the digits of the number of fragments and five more at most.
+    pub(crate) fn put_placed(
+        &mut self,
+        chunk: Fragment,
+        turns: &mut Turns,
+    ) -> Result<Option<Placed>>
         ensures ok { OnOk result (self.new ≡ with_chunk chunk self.old) }
         ensures answer { IfOk result (λ put. option_map (λ (p : Placed). p.whole) put
             ≡ answer_with chunk self.old.chunks) }
@@ -147,15 +178,20 @@ impl Fragments {
             × (without_chunk p.place self.new ≡ self.old))) }
         ensures err { OnErr result (self.new ≡ self.old) }
         ensures memory { IfErr result (λ e. e ≡ ErrOutOfMemory) }
+        ensures not_back { turns.old ≤ turns.new }
+        ensures cost { turns.new ≤ turns.old + 3 * length self.old.chunks + 6 }
+        ensures few { IsAscending (map (λ c. c.tsn) self.old.chunks)
+            → IsAscending (map (λ c. c.tsn) self.new.chunks)
+            → turns.new ≤ turns.old + digits (length self.old.chunks) + 5 }
     {
-        let Some(at) = insertion(self.ascending, &self.chunks, chunk.tsn) else {
+        let Some(at) = insertion(self.ascending, &self.chunks, chunk.tsn, turns) else {
             return Ok(None);
         };
         let len = chunk.user_data.len();
         self.chunks.insert(at.place, chunk)?;
         self.n_bytes = self.n_bytes.saturating_add(len);
         self.ascending = at.ascending;
-        let whole = self.is_complete();
+        let whole = self.is_complete_counted(turns);
         Ok(Some(Placed {
             place: at.place,
             whole,
@@ -170,6 +206,7 @@ impl Fragments {
     {
         let chunk = self.chunks.remove(place);
         self.n_bytes = bytes_without(self.n_bytes, chunk.user_data.len(), &self.chunks);
+        self.ascending = still_ascending(self.ascending, &self.chunks, &mut Turns::new());
     }
 
     /// Keeps the fragments past the TSN, and counts the bytes of the others up to the greatest number. It takes no memory.
@@ -179,8 +216,10 @@ impl Fragments {
             ≡ min (bytes_of (chunks_upto tsn self.old.chunks)) (2 ^ 64 - 1) }
     {
         let gone = bytes_upto(&self.chunks, tsn);
+        let mut turns = Turns::new();
         self.chunks.retain(|c| !sna32lte(c.tsn, tsn));
-        self.n_bytes = bytes_in(&self.chunks);
+        self.n_bytes = bytes_in(&self.chunks, &mut turns);
+        self.ascending = still_ascending(self.ascending, &self.chunks, &mut turns);
         gone
     }
 }
@@ -467,29 +506,36 @@ fn gather(
 
 // Whether fragments are complete. Among TSNs that ascend both ends tell: if the last is as far from the first as there are others,
 // none is missing between them.
-fn are_complete(ascending: bool, chunks: &[Fragment]) -> bool
+fn are_complete(ascending: bool, chunks: &[Fragment], turns: &mut Turns) -> bool
     requires { IsOrder ascending (map (λ c. c.tsn) chunks.now) }
-    ensures { result ≡ is_complete chunks.now }
+    ensures value { result ≡ is_complete chunks.now }
+    ensures not_back { turns.old ≤ turns.new }
+    ensures cost { turns.new ≤ turns.old + length chunks.now + 2 }
+    ensures few { ascending ≡ true → turns.new ≤ turns.old + 2 }
 {
-    if !may_be_complete(chunks) {
+    if !may_be_complete(chunks, turns) {
         return false;
     }
     if ascending {
         return true;
     }
-    follow_on(chunks)
+    follow_on(chunks, turns)
 }
 
 // A test of both ends, which complete fragments pass, and of those whose TSNs ascend no others.
-fn may_be_complete(chunks: &[Fragment]) -> bool
+fn may_be_complete(chunks: &[Fragment], turns: &mut Turns) -> bool
     ensures no { result ≡ false → is_complete chunks.now ≡ false }
     ensures yes { result ≡ true → IsAscending (map (λ c. c.tsn) chunks.now)
         → is_complete chunks.now ≡ true }
+    ensures not_back { turns.old ≤ turns.new }
+    ensures cost { turns.new ≤ turns.old + 2 }
 {
     let len = chunks.len();
     if len == 0 {
         return false;
     }
+    turns.tick();
+    turns.tick();
     let first = chunks[0].chunk();
     let last = chunks[len - 1].chunk();
     if !first.beginning_fragment {
@@ -510,17 +556,21 @@ fn tsn_after(tsn: u32, places: usize) -> u32
 }
 
 // Whether the first fragment begins, the last ends, and TSNs rise by one.
-fn follow_on(chunks: &[Fragment]) -> bool
-    ensures { result ≡ is_complete chunks.now }
+fn follow_on(chunks: &[Fragment], turns: &mut Turns) -> bool
+    ensures value { result ≡ is_complete chunks.now }
+    ensures not_back { turns.old ≤ turns.new }
+    ensures cost { turns.new ≤ turns.old + length chunks.now }
 {
     let Some((first, rest)) = chunks.split_first() else {
         return false;
     };
+    turns.tick();
     if !first.beginning_fragment {
         return false;
     }
     let mut last = first;
     for chunk in rest {
+        turns.tick();
         if chunk.tsn != last.tsn.wrapping_add(1) {
             return false;
         }
@@ -542,11 +592,13 @@ pub(crate) fn clone_chunks(alloc: Global, chunks: &[Fragment]) -> Result<Vec<Fra
 }
 
 /// How many bytes fragments carry, or the greatest number where they are more.
-pub(crate) fn bytes_in(chunks: &[Fragment]) -> usize
-    ensures { result ≡ min (bytes_of chunks.now) (2 ^ 64 - 1) }
+pub(crate) fn bytes_in(chunks: &[Fragment], turns: &mut Turns) -> usize
+    ensures value { result ≡ min (bytes_of chunks.now) (2 ^ 64 - 1) }
+    ensures turns { turns.new ≡ turns.old + length chunks.now }
 {
     let mut len = 0usize;
     for chunk in chunks {
+        turns.tick();
         len = len.saturating_add(chunk.user_data.len());
     }
     len
@@ -560,7 +612,7 @@ fn bytes_without(n_bytes: usize, gone: usize, chunks: &[Fragment]) -> usize
     if n_bytes < usize::MAX {
         return n_bytes.saturating_sub(gone);
     }
-    bytes_in(chunks)
+    bytes_in(chunks, &mut Turns::new())
 }
 
 // How many bytes the fragments at or before the TSN carry, or the greatest number where they are more.
@@ -577,105 +629,34 @@ fn bytes_upto(chunks: &[Fragment], tsn: u32) -> usize
     len
 }
 
-/// Where a fragment of this number is put in: before the first that it comes before, or at the end.
-pub(crate) fn insertion_place(chunks: &[Fragment], tsn: u32) -> usize
-    ensures in_range { result ≤ length chunks.now }
-    ensures inserted { (x : ChunkPayloadData)
-        → x.tsn ≡ tsn → insert chunks.now result x ≡ insert_before chunk_before x chunks.now }
+// Whether TSNs ascend, where those of more fragments, of which some are gone, did or did not.
+fn still_ascending(before: bool, chunks: &[Fragment], turns: &mut Turns) -> bool
+    requires { before ≡ true → IsAscending (map (λ c. c.tsn) chunks.now) }
+    ensures order { IsOrder result (map (λ c. c.tsn) chunks.now) }
+    ensures exact { IsOffOnlyOutOfOrder result (map (λ c. c.tsn) chunks.now) }
 {
-    first_after(chunks, tsn)
-}
-
-// The place of the first fragment that the number comes before, or the end.
-fn first_after(chunks: &[Fragment], tsn: u32) -> usize
-    ensures place { result ≡ position_or_len (λ e. comes_before tsn e.tsn) chunks.now }
-    ensures in_range { result ≤ length chunks.now }
-{
-    for (place, chunk) in chunks.iter().enumerate() {
-        if sna32lt(tsn, chunk.tsn) {
-            return place;
-        }
+    if before {
+        return true;
     }
-    chunks.len()
-}
-
-// Where a fragment of this TSN is put in, or nothing where it is there: by halves among TSNs that
-// ascend, unless it lies exactly half a circle from the first.
-fn insertion(ascending: bool, chunks: &[Fragment], tsn: u32) -> Option<Insertion>
-    requires { IsOrder ascending (map (λ c. c.tsn) chunks.now) }
-    ensures there { IfNone result (list_any (has_tsn tsn) chunks.now ≡ true) }
-    ensures free { IfSome result (λ at.
-        IsInsertion (has_tsn tsn) (λ c. c.tsn) chunk_before chunks.now at.place at.ascending) }
-{
-    let len = chunks.len();
-    if len == 0 {
-        return Some(Insertion {
-            place: 0,
-            ascending: true,
-        });
-    }
-    let first = tsn_of(&chunks[0]);
-    let far = distance(first, tsn);
-    if !ascending || far == 1 << 31 {
-        return insertion_by_walk(chunks, tsn);
-    }
-    if far > 1 << 31 {
-        let ascending = distance(tsn, tsn_of(&chunks[len - 1])) < 1 << 31;
-        return Some(Insertion {
-            place: 0,
-            ascending,
-        });
-    }
-    let place = place_within(chunks, first, far);
-    if chunks[place - 1].tsn == tsn {
-        return None;
-    }
-    Some(Insertion {
-        place,
-        ascending: true,
-    })
-}
-
-// The place behind the fragments that lie no farther from the first TSN. The last is looked at first.
-fn place_within(chunks: &[Fragment], first: u32, far: u32) -> usize
-    requires { IsNonDecreasingBy (λ c. distance first c.tsn) chunks.now }
-    ensures in_range { result ≤ length chunks.now }
-    ensures split { IsPartitionPoint
-        (λ c. distance first c.tsn ≤ far) (λ c. far < distance first c.tsn) chunks.now result }
-{
-    let len = chunks.len();
-    if len > 0 && distance(first, chunks[len - 1].tsn) <= far {
-        return len;
-    }
-    chunks.partition_point(|c| distance(first, c.tsn) <= far)
-}
-
-// The same by a walk, among any TSNs; they are not known to ascend then.
-fn insertion_by_walk(chunks: &[Fragment], tsn: u32) -> Option<Insertion>
-    ensures there { IfNone result (list_any (has_tsn tsn) chunks.now ≡ true) }
-    ensures free { IfSome result (λ at.
-        IsInsertion (has_tsn tsn) (λ c. c.tsn) chunk_before chunks.now at.place at.ascending) }
-{
-    if has_number(chunks, tsn) {
-        return None;
-    }
-    Some(Insertion {
-        place: insertion_place(chunks, tsn),
-        ascending: false,
-    })
+    is_ascending(chunks, turns)
 }
 
 // Whether TSNs ascend, seen by how far each lies from the first.
-fn is_ascending(chunks: &[Fragment]) -> bool
-    ensures { IsOrder result (map (λ c. c.tsn) chunks.now) }
+fn is_ascending(chunks: &[Fragment], turns: &mut Turns) -> bool
+    ensures order { IsOrder result (map (λ c. c.tsn) chunks.now) }
+    ensures exact { IsOffOnlyOutOfOrder result (map (λ c. c.tsn) chunks.now) }
+    ensures not_back { turns.old ≤ turns.new }
+    ensures cost { turns.new ≤ turns.old + length chunks.now }
 {
     let len = chunks.len();
     if len == 0 {
         return true;
     }
+    turns.tick();
     let first = tsn_of(&chunks[0]);
     let mut far = 0;
     for place in 1..len {
+        turns.tick();
         let next = distance(first, chunks[place].tsn);
         if next <= far || next >= 1 << 31 {
             return false;
@@ -683,19 +664,4 @@ fn is_ascending(chunks: &[Fragment]) -> bool
         far = next;
     }
     true
-}
-
-// The TSN of a fragment.
-fn tsn_of(fragment: &Fragment) -> u32
-    ensures value { result ≡ fragment.now.tsn }
-    ensures fits { result < 2 ^ 32 }
-{
-    fragment.tsn
-}
-
-// Whether a fragment has the number.
-fn has_number(chunks: &[Fragment], tsn: u32) -> bool
-    ensures { result ≡ list_any (has_tsn tsn) chunks.now }
-{
-    chunks.iter().any(|c| c.tsn == tsn)
 }

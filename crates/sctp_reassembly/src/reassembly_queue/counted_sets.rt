@@ -1,9 +1,10 @@
 //! Sets of fragments, whose chunks are counted.
 
-ghost use Rattle.std.specs.Prelude.{◌≡◌, ◌+◌, ◌-◌, ◌^◌, ◌<◌, ◌≤◌, [], ◌∷◌, ◌++◌, length, min, not, drop, set, remove, slice_index_or, option_map, MatchOption, OnOk, OnErr, IfOk, IfErr, IfSome, IfNone, IsOk};
+ghost use Rattle.std.specs.Prelude.{◌≡◌, ◌+◌, ◌-◌, ◌*◌, ◌^◌, ◌<◌, ◌≤◌, [], ◌∷◌, ◌++◌, length, min, not, drop, set, remove, slice_index_or, option_map, MatchOption, OnOk, OnErr, IfOk, IfErr, IfSome, IfNone, IsOk};
 ghost use Rattle.std.specs.List.{insert, filter};
 ghost use Rattle.sctp_data.specs.ChunkSet.{ChunkSet};
 ghost use Rattle.sctp_base.specs.declared.error.Error.TheVariants.{ErrOutOfMemory};
+ghost use Rattle.sctp_reassembly.specs.reassembly_queue.Orders.{digits, IsInOrder};
 ghost use Rattle.sctp_reassembly.specs.reassembly_queue.Counts.{set_chunks};
 ghost use Rattle.sctp_list_lemmas.specs.Lists.{change_at};
 ghost use Rattle.sctp_reassembly.specs.declared.reassembly_queue.chunks.Placed.{Placed};
@@ -16,6 +17,7 @@ use crate::reassembly_queue::chunks::{Fragments, Placed};
 use crate::reassembly_queue::fragment::Fragment;
 use crate::reassembly_queue::{resets, skips};
 use sctp_base::error::Result;
+use sctp_serial::turns::Turns;
 use std::alloc::Global;
 use std::collections::VecDeque;
 use std::marker::Model;
@@ -77,22 +79,32 @@ impl CountedSets {
         self.n_chunks
     }
 
-    /// Takes out the first set.
-    pub(crate) fn pop_front(&mut self) -> Option<Fragments>
+    /// Takes out the first set. Its turns are added: one at most while fewer than 2^64 - 1 chunks are held, else one for each set.
+    pub(crate) fn pop_front(&mut self, turns: &mut Turns) -> Option<Fragments>
         ensures some { IfSome result (λ s. self.old.items ≡ s ∷ self.new.items) }
         ensures none { IfNone result ((self.old.items ≡ []) × (self.new.items ≡ self.old.items)) }
         ensures rest { self.new.items ≡ drop 1 self.old.items }
+        ensures not_back { turns.old ≤ turns.new }
+        ensures cost { turns.new ≤ turns.old + length self.old.items }
+        ensures few { set_chunks self.old.items < 2 ^ 64 - 1 → turns.new ≤ turns.old + 1 }
     {
         let set = self.sets.pop_front()?;
-        self.n_chunks = chunks_without(self.n_chunks, set.fragments().len(), &self.sets);
+        turns.tick();
+        self.n_chunks = chunks_without(self.n_chunks, set.fragments().len(), &self.sets, turns);
         Some(set)
     }
 
     /// Puts a chunk into the set at a place, and says where it is there and whether that set is complete then; None where its
-    /// TSN is there already.
+    /// TSN is there already. Its turns are added: where the TSNs of that set ascend before and after, the digits of the number of
+    /// its fragments and six more at most.
     /// Precondition: the place has a set.
     /// Refuses only for memory, and nothing changes then.
-    pub(crate) fn put_into(&mut self, place: usize, chunk: Fragment) -> Result<Option<Placed>>
+    pub(crate) fn put_into(
+        &mut self,
+        place: usize,
+        chunk: Fragment,
+        turns: &mut Turns,
+    ) -> Result<Option<Placed>>
         requires { place < length self.old.items }
         ensures ok { OnOk result ((d : ChunkSet) → self.new.items ≡ set self.old.items place
             (with_chunk chunk (slice_index_or self.old.items place d))) }
@@ -105,9 +117,16 @@ impl CountedSets {
             × (change_at (without_chunk p.place) place self.new.items ≡ self.old.items))) }
         ensures err { OnErr result (self.new.items ≡ self.old.items) }
         ensures memory { IfErr result (λ e. e ≡ ErrOutOfMemory) }
+        ensures not_back { turns.old ≤ turns.new }
+        ensures cost { (d : ChunkSet) → turns.new
+            ≤ turns.old + 3 * length (slice_index_or self.old.items place d).chunks + 7 }
+        ensures few { (d : ChunkSet) → IsInOrder (slice_index_or self.old.items place d)
+            → IsInOrder (slice_index_or self.new.items place d) → turns.new
+            ≤ turns.old + digits (length (slice_index_or self.old.items place d).chunks) + 6 }
     {
+        turns.tick();
         let set = &mut self.sets[place];
-        let put = set.put_placed(chunk)?;
+        let put = set.put_placed(chunk, turns)?;
         if put.is_some() {
             self.n_chunks = self.n_chunks.saturating_add(1);
         }
@@ -123,7 +142,7 @@ impl CountedSets {
         ensures { self.new.items ≡ change_at (without_chunk at) place self.old.items }
     {
         self.sets[place].remove(at);
-        self.n_chunks = chunks_without(self.n_chunks, 1, &self.sets);
+        self.n_chunks = chunks_without(self.n_chunks, 1, &self.sets, &mut Turns::new());
     }
 
     /// Takes out the set at a place. It takes no memory.
@@ -136,7 +155,7 @@ impl CountedSets {
             Some(set) => set.fragments().len(),
             None => 0,
         };
-        self.n_chunks = chunks_without(self.n_chunks, gone, &self.sets);
+        self.n_chunks = chunks_without(self.n_chunks, gone, &self.sets, &mut Turns::new());
     }
 
     /// Takes out the last set. It takes no memory.
@@ -148,7 +167,8 @@ impl CountedSets {
         let Some(set) = self.sets.pop_back() else {
             unreachable!()
         };
-        self.n_chunks = chunks_without(self.n_chunks, set.fragments().len(), &self.sets);
+        let gone = set.fragments().len();
+        self.n_chunks = chunks_without(self.n_chunks, gone, &self.sets, &mut Turns::new());
         set
     }
 
@@ -199,7 +219,7 @@ impl CountedSets {
             ≡ min (set_bytes (filter (is_discarded last_ssn bound) self.old.items)) (2 ^ 64 - 1) }
     {
         let gone = skips::discard(&mut self.sets, last_ssn, bound);
-        self.n_chunks = chunks_in(&self.sets);
+        self.n_chunks = chunks_in(&self.sets, &mut Turns::new());
         gone
     }
 
@@ -215,7 +235,7 @@ impl CountedSets {
         ensures bytes { result ≡ min (dropped_bytes last_tsn self.old.items) (2 ^ 64 - 1) }
     {
         let gone = resets::end_use(&mut self.sets, last_tsn, moved);
-        let left = chunks_in(&self.sets);
+        let left = chunks_in(&self.sets, &mut Turns::new());
         self.n_chunks = left;
         gone
     }
@@ -234,23 +254,33 @@ fn clone_sets(alloc: Global, sets: &VecDeque<Fragments>) -> Result<VecDeque<Frag
 }
 
 // How many chunks sets have, up to the greatest number.
-fn chunks_in(sets: &VecDeque<Fragments>) -> usize
-    ensures { result ≡ min (set_chunks sets.now.items) (2 ^ 64 - 1) }
+fn chunks_in(sets: &VecDeque<Fragments>, turns: &mut Turns) -> usize
+    ensures value { result ≡ min (set_chunks sets.now.items) (2 ^ 64 - 1) }
+    ensures turns { turns.new ≡ turns.old + length sets.now.items }
 {
     let mut count = 0usize;
     for place in 0..sets.len() {
+        turns.tick();
         count = count.saturating_add(sets[place].fragments().len());
     }
     count
 }
 
 // The chunks of the sets that are left, where so many were taken of so many: past the greatest number they are counted anew.
-fn chunks_without(n_chunks: usize, gone: usize, sets: &VecDeque<Fragments>) -> usize
-    ensures { n_chunks ≡ min (gone + set_chunks sets.now.items) (2 ^ 64 - 1)
+fn chunks_without(
+    n_chunks: usize,
+    gone: usize,
+    sets: &VecDeque<Fragments>,
+    turns: &mut Turns,
+) -> usize
+    ensures value { n_chunks ≡ min (gone + set_chunks sets.now.items) (2 ^ 64 - 1)
         → result ≡ min (set_chunks sets.now.items) (2 ^ 64 - 1) }
+    ensures not_back { turns.old ≤ turns.new }
+    ensures cost { turns.new ≤ turns.old + length sets.now.items }
+    ensures few { n_chunks < 2 ^ 64 - 1 → turns.new ≡ turns.old }
 {
     if n_chunks < usize::MAX {
         return n_chunks.saturating_sub(gone);
     }
-    chunks_in(sets)
+    chunks_in(sets, turns)
 }

@@ -1,7 +1,7 @@
 //! The sets of ordered messages, in the order of their numbers where these lie within half a circle.
 
-ghost use Rattle.std.specs.Prelude.{◌≡◌, ◌+◌, ◌-◌, ◌^◌, ◌<◌, ◌≤◌, ◌&&◌, [], ◌∷◌, ◌++◌, length, map, min, true, false, not, option_map, MatchOption, OnOk, OnErr, IfOk, IfErr, IfSome, IfNone};
-ghost use Rattle.std.specs.List.{list_any, position_or_len, filter};
+ghost use Rattle.std.specs.Prelude.{◌≡◌, ◌+◌, ◌-◌, ◌*◌, ◌^◌, ◌<◌, ◌≤◌, ◌&&◌, [], ◌∷◌, ◌++◌, length, map, min, true, false, not, option_map, MatchOption, OnOk, OnErr, IfOk, IfErr, IfSome, IfNone};
+ghost use Rattle.std.specs.List.{list_any, position_or_len, filter, insert};
 ghost use Rattle.std.specs.List.Sorted.{IsNonDecreasingBy, IsPartitionPoint};
 ghost use Rattle.sctp_list_lemmas.specs.Serial.{comes_before16, distance};
 ghost use Rattle.sctp_reassembly.specs.reassembly_queue.ReassemblyQueue.{set_bytes, without_first};
@@ -12,7 +12,10 @@ ghost use Rattle.sctp_reassembly.specs.reassembly_queue.Counts.{set_chunks};
 ghost use Rattle.sctp_reassembly.specs.declared.reassembly_queue.ordered_sets.OrderedPut.{OrderedPut};
 ghost use Rattle.sctp_reassembly.specs.reassembly_queue.Undo.{CanUndoOrdered, ordered_undone};
 ghost use Rattle.sctp_serial.specs.DataChunks.{bytes_of};
-ghost use Rattle.sctp_serial.specs.Ascending.{IsOrder, IsInsertion, upper_half};
+ghost use Rattle.sctp_serial.specs.Ascending.{IsAscending, IsOrder, IsInsertion, upper_half};
+ghost use Rattle.sctp_serial.specs.Turns.{IsWithinDigits};
+ghost use Rattle.sctp_data.specs.ChunkSet.{ChunkSet};
+ghost use Rattle.sctp_reassembly.specs.reassembly_queue.Orders.{digits, IsOffOnlyOutOfOrder, IsOrderly};
 ghost use Rattle.sctp_base.specs.declared.error.Error.TheVariants.{ErrOutOfMemory};
 
 use crate::reassembly_queue::chunks::Fragments;
@@ -21,6 +24,7 @@ use crate::reassembly_queue::fragment::Fragment;
 use sctp_base::error::Result;
 use sctp_base::util::sna16lt;
 use sctp_serial::serial::{Insertion, distance, upper_half};
+use sctp_serial::turns::Turns;
 use std::alloc::Global;
 use std::collections::VecDeque;
 use std::marker::Model;
@@ -30,7 +34,7 @@ use std::result;
 #[derive(Drop)]
 pub(crate) struct OrderedSets {
     sets: CountedSets,
-    // whether their numbers are known to ascend
+    // whether their numbers ascend
     ascending: bool,
 }
 
@@ -54,12 +58,16 @@ impl Model for OrderedSets {
     ghost use Rattle.std.specs.Prelude.{List, map};
     ghost use Rattle.sctp_data.specs.ChunkSet.{ChunkSet};
     ghost use Rattle.sctp_serial.specs.Ascending.{IsOrder, upper_half};
+    ghost use Rattle.sctp_reassembly.specs.reassembly_queue.Orders.{IsOffOnlyOutOfOrder};
 
     ghost Value = { List ChunkSet };
 
     ghost view = { λ s. s.sets.items };
 
-    ghost invariant = { λ s. IsOrder s.ascending (map (λ x. upper_half x.ssn) s.sets.items) };
+    ghost invariant = { λ s. record {
+      order : IsOrder s.ascending (map (λ x. upper_half x.ssn) s.sets.items);
+      exact : IsOffOnlyOutOfOrder s.ascending (map (λ x. upper_half x.ssn) s.sets.items);
+    } };
 }
 
 impl OrderedSets {
@@ -107,29 +115,50 @@ impl OrderedSets {
         self.sets.as_deque().front()
     }
 
-    /// Takes out the first set.
-    pub(crate) fn pop_front(&mut self) -> Option<Fragments>
+    /// Takes out the first set. Its turns are added: one at most where numbers ascend and fewer than 2^64 - 1 chunks are held.
+    pub(crate) fn pop_front(&mut self, turns: &mut Turns) -> Option<Fragments>
         ensures some { IfSome result (λ s. self.old ≡ s ∷ self.new) }
         ensures none { IfNone result ((self.old ≡ []) × (self.new ≡ self.old)) }
+        ensures not_back { turns.old ≤ turns.new }
+        ensures cost { turns.new ≤ turns.old + 2 * length self.old }
+        ensures few { IsAscending (map (λ s. upper_half s.ssn) self.old)
+            → set_chunks self.old < 2 ^ 64 - 1 → turns.new ≤ turns.old + 1 }
     {
-        self.sets.pop_front()
+        let set = self.sets.pop_front(turns);
+        let sets = self.sets.as_deque();
+        self.ascending = still_ascending(self.ascending, sets, turns);
+        set
     }
 
     /// The bytes of the first set of a number, up to the greatest number.
-    pub(crate) fn bytes_there(&self, ssn: u16) -> usize
-        ensures { result ≡ min (bytes_of (chunks_of_ssn ssn self.now)) (2 ^ 64 - 1) }
+    /// Its turns are added: where numbers ascend, the digits of the number of sets and five more at most.
+    pub(crate) fn bytes_there(&self, ssn: u16, turns: &mut Turns) -> usize
+        ensures value { result ≡ min (bytes_of (chunks_of_ssn ssn self.now)) (2 ^ 64 - 1) }
+        ensures not_back { turns.old ≤ turns.new }
+        ensures cost { turns.new ≤ turns.old + 2 * length self.now + 5 }
+        ensures few { IsAscending (map (λ s. upper_half s.ssn) self.now)
+            → turns.new ≤ turns.old + digits (length self.now) + 5 }
     {
         let sets = self.sets.as_deque();
-        match seek(self.ascending, sets, ssn) {
-            Ok(place) => sets[place].len(),
+        match seek(self.ascending, sets, ssn, turns) {
+            Ok(place) => {
+                turns.tick();
+                sets[place].len()
+            }
             Err(_) => 0,
         }
     }
 
     /// Puts a chunk into the first set of its number, or into a new one at its place, and says whether that set
     /// is complete then, and how it is undone; None where its TSN is there already.
-    /// Refuses only for memory, and nothing changes then.
-    pub(crate) fn put(&mut self, alloc: Global, chunk: Fragment) -> Result<Option<OrderedPut>>
+    /// Refuses only for memory, and nothing changes then. Its turns are added: where numbers ascend, and TSNs in each set before and
+    /// after, the digits of the number of sets, those of the fragments of the chunk's set, and eleven more at most.
+    pub(crate) fn put(
+        &mut self,
+        alloc: Global,
+        chunk: Fragment,
+        turns: &mut Turns,
+    ) -> Result<Option<OrderedPut>>
         ensures ok { OnOk result (self.new ≡ sets_with chunk self.old) }
         ensures answer { IfOk result (λ put. option_map (λ (p : OrderedPut). p.whole) put
             ≡ answer_with chunk (chunks_of_ssn chunk.stream_sequence_number self.old)) }
@@ -137,11 +166,17 @@ impl OrderedSets {
             (λ p. CanUndoOrdered p.undo self.new × (ordered_undone p.undo self.new ≡ self.old))) }
         ensures err { OnErr result (self.new ≡ self.old) }
         ensures memory { IfErr result (λ e. e ≡ ErrOutOfMemory) }
+        ensures not_back { turns.old ≤ turns.new }
+        ensures cost { turns.new ≤ turns.old + 2 * length self.old
+            + 3 * length (chunks_of_ssn chunk.stream_sequence_number self.old) + 11 }
+        ensures few { IsOrderly self.old → IsOrderly self.new
+            → turns.new ≤ turns.old + digits (length self.old)
+            + digits (length (chunks_of_ssn chunk.stream_sequence_number self.old)) + 11 }
     {
         let ssn = chunk.stream_sequence_number;
-        match seek(self.ascending, self.sets.as_deque(), ssn) {
+        match seek(self.ascending, self.sets.as_deque(), ssn, turns) {
             Ok(set) => {
-                let Some(put) = self.sets.put_into(set, chunk)? else {
+                let Some(put) = self.sets.put_into(set, chunk, turns)? else {
                     return Ok(None);
                 };
                 let undo = OrderedUndo::InSet {
@@ -154,8 +189,8 @@ impl OrderedSets {
                 }))
             }
             Err(at) => {
-                let set = new_set(alloc, chunk)?;
-                let whole = set.is_complete();
+                let set = new_set(alloc, chunk, turns)?;
+                let whole = set.is_complete_counted(turns);
                 self.sets.insert(at.place, set)?;
                 self.ascending = at.ascending;
                 let undo = OrderedUndo::NewSet { set: at.place };
@@ -174,6 +209,8 @@ impl OrderedSets {
             OrderedUndo::InSet { set, place } => self.sets.remove_from(set, place),
             OrderedUndo::NewSet { set } => self.sets.remove(set),
         }
+        let sets = self.sets.as_deque();
+        self.ascending = still_ascending(self.ascending, sets, &mut Turns::new());
     }
 
     /// Removes the sets that a skip discards: the incomplete ones, those alone at or before the number where there is
@@ -183,7 +220,10 @@ impl OrderedSets {
         ensures bytes { result
             ≡ min (set_bytes (filter (is_discarded last_ssn bound) self.old)) (2 ^ 64 - 1) }
     {
-        self.sets.discard(last_ssn, bound)
+        let gone = self.sets.discard(last_ssn, bound);
+        let sets = self.sets.as_deque();
+        self.ascending = still_ascending(self.ascending, sets, &mut Turns::new());
+        gone
     }
 
     /// Moves the complete messages of the old use, which ends with the TSN, behind others, and keeps of the rest what is of
@@ -197,31 +237,47 @@ impl OrderedSets {
             ≡ moved.old.items ++ filter (is_old_message last_tsn) self.old }
         ensures bytes { result ≡ min (dropped_bytes last_tsn self.old) (2 ^ 64 - 1) }
     {
-        self.sets.end_use(last_tsn, moved)
+        let gone = self.sets.end_use(last_tsn, moved);
+        let sets = self.sets.as_deque();
+        self.ascending = still_ascending(self.ascending, sets, &mut Turns::new());
+        gone
     }
 }
 
 // A set that a chunk alone makes. Where it is the complete message there is room for it alone.
-fn new_set(alloc: Global, chunk: Fragment) -> Result<Fragments>
+fn new_set(alloc: Global, chunk: Fragment, turns: &mut Turns) -> Result<Fragments>
     ensures ok { IfOk result (λ set. set ≡ new_set chunk) }
     ensures memory { IfErr result (λ e. e ≡ ErrOutOfMemory) }
+    ensures not_back { turns.old ≤ turns.new }
+    ensures cost { turns.new ≤ turns.old + 2 }
 {
     let ssn = chunk.stream_sequence_number;
     let ppi = chunk.payload_type;
     let alone = usize::from(chunk.beginning_fragment && chunk.ending_fragment);
     let mut chunks = Vec::with_capacity(alloc, alone)?;
     chunks.push(chunk)?;
-    Ok(Fragments::new(ssn, ppi, chunks))
+    Ok(Fragments::new_counted(ssn, ppi, chunks, turns))
 }
 
-// The place of the first set of a number, or where a set of it is put in: by halves among numbers
-// that ascend, unless it lies exactly half a circle from the first.
-fn seek(ascending: bool, sets: &VecDeque<Fragments>, ssn: u16) -> result::Result<usize, Insertion>
-    requires { IsOrder ascending (map (λ s. upper_half s.ssn) sets.now.items) }
+// The place of the first set of a number, or where a set of it is put in: by halves among numbers that ascend.
+fn seek(
+    ascending: bool,
+    sets: &VecDeque<Fragments>,
+    ssn: u16,
+    turns: &mut Turns,
+) -> result::Result<usize, Insertion>
+    requires order { IsOrder ascending (map (λ s. upper_half s.ssn) sets.now.items) }
+    requires exact { IsOffOnlyOutOfOrder ascending (map (λ s. upper_half s.ssn) sets.now.items) }
     ensures there { IfOk result (λ place. (place ≡ position_or_len (has_ssn ssn) sets.now.items)
         × (place < length sets.now.items)) }
     ensures free { IfErr result (λ at. IsInsertion
         (has_ssn ssn) (λ s. upper_half s.ssn) set_before sets.now.items at.place at.ascending) }
+    ensures exact { IfErr result (λ at. (x : ChunkSet) → x.ssn ≡ ssn → IsOffOnlyOutOfOrder
+        at.ascending (map (λ s. upper_half s.ssn) (insert sets.now.items at.place x))) }
+    ensures not_back { turns.old ≤ turns.new }
+    ensures cost { turns.new ≤ turns.old + 2 * length sets.now.items + 4 }
+    ensures few { ascending ≡ true
+        → turns.new ≤ turns.old + digits (length sets.now.items) + 4 }
 {
     let len = sets.len();
     if len == 0 {
@@ -230,12 +286,20 @@ fn seek(ascending: bool, sets: &VecDeque<Fragments>, ssn: u16) -> result::Result
             ascending: true,
         });
     }
+    if !ascending {
+        return seek_by_walk(sets, ssn, turns);
+    }
+    turns.tick();
     let first = upper_half(sets[0].ssn());
     let number = upper_half(ssn);
     let far = distance(first, number);
-    if !ascending || far == 1 << 31 {
-        return seek_by_walk(sets, ssn);
+    if far == 1 << 31 {
+        return Err(Insertion {
+            place: len,
+            ascending: false,
+        });
     }
+    turns.tick();
     if far > 1 << 31 {
         let ascending = distance(number, upper_half(sets[len - 1].ssn())) < 1 << 31;
         return Err(Insertion {
@@ -243,7 +307,7 @@ fn seek(ascending: bool, sets: &VecDeque<Fragments>, ssn: u16) -> result::Result
             ascending,
         });
     }
-    let place = place_within(sets, first, far);
+    let place = place_within(sets, first, far, turns);
     if sets[place - 1].ssn() == ssn {
         return Ok(place - 1);
     }
@@ -254,43 +318,84 @@ fn seek(ascending: bool, sets: &VecDeque<Fragments>, ssn: u16) -> result::Result
 }
 
 // The place behind the sets that lie no farther from the first number. The last is looked at first.
-fn place_within(sets: &VecDeque<Fragments>, first: u32, far: u32) -> usize
+fn place_within(sets: &VecDeque<Fragments>, first: u32, far: u32, turns: &mut Turns) -> usize
     requires { IsNonDecreasingBy (λ s. distance first (upper_half s.ssn)) sets.now.items }
     ensures in_range { result ≤ length sets.now.items }
     ensures split { IsPartitionPoint (λ s. distance first (upper_half s.ssn) ≤ far)
         (λ s. far < distance first (upper_half s.ssn)) sets.now.items result }
+    ensures not_back { turns.old ≤ turns.new }
+    ensures cost { turns.new ≤ turns.old + digits (length sets.now.items) + 1 }
 {
     let len = sets.len();
-    if len > 0 && distance(first, upper_half(sets[len - 1].ssn())) <= far {
-        return len;
+    if len > 0 {
+        turns.tick();
+        if distance(first, upper_half(sets[len - 1].ssn())) <= far {
+            return len;
+        }
     }
-    sets.partition_point(|s| distance(first, upper_half(s.ssn())) <= far)
+    by_halves(sets, first, far, turns)
 }
 
-// The same by a walk, among any numbers; they are not known to ascend then.
-fn seek_by_walk(sets: &VecDeque<Fragments>, ssn: u16) -> result::Result<usize, Insertion>
+// The same by halves.
+fn by_halves(sets: &VecDeque<Fragments>, first: u32, far: u32, turns: &mut Turns) -> usize
+    requires { IsNonDecreasingBy (λ s. distance first (upper_half s.ssn)) sets.now.items }
+    ensures in_range { result ≤ length sets.now.items }
+    ensures split { IsPartitionPoint (λ s. distance first (upper_half s.ssn) ≤ far)
+        (λ s. far < distance first (upper_half s.ssn)) sets.now.items result }
+    ensures not_back { turns.old ≤ turns.new }
+    ensures cost { IsWithinDigits (length sets.now.items) (turns.new - turns.old) }
+{
+    let mut low = 0;
+    let mut high = sets.len();
+    while low < high {
+        let middle = low + (high - low) / 2;
+        turns.tick();
+        let here = distance(first, upper_half(sets[middle].ssn()));
+        if here <= far {
+            low = middle + 1;
+        } else {
+            high = middle;
+        }
+    }
+    low
+}
+
+// The same by a walk, among numbers that do not ascend.
+fn seek_by_walk(
+    sets: &VecDeque<Fragments>,
+    ssn: u16,
+    turns: &mut Turns,
+) -> result::Result<usize, Insertion>
+    requires { IsAscending (map (λ s. upper_half s.ssn) sets.now.items) → ⊥ }
     ensures there { IfOk result (λ place. (place ≡ position_or_len (has_ssn ssn) sets.now.items)
         × (place < length sets.now.items)) }
     ensures free { IfErr result (λ at. IsInsertion
         (has_ssn ssn) (λ s. upper_half s.ssn) set_before sets.now.items at.place at.ascending) }
+    ensures exact { IfErr result (λ at. (x : ChunkSet) → x.ssn ≡ ssn → IsOffOnlyOutOfOrder
+        at.ascending (map (λ s. upper_half s.ssn) (insert sets.now.items at.place x))) }
+    ensures not_back { turns.old ≤ turns.new }
+    ensures cost { turns.new ≤ turns.old + 2 * length sets.now.items }
 {
-    match first_place(sets, ssn) {
+    match first_place(sets, ssn, turns) {
         Some(place) => Ok(place),
         None => Err(Insertion {
-            place: set_gap(sets, ssn),
+            place: set_gap(sets, ssn, turns),
             ascending: false,
         }),
     }
 }
 
 // The place of the first set of a number.
-fn first_place(sets: &VecDeque<Fragments>, ssn: u16) -> Option<usize>
+fn first_place(sets: &VecDeque<Fragments>, ssn: u16, turns: &mut Turns) -> Option<usize>
     ensures found { IfSome result (λ place. (place ≡ position_or_len (has_ssn ssn) sets.now.items)
         × (place < length sets.now.items)) }
     ensures absent { IfNone result (position_or_len (has_ssn ssn) sets.now.items
         ≡ length sets.now.items) }
+    ensures not_back { turns.old ≤ turns.new }
+    ensures cost { turns.new ≤ turns.old + length sets.now.items }
 {
     for place in 0..sets.len() {
+        turns.tick();
         if sets[place].ssn() == ssn {
             return Some(place);
         }
@@ -299,14 +404,58 @@ fn first_place(sets: &VecDeque<Fragments>, ssn: u16) -> Option<usize>
 }
 
 // Where a set of this number is put in: before the first that it comes before, or at the end.
-fn set_gap(sets: &VecDeque<Fragments>, ssn: u16) -> usize
+fn set_gap(sets: &VecDeque<Fragments>, ssn: u16, turns: &mut Turns) -> usize
     ensures place { result ≡ position_or_len (λ s. comes_before16 ssn s.ssn) sets.now.items }
     ensures in_range { result ≤ length sets.now.items }
+    ensures not_back { turns.old ≤ turns.new }
+    ensures cost { turns.new ≤ turns.old + length sets.now.items }
 {
     for place in 0..sets.len() {
+        turns.tick();
         if sna16lt(ssn, sets[place].ssn()) {
             return place;
         }
     }
     sets.len()
+}
+
+// Whether numbers ascend, where those of more sets, of which some are gone, did or did not.
+fn still_ascending(before: bool, sets: &VecDeque<Fragments>, turns: &mut Turns) -> bool
+    requires { before ≡ true → IsAscending (map (λ s. upper_half s.ssn) sets.now.items) }
+    ensures order { IsOrder result (map (λ s. upper_half s.ssn) sets.now.items) }
+    ensures exact { IsOffOnlyOutOfOrder result (map (λ s. upper_half s.ssn) sets.now.items) }
+    ensures not_back { turns.old ≤ turns.new }
+    ensures cost { turns.new ≤ turns.old + length sets.now.items }
+    ensures none { before ≡ true → turns.new ≡ turns.old }
+{
+    if before {
+        return true;
+    }
+    are_ascending(sets, turns)
+}
+
+// Whether numbers ascend, seen by how far each lies from the first.
+fn are_ascending(sets: &VecDeque<Fragments>, turns: &mut Turns) -> bool
+    ensures order { IsOrder result (map (λ s. upper_half s.ssn) sets.now.items) }
+    ensures exact { IsOffOnlyOutOfOrder result (map (λ s. upper_half s.ssn) sets.now.items) }
+    ensures not_back { turns.old ≤ turns.new }
+    ensures cost { turns.new ≤ turns.old + length sets.now.items }
+{
+    let len = sets.len();
+    if len == 0 {
+        return true;
+    }
+    turns.tick();
+    let first = upper_half(sets[0].ssn());
+    let mut far = 0;
+    for place in 1..len {
+        turns.tick();
+        let number = upper_half(sets[place].ssn());
+        let next = distance(first, number);
+        if next <= far || next >= 1 << 31 {
+            return false;
+        }
+        far = next;
+    }
+    true
 }

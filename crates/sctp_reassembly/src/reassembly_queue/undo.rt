@@ -1,9 +1,11 @@
 //! Chunks taken so that they can be taken back.
 
-ghost use Rattle.std.specs.Prelude.{◌≡◌, ◌==◌, ◌+◌, ◌^◌, ◌<◌, length, OnErr, IfOk, IfErr, IsOk, IsOkAnd, true, false, if◌then◌else◌};
+ghost use Rattle.std.specs.Prelude.{◌≡◌, ◌==◌, ◌+◌, ◌^◌, ◌<◌, ◌≤◌, length, OnErr, IfOk, IfErr, IsOk, IsOkAnd, true, false, if◌then◌else◌};
 ghost use Rattle.sctp_reassembly.specs.reassembly_queue.ReassemblyQueue.{is_too_large, after_ordered_push, is_complete_with, PushesUnordered, IsCounted, held_bytes};
 ghost use Rattle.sctp_reassembly.specs.reassembly_queue.PoolUndo.{CanUndoPut, pool_undone};
 ghost use Rattle.sctp_reassembly.specs.reassembly_queue.Undo.{undone, CanUndo, last_chunks, unassembled_of, with_unassembled, without_last};
+ghost use Rattle.sctp_reassembly.specs.reassembly_queue.Costs.{ordered_push_looks, ordered_push_walk};
+ghost use Rattle.sctp_reassembly.specs.reassembly_queue.Orders.{IsOrderly};
 ghost use Rattle.sctp_base.specs.declared.error.Error.TheVariants.{ErrOutOfMemory, ErrInboundPacketTooLarge};
 
 use crate::reassembly_queue::ReassemblyQueue;
@@ -11,6 +13,7 @@ use crate::reassembly_queue::ordered_sets::OrderedUndo;
 use crate::reassembly_queue::pool::undo::PoolUndo;
 use sctp_base::error::{Error, Result};
 use sctp_data::chunk::chunk_payload_data::ChunkPayloadData;
+use sctp_serial::turns::Turns;
 
 /// What `push_undoable` did, so that `undo_push` can take it back.
 #[derive(Drop)]
@@ -64,17 +67,48 @@ impl ReassemblyQueue {
         ensures counted { held_bytes self.old.held + length chunk.user_data < 2 ^ 64
             → IsCounted self.old → IsCounted self.new }
     {
+        self.push_undoable_counted(chunk, &mut Turns::new())
+    }
+
+    /// The same, and what an ordered chunk looks at is added, as `push_counted` says.
+    pub fn push_undoable_counted(
+        &mut self,
+        chunk: ChunkPayloadData,
+        turns: &mut Turns,
+    ) -> Result<(bool, PushUndo)>
+        ensures other_stream { (chunk.stream_identifier == self.old.si) ≡ false
+            → IsOkAnd result (λ put. put.0 ≡ false) × (self.new ≡ self.old) }
+        ensures ordered { (chunk.stream_identifier == self.old.si) ≡ true → chunk.unordered ≡ false
+            → IfOk result (λ put. (self.new ≡ after_ordered_push chunk self.old)
+            × (put.0 ≡ is_complete_with chunk self.old.held)) }
+        ensures unordered { (chunk.stream_identifier == self.old.si) ≡ true → chunk.unordered ≡ true
+            → IfOk result (λ put. PushesUnordered chunk self.old self.new put.0) }
+        ensures undo { IfOk result (λ put. undone put.1 self.new ≡ self.old) }
+        ensures can { IfOk result (λ put. CanUndo put.1 self.new) }
+        ensures fits { IsOk result → is_too_large chunk self.old ≡ false }
+        ensures refused { IfErr result (λ e. e
+            ≡ (if is_too_large chunk self.old then ErrInboundPacketTooLarge else ErrOutOfMemory)) }
+        ensures err { OnErr result (self.new ≡ self.old) }
+        ensures counted { held_bytes self.old.held + length chunk.user_data < 2 ^ 64
+            → IsCounted self.old → IsCounted self.new }
+        ensures not_back { turns.old ≤ turns.new }
+        ensures ordered_cost { chunk.unordered ≡ false → IsOrderly self.old.held.ordered
+            → IsOrderly self.new.held.ordered
+            → turns.new ≤ turns.old + ordered_push_looks chunk self.old.held }
+        ensures ordered_walk { chunk.unordered ≡ false
+            → turns.new ≤ turns.old + ordered_push_walk chunk self.old.held }
+    {
         if chunk.stream_identifier != self.si {
             return Ok((false, PushUndo::of(PushChange::NotKept, self.n_bytes)));
         }
         let place = self.place_of(&chunk);
-        if self.is_too_large_at(&chunk, place) {
+        if self.is_too_large_at(&chunk, place, turns) {
             return Err(Error::ErrInboundPacketTooLarge);
         }
         if chunk.unordered {
             self.push_unordered(chunk, place)
         } else {
-            self.push_ordered(chunk)
+            self.push_ordered(chunk, turns)
         }
     }
 

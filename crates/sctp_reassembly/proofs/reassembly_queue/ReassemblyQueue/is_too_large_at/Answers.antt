@@ -3,8 +3,8 @@ use Rattle.std.proofs.lemmas.Bool.Decides.{nat_tests}
 use Rattle.sctp_reassembly.proofs.lemmas.reassembly_queue.SizeBounds.{within_all}
 use Rattle.sctp_reassembly.proofs.reassembly_queue.ReassemblyQueue.is_too_large_at.Goals as goal
 
-pub returns-then-fits_beside_all : goal.returns-then-fits_beside_all
-returns-then-fits_beside_all c =
+pub returns-then-fits_beside_all-clause-value : goal.returns-then-fits_beside_all-clause-value
+returns-then-fits_beside_all-clause-value c =
     let q = c.args.self.now in
     let (serial, small) = c.fits_beside_all.ensures.yes c.if-fits_beside_all.true in
     let most = within_all c.args.chunk.now q.held.unassembled serial (c.requires.fits c.if-chunk.true) in

@@ -1,11 +1,11 @@
-use Rattle.std.proofs.Common.{◌≡◌, ◌-◌, length, slice_index_or, leb, leb-true, sym, ap, ◌∙◌, arith, rules}
-use Rattle.std.proofs.lemmas.Bool.Decides.{nat_tests}
+use Rattle.std.proofs.Common.{◌≡◌, ◌-◌, length, slice_index_or, sym, ap, ◌∙◌, arith}
 use Rattle.std.proofs.lemmas.List.{get_or_default}
-use Rattle.std.proofs.lemmas.List.Sorted.{IsPartitionPoint-from_clause, IsPartitionedBy-leb}
 use Rattle.sctp_data.specs.ChunkSet.{ChunkSet}
 use Rattle.sctp_list_lemmas.specs.Serial.{distance}
 use Rattle.sctp_serial.specs.Ascending.{upper_half}
+use Rattle.sctp_reassembly.proofs.lemmas.reassembly_queue.Digits.{within_digits}
 use Rattle.sctp_reassembly.proofs.reassembly_queue.ordered_sets.place_within.Goals as goal
+use Rattle.sctp_reassembly.proofs.reassembly_queue.ordered_sets.place_within.Goals.{then-len-gt0+else-distance-far, else-len-gt0}
 
 pub returns-then-distance-far-clause-split : goal.returns-then-distance-far-clause-split
 returns-then-distance-far-clause-split c =
@@ -23,10 +23,10 @@ returns-then-distance-far-clause-split c =
       (λ k d low high. absurd (omega arith)),
     )
 
-pub returns-clause-split : goal.returns-clause-split
-returns-clause-split c =
-    let num = (λ (s : ChunkSet). distance c.args.first (upper_half s.ssn)) in
-    let parted = IsPartitionedBy-leb num c.args.sets.now.items c.args.far c.requires in
-    let point = IsPartitionPoint-from_clause (λ s. leb (num s) c.args.far) c.args.sets.now.items _ c.partition_point.ensures.partitioned parted
-    (λ a r q k. search rules) in
-    ((λ k d low high. let h = point.0 k d low high in leb-true _ _ h), (λ k d low high. let h = point.1 k d low high in grind (arith, nat_tests)))
+pub returns-clause-cost : goal.returns-clause-cost
+returns-clause-cost c =
+    let few = within_digits (length c.args.sets.now.items) _ c.by_halves.ensures.cost in
+    elim c.if-len-gt0.branch [
+      | then-len-gt0+else-distance-far w ↦ omega (arith, few, c.by_halves.ensures.not_back, w.turns-is, w.tick.ensures)
+      | else-len-gt0 w ↦ omega (arith, few, c.by_halves.ensures.not_back, w.turns-is)
+    ]

@@ -5,6 +5,8 @@ use Rattle.sctp_list_lemmas.specs.Serial.{comes_before16}
 use Rattle.sctp_data.specs.ChunkSet.{ChunkSet}
 use Rattle.sctp_reassembly.specs.reassembly_queue.Fragments.{has_ssn, set_before}
 use Rattle.sctp_serial.proofs.lemmas.ListEdits.{none_at, inserted-position}
+use Rattle.sctp_serial.specs.Ascending.{upper_half}
+use Rattle.sctp_reassembly.proofs.lemmas.reassembly_queue.ExactMarks.{out_of_order_insert}
 use Rattle.sctp_reassembly.proofs.reassembly_queue.ordered_sets.seek_by_walk.Goals as goal
 
 pub returns-in-None-clause-free : goal.returns-in-None-clause-free
@@ -19,3 +21,7 @@ returns-in-None-clause-free c =
           ∙ sym (inserted-position set_before x xs);
       order = λ x h. tt;
     }
+
+pub returns-in-None-clause-exact : goal.returns-in-None-clause-exact
+returns-in-None-clause-exact c y same =
+    out_of_order_insert (λ (s : ChunkSet). upper_half s.ssn) c.args.sets.now.items c.set_gap.result y c.set_gap.ensures.in_range c.requires

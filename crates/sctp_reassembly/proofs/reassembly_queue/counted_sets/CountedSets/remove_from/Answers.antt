@@ -29,7 +29,7 @@ invariant_of-self c =
     let sums = sum_by-set (λ (s : ChunkSet). length s.chunks) xs i new old within in
     let read = ap (λ (s : ChunkSet). length s.chunks) c.index_mut.ensures.value in
     let gone = ap (λ (s : ChunkSet). length s.chunks) c.remove.ensures in
-    c.chunks_without-self-inside.ensures (omega (arith, c.self.invariant, sums, read, gone, length-remove old.chunks c.args.at short))
+    c.chunks_without-self-inside.ensures.value (omega (arith, c.self.invariant, sums, read, gone, length-remove old.chunks c.args.at short))
 
 pub returns : goal.returns
 returns c =

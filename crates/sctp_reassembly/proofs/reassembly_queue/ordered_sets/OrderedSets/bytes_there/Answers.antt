@@ -4,10 +4,11 @@ use Rattle.sctp_data.specs.ChunkSet.{ChunkSet}
 use Rattle.sctp_reassembly.specs.reassembly_queue.Fragments.{has_ssn}
 use Rattle.sctp_serial.specs.DataChunks.{bytes_of}
 use Rattle.sctp_reassembly.proofs.lemmas.reassembly_queue.ChunkSets.{chunks_at, chunks_none}
+use Rattle.sctp_reassembly.proofs.lemmas.reassembly_queue.ExactMarks.{mark_on}
 use Rattle.sctp_reassembly.proofs.reassembly_queue.ordered_sets.OrderedSets.bytes_there.Goals as goal
 
-pub returns-in-Ok : goal.returns-in-Ok
-returns-in-Ok c =
+pub returns-in-Ok-clause-value : goal.returns-in-Ok-clause-value
+returns-in-Ok-clause-value c =
     let xs = c.self.inside.sets.items in
     let at = rw c.as_deque-sets.ensures at c.in-Ok.ensures.there in
     let read = rw c.as_deque-sets.ensures at c.index.ensures in
@@ -18,7 +19,23 @@ returns-in-Ok c =
     ∙ ap (λ (s : ChunkSet). min (bytes_of s.chunks) (2 ^ 64 - 1)) (read ∙ ap (λ i. get_or xs i d) at.0)
     ∙ ap (λ cs. min (bytes_of cs) (2 ^ 64 - 1)) (sym (chunks_at c.args.ssn xs d within)))
 
-pub returns-in-Err : goal.returns-in-Err
-returns-in-Err c =
+pub returns-in-Err-clause-value : goal.returns-in-Err-clause-value
+returns-in-Err-clause-value c =
     let none = rw c.as_deque-sets.ensures at c.in-Err.ensures.free.absent in
     rw (← c.self.view_is) (sym (ap (λ xs. min (bytes_of xs) (2 ^ 64 - 1)) (chunks_none c.args.ssn c.self.inside.sets.items none)))
+
+pub returns-in-Ok-clause-few : goal.returns-in-Ok-clause-few
+returns-in-Ok-clause-few c =
+    rw (← c.self.view_is) (λ up.
+    let on = mark_on c.self.inside.ascending _ c.self.invariant.exact up in
+    let few = rw c.as_deque-sets.ensures at c.seek.ensures.few in
+    let h = few on in
+    omega (arith, h, c.tick.ensures))
+
+pub returns-in-Err-clause-few : goal.returns-in-Err-clause-few
+returns-in-Err-clause-few c =
+    rw (← c.self.view_is) (λ up.
+    let on = mark_on c.self.inside.ascending _ c.self.invariant.exact up in
+    let few = rw c.as_deque-sets.ensures at c.seek.ensures.few in
+    let h = few on in
+    omega (arith, h))

@@ -1,14 +1,25 @@
-use Rattle.std.proofs.Common.{not}
-use Rattle.std.specs.List.{filter}
+use Rattle.std.proofs.Common.{not, map, sym, subst, ◌∙◌}
 use Rattle.sctp_data.specs.ChunkSet.{ChunkSet}
-use Rattle.sctp_serial.specs.Ascending.{upper_half}
+use Rattle.sctp_serial.specs.Ascending.{IsAscending, IsOrder, upper_half}
+use Rattle.sctp_reassembly.specs.reassembly_queue.Orders.{IsOffOnlyOutOfOrder}
+use Rattle.std.specs.List.{filter}
 use Rattle.sctp_reassembly.specs.reassembly_queue.Skips.{is_discarded}
-use Rattle.sctp_serial.proofs.lemmas.AscendingEdits.{ascends_those, order_kept}
+use Rattle.sctp_serial.proofs.lemmas.AscendingEdits.{ascending, ascends_those, order_on}
 use Rattle.sctp_reassembly.proofs.reassembly_queue.ordered_sets.OrderedSets.discard.Goals as goal
 
 pub invariant_of-self : goal.invariant_of-self
 invariant_of-self c =
     let num = (λ (s : ChunkSet). upper_half s.ssn) in
+    let mark = c.still_ascending-self-inside.result in
+    record {
+      order = subst (λ ys. IsOrder mark (map num ys)) c.as_deque-sets.ensures c.still_ascending-self-inside.ensures.order;
+      exact = subst (λ ys. IsOffOnlyOutOfOrder mark (map num ys)) c.as_deque-sets.ensures c.still_ascending-self-inside.ensures.exact;
+    }
+
+pub still_ascending-self-inside-requires : goal.still_ascending-self-inside-requires
+still_ascending-self-inside-requires c on =
+    let num = (λ (s : ChunkSet). upper_half s.ssn) in
     let xs = c.self.inside.sets.items in
     let p = (λ (s : ChunkSet). not (is_discarded c.args.last_ssn c.args.bound s)) in
-    rw c.discard.ensures.rest (order_kept num c.self.inside.ascending xs (filter p xs) (ascends_those num p xs) c.self.invariant)
+    subst (λ ys. IsAscending (map num ys)) (sym (c.as_deque-sets.ensures ∙ c.discard-gone.ensures.rest))
+    (ascending num (filter p xs) (ascends_those num p xs (order_on num c.self.inside.ascending xs on c.self.invariant.order)))

@@ -1,4 +1,4 @@
-use Rattle.std.proofs.Common.{◌≡◌, ◌≤◌, ◌<◌, ℕ, Bool, List, Option, length, map, get_or, set, refl, sym, ap, subst, ◌∙◌, Some, arith}
+use Rattle.std.proofs.Common.{◌≡◌, ◌+◌, ◌*◌, ◌≤◌, ◌<◌, ℕ, Bool, List, Option, length, map, get_or, set, refl, sym, ap, subst, ◌∙◌, Some, arith}
 use Rattle.std.specs.List.{position_or_len, remove}
 use Rattle.std.proofs.lemmas.List.{length-set}
 use Rattle.std.proofs.lemmas.List.Edits.{length-insert}
@@ -8,7 +8,9 @@ use Rattle.sctp_reassembly.specs.reassembly_queue.Fragments.{is_complete, has_ss
 use Rattle.sctp_serial.proofs.lemmas.ListEdits.{any_at, first_changed, remove-insert}
 use Rattle.sctp_reassembly.proofs.lemmas.reassembly_queue.ChunkSets.{chunks_at, chunks_none}
 use Rattle.sctp_serial.specs.Ascending.{IsOrder, upper_half}
+use Rattle.sctp_reassembly.specs.reassembly_queue.Orders.{digits, IsInOrder, IsOrderly, IsOffOnlyOutOfOrder}
 use Rattle.std.proofs.Math.Seq.{map-set_same}
+use Rattle.sctp_reassembly.proofs.lemmas.reassembly_queue.ExactMarks.{mark_on}
 use Rattle.sctp_reassembly.proofs.reassembly_queue.ordered_sets.OrderedSets.put.Goals as goal
 
 -- the place is that of the first set of the chunk's number
@@ -16,6 +18,13 @@ abbrev IsThere : ChunkPayloadData → List ChunkSet → ℕ → Type 0
 IsThere x xs i = (i ≡ position_or_len (has_ssn x.stream_sequence_number) xs) × (i < length xs)
 
 module _ (x : ChunkPayloadData) (xs : List ChunkSet) (i : ℕ) (at : IsThere x xs i) where
+  held_there : chunks_of_ssn x.stream_sequence_number xs ≡ (get_or xs i (new_set x)).chunks
+  held_there =
+      let ssn = x.stream_sequence_number in
+      let d = new_set x in
+      let within : position_or_len (has_ssn ssn) xs < length xs = omega (arith, at.0, at.1) in
+      chunks_at ssn xs d within ∙ ap (λ k. (get_or xs k d).chunks) (sym at.0)
+
   -- the chunk in the first set of its number
   put_there : (ys : List ChunkSet) → ((d : ChunkSet) → ys ≡ set xs i (with_chunk x (get_or xs i d))) → ys ≡ sets_with x xs
   put_there ys put =
@@ -34,6 +43,21 @@ module _ (x : ChunkPayloadData) (xs : List ChunkSet) (i : ℕ) (at : IsThere x x
       let within : position_or_len (has_ssn ssn) xs < length xs = omega (arith, at.0, at.1) in
       put d ∙ ap (λ k. answer_with x (get_or xs k d).chunks) at.0 ∙ ap (answer_with x) (sym (chunks_at ssn xs d within))
 
+  -- in any sets
+  walk_there : (t u v : ℕ) → u ≤ t + 2 * length xs + 4 → v ≤ u + 3 * length (get_or xs i (new_set x)).chunks + 7
+      → v ≤ t + 2 * length xs + 3 * length (chunks_of_ssn x.stream_sequence_number xs) + 11
+  walk_there t u v seek put = let e = ap length held_there in omega arith
+
+  -- in orderly ones
+  few_there : (t u v : ℕ) (ys : List ChunkSet) → length ys ≡ length xs → u ≤ t + digits (length xs) + 4
+      → ((d : ChunkSet) → IsInOrder (get_or xs i d) → IsInOrder (get_or ys i d) → v ≤ u + digits (length (get_or xs i d).chunks) + 6)
+      → IsOrderly xs → IsOrderly ys → v ≤ t + digits (length xs) + digits (length (chunks_of_ssn x.stream_sequence_number xs)) + 11
+  few_there t u v ys long seek put a b =
+      let d = new_set x in
+      let h = put d (a.fragments i d at.1) (b.fragments i d (omega (arith, long, at.1))) in
+      let e = ap (λ cs. digits (length cs)) held_there in
+      omega arith
+
 pub returns-in_default-clause-ok : goal.returns-in_default-clause-ok
 returns-in_default-clause-ok c =
     let at = rw (c.deref.ensures, c.as_deque.ensures) at c.in-Ok.ensures.there in
@@ -50,8 +74,12 @@ invariant_of-self-in-Ok c =
     let xs = c.self.inside.sets.items in
     let d = new_set c.args.chunk in
     let same = map-set_same num xs c.in-Ok.set (with_chunk c.args.chunk (get_or xs c.in-Ok.set d)) d refl in
-    let order = subst (IsOrder c.self.inside.ascending) (sym same) c.self.invariant in
-    subst (λ ys. IsOrder c.self.inside.ascending (map num ys)) (sym (c.in_ok-put-in-Ok.ensures.ok d)) order
+    let mark = c.self.inside.ascending in
+    let put = sym (c.in_ok-put-in-Ok.ensures.ok d) in
+    record {
+      order = subst (λ ys. IsOrder mark (map num ys)) put (subst (IsOrder mark) (sym same) c.self.invariant.order);
+      exact = subst (λ ys. IsOffOnlyOutOfOrder mark (map num ys)) put (subst (IsOffOnlyOutOfOrder mark) (sym same) c.self.invariant.exact);
+    }
 
 pub returns-in-Some-clause-ok : goal.returns-in-Some-clause-ok
 returns-in-Some-clause-ok c =
@@ -80,7 +108,7 @@ returns-in_ok-insert-in-Err-clause-answer c =
     let ssn = x.stream_sequence_number in
     let none = rw (c.deref.ensures, c.as_deque.ensures) at c.in-Err.ensures.free.absent in
     rw (← c.self.view_is)
-    (ap (λ b. Some b) c.is_complete-whole.ensures
+    (ap (λ b. Some b) c.is_complete_counted-whole.ensures.value
     ∙ ap (λ (s : ChunkSet). Some (is_complete s.chunks)) c.in_ok-set-in-Err.ensures.ok
     ∙ ap (answer_with x) (sym (chunks_none ssn xs none)))
 
@@ -93,3 +121,62 @@ returns-in_ok-insert-in-Err-clause-undo c =
       omega (arith, le, length-insert xs i y le, ap length c.in_ok-insert-in-Err.ensures.ok),
       ap (λ ys. remove ys i) c.in_ok-insert-in-Err.ensures.ok ∙ remove-insert xs i y le ∙ c.self.view_is,
     )
+
+pub returns-in_err-put-in-Ok-clause-cost : goal.returns-in_err-put-in-Ok-clause-cost
+returns-in_err-put-in-Ok-clause-cost c =
+    let at = rw (c.deref.ensures, c.as_deque.ensures) at c.in-Ok.ensures.there in
+    let seek = rw c.as_deque.ensures at c.seek.ensures.cost in
+    rw (← c.self.view_is) (walk_there c.args.chunk c.self.inside.sets.items c.in-Ok.set at c.args.turns.now c.seek.new.turns c.put_into.new.turns seek
+    (c.put_into.ensures.cost (new_set c.args.chunk)))
+
+pub returns-in_err-put-in-Ok-clause-few : goal.returns-in_err-put-in-Ok-clause-few
+returns-in_err-put-in-Ok-clause-few c =
+    let xs = c.self.inside.sets.items in
+    let i = c.in-Ok.set in
+    let d = new_set c.args.chunk in
+    let at = rw (c.deref.ensures, c.as_deque.ensures) at c.in-Ok.ensures.there in
+    let seek = rw c.as_deque.ensures at c.seek.ensures.few in
+    let long : length c.put_into.new.self.items ≡ length xs = ap length c.in_err-put-in-Ok.ensures.err in
+    rw (← c.self.view_is) (λ a b.
+    few_there c.args.chunk xs i at c.args.turns.now c.seek.new.turns c.put_into.new.turns c.put_into.new.self.items long
+    (seek (mark_on c.self.inside.ascending _ c.self.invariant.exact a.numbers)) c.put_into.ensures.few a b)
+
+pub returns-in_default-clause-cost : goal.returns-in_default-clause-cost
+returns-in_default-clause-cost c =
+    let at = rw (c.deref.ensures, c.as_deque.ensures) at c.in-Ok.ensures.there in
+    let seek = rw c.as_deque.ensures at c.seek.ensures.cost in
+    rw (← c.self.view_is) (walk_there c.args.chunk c.self.inside.sets.items c.in-Ok.set at c.args.turns.now c.seek.new.turns c.put_into.new.turns seek
+    (c.put_into.ensures.cost (new_set c.args.chunk)))
+
+pub returns-in_default-clause-few : goal.returns-in_default-clause-few
+returns-in_default-clause-few c =
+    let xs = c.self.inside.sets.items in
+    let i = c.in-Ok.set in
+    let d = new_set c.args.chunk in
+    let at = rw (c.deref.ensures, c.as_deque.ensures) at c.in-Ok.ensures.there in
+    let seek = rw c.as_deque.ensures at c.seek.ensures.few in
+    let long : length c.put_into.new.self.items ≡ length xs = ap length (c.in_ok-put-in-Ok.ensures.ok d)
+    ∙ length-set xs i (with_chunk c.args.chunk (get_or xs i d)) in
+    rw (← c.self.view_is) (λ a b.
+    few_there c.args.chunk xs i at c.args.turns.now c.seek.new.turns c.put_into.new.turns c.put_into.new.self.items long
+    (seek (mark_on c.self.inside.ascending _ c.self.invariant.exact a.numbers)) c.put_into.ensures.few a b)
+
+pub returns-in-Some-clause-cost : goal.returns-in-Some-clause-cost
+returns-in-Some-clause-cost c =
+    let at = rw (c.deref.ensures, c.as_deque.ensures) at c.in-Ok.ensures.there in
+    let seek = rw c.as_deque.ensures at c.seek.ensures.cost in
+    rw (← c.self.view_is) (walk_there c.args.chunk c.self.inside.sets.items c.in-Ok.set at c.args.turns.now c.seek.new.turns c.put_into.new.turns seek
+    (c.put_into.ensures.cost (new_set c.args.chunk)))
+
+pub returns-in-Some-clause-few : goal.returns-in-Some-clause-few
+returns-in-Some-clause-few c =
+    let xs = c.self.inside.sets.items in
+    let i = c.in-Ok.set in
+    let d = new_set c.args.chunk in
+    let at = rw (c.deref.ensures, c.as_deque.ensures) at c.in-Ok.ensures.there in
+    let seek = rw c.as_deque.ensures at c.seek.ensures.few in
+    let long : length c.put_into.new.self.items ≡ length xs = ap length (c.in_ok-put-in-Ok.ensures.ok d)
+    ∙ length-set xs i (with_chunk c.args.chunk (get_or xs i d)) in
+    rw (← c.self.view_is) (λ a b.
+    few_there c.args.chunk xs i at c.args.turns.now c.seek.new.turns c.put_into.new.turns c.put_into.new.self.items long
+    (seek (mark_on c.self.inside.ascending _ c.self.invariant.exact a.numbers)) c.put_into.ensures.few a b)

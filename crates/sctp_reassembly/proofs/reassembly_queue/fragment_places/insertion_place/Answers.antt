@@ -3,7 +3,7 @@ use Rattle.std.specs.List.{position_or_len, insert}
 use Rattle.sctp_list_lemmas.specs.Serial.{comes_before}
 use Rattle.sctp_serial.specs.DataChunks.{chunk_before}
 use Rattle.sctp_serial.proofs.lemmas.ListEdits.{inserted-position}
-use Rattle.sctp_reassembly.proofs.reassembly_queue.chunks.insertion_place.Goals as goal
+use Rattle.sctp_reassembly.proofs.reassembly_queue.fragment_places.insertion_place.Goals as goal
 
 pub returns-clause-inserted : goal.returns-clause-inserted
 returns-clause-inserted c x e =

@@ -1,7 +1,7 @@
 use Rattle.std.proofs.Common.{sym, subst}
 use Rattle.sctp_reassembly.specs.reassembly_queue.ReassemblyQueue.{IsCounted}
 use Rattle.sctp_reassembly.proofs.lemmas.reassembly_queue.ByteCounts.{ordered_counted, unordered_counted, either, either_of}
-use Rattle.sctp_reassembly.proofs.reassembly_queue.ReassemblyQueue.push_undoable.Goals as goal
+use Rattle.sctp_reassembly.proofs.reassembly_queue.ReassemblyQueue.push_undoable_counted.Goals as goal
 
 pub returns-then-chunk-clause-counted : goal.returns-then-chunk-clause-counted
 returns-then-chunk-clause-counted c fits h =

@@ -1,7 +1,7 @@
 use Rattle.std.proofs.Common.{◌-◌, ap, ◌∙◌}
 use Rattle.sctp_serial.specs.DataChunks.{bytes_of}
 use Rattle.sctp_reassembly.specs.reassembly_queue.ReassemblyQueue.{ReassemblyState, rest_read, bytes_read}
-use Rattle.sctp_reassembly.proofs.reassembly_queue.ReassemblyQueue.read.Goals as goal
+use Rattle.sctp_reassembly.proofs.reassembly_queue.ReassemblyQueue.read_counted.Goals as goal
 
 pub returns-clause-rest : goal.returns-clause-rest
 returns-clause-rest c =
