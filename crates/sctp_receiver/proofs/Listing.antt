@@ -1,7 +1,7 @@
 -- The streams that a FORWARD-TSN visits, as calls change them.
 use Rattle.std.proofs.Common.{◌≡◌, ℕ, ◌+◌, ◌<◌, Bool, true, false, List, [], ◌∷◌, ◌++◌, length, length-append, ap, sym, ◌∙◌, arith}
 use Rattle.std.specs.Prelude.{◌==◌, ◌&&◌, ◌||◌, slice_get, slice_index_or, slice_set}
-use Rattle.std.proofs.lemmas.Option.{slice_get_within, slice_get_past}
+use Rattle.std.proofs.lemmas.Option.{slice_get_past}
 use Rattle.sctp_list_lemmas.proofs.Cases.{by_same, some-same}
 use Rattle.sctp_list_lemmas.proofs.More.{not_both}
 use Rattle.sctp_receiver.specs.declared.receiver.inbound_streams.InboundStream.{InboundStream}
@@ -58,9 +58,3 @@ one-opened v w ls l listing places same none = record {
   where
     past : (p : ℕ) → p ≡ length ls → is_visited p v ≡ false
     past p z = ap (is_spot_before v.count) (slice_get_past v.spots p (omega (arith, z, listing.listed.places)))
-
-pub nothing-opened : (v : VisitOrder) → v.spots ≡ [] → IsListing v []
-nothing-opened v none = record {
-  listed = record { places = ap length none; others = λ p x e h. absurd (omega (arith, slice_get_within [] p x e)) };
-  visited = λ p x e h. absurd (omega (arith, slice_get_within [] p x e));
-}

@@ -37,13 +37,6 @@ none-incomplete q h =
     let parts = neither (not (length q.unassembled == 0)) (not (length q.ordered == 0)) h in
     ap (λ b. b || list_any is_incomplete q.ordered) parts.0 ∙ ap (list_any is_incomplete) (is-empty q.ordered parts.1)
 
-pub incomplete-any : (q : Reassembly) → holds_incomplete q ≡ true → holds_any q ≡ true
-incomplete-any q h = by (holds_any q) refl
-  where
-    by : (b : Bool) → holds_any q ≡ b → b ≡ true
-    by true e = refl
-    by false e = absurd (not_both (sym (none-incomplete q e) ∙ h))
-
 -- ## Skips
 
 any-less : {A : Type 0} (p r : A → Bool) → ((x : A) → p x ≡ false → r x ≡ false) → (xs : List A) → list_any p xs ≡ false → list_any r xs ≡ false

@@ -163,26 +163,3 @@ pub more-visited : (order spots : List ℕ) (count : ℕ) → count ≤ length o
 more-visited order spots count within p = by_same p (length spots)
     (λ e. rw (e, end-here spots (length order), slice_get_past spots (length spots) (omega arith)) (le-ltb (length order) count within))
     (λ ne t. ap (is_spot_before count) (end-there spots (length order) p ne))
-
-pub same-inverse : (order spots : List ℕ) (n : ℕ) → length order ≡ n → length spots ≡ n → ((i : ℕ) → i < n → slice_get order i ≡ Some i)
-    → ((i : ℕ) → i < n → slice_get spots i ≡ Some i) → AreInverse order spots
-same-inverse order spots n lo ls os ss i p = (
-  λ at. let lt : i < n = omega (arith, slice_get_within order i p at, lo) in let e = some-same (sym at ∙ os i lt) in
-      ap (slice_get spots) e ∙ ss i lt,
-  λ at. let lt : p < n = omega (arith, slice_get_within spots p i at, ls) in let e = some-same (sym at ∙ ss p lt) in
-      ap (slice_get order) e ∙ os p lt,
-)
-
-pub none-visited : (spots : List ℕ) (p : ℕ) → is_spot_before 0 (slice_get spots p) ≡ false
-none-visited spots p = by (slice_get spots p)
-  where
-    by : (o : Option ℕ) → is_spot_before 0 o ≡ false
-    by None = refl
-    by (Some i) = le-ltb i 0 (omega arith)
-
--- the number at a spot is written
-pub counted-on : (xs : List ℕ) (i : ℕ) → i < length xs → ((k : ℕ) → k < i → slice_get xs k ≡ Some k) → (k : ℕ) → k < i + 1
-    → slice_get (slice_set xs i i) k ≡ Some k
-counted-on xs i lt before k less = by_same k i
-    (λ e. rw e (set-here xs i i lt))
-    (λ ne t. set-there xs i k i ne ∙ before k (omega (arith, less, ne)))
