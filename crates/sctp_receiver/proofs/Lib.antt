@@ -1,6 +1,7 @@
 pub mod TsnLists
 pub mod Marks
 pub mod FilterCalls
+pub mod FilterCosts
 pub mod Retracts
 pub mod Inbounds
 pub mod Undone
@@ -17,6 +18,10 @@ pub mod Ssns
 pub mod Handed
 pub mod Closed
 pub mod CostSums
+pub mod VisitOrders
+pub mod Visiting
+pub mod Settled
+pub mod Listing
 pub mod GapCounts
 pub mod StreamCosts
 pub mod HeldBound

@@ -8,3 +8,5 @@ pub mod Resets
 pub mod Skips
 pub mod ReceiverRuns
 pub mod Undo
+pub mod Visited
+pub mod Costs

@@ -1,6 +1,6 @@
 //! The receiving half of a link (RFC 4960 6.2; RFC 3758 3.6).
 
-ghost use Rattle.std.specs.Prelude.{◌≡◌, ◌==◌, ◌⊎◌, true, false, not, None, Some, OnOk, OnErr, IfOk, IfErr, IsOk, IsOkUnless, option_map, option_copied, is_some, map, min, length, slice_index_or, ◌<◌, ◌-◌, ◌^◌, if◌then◌else◌};
+ghost use Rattle.std.specs.Prelude.{◌≡◌, ◌==◌, ◌⊎◌, true, false, not, None, Some, OnOk, OnErr, IfOk, IfErr, IsOk, IsOkUnless, option_map, option_copied, is_some, map, min, length, slice_index_or, ◌<◌, ◌≤◌, ◌+◌, ◌-◌, ◌^◌, if◌then◌else◌};
 ghost use Rattle.sctp_data.specs.declared.chunk.chunk_forward_tsn.ChunkForwardTsnStream.{ChunkForwardTsnStream};
 ghost use Rattle.sctp_list_lemmas.specs.Lists.{change_where};
 ghost use Rattle.sctp_receiver.specs.Inbound.{named_forwarded, has_number, ssn_forwarded};
@@ -18,6 +18,8 @@ pub mod skipping;
 mod ssns;
 pub(crate) mod taking;
 pub mod tsn_filter;
+mod visiting;
+mod visits;
 
 use self::arrival::{Arrival, Forwarded};
 use self::inbound_streams::{InboundStream, InboundStreams};
@@ -31,6 +33,7 @@ use sctp_data::chunk::chunk_payload_data::{ChunkPayloadData, PayloadProtocolIden
 use sctp_outbound::payload_queue::PayloadQueue;
 use sctp_reassembly::chunks::Chunks;
 use sctp_reassembly::reassembly_queue::ReassemblyQueue;
+use sctp_serial::turns::Turns;
 use sctp_stream::stream::DataChannelStats;
 use std::alloc::Global;
 use std::marker::Model;
@@ -68,6 +71,7 @@ impl Model for Receiver {
 impl Receiver {
     ghost use Rattle.sctp_data.specs.ForwardTsn.{forward_tsn_of};
     ghost use Rattle.sctp_reassembly.specs.reassembly_queue.ReassemblyQueue.{at_start};
+    ghost use Rattle.sctp_receiver.specs.Costs.{names_turns};
     ghost use Rattle.sctp_receiver.specs.Ssns.{is_kept_on};
     ghost use Rattle.sctp_receiver.specs.TsnFilter.{has_come, mark};
     ghost use Rattle.sctp_serial.specs.DataChunks.{bytes_of};
@@ -299,6 +303,29 @@ impl Receiver {
             ≡ Some e) }
         ensures err { OnErr result (self.new ≡ self.old) }
     {
+        self.forward_tsn_by_names_counted(chunk, &mut Turns::new())
+    }
+
+    /// The same, and its turns are added: at most one for each name, one for each stream that has unassembled fragments or ordered
+    /// messages that were not read, one for each TSN beyond that leaves, and one more. A name that repeats the one before it takes its
+    /// turn, and nothing is looked at for it; what another name looks at in its stream takes no turn.
+    pub fn forward_tsn_by_names_counted(
+        &mut self,
+        chunk: &ChunkForwardTsn,
+        turns: &mut Turns,
+    ) -> Result<Forwarded, ReceiverRefusal>
+        ensures answer { IfOk result (λ forwarded. forwarded
+            ≡ forwarded_of (forward_tsn_of chunk.now) self.old) }
+        ensures ok { OnOk result (self.new ≡ after_forward (forward_tsn_of chunk.now) self.old) }
+        ensures accepted { IsOk result
+            → forward_refusal (forward_tsn_of chunk.now) self.old ≡ None }
+        ensures refused { IfErr result (λ e. forward_refusal (forward_tsn_of chunk.now) self.old
+            ≡ Some e) }
+        ensures err { OnErr result (self.new ≡ self.old) }
+        ensures not_back { turns.old ≤ turns.new }
+        ensures cost { turns.new
+            ≤ turns.old + names_turns (forward_tsn_of chunk.now) self.old self.new }
+    {
         let tsn = chunk.new_cumulative_tsn;
         if self.filter.is_opposite(tsn) {
             return Err(ReceiverRefusal::TsnOpposite);
@@ -306,9 +333,9 @@ impl Receiver {
         if sna32lte(tsn, self.filter.cumulative_tsn()) {
             return Ok(Forwarded::Stale);
         }
-        forward_named(&mut self.streams, &chunk.streams);
-        self.streams.forward_unordered(tsn);
-        self.filter.skip_to(tsn);
+        forward_named(&mut self.streams, &chunk.streams, turns);
+        self.streams.forward_unordered_counted(tsn, turns);
+        self.filter.skip_to_counted(tsn, turns);
         Ok(Forwarded::Skipped)
     }
 
@@ -350,10 +377,13 @@ impl Receiver {
 }
 
 // Discards what a FORWARD-TSN names, one name after another. A name that repeats the one before it changes nothing, and costs no walk.
-fn forward_named(streams: &mut InboundStreams, names: &[ChunkForwardTsnStream])
-    ensures { streams.new ≡ named_forwarded names.now streams.old }
+// A turn is taken for each name.
+fn forward_named(streams: &mut InboundStreams, names: &[ChunkForwardTsnStream], turns: &mut Turns)
+    ensures value { streams.new ≡ named_forwarded names.now streams.old }
+    ensures cost { turns.new ≡ turns.old + length names.now }
 {
     for place in 0..names.len() {
+        turns.tick();
         if is_repeat(names, place) {
             continue;
         }

@@ -14,13 +14,17 @@ ghost use Rattle.sctp_receiver.specs.Receiver.{readable_streams};
 ghost use Rattle.sctp_receiver.specs.Resets.{stream_reset, keeps_message};
 ghost use Rattle.sctp_receiver.specs.Skips.{incomplete_forwarded};
 ghost use Rattle.sctp_receiver.specs.Undo.{stream_undone, undone_on, CanUndoOn};
+ghost use Rattle.sctp_receiver.specs.Visited.{skip_forwarded, to_visit};
 
 use crate::receiver::limits::{cost_of, cost_of_each};
 use crate::receiver::refusal::ReceiverRefusal;
+use crate::receiver::visiting::{Skip, forward_each, renew, settle, visit_all};
+use crate::receiver::visits::Visits;
 use sctp_data::chunk::chunk_payload_data::ChunkPayloadData;
 use sctp_reassembly::chunks::Chunks;
 use sctp_reassembly::reassembly_queue::ReassemblyQueue;
 use sctp_reassembly::reassembly_queue::undo::PushUndo;
+use sctp_serial::turns::Turns;
 use sctp_stream::stream::DataChannelStats;
 use sctp_stream::stream_numbers::{StreamNumbers, put};
 use std::alloc::Global;
@@ -124,12 +128,15 @@ impl InboundStream {
 }
 
 /// The streams of a receiver, in the order in which they were opened. Each is found at once by its number, and the sum of what they
-/// hold is kept: of each stream up to the greatest usize, so that it can be lowered again.
+/// hold is kept: of each stream up to the greatest usize, so that it can be lowered again. So are the places of the streams that a
+/// FORWARD-TSN visits: of each that holds something incomplete, and of none that holds neither ordered messages nor unassembled
+/// fragments.
 #[derive(Drop)]
 pub struct InboundStreams {
     numbers: StreamNumbers,
     items: Vec<InboundStream>,
     cost: u128,
+    visits: Visits,
 }
 
 impl Model for InboundStreams {
@@ -138,6 +145,7 @@ impl Model for InboundStreams {
     ghost use Rattle.std.specs.List.{sum_by};
     ghost use Rattle.sctp_receiver.specs.Inbound.{numbers_of};
     ghost use Rattle.sctp_receiver.specs.Limits.{cost_within};
+    ghost use Rattle.sctp_receiver.specs.Visited.{IsListing};
 
     ghost Value = { List InboundStream };
 
@@ -146,6 +154,7 @@ impl Model for InboundStreams {
     ghost invariant = { λ s. record {
       numbers : s.numbers ≡ numbers_of s.items.items;
       cost : s.cost ≡ sum_by cost_within s.items.items;
+      visits : IsListing s.visits s.items.items;
     } };
 }
 
@@ -162,6 +171,7 @@ impl InboundStreams {
             numbers: StreamNumbers::new(alloc),
             items: Vec::new(alloc),
             cost: 0,
+            visits: Visits::new(alloc),
         }
     }
 
@@ -219,11 +229,12 @@ impl InboundStreams {
         ensures memory { IfErr result (λ e. e ≡ OutOfMemory) }
     {
         let opened = InboundStream::new(alloc, stream, max_message_size);
-        if self.items.reserve(1).is_err() {
+        if self.items.reserve(1).is_err() || self.visits.reserve().is_err() {
             return Err(ReceiverRefusal::OutOfMemory);
         }
         self.numbers.push(stream)?;
         put(&mut self.items, opened);
+        self.visits.push();
         Ok(())
     }
 
@@ -237,6 +248,7 @@ impl InboundStreams {
         let closed = self.items.remove(place);
         self.cost -= cost_of(&closed.queue) as u128;
         self.numbers.remove(stream);
+        visit_all(&mut self.visits, &self.items);
     }
 
     /// Takes a fragment on the stream at a place, and answers whether a message became complete by it, and what `undo_push_at` takes it
@@ -264,6 +276,7 @@ impl InboundStreams {
         let before = cost_of(&stream.queue);
         let pushed = stream.push_undoable(chunk);
         self.cost = moved(self.cost, before, cost_of(&stream.queue));
+        renew(&mut self.visits, place, &stream.queue, true);
         pushed
     }
 
@@ -278,6 +291,7 @@ impl InboundStreams {
         let before = cost_of(&inbound.queue);
         inbound.undo_push(undo);
         self.cost = moved(self.cost, before, cost_of(&inbound.queue));
+        renew(&mut self.visits, place, &inbound.queue, true);
     }
 
     /// Takes the next message of a stream out, where there is one. It takes no memory.
@@ -293,6 +307,7 @@ impl InboundStreams {
         let before = cost_of(&inbound.queue);
         let message = inbound.read();
         self.cost = moved(self.cost, before, cost_of(&inbound.queue));
+        renew(&mut self.visits, place, &inbound.queue, false);
         message
     }
 
@@ -318,6 +333,7 @@ impl InboundStreams {
         let before = cost_of(&inbound.queue);
         let answer = inbound.reset(last_tsn);
         self.cost = moved(self.cost, before, cost_of(&inbound.queue));
+        renew(&mut self.visits, place, &inbound.queue, true);
         answer
     }
 
@@ -336,6 +352,7 @@ impl InboundStreams {
         ensures { self.new ≡ saved.items }
     {
         self.cost = cost_of_each(&saved);
+        visit_all(&mut self.visits, &saved);
         self.items = saved;
     }
 
@@ -350,14 +367,23 @@ impl InboundStreams {
         let before = cost_of(&inbound.queue);
         inbound.queue.forward_tsn_for_ordered(ssn);
         self.cost = moved(self.cost, before, cost_of(&inbound.queue));
+        renew(&mut self.visits, place, &inbound.queue, false);
     }
 
     /// Discards the unassembled fragments of all streams up to a TSN (RFC 3758 3.6). It takes no memory.
     pub fn forward_unordered(&mut self, tsn: u32)
         ensures { self.new ≡ map (unassembled_forwarded tsn) self.old }
     {
-        forward_each(&mut self.items, tsn);
-        self.cost = cost_of_each(&self.items);
+        self.forward_unordered_counted(tsn, &mut Turns::new());
+    }
+
+    /// The same, and its turns are added: at most one for each stream that has unassembled fragments or ordered messages.
+    pub fn forward_unordered_counted(&mut self, tsn: u32, turns: &mut Turns)
+        ensures value { self.new ≡ map (unassembled_forwarded tsn) self.old }
+        ensures not_back { turns.old ≤ turns.new }
+        ensures cost { turns.new ≤ turns.old + length (to_visit self.old) }
+    {
+        self.forward(Skip::Unassembled, tsn, turns);
     }
 
     /// Discards the incomplete ordered messages of all streams that miss a TSN at or before the given one (RFC 3758 3.6). It takes no
@@ -365,15 +391,32 @@ impl InboundStreams {
     pub fn forward_incomplete(&mut self, tsn: u32)
         ensures { self.new ≡ map (incomplete_forwarded tsn) self.old }
     {
-        forward_incomplete_each(&mut self.items, tsn);
-        let cost = cost_of_each(&self.items);
-        self.cost = cost;
+        self.forward_incomplete_counted(tsn, &mut Turns::new());
+    }
+
+    /// The same, and its turns are added: at most one for each stream that has unassembled fragments or ordered messages.
+    pub fn forward_incomplete_counted(&mut self, tsn: u32, turns: &mut Turns)
+        ensures value { self.new ≡ map (incomplete_forwarded tsn) self.old }
+        ensures not_back { turns.old ≤ turns.new }
+        ensures cost { turns.new ≤ turns.old + length (to_visit self.old) }
+    {
+        self.forward(Skip::Incomplete, tsn, turns);
+    }
+
+    // Discards so on all streams. Only those that may hold something incomplete are visited, and a turn is taken for each.
+    fn forward(&mut self, skip: Skip, tsn: u32, turns: &mut Turns)
+        ensures value { self.new ≡ map (skip_forwarded skip tsn) self.old }
+        ensures not_back { turns.old ≤ turns.new }
+        ensures cost { turns.new ≤ turns.old + length (to_visit self.old) }
+    {
+        self.cost = forward_each(&mut self.items, self.cost, &self.visits, skip, tsn, turns);
+        settle(&mut self.visits, &self.items, skip);
     }
 }
 
 // A sum of which one term changes.
 // Precondition: the term is a part of it, and the new sum fits.
-fn moved(total: u128, before: usize, after: usize) -> u128
+pub(crate) fn moved(total: u128, before: usize, after: usize) -> u128
     requires part { before ≤ total }
     requires fits { total - before + after < 2 ^ 128 }
     ensures { result ≡ total - before + after }
@@ -414,24 +457,6 @@ fn readable_each(alloc: Global, streams: &[InboundStream]) -> Result<Vec<u16>, R
         }
     }
     Ok(numbers)
-}
-
-// So on each stream.
-fn forward_each(streams: &mut Vec<InboundStream>, tsn: u32)
-    ensures { streams.new.items ≡ map (unassembled_forwarded tsn) streams.old.items }
-{
-    for place in 0..streams.len() {
-        streams[place].queue.forward_tsn_for_unordered(tsn);
-    }
-}
-
-// So on each stream.
-fn forward_incomplete_each(streams: &mut Vec<InboundStream>, tsn: u32)
-    ensures { streams.new.items ≡ map (incomplete_forwarded tsn) streams.old.items }
-{
-    for place in 0..streams.len() {
-        streams[place].queue.forward_tsn_for_incomplete(tsn);
-    }
 }
 
 // Why a chunk for which memory was wanting is refused: for that alone, where its message would not be too long. It takes no

@@ -1,14 +1,16 @@
 //! A FORWARD-TSN, and what no name of it covers (RFC 3758 3.6).
 
-ghost use Rattle.std.specs.Prelude.{◌≡◌, false, None, Some, OnOk, OnErr, IfOk, IfErr, IsOk};
+ghost use Rattle.std.specs.Prelude.{◌≡◌, ◌≤◌, ◌+◌, false, None, Some, OnOk, OnErr, IfOk, IfErr, IsOk};
 ghost use Rattle.sctp_data.specs.ForwardTsn.{forward_tsn_of};
 
 use crate::receiver::Receiver;
 use crate::receiver::arrival::Forwarded;
 use crate::receiver::refusal::ReceiverRefusal;
 use sctp_data::chunk::chunk_forward_tsn::ChunkForwardTsn;
+use sctp_serial::turns::Turns;
 
 impl Receiver {
+    ghost use Rattle.sctp_receiver.specs.Costs.{forward_turns};
     ghost use Rattle.sctp_receiver.specs.Receiver.{forwarded_of, after_forward};
     ghost use Rattle.sctp_receiver.specs.Skips.{after_forward_tsn, has_incomplete, past_closed_refusal, skip_refusal};
 
@@ -40,10 +42,38 @@ impl Receiver {
             (after_forward (forward_tsn_of chunk.now) self.old).streams ≡ false
             → OnOk result (self.new ≡ after_forward (forward_tsn_of chunk.now) self.old) }
     {
+        self.forward_tsn_counted(chunk, &mut Turns::new())
+    }
+
+    /// The same, and its turns are added: at most one for each name, two for each stream that has unassembled fragments or ordered
+    /// messages that were not read, one for each TSN beyond that leaves, and one more. A name that repeats the one before it takes its
+    /// turn, and nothing is looked at for it but in the tests of the refusals; what these tests, another name and a visit look at in a
+    /// stream takes no turn.
+    pub fn forward_tsn_counted(
+        &mut self,
+        chunk: &ChunkForwardTsn,
+        turns: &mut Turns,
+    ) -> Result<Forwarded, ReceiverRefusal>
+        ensures answer { IfOk result (λ forwarded. forwarded
+            ≡ forwarded_of (forward_tsn_of chunk.now) self.old) }
+        ensures ok { OnOk result (self.new
+            ≡ after_forward_tsn (forward_tsn_of chunk.now) self.old) }
+        ensures accepted { IsOk result
+            → skip_refusal (forward_tsn_of chunk.now) self.old ≡ None }
+        ensures refused { IfErr result (λ e. skip_refusal (forward_tsn_of chunk.now) self.old
+            ≡ Some e) }
+        ensures err { OnErr result (self.new ≡ self.old) }
+        ensures agrees { has_incomplete chunk.now.new_cumulative_tsn
+            (after_forward (forward_tsn_of chunk.now) self.old).streams ≡ false
+            → OnOk result (self.new ≡ after_forward (forward_tsn_of chunk.now) self.old) }
+        ensures not_back { turns.old ≤ turns.new }
+        ensures cost { turns.new
+            ≤ turns.old + forward_turns (forward_tsn_of chunk.now) self.old self.new }
+    {
         if self.names_closed(chunk) {
             return Err(ReceiverRefusal::NamedStreamUnknown);
         }
-        self.forward_tsn_past_closed(chunk)
+        self.forward_tsn_past_closed_counted(chunk, turns)
     }
 
     /// Takes a FORWARD-TSN as `forward_tsn` does, but for `NamedStreamUnknown`: what it names on a stream that is not open is passed over,
@@ -65,12 +95,38 @@ impl Receiver {
             (after_forward (forward_tsn_of chunk.now) self.old).streams ≡ false
             → OnOk result (self.new ≡ after_forward (forward_tsn_of chunk.now) self.old) }
     {
+        self.forward_tsn_past_closed_counted(chunk, &mut Turns::new())
+    }
+
+    /// The same, and its turns are added as `forward_tsn_counted` adds them.
+    pub fn forward_tsn_past_closed_counted(
+        &mut self,
+        chunk: &ChunkForwardTsn,
+        turns: &mut Turns,
+    ) -> Result<Forwarded, ReceiverRefusal>
+        ensures answer { IfOk result (λ forwarded. forwarded
+            ≡ forwarded_of (forward_tsn_of chunk.now) self.old) }
+        ensures ok { OnOk result (self.new
+            ≡ after_forward_tsn (forward_tsn_of chunk.now) self.old) }
+        ensures accepted { IsOk result
+            → past_closed_refusal (forward_tsn_of chunk.now) self.old ≡ None }
+        ensures refused { IfErr result
+            (λ e. past_closed_refusal (forward_tsn_of chunk.now) self.old ≡ Some e) }
+        ensures err { OnErr result (self.new ≡ self.old) }
+        ensures agrees { has_incomplete chunk.now.new_cumulative_tsn
+            (after_forward (forward_tsn_of chunk.now) self.old).streams ≡ false
+            → OnOk result (self.new ≡ after_forward (forward_tsn_of chunk.now) self.old) }
+        ensures not_back { turns.old ≤ turns.new }
+        ensures cost { turns.new
+            ≤ turns.old + forward_turns (forward_tsn_of chunk.now) self.old self.new }
+    {
         if self.names_too_far(chunk) {
             return Err(ReceiverRefusal::NamedSsnTooFar);
         }
-        let forwarded = self.forward_tsn_by_names(chunk)?;
+        let forwarded = self.forward_tsn_by_names_counted(chunk, turns)?;
         if let Forwarded::Skipped = forwarded {
-            self.streams.forward_incomplete(chunk.new_cumulative_tsn);
+            self.streams
+                .forward_incomplete_counted(chunk.new_cumulative_tsn, turns);
         }
         Ok(forwarded)
     }

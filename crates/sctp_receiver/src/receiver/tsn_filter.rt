@@ -1,11 +1,13 @@
 //! The TSNs that came (RFC 4960 6.2).
 
-ghost use Rattle.std.specs.Prelude.{◌≡◌, ◌==◌, ◌<◌, ◌≤◌, ◌+◌, ◌^◌, ◌∷◌, ◌++◌, [], ℕ, true, false, OnOk, OnErr, IfOk, IsOkUnless, length, map, drop, take, slice_get, IsTrue};
+ghost use Rattle.std.specs.Prelude.{◌≡◌, ◌==◌, ◌<◌, ◌≤◌, ◌+◌, ◌-◌, ◌^◌, ◌∷◌, ◌++◌, [], ℕ, true, false, OnOk, OnErr, IfOk, IsOkUnless, length, map, drop, take, slice_get, min, IsTrue};
 ghost use Rattle.sctp_base.specs.declared.error.Error.TheVariants.{ErrOutOfMemory};
 ghost use Rattle.sctp_list_lemmas.specs.Lists.{advance_over};
 ghost use Rattle.sctp_list_lemmas.specs.Serial.{comes_before};
+ghost use Rattle.sctp_receiver.specs.Costs.{IsWithinBlocks};
 ghost use Rattle.sctp_receiver.specs.TsnFilter.{mark};
 ghost use Rattle.sctp_serial.specs.DataChunks.{following_tsn, preceding_tsn, tsns};
+ghost use Rattle.sctp_serial.specs.Turns.{IsWithinDigits};
 
 pub mod undo;
 
@@ -101,11 +103,19 @@ impl TsnFilter {
     pub fn has_come(&self, tsn: u32) -> bool
         ensures { result ≡ has_come tsn self.now }
     {
+        self.has_come_counted(tsn, &mut Turns::new())
+    }
+
+    /// The same, and its turns are added: at most as many as the number of TSNs beyond has binary digits.
+    pub fn has_come_counted(&self, tsn: u32, turns: &mut Turns) -> bool
+        ensures answer { result ≡ has_come tsn self.now }
+        ensures not_back { turns.old ≤ turns.new }
+        ensures cost { IsWithinDigits (length self.now.beyond) (turns.new - turns.old) }
+    {
         if tsn == self.cumulative_tsn.wrapping_add(1) {
             return false;
         }
-        sna32lte(tsn, self.cumulative_tsn)
-            || self.queue.get_counted(tsn, &mut Turns::new()).is_some()
+        sna32lte(tsn, self.cumulative_tsn) || self.queue.get_counted(tsn, turns).is_some()
     }
 
     /// Whether a TSN is neither before nor after the cumulative one.
@@ -156,7 +166,7 @@ impl TsnFilter {
             ≡ self.old.room + length self.old.beyond }
     {
         if tsn == self.cumulative_tsn.wrapping_add(1) {
-            self.cumulative_tsn = advance(&mut self.queue, tsn);
+            self.cumulative_tsn = advance(&mut self.queue, tsn, &mut Turns::new());
             return;
         }
         let _ = self.queue.push(mark(tsn), self.cumulative_tsn);
@@ -180,9 +190,20 @@ impl TsnFilter {
         requires { comes_before self.old.cumulative_tsn tsn ≡ true }
         ensures { self.new ≡ skipped_to tsn self.old }
     {
+        self.skip_to_counted(tsn, &mut Turns::new());
+    }
+
+    /// The same, and its turns are added: at most one more than TSNs beyond leave.
+    pub fn skip_to_counted(&mut self, tsn: u32, turns: &mut Turns)
+        requires { comes_before self.old.cumulative_tsn tsn ≡ true }
+        ensures value { self.new ≡ skipped_to tsn self.old }
+        ensures not_back { turns.old ≤ turns.new }
+        ensures cost { turns.new + length self.new.beyond
+            ≤ turns.old + length self.old.beyond + 1 }
+    {
         let room = self.queue.room();
-        self.queue.pop_up_to(tsn);
-        self.cumulative_tsn = advance(&mut self.queue, tsn);
+        self.queue.pop_up_to_counted(tsn, turns);
+        self.cumulative_tsn = advance(&mut self.queue, tsn, turns);
         self.queue.limit_room(room);
     }
 
@@ -200,7 +221,25 @@ impl TsnFilter {
         ensures blocks { IfOk result (λ blocks. blocks.items ≡ take most (gap_ack_blocks self.now)) }
         ensures memory { IsOkUnless result ErrOutOfMemory }
     {
-        let turns = &mut Turns::new();
+        self.gap_ack_blocks_within_counted(alloc, most, &mut Turns::new())
+    }
+
+    /// The same, and its turns are added: at most 34 for each block, one more, and as many as the number of TSNs beyond has binary
+    /// digits; where memory runs out, for each block that there would be else.
+    pub fn gap_ack_blocks_within_counted(
+        &self,
+        alloc: Global,
+        most: usize,
+        turns: &mut Turns,
+    ) -> Result<Vec<GapAckBlock>>
+        ensures blocks { IfOk result (λ blocks. blocks.items ≡ take most (gap_ack_blocks self.now)) }
+        ensures memory { IsOkUnless result ErrOutOfMemory }
+        ensures not_back { turns.old ≤ turns.new }
+        ensures cost { IfOk result (λ blocks. IsWithinBlocks
+            (length blocks.items) (length self.now.beyond) (turns.new - turns.old)) }
+        ensures cost_of_blocks { IsWithinBlocks (min most (length (gap_ack_blocks self.now)))
+            (length self.now.beyond) (turns.new - turns.old) }
+    {
         let from = self.cumulative_tsn;
         let blocks = self
             .queue
@@ -250,8 +289,9 @@ fn mark(tsn: u32) -> ChunkPayloadData
     }
 }
 
-// Moves the cumulative TSN over the chunks that stand next to it, which leave the queue (RFC 4960 6.2): their places are room then.
-fn advance(queue: &mut PayloadQueue, cumulative_tsn: u32) -> u32
+// Moves the cumulative TSN over the chunks that stand next to it, which leave the queue (RFC 4960 6.2): their places are room then. A
+// turn is taken for each that leaves.
+fn advance(queue: &mut PayloadQueue, cumulative_tsn: u32, turns: &mut Turns) -> u32
     ensures moved { advance_over cumulative_tsn (tsns queue.old.chunks)
         ≡ record { cum = result; held = tsns queue.new.chunks } }
     ensures marks { queue.old.chunks ≡ map mark (tsns queue.old.chunks)
@@ -260,9 +300,12 @@ fn advance(queue: &mut PayloadQueue, cumulative_tsn: u32) -> u32
         ≡ record queue.old { chunks = queue.new.chunks; room = queue.new.room } }
     ensures places { length queue.new.chunks + queue.new.room
         ≡ length queue.old.chunks + queue.old.room }
+    ensures cost { turns.new + length queue.new.chunks ≡ turns.old + length queue.old.chunks }
+    ensures not_back { turns.old ≤ turns.new }
 {
     let mut cumulative_tsn = cumulative_tsn;
     while let Some(_) = queue.pop_leaving_room(cumulative_tsn.wrapping_add(1)) {
+        turns.tick();
         cumulative_tsn = cumulative_tsn.wrapping_add(1);
     }
     cumulative_tsn

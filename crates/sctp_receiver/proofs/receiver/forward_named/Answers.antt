@@ -20,4 +20,5 @@ loop-place-preserved-then-is_repeat c =
     record {
       so_far = c.loop-place.invariant.so_far ∙ next;
       settled = λ pos d. rw back (here d);
+      turns = omega (arith, c.loop-place.invariant.turns, c.tick.ensures);
     }

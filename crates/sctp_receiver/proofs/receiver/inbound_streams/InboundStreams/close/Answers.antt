@@ -1,7 +1,8 @@
-use Rattle.std.proofs.Common.{rules, ◌≡◌, ap, ◌∙◌, sym, arith}
+use Rattle.std.proofs.Common.{rules, ◌≡◌, ap, ◌∙◌, sym, subst, arith}
 use Rattle.std.specs.Prelude.{slice_index_or}
 use Rattle.std.specs.List.{sum_by}
 use Rattle.sctp_receiver.specs.Limits.{cost_within}
+use Rattle.sctp_receiver.specs.Visited.{IsListing}
 use Rattle.sctp_receiver.proofs.CostSums.{removed-sum}
 use Rattle.sctp_receiver.specs.Inbound.{number, numbers_of}
 use Rattle.sctp_stream.proofs.StreamPlaces.{absent-those, inside, without, numbers-without}
@@ -27,6 +28,7 @@ invariant_of-self c =
           ∙ numbers-without number c.self.inside.items.items c.self.inside.numbers c.self.invariant.numbers c.args.stream c.in-Some.place c.in-Some.ensures
           ∙ ap numbers_of (sym c.remove-closed.ensures.items);
       cost = omega (arith, h, items, c.self.invariant.cost, c.cost_of.ensures);
+      visits = subst (IsListing c.visit_all.new.visits) c.deref.ensures.value c.visit_all.ensures;
     }
 
 pub returns : goal.returns

@@ -1,7 +1,10 @@
-use Rattle.std.proofs.Common.{rules, ◌<◌, ◌^◌, ap, length, arith}
+use Rattle.std.proofs.Common.{rules, ◌<◌, ◌^◌, ap, ◌∙◌, length, length-set, arith}
 use Rattle.sctp_reassembly.specs.reassembly_queue.ReassemblyQueue.{ReassemblyState}
 use Rattle.sctp_receiver.specs.declared.receiver.inbound_streams.InboundStream.{InboundStream}
 use Rattle.sctp_receiver.specs.Inbound.{number, ssn_forwarded}
+use Rattle.sctp_receiver.specs.Visited.{holds_incomplete}
+use Rattle.sctp_receiver.proofs.Settled.{named-none}
+use Rattle.sctp_receiver.proofs.Listing.{renewed-less}
 use Rattle.sctp_receiver.proofs.CostSums.{is-part, changed-fits, changed-sum}
 use Rattle.sctp_stream.proofs.StreamPlaces.{absent-change, inside, changed, numbers-stay}
 use Rattle.sctp_receiver.proofs.receiver.inbound_streams.InboundStreams.forward_ordered.Goals as goal
@@ -41,6 +44,13 @@ invariant_of-self c =
           c.index_mut-inbound.result.now (record c.index_mut-inbound.result.now { queue = c.forward_tsn_for_ordered.new.self })
           c.index_mut-inbound.ensures.value (ap (λ (q : ReassemblyState). q.si) c.forward_tsn_for_ordered.ensures.value);
       cost = omega (arith, h, c.moved-self-inside.ensures, c.self.invariant.cost, c.cost_of-before.ensures, c.cost_of.ensures);
+      visits = renewed-less c.self.inside.visits c.renew.new.visits ls c.in-Some.place
+          c.index_mut-inbound.result.now (record c.index_mut-inbound.result.now { queue = c.forward_tsn_for_ordered.new.self }) lt
+          c.index_mut-inbound.ensures.value c.self.invariant.visits c.renew.ensures.places
+          (length-set ls c.in-Some.place (record c.index_mut-inbound.result.now { queue = c.forward_tsn_for_ordered.new.self })) c.renew.ensures.others
+          c.renew.ensures.here
+          (λ h. ap (λ (q : ReassemblyState). holds_incomplete q.held) c.forward_tsn_for_ordered.ensures.value
+          ∙ named-none c.args.ssn c.index_mut-inbound.result.now h);
     }
 
 pub returns : goal.returns
@@ -50,3 +60,9 @@ returns c =
     (ssn_forwarded c.args.ssn) c.index_mut-inbound.result.now
     (record c.index_mut-inbound.result.now { queue = c.forward_tsn_for_ordered.new.self }) c.index_mut-inbound.ensures.value
     (ap (λ (q : ReassemblyState). let l : InboundStream = record c.index_mut-inbound.result.now { queue = q } in l) c.forward_tsn_for_ordered.ensures.value))
+
+pub renew-requires : goal.renew-requires
+renew-requires c =
+    let ls = c.self.inside.items.items in
+    let lt = inside number ls c.self.inside.numbers c.self.invariant.numbers c.args.stream c.in-Some.place c.in-Some.ensures in
+    omega (arith, lt, c.self.invariant.visits.listed.places)

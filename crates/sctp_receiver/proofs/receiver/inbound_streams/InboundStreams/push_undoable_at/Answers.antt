@@ -1,7 +1,8 @@
-use Rattle.std.proofs.Common.{rules, ◌<◌, ◌^◌, ◌∙◌, refl, length, arith}
+use Rattle.std.proofs.Common.{rules, ◌<◌, ◌^◌, ◌∙◌, refl, length, length-set, arith}
 use Rattle.sctp_stream.specs.Numbers.{IsOnlyPlace}
 use Rattle.sctp_receiver.specs.Inbound.{number, numbers_of}
 use Rattle.sctp_stream.proofs.StreamPlaces.{inside, numbers-stay}
+use Rattle.sctp_receiver.proofs.Listing.{renewed-more}
 use Rattle.sctp_receiver.proofs.CostSums.{is-part, changed-fits, changed-sum}
 use Rattle.sctp_receiver.proofs.Inbounds.{number-stays, pushes, fits, refused}
 use Rattle.sctp_receiver.proofs.Undone.{push-undone, push-can}
@@ -37,6 +38,9 @@ invariant_of-self c =
       numbers = c.self.invariant.numbers ∙ numbers-stay number ls (numbers_of ls) refl c.args.chunk.now.stream_identifier c.args.place p
           c.index_mut-stream.result.now c.push_undoable-pushed.new.self c.index_mut-stream.ensures.value same;
       cost = omega (arith, h, c.moved-self-inside.ensures, c.self.invariant.cost, c.cost_of-before.ensures, c.cost_of.ensures);
+      visits = renewed-more c.self.inside.visits c.renew.new.visits ls c.args.place
+          c.index_mut-stream.result.now c.push_undoable-pushed.new.self lt c.index_mut-stream.ensures.value c.self.invariant.visits c.renew.ensures.places
+          (length-set ls c.args.place c.push_undoable-pushed.new.self) c.renew.ensures.others c.renew.ensures.here;
     }
 
 pub returns-clause-ok : goal.returns-clause-ok
@@ -79,3 +83,10 @@ returns-clause-can c =
     put.ensures.rest put.result put.ensures.ok put.ensures.err in
     push-can c.args.chunk.now.stream_identifier ls c.args.place p c.index_mut-stream.result.now put.new.self c.index_mut-stream.ensures.value same
     put.result put.ensures.can
+
+pub renew-requires : goal.renew-requires
+renew-requires c =
+    let ls = c.self.inside.items.items in
+    let p : IsOnlyPlace c.args.chunk.now.stream_identifier (numbers_of ls) c.args.place = rw (← c.self.view_is) at c.requires in
+    let lt = inside number ls (numbers_of ls) refl c.args.chunk.now.stream_identifier c.args.place p in
+    omega (arith, lt, c.self.invariant.visits.listed.places)

@@ -1,9 +1,12 @@
-use Rattle.std.proofs.Common.{rules, ◌<◌, ◌^◌, sym, ap, ◌∙◌, refl, length, arith}
+use Rattle.std.proofs.Common.{rules, ◌<◌, ◌^◌, sym, ap, ◌∙◌, refl, length, length-set, arith}
 use Rattle.std.specs.Prelude.{option_map}
 use Rattle.sctp_reassembly.specs.reassembly_queue.ReassemblyQueue.{at_start}
 use Rattle.sctp_stream.specs.Numbers.{IsOnlyPlace}
 use Rattle.sctp_receiver.specs.Inbound.{number, numbers_of, stream_read}
 use Rattle.sctp_receiver.specs.Receiver.{message_of}
+use Rattle.sctp_receiver.specs.Visited.{holds_incomplete}
+use Rattle.sctp_receiver.proofs.Settled.{read-none}
+use Rattle.sctp_receiver.proofs.Listing.{renewed-less}
 use Rattle.sctp_receiver.proofs.CostSums.{is-part, changed-fits, changed-sum}
 use Rattle.sctp_stream.proofs.StreamPlaces.{inside, found, changed, numbers-stay}
 use Rattle.sctp_receiver.proofs.receiver.inbound_streams.InboundStreams.read_at.Goals as goal
@@ -35,6 +38,10 @@ invariant_of-self c =
       numbers = c.self.invariant.numbers ∙ numbers-stay number ls (numbers_of ls) refl c.args.stream c.args.place p c.index_mut-inbound.result.now
           c.read-message.new.self c.index_mut-inbound.ensures.value (ap number c.read-message.ensures.rest);
       cost = omega (arith, h, c.moved-self-inside.ensures, c.self.invariant.cost, c.cost_of-before.ensures, c.cost_of.ensures);
+      visits = renewed-less c.self.inside.visits c.renew.new.visits ls c.args.place
+          c.index_mut-inbound.result.now c.read-message.new.self lt c.index_mut-inbound.ensures.value c.self.invariant.visits c.renew.ensures.places
+          (length-set ls c.args.place c.read-message.new.self) c.renew.ensures.others c.renew.ensures.here
+          (λ h. ap (λ l. holds_incomplete l.queue.held) c.read-message.ensures.rest ∙ read-none c.index_mut-inbound.result.now h);
     }
 
 pub returns-clause-message : goal.returns-clause-message
@@ -50,3 +57,10 @@ returns-clause-rest c =
     let p : IsOnlyPlace c.args.stream (numbers_of ls) c.args.place = rw (← c.self.view_is) at c.requires in
     rw (← c.self.view_is) (changed number ls (numbers_of ls) refl c.args.stream c.args.place p stream_read c.index_mut-inbound.result.now
     c.read-message.new.self c.index_mut-inbound.ensures.value c.read-message.ensures.rest)
+
+pub renew-requires : goal.renew-requires
+renew-requires c =
+    let ls = c.self.inside.items.items in
+    let p : IsOnlyPlace c.args.stream (numbers_of ls) c.args.place = rw (← c.self.view_is) at c.requires in
+    let lt = inside number ls (numbers_of ls) refl c.args.stream c.args.place p in
+    omega (arith, lt, c.self.invariant.visits.listed.places)

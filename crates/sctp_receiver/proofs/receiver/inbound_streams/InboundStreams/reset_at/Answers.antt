@@ -1,6 +1,7 @@
-use Rattle.std.proofs.Common.{rules, ◌<◌, ◌^◌, ◌∙◌, refl, length, arith}
+use Rattle.std.proofs.Common.{rules, ◌<◌, ◌^◌, ◌∙◌, refl, length, length-set, arith}
 use Rattle.sctp_stream.specs.Numbers.{IsOnlyPlace}
 use Rattle.sctp_receiver.specs.Inbound.{number, numbers_of}
+use Rattle.sctp_receiver.proofs.Listing.{renewed-more}
 use Rattle.sctp_receiver.proofs.CostSums.{is-part, changed-fits, changed-sum}
 use Rattle.sctp_stream.proofs.StreamPlaces.{inside, numbers-stay}
 use Rattle.sctp_receiver.proofs.Resetting.{number-kept, resets, wanted}
@@ -35,6 +36,9 @@ invariant_of-self c =
       numbers = c.self.invariant.numbers ∙ numbers-stay number ls
           (numbers_of ls) refl c.args.stream c.args.place p c.index_mut-inbound.result.now c.reset-answer.new.self c.index_mut-inbound.ensures.value same;
       cost = omega (arith, h, c.moved-self-inside.ensures, c.self.invariant.cost, c.cost_of-before.ensures, c.cost_of.ensures);
+      visits = renewed-more c.self.inside.visits c.renew.new.visits ls c.args.place
+          c.index_mut-inbound.result.now c.reset-answer.new.self lt c.index_mut-inbound.ensures.value c.self.invariant.visits c.renew.ensures.places
+          (length-set ls c.args.place c.reset-answer.new.self) c.renew.ensures.others c.renew.ensures.here;
     }
 
 pub returns-clause-ok : goal.returns-clause-ok
@@ -50,3 +54,10 @@ returns-clause-wants c =
     let p : IsOnlyPlace c.args.stream (numbers_of ls) c.args.place = rw (← c.self.view_is) at c.requires in
     rw (← c.self.view_is) (wanted c.args.stream c.args.last_tsn ls c.args.place p c.index_mut-inbound.result.now c.reset-answer.new.self
     c.index_mut-inbound.ensures.value c.reset-answer.result c.reset-answer.ensures.wants)
+
+pub renew-requires : goal.renew-requires
+renew-requires c =
+    let ls = c.self.inside.items.items in
+    let p : IsOnlyPlace c.args.stream (numbers_of ls) c.args.place = rw (← c.self.view_is) at c.requires in
+    let lt = inside number ls (numbers_of ls) refl c.args.stream c.args.place p in
+    omega (arith, lt, c.self.invariant.visits.listed.places)

@@ -1,0 +1,60 @@
+-- The streams that a FORWARD-TSN visits, as calls change them.
+use Rattle.std.proofs.Common.{◌≡◌, ℕ, ◌+◌, ◌<◌, Bool, true, false, List, [], ◌∷◌, ◌++◌, length, length-append, ap, sym, ◌∙◌, arith}
+use Rattle.std.specs.Prelude.{◌==◌, ◌&&◌, ◌||◌, slice_get, slice_index_or, slice_set}
+use Rattle.std.proofs.lemmas.Option.{slice_get_past}
+use Rattle.sctp_list_lemmas.proofs.Cases.{by_same, some-same}
+use Rattle.sctp_list_lemmas.proofs.More.{not_both}
+use Rattle.sctp_receiver.specs.declared.receiver.inbound_streams.InboundStream.{InboundStream}
+use Rattle.sctp_receiver.specs.Visited.{VisitOrder, is_spot_before, is_visited, holds_any, holds_incomplete, IsListing}
+use Rattle.sctp_receiver.proofs.Settled.{none-incomplete}
+use Rattle.sctp_receiver.proofs.VisitOrders.{end-here, end-there}
+use Rattle.sctp_receiver.proofs.Visiting.{others-renewed, visited-renewed}
+
+abbrev pub any : InboundStream → Bool
+any l = holds_any l.queue.held
+
+abbrev pub incomplete : InboundStream → Bool
+incomplete l = holds_incomplete l.queue.held
+
+pub nothing-any : (l : InboundStream) → any l ≡ false → incomplete l ≡ false
+nothing-any l h = none-incomplete l.queue.held h
+
+-- the stream at a place changed
+module _ (v w : VisitOrder) (ls : List InboundStream) (k : ℕ) (x y : InboundStream) (lt : k < length ls) (at : x ≡ slice_index_or ls k x)
+    (listing : IsListing v ls) (places : length w.spots ≡ length v.spots) (length-same : length (slice_set ls k y) ≡ length ls)
+    (others : (p : ℕ) → (p == k) ≡ false → is_visited p w ≡ is_visited p v) where
+  renewed : (more : Bool) → is_visited k w ≡ (any y && (more || is_visited k v)) → (more ≡ false → incomplete x ≡ false → incomplete y ≡ false)
+      → IsListing w (slice_set ls k y)
+  renewed more here keeps = record {
+    listed = record {
+      places = omega (arith, places, length-same, listing.listed.places);
+      others = others-renewed any incomplete v w ls k x y more lt at others here listing.listed.others (nothing-any y) keeps;
+    };
+    visited = visited-renewed any incomplete v w ls k x y more lt at others here listing.visited;
+  }
+
+  -- it may hold more
+  pub renewed-more : is_visited k w ≡ (any y && (true || is_visited k v)) → IsListing w (slice_set ls k y)
+  renewed-more here = renewed true here (λ e. absurd (not_both (sym e)))
+
+  -- it holds nothing incomplete where it held none
+  pub renewed-less : is_visited k w ≡ (any y && (false || is_visited k v)) → (incomplete x ≡ false → incomplete y ≡ false) → IsListing w (slice_set ls k y)
+  renewed-less here keeps = renewed false here (λ e. keeps)
+
+-- one more is opened
+pub one-opened : (v w : VisitOrder) (ls : List InboundStream) (l : InboundStream) → IsListing v ls → length w.spots ≡ length v.spots + 1
+    → ((p : ℕ) → is_visited p w ≡ is_visited p v) → incomplete l ≡ false → IsListing w (ls ++ l ∷ [])
+one-opened v w ls l listing places same none = record {
+  listed = record {
+    places = omega (arith, places, listing.listed.places, length-append ls (l ∷ []));
+    others = λ p x e h. by_same p (length ls)
+        (λ z. ap incomplete (some-same (sym e ∙ ap (slice_get (ls ++ l ∷ [])) z ∙ end-here ls l)) ∙ none)
+        (λ ne t. listing.listed.others p x (sym (end-there ls l p ne) ∙ e) (sym (same p) ∙ h));
+  };
+  visited = λ p x e h. by_same p (length ls)
+      (λ z. absurd (not_both (sym (past p z) ∙ sym (same p) ∙ h)))
+      (λ ne t. listing.visited p x (sym (end-there ls l p ne) ∙ e) (sym (same p) ∙ h));
+}
+  where
+    past : (p : ℕ) → p ≡ length ls → is_visited p v ≡ false
+    past p z = ap (is_spot_before v.count) (slice_get_past v.spots p (omega (arith, z, listing.listed.places)))

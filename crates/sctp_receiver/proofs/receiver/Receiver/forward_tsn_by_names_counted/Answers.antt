@@ -1,0 +1,22 @@
+use Rattle.std.proofs.Common.{◌≡◌, ap, sym, ◌∙◌, false, length, arith}
+use Rattle.sctp_list_lemmas.specs.Serial.{at_or_before}
+use Rattle.sctp_receiver.specs.Visited.{to_visit}
+use Rattle.sctp_receiver.proofs.Receptions.{after}
+use Rattle.sctp_receiver.proofs.Settled.{fewer-named}
+use Rattle.sctp_receiver.proofs.receiver.Receiver.forward_tsn_by_names_counted.Goals as goal
+
+pub skip_to_counted-requires : goal.skip_to_counted-requires
+skip_to_counted-requires c =
+    let tsn = c.args.chunk.now.new_cumulative_tsn in
+    let near = sym c.is_opposite.ensures.value ∙ c.if-is_opposite.false in
+    let late : at_or_before tsn c.self.inside.filter.cumulative_tsn ≡ false = ap (at_or_before tsn) (sym c.cumulative_tsn.ensures)
+    ∙ sym c.sna32lte.ensures.value ∙ c.if-sna32lte.false in
+    after c.self.inside.filter.cumulative_tsn tsn c.is_opposite.ensures.cumulative_fits c.is_opposite.ensures.tsn_fits near late
+
+pub returns-clause-cost : goal.returns-clause-cost
+returns-clause-cost c =
+    let few = fewer-named c.deref.result.now c.self.inside.streams in
+    let names = ap length c.deref.ensures.value in
+    let named = ap (λ ls. length (to_visit ls)) c.forward_named.ensures.value in
+    rw (← c.self.view_is)
+    (omega (arith, c.forward_named.ensures.cost, c.forward_unordered_counted.ensures.cost, c.skip_to_counted.ensures.cost, few, named, names))

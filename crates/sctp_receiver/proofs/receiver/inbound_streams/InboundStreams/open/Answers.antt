@@ -1,0 +1,24 @@
+use Rattle.std.proofs.Common.{◌≡◌, ◌+◌, ◌++◌, ◌∷◌, [], length, ap, ap₂, sym, subst, ◌∙◌, refl}
+use Rattle.std.specs.List.{sum_by}
+use Rattle.std.proofs.lemmas.List.{map-append}
+use Rattle.sctp_receiver.specs.Inbound.{number, numbers_of, new_stream}
+use Rattle.sctp_receiver.specs.Limits.{cost_within}
+use Rattle.sctp_receiver.specs.Visited.{VisitOrder, IsListing, is_visited}
+use Rattle.sctp_receiver.proofs.CostSums.{opened-sum}
+use Rattle.sctp_receiver.proofs.Listing.{one-opened}
+use Rattle.sctp_receiver.proofs.receiver.inbound_streams.InboundStreams.open.Goals as goal
+
+pub invariant_of-self-2 : goal.invariant_of-self-2
+invariant_of-self-2 c =
+    let ls = c.self.inside.items.items in
+    let l = new_stream c.args.stream c.args.max_message_size in
+    let items : c.put.new.items.items ≡ ls ++ l ∷ [] = c.put.ensures.items ∙ ap₂ (λ xs x. xs ++ x ∷ []) c.reserve.ensures.items c.new-opened.ensures in
+    let rest = c.reserve-else-is_err.ensures.rest in
+    record {
+      numbers = c.in_ok-push.ensures.ok ∙ ap (λ ns. ns ++ c.args.stream ∷ []) c.self.invariant.numbers ∙ sym (map-append number ls (l ∷ []))
+          ∙ ap numbers_of (sym items);
+      cost = c.self.invariant.cost ∙ sym (opened-sum ls c.args.stream c.args.max_message_size) ∙ ap (sum_by cost_within) (sym items);
+      visits = subst (IsListing c.push-2.new.self) (sym items) (one-opened c.self.inside.visits c.push-2.new.self ls l c.self.invariant.visits
+          (c.push-2.ensures.places ∙ ap (λ (v : VisitOrder). length v.spots + 1) rest)
+          (λ p. c.push-2.ensures.visited p ∙ ap (is_visited p) rest) refl);
+    }

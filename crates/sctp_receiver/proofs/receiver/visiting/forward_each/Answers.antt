@@ -1,0 +1,72 @@
+use Rattle.std.proofs.Common.{arith, ◌≡◌, ◌<◌, length, length-set, Some, ap, sym, subst, ◌∙◌, refl}
+use Rattle.std.specs.Prelude.{slice_index_or, if◌then◌else◌}
+use Rattle.std.proofs.lemmas.Option.{slice_get_within}
+use Rattle.sctp_list_lemmas.proofs.Cases.{some-same}
+use Rattle.sctp_receiver.specs.Visited.{skip_forwarded}
+use Rattle.sctp_receiver.proofs.Settled.{skip-stays}
+use Rattle.sctp_receiver.proofs.Listing.{any, incomplete}
+use Rattle.sctp_receiver.proofs.Visiting.{ChangedBefore, none-changed, next-changed, all-changed, few-visited, element}
+use Rattle.sctp_receiver.proofs.receiver.visiting.forward_each.Goals as goal
+
+pub loop-spot-init : goal.loop-spot-init
+loop-spot-init c = record {
+  same = refl;
+  so_far = none-changed (skip_forwarded c.args.skip c.args.tsn) c.args.visits.now.spots c.args.streams.now.items;
+  cost = c.requires.cost;
+  turns = omega arith;
+}
+
+pub forward_at-cost-requires-clause-place : goal.forward_at-cost-requires-clause-place
+forward_at-cost-requires-clause-place c =
+    omega (arith, c.at.ensures.in_range, c.requires.listing.listed.places, c.loop-spot.invariant.same)
+
+pub loop-spot-preserved : goal.loop-spot-preserved
+loop-spot-preserved c =
+    let f = skip_forwarded c.args.skip c.args.tsn in
+    let xs = c.args.streams.now.items in
+    let ys = c.loop-spot.streams.items in
+    let k = c.at.result in
+    let lt : k < length ys = omega (arith, c.at.ensures.in_range, c.requires.listing.listed.places, c.loop-spot.invariant.same) in
+    let d = (element any ys k lt).0 in
+    let made = c.forward_at-cost.ensures.value d in
+    record {
+      same = ap length made ∙ length-set ys k (f (slice_index_or ys k d)) ∙ c.loop-spot.invariant.same;
+      so_far = next-changed f c.args.visits.now.order c.args.visits.now.spots c.loop-spot.spot k xs ys c.forward_at-cost.new.streams.items d
+          c.at.ensures.inverse c.at.ensures.place lt c.loop-spot.invariant.so_far made;
+      cost = c.forward_at-cost.ensures.cost;
+      turns = omega (arith, c.loop-spot.invariant.turns, c.tick.ensures);
+    }
+
+pub returns-clause-value : goal.returns-clause-value
+returns-clause-value c =
+    let f = skip_forwarded c.args.skip c.args.tsn in
+    let v = c.args.visits.now in
+    let all : c.loop-spot.spot ≡ v.count = omega (arith, c.loop-spot-test.false, c.loop-spot.auto.spot-end, c.len-spot-end.ensures.count) in
+    all-changed f v.count v.spots c.args.streams.now.items c.loop-spot.streams.items c.loop-spot.invariant.same
+    (λ p x e h. skip-stays c.args.skip c.args.tsn x (c.requires.listing.listed.others p x e h))
+    (subst (λ n. ChangedBefore f n v.spots c.args.streams.now.items c.loop-spot.streams.items) all c.loop-spot.invariant.so_far)
+
+pub returns-clause-listed : goal.returns-clause-listed
+returns-clause-listed c =
+    let f = skip_forwarded c.args.skip c.args.tsn in
+    let v = c.args.visits.now in
+    let xs = c.args.streams.now.items in
+    let ys = c.loop-spot.streams.items in
+    let same = c.loop-spot.invariant.same in
+    let listed = c.requires.listing.listed in
+    let all : c.loop-spot.spot ≡ v.count = omega (arith, c.loop-spot-test.false, c.loop-spot.auto.spot-end, c.len-spot-end.ensures.count) in
+    let changed = subst (λ n. ChangedBefore f n v.spots xs ys) all c.loop-spot.invariant.so_far in
+    record {
+      places = omega (arith, same, listed.places);
+      others = λ p l e h.
+          let x = element any xs p (omega (arith, slice_get_within ys p l e, same)) in
+          let is : l ≡ x.0 = some-same (sym e ∙ changed p (x.0) x.1 ∙ ap (λ b. Some (if b then f (x.0) else x.0)) h) in
+          ap incomplete is ∙ listed.others p (x.0) x.1 h;
+    }
+
+pub returns-clause-few : goal.returns-clause-few
+returns-clause-few c =
+    let v = c.args.visits.now in
+    let listing = c.requires.listing in
+    let h = few-visited any v c.args.streams.now.items c.len-spot-end.ensures.inverse c.len-spot-end.ensures.within listing.listed.places listing.visited in
+    omega (arith, h, c.loop-spot.invariant.turns, c.loop-spot.auto.spot-end, c.len-spot-end.ensures.count)

@@ -1,0 +1,16 @@
+use Rattle.std.proofs.Common.{◌≤◌}
+use Rattle.sctp_receiver.specs.Visited.{AreInverse, IsListed}
+use Rattle.sctp_receiver.proofs.Listing.{any, incomplete}
+use Rattle.sctp_receiver.proofs.Visiting.{BehindHoldAny}
+use Rattle.sctp_receiver.proofs.receiver.visiting.settle.Given as goal
+
+abbrev pub invariant-loop-left : goal.invariant-loop-left
+invariant-loop-left l = record {
+  inverse : AreInverse l.visits.order l.visits.spots;
+  listed : IsListed l.visits l.streams;
+  within : l.left ≤ l.visits.count;
+  behind : BehindHoldAny any incomplete l.left l.visits l.streams;
+}
+
+abbrev pub decreases-loop-left : goal.decreases-loop-left
+decreases-loop-left l = l.left

@@ -1,0 +1,171 @@
+//! The streams that a FORWARD-TSN visits beside those that it names (RFC 3758 3.6).
+
+ghost use Rattle.std.specs.Prelude.{◌≡◌, ◌==◌, ◌<◌, ◌≤◌, ◌+◌, ◌&&◌, ◌||◌, ℕ, true, false, not, length, map, slice_index_or, slice_set};
+ghost use Rattle.std.specs.List.{list_any, sum_by};
+ghost use Rattle.sctp_reassembly.specs.reassembly_queue.Fragments.{is_complete};
+ghost use Rattle.sctp_receiver.specs.declared.receiver.inbound_streams.InboundStream.{InboundStream};
+ghost use Rattle.sctp_receiver.specs.Limits.{cost_within};
+ghost use Rattle.sctp_receiver.specs.Visited.{after_skip, skip_forwarded, holds_any, holds_incomplete, is_visited, IsListed, IsListing, to_visit};
+
+use crate::receiver::inbound_streams::{InboundStream, moved};
+use crate::receiver::limits::cost_of;
+use crate::receiver::visits::Visits;
+use sctp_reassembly::reassembly_queue::ReassemblyQueue;
+use sctp_reassembly::reassembly_queue::chunks::Fragments;
+use sctp_serial::turns::Turns;
+use std::collections::VecDeque;
+
+/// What a FORWARD-TSN discards of streams without naming them.
+#[derive(Clone, Copy)]
+pub(crate) enum Skip {
+    /// The unassembled fragments up to its TSN.
+    Unassembled,
+    /// The incomplete ordered messages that miss a TSN up to its own.
+    Incomplete,
+}
+
+// Whether it has unassembled fragments, or ordered messages that were not read.
+fn holds_any(queue: &ReassemblyQueue) -> bool
+    ensures { result ≡ holds_any queue.now.held }
+{
+    !queue.unordered_chunks().is_empty() || !queue.ordered().is_empty()
+}
+
+// Whether it has unassembled fragments, or an ordered message that is incomplete. It looks at the ordered messages up to that one.
+fn holds_incomplete(queue: &ReassemblyQueue) -> bool
+    ensures { result ≡ holds_incomplete queue.now.held }
+{
+    !queue.unordered_chunks().is_empty() || is_any_incomplete(queue.ordered())
+}
+
+// Whether a set is incomplete.
+fn is_any_incomplete(sets: &VecDeque<Fragments>) -> bool
+    ensures { result ≡ list_any (λ s. not (is_complete s.chunks)) sets.now.items }
+{
+    for place in 0..sets.len() {
+        if !sets[place].is_complete() {
+            return true;
+        }
+    }
+    false
+}
+
+// Whether a stream that was visited stays so: it holds something incomplete, or any at all where not each message is to be looked at.
+fn stays(queue: &ReassemblyQueue, skip: Skip) -> bool
+    ensures no { result ≡ false → holds_incomplete queue.now.held ≡ false }
+    ensures yes { result ≡ true → holds_any queue.now.held ≡ true }
+{
+    match skip {
+        Skip::Unassembled => holds_any(queue),
+        Skip::Incomplete => holds_incomplete(queue),
+    }
+}
+
+/// The stream at a place changed. It is visited from here on where it was, or something of it may be incomplete that was not before;
+/// and not where it holds none. It takes no memory.
+/// Precondition: it is a place.
+pub(crate) fn renew(visits: &mut Visits, place: usize, queue: &ReassemblyQueue, is_more: bool)
+    requires { place < length visits.old.spots }
+    ensures places { length visits.new.spots ≡ length visits.old.spots }
+    ensures others { (p : ℕ) → (p == place) ≡ false
+        → is_visited p visits.new ≡ is_visited p visits.old }
+    ensures here { is_visited place visits.new
+        ≡ (holds_any queue.now.held && (is_more || is_visited place visits.old)) }
+{
+    if !holds_any(queue) {
+        visits.remove(place);
+        return;
+    }
+    if is_more {
+        visits.insert(place);
+    }
+}
+
+/// From here on each stream that holds any is visited. It takes no memory.
+/// Precondition: there are as many places at least as streams.
+pub(crate) fn visit_all(visits: &mut Visits, streams: &[InboundStream])
+    requires { length streams.now ≤ length visits.old.spots }
+    ensures { IsListing visits.new streams.now }
+{
+    visits.clear(streams.len());
+    for place in 0..streams.len() {
+        if !holds_any(&streams[place].queue) {
+            continue;
+        }
+        visits.insert(place);
+    }
+}
+
+/// Discards so on each stream that is visited, which is all there is to discard, and answers what all streams count for then. A turn
+/// is taken for each that is visited.
+/// Precondition: the cost is what they count for, and the right ones are visited.
+pub(crate) fn forward_each(
+    streams: &mut Vec<InboundStream>,
+    cost: u128,
+    visits: &Visits,
+    skip: Skip,
+    tsn: u32,
+    turns: &mut Turns,
+) -> u128
+    requires cost { cost ≡ sum_by cost_within streams.old.items }
+    requires listing { IsListing visits.now streams.old.items }
+    ensures value { streams.new.items ≡ map (skip_forwarded skip tsn) streams.old.items }
+    ensures cost { result ≡ sum_by cost_within streams.new.items }
+    ensures listed { IsListed visits.now streams.new.items }
+    ensures not_back { turns.old ≤ turns.new }
+    ensures few { turns.new ≤ turns.old + length (to_visit streams.old.items) }
+{
+    let mut cost = cost;
+    for spot in 0..visits.len() {
+        turns.tick();
+        cost = forward_at(streams, cost, visits.at(spot), skip, tsn);
+    }
+    cost
+}
+
+// Discards so on the stream at a place.
+fn forward_at(
+    streams: &mut Vec<InboundStream>,
+    cost: u128,
+    place: usize,
+    skip: Skip,
+    tsn: u32,
+) -> u128
+    requires place { place < length streams.old.items }
+    requires cost { cost ≡ sum_by cost_within streams.old.items }
+    ensures value { (d : InboundStream) → streams.new.items ≡ slice_set streams.old.items place
+        (skip_forwarded skip tsn (slice_index_or streams.old.items place d)) }
+    ensures cost { result ≡ sum_by cost_within streams.new.items }
+{
+    let stream = &mut streams[place];
+    let before = cost_of(&stream.queue);
+    skip_on(&mut stream.queue, skip, tsn);
+    moved(cost, before, cost_of(&stream.queue))
+}
+
+// Discards so of a queue.
+fn skip_on(queue: &mut ReassemblyQueue, skip: Skip, tsn: u32)
+    ensures { queue.new ≡ after_skip skip tsn queue.old }
+{
+    match skip {
+        Skip::Unassembled => queue.forward_tsn_for_unordered(tsn),
+        Skip::Incomplete => queue.forward_tsn_for_incomplete(tsn),
+    }
+}
+
+/// After such a skip: the streams that need no visit are visited no more. It takes no memory.
+/// Precondition: those that are not visited hold nothing incomplete.
+pub(crate) fn settle(visits: &mut Visits, streams: &[InboundStream], skip: Skip)
+    requires { IsListed visits.old streams.now }
+    ensures { IsListing visits.new streams.now }
+{
+    let mut left = visits.len();
+    while left > 0 {
+        left -= 1;
+        let place = visits.at(left);
+        if stays(&streams[place].queue, skip) {
+            continue;
+        }
+        visits.remove(place);
+    }
+}

@@ -1,0 +1,193 @@
+//! Of the places of streams, which a FORWARD-TSN visits.
+
+ghost use Rattle.std.specs.Prelude.{◌≡◌, ◌==◌, ◌<◌, ◌≤◌, ◌+◌, ◌-◌, ℕ, [], true, false, Some, IsOkUnless, OnOk, length, slice_get, option_map, min, vec_capacity, if◌then◌else◌};
+ghost use Rattle.sctp_base.specs.declared.error.Error.TheVariants.{ErrOutOfMemory};
+ghost use Rattle.sctp_receiver.specs.Visited.{AreInverse, is_visited, swapped};
+
+use sctp_base::error::Result;
+use sctp_stream::stream_numbers::put;
+use std::alloc::Global;
+use std::marker::Model;
+
+/// The places of streams, in an order in which those that are visited come first.
+#[derive(Drop)]
+pub(crate) struct Visits {
+    // the places, in that order
+    order: Vec<usize>,
+    // by place, at which spot of the order it stands
+    spots: Vec<usize>,
+    // how many are visited
+    count: usize,
+}
+
+impl Model for Visits {
+    ghost use Rattle.std.specs.Prelude.{◌≡◌, ◌≤◌, ◌-◌, min, length, vec_capacity};
+    ghost use Rattle.sctp_receiver.specs.Visited.{VisitOrder, AreInverse};
+
+    ghost Value = { VisitOrder };
+
+    ghost view = { λ v. record {
+      order = v.order.items;
+      spots = v.spots.items;
+      count = v.count;
+      room = min (vec_capacity v.order - length v.order.items)
+          (vec_capacity v.spots - length v.spots.items);
+    } };
+
+    ghost invariant = { λ v. record {
+      inverse : AreInverse v.order.items v.spots.items;
+      same : length v.order.items ≡ length v.spots.items;
+      within : v.count ≤ length v.order.items;
+    } };
+}
+
+impl Visits {
+    /// No places. It takes no memory.
+    pub(crate) fn new(alloc: Global) -> Self
+        ensures places { result.spots ≡ [] }
+    {
+        Visits {
+            order: Vec::new(alloc),
+            spots: Vec::new(alloc),
+            count: 0,
+        }
+    }
+
+    /// Makes room for one place more. Refuses only for memory.
+    pub(crate) fn reserve(&mut self) -> Result<()>
+        ensures rest { self.new ≡ record self.old { room = self.new.room } }
+        ensures room { OnOk result (0 < self.new.room) }
+        ensures memory { IsOkUnless result ErrOutOfMemory }
+    {
+        self.order.reserve(1)?;
+        self.spots.reserve(1)?;
+        Ok(())
+    }
+
+    /// Puts a place behind the others, which is not visited. It takes no memory.
+    /// Precondition: there is room for it (`reserve`).
+    pub(crate) fn push(&mut self)
+        requires { 0 < self.old.room }
+        ensures visited { (p : ℕ) → is_visited p self.new ≡ is_visited p self.old }
+        ensures places { length self.new.spots ≡ length self.old.spots + 1 }
+    {
+        let place = self.spots.len();
+        let spot = self.order.len();
+        put(&mut self.order, place);
+        put(&mut self.spots, spot);
+    }
+
+    /// From here on there are so many places, of which none is visited. It takes no memory.
+    /// Precondition: there were no fewer.
+    pub(crate) fn clear(&mut self, places: usize)
+        requires { places ≤ length self.old.spots }
+        ensures visited { (p : ℕ) → is_visited p self.new ≡ false }
+        ensures places { length self.new.spots ≡ places }
+    {
+        count_up(&mut self.order, places);
+        count_up(&mut self.spots, places);
+        self.count = 0;
+    }
+
+    /// How many are visited.
+    pub(crate) fn len(&self) -> usize
+        ensures count { result ≡ self.now.count }
+        ensures within { self.now.count ≤ length self.now.order }
+        ensures inverse { AreInverse self.now.order self.now.spots }
+    {
+        self.count
+    }
+
+    /// The place at a spot.
+    /// Precondition: it is one of those that are visited.
+    pub(crate) fn at(&self, spot: usize) -> usize
+        requires { spot < self.now.count }
+        ensures place { slice_get self.now.order spot ≡ Some result }
+        ensures inverse { AreInverse self.now.order self.now.spots }
+        ensures in_range { result < length self.now.spots }
+    {
+        self.order[spot]
+    }
+
+    // At which spot a place stands.
+    // Precondition: it is a place.
+    fn spot_of(&self, place: usize) -> usize
+        requires { place < length self.now.spots }
+        ensures spot { slice_get self.now.spots place ≡ Some result }
+        ensures in_range { result < length self.now.order }
+    {
+        self.spots[place]
+    }
+
+    /// From here on a place is visited. It takes no memory.
+    /// Precondition: it is a place.
+    pub(crate) fn insert(&mut self, place: usize)
+        requires { place < length self.old.spots }
+        ensures visited { (p : ℕ) → is_visited p self.new
+            ≡ (if p == place then true else is_visited p self.old) }
+        ensures places { length self.new.spots ≡ length self.old.spots }
+    {
+        let spot = self.spot_of(place);
+        let first = self.count;
+        if spot < first {
+            return;
+        }
+        swap(&mut self.order, &mut self.spots, spot, first);
+        self.count = first + 1;
+    }
+
+    /// From here on a place is visited no more: the last one that is visited takes its spot. It takes no memory.
+    /// Precondition: it is a place.
+    pub(crate) fn remove(&mut self, place: usize)
+        requires { place < length self.old.spots }
+        ensures visited { (p : ℕ) → is_visited p self.new
+            ≡ (if p == place then false else is_visited p self.old) }
+        ensures places { length self.new.spots ≡ length self.old.spots }
+        ensures moved { (i k : ℕ) → slice_get self.old.spots place ≡ Some i → i < self.old.count
+            → slice_get self.new.order k ≡ slice_get self.old.order (swapped i self.new.count k) }
+        ensures count { is_visited place self.old ≡ true → self.new.count + 1 ≡ self.old.count }
+        ensures inverse { AreInverse self.new.order self.new.spots }
+    {
+        let spot = self.spot_of(place);
+        if spot >= self.count {
+            return;
+        }
+        let last = self.count - 1;
+        swap(&mut self.order, &mut self.spots, spot, last);
+        self.count = last;
+    }
+}
+
+// So many numbers from 0 on.
+// Precondition: there were no fewer.
+fn count_up(numbers: &mut Vec<usize>, count: usize)
+    requires { count ≤ length numbers.old.items }
+    ensures count { length numbers.new.items ≡ count }
+    ensures each { (i : ℕ) → i < count → slice_get numbers.new.items i ≡ Some i }
+{
+    numbers.truncate(count);
+    for i in 0..count {
+        numbers[i] = i;
+    }
+}
+
+// What stands at two spots changes places.
+// Precondition: both are spots.
+fn swap(order: &mut Vec<usize>, spots: &mut Vec<usize>, i: usize, j: usize)
+    requires inverse { AreInverse order.old.items spots.old.items }
+    requires first { i < length order.old.items }
+    requires second { j < length order.old.items }
+    ensures order { (k : ℕ)
+        → slice_get order.new.items k ≡ slice_get order.old.items (swapped i j k) }
+    ensures spots { (p : ℕ) → slice_get spots.new.items p
+        ≡ option_map (swapped i j) (slice_get spots.old.items p) }
+    ensures same { length order.new.items ≡ length order.old.items }
+    ensures places { length spots.new.items ≡ length spots.old.items }
+{
+    let here = order[i];
+    let there = order[j];
+    order[i] = there;
+    order[j] = here;
+    spots[here] = j;
+    spots[there] = i;
+}
