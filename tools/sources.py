@@ -275,7 +275,8 @@ class Sources:
     def locals_of(self, function):
         """Returns the types of a function's parameters and of what it binds, as far as they can be told."""
         found, owner = {}, function.owner
-        inside_ = function.head.partition("(")[2].rpartition(")")[0] if ") -> " not in function.head else function.head.partition("(")[2].rpartition(") -> ")[0]
+        head = re.sub(r"^\s*pub\([a-z]+\) ", "", function.head)
+        inside_ = head.partition("(")[2].rpartition(")")[0] if ") -> " not in head else head.partition("(")[2].rpartition(") -> ")[0]
         for it in split_top(inside_):
             named = re.match(r"(?:mut )?(\w+): (.*)$", it.strip(), re.S)
             if named:
