@@ -7,4 +7,5 @@ pub mod Hears
 pub mod Slots
 pub mod SlotLists
 pub mod Received
+pub mod NewSlots
 pub mod Spans

@@ -6,9 +6,11 @@ pub mod Modes
 pub mod Outgoing
 pub mod Between
 pub mod Ahead
+pub mod Noted
 pub mod Flying
 pub mod Sending
 pub mod SentLists
+pub mod Gone
 pub mod Fragmented
 pub mod Writing
 pub mod WrittenLists

@@ -1,11 +1,10 @@
 -- The receiver of a link while the slots of a datagram come, one after another.
 use Rattle.std.specs.Prelude.{◌≡◌, ℕ, ◌<◌, ◌&&◌, if◌then◌else◌, Bool, slice_get, true, false, List, [], ◌∷◌, length, map, slice_index_or, Some}
-use Rattle.std.specs.List.{filter}
 use Rattle.sctp_list_lemmas.specs.Lists.{change_at}
 use Rattle.sctp_data.specs.declared.chunk.chunk_payload_data.ChunkPayloadData.{ChunkPayloadData}
 use Rattle.sctp_reassembly.specs.reassembly_queue.ReassemblyQueue.{ReassemblyState, is_too_large}
 use Rattle.sctp_model.specs.LinkRecord.{LinkRecord, StreamRecord, Data}
-use Rattle.sctp_model.specs.Messages.{message_at, message_of, stream_at, index_of, is_ordered_on}
+use Rattle.sctp_model.specs.Messages.{message_at, message_of, stream_at, index_of}
 use Rattle.sctp_model.specs.Receiver.{is_new, fits}
 use Rattle.sctp_model.specs.Changes.{receive_slot}
 use Rattle.sctp_model.specs.Contents.{chunk_at}
@@ -91,19 +90,9 @@ LiesSomewhere w p =
     (k : ℕ) × (ps : List ℕ) × (i : ℕ) × (slice_get w.network k ≡ Some (Data ps)) × (i < length ps)
     × (slice_index_or ps i 0 ≡ p)
 
--- the slot is new and of an ordered message of stream s
-abbrev pub adds_on : LinkRecord → ℕ → ℕ → Bool
-adds_on w s p = is_new w p && is_ordered_on w s (message_of w p)
-
--- the indexes that these slots add on stream s
-abbrev pub added_on : LinkRecord → ℕ → List ℕ → List ℕ
-added_on w s ps =
-    map (index_of w) (filter (is_ordered_on w s) (map (message_of w) (filter (is_new w) ps)))
-
--- the span test on the stream of the slot at a place, where it is new and of an ordered message
-abbrev pub slot_fits : LinkRecord → List ℕ → ℕ → Bool
-slot_fits w ps p =
+-- the span test with the slot at a place, where it is new and of an ordered message
+abbrev pub slot_fits : LinkRecord → ℕ → Bool
+slot_fits w p =
     if is_new w p && (message_at w (message_of w p)).ordered
-    then fits w (added_on w (message_at w (message_of w p)).stream ps)
-    (message_at w (message_of w p)).stream
+    then fits w (index_of w (message_of w p) ∷ []) (message_at w (message_of w p)).stream
     else true

@@ -1,7 +1,7 @@
 -- The span test of a datagram of slots.
-use Rattle.std.proofs.Common.{◌≡◌, ℕ, zero, suc, ◌+◌, ◌<◌, ◌≤◌, ◌^◌, Bool, true, false, List, [], ◌∷◌, ◌++◌, ◌-◌, length, map, drop, Option, Some, None, refl}
-use Rattle.std.proofs.Common.{ap, sym, ◌∙◌, inl, inr, arith, add-one}
-use Rattle.std.specs.Prelude.{◌⊎◌, ◌==◌, ◌&&◌, ◌||◌, not, is_some, if◌then◌else◌, fold, max, min, nat_lt, slice_get, slice_index_or}
+use Rattle.std.proofs.Common.{◌≡◌, ℕ, zero, suc, ◌+◌, ◌<◌, ◌≤◌, ◌^◌, Bool, true, false, List, [], ◌∷◌, ◌++◌, ◌-◌, length, map, Some, refl}
+use Rattle.std.proofs.Common.{ap, sym, ◌∙◌, arith}
+use Rattle.std.specs.Prelude.{◌==◌, ◌&&◌, ◌||◌, not, is_some, if◌then◌else◌, fold, max, min, nat_lt, slice_get, slice_index_or}
 use Rattle.std.specs.List.{list_any, list_all, filter}
 use Rattle.std.proofs.Math.Path.{subst}
 use Rattle.std.proofs.lemmas.Bool.Decides.{nat_tests}
@@ -12,7 +12,7 @@ use Rattle.sctp_model.specs.Messages.{message_at, message_of, index_of, is_order
 use Rattle.sctp_model.specs.Receiver.{is_new, arrived_at, held_on, next_of, least, greatest, fits, spans_fit}
 use Rattle.sctp_model.specs.Changes.{receive_slot}
 use Rattle.sctp_model.specs.Steps.{arrival_fits}
-use Rattle.sctp_model.specs.Valid.{IsSpan}
+use Rattle.sctp_model.specs.Valid.{IsSpan, Valid}
 use Rattle.sctp_model.proofs.sender.Network
 use Rattle.sctp_model.proofs.receiver.Arrivals.{new-unseen}
 use Rattle.sctp_model.proofs.receiver.ValidRun.{span-fits, span-open}
@@ -24,11 +24,13 @@ use Rattle.sctp_refinement.proofs.arriving.Stays.{by_place}
 use Rattle.sctp_refinement.proofs.reading.Line
 use Rattle.sctp_refinement.proofs.reading.Taken.{held}
 use Rattle.sctp_link.specs.Linked.{State, IsLinked}
-use Rattle.sctp_link.specs.Receiving.{LiesSomewhere, adds_on, added_on, slot_fits}
+use Rattle.sctp_link.specs.Receiving.{LiesSomewhere, slot_fits}
 use Rattle.sctp_link.proofs.upkeep.Facts.{facts}
 use Rattle.sctp_link.proofs.receiver.Received.{all-carried}
+use Rattle.sctp_link.proofs.receiver.NewSlots.{new-past}
 use Rattle.sctp_model.proofs.receiver.Spans.{greatest-append, least-append}
 use Rattle.sctp_refinement.specs.Naming.{lowest_held, highest_held}
+use Rattle.sctp_refinement.proofs.skipping.SkipSpans.{least-start}
 use Rattle.sctp_link.specs.declared.link.Link.TheInside.{Inside}
 use Rattle.sctp_link.specs.declared.record.Message.{Message}
 use Rattle.sctp_link.specs.declared.record.Slot.{Slot}
@@ -37,7 +39,15 @@ use Rattle.sctp_link.specs.Records.{message_record}
 use Rattle.sctp_link.proofs.sender.Beginning.{index_kept}
 use Rattle.sctp_link.proofs.receiver.Hears.{come-message, slots-made, messages-made, slot-raw, message-raw, kept-raw}
 
+or-yes : (b : Bool) {c : Bool} → c ≡ true → (b || c) ≡ true
+or-yes true h = refl
+or-yes false h = h
+
 -- ## What slots add
+
+-- the indexes that these slots add on stream s
+abbrev added_on : LinkRecord → ℕ → List ℕ → List ℕ
+added_on w s ps = map (index_of w) (filter (is_ordered_on w s) (map (message_of w) (filter (is_new w) ps)))
 
 -- among the messages of the new ones
 abbrev among : ℕ → List ℕ → Bool
@@ -55,10 +65,6 @@ added-any w t n (m ∷ ms) on e = step (m == n) refl (is_ordered_on w t m) refl 
         (same-is m n h) ∙ ap (λ b. b || list_any (λ z. z == index_of w n) (map (index_of w) (filter (is_ordered_on w t) ms))) (same-yes (index_of w n))
     step true h false f e ih = absurd (not_both (sym f ∙ ap (is_ordered_on w t) (same-is m n h) ∙ on))
     step false h true f e ih = or-yes (index_of w m == index_of w n) (ih e)
-      where
-        or-yes : (b : Bool) {c : Bool} → c ≡ true → (b || c) ≡ true
-        or-yes true h = refl
-        or-yes false h = h
     step false h false f e ih = ih e
 
 -- ## After a slot
@@ -137,10 +143,6 @@ fits-all w v ps (q ∷ qs) ms same back have e =
     (λ p h. back p (new-back v q p h))
     (λ p h. have p (or-yes (q == p) h))
     (fits-then v q ms (λ h. ap (λ n. among n ms) of ∙ have q (ap (λ b. b || list_any (λ p. p == q) qs) (same-yes q)) (back q h)) e)
-  where
-    or-yes : (b : Bool) {c : Bool} → c ≡ true → (b || c) ≡ true
-    or-yes true h = refl
-    or-yes false h = h
 
 -- a new one's message is among those of the new ones
 pub new-among : (w : LinkRecord) (ps : List ℕ) (p : ℕ) → list_any (λ q. q == p) ps ≡ true → is_new w p ≡ true
@@ -155,10 +157,6 @@ new-among w (q ∷ ps) p h new = step (q == p) refl (is_new w q) refl h (λ g. n
         (same-is q p e) ∙ ap (λ b. b || list_any (λ m. m == message_of w p) (map (message_of w) (filter (is_new w) ps))) (same-yes (message_of w p))
     step true e false f g ih = absurd (not_both (sym f ∙ ap (is_new w) (same-is q p e) ∙ new))
     step false e true f g ih = or-yes (message_of w q == message_of w p) (ih g)
-      where
-        or-yes : (b : Bool) {c : Bool} → c ≡ true → (b || c) ≡ true
-        or-yes true h = refl
-        or-yes false h = h
     step false e false f g ih = ih g
 
 -- ## The test by slots
@@ -174,10 +172,6 @@ any-carried P (q ∷ ps) h p e = step (q == p) refl e (λ f. any-carried P ps (�
 all-each : (f : ℕ → Bool) (ps : List ℕ) → ((p : ℕ) → list_any (λ q. q == p) ps ≡ true → f p ≡ true) → list_all f ps ≡ true
 all-each f [] h = refl
 all-each f (q ∷ ps) h = and (f q) (list_all f ps) (h q (ap (λ b. b || list_any (λ p. p == q) ps) (same-yes q))) (all-each f ps (λ p e. h p (or-yes (q == p) e)))
-  where
-    or-yes : (b : Bool) {c : Bool} → c ≡ true → (b || c) ≡ true
-    or-yes true h = refl
-    or-yes false h = h
 
 each-all : (f : ℕ → Bool) (ps : List ℕ) → list_all f ps ≡ true → (p : ℕ) → list_any (λ q. q == p) ps ≡ true → f p ≡ true
 each-all f [] h p e = cc
@@ -188,91 +182,59 @@ each-all f (q ∷ ps) h p e = step (q == p) refl e (both (f q) (list_all f ps) h
     step true s g h ih = ap f (sym (same-is q p s)) ∙ h.0
     step false s g h ih = ih h.1 g
 
--- a slot that adds to stream t
-record Adds (w : LinkRecord) (t : ℕ) (ps : List ℕ) : Type 0 where
+-- a slot that adds an index on stream t
+record AddsAt (w : LinkRecord) (t y : ℕ) (ps : List ℕ) : Type 0 where
   place : ℕ
   there : list_any (λ q. q == place) ps ≡ true
   new : is_new w place ≡ true
   on : is_ordered_on w t (message_of w place) ≡ true
+  index : index_of w (message_of w place) ≡ y
 
-adds-more : (w : LinkRecord) (t q : ℕ) (ps : List ℕ) → Adds w t ps → Adds w t (q ∷ ps)
-adds-more w t q ps a = record { place = a.place; there = or-yes (q == a.place) a.there; new = a.new; on = a.on }
+added-from : (w : LinkRecord) (t y : ℕ) (ps : List ℕ) → list_any (λ z. z == y) (added_on w t ps) ≡ true → AddsAt w t y ps
+added-from w t y [] h = cc
+added-from w t y (q ∷ ps) h = step (is_new w q) refl (is_ordered_on w t (message_of w q)) refl h (added-from w t y ps)
   where
-    or-yes : (b : Bool) {c : Bool} → c ≡ true → (b || c) ≡ true
-    or-yes true h = refl
-    or-yes false h = h
+    more : AddsAt w t y ps → AddsAt w t y (q ∷ ps)
+    more a = record { place = a.place; there = or-yes (q == a.place) a.there; new = a.new; on = a.on; index = a.index }
 
-adds-or : (w : LinkRecord) (t : ℕ) (ps : List ℕ) → (added_on w t ps ≡ []) ⊎ Adds w t ps
-adds-or w t [] = inl refl
-adds-or w t (q ∷ ps) = step (is_new w q) refl (is_ordered_on w t (message_of w q)) refl (adds-or w t ps)
-  where
-    more : (added_on w t ps ≡ []) ⊎ Adds w t ps → (added_on w t ps ≡ []) ⊎ Adds w t (q ∷ ps)
-    more (inl e) = inl e
-    more (inr a) = inr (adds-more w t q ps a)
+    one : is_new w q ≡ true → is_ordered_on w t (message_of w q) ≡ true → (i : Bool) → (index_of w (message_of w q) == y) ≡ i
+        → (i || list_any (λ z. z == y) (added_on w t ps)) ≡ true → (list_any (λ z. z == y) (added_on w t ps) ≡ true → AddsAt w t y ps)
+        → AddsAt w t y (q ∷ ps)
+    one e f true i g ih = record {
+      place = q;
+      there = ap (λ b. b || list_any (λ p. p == q) ps) (same-yes q);
+      new = e;
+      on = f;
+      index = same-is (index_of w (message_of w q)) y i;
+    }
+    one e f false i g ih = more (ih g)
 
-    step : (b : Bool) → is_new w q ≡ b → (o : Bool) → is_ordered_on w t (message_of w q) ≡ o → (added_on w t ps ≡ []) ⊎ Adds w t ps
-        → (map (index_of w) (filter (is_ordered_on w t) (map (message_of w) (if b then q ∷ filter (is_new w) ps else filter (is_new w) ps))) ≡ [])
-        ⊎ Adds w t (q ∷ ps)
-    step false e o f ih = more ih
-    step true e true f ih = inr (record { place = q; there = ap (λ b. b || list_any (λ p. p == q) ps) (same-yes q); new = e; on = f })
-    step true e false f ih = skip (more ih)
+    step : (b : Bool) → is_new w q ≡ b → (o : Bool) → is_ordered_on w t (message_of w q) ≡ o → list_any (λ z. z == y)
+        (map (index_of w) (filter (is_ordered_on w t) (map (message_of w) (if b then q ∷ filter (is_new w) ps else filter (is_new w) ps)))) ≡ true
+        → (list_any (λ z. z == y) (added_on w t ps) ≡ true → AddsAt w t y ps) → AddsAt w t y (q ∷ ps)
+    step false e o f g ih = more (ih g)
+    step true e o f g ih = by o f (sym (ap (λ k. list_any (λ z. z == y) (map (index_of w) (if k then message_of w q
+        ∷ filter (is_ordered_on w t) (map (message_of w) (filter (is_new w) ps)) else filter (is_ordered_on w t) (map (message_of w) (filter (is_new w) ps)))))
+        f) ∙ g)
       where
-        skip : (added_on w t ps ≡ []) ⊎ Adds w t (q ∷ ps)
-            → (map (index_of w) (if is_ordered_on w t (message_of w q) then message_of w q ∷ filter (is_ordered_on w t)
-            (map (message_of w) (filter (is_new w) ps)) else filter (is_ordered_on w t) (map (message_of w) (filter (is_new w) ps))) ≡ []) ⊎ Adds w t (q ∷ ps)
-        skip (inl g) = inl (ap (λ o. map (index_of w) (if o then message_of w q ∷ filter (is_ordered_on w t) (map (message_of w) (filter (is_new w) ps))
-            else filter (is_ordered_on w t) (map (message_of w) (filter (is_new w) ps)))) f ∙ g)
-        skip (inr a) = inr a
+        by : (o : Bool) → is_ordered_on w t (message_of w q) ≡ o → list_any (λ z. z == y) (map (index_of w) (if o then message_of w q
+            ∷ filter (is_ordered_on w t) (map (message_of w) (filter (is_new w) ps))
+            else filter (is_ordered_on w t) (map (message_of w) (filter (is_new w) ps)))) ≡ true → AddsAt w t y (q ∷ ps)
+        by true f g = one e f (index_of w (message_of w q) == y) refl g ih
+        by false f g = more (ih g)
 
-module _ (w : LinkRecord) (ps : List ℕ) (all : spans_fit w [] ≡ true) (carried : (i : ℕ) → i < length ps → Carried w (slice_index_or ps i 0)) where
-  abbrev ms : List ℕ
-  ms = map (message_of w) (filter (is_new w) ps)
-
-  slots-fit : spans_fit w ms ≡ true → (p : ℕ) → list_any (λ q. q == p) ps ≡ true → slot_fits w ps p ≡ true
-  slots-fit e p there = step (is_new w p && (message_at w (message_of w p)).ordered)
-    where
-      step : (b : Bool) → (if b then fits w (added_on w (message_at w (message_of w p)).stream ps) (message_at w (message_of w p)).stream else true) ≡ true
-      step false = refl
-      step true = fits-span w (message_at w (message_of w p)).stream (added_on w (message_at w (message_of w p)).stream ps)
-          (span-open w (message_at w (message_of w p)).stream ms e (ap is_some (any-carried (Carried w) ps carried p there).known.1))
-
-  fit-slots : ((p : ℕ) → list_any (λ q. q == p) ps ≡ true → slot_fits w ps p ≡ true) → spans_fit w ms ≡ true
-  fit-slots h = each w.streams all
-    where
-      one : (t : ℕ) → fits w [] t ≡ true → (added_on w t ps ≡ []) ⊎ Adds w t ps → fits w (added_on w t ps) t ≡ true
-      one t e (inl none) = ap (λ more. fits w more t) none ∙ e
-      one t e (inr a) =
-          let n = message_of w a.place in
-          let stream = Line.on-stream w t n a.on in
-          let yes : (is_new w a.place && (message_at w n).ordered) ≡ true = and (is_new w a.place)
-          (message_at w n).ordered a.new (Line.on-ordered w t n a.on) in
-          let f = h a.place a.there in
-          subst (λ s. fits w (added_on w s ps) s ≡ true) stream
-          (sym (ap (λ b. if b then fits w (added_on w (message_at w n).stream ps) (message_at w n).stream else true) yes) ∙ f)
-
-      each : (rs : List StreamRecord) → list_all (λ r. fits w [] r.stream) rs ≡ true → list_all (λ r. fits w (added_on w r.stream ps) r.stream) rs ≡ true
-      each [] e = refl
-      each (r ∷ rs) e = let c = both (fits w [] r.stream) (list_all (λ r. fits w [] r.stream) rs) e in and (fits w (added_on w r.stream ps) r.stream)
-          (list_all (λ r. fits w (added_on w r.stream ps) r.stream) rs) (one r.stream c.0 (adds-or w r.stream ps)) (each rs c.1)
-
-  later : spans_fit w ms ≡ true → spans_fit (fold receive_slot w ps) ms ≡ true
-  later e = fits-all w w ps ps ms (record { setup = refl; network = refl; shape_is = refl }) (λ p h. h) (λ p h new. new-among w ps p h new) e
-
-  -- the test of all of them is that of each
-  pub arrival-fits-slots : arrival_fits w (Some (Data ps)) ≡ list_all (slot_fits w ps) ps
-  arrival-fits-slots =
-      joined (spans_fit w ms) (spans_fit (fold receive_slot w ps) ms) later
-      ∙ same_test (spans_fit w ms) (list_all (slot_fits w ps) ps) (λ e. all-each (slot_fits w ps) ps (slots-fit e))
-      (λ e. fit-slots (each-all (slot_fits w ps) ps e))
-    where
-      joined : (a b : Bool) → (a ≡ true → b ≡ true) → (a && b) ≡ a
-      joined true b h = h refl
-      joined false b h = refl
-
--- ## By the ends
+-- what lies from a low end on and less than 2^15 past it is near it
+ends-near : (low high : ℕ) (ys : List ℕ) → high < low + 2 ^ 15 → ((y : ℕ) → list_any (λ z. z == y) ys ≡ true → (low ≤ y) × (y < low + 2 ^ 15))
+    → greatest high ys < least low ys + 2 ^ 15
+ends-near low high [] lt all = lt
+ends-near low high (y ∷ ys) lt all =
+    let here = all y (ap (λ b. b || list_any (λ z. z == y) ys) (same-yes y)) in
+    let same : min low y ≡ low = omega (arith, here) in
+    subst (λ k. greatest (max high y) ys < least k ys + 2 ^ 15) (sym same)
+    (ends-near low (max high y) ys (omega (arith, lt, here)) (λ z h. all z (or-yes (y == z) h)))
 
 -- the test on a stream, from the ends of what is held, widened by what is added
-pub fits-ends : (w : LinkRecord) (s : ℕ) (more : List ℕ) → nat_lt (greatest (highest_held w s) more - least (lowest_held w s) more) 32768 ≡ fits w more s
+fits-ends : (w : LinkRecord) (s : ℕ) (more : List ℕ) → nat_lt (greatest (highest_held w s) more - least (lowest_held w s) more) 32768 ≡ fits w more s
 fits-ends w s more =
     let n = next_of w s in
     let xs = map (index_of w) (held_on w s) in
@@ -283,41 +245,116 @@ fits-ends w s more =
     lt-gap : (g l : ℕ) → nat_lt (g - l) 32768 ≡ nat_lt g (l + 2 ^ 15)
     lt-gap g l = same_test (nat_lt (g - l) 32768) (nat_lt g (l + 2 ^ 15)) (λ e. grind (arith, nat_tests)) (λ e. grind (arith, nat_tests))
 
--- one slot more widens them by its index, where it adds one
-added-first : (w : LinkRecord) (s q : ℕ) (qs : List ℕ) (b o : Bool) → is_new w q ≡ b → is_ordered_on w s (message_of w q) ≡ o
-    → added_on w s (q ∷ qs) ≡ (if b && o then index_of w (message_of w q) ∷ added_on w s qs else added_on w s qs)
-added-first w s q qs true true e f = rw (e, f) refl
-added-first w s q qs true false e f = rw (e, f) refl
-added-first w s q qs false o e f = rw e refl
+-- the test with one that lies at or past the index expected next
+pub fits-new : (w : LinkRecord) (s y : ℕ) → next_of w s ≤ y → nat_lt (max (highest_held w s) y - lowest_held w s) 32768 ≡ fits w (y ∷ []) s
+fits-new w s y le =
+    let start = least-start w s in
+    let same : lowest_held w s ≡ min (lowest_held w s) y = omega (arith, start, le) in
+    ap (λ l. nat_lt (max (highest_held w s) y - l) 32768) same ∙ fits-ends w s (y ∷ [])
 
-drop-suc : (ps : List ℕ) (i : ℕ) → i < length ps → drop i ps ≡ slice_index_or ps i 0 ∷ drop (suc i) ps
-drop-suc [] i lt = absurd (omega arith)
-drop-suc (p ∷ ps) zero lt = refl
-drop-suc (p ∷ ps) (suc i) lt = drop-suc ps i (omega (arith, lt))
-
-drop-next : (ps : List ℕ) (i : ℕ) → i < length ps → drop i ps ≡ slice_index_or ps i 0 ∷ drop (i + 1) ps
-drop-next ps i lt = drop-suc ps i lt ∙ ap (λ k. slice_index_or ps i 0 ∷ drop k ps) (sym (add-one i))
-
-pub widened-next : (w : LinkRecord) (s : ℕ) (ps : List ℕ) (i : ℕ) (index : Option ℕ) (old new : ℕ × ℕ) → i < length ps
-    → index ≡ (if adds_on w s (slice_index_or ps i 0) then Some (index_of w (message_of w (slice_index_or ps i 0))) else None)
-    → ((k : ℕ) → index ≡ Some k → new ≡ (min old.0 k, max old.1 k)) → (index ≡ None → new ≡ old)
-    → (least new.0 (added_on w s (drop (i + 1) ps)) ≡ least old.0 (added_on w s (drop i ps)))
-    × (greatest new.1 (added_on w s (drop (i + 1) ps)) ≡ greatest old.1 (added_on w s (drop i ps)))
-widened-next w s ps i index old new lt is some none =
-    let p = slice_index_or ps i 0 in
-    let rest = drop (i + 1) ps in
-    let first = ap (added_on w s) (drop-next ps i lt) ∙ added-first w s p rest (is_new w p) (is_ordered_on w s (message_of w p)) refl refl in
-    let r = step (adds_on w s p) is in
-    (r.0 ∙ ap (least old.0) (sym first), r.1 ∙ ap (greatest old.1) (sym first))
+-- what passes one by one, and lies at or past the index expected next, passes together
+fits-each : (w : LinkRecord) (s : ℕ) (more : List ℕ) → fits w [] s ≡ true
+    → ((y : ℕ) → list_any (λ z. z == y) more ≡ true → (next_of w s ≤ y) × (fits w (y ∷ []) s ≡ true)) → fits w more s ≡ true
+fits-each w s more none each =
+    let low = lowest_held w s in
+    let high = highest_held w s in
+    let near = ends-near low high more (gap high low (fits-ends w s [] ∙ none)) (λ y h. inside y (each y h)) in
+    sym (fits-ends w s more) ∙ within (greatest high more) (least low more) near
   where
-    step : (b : Bool) → index ≡ (if b then Some (index_of w (message_of w (slice_index_or ps i 0))) else None) → (least new.0 (added_on w s (drop (i + 1) ps))
-        ≡ least old.0 (if b then index_of w (message_of w (slice_index_or ps i 0)) ∷ added_on w s (drop (i + 1) ps) else added_on w s (drop (i + 1) ps)))
-        × (greatest new.1 (added_on w s (drop (i + 1) ps))
-        ≡ greatest old.1 (if b then index_of w (message_of w (slice_index_or ps i 0)) ∷ added_on w s (drop (i + 1) ps) else added_on w s (drop (i + 1) ps)))
-    step true e = let z = some (index_of w (message_of w (slice_index_or ps i 0))) e in
-        (ap (λ (x : ℕ × ℕ). least x.0 (added_on w s (drop (i + 1) ps))) z, ap (λ (x : ℕ × ℕ). greatest x.1 (added_on w s (drop (i + 1) ps))) z)
-    step false e = let z = none e in
-        (ap (λ (x : ℕ × ℕ). least x.0 (added_on w s (drop (i + 1) ps))) z, ap (λ (x : ℕ × ℕ). greatest x.1 (added_on w s (drop (i + 1) ps))) z)
+    gap : (g l : ℕ) → nat_lt (g - l) 32768 ≡ true → g < l + 2 ^ 15
+    gap g l e = grind (arith, nat_tests)
+
+    within : (g l : ℕ) → g < l + 2 ^ 15 → nat_lt (g - l) 32768 ≡ true
+    within g l lt = grind (arith, nat_tests)
+
+    inside : (y : ℕ) → (next_of w s ≤ y) × (fits w (y ∷ []) s ≡ true) → (lowest_held w s ≤ y) × (y < lowest_held w s + 2 ^ 15)
+    inside y f =
+        let start = least-start w s in
+        let lt = gap (max (highest_held w s) y) (lowest_held w s) (fits-new w s y f.0 ∙ f.1) in
+        (omega (arith, start, f.0), omega (arith, lt))
+
+-- a stream's one index among those added
+only-one : (i y : ℕ) → list_any (λ z. z == y) (i ∷ []) ≡ true → y ≡ i
+only-one i y h = by (i == y) refl h
+  where
+    by : (b : Bool) → (i == y) ≡ b → (b || false) ≡ true → y ≡ i
+    by true e g = sym (same-is i y e)
+    by false e g = cc
+
+-- an ordered message is one of its stream
+own-stream : (w : LinkRecord) (p : ℕ) → Carried w p → (message_at w (message_of w p)).ordered ≡ true
+    → is_ordered_on w (message_at w (message_of w p)).stream (message_of w p) ≡ true
+own-stream w p c kind =
+    let m = message_at w (message_of w p) in
+    and (m.stream == m.stream) (m.ordered && not m.expired) (same-yes m.stream) (and m.ordered (not m.expired) kind (ap not c.alive))
+
+module _ (w : LinkRecord) (ps : List ℕ) (valid : Valid w) (all : spans_fit w [] ≡ true)
+    (carried : (i : ℕ) → i < length ps → Carried w (slice_index_or ps i 0)) where
+  abbrev ms : List ℕ
+  ms = map (message_of w) (filter (is_new w) ps)
+
+  slots-fit : spans_fit w ms ≡ true → (p : ℕ) → list_any (λ q. q == p) ps ≡ true → slot_fits w p ≡ true
+  slots-fit e p there = step (is_new w p && (message_at w n).ordered) refl
+    where
+      n : ℕ
+      n = message_of w p
+
+      c : Carried w p
+      c = any-carried (Carried w) ps carried p there
+
+      s : ℕ
+      s = (message_at w n).stream
+
+      sp : IsSpan w s (added_on w s ps)
+      sp = span-open w s ms e (ap is_some c.known.1)
+
+      step : (b : Bool) → (is_new w p && (message_at w n).ordered) ≡ b → (if b then fits w (index_of w n ∷ []) s else true) ≡ true
+      step false h = refl
+      step true h =
+          let f = both (is_new w p) (message_at w n).ordered h in
+          let there' = added-any w s n ms (own-stream w p c f.1) (new-among w ps p there f.0) in
+          fits-span w s (index_of w n ∷ []) (record {
+            low = sp.low;
+            high = sp.high;
+            short = sp.short;
+            next = sp.next;
+            held = sp.held;
+            others = λ y g. sp.others y (ap (λ k. list_any (λ z. z == k) (added_on w s ps)) (only-one (index_of w n) y g) ∙ there');
+          })
+
+  fit-slots : ((p : ℕ) → list_any (λ q. q == p) ps ≡ true → slot_fits w p ≡ true) → spans_fit w ms ≡ true
+  fit-slots h = each w.streams all
+    where
+      one : (t y : ℕ) → AddsAt w t y ps → (next_of w t ≤ y) × (fits w (y ∷ []) t ≡ true)
+      one t y a =
+          let n = message_of w a.place in
+          let c = any-carried (Carried w) ps carried a.place a.there in
+          let yes : (is_new w a.place && (message_at w n).ordered) ≡ true = and (is_new w a.place)
+          (message_at w n).ordered a.new (Line.on-ordered w t n a.on) in
+          let f = sym (ap (λ b. if b then fits w (index_of w n ∷ []) (message_at w n).stream else true) yes) ∙ h a.place a.there in (
+            omega (arith, new-past w t a.place valid c a.new a.on, a.index),
+            sym (ap (λ k. fits w (k ∷ []) t) a.index) ∙ sym (ap (fits w (index_of w n ∷ [])) (Line.on-stream w t n a.on)) ∙ f,
+          )
+
+      each : (rs : List StreamRecord) → list_all (λ r. fits w [] r.stream) rs ≡ true → list_all (λ r. fits w (added_on w r.stream ps) r.stream) rs ≡ true
+      each [] e = refl
+      each (r ∷ rs) e = let c = both (fits w [] r.stream) (list_all (λ r. fits w [] r.stream) rs) e in and (fits w (added_on w r.stream ps) r.stream)
+          (list_all (λ r. fits w (added_on w r.stream ps) r.stream) rs)
+          (fits-each w r.stream (added_on w r.stream ps) c.0 (λ y g. one r.stream y (added-from w r.stream y ps g))) (each rs c.1)
+
+  later : spans_fit w ms ≡ true → spans_fit (fold receive_slot w ps) ms ≡ true
+  later e = fits-all w w ps ps ms (record { setup = refl; network = refl; shape_is = refl }) (λ p h. h) (λ p h new. new-among w ps p h new) e
+
+  -- the test of all of them is that of each
+  pub arrival-fits-slots : arrival_fits w (Some (Data ps)) ≡ list_all (slot_fits w) ps
+  arrival-fits-slots =
+      joined (spans_fit w ms) (spans_fit (fold receive_slot w ps) ms) later
+      ∙ same_test (spans_fit w ms) (list_all (slot_fits w) ps) (λ e. all-each (slot_fits w) ps (slots-fit e))
+      (λ e. fit-slots (each-all (slot_fits w) ps e))
+    where
+      joined : (a b : Bool) → (a ≡ true → b ≡ true) → (a && b) ≡ a
+      joined true b h = h refl
+      joined false b h = refl
 
 -- ## At a link
 
@@ -326,23 +363,8 @@ pub lying : (sum : List ℕ → ℕ) (x : State) (l : IsLinked sum x) (p : ℕ) 
 lying sum x l p s = subst (Carried x.recorded) s.5 (all-carried sum x l s.0 s.1 s.3 s.2 s.4)
 
 pub data-fits : (sum : List ℕ → ℕ) (x : State) (l : IsLinked sum x) (k : ℕ) (ps : List ℕ) → slice_get x.recorded.network k ≡ Some (Data ps)
-    → arrival_fits x.recorded (Some (Data ps)) ≡ list_all (slot_fits x.recorded ps) ps
-data-fits sum x l k ps e = arrival-fits-slots x.recorded ps (facts sum x l).spans (all-carried sum x l k ps e)
-
--- whether it adds to stream s
-pub adds-is : (w : LinkRecord) (s p : ℕ) → Carried w p
-    → (((message_at w (message_of w p)).stream == s) && (message_at w (message_of w p)).ordered && is_new w p) ≡ adds_on w s p
-adds-is w s p c =
-    turn ((message_at w (message_of w p)).stream == s) (message_at w (message_of w p)).ordered (is_new w p) (message_at w (message_of w p)).expired c.alive
-  where
-    turn : (a o new e : Bool) → e ≡ false → ((a && o) && new) ≡ (new && (a && (o && not e)))
-    turn true true true false h = refl
-    turn true true false false h = refl
-    turn true false true false h = refl
-    turn true false false false h = refl
-    turn false o true false h = refl
-    turn false o false false h = refl
-    turn a o new true h = cc
+    → arrival_fits x.recorded (Some (Data ps)) ≡ list_all (slot_fits x.recorded) ps
+data-fits sum x l k ps e = arrival-fits-slots x.recorded ps (facts sum x l).valid.valid (facts sum x l).spans (all-carried sum x l k ps e)
 
 -- the element at a place
 pub at-place : (ps : List ℕ) (i q : ℕ) → slice_get ps i ≡ Some q → slice_index_or ps i 0 ≡ q
@@ -383,3 +405,9 @@ module _ {C : Type 0} (sum : List ℕ → ℕ) (a : Inside C) (l : IsLinked sum 
     index-kept m is =
         kept-raw sum (state_in a) l a.slots.items a.messages.items refl refl refl (message_of (record_in a) p) m k.made
         ∙ ap (λ (t : Message). t.index) (sym (is ∙ ap (λ i. slice_index_or a.messages.items i m) number-kept))
+
+  pub kept-past : (k : IsKept a p) → is_new (record_in a) p ≡ true → (message_at (record_in a) (message_of (record_in a) p)).ordered ≡ true
+      → next_of (record_in a) (message_at (record_in a) (message_of (record_in a) p)).stream ≤ index_of (record_in a) (message_of (record_in a) p)
+  kept-past k new kind =
+      let w = record_in a in
+      new-past w (message_at w (message_of w p)).stream p (facts sum (state_in a) l).valid.valid k.carried new (own-stream w p k.carried kind)

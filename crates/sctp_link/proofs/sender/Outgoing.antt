@@ -111,20 +111,15 @@ module _ (sum : List ℕ → ℕ) (x : State) (l : IsLinked sum x) (tsn : ℕ) (
   own : tsn_of x.recorded p ≡ tsn
   own = let f = l.setup.first in omega (arith, f, small)
 
-  found : Found x.recorded p cs
+  -- the chunk in flight with the TSN
+  pub found : Found x.recorded p cs
   found =
       let f = facts sum x l in
       found-in x.recorded p (omega (arith, below, f.few)) cs x.recorded.taken (length x.recorded.slots - x.recorded.taken)
       (omega (arith, f.few, f.taken)) from (omega (arith, below, f.taken)) l.outbound.in_flight
 
-  there : find (has_tsn tsn) cs ≡ Some found.chunk
+  pub there : find (has_tsn tsn) cs ≡ Some found.chunk
   there = ap (λ t. find (has_tsn t) cs) (sym own) ∙ found.is
-
-  pub never-gone : find (has_tsn tsn) cs ≡ None → ⊥
-  never-gone e = differ (sym there ∙ e)
-    where
-      differ : {A : Type 0} {a : A} → Some a ≡ None → ⊥
-      differ e = cc
 
   -- what is found says what its slot does
   pub resend-says : (c : ChunkPayloadData) → find (has_tsn tsn) cs ≡ Some c → data_of c ≡ data_of (chunk_at x.recorded p)

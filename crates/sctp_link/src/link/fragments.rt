@@ -9,9 +9,10 @@ ghost use Rattle.sctp_outbound.specs.outbound_queue.OutboundQueue.{after_sends};
 ghost use Rattle.sctp_model.specs.Changes.{chunk_length};
 ghost use Rattle.sctp_refinement.specs.Filling.{chunks_taken};
 ghost use Rattle.sctp_link.specs.OpenStreams.{begun_of, fragment_slot, with_fragment, begun_by};
-ghost use Rattle.sctp_link.specs.Sends.{Outgoing, outgoing_of, CanSend, Leaves, Leave, SendsOnly};
+ghost use Rattle.sctp_link.specs.Sends.{AreNoted, Outgoing, outgoing_of, started_from, CanSend, Leaves, Leave, SendsOnly};
 ghost use Rattle.sctp_serial.specs.DataChunks.{under_tsn};
 
+use super::streams::start_from;
 use crate::record::{Message, Slot};
 use sctp_base::error::Result;
 use sctp_chunks::chunk::chunk_kind::ChunkKind;
@@ -98,9 +99,38 @@ pub(super) fn places_from(alloc: Global, first: usize, count: usize) -> Result<V
     Ok(places)
 }
 
-/// Takes the next fragments, one after another: each gets a slot and the next TSN; `now` is in nanoseconds.
+/// Starts the lifetimes of the messages from a place on, and takes the next fragments, one after another: each gets a slot and the next TSN,
+/// and is noted as sent once, at `now`, in nanoseconds, as lifetimes are.
 /// Precondition: each can leave in its turn, and there is room for all of them.
-pub(super) fn take_fragments(
+pub(super) fn send_fragments(
+    sender: &mut Sender,
+    progress: &mut Progress,
+    messages: &mut [Message],
+    unstarted: usize,
+    slots: &mut Vec<Slot>,
+    now: u64,
+    count: usize,
+)
+    requires able { (i : ℕ) (s : Outgoing) → i < count
+        → Leave now i (started_from unstarted now
+        (outgoing_of sender.old progress.old messages.old slots.old.items)) s → CanSend s }
+    requires flight { count ≤ sender.old.flight.queue.inflight.room }
+    requires room { vec_len slots.old + count ≤ vec_capacity slots.old }
+    ensures leave { Leave now count (started_from unstarted now
+        (outgoing_of sender.old progress.old messages.old slots.old.items))
+        (outgoing_of sender.new progress.new messages.new slots.new.items) }
+    ensures noted { AreNoted now count
+        sender.old.flight.queue.inflight.chunks sender.new.flight.queue.inflight.chunks }
+    ensures rest { SendsOnly sender.old sender.new }
+{
+    sender.start(now);
+    start_from(messages, unstarted, now);
+    take_fragments(sender, progress, messages, slots, now, count);
+}
+
+/// Takes the next fragments, one after another: each gets a slot and the next TSN, and is noted as sent once, at `now`, in nanoseconds.
+/// Precondition: each can leave in its turn, and there is room for all of them.
+fn take_fragments(
     sender: &mut Sender,
     progress: &mut Progress,
     messages: &mut [Message],
@@ -115,6 +145,8 @@ pub(super) fn take_fragments(
     ensures leave { Leave now count
         (outgoing_of sender.old progress.old messages.old slots.old.items)
         (outgoing_of sender.new progress.new messages.new slots.new.items) }
+    ensures noted { AreNoted now count
+        sender.old.flight.queue.inflight.chunks sender.new.flight.queue.inflight.chunks }
     ensures rest { SendsOnly sender.old sender.new }
 {
     for _at in 0..count {
@@ -122,7 +154,7 @@ pub(super) fn take_fragments(
     }
 }
 
-/// Takes the next fragment: it gets a slot and the next TSN; `now` is in nanoseconds.
+/// Takes the next fragment: it gets a slot and the next TSN, and is noted as sent once, at `now`, in nanoseconds.
 /// Precondition: it can leave, and there is room for it.
 fn take_next(
     sender: &mut Sender,
@@ -136,6 +168,8 @@ fn take_next(
     requires room { vec_len slots.old < vec_capacity slots.old }
     ensures leaves { Leaves now (outgoing_of sender.old progress.old messages.old slots.old.items)
         (outgoing_of sender.new progress.new messages.new slots.new.items) }
+    ensures noted { AreNoted now 1
+        sender.old.flight.queue.inflight.chunks sender.new.flight.queue.inflight.chunks }
     ensures rest { SendsOnly sender.old sender.new }
     ensures flight { sender.old.flight.queue.inflight.room
         ≡ sender.new.flight.queue.inflight.room + 1 }

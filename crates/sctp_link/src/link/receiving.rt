@@ -22,13 +22,13 @@ use sctp_receiver::receiver::refusal::ReceiverRefusal;
 
 impl<C: Checksum + Drop> Link<C> {
     ghost use Rattle.sctp_model.specs.LinkRecord.{Data};
-    ghost use Rattle.sctp_model.specs.Messages.{message_at, message_of, index_of, tsn_of, is_open};
+    ghost use Rattle.sctp_model.specs.Messages.{message_at, index_of, tsn_of, is_open};
     ghost use Rattle.sctp_model.specs.Receiver.{is_new, is_held, held_on, next_of, least, greatest};
     ghost use Rattle.sctp_model.specs.Queues.{set_of};
     ghost use Rattle.sctp_model.specs.Steps.{IsRight, refusal_of, is_for_receiver, arrival_fits};
     ghost use Rattle.sctp_model.specs.declared.event.Event.TheVariants as E;
     ghost use Rattle.sctp_link.specs.Replies.{reply_of};
-    ghost use Rattle.sctp_link.specs.Receiving.{LiesSomewhere, adds_on, added_on, slot_fits};
+    ghost use Rattle.sctp_link.specs.Receiving.{LiesSomewhere, slot_fits};
 
     /// Why datagram k is not taken by the receiver, if it is not.
     pub(super) fn refusal_arrive(&self, k: u64) -> Option<LinkRefusal>
@@ -52,18 +52,17 @@ impl<C: Checksum + Drop> Link<C> {
         // What holds of the fields is known once one of them is read.
         let _fragments = self.fragments;
         for at in 0..places.len() {
-            if !self.slot_fits(places[at] as usize, places) {
+            if !self.slot_fits(places[at] as usize) {
                 return false;
             }
         }
         true
     }
 
-    // So on the stream of the slot at a place.
-    fn slot_fits(&self, place: usize, places: &[u64]) -> bool
-        requires lies { (k : ℕ) × (slice_get self.now.recorded.network k ≡ Some (Data places.now)) }
-        requires place { LiesSomewhere self.now.recorded place }
-        ensures { result ≡ slot_fits self.now.recorded places.now place }
+    // So once the slot at a place has come. What is new lies at or past the index expected next: so each slot is tested by itself.
+    fn slot_fits(&self, place: usize) -> bool
+        requires { LiesSomewhere self.now.recorded place }
+        ensures { result ≡ slot_fits self.now.recorded place }
     {
         let message = &self.messages[self.slots[place].message as usize];
         if !message.ordered {
@@ -72,36 +71,8 @@ impl<C: Checksum + Drop> Link<C> {
         if !self.is_new(place) {
             return true;
         }
-        let range = self.index_range(message.stream);
-        let (low, high) = self.widen(message.stream, places, range);
-        high.saturating_sub(low) < 0x8000
-    }
-
-    // Ends, widened by the indexes that the new ones of these slots add on a stream.
-    fn widen(&self, stream: u16, places: &[u64], ends: (u64, u64)) -> (u64, u64)
-        requires { (k : ℕ) × (slice_get self.now.recorded.network k ≡ Some (Data places.now)) }
-        ensures low { result.0 ≡ least ends.0 (added_on self.now.recorded stream places.now) }
-        ensures high { result.1 ≡ greatest ends.1 (added_on self.now.recorded stream places.now) }
-    {
-        let mut ends = ends;
-        for at in 0..places.len() {
-            ends = wider(ends, self.index_added(stream, places[at] as usize));
-        }
-        ends
-    }
-
-    // The index that the slot at a place adds on a stream, where it is new and of an ordered message of it.
-    fn index_added(&self, stream: u16, place: usize) -> Option<u64>
-        requires { LiesSomewhere self.now.recorded place }
-        ensures { result ≡ (if adds_on self.now.recorded stream place
-            then Some (index_of self.now.recorded (message_of self.now.recorded place)) else None) }
-    {
-        let message = &self.messages[self.slots[place].message as usize];
-        let adds = (message.stream == stream) & message.ordered & self.is_new(place);
-        if !adds {
-            return None;
-        }
-        Some(message.index)
+        let (low, high) = self.index_range(message.stream);
+        high.max(message.index).saturating_sub(low) < 0x8000
     }
 
     // The least and the greatest of the index expected next and those of the messages held: they stand at the ends of the queue.
@@ -236,17 +207,6 @@ fn memory_of_receiver(refusal: ReceiverRefusal) -> Error
         ReceiverRefusal::OutOfMemory => Error::ErrOutOfMemory,
         _ => unreachable!(),
     }
-}
-
-// Ends, widened by an index where there is one.
-fn wider(ends: (u64, u64), index: Option<u64>) -> (u64, u64)
-    ensures some { (k : ℕ) → index ≡ Some k → result ≡ (min ends.0 k, max ends.1 k) }
-    ensures none { index ≡ None → result ≡ ends }
-{
-    let Some(index) = index else {
-        return ends;
-    };
-    (ends.0.min(index), ends.1.max(index))
 }
 
 // The refusal of what fails the span test.

@@ -1,17 +1,30 @@
 //! What a link sends, and sends again.
 
-ghost use Rattle.std.specs.Prelude.{◌≡◌, ◌<◌, ◌≤◌, ◌+◌, ◌-◌, ◌^◌, ◌∷◌, ◌++◌, ℕ, [], None, Some, OnOk, OnErr, IfOk, IsOkUnless, length, true};
+ghost use Rattle.std.specs.Prelude.{◌≡◌, ◌<◌, ◌≤◌, ◌+◌, ◌-◌, ◌^◌, ◌∷◌, ◌++◌, ℕ, [], None, Some, OnOk, OnErr, IfOk, IsOkUnless, find, is_some, length, true};
 ghost use Rattle.sctp_base.specs.declared.error.Error.TheVariants.{ErrOutOfMemory};
+ghost use Rattle.sctp_data.specs.declared.chunk.chunk_payload_data.ChunkPayloadData.{ChunkPayloadData};
+ghost use Rattle.sctp_chunks.specs.declared.chunk.chunk_kind.ChunkKind.TheVariants.{PayloadData};
+ghost use Rattle.sctp_chunks.specs.Wire.{HasEncoding};
+ghost use Rattle.sctp_chunks.specs.Fits.{Canonical};
+ghost use Rattle.sctp_chunks.specs.Kind.{wire_of};
+ghost use Rattle.sctp_packets.specs.Packet.{ReadsPacket, packet_encoding};
+ghost use Rattle.sctp_sender.specs.Flight.{resent};
+ghost use Rattle.sctp_sender.specs.Sender.{with_flight};
+ghost use Rattle.sctp_serial.specs.DataChunks.{has_tsn};
+ghost use Rattle.sctp_link.specs.Encodings.{packet_with};
+ghost use Rattle.sctp_link.specs.Sends.{counted_again};
 
-use super::fragments::{next_chunks, places_from, take_fragments};
-use super::streams::start_from;
+use super::fragments::{next_chunks, places_from, send_fragments};
 use super::{Link, memory, put};
 use crate::datagram::{write_chunks, write_datagram};
 use crate::event::{LinkRefusal, Reply};
 use crate::record::{Datagram, Kind};
+use bytes::Bytes;
 use sctp_base::error::Result;
 use sctp_base::util::Checksum;
 use sctp_chunks::chunk::chunk_kind::ChunkKind;
+use sctp_sender::sender::Sender;
+use std::alloc::Global;
 
 impl<C: Checksum + Drop> Link<C> {
     ghost use Rattle.sctp_model.specs.Queues.{is_cleared};
@@ -45,17 +58,16 @@ impl<C: Checksum + Drop> Link<C> {
             Ok(()) => {}
             Err(refusal) => return Err(memory(refusal)),
         }
-        self.sender.start(now);
-        start_from(&mut self.messages, self.unstarted, now);
-        self.unstarted = self.messages.len();
-        take_fragments(
+        send_fragments(
             &mut self.sender,
             &mut self.progress,
             &mut self.messages,
+            self.unstarted,
             &mut self.slots,
             now,
             count,
         );
+        self.unstarted = self.messages.len();
         let datagram = self.network.len() as u64;
         let kind = Kind::Data { places };
         put(&mut self.network, Datagram { kind, bytes });
@@ -97,17 +109,52 @@ impl<C: Checksum + Drop> Link<C> {
         ensures err { OnErr result (self.new.recorded ≡ self.old.recorded) }
         ensures memory { IsOkUnless result ErrOutOfMemory }
     {
-        let Some(chunk) = self.sender.outbound().get(tsn) else {
-            unreachable!()
-        };
-        let chunk = chunk.try_clone()?;
         let places = places_from(self.alloc, tsn.wrapping_sub(self.first_tsn) as usize, 1)?;
-        let bytes = write_datagram(self.alloc, ChunkKind::PayloadData(chunk), &self.checksum)?;
         self.network.reserve(1)?;
-        self.sender.count_resend(tsn);
+        let bytes = write_again(self.alloc, &mut self.sender, tsn, &self.checksum)?;
         let datagram = self.network.len() as u64;
         let kind = Kind::Data { places };
         put(&mut self.network, Datagram { kind, bytes });
         Ok(Reply::Resent { datagram })
     }
+}
+
+// Writes the datagram of the chunk in flight with a TSN, and counts one more sending of it, up to the greatest u32; the moment noted for it
+// stays that of its first sending. Refuses only for memory, and the sender is as it was then. There is such a chunk, and it has an encoding,
+// which reads back.
+fn write_again<C: Checksum>(
+    alloc: Global,
+    sender: &mut Sender,
+    tsn: u32,
+    checksum: &C,
+) -> Result<Bytes>
+    requires held { is_some (find (has_tsn tsn) sender.old.flight.queue.inflight.chunks) ≡ true }
+    requires encoding { (c : ChunkPayloadData)
+        → find (has_tsn tsn) sender.old.flight.queue.inflight.chunks ≡ Some c
+        → HasEncoding (wire_of (PayloadData c)) }
+    requires canonical { (c : ChunkPayloadData)
+        → find (has_tsn tsn) sender.old.flight.queue.inflight.chunks ≡ Some c
+        → Canonical (wire_of (PayloadData c)) }
+    ensures noted { OnOk result ((c : ChunkPayloadData)
+        → find (has_tsn tsn) sender.old.flight.queue.inflight.chunks ≡ Some c
+        → find (has_tsn tsn) sender.new.flight.queue.inflight.chunks ≡ Some (counted_again c)) }
+    ensures counted { OnOk result ((c : ChunkPayloadData)
+        → find (has_tsn tsn) sender.old.flight.queue.inflight.chunks ≡ Some c
+        → sender.new ≡ with_flight (resent tsn c sender.old.flight) sender.old) }
+    ensures encoding { IfOk result (λ b. (c : ChunkPayloadData)
+        → find (has_tsn tsn) sender.old.flight.queue.inflight.chunks ≡ Some c
+        → b ≡ packet_encoding (C.sum checksum.now) (packet_with (wire_of (PayloadData c) ∷ []))) }
+    ensures reads { IfOk result (λ b. (c : ChunkPayloadData)
+        → find (has_tsn tsn) sender.old.flight.queue.inflight.chunks ≡ Some c
+        → ReadsPacket (C.sum checksum.now) b (packet_with (wire_of (PayloadData c) ∷ []))) }
+    ensures err { OnErr result (sender.new ≡ sender.old) }
+    ensures memory { IsOkUnless result ErrOutOfMemory }
+{
+    let Some(chunk) = sender.outbound().get(tsn) else {
+        unreachable!()
+    };
+    let chunk = chunk.try_clone()?;
+    let bytes = write_datagram(alloc, ChunkKind::PayloadData(chunk), checksum)?;
+    sender.count_resend(tsn);
+    Ok(bytes)
 }

@@ -9,14 +9,14 @@ use Rattle.sctp_link.proofs.receiver.Spans.{data-fits, at-place}
 use Rattle.sctp_link.proofs.skipping.SkipComes.{all-more, all-no}
 use Rattle.sctp_link.proofs.link.Link.span_fits.Goals as goal
 
-pub slot_fits-requires-clause-place : goal.slot_fits-requires-clause-place
-slot_fits-requires-clause-place g c =
+pub slot_fits-requires : goal.slot_fits-requires
+slot_fits-requires g c =
     let k = c.requires in
     (k.0, c.args.places.now, c.loop-at.at, k.1, c.loop-at-test.true, refl)
 
 pub returns-then-not-slot_fits : goal.returns-then-not-slot_fits
 returns-then-not-slot_fits g c =
-    let f = slot_fits c.args.self.now.recorded c.args.places.now in
+    let f = slot_fits c.args.self.now.recorded in
     let lies : (k : ℕ) × (slice_get (record_in c.self.inside).network k ≡ Some (Data c.args.places.now)) = rw (← c.self.view_is) at c.requires in
     let all = all-no f c.args.places.now (c.loop-at.at + 1) (all-more f c.args.places.now c.loop-at.at c.slot_fits.result c.loop-at-test.true
     (λ q e. c.slot_fits.ensures ∙ ap f (at-place c.args.places.now c.loop-at.at q e)) c.loop-at.invariant ∙ c.if-not-slot_fits.true) in
@@ -25,13 +25,13 @@ returns-then-not-slot_fits g c =
 
 pub loop-at-preserved : goal.loop-at-preserved
 loop-at-preserved g c =
-    let f = slot_fits c.args.self.now.recorded c.args.places.now in
+    let f = slot_fits c.args.self.now.recorded in
     all-more f c.args.places.now c.loop-at.at c.slot_fits.result c.loop-at-test.true (λ q e. c.slot_fits.ensures
     ∙ ap f (at-place c.args.places.now c.loop-at.at q e)) c.loop-at.invariant ∙ c.if-not-slot_fits.false
 
 pub returns : goal.returns
 returns g c =
-    let f = slot_fits c.args.self.now.recorded c.args.places.now in
+    let f = slot_fits c.args.self.now.recorded in
     let lies : (k : ℕ) × (slice_get (record_in c.self.inside).network k ≡ Some (Data c.args.places.now)) = rw (← c.self.view_is) at c.requires in
     let all = ap (list_all f) (sym (take_all c.loop-at.at c.args.places.now (omega (arith, c.loop-at-test.false)))) ∙ c.loop-at.invariant in
     sym ((rw (← c.self.view_is)

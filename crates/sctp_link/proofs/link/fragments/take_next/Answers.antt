@@ -7,6 +7,7 @@ use Rattle.sctp_sender.specs.Flight.{may_send}
 use Rattle.sctp_link.specs.OpenStreams.{begun_by}
 use Rattle.sctp_link.proofs.sides.Opening.{on-ok, not-err}
 use Rattle.sctp_link.proofs.sender.Ahead.{room-less}
+use Rattle.sctp_link.proofs.sender.Noted.{noted-next}
 use Rattle.sctp_link.proofs.link.fragments.take_next.Goals as goal
 use Rattle.sctp_serial.specs.DataChunks.{following_tsn}
 
@@ -15,6 +16,12 @@ unreachable-requires-then-is_err c =
     let lt : length c.args.sender.now.flight.queue.inflight.chunks + 1 < 2 ^ 31 = c.requires.able.room in
     let next : may_send c.args.sender.now.flight ≡ true = grind (arith, nat_tests) in
     not-err c.send_next_tsn_unbounded.result (c.send_next_tsn_unbounded.ensures.succeeds c.requires.flight next) (sym c.is_err.ensures.value ∙ c.if-is_err.true)
+
+pub returns-clause-noted : goal.returns-clause-noted
+returns-clause-noted c =
+    let f = c.args.sender.now.flight in
+    let sent = on-ok c.send_next_tsn_unbounded.result c.is_err.result c.is_err.ensures.value c.if-is_err.false c.send_next_tsn_unbounded.ensures.ok in
+    rw sent (noted-next f.queue f.next_tsn c.args.now c.requires.able.chunk c.requires.able.shown)
 
 pub returns-clause-rest : goal.returns-clause-rest
 returns-clause-rest c =
