@@ -7,8 +7,9 @@
 run at the top of the repository. The first finds the kit's command `rt` on the PATH and runs over libraries that `rt check` has proved. The gate
 asks of a file must-fail/*.edit only that the crate with all its wrong bodies is refused, and does not try must-fail/*.md; here the bodies of both
 are put into as few copies of the crate as have at most one in each function, and each must be refused in its own function. Prints those that are
-not, and ends with a count; the exit status is 0 where each was refused. With words it tries those alone whose file's name or title has one of
-them.
+not, and ends with a count; the exit status is 0 where each was refused. Of a copy that doesn't compile, or whose check was killed or ended
+without a verdict, it says so: none of its bodies is judged then, and the exit status is 1. With words it tries those alone whose file's name or
+title has one of them.
 
 With --pack it tries nothing: it writes must-fail/ anew. 0_bodies.edit, which the gate tries, keeps its wrong bodies and takes those of each file
 whose first line begins with "First: "; a crate of whose wrong bodies the gate tries none has no such file. All others stand in 1_bodies.md,
@@ -20,6 +21,7 @@ import importlib.util
 import os
 import re
 import shutil
+import signal
 import sys
 import tempfile
 
@@ -204,6 +206,21 @@ def refused_in(out):
     return found
 
 
+def why_not_judged(status, out, is_unread):
+    """Returns why a check that ended with this status and these lines judged nothing, "" where it judged; is_unread tells of a line that the
+    prover could not read the text that it names."""
+    if status == -signal.SIGKILL:
+        return "its check was killed, most likely for memory"
+    lines = [it for it in out.split("\n") if it.strip()]
+    judged = any(it.startswith("logic=") for it in lines)
+    bad = next((it for it in lines if is_unread(it) or (not judged and re.search(r"\berror\[[\w-]+\]", it))), "")
+    if bad:
+        return f"doesn't compile: {bad}"
+    if status in (0, 1) and judged:
+        return ""
+    return f"its check ended with status {status} and no verdict: {(lines or ['it said nothing'])[-1]}"
+
+
 def is_refused(functions, refused, crate):
     """Returns whether one of these functions, each a file, a type, a name and a line, is among the refused."""
     for path, owner, name, _ in functions:
@@ -230,7 +247,7 @@ def main():
     room = f"{crate.folder}/must-fail"
     bodies = [it for edit in sorted(os.listdir(room)) if edit.endswith(ENDINGS) for it in named(f"{room}/{edit}")]
     bodies = [it for it in bodies if not words or any(word in it[0] for word in words)]
-    survived = 0
+    survived, unjudged = 0, 0
     with tempfile.TemporaryDirectory(prefix="wrong-bodies-") as room:
         kept = f"{room}/kept"
         if os.path.isdir(f"{crate.folder}/out/incremental"):
@@ -241,14 +258,19 @@ def main():
             if os.environ.get("WRONG_BODIES_OUT"):
                 with open(f"{os.environ['WRONG_BODIES_OUT']}/{crate_name}.{number}", "w") as it:
                     it.write(ran.stdout)
+            why = why_not_judged(ran.returncode, ran.stdout, lambda line: rt.unread(line, texts))
             refused = refused_in(ran.stdout)
             for name, functions in held:
-                if not is_refused(functions, refused, crate_name):
+                if why:
+                    unjudged += 1
+                    print(f"NOT JUDGED: {name}: {why[:300]}")
+                elif not is_refused(functions, refused, crate_name):
                     survived += 1
                     print(f"NOT REFUSED in its function: {name}: {sorted(it[:3] for it in functions)}")
             print(f"copy {number + 1} of {len(copies)}: {len(held)} wrong bodies", flush=True)
-    print(f"{crate_name}: {len(bodies) - survived} wrong bodies refused, {survived} not")
-    return 1 if survived else 0
+    others = f", {unjudged} not judged" if unjudged else ""
+    print(f"{crate_name}: {len(bodies) - survived - unjudged} wrong bodies refused, {survived} not{others}")
+    return 1 if survived or unjudged else 0
 
 
 if __name__ == "__main__":

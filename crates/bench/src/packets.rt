@@ -1,5 +1,6 @@
 //! A packet of one DATA chunk with 1,200 bytes, read and written under a checksum that is always 0.
 
+use crate::table::Table;
 use benchlib::packet::{
     Zero, datagram, is_expected, time_of_dissecting, time_of_reading, time_of_summing,
     time_of_writing,
@@ -7,8 +8,8 @@ use benchlib::packet::{
 use bytes::{Bytes, BytesMut};
 use sctp_packets::packet::Packet;
 
-/// Prints whether it was read and written right and, with `times`, what each took.
-pub fn run(rt: &HostRuntime, times: bool) -> anyhow::Result<()> {
+/// Prints whether it was read and written right and, where asked for, what each took.
+pub fn run(rt: &HostRuntime, table: &Table<'_>) -> anyhow::Result<()> {
     let alloc = rt.alloc();
     let raw = datagram(alloc)?;
     let packet = Packet::unmarshal(alloc, &raw, &Zero)?;
@@ -26,8 +27,8 @@ pub fn run(rt: &HostRuntime, times: bool) -> anyhow::Result<()> {
         "other bytes"
     };
     println!(rt; "marshal_to: {written}")?;
-    if times {
-        print_times(rt, &raw, &packet, &mut buf)?;
+    if table.is_timed {
+        print_times(rt, table, &raw, &packet, &mut buf)?;
     }
     Ok(())
 }
@@ -35,17 +36,19 @@ pub fn run(rt: &HostRuntime, times: bool) -> anyhow::Result<()> {
 /// Prints how many nanoseconds a reading, a dissection, a writing and a CRC-32C of the packet took.
 fn print_times(
     rt: &HostRuntime,
+    table: &Table<'_>,
     raw: &Bytes,
     packet: &Packet,
     buf: &mut BytesMut,
 ) -> anyhow::Result<()> {
     let reading = time_of_reading(rt, rt.alloc(), raw)?;
-    println!(rt; "unmarshal: {reading} ns")?;
+    table.print(rt, "unmarshal", reading, "packet")?;
     let dissecting = time_of_dissecting(rt, rt.alloc(), raw)?;
-    println!(rt; "dissect: {dissecting} ns")?;
+    table.print(rt, "dissect", dissecting, "packet")?;
     let writing = time_of_writing(rt, buf, packet)?;
-    println!(rt; "marshal_to: {writing} ns")?;
+    table.print(rt, "marshal_to", writing, "packet")?;
     let (summing, sum) = time_of_summing(rt, raw)?;
-    println!(rt; "crc32c of its 1228 bytes: {summing} ns ({sum:08x} after all)")?;
+    println!(rt; "CRC-32C of all rounds: {sum:08x}")?;
+    table.print(rt, "CRC-32C", summing, "packet")?;
     Ok(())
 }

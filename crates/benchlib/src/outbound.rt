@@ -9,6 +9,7 @@ use crate::timing::Measured;
 use sctp_base::error::Result;
 use sctp_chunks::chunk::chunk_payload_data::ChunkPayloadData;
 use sctp_queues::outbound_queue::OutboundQueue;
+use sctp_queues::pending_queue::PendingQueue;
 use std::alloc::Global;
 use std::time::{Clock, Instant};
 
@@ -64,6 +65,51 @@ pub fn send_all(clock: &impl Clock, alloc: Global, count: u16) -> anyhow::Result
     let mut queue = waiting(alloc, count)?;
     let start = Instant::now(clock)?;
     let given = send_each(&mut queue, count)?;
+    let elapsed = start.elapsed(clock)?;
+    Ok(Measured { given, elapsed })
+}
+
+/// Puts messages of one fragment behind those that wait.
+pub fn push_all(clock: &impl Clock, alloc: Global, count: u16) -> anyhow::Result<Measured> {
+    let start = Instant::now(clock)?;
+    let queue = waiting(alloc, count)?;
+    let elapsed = start.elapsed(clock)?;
+    Ok(Measured {
+        given: queue.pending_len(),
+        elapsed,
+    })
+}
+
+// More bytes than any run holds.
+const MOST_BYTES: usize = 1_000_000;
+
+// Puts so many messages of one fragment into the queue.
+fn pend_all(queue: &mut PendingQueue, count: u16) -> Result<()> {
+    for _ in 0..count {
+        if queue.get_num_bytes() < MOST_BYTES {
+            queue.push(whole(0))?;
+        }
+    }
+    Ok(())
+}
+
+// Takes so many out, and gives how many there were.
+fn take_all(queue: &mut PendingQueue, count: u16) -> usize {
+    let mut taken = 0usize;
+    for _ in 0..count {
+        if queue.pop(true, false).is_some() {
+            taken = taken.wrapping_add(1);
+        }
+    }
+    taken
+}
+
+/// Puts messages of one fragment into a pending queue, and takes them out.
+pub fn pend(clock: &impl Clock, alloc: Global, count: u16) -> anyhow::Result<Measured> {
+    let mut queue = PendingQueue::new(alloc);
+    let start = Instant::now(clock)?;
+    pend_all(&mut queue, count)?;
+    let given = take_all(&mut queue, count);
     let elapsed = start.elapsed(clock)?;
     Ok(Measured { given, elapsed })
 }

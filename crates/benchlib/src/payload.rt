@@ -1,20 +1,28 @@
 //! Runs of a payload queue.
 
-ghost use Rattle.std.specs.Prelude.{◌<◌, ◌^◌};
+ghost use Rattle.std.specs.Prelude.{◌<◌, ◌≤◌, ◌^◌};
 ghost use Rattle.benchlib.specs.Near.{AreBelow};
 
-use crate::subject::{Order, number_at, whole};
+use crate::subject::{CALLS, Order, number_at, whole};
 use crate::timing::Measured;
 use sctp_base::error::Result;
 use sctp_queues::payload_queue::PayloadQueue;
 use std::alloc::Global;
 use std::time::{Clock, Instant};
 
-// How many chunks are held where gap ack blocks are asked for.
-const HELD: u16 = 500;
+/// One call of a payload queue.
+#[derive(Clone, Copy)]
+pub enum Touch {
+    Push,
+    Pop,
+    Get,
+}
 
 // More bytes than any run holds.
 const MOST_BYTES: usize = 1_000_000;
+
+// More chunks than any run holds.
+const MOST_HELD: u32 = 1_000_000;
 
 // Pushes a chunk, beyond the cumulative TSN 0.
 fn put(queue: &mut PayloadQueue, tsn: u32) -> Result<()>
@@ -66,19 +74,24 @@ pub fn push_and_pop(
     Ok(Measured { given, elapsed })
 }
 
-// A queue that holds chunks in runs of this length, one TSN missing before each.
-fn with_runs(alloc: Global, run: u16) -> Result<PayloadQueue> {
+// A queue that holds so many chunks in runs of this length, one TSN missing before each.
+fn with_runs(alloc: Global, held: u16, run: u16) -> Result<PayloadQueue> {
     let mut queue = PayloadQueue::new(alloc);
-    for place in 0..HELD {
+    for place in 0..held {
         let runs_before = place / run.max(1);
         put(&mut queue, 2 + u32::from(place) + u32::from(runs_before))?;
     }
     Ok(queue)
 }
 
-/// Asks for the gap ack blocks of chunks in runs of this length.
-pub fn gap_blocks(clock: &impl Clock, alloc: Global, run: u16) -> anyhow::Result<Measured> {
-    let queue = with_runs(alloc, run)?;
+/// Asks for the gap ack blocks of so many chunks in runs of this length.
+pub fn gap_blocks(
+    clock: &impl Clock,
+    alloc: Global,
+    held: u16,
+    run: u16,
+) -> anyhow::Result<Measured> {
+    let queue = with_runs(alloc, held, run)?;
     let start = Instant::now(clock)?;
     let blocks = queue.get_gap_ack_blocks(alloc, 0)?;
     let elapsed = start.elapsed(clock)?;
@@ -86,4 +99,61 @@ pub fn gap_blocks(clock: &impl Clock, alloc: Global, run: u16) -> anyhow::Result
         given: blocks.len(),
         elapsed,
     })
+}
+
+// Pushes so many chunks, from this TSN on.
+fn push_from(queue: &mut PayloadQueue, first: u32, count: u32) -> Result<()>
+    requires held { AreBelow (2 ^ 31) queue.old.chunks }
+    requires some { 0 < first }
+    requires near { first ≤ 2 ^ 24 }
+    requires few { count ≤ 2 ^ 24 }
+    ensures { AreBelow (2 ^ 31) queue.new.chunks }
+{
+    for place in 0..count {
+        put(queue, first + place)?;
+    }
+    Ok(())
+}
+
+// Looks up chunks here and there among the first so many, and gives how many there were.
+fn get_each(queue: &PayloadQueue, held: u32) -> usize {
+    let mut found = 0usize;
+    for turn in 0..CALLS {
+        let place = turn.wrapping_mul(7919) % held.max(1);
+        if queue.get(place.wrapping_add(1)).is_some() {
+            found = found.wrapping_add(1);
+        }
+    }
+    found
+}
+
+// Makes the calls on a queue that holds the chunks 1 to `held`.
+fn touch_each(queue: &mut PayloadQueue, held: u32, call: Touch) -> Result<usize>
+    requires held { AreBelow (2 ^ 31) queue.old.chunks }
+    requires few { held < 2 ^ 24 }
+{
+    match call {
+        Touch::Push => {
+            push_from(queue, held + 1, CALLS)?;
+            Ok(CALLS as usize)
+        }
+        Touch::Pop => Ok(pop_all(queue, CALLS as u16)),
+        Touch::Get => Ok(get_each(queue, held)),
+    }
+}
+
+/// Makes calls on a queue that holds so many chunks.
+pub fn touch_held(
+    clock: &impl Clock,
+    alloc: Global,
+    call: Touch,
+    held: u32,
+) -> anyhow::Result<Measured> {
+    let held = held.min(MOST_HELD);
+    let mut queue = PayloadQueue::new(alloc);
+    push_from(&mut queue, 1, held)?;
+    let start = Instant::now(clock)?;
+    let given = touch_each(&mut queue, held, call)?;
+    let elapsed = start.elapsed(clock)?;
+    Ok(Measured { given, elapsed })
 }

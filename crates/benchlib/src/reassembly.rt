@@ -2,7 +2,7 @@
 
 ghost use Rattle.std.specs.Prelude.{◌<◌};
 
-use crate::subject::{Delivery, Order, fragment, number_at};
+use crate::subject::{Delivery, FRAGMENTS, Order, STREAM, fragment, number_at};
 use crate::timing::Measured;
 use bytes::Bytes;
 use sctp_base::error::Result;
@@ -10,10 +10,6 @@ use sctp_queues::chunks::Chunks;
 use sctp_queues::reassembly_queue::ReassemblyQueue;
 use std::alloc::Global;
 use std::time::{Clock, Instant};
-
-const STREAM: u16 = 1;
-
-const FRAGMENTS: u16 = 55;
 
 const FRAGMENT_LENGTH: usize = 1200;
 
@@ -37,8 +33,8 @@ fn push_message(queue: &mut ReassemblyQueue, delivery: Delivery, order: Order) -
     Ok(())
 }
 
-// The length of what was read.
-fn length_of(message: Option<Chunks>) -> usize {
+/// The length of what was read, 0 where it was nothing.
+pub fn length_of(message: Option<Chunks>) -> usize {
     match message {
         Some(message) => message.len(),
         None => 0,

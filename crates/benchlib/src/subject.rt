@@ -5,6 +5,21 @@ ghost use Rattle.std.specs.Prelude.{◌≡◌, ◌<◌, length, true};
 use bytes::Bytes;
 use sctp_chunks::chunk::chunk_payload_data::{ChunkPayloadData, PayloadProtocolIdentifier};
 
+/// How often a call is made in a run that times single calls.
+pub const CALLS: u32 = 64;
+
+/// How many fragments of `FRAGMENT` bytes make 64 KiB.
+pub const FRAGMENTS: u16 = 55;
+
+/// How many bytes of a message a chunk has.
+pub const FRAGMENT: u32 = 1200;
+
+/// How many bytes a message has at most.
+pub const MESSAGE: u32 = 65_536;
+
+/// The stream of each chunk, but where many are open.
+pub const STREAM: u16 = 1;
+
 /// In which order chunks come.
 #[derive(Clone, Copy)]
 pub enum Order {

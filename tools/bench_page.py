@@ -1,0 +1,111 @@
+#!/usr/bin/env python3
+"""What bench prints, as docs/BENCHMARKS.md shows it.
+
+    python3 tools/bench_page.py --growth < GROWTH > docs/growth.svg      the picture: time of a call over what is held, both in powers of ten
+    python3 tools/bench_page.py --growth-table < GROWTH                  the same as a table
+    python3 tools/bench_page.py --times < TIMES                          the rows of times as a table
+
+GROWTH is what `bench growth` prints, TIMES what `bench times` or `bench times --against FILE` does. A line of GROWTH has a call, its
+nanoseconds at each size and the exponent, with tabs between them; the first line names the sizes.
+"""
+import math
+import re
+import sys
+
+WIDTH, HEIGHT = 940, 520
+LEFT, TOP, RIGHT, BOTTOM = 70, 40, 640, 470
+LINE = 16
+COLORS = {"Sender": "#1a7f37", "Receiver": "#d1242f", "": "#1f6feb"}
+UNITS = ((10**9, "s"), (10**6, "ms"), (10**3, "µs"), (1, "ns"))
+ROW = re.compile(r"(?P<row>.*): (?P<nanos>\d+) ns a (?P<unit>\w+)(?:, other (?P<other>\d+) ns, ratio (?P<ratio>[\d.]+))?$")
+
+
+def time_of(nanos):
+    """Returns a time as text: two digits where it is not in nanoseconds."""
+    size, name = next((it for it in UNITS if nanos >= it[0]), UNITS[-1])
+    value = nanos / size
+    if size > 1:
+        digits = max(0, 1 - math.floor(math.log10(value)))
+        value = round(value, 1 - math.floor(math.log10(value)))
+        return f"{value:,.{digits}f} {name}"
+    return f"{nanos} {name}"
+
+
+def growth_in(lines):
+    """Returns the sizes, and of each call its name, its times and its exponent."""
+    heading, *rows = [line.rstrip("\n").split("\t") for line in lines if line.strip()]
+    return [int(it) for it in heading[1:-1]], [(it[0].rstrip(","), [int(n) for n in it[1:-1]], it[-1]) for it in rows]
+
+
+def spread(heights, most):
+    """Returns heights in the same order, each at least a line below the one before, and the last at most there."""
+    placed = []
+    for height in heights:
+        placed.append(max(height, placed[-1] + LINE) if placed else height)
+    for place in range(len(placed) - 1, -1, -1):
+        limit = most if place == len(placed) - 1 else placed[place + 1] - LINE
+        placed[place] = min(placed[place], limit)
+    return placed
+
+
+def picture(sizes, calls):
+    """Returns the picture of a growth."""
+    times = [max(1, time) for _, row, _ in calls for time in row]
+    low, high = math.floor(math.log10(min(times))), math.ceil(math.log10(max(times)))
+    first, last = math.log10(sizes[0]), math.log10(sizes[-1])
+    across = lambda size: LEFT + (RIGHT - LEFT) * (math.log10(size) - first) / (last - first)
+    down = lambda time: BOTTOM - (BOTTOM - TOP) * (math.log10(max(1, time)) - low) / (high - low)
+    out = [f'<svg xmlns="http://www.w3.org/2000/svg" viewBox="0 0 {WIDTH} {HEIGHT}">',
+           "<style>text{font:13px sans-serif;fill:#222}.e{text-anchor:end}.m{text-anchor:middle}.g{stroke:#ddd}.t{stroke-width:.8;stroke:#999}"
+           "polyline{fill:none;stroke-width:2}</style>",
+           f'<rect width="{WIDTH}" height="{HEIGHT}" fill="#fff"/>',
+           f'<text x="{LEFT}" y="{TOP - 18}">time of one call, over how much is held; behind each name its exponent from {sizes[-2]:,} to {sizes[-1]:,}</text>']
+    for power in range(low, high + 1):
+        y = down(10**power)
+        out.append(f'<path class="g" d="M{LEFT} {y:.1f}H{RIGHT}"/><text class="e" x="{LEFT - 8}" y="{y + 4:.1f}">{time_of(10**power).replace(".0 ", " ")}</text>')
+    for size in sizes:
+        x = across(size)
+        out.append(f'<path class="g" d="M{x:.1f} {TOP}V{BOTTOM}"/><text class="m" x="{x:.1f}" y="{BOTTOM + 20}">{size:,}</text>')
+    calls = sorted(calls, key=lambda it: down(it[1][-1]))
+    for (name, row, exponent), y in zip(calls, spread([down(it[1][-1]) for it in calls], BOTTOM)):
+        owner = name.split("::")[0] if "::" in name else ""
+        color = COLORS.get(owner, COLORS[""])
+        points = " ".join(f"{across(size):.1f},{down(time):.1f}" for size, time in zip(sizes, row))
+        out.append(f'<polyline stroke="{color}" points="{points}"/>')
+        out.append(f'<path class="t" d="M{RIGHT + 3} {down(row[-1]):.1f}L{RIGHT + 18} {y:.1f}"/>')
+        word = name if owner else f"PayloadQueue::{name}"
+        out.append(f'<text x="{RIGHT + 22}" y="{y + 4:.1f}" style="fill:{color}">{word}: {exponent}</text>')
+    return "\n".join([*out, "</svg>", ""])
+
+
+def growth_table(sizes, calls):
+    """Returns the table of a growth."""
+    head = [f"| a call, while so many are held | {' | '.join(f'{size:,}' for size in sizes)} | exponent |", "|---|" + "---|" * (len(sizes) + 1)]
+    rows = [f"| {name} | {' | '.join(map(time_of, row))} | {exponent} |" for name, row, exponent in calls]
+    return "\n".join([*head, *rows, ""])
+
+
+def times_table(lines):
+    """Returns the table of times."""
+    found = [it for it in (ROW.match(line.strip()) for line in lines) if it]
+    out = ["| | this repository | Rust crate | ratio |", "|---|---|---|---|"]
+    for it in found:
+        other = time_of(int(it["other"])) if it["other"] else ""
+        out.append(f"| {it['row'].rstrip(',')}, a {it['unit']} | {time_of(int(it['nanos']))} | {other} | {it['ratio'] or ''} |")
+    return "\n".join([*out, ""])
+
+
+def main():
+    what = sys.argv[1:]
+    if what == ["--growth"]:
+        print(picture(*growth_in(sys.stdin)), end="")
+    elif what == ["--growth-table"]:
+        print(growth_table(*growth_in(sys.stdin)), end="")
+    elif what == ["--times"]:
+        print(times_table(sys.stdin), end="")
+    else:
+        sys.exit(__doc__)
+
+
+if __name__ == "__main__":
+    main()
