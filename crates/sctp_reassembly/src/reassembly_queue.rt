@@ -447,7 +447,7 @@ impl ReassemblyQueue {
         self.read_counted(&mut Turns::new())
     }
 
-    /// The same, and what it looks at is added: five turns at most where the sets of ordered messages are in order (`IsOrderly`) and
+    /// The same, and what it looks at is added: four turns at most where the sets of ordered messages are in order (`IsOrderly`) and
     /// fewer than 2^64 - 1 chunks are held, and `read_walk` whatever is held.
     pub fn read_counted(&mut self, turns: &mut Turns) -> Option<Chunks>
         ensures message { result ≡ option_map at_start (message_read self.old.held) }
@@ -455,7 +455,7 @@ impl ReassemblyQueue {
         ensures counted { IsCounted self.old → IsCounted self.new }
         ensures not_back { turns.old ≤ turns.new }
         ensures few { IsOrderly self.old.held.ordered → held_chunks self.old.held < 2 ^ 64 - 1
-            → turns.new ≤ turns.old + 5 }
+            → turns.new ≤ turns.old + 4 }
         ensures walk { turns.new ≤ turns.old + read_walk self.old.held }
     {
         let set = self.take_message(turns)?;
@@ -477,7 +477,7 @@ impl ReassemblyQueue {
         ensures rest { self.new ≡ record self.old { held = rest_read self.old.held } }
         ensures not_back { turns.old ≤ turns.new }
         ensures few { IsOrderly self.old.held.ordered → held_chunks self.old.held < 2 ^ 64 - 1
-            → turns.new ≤ turns.old + 5 }
+            → turns.new ≤ turns.old + 4 }
         ensures walk { turns.new ≤ turns.old + read_walk self.old.held }
     {
         if let Some(set) = self.unordered.pop_front(turns) {

@@ -17,6 +17,6 @@ abbrev pub ordered_push_walk : ChunkPayloadData → Reassembly → ℕ
 ordered_push_walk x q =
     4 * length q.ordered + 3 * length (chunks_of_ssn x.stream_sequence_number q.ordered) + 16
 
--- what a read looks at, whatever is held: each ordered set twice, each of their fragments and each complete unordered message once, and 5 more
+-- what a read looks at, whatever is held: each ordered set twice, each of their fragments and each complete unordered message once, and 3 more
 abbrev pub read_walk : Reassembly → ℕ
-read_walk q = 2 * length q.ordered + set_chunks q.ordered + length q.unordered + 5
+read_walk q = 2 * length q.ordered + set_chunks q.ordered + length q.unordered + 3
