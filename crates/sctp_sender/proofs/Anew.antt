@@ -166,9 +166,6 @@ module _ (count : ℕ) (sorted rest : List GapAckBlock) (b : GapAckBlock) (cs : 
   pub behind-last : t.last < b.start
   behind-last = a.behind
 
-  pub block-runs : b.start ≤ b.end
-  block-runs = a.runs
-
   in-this : (n : ℕ) → b.start ≤ n → n ≤ b.end → is_in_blocks sorted n ≡ true
   in-this n low high = t.same n (let h = a.behind in omega (arith, h, low)) ∙ or-left (is_in_block n b) (is_in_blocks rest n) (in-block n b low high)
 

@@ -10,7 +10,7 @@ use Rattle.sctp_data.specs.declared.chunk.chunk_payload_data.ChunkPayloadData.{C
 use Rattle.sctp_data.specs.declared.chunk.chunk_selective_ack.GapAckBlock.{GapAckBlock}
 use Rattle.sctp_outbound.specs.Marks.{as_abandoned, is_of}
 use Rattle.sctp_outbound.specs.outbound_queue.OutboundQueue.{Outbound, abandoned_of, all_started, as_sent, expired_of, sent_next, sent_of, terminal_chunk}
-use Rattle.sctp_outbound.specs.outbound_queue.OutboundQueue.{with_message, with_terminal_chunk}
+use Rattle.sctp_outbound.specs.outbound_queue.OutboundQueue.{with_terminal_chunk}
 use Rattle.sctp_outbound.specs.payload_queue.PayloadQueue as payload
 use Rattle.sctp_outbound.specs.pending_queue.PendingQueue.{last_removed, next_pending}
 use Rattle.sctp_serial.specs.DataChunks.{following_tsn}
@@ -104,11 +104,6 @@ pub expired-known : (bs : List GapAckBlock) (q r : Outbound) (o : Option ChunkPa
     → AreKnown bs r.inflight.chunks
 expired-known bs q r None is known = subst (λ (o : Outbound). AreKnown bs o.inflight.chunks) (sym is) known
 expired-known bs q r (Some c) is known = subst (λ (o : Outbound). AreKnown bs o.inflight.chunks) (sym is) known
-
-pub pushed-known : (bs : List GapAckBlock) (q r : Outbound) (cs : List ChunkPayloadData) → r ≡ with_message cs q → AreKnown bs q.inflight.chunks
-    → AreKnown bs r.inflight.chunks
-pushed-known bs q r [] is known = subst (λ (o : Outbound). AreKnown bs o.inflight.chunks) (sym is) known
-pushed-known bs q r (c ∷ cs) is known = subst (λ (o : Outbound). AreKnown bs o.inflight.chunks) (sym is) known
 
 pub none-known : (cs : List ChunkPayloadData) → AreKnown [] cs
 none-known cs k h = absurd (false≢true h)
