@@ -403,7 +403,7 @@ impl InboundStreams {
         self.forward(Skip::Incomplete, tsn, turns);
     }
 
-    // Discards so on all streams. Only those that may hold something incomplete are visited, and a turn is taken for each.
+    // Discards, as the skip says, on all streams: those are visited that may hold something incomplete, and a turn is taken for each.
     fn forward(&mut self, skip: Skip, tsn: u32, turns: &mut Turns)
         ensures value { self.new ≡ map (skip_forwarded skip tsn) self.old }
         ensures not_back { turns.old ≤ turns.new }

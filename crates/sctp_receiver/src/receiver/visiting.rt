@@ -50,7 +50,8 @@ fn is_any_incomplete(sets: &VecDeque<Fragments>) -> bool
     false
 }
 
-// Whether a stream that was visited stays so: it holds something incomplete, or any at all where not each message is to be looked at.
+// Whether a stream is still to be visited after such a skip. After one of incomplete messages each of its messages is looked at: it is where
+// one is incomplete. After one of unassembled fragments none is: it is where it has any.
 fn stays(queue: &ReassemblyQueue, skip: Skip) -> bool
     ensures no { result ≡ false → holds_incomplete queue.now.held ≡ false }
     ensures yes { result ≡ true → holds_any queue.now.held ≡ true }
@@ -61,8 +62,8 @@ fn stays(queue: &ReassemblyQueue, skip: Skip) -> bool
     }
 }
 
-/// The stream at a place changed. It is visited from here on where it was, or something of it may be incomplete that was not before;
-/// and not where it holds none. It takes no memory.
+/// The stream at a place has changed. From here on it is visited where it was before, and where `is_more` says that something incomplete
+/// may have come; but not where it has neither unassembled fragments nor ordered messages. It takes no memory.
 /// Precondition: it is a place.
 pub(crate) fn renew(visits: &mut Visits, place: usize, queue: &ReassemblyQueue, is_more: bool)
     requires { place < length visits.old.spots }
@@ -81,7 +82,7 @@ pub(crate) fn renew(visits: &mut Visits, place: usize, queue: &ReassemblyQueue, 
     }
 }
 
-/// From here on each stream that holds any is visited. It takes no memory.
+/// From here on each stream that has unassembled fragments or ordered messages is visited, and no other. It takes no memory.
 /// Precondition: there are as many places at least as streams.
 pub(crate) fn visit_all(visits: &mut Visits, streams: &[InboundStream])
     requires { length streams.now ≤ length visits.old.spots }
@@ -96,9 +97,9 @@ pub(crate) fn visit_all(visits: &mut Visits, streams: &[InboundStream])
     }
 }
 
-/// Discards so on each stream that is visited, which is all there is to discard, and answers what all streams count for then. A turn
-/// is taken for each that is visited.
-/// Precondition: the cost is what they count for, and the right ones are visited.
+/// Discards, as the skip says, on each stream that is visited; on the others there is nothing to discard. Answers what all streams count
+/// for then. A turn is taken for each that is visited.
+/// Precondition: the cost is what all streams count for; those that are visited, and those that are not, are as `IsListing` says.
 pub(crate) fn forward_each(
     streams: &mut Vec<InboundStream>,
     cost: u128,
@@ -123,7 +124,7 @@ pub(crate) fn forward_each(
     cost
 }
 
-// Discards so on the stream at a place.
+// The same on the stream at a place.
 fn forward_at(
     streams: &mut Vec<InboundStream>,
     cost: u128,
@@ -143,7 +144,7 @@ fn forward_at(
     moved(cost, before, cost_of(&stream.queue))
 }
 
-// Discards so of a queue.
+// The same on a queue.
 fn skip_on(queue: &mut ReassemblyQueue, skip: Skip, tsn: u32)
     ensures { queue.new ≡ after_skip skip tsn queue.old }
 {
@@ -153,7 +154,7 @@ fn skip_on(queue: &mut ReassemblyQueue, skip: Skip, tsn: u32)
     }
 }
 
-/// After such a skip: the streams that need no visit are visited no more. It takes no memory.
+/// After such a skip, streams that were visited and need no visit (`stays`) are visited no more. It takes no memory.
 /// Precondition: those that are not visited hold nothing incomplete.
 pub(crate) fn settle(visits: &mut Visits, streams: &[InboundStream], skip: Skip)
     requires { IsListed visits.old streams.now }
