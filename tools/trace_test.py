@@ -25,7 +25,7 @@ CALLERS = {
     "sctp_outbound::PayloadQueue::can_push_no_check": {"queue_tests/payload_queue push_no_check", "queue_tests/payload_queue standing_are_told",
                                                         "sctp_outbound/outbound_queue can_send"},
     "sctp_reassembly::ReassemblyQueue::find_complete_unordered_chunk_set": {"queue_tests/reassembly_queue has_no_more"},
-    "sctp_receiver::TsnFilter::gap_ack_blocks_within_counted": {"sctp_receiver/receiver/sack_out sack_of_entries"},
+    "sctp_receiver::TsnFilter::gap_ack_blocks_within_counted": {"sctp_receiver/receiver/tsn_filter gap_ack_blocks_within", "sctp_receiver/receiver/sack_out sack_of_entries"},
     "sctp_outbound::PayloadQueue::get_gap_ack_blocks": {"benchlib/payload gap_blocks", "queue_tests/payload_queue has_two_blocks",
                                                          "sctp_outbound/payload_queue get_gap_ack_blocks_string",
                                                          "sctp_receiver/receiver/tsn_filter gap_ack_blocks"},
