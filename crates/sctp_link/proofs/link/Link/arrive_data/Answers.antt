@@ -1,5 +1,5 @@
 use Rattle.std.proofs.Common.{◌≡◌, ◌≤◌, ℕ, List, None, Some, inl, inr, ◌++◌, length, map, refl, ap, sym, ◌∙◌, arith, rules, subst}
-use Rattle.std.specs.Prelude.{◌⊎◌, slice_get, fold}
+use Rattle.std.specs.Prelude.{◌⊎◌, ◌<◌, slice_get, slice_index_or, fold}
 use Rattle.std.specs.Vec.{with_items, vec_len}
 use Rattle.std.proofs.lemmas.List.{with_items_is}
 use Rattle.std.specs.List.{list_any}
@@ -21,12 +21,16 @@ use Rattle.sctp_link.proofs.sides.Aligned as Aligned
 use Rattle.sctp_link.proofs.sides.Taking.{each-aligned, each-taken, never-stops}
 use Rattle.sctp_link.specs.Fields.{record_in, record_from, state_in, state_from, sides_in}
 use Rattle.sctp_link.specs.Linked.{IsLinked}
+use Rattle.sctp_link.specs.declared.link.Link.TheInside.{Inside}
+use Rattle.sctp_link.specs.declared.record.Slot.{Slot}
 use Rattle.sctp_link.specs.Records.{kind_record, slot_record}
 use Rattle.sctp_link.specs.Replies.{reply_of}
 use Rattle.sctp_link.specs.Receiving.{number_at, arrived_in, repeated_of, is_first}
 use Rattle.sctp_link.proofs.receiver.Comes.{said, said-fresh, says-data, places-kept, kind-data, never-other, there-is}
-use Rattle.sctp_link.proofs.receiver.SlotLists.{numbers-are, can, came}
+use Rattle.sctp_link.proofs.receiver.SlotLists.{Came, numbers-are, can, came}
 use Rattle.sctp_link.proofs.receiver.Received.{all-come, receiver-of, all-inside, linked-received, right-received}
+use Rattle.sctp_link.proofs.link.Link.arrive_data.Given.{Over}
+use Rattle.sctp_link.proofs.link.Link.arrive_data.Goals.{After-index, In-Data, After-deref-4, In-Ok, After-record_arrivals-new}
 use Rattle.sctp_link.proofs.link.Link.arrive_data.Goals as goal
 use Rattle.sctp_list_lemmas.proofs.Getting.{length-mapped}
 
@@ -37,250 +41,187 @@ only-memory : (t : Transmission) (r : Reception) (ps : List Standing) (cs : List
 only-memory t r ps cs ns a apart able e (inl h) = h
 only-memory t r ps cs ns a apart able e (inr h) = absurd (never-stops t r ps cs ns a apart able h.count h.arrivals h.mid h.chunk e h.taken h.next h.refused)
 
+-- What lies in the network under the number.
+there : (g : Over) (c : After-index g) → (places : List ℕ) × (slice_get (record_in c.self.inside).network c.args.k ≡ Some (Data places))
+there g c = rw (← c.self.view_is) at c.requires.lies
+
+none : (g : Over) (c : After-index g) → refusal_of (record_in c.self.inside) (E.Arrive c.args.k) ≡ None
+none g c = rw (← c.self.view_is) at c.requires.none
+
+-- The places that were found are those of the network.
+found : (g : Over) (c : In-Data g) → (places : List ℕ) × (slice_get (record_in c.self.inside).network c.args.k ≡ Some (Data places))
+    → slice_get (record_in c.self.inside).network c.args.k ≡ Some (Data c.in-Data.places.items)
+found g c t = t.1 ∙ ap (λ ps. Some (Data ps)) (sym (places-kept c.self.inside.network.items c.args.k c.index-2.result.now c.in-Data.places.items t.0 t.1
+    c.index-2.ensures (ap kind_record c.in-Data.is)))
+
+-- What is handed on: the chunks of these places, with the numbers of their messages.
+record Handed {C : Type 0} (a : Inside C) (k : ℕ) (ps : List ℕ) (cs : List ChunkPayloadData) (ns : List ℕ) : Type 0 where
+  there : slice_get (record_in a).network k ≡ Some (Data ps)
+  chunks : cs ≡ map (chunk_at (record_in a)) ps
+  numbers : ns ≡ map (number_at a.slots.items) ps
+  many : length cs ≤ length ns
+
+handed : (g : Over) (c : After-deref-4 g) → slice_get (record_in c.self.inside).network c.args.k ≡ Some (Data c.in-Data.places.items)
+    → Handed c.self.inside c.args.k c.in-Data.places.items c.deref-3.result.now c.deref-4.result.now
+handed g c t =
+    let w = record_in c.self.inside in
+    let ps = c.in-Data.places.items in
+    let slots = c.self.inside.slots.items in
+    let reads = says-data (g.C.Checksum.sum c.self.inside.checksum) (state_in c.self.inside) c.args.k ps c.self.inside.network.items c.index.result.now
+    c.self.invariant.1 refl refl t c.index.ensures in
+    let chunks : c.deref-3.result.now ≡ map (chunk_at w) ps = c.deref-3.ensures.value ∙ c.in_ok-chunks.ensures.chunks (said w ps) reads ∙ said-fresh w ps in
+    let numbers : c.deref-4.result.now ≡ map (number_at slots) ps =
+    c.deref-4.ensures.value ∙ c.in_ok-numbers.ensures.numbers ∙ ap (λ ss. map (number_at ss) c.deref-2.result.now) c.deref.ensures.value
+    ∙ ap (map (number_at slots)) c.deref-2.ensures.value in
+    record {
+      there = t;
+      chunks = chunks;
+      numbers = numbers;
+      many = omega (arith, ap length chunks, ap length numbers, length-mapped (chunk_at w) ps, length-mapped (number_at slots) ps);
+    }
+
+apart : (g : Over) (c : After-index g) → IsApart (numbers_of c.self.inside.sender.streams)
+apart g c = subst IsApart (Aligned.numbers-are c.self.inside.sender c.self.inside.receiver c.self.inside.progress c.self.invariant.0) c.self.invariant.1.apart
+
+-- All of them come.
+done : (g : Over) (c : In-Ok g) → refusal_of (record_in c.self.inside) (E.Arrive c.args.k) ≡ None
+    → IsApart (numbers_of c.self.inside.sender.streams)
+    → Handed c.self.inside c.args.k c.in-Data.places.items c.deref-3.result.now c.deref-4.result.now → Came (record_in c.self.inside) (sides_in c.self.inside)
+    c.in-Data.places.items c.in-Ok.arrivals.items (sides c.self.inside.sender c.data_each.new.receiver c.data_each.new.self)
+done g c ok apart' h =
+    let a = c.self.inside in
+    let w = record_in a in
+    let sum = g.C.Checksum.sum a.checksum in
+    let x = state_in a in
+    let ps = c.in-Data.places.items in
+    let bs = c.in-Ok.arrivals.items in
+    let y = sides a.sender c.data_each.new.receiver c.data_each.new.self in
+    let each = subst (λ qs. TakesEach c.deref-3.result.now c.deref-4.result.now bs (sides_in a) (sides a.sender c.data_each.new.receiver qs))
+    (sym c.in-Ok.ensures.ok)
+    (each-taken a.sender a.receiver c.data_each.new.receiver a.progress c.deref-3.result.now c.deref-4.result.now bs c.self.invariant.0 apart' h.many
+    c.in-Ok.ensures.taken) in
+    let taken : TakesEach (map (chunk_at w) ps) (map (number_at a.slots.items) ps) bs (sides_in a) y = rw (h.chunks, h.numbers) at each in
+    came (number_at a.slots.items) ps (map (chunk_at w) ps) bs w (sides_in a) y (numbers-are w a.slots.items refl)
+    (receiver-of sum x c.self.invariant.1 (sides_in a) refl refl refl) (all-come sum x c.self.invariant.1 c.args.k ps ok h.there) taken
+
+-- What is recorded of them.
+record Recorded {C : Type 0} (a : Inside C) (ps : List ℕ) (slots : List Slot) (dups : List ℕ) : Type 0 where
+  slots_are : (fold receive_slot (record_in a) ps).slots ≡ map slot_record slots
+  dups_are : (fold receive_slot (record_in a) ps).duplicates ≡ dups
+
+recorded : (g : Over) (c : After-record_arrivals-new g) → Came (record_in c.self.inside) (sides_in c.self.inside)
+    c.in-Data.places.items c.in-Ok.arrivals.items (sides c.self.inside.sender c.data_each.new.receiver c.data_each.new.self)
+    → Recorded c.self.inside c.in-Data.places.items (with_items c.self.inside.slots c.record_arrivals-new.new.slots).items
+    c.record_arrivals-new.new.duplicates.items
+recorded g c d =
+    let arrived = c.record_arrivals-new.ensures in
+    let ps = c.in-Data.places.items in
+    let bs = c.in-Ok.arrivals.items in
+    let same : length c.record_arrivals-new.new.slots ≡ vec_len c.self.inside.slots = search rules in
+    record {
+      slots_are = d.slots c.self.inside.slots.items refl
+          ∙ sym (ap (map slot_record) (with_items_is c.self.inside.slots c.record_arrivals-new.new.slots same ∙ arrived.slots
+          ∙ ap (λ qs. arrived_in qs c.deref-6.result.now c.deref_mut.result.now) c.deref-5.ensures.value
+          ∙ ap (λ cs. arrived_in ps cs c.deref_mut.result.now) c.deref-6.ensures.value ∙ ap (arrived_in ps bs) c.deref_mut.ensures.value));
+      dups_are = d.duplicates ∙ sym (arrived.duplicates
+          ∙ ap (λ ds. ds ++ repeated_of c.deref-5.result.now c.deref-6.result.now) c.in_ok-reserve.ensures.items
+          ∙ ap (λ qs. c.self.inside.duplicates.items ++ repeated_of qs c.deref-6.result.now) c.deref-5.ensures.value
+          ∙ ap (λ cs. c.self.inside.duplicates.items ++ repeated_of ps cs) c.deref-6.ensures.value);
+    }
+
 pub read_data-requires : goal.read_data-requires
 read_data-requires g c =
-    let w = record_in c.self.inside in
-    let sum = g.C.Checksum.sum c.self.inside.checksum in
-    let x = state_in c.self.inside in
-    let l = c.self.invariant.1 in
-    let k = c.args.k in
-    let ds = c.self.inside.network.items in
-    let lies : (places : List ℕ) × (slice_get w.network k ≡ Some (Data places)) = rw (← c.self.view_is) at c.requires.lies in
-    let ps = lies.0 in
-    (said w ps, says-data sum x k ps ds c.index.result.now l refl refl lies.1 c.index.ensures)
+    let t = there g (goal.at.read_data-requires g c).After-index in (
+      said (record_in c.self.inside) t.0,
+      says-data (g.C.Checksum.sum c.self.inside.checksum) (state_in c.self.inside) c.args.k t.0 c.self.inside.network.items c.index.result.now
+          c.self.invariant.1 refl refl t.1 c.index.ensures,
+    )
 
 pub index-requires-2 : goal.index-requires-2
 index-requires-2 g c =
-    let w = record_in c.self.inside in
-    let sum = g.C.Checksum.sum c.self.inside.checksum in
-    let x = state_in c.self.inside in
-    let l = c.self.invariant.1 in
-    let k = c.args.k in
-    let ds = c.self.inside.network.items in
-    let lies : (places : List ℕ) × (slice_get w.network k ≡ Some (Data places)) = rw (← c.self.view_is) at c.requires.lies in
-    let none : refusal_of w (E.Arrive k) ≡ None = rw (← c.self.view_is) at c.requires.none in
-    let ps = lies.0 in
-    omega (arith, there-is w k ds refl none)
+    omega (arith, there-is (record_in c.self.inside) c.args.k c.self.inside.network.items refl (none g (goal.at.index-requires-2 g c).After-index))
 
 pub unreachable-requires : goal.unreachable-requires
 unreachable-requires g c =
-    let w = record_in c.self.inside in
-    let k = c.args.k in
-    let ds = c.self.inside.network.items in
-    let lies : (places : List ℕ) × (slice_get w.network k ≡ Some (Data places)) = rw (← c.self.view_is) at c.requires.lies in
-    let ps = lies.0 in
-    never-other c.index-2.result.now.kind ps c.in_default.not-Data (kind-data ds k c.index-2.result.now ps lies.1 c.index-2.ensures)
+    let t = there g (goal.at.unreachable-requires g c).After-index in
+    never-other c.index-2.result.now.kind t.0 c.in_default.not-Data
+    (kind-data c.self.inside.network.items c.args.k c.index-2.result.now t.0 t.1 c.index-2.ensures)
+
+-- each place is that of a slot
+inside : (g : Over) (c : In-Data g) → slice_get (record_in c.self.inside).network c.args.k ≡ Some (Data c.in-Data.places.items)
+    → (i : ℕ) → i < length c.in-Data.places.items → slice_index_or c.in-Data.places.items i 0 < length c.self.inside.slots.items
+inside g c t i lt =
+    omega (
+      arith,
+      all-inside (g.C.Checksum.sum c.self.inside.checksum) (state_in c.self.inside) c.self.invariant.1 c.args.k c.in-Data.places.items t i lt,
+      length-mapped slot_record c.self.inside.slots.items,
+    )
 
 pub message_numbers-requires : goal.message_numbers-requires
 message_numbers-requires g c =
-    let w = record_in c.self.inside in
-    let sum = g.C.Checksum.sum c.self.inside.checksum in
-    let x = state_in c.self.inside in
-    let l = c.self.invariant.1 in
-    let k = c.args.k in
-    let ds = c.self.inside.network.items in
-    let lies : (places : List ℕ) × (slice_get w.network k ≡ Some (Data places)) = rw (← c.self.view_is) at c.requires.lies in
-    let ps = lies.0 in
-    let kept : c.in-Data.places.items ≡ ps =
-    places-kept ds k c.index-2.result.now c.in-Data.places.items ps lies.1 c.index-2.ensures (ap kind_record c.in-Data.is) in
-    rw (c.deref-2.ensures.value ∙ kept, c.deref.ensures.value)
-    (λ i lt. omega (arith, all-inside sum x l k ps lies.1 i lt, length-mapped slot_record c.self.inside.slots.items))
+    let p = goal.at.message_numbers-requires g c in
+    rw (c.deref-2.ensures.value, c.deref.ensures.value) (inside g p.In-Data (found g p.In-Data (there g p.After-index)))
 
 pub data_each-requires : goal.data_each-requires
-data_each-requires g c =
-    let w = record_in c.self.inside in
-    let sum = g.C.Checksum.sum c.self.inside.checksum in
-    let x = state_in c.self.inside in
-    let l = c.self.invariant.1 in
-    let k = c.args.k in
-    let ds = c.self.inside.network.items in
-    let lies : (places : List ℕ) × (slice_get w.network k ≡ Some (Data places)) = rw (← c.self.view_is) at c.requires.lies in
-    let ps = lies.0 in
-    let kept : c.in-Data.places.items ≡ ps =
-    places-kept ds k c.index-2.result.now c.in-Data.places.items ps lies.1 c.index-2.ensures (ap kind_record c.in-Data.is) in
-    let slots = c.self.inside.slots.items in
-    let reads = says-data sum x k ps ds c.index.result.now l refl refl lies.1 c.index.ensures in
-    let chunks : c.deref-3.result.now ≡ map (chunk_at w) ps = c.deref-3.ensures.value ∙ c.in_ok-chunks.ensures.chunks (said w ps) reads ∙ said-fresh w ps in
-    let numbers : c.deref-4.result.now ≡ map (number_at slots) ps =
-    c.deref-4.ensures.value ∙ c.in_ok-numbers.ensures.numbers ∙ ap (λ ss. map (number_at ss) c.deref-2.result.now) c.deref.ensures.value
-    ∙ ap (map (number_at slots)) (c.deref-2.ensures.value ∙ kept) in
-    omega (arith, ap length chunks, ap length numbers, length-mapped (chunk_at w) ps, length-mapped (number_at slots) ps)
+data_each-requires g c = let p = goal.at.data_each-requires g c in (handed g p.After-deref-4 (found g p.In-Data (there g p.After-index))).many
 
 pub memory_of_receiver-requires : goal.memory_of_receiver-requires
 memory_of_receiver-requires g c =
-    let w = record_in c.self.inside in
-    let sum = g.C.Checksum.sum c.self.inside.checksum in
-    let x = state_in c.self.inside in
-    let l = c.self.invariant.1 in
-    let k = c.args.k in
-    let ds = c.self.inside.network.items in
-    let lies : (places : List ℕ) × (slice_get w.network k ≡ Some (Data places)) = rw (← c.self.view_is) at c.requires.lies in
-    let none : refusal_of w (E.Arrive k) ≡ None = rw (← c.self.view_is) at c.requires.none in
-    let ps = lies.0 in
-    let kept : c.in-Data.places.items ≡ ps =
-    places-kept ds k c.index-2.result.now c.in-Data.places.items ps lies.1 c.index-2.ensures (ap kind_record c.in-Data.is) in
-    let slots = c.self.inside.slots.items in
-    let reads = says-data sum x k ps ds c.index.result.now l refl refl lies.1 c.index.ensures in
-    let chunks : c.deref-3.result.now ≡ map (chunk_at w) ps = c.deref-3.ensures.value ∙ c.in_ok-chunks.ensures.chunks (said w ps) reads ∙ said-fresh w ps in
-    let numbers : c.deref-4.result.now ≡ map (number_at slots) ps =
-    c.deref-4.ensures.value ∙ c.in_ok-numbers.ensures.numbers ∙ ap (λ ss. map (number_at ss) c.deref-2.result.now) c.deref.ensures.value
-    ∙ ap (map (number_at slots)) (c.deref-2.ensures.value ∙ kept) in
-    let receiver = receiver-of sum x l (sides_in c.self.inside) refl refl refl in
-    let come = all-come sum x l k ps none lies.1 in
-    let apart = subst IsApart (Aligned.numbers-are c.self.inside.sender c.self.inside.receiver c.self.inside.progress c.self.invariant.0) l.apart in
-    let able : CanTake c.deref-3.result.now c.deref-4.result.now (sides_in c.self.inside) = rw (chunks, numbers)
-    (can (number_at slots) ps (map (chunk_at w) ps) w (sides_in c.self.inside) (numbers-are w slots refl) receiver come) in
-    only-memory c.self.inside.sender c.self.inside.receiver c.self.inside.progress c.deref-3.result.now c.deref-4.result.now c.self.invariant.0 apart able
+    let p = goal.at.memory_of_receiver-requires g c in
+    let h = handed g p.After-deref-4 (found g p.In-Data (there g p.After-index)) in
+    let a = c.self.inside in
+    let sum = g.C.Checksum.sum a.checksum in
+    let w = record_in a in
+    let ps = c.in-Data.places.items in
+    let able : CanTake c.deref-3.result.now c.deref-4.result.now (sides_in a) = rw (h.chunks, h.numbers)
+    (can (number_at a.slots.items) ps (map (chunk_at w) ps) w (sides_in a) (numbers-are w a.slots.items refl)
+    (receiver-of sum (state_in a) c.self.invariant.1 (sides_in a) refl refl refl)
+    (all-come sum (state_in a) c.self.invariant.1 c.args.k ps (none g p.After-index) h.there)) in
+    only-memory a.sender a.receiver a.progress c.deref-3.result.now c.deref-4.result.now c.self.invariant.0 (apart g p.After-index) able
     c.in-Err.refusal c.in-Err.ensures.refused
 
 pub record_arrivals-new-requires-clause-inside : goal.record_arrivals-new-requires-clause-inside
 record_arrivals-new-requires-clause-inside g c =
-    let w = record_in c.self.inside in
-    let sum = g.C.Checksum.sum c.self.inside.checksum in
-    let x = state_in c.self.inside in
-    let l = c.self.invariant.1 in
-    let k = c.args.k in
-    let ds = c.self.inside.network.items in
-    let lies : (places : List ℕ) × (slice_get w.network k ≡ Some (Data places)) = rw (← c.self.view_is) at c.requires.lies in
-    let ps = lies.0 in
-    let kept : c.in-Data.places.items ≡ ps =
-    places-kept ds k c.index-2.result.now c.in-Data.places.items ps lies.1 c.index-2.ensures (ap kind_record c.in-Data.is) in
-    rw (c.deref-5.ensures.value ∙ kept, c.deref_mut.ensures.value)
-    (λ i lt. omega (arith, all-inside sum x l k ps lies.1 i lt, length-mapped slot_record c.self.inside.slots.items))
+    let p = goal.at.record_arrivals-new-requires-clause-inside g c in
+    rw (c.deref-5.ensures.value, c.deref_mut.ensures.value) (inside g p.In-Data (found g p.In-Data (there g p.After-index)))
 
 pub record_arrivals-new-requires-clause-count : goal.record_arrivals-new-requires-clause-count
 record_arrivals-new-requires-clause-count g c =
-    let w = record_in c.self.inside in
-    let sum = g.C.Checksum.sum c.self.inside.checksum in
-    let x = state_in c.self.inside in
-    let l = c.self.invariant.1 in
-    let k = c.args.k in
-    let ds = c.self.inside.network.items in
-    let lies : (places : List ℕ) × (slice_get w.network k ≡ Some (Data places)) = rw (← c.self.view_is) at c.requires.lies in
-    let none : refusal_of w (E.Arrive k) ≡ None = rw (← c.self.view_is) at c.requires.none in
-    let ps = lies.0 in
-    let kept : c.in-Data.places.items ≡ ps =
-    places-kept ds k c.index-2.result.now c.in-Data.places.items ps lies.1 c.index-2.ensures (ap kind_record c.in-Data.is) in
-    let slots = c.self.inside.slots.items in
-    let reads = says-data sum x k ps ds c.index.result.now l refl refl lies.1 c.index.ensures in
-    let chunks : c.deref-3.result.now ≡ map (chunk_at w) ps = c.deref-3.ensures.value ∙ c.in_ok-chunks.ensures.chunks (said w ps) reads ∙ said-fresh w ps in
-    let numbers : c.deref-4.result.now ≡ map (number_at slots) ps =
-    c.deref-4.ensures.value ∙ c.in_ok-numbers.ensures.numbers ∙ ap (λ ss. map (number_at ss) c.deref-2.result.now) c.deref.ensures.value
-    ∙ ap (map (number_at slots)) (c.deref-2.ensures.value ∙ kept) in
-    let receiver = receiver-of sum x l (sides_in c.self.inside) refl refl refl in
-    let come = all-come sum x l k ps none lies.1 in
-    let apart = subst IsApart (Aligned.numbers-are c.self.inside.sender c.self.inside.receiver c.self.inside.progress c.self.invariant.0) l.apart in
-    let many : length c.deref-3.result.now ≤ length c.deref-4.result.now =
-    omega (arith, ap length chunks, ap length numbers, length-mapped (chunk_at w) ps, length-mapped (number_at slots) ps) in
-    let y = sides c.self.inside.sender c.data_each.new.receiver c.data_each.new.self in
-    let bs = c.in-Ok.arrivals.items in
-    let each =
-    subst (λ qs. TakesEach c.deref-3.result.now c.deref-4.result.now bs (sides_in c.self.inside) (sides c.self.inside.sender c.data_each.new.receiver qs))
-    (sym c.in-Ok.ensures.ok)
-    (each-taken c.self.inside.sender c.self.inside.receiver c.data_each.new.receiver c.self.inside.progress c.deref-3.result.now c.deref-4.result.now bs
-    c.self.invariant.0 apart many c.in-Ok.ensures.taken) in
-    let taken : TakesEach (map (chunk_at w) ps) (map (number_at slots) ps) bs (sides_in c.self.inside) y = rw (chunks, numbers) at each in
-    let done = came (number_at slots) ps (map (chunk_at w) ps) bs w (sides_in c.self.inside) y (numbers-are w slots refl) receiver come taken in
-    ap length c.deref-6.ensures.value ∙ done.count ∙ sym (ap length (c.deref-5.ensures.value ∙ kept))
+    let p = goal.at.record_arrivals-new-requires-clause-count g c in
+    let d = done g p.In-Ok (none g p.After-index) (apart g p.After-index) (handed g p.After-deref-4 (found g p.In-Data (there g p.After-index))) in
+    ap length c.deref-6.ensures.value ∙ d.count ∙ sym (ap length c.deref-5.ensures.value)
 
 pub invariant_of-self-2 : goal.invariant_of-self-2
 invariant_of-self-2 g c =
-    let w = record_in c.self.inside in
-    let sum = g.C.Checksum.sum c.self.inside.checksum in
-    let x = state_in c.self.inside in
-    let l = c.self.invariant.1 in
-    let k = c.args.k in
-    let ds = c.self.inside.network.items in
-    let lies : (places : List ℕ) × (slice_get w.network k ≡ Some (Data places)) = rw (← c.self.view_is) at c.requires.lies in
-    let none : refusal_of w (E.Arrive k) ≡ None = rw (← c.self.view_is) at c.requires.none in
-    let ps = lies.0 in
-    let kept : c.in-Data.places.items ≡ ps =
-    places-kept ds k c.index-2.result.now c.in-Data.places.items ps lies.1 c.index-2.ensures (ap kind_record c.in-Data.is) in
-    let slots = c.self.inside.slots.items in
-    let reads = says-data sum x k ps ds c.index.result.now l refl refl lies.1 c.index.ensures in
-    let chunks : c.deref-3.result.now ≡ map (chunk_at w) ps = c.deref-3.ensures.value ∙ c.in_ok-chunks.ensures.chunks (said w ps) reads ∙ said-fresh w ps in
-    let numbers : c.deref-4.result.now ≡ map (number_at slots) ps =
-    c.deref-4.ensures.value ∙ c.in_ok-numbers.ensures.numbers ∙ ap (λ ss. map (number_at ss) c.deref-2.result.now) c.deref.ensures.value
-    ∙ ap (map (number_at slots)) (c.deref-2.ensures.value ∙ kept) in
-    let receiver = receiver-of sum x l (sides_in c.self.inside) refl refl refl in
-    let come = all-come sum x l k ps none lies.1 in
-    let apart = subst IsApart (Aligned.numbers-are c.self.inside.sender c.self.inside.receiver c.self.inside.progress c.self.invariant.0) l.apart in
-    let many : length c.deref-3.result.now ≤ length c.deref-4.result.now =
-    omega (arith, ap length chunks, ap length numbers, length-mapped (chunk_at w) ps, length-mapped (number_at slots) ps) in
-    let y = sides c.self.inside.sender c.data_each.new.receiver c.data_each.new.self in
-    let bs = c.in-Ok.arrivals.items in
-    let each =
-    subst (λ qs. TakesEach c.deref-3.result.now c.deref-4.result.now bs (sides_in c.self.inside) (sides c.self.inside.sender c.data_each.new.receiver qs))
-    (sym c.in-Ok.ensures.ok)
-    (each-taken c.self.inside.sender c.self.inside.receiver c.data_each.new.receiver c.self.inside.progress c.deref-3.result.now c.deref-4.result.now bs
-    c.self.invariant.0 apart many c.in-Ok.ensures.taken) in
-    let taken : TakesEach (map (chunk_at w) ps) (map (number_at slots) ps) bs (sides_in c.self.inside) y = rw (chunks, numbers) at each in
-    let done = came (number_at slots) ps (map (chunk_at w) ps) bs w (sides_in c.self.inside) y (numbers-are w slots refl) receiver come taken in
-    let arrived = c.record_arrivals-new.ensures in
-    let same : length c.record_arrivals-new.new.slots ≡ vec_len c.self.inside.slots = search rules in
-    let marked = with_items c.self.inside.slots c.record_arrivals-new.new.slots in
-    let slots_are : (fold receive_slot w ps).slots ≡ map slot_record marked.items =
-    done.slots slots refl ∙ sym (ap (map slot_record) (with_items_is c.self.inside.slots c.record_arrivals-new.new.slots same ∙ arrived.slots
-    ∙ ap (λ qs. arrived_in qs c.deref-6.result.now c.deref_mut.result.now) (c.deref-5.ensures.value ∙ kept)
-    ∙ ap (λ cs. arrived_in ps cs c.deref_mut.result.now) c.deref-6.ensures.value ∙ ap (arrived_in ps bs) c.deref_mut.ensures.value)) in
-    let dups_are : (fold receive_slot w ps).duplicates ≡ c.record_arrivals-new.new.duplicates.items =
-    done.duplicates ∙ sym (arrived.duplicates ∙ ap (λ ds. ds ++ repeated_of c.deref-5.result.now c.deref-6.result.now) c.in_ok-reserve.ensures.items
-    ∙ ap (λ qs. c.self.inside.duplicates.items ++ repeated_of qs c.deref-6.result.now) (c.deref-5.ensures.value ∙ kept)
-    ∙ ap (λ cs. c.self.inside.duplicates.items ++ repeated_of ps cs) c.deref-6.ensures.value) in (
-      subst (λ qs. IsAligned c.self.inside.sender c.data_each.new.receiver qs) (sym c.in-Ok.ensures.ok)
-          (each-aligned c.self.inside.sender c.self.inside.receiver c.data_each.new.receiver c.self.inside.progress c.deref-3.result.now c.deref-4.result.now bs
+    let p = goal.at.invariant_of-self-2 g c in
+    let ok = none g p.After-index in
+    let at = found g p.In-Data (there g p.After-index) in
+    let d = done g p.In-Ok ok (apart g p.After-index) (handed g p.After-deref-4 at) in
+    let r = recorded g p.After-record_arrivals-new d in
+    let a = c.self.inside in
+    let sum = g.C.Checksum.sum a.checksum in
+    let y = sides a.sender c.data_each.new.receiver c.data_each.new.self in
+    let marked = with_items a.slots c.record_arrivals-new.new.slots in (
+      subst (λ qs. IsAligned a.sender c.data_each.new.receiver qs) (sym c.in-Ok.ensures.ok)
+          (each-aligned a.sender a.receiver c.data_each.new.receiver a.progress c.deref-3.result.now c.deref-4.result.now c.in-Ok.arrivals.items
           c.self.invariant.0 c.in-Ok.ensures.taken),
-      subst (λ (h : Sides). IsLinked sum (state_from h (record c.self.inside { slots = marked; duplicates = c.record_arrivals-new.new.duplicates })))
-          (sym done.rest)
-          (linked-received sum x l k ps none lies.1 y marked.items c.record_arrivals-new.new.duplicates.items done.receiver done.cores slots_are dups_are),
+      subst (λ (h : Sides). IsLinked sum (state_from h (record a { slots = marked; duplicates = c.record_arrivals-new.new.duplicates }))) (sym d.rest)
+          (linked-received sum (state_in a) c.self.invariant.1 c.args.k c.in-Data.places.items ok at y marked.items
+          c.record_arrivals-new.new.duplicates.items d.receiver d.cores r.slots_are r.dups_are),
     )
 
 pub returns-clause-ok : goal.returns-clause-ok
 returns-clause-ok g c =
-    let w = record_in c.self.inside in
-    let sum = g.C.Checksum.sum c.self.inside.checksum in
-    let x = state_in c.self.inside in
-    let l = c.self.invariant.1 in
-    let k = c.args.k in
-    let ds = c.self.inside.network.items in
-    let lies : (places : List ℕ) × (slice_get w.network k ≡ Some (Data places)) = rw (← c.self.view_is) at c.requires.lies in
-    let none : refusal_of w (E.Arrive k) ≡ None = rw (← c.self.view_is) at c.requires.none in
-    let ps = lies.0 in
-    let kept : c.in-Data.places.items ≡ ps =
-    places-kept ds k c.index-2.result.now c.in-Data.places.items ps lies.1 c.index-2.ensures (ap kind_record c.in-Data.is) in
-    let slots = c.self.inside.slots.items in
-    let reads = says-data sum x k ps ds c.index.result.now l refl refl lies.1 c.index.ensures in
-    let chunks : c.deref-3.result.now ≡ map (chunk_at w) ps = c.deref-3.ensures.value ∙ c.in_ok-chunks.ensures.chunks (said w ps) reads ∙ said-fresh w ps in
-    let numbers : c.deref-4.result.now ≡ map (number_at slots) ps =
-    c.deref-4.ensures.value ∙ c.in_ok-numbers.ensures.numbers ∙ ap (λ ss. map (number_at ss) c.deref-2.result.now) c.deref.ensures.value
-    ∙ ap (map (number_at slots)) (c.deref-2.ensures.value ∙ kept) in
-    let receiver = receiver-of sum x l (sides_in c.self.inside) refl refl refl in
-    let come = all-come sum x l k ps none lies.1 in
-    let apart = subst IsApart (Aligned.numbers-are c.self.inside.sender c.self.inside.receiver c.self.inside.progress c.self.invariant.0) l.apart in
-    let many : length c.deref-3.result.now ≤ length c.deref-4.result.now =
-    omega (arith, ap length chunks, ap length numbers, length-mapped (chunk_at w) ps, length-mapped (number_at slots) ps) in
-    let y = sides c.self.inside.sender c.data_each.new.receiver c.data_each.new.self in
-    let bs = c.in-Ok.arrivals.items in
-    let each =
-    subst (λ qs. TakesEach c.deref-3.result.now c.deref-4.result.now bs (sides_in c.self.inside) (sides c.self.inside.sender c.data_each.new.receiver qs))
-    (sym c.in-Ok.ensures.ok)
-    (each-taken c.self.inside.sender c.self.inside.receiver c.data_each.new.receiver c.self.inside.progress c.deref-3.result.now c.deref-4.result.now bs
-    c.self.invariant.0 apart many c.in-Ok.ensures.taken) in
-    let taken : TakesEach (map (chunk_at w) ps) (map (number_at slots) ps) bs (sides_in c.self.inside) y = rw (chunks, numbers) at each in
-    let done = came (number_at slots) ps (map (chunk_at w) ps) bs w (sides_in c.self.inside) y (numbers-are w slots refl) receiver come taken in
-    let arrived = c.record_arrivals-new.ensures in
-    let same : length c.record_arrivals-new.new.slots ≡ vec_len c.self.inside.slots = search rules in
-    let marked = with_items c.self.inside.slots c.record_arrivals-new.new.slots in
-    let slots_are : (fold receive_slot w ps).slots ≡ map slot_record marked.items =
-    done.slots slots refl ∙ sym (ap (map slot_record) (with_items_is c.self.inside.slots c.record_arrivals-new.new.slots same ∙ arrived.slots
-    ∙ ap (λ qs. arrived_in qs c.deref-6.result.now c.deref_mut.result.now) (c.deref-5.ensures.value ∙ kept)
-    ∙ ap (λ cs. arrived_in ps cs c.deref_mut.result.now) c.deref-6.ensures.value ∙ ap (arrived_in ps bs) c.deref_mut.ensures.value)) in
-    let dups_are : (fold receive_slot w ps).duplicates ≡ c.record_arrivals-new.new.duplicates.items =
-    done.duplicates ∙ sym (arrived.duplicates ∙ ap (λ ds. ds ++ repeated_of c.deref-5.result.now c.deref-6.result.now) c.in_ok-reserve.ensures.items
-    ∙ ap (λ qs. c.self.inside.duplicates.items ++ repeated_of qs c.deref-6.result.now) (c.deref-5.ensures.value ∙ kept)
-    ∙ ap (λ cs. c.self.inside.duplicates.items ++ repeated_of ps cs) c.deref-6.ensures.value) in
-    rw (← c.self.view_is) (subst (λ (h : Sides). IsRight w (E.Arrive k) (reply_of c.reply_to_data.result)
-    (record_from h (record c.self.inside { slots = marked; duplicates = c.record_arrivals-new.new.duplicates }))) (sym done.rest)
-    (right-received sum x l k ps none lies.1 y marked.items c.record_arrivals-new.new.duplicates.items done.receiver done.cores slots_are dups_are
-    c.record_arrivals-new.result (reply_of c.reply_to_data.result) (arrived.new ∙ ap (list_any is_first) c.deref-6.ensures.value
-    ∙ done.new) c.reply_to_data.ensures))
+    let p = goal.at.returns-clause-ok g c in
+    let ok = none g p.After-index in
+    let at = found g p.In-Data (there g p.After-index) in
+    let d = done g p.In-Ok ok (apart g p.After-index) (handed g p.After-deref-4 at) in
+    let r = recorded g p.After-record_arrivals-new d in
+    let a = c.self.inside in
+    let y = sides a.sender c.data_each.new.receiver c.data_each.new.self in
+    let marked = with_items a.slots c.record_arrivals-new.new.slots in
+    rw (← c.self.view_is) (subst (λ (h : Sides). IsRight (record_in a) (E.Arrive c.args.k) (reply_of c.reply_to_data.result)
+    (record_from h (record a { slots = marked; duplicates = c.record_arrivals-new.new.duplicates }))) (sym d.rest)
+    (right-received (g.C.Checksum.sum a.checksum) (state_in a) c.self.invariant.1 c.args.k c.in-Data.places.items ok at y marked.items
+    c.record_arrivals-new.new.duplicates.items d.receiver d.cores r.slots_are r.dups_are c.record_arrivals-new.result (reply_of c.reply_to_data.result)
+    (c.record_arrivals-new.ensures.new ∙ ap (list_any is_first) c.deref-6.ensures.value ∙ d.new) c.reply_to_data.ensures))
