@@ -3,12 +3,22 @@
 use benchlib::growth::{SIZES, exponent};
 use benchlib::names::call_name;
 use benchlib::payload::Touch;
+use benchlib::receiving::Receiving;
 use benchlib::scenario::{Scenario, fastest, with_held};
+use benchlib::sending::Sending;
 
-static CALLS: [Scenario; 3] = [
+static CALLS: [Scenario; 11] = [
     Scenario::Touch(Touch::Push, 0),
     Scenario::Touch(Touch::Pop, 0),
     Scenario::Touch(Touch::Get, 0),
+    Scenario::Sending(Sending::Write, 0),
+    Scenario::Sending(Sending::SendNext, 0),
+    Scenario::Sending(Sending::Acked, 0),
+    Scenario::Sending(Sending::ExpireLate, 0),
+    Scenario::Receiving(Receiving::Data, 0),
+    Scenario::Receiving(Receiving::Sack, 0),
+    Scenario::Receiving(Receiving::Read, 0),
+    Scenario::Receiving(Receiving::Skip, 0),
 ];
 
 // Prints a line: the name of the call, how many nanoseconds it took at each size, and the exponent between the last two sizes, a tab

@@ -1,4 +1,4 @@
-//! Measures packets and queues.
+//! Measures packets, queues, senders, receivers and links.
 //!
 //!     bench                          prints what came out of each run
 //!     bench times                    and how long the fastest of many runs took

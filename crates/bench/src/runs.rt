@@ -1,11 +1,13 @@
-//! Queues, SACKs and streams.
+//! Queues, senders, receivers and links.
 
 use crate::table::Table;
 use benchlib::names::what_of;
-use benchlib::scenario::{Scenario, fastest, is_slow, measure, unit_of};
+use benchlib::receiving::Receiving;
+use benchlib::scenario::{Scenario, Sum, fastest, is_slow, measure, unit_of};
+use benchlib::sending::Sending;
 use benchlib::subject::{Delivery, Order};
 
-static SCENARIOS: [Scenario; 20] = [
+static SCENARIOS: [Scenario; 38] = [
     Scenario::PushAndPop(1000, Order::InOrder),
     Scenario::PushAndPop(1000, Order::Shuffled),
     Scenario::PushAndPop(10_000, Order::InOrder),
@@ -26,6 +28,24 @@ static SCENARIOS: [Scenario; 20] = [
     Scenario::OutboundPush(1000),
     Scenario::Sack(1),
     Scenario::Sack(100),
+    Scenario::Exchange(Sum::Zero),
+    Scenario::Exchange(Sum::Crc32c),
+    Scenario::Linked(Sum::Zero),
+    Scenario::Linked(Sum::Crc32c),
+    Scenario::Sending(Sending::Acked, 1000),
+    Scenario::Sending(Sending::Acked, 100_000),
+    Scenario::Sending(Sending::AckedBlocks, 10_000),
+    Scenario::Sending(Sending::NoneLate, 1000),
+    Scenario::Sending(Sending::NoneLate, 100_000),
+    Scenario::Sending(Sending::ExpireLate, 1000),
+    Scenario::Sending(Sending::ExpireLate, 10_000),
+    Scenario::Sending(Sending::Expire, 1000),
+    Scenario::Sending(Sending::Expire, 100_000),
+    Scenario::Receiving(Receiving::DataEach, 1000),
+    Scenario::Receiving(Receiving::DataEach, 100_000),
+    Scenario::Receiving(Receiving::Streams, 1000),
+    Scenario::Receiving(Receiving::Streams, 60_000),
+    Scenario::Receiving(Receiving::SkipNames, 30_000),
 ];
 
 /// Prints what came out of each run and, where asked for, how long the fastest of many runs took.

@@ -1,7 +1,9 @@
 //! How scenarios are told.
 
 use crate::payload::Touch;
-use crate::scenario::Scenario;
+use crate::receiving::Receiving;
+use crate::scenario::{Scenario, Sum};
+use crate::sending::Sending;
 use crate::subject::{Delivery, Order};
 use std::fmt;
 
@@ -26,6 +28,8 @@ impl fmt::Display for Scenario {
             Scenario::Pending(count) => write!(f, "pending push and pop {count}"),
             Scenario::OutboundPush(count) => write!(f, "outbound push {count}"),
             Scenario::Sack(count) => write!(f, "SACK of {count} blocks written and read"),
+            Scenario::Exchange(sum) => write!(f, "64 KiB in packets, {}", sum_name(sum)),
+            Scenario::Linked(sum) => write!(f, "64 KiB through a Link, {}", sum_name(sum)),
             _ => write!(f, "{} over {}", call_name(*self), held_in(*self)),
         }
     }
@@ -46,20 +50,54 @@ fn delivery_name(delivery: Delivery) -> &'static str {
     }
 }
 
+fn sum_name(sum: Sum) -> &'static str {
+    match sum {
+        Sum::Zero => "sum 0",
+        Sum::Crc32c => "CRC-32C",
+    }
+}
+
 /// The call that a scenario times while much is held; no word where it is another scenario.
 pub fn call_name(scenario: Scenario) -> &'static str {
     match scenario {
         Scenario::Touch(Touch::Push, _) => "push",
         Scenario::Touch(Touch::Pop, _) => "pop",
         Scenario::Touch(Touch::Get, _) => "get",
+        Scenario::Sending(call, _) => sending_name(call),
+        Scenario::Receiving(call, _) => receiving_name(call),
         _ => "",
+    }
+}
+
+fn sending_name(call: Sending) -> &'static str {
+    match call {
+        Sending::Write => "Sender::write",
+        Sending::SendNext => "Sender::send_next",
+        Sending::Acked => "Sender::acked",
+        Sending::AckedBlocks => "Sender::acked, 16000 blocks,",
+        Sending::ExpireLate => "Sender::expire_late, all late,",
+        Sending::NoneLate => "Sender::expire_late, none late,",
+        Sending::Expire => "Sender::expire",
+    }
+}
+
+fn receiving_name(call: Receiving) -> &'static str {
+    match call {
+        Receiving::Data => "Receiver::data",
+        Receiving::DataEach => "Receiver::data_each, two chunks,",
+        Receiving::Streams => "Receiver::data_each, two chunks, open streams,",
+        Receiving::Sack => "Receiver::sack",
+        Receiving::Read => "Receiver::read",
+        Receiving::Skip => "Receiver::forward_tsn",
+        Receiving::SkipNames => "Receiver::forward_tsn, 16381 equal names,",
     }
 }
 
 // How much is held.
 fn held_in(scenario: Scenario) -> u32 {
     match scenario {
-        Scenario::Touch(_, held) => held,
+        Scenario::Touch(_, held) | Scenario::Sending(_, held) | Scenario::Receiving(_, held) =>
+            held,
         _ => 0,
     }
 }
@@ -67,10 +105,10 @@ fn held_in(scenario: Scenario) -> u32 {
 /// The word for what a run gives.
 pub fn what_of(scenario: Scenario) -> &'static str {
     match scenario {
-        Scenario::OneMessage(_, _) => "bytes",
+        Scenario::OneMessage(_, _) | Scenario::Exchange(_) | Scenario::Linked(_) => "bytes",
         Scenario::GapBlocks(_, _) | Scenario::Sack(_) => "blocks",
         Scenario::Interleaved => "messages",
-        Scenario::Touch(_, _) => "in all",
+        Scenario::Touch(_, _) | Scenario::Sending(_, _) | Scenario::Receiving(_, _) => "in all",
         _ => "chunks",
     }
 }

@@ -1,10 +1,17 @@
 //! What is run.
 
+use crate::ends::Ends;
+use crate::exchange::exchange;
+use crate::linking::through_link;
+use crate::packet::Zero;
 use crate::payload::Touch;
+use crate::receiving::Receiving;
+use crate::sending::Sending;
 use crate::stream::packetize;
 use crate::subject::{CALLS, Delivery, Order};
 use crate::timing::{Fastest, Measured};
-use crate::{outbound, payload, reassembly, sack};
+use crate::{outbound, payload, reassembly, receiving, sack, sending};
+use sctp_packets::checksum::Crc32c;
 use std::alloc::Global;
 use std::time::{Clock, Instant};
 
@@ -13,6 +20,14 @@ const UNITS: u32 = 100_000;
 
 // No run begins after so many milliseconds.
 const MILLISECONDS: u128 = 500;
+
+/// A checksum of packets.
+#[derive(Clone, Copy)]
+pub enum Sum {
+    /// 0 for any bytes.
+    Zero,
+    Crc32c,
+}
 
 /// What is run.
 #[derive(Clone, Copy)]
@@ -37,6 +52,14 @@ pub enum Scenario {
     Sack(u16),
     /// A payload queue that holds so many chunks.
     Touch(Touch, u32),
+    /// A sender that holds so many messages.
+    Sending(Sending, u32),
+    /// A receiver that holds so many messages.
+    Receiving(Receiving, u32),
+    /// A message goes from a sender to a receiver in packets.
+    Exchange(Sum),
+    /// A message goes through a link.
+    Linked(Sum),
 }
 
 /// What a time is given for, and how many of these a run has.
@@ -55,16 +78,37 @@ pub fn unit_of(scenario: Scenario) -> Unit {
         | Scenario::OutboundPush(count) => ("chunk", u32::from(count)),
         Scenario::Interleaved => ("push", 4000),
         Scenario::Sack(_) | Scenario::Touch(_, _) => ("call", CALLS),
+        Scenario::Sending(call, _) => ("call", calls_to_send(call)),
+        Scenario::Receiving(call, _) => ("call", calls_to_receive(call)),
         Scenario::GapBlocks(_, _) => ("call", 1),
-        Scenario::OneMessage(_, _) | Scenario::Packetize => ("message", 1),
+        Scenario::OneMessage(_, _)
+        | Scenario::Packetize
+        | Scenario::Exchange(_)
+        | Scenario::Linked(_) => ("message", 1),
     };
     Unit { name, units }
+}
+
+fn calls_to_send(call: Sending) -> u32 {
+    match call {
+        Sending::Write | Sending::SendNext | Sending::Acked => CALLS,
+        Sending::AckedBlocks | Sending::ExpireLate | Sending::NoneLate | Sending::Expire => 1,
+    }
+}
+
+fn calls_to_receive(call: Receiving) -> u32 {
+    match call {
+        Receiving::Skip | Receiving::SkipNames => 1,
+        _ => CALLS,
+    }
 }
 
 /// The same call, while so many are held; another scenario as it is.
 pub fn with_held(scenario: Scenario, held: u32) -> Scenario {
     match scenario {
         Scenario::Touch(call, _) => Scenario::Touch(call, held),
+        Scenario::Sending(call, _) => Scenario::Sending(call, held),
+        Scenario::Receiving(call, _) => Scenario::Receiving(call, held),
         _ => scenario,
     }
 }
@@ -74,6 +118,8 @@ pub fn is_slow(scenario: Scenario) -> bool {
     match scenario {
         Scenario::PushAndPop(count, Order::Shuffled) => count > 1000,
         Scenario::Touch(_, held) => held > 1000,
+        Scenario::Sending(call, held) => call == Sending::AckedBlocks || held > 1000,
+        Scenario::Receiving(_, held) => held > 1000,
         _ => false,
     }
 }
@@ -93,6 +139,43 @@ pub fn measure(clock: &impl Clock, alloc: Global, scenario: Scenario) -> anyhow:
         Scenario::OutboundPush(count) => outbound::push_all(clock, alloc, count),
         Scenario::Sack(count) => sack::write_and_read(clock, alloc, count),
         Scenario::Touch(call, held) => payload::touch_held(clock, alloc, call, held),
+        Scenario::Linked(Sum::Zero) => through_link(clock, alloc, Zero),
+        Scenario::Linked(Sum::Crc32c) => through_link(clock, alloc, Crc32c),
+        _ => {
+            let mut ends = Ends::new(alloc);
+            measure_ends(clock, &mut ends, scenario)
+        }
+    }
+}
+
+// The same of those that need a sender and a receiver. What can't be prepared gives nothing.
+fn measure_ends(
+    clock: &impl Clock,
+    ends: &mut Ends,
+    scenario: Scenario,
+) -> anyhow::Result<Measured> {
+    let is_ready = prepare(ends, scenario);
+    let start = Instant::now(clock)?;
+    let given = run(ends, scenario);
+    let elapsed = start.elapsed(clock)?;
+    let given = if is_ready { given } else { 0 };
+    Ok(Measured { given, elapsed })
+}
+
+fn prepare(ends: &mut Ends, scenario: Scenario) -> bool {
+    match scenario {
+        Scenario::Sending(call, held) => sending::prepare(ends, call, held),
+        Scenario::Receiving(call, held) => receiving::prepare(ends, call, held),
+        _ => ends.open(),
+    }
+}
+
+fn run(ends: &mut Ends, scenario: Scenario) -> usize {
+    match scenario {
+        Scenario::Sending(call, _) => sending::run(ends, call),
+        Scenario::Receiving(call, held) => receiving::run(ends, call, held),
+        Scenario::Exchange(Sum::Crc32c) => exchange(ends, &Crc32c),
+        _ => exchange(ends, &Zero),
     }
 }
 

@@ -1,0 +1,120 @@
+//! Calls of a sender that holds much.
+
+use crate::ends::Ends;
+use crate::sack::{add_blocks, sack_to};
+use crate::subject::{CALLS, STREAM};
+use bytes::Bytes;
+use sctp_chunks::chunk::chunk_payload_data::{PayloadProtocolIdentifier, ReliabilityType};
+use sctp_sender::sender::Sender;
+use std::alloc::Global;
+
+/// What is called.
+#[derive(Clone, Copy, PartialEq, Eq)]
+pub enum Sending {
+    /// Writes, while so many messages wait.
+    Write,
+    /// Sends, while so many chunks are in flight.
+    SendNext,
+    /// SACKs of one chunk more, while so many are in flight.
+    Acked,
+    /// One SACK of 16,000 gap ack blocks, each over all that are in flight but the first.
+    AckedBlocks,
+    /// All that are in flight are late.
+    ExpireLate,
+    /// None of those in flight is late.
+    NoneLate,
+    /// The first of those that wait is past its deadline.
+    Expire,
+}
+
+// How many blocks a SACK of many has.
+const BLOCKS: u16 = 16_000;
+
+// Past the lifetime of what was sent or started at 0, in nanoseconds.
+const LATE: u64 = 2_000_000;
+
+// Writes messages of one byte, and gives how many were taken.
+fn write_each(sender: &mut Sender, count: u32) -> usize {
+    let bytes = Bytes::from_static(&[7]);
+    let mut written = 0usize;
+    for _ in 0..count {
+        if sender
+            .write(STREAM, PayloadProtocolIdentifier::Binary, &bytes)
+            .is_ok()
+        {
+            written = written.wrapping_add(1);
+        }
+    }
+    written
+}
+
+// Sends what waits, and gives how many chunks that were.
+fn send_each(sender: &mut Sender, count: u32) -> usize {
+    let mut sent = 0usize;
+    for _ in 0..count {
+        if let Ok(Some(_)) = sender.send_next(0) {
+            sent = sent.wrapping_add(1);
+        }
+    }
+    sent
+}
+
+// Acknowledges one chunk after another, and gives how many SACKs were taken.
+fn ack_each(alloc: Global, sender: &mut Sender) -> usize {
+    let mut taken = 0usize;
+    for turn in 0..CALLS {
+        if sender.acked(&sack_to(alloc, turn.wrapping_add(1))).is_ok() {
+            taken = taken.wrapping_add(1);
+        }
+    }
+    taken
+}
+
+/// Opens the stream, with a lifetime of a millisecond, and writes and sends so many messages of one byte.
+pub fn prepare(ends: &mut Ends, call: Sending, held: u32) -> bool {
+    let waits = matches!(call, Sending::Write | Sending::Expire);
+    let unordered = call != Sending::Expire;
+    let is_open = ends.open()
+        && ends
+            .sender
+            .set_mode(STREAM, unordered, ReliabilityType::Timed, 1)
+            .is_ok();
+    write_each(&mut ends.sender, held);
+    if !waits {
+        send_each(&mut ends.sender, held);
+    }
+    match call {
+        Sending::SendNext => is_open && write_each(&mut ends.sender, CALLS) > 0,
+        Sending::AckedBlocks => is_open
+            && add_blocks(&mut ends.sack, BLOCKS, Some(held.min(65_535) as u16)).is_ok(),
+        _ => {
+            ends.sender.start(0);
+            is_open
+        }
+    }
+}
+
+/// Makes the calls, and gives how many did what they are for; of `expire_late` how many messages were abandoned.
+pub fn run(ends: &mut Ends, call: Sending) -> usize {
+    let sender = &mut ends.sender;
+    match call {
+        Sending::Write => write_each(sender, CALLS),
+        Sending::SendNext => send_each(sender, CALLS),
+        Sending::Acked => ack_each(ends.alloc, sender),
+        Sending::AckedBlocks => match sender.acked(&ends.sack) {
+            Ok(released) => released.len(),
+            Err(_) => 0,
+        },
+        Sending::ExpireLate => abandoned(sender, LATE),
+        Sending::NoneLate => abandoned(sender, 0).wrapping_add(1),
+        Sending::Expire => usize::from(sender.expire(LATE).is_some()),
+    }
+}
+
+// How many messages are late now.
+fn abandoned(sender: &mut Sender, now: u64) -> usize {
+    match sender.expire_late(now) {
+        Ok(messages) => messages.len(),
+        Err(_) => 0,
+    }
+}
