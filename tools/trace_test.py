@@ -14,7 +14,8 @@ from trace import Callers, comment_of, definitions_of, with_traits
 CALLERS = {
     "sctp_sender::InFlight::expire_late": {"sctp_sender/sender/abandonment expire_late"},
     "sctp_sender::Sender::expire_late": {"association/association abandon", "transfer_tests/sending abandon_late", "transfer_tests/sender_tests abandons",
-                                         "sctp_delivery/sender_steps expire_late", "sctp_c/sender/abandoning sctp_sender_expire_late"},
+                                         "sctp_delivery/sender_steps expire_late", "sctp_c/sender/abandoning sctp_sender_expire_late",
+                                         "benchlib/sending abandoned"},
     "sctp_outbound::PayloadQueue::pop_up_to": {"queue_tests/payload_queue pops_up_to"},
     "sctp_reassembly::Loose::take_range": {"sctp_reassembly/reassembly_queue/pool/undo put_undoable", "sctp_reassembly/reassembly_queue/pool take_run"},
     "sctp_reassembly::ReassemblyQueue::forward_tsn_for_unordered": {"queue_tests/reassembly_queue skips_by_half_a_circle", "sctp_receiver/receiver/visiting skip_on"},
