@@ -16,7 +16,8 @@ use Rattle.benchlib.specs.Near.{AreBelow}
 abbrev pub IsBelow : ℕ → ChunkPayloadData → Type 0
 IsBelow bound c = (0 < c.tsn) × (c.tsn < bound)
 
-below-inserted : (bound : ℕ) (x : ChunkPayloadData) (cs : List ChunkPayloadData) → IsBelow bound x → AreBelow bound cs → AreBelow bound (insert_before chunk_before x cs)
+below-inserted : (bound : ℕ) (x : ChunkPayloadData) (cs : List ChunkPayloadData) → IsBelow bound x → AreBelow bound cs
+    → AreBelow bound (insert_before chunk_before x cs)
 below-inserted bound x [] p h = All-cons (IsBelow bound) x [] p (All-nil (IsBelow bound))
 below-inserted bound x (c ∷ cs) p h = step (chunk_before x c) (below-inserted bound x cs p (All-tail (IsBelow bound) c cs h))
   where
@@ -41,17 +42,21 @@ window-below bound cs tsn few some less h = record {
 pub absent-below : (bound : ℕ) (cs : List ChunkPayloadData) → AreBelow bound cs → is_held cs bound ≡ false
 absent-below bound cs h = ap is_some (not_found cs bound (λ k d lt e. let i = h k d lt in omega (arith, i.1, e)))
 
-pub below-pushed : (bound : ℕ) (new q : Payload) (x : ChunkPayloadData) (tsn : ℕ) (b : Bool) → new ≡ (if b then push_chunk q x else add_duplicate q tsn) → IsBelow bound x → AreBelow bound q.chunks → AreBelow bound new.chunks
+pub below-pushed : (bound : ℕ) (new q : Payload) (x : ChunkPayloadData) (tsn : ℕ) (b : Bool) → new ≡ (if b then push_chunk q x else add_duplicate q tsn)
+    → IsBelow bound x → AreBelow bound q.chunks → AreBelow bound new.chunks
 below-pushed bound new q x tsn true e p h = subst (λ (r : Payload). AreBelow bound r.chunks) (sym e) (below-inserted bound x q.chunks p h)
 below-pushed bound new q x tsn false e p h = subst (λ (r : Payload). AreBelow bound r.chunks) (sym e) h
 
-pub below-sent : (new q : Outbound) (tsn now : ℕ) → new ≡ sent_next q tsn now → 0 < tsn → AreBelow tsn q.inflight.chunks → AreBelow (tsn + 1) new.inflight.chunks
-below-sent new q tsn now e some h = subst (λ (r : Outbound). AreBelow (tsn + 1) r.inflight.chunks) (sym e) (by (pending.next_pending (all_started now q).pending) (all_started now q) (start (q.next_unstarted == q.next_message_id)))
+pub below-sent : (new q : Outbound) (tsn now : ℕ) → new ≡ sent_next q tsn now → 0 < tsn → AreBelow tsn q.inflight.chunks
+    → AreBelow (tsn + 1) new.inflight.chunks
+below-sent new q tsn now e some h = subst (λ (r : Outbound). AreBelow (tsn + 1) r.inflight.chunks) (sym e)
+    (by (pending.next_pending (all_started now q).pending) (all_started now q) (start (q.next_unstarted == q.next_message_id)))
   where
     by : (o : Option ChunkPayloadData) (r : Outbound) → AreBelow tsn r.inflight.chunks → AreBelow (tsn + 1) (sent_of o r tsn now).inflight.chunks
     by None r h = wider tsn r.inflight.chunks h
     by (Some c) r h = below-inserted (tsn + 1) (as_sent tsn now c) r.inflight.chunks (some, omega arith) (wider tsn r.inflight.chunks h)
 
-    start : (b : Bool) → AreBelow tsn (if b then q else record q { pending = pending.start_pending q.next_unstarted now q.pending; next_unstarted = q.next_message_id }).inflight.chunks
+    start : (b : Bool) → AreBelow tsn (if b then q
+        else record q { pending = pending.start_pending q.next_unstarted now q.pending; next_unstarted = q.next_message_id }).inflight.chunks
     start true = h
     start false = h
