@@ -22,7 +22,7 @@ CALLERS = {
     "sctp_receiver::TsnFilter::record_duplicate": {"sctp_receiver/receiver/taking note_repeat"},
     "sctp_reassembly::place_for": {"sctp_reassembly/reassembly_queue place_of"},
     "sctp_outbound::PayloadQueue::mark_as_acked_at": {"sctp_outbound/outbound_queue mark_as_acked_at"},
-    "sctp_outbound::OutboundQueue::mark_as_acked_at": {"sctp_sender/sender/flight/telling acknowledge_told"},
+    "sctp_outbound::OutboundQueue::mark_as_acked_at": {"sctp_sender/sender/flight/telling acknowledge_answered"},
     "sctp_outbound::PayloadQueue::can_push_no_check": {"queue_tests/payload_queue push_no_check", "queue_tests/payload_queue standing_are_told",
                                                         "sctp_outbound/outbound_queue can_send"},
     "sctp_reassembly::ReassemblyQueue::find_complete_unordered_chunk_set": {"queue_tests/reassembly_queue has_no_more"},

@@ -54,8 +54,8 @@ goes-on packet at (x ∷ xs) (y ∷ ys) here end a b ended some =
     goes-on packet (behind packet at) xs ys here end a.3 b.3 ended some
 
 -- where all is told
-ends-told : (packet : List ℕ) (rows : List SctpAnyChunk) (all : TellsAll packet rows) → Ends packet all.end
-ends-told packet rows all = elim all.ended [
+ends-answered : (packet : List ℕ) (rows : List SctpAnyChunk) (all : TellsAll packet rows) → Ends packet all.end
+ends-answered packet rows all = elim all.ended [
   | inl e ↦ inl e.0
   | inr e ↦ inr (e.0, e.1)
 ]
@@ -63,4 +63,4 @@ ends-told packet rows all = elim all.ended [
 pub all-there : (packet : List ℕ) (rows passed : List SctpAnyChunk) (here : ℕ) → TellsAll packet rows → Passes packet 12 passed here
     → 0 < length (drop here packet) → IsThere (drop here packet)
 all-there packet rows passed here all so_far some =
-    goes-on packet 12 passed all.passed here all.end so_far all.passes (ends-told packet rows all) some
+    goes-on packet 12 passed all.passed here all.end so_far all.passes (ends-answered packet rows all) some

@@ -26,8 +26,8 @@ sends now tsn written x out_old out_new old new same none number bytes size afte
     by None next e = absurd (none-some (data_of x) (sym e))
     by (Some c) next e =
         let is : data_of x ≡ with_tsn t c = some-same e in
-        let told : with_tsn t c ≡ with_tsn tsn c = ap (λ k. with_tsn k c) (sym number) in
-        let whole = is ∙ told in
+        let answered : with_tsn t c ≡ with_tsn tsn c = ap (λ k. with_tsn k c) (sym number) in
+        let whole = is ∙ answered in
         record {
           chunk = c;
           next = next;

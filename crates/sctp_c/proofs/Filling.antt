@@ -10,7 +10,7 @@ use Rattle.sctp_data.specs.declared.chunk.chunk_payload_data.ChunkPayloadData.{C
 use Rattle.sctp_list_lemmas.specs.Lists.{change_where}
 use Rattle.sctp_sender.specs.declared.sender.flight.Released.{Released}
 use Rattle.sctp_sender.specs.Flight.{released_by, released_of, is_outdated, is_whole, reports_anew}
-use Rattle.sctp_sender.specs.Keeping.{told_back}
+use Rattle.sctp_sender.specs.Keeping.{answered_back}
 use Rattle.sctp_sender.specs.Outgoing.{has_number, less_by}
 use Rattle.sctp_sender.specs.Sender.{Transmission, taken_back_by, back_by}
 use Rattle.sctp_sender.specs.Thresholds.{with_lows}
@@ -63,15 +63,15 @@ released-few s t = step (is_outdated s t.flight) refl
     chunks : List ChunkPayloadData
     chunks = t.flight.queue.inflight.chunks
 
-    told : Bool → List Released
-    told b = if b then [] else map (released_of (is_whole s t.flight)) (filter (reports_anew s) chunks)
+    answered : Bool → List Released
+    answered b = if b then [] else map (released_of (is_whole s t.flight)) (filter (reports_anew s) chunks)
 
     step : (b : Bool) → is_outdated s t.flight ≡ b → length (released_to s t) ≤ length t.flight.queue.inflight.chunks
     step true e =
-        let none : length (released_by s t.flight) ≡ 0 = ap (λ b. length (told b)) e in
+        let none : length (released_by s t.flight) ≡ 0 = ap (λ b. length (answered b)) e in
         omega (arith, none, lows-length (released_by s t.flight) t.streams)
     step false e =
-        let all : length (released_by s t.flight) ≡ length (told false) = ap (λ b. length (told b)) e in
+        let all : length (released_by s t.flight) ≡ length (answered false) = ap (λ b. length (answered b)) e in
         omega (
           arith,
           all,
@@ -80,14 +80,15 @@ released-few s t = step (is_outdated s t.flight) refl
           filter-few (reports_anew s) chunks,
         )
 
-pub told-few : (bs : List (Option (List ℕ))) (cs : List ChunkPayloadData) → length (told_back bs cs) ≤ length cs
-told-few [] cs = omega arith
-told-few (b ∷ bs) [] = omega arith
-told-few (None ∷ bs) (c ∷ cs) = omega (arith, told-few bs cs)
-told-few (Some bytes ∷ bs) (c ∷ cs) = omega (arith, told-few bs cs)
+pub answered-few : (bs : List (Option (List ℕ))) (cs : List ChunkPayloadData) → length (answered_back bs cs) ≤ length cs
+answered-few [] cs = omega arith
+answered-few (b ∷ bs) [] = omega arith
+answered-few (None ∷ bs) (c ∷ cs) = omega (arith, answered-few bs cs)
+answered-few (Some bytes ∷ bs) (c ∷ cs) = omega (arith, answered-few bs cs)
 
 pub taken-few : (s : Sack) (t : Transmission) → length (taken_back_by s t) ≤ length t.flight.queue.inflight.chunks
-taken-few s t = told-few (back_by s t.flight t.kept) t.flight.queue.inflight.chunks
+taken-few s t = answered-few (back_by s t.flight t.kept) t.flight.queue.inflight.chunks
 
-pub rows-fit : {A : Type 0} (items told view : List A) (most rows : ℕ) → items ≡ told → length told ≤ most → view ≡ items → most ≤ rows → length view ≤ rows
-rows-fit items told view most rows e few same le = omega (arith, ap (λ (l : List _). length l) e, ap (λ (l : List _). length l) same, few, le)
+pub rows-fit : {A : Type 0} (items answered view : List A) (most rows : ℕ) → items ≡ answered → length answered ≤ most → view ≡ items → most ≤ rows
+    → length view ≤ rows
+rows-fit items answered view most rows e few same le = omega (arith, ap (λ (l : List _). length l) e, ap (λ (l : List _). length l) same, few, le)

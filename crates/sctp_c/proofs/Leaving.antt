@@ -44,8 +44,8 @@ pub first-few : (o : Option ℕ) (tsns : List ℕ) → length (option_to_list o 
 first-few None tsns = omega arith
 first-few (Some t) tsns = omega arith
 
-pub told-few : (tsns : List ℕ) (most : ℕ) (t : Transmission) → length tsns ≤ most → length (leaving_to (tail_first tsns t.flight) t) ≤ most + 1
-told-few tsns most t le =
+pub answered-few : (tsns : List ℕ) (most : ℕ) (t : Transmission) → length tsns ≤ most → length (leaving_to (tail_first tsns t.flight) t) ≤ most + 1
+answered-few tsns most t le =
     omega (
       arith,
       le,
@@ -58,9 +58,9 @@ pub late-few : (now : ℕ) (t : Transmission) → length (leaving_to (late_order
 late-few now t =
     let cs = t.flight.queue.inflight.chunks in
     let p = is_late now t.flight.queue.pending in
-    told-few (late_tsns now t.flight.queue) (length cs) t (omega (arith, length-map (filter p cs) (λ (c : ChunkPayloadData). c.tsn), filter-few p cs))
+    answered-few (late_tsns now t.flight.queue) (length cs) t (omega (arith, length-map (filter p cs) (λ (c : ChunkPayloadData). c.tsn), filter-few p cs))
 
 pub worn-few : (t : Transmission) → length (leaving_to (worn_order t.flight) t) ≤ length t.flight.queue.inflight.chunks + 1
 worn-few t =
     let cs = t.flight.queue.inflight.chunks in
-    told-few (worn_tsns t.flight) (length cs) t (omega (arith, length-map (filter is_worn cs) (λ (c : ChunkPayloadData). c.tsn), filter-few is_worn cs))
+    answered-few (worn_tsns t.flight) (length cs) t (omega (arith, length-map (filter is_worn cs) (λ (c : ChunkPayloadData). c.tsn), filter-few is_worn cs))

@@ -27,13 +27,13 @@ payload-size (c ∷ cs) =
     let d = length-append c.user_data (payload_of cs) in
     omega arith
 
-abbrev pub told : ChunkSet → ℕ × PayloadProtocolIdentifier
-told s = (min (bytes_of s.chunks) (2 ^ 64 - 1), s.ppi)
+abbrev pub answered : ChunkSet → ℕ × PayloadProtocolIdentifier
+answered s = (min (bytes_of s.chunks) (2 ^ 64 - 1), s.ppi)
 
 pub tells-next : (stream size number : ℕ) (ppi : PayloadProtocolIdentifier) (r : Reception) (o : Option (ℕ × PayloadProtocolIdentifier)) → o ≡ Some (size, ppi)
-    → o ≡ option_map told (message_on stream r) → number ≡ payload_type_number ppi → TellsNext stream size number r
+    → o ≡ option_map answered (message_on stream r) → number ≡ payload_type_number ppi → TellsNext stream size number r
 tells-next stream size number ppi r o is e n =
-    let found = made-of told (message_on stream r) (size, ppi) (grind (arith, is, e)) in
+    let found = made-of answered (message_on stream r) (size, ppi) (grind (arith, is, e)) in
     record {
       message = found.0;
       next = found.1.0;
@@ -43,10 +43,10 @@ tells-next stream size number ppi r o is e n =
 
 -- a buffer that is no shorter than what is told is no shorter than the message
 pub not-short : (m : Option ChunkSet) (o : Option (ℕ × PayloadProtocolIdentifier)) (size : ℕ) (ppi : PayloadProtocolIdentifier) (p : Option Chunks)
-    (message : Chunks) (n : ℕ) → o ≡ Some (size, ppi) → o ≡ option_map told m → p ≡ Some message → p ≡ option_map at_start m → (n < size → ⊥) → n < 2 ^ 63
+    (message : Chunks) (n : ℕ) → o ≡ Some (size, ppi) → o ≡ option_map answered m → p ≡ Some message → p ≡ option_map at_start m → (n < size → ⊥) → n < 2 ^ 63
     → n < length (payload_of message.set.chunks) → ⊥
 not-short m o size ppi p message n is e there f le small short =
-    let found = made-of told m (size, ppi) (sym is ∙ e) in
+    let found = made-of answered m (size, ppi) (sym is ∙ e) in
     let read = made-of at_start m message (sym there ∙ f) in
     let same : found.0 ≡ read.0 = same_Some found.0 read.0 (sym found.1.0 ∙ read.1.0) in
     let size-is : size ≡ min (bytes_of found.0.chunks) (2 ^ 64 - 1) = ap (λ (x : ℕ × PayloadProtocolIdentifier). x.0) found.1.1 in

@@ -52,7 +52,7 @@ strict-passes packet at (w ∷ ws) walk =
     (subst (λ (b : List ℕ). Walks Steps after b ws []) (drop-drop (padded_length (declared_length (drop at packet))) at packet) walk.1) in
     (any_chunk_at packet at ∷ later.0, later.1, (refl, there, goes-on-behind (drop at packet) w walk.0, later.2), later.3)
 
-pub strict-told : (packet : List ℕ) (ws : List Wire) → Walks Steps after (drop 12 packet) ws [] → (rows : List SctpAnyChunk) × TellsAll packet rows
-strict-told packet ws walk =
+pub strict-answered : (packet : List ℕ) (ws : List Wire) → Walks Steps after (drop 12 packet) ws [] → (rows : List SctpAnyChunk) × TellsAll packet rows
+strict-answered packet ws walk =
     let all = strict-passes packet 12 ws walk in
     (all.0, record { passed = all.0; end = all.1; passes = all.2; ended = inl (all.3, refl) })

@@ -18,12 +18,12 @@ module _ (now : ℕ) (a : AbandonedMessage) (o : Option AbandonedMessage) (row :
   abbrev front : Option ChunkPayloadData
   front = expiring_tail now old.flight.queue
 
-  pub tail-told : o ≡ Some a → row ≡ abandoned_row a
+  pub tail-answered : o ≡ Some a → row ≡ abandoned_row a
       → IfSome o (λ a. new ≡ after_abandon (message_of front) a.stream a.bytes old)
       → option_map {U = ℕ × ℕ} (λ a. (a.stream, a.number)) o ≡ option_map {U = ℕ × ℕ} (λ c. (c.stream_identifier, c.message_id)) front
       → total_bytes new.flight.queue + sum_by (λ g. g.bytes) (option_to_list o) ≡ total_bytes old.flight.queue
       → IfSome o (λ a. a.is_low ≡ fell a.stream old new) → ExpiresTail now row old new
-  tail-told is told after answer released low =
+  tail-answered is answered after answer released low =
       let f : ChunkPayloadData → ℕ × ℕ = λ c. (c.stream_identifier, c.message_id) in
       let found = made-of f front (a.stream, a.number)
       (ap (λ p. option_map {U = ℕ × ℕ} (λ (a : AbandonedMessage). (a.stream, a.number)) p) (sym is) ∙ answer) in
@@ -33,7 +33,7 @@ module _ (now : ℕ) (a : AbandonedMessage) (o : Option AbandonedMessage) (row :
       let sum-is : sum_by (λ (g : AbandonedMessage). g.bytes)
       (option_to_list o) ≡ a.bytes = ap (λ p. sum_by (λ (g : AbandonedMessage). g.bytes) (option_to_list p)) is ∙ one-sum in
       let released-is : total_bytes new.flight.queue + a.bytes ≡ total_bytes old.flight.queue = omega (arith, released, sum-is) in
-      subst (λ r. ExpiresTail now r old new) (sym told) (record {
+      subst (λ r. ExpiresTail now r old new) (sym answered) (record {
         chunk = found.0;
         front = found.1.0;
         stream = ap (λ (x : ℕ × ℕ). x.0) found.1.1;

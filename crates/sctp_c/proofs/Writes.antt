@@ -30,8 +30,8 @@ pub writes : (stream payload_type number count : ℕ) (bytes : List ℕ) (ppi : 
     → (0 < length bytes → (l : StreamState) → stream_of stream old ≡ Some l → new ≡ written_to l stream ppi bytes old)
     → Some number ≡ (if length bytes == 0 then None else Some old.flight.queue.next_message_id) → ((l : StreamState) → stream_of stream old ≡ Some l
     → 0 < length bytes → count ≡ length (fragments_with_mode l ppi bytes)) → (0 < length bytes) × Writes stream payload_type bytes number count old new
-writes stream payload_type number count bytes ppi old new is accepted after told counted =
-    let some = has-bytes number (length bytes) old.flight.queue.next_message_id told in
+writes stream payload_type number count bytes ppi old new is accepted after answered counted =
+    let some = has-bytes number (length bytes) old.flight.queue.next_message_id answered in
     let found = opened stream (length bytes) old accepted in (
       some.0,
       record {

@@ -83,7 +83,7 @@ pub record IsAnyPacket (sum : List ℕ → ℕ) (bytes : List ℕ) (h : SctpHead
   pub headed : IsHeaded sum bytes
   pub head : HeadsPacket bytes h
   pub all : List SctpAnyChunk
-  pub told : TellsAll bytes all
+  pub answered : TellsAll bytes all
   pub chunks : count ≡ length all
   pub rows : new ≡ filled all old
 

@@ -16,5 +16,5 @@ pub mod Receiving
 pub mod Refusal
 pub mod Rows
 pub mod Sending
-pub mod Told
+pub mod Answered
 pub mod Written

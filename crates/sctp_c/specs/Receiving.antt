@@ -32,8 +32,8 @@ pub record TakesData (bytes : List ℕ) (a : Arrival) (old new : Reception) : Ty
 
 -- the same, where its TSN is new: 1 is told where a message of its stream became complete with it, else 0
 abbrev pub TakesNew : List ℕ → ℕ → Reception → Reception → Type 0
-TakesNew bytes told old new =
-    (complete : Bool) × ((told ≡ flag complete) × TakesData bytes (New complete) old new)
+TakesNew bytes answered old new =
+    (complete : Bool) × ((answered ≡ flag complete) × TakesData bytes (New complete) old new)
 
 -- they are a DATA chunk, which is refused
 pub record RefusesData (bytes : List ℕ) (code : ℕ) (old : Reception) : Type 0 where
@@ -82,17 +82,17 @@ pub record WritesSack (out_old out_new : List ℕ) (written : ℕ) (old new : Re
 -- ## Messages
 
 -- the next message of a stream: its length, up to the greatest usize, and its payload type are told
-pub record TellsNext (stream told_size payload_type : ℕ) (r : Reception) : Type 0 where
+pub record TellsNext (stream answered_size payload_type : ℕ) (r : Reception) : Type 0 where
   pub message : ChunkSet
   pub next : message_on stream r ≡ Some message
-  pub size : told_size ≡ min (bytes_of message.chunks) (2 ^ 64 - 1)
+  pub size : answered_size ≡ min (bytes_of message.chunks) (2 ^ 64 - 1)
   pub typ : payload_type ≡ payload_type_number message.ppi
 
 -- and its bytes stand at the front of the buffer, as many as are told
-pub record ReadsNext (stream : ℕ) (out_old out_new : List ℕ) (told_size payload_type : ℕ)
+pub record ReadsNext (stream : ℕ) (out_old out_new : List ℕ) (answered_size payload_type : ℕ)
     (r : Reception) : Type 0 where
   pub message : ChunkSet
   pub next : message_on stream r ≡ Some message
   pub bytes : out_new ≡ at_front (payload_of message.chunks) out_old
-  pub size : told_size ≡ length (payload_of message.chunks)
+  pub size : answered_size ≡ length (payload_of message.chunks)
   pub typ : payload_type ≡ payload_type_number message.ppi

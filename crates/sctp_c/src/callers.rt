@@ -87,7 +87,7 @@ pub fn before_first_chunk(
         return None;
     }
     let mut receiver = out.into_handle();
-    let told = standing(&mut receiver);
+    let answered = standing(&mut receiver);
     sctp_receiver_free(receiver);
-    Some(told)
+    Some(answered)
 }

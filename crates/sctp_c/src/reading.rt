@@ -12,7 +12,7 @@ ghost use Rattle.sctp_data.specs.SelectiveAck.{Sack};
 ghost use Rattle.sctp_data.specs.ForwardTsn.{ForwardTsn};
 ghost use Rattle.sctp_c.specs.Out.{filled};
 ghost use Rattle.sctp_c.specs.Refusal.{IsRefusal};
-ghost use Rattle.sctp_c.specs.Told.{IsData, IsSack, IsForwardTsn, IsInit, IsParameter, data_told, gap_told, skip_told};
+ghost use Rattle.sctp_c.specs.Answered.{IsData, IsSack, IsForwardTsn, IsInit, IsParameter, data_answered, gap_answered, skip_answered};
 
 use crate::code::{SCTP_OK, of_error};
 use bytes::Bytes;
@@ -109,8 +109,8 @@ fn flag(set: bool) -> u8
     if set { 1 } else { 0 }
 }
 
-fn told(chunk: &ChunkPayloadData) -> SctpData
-    ensures { result ≡ data_told (data_of chunk.now) }
+fn answered(chunk: &ChunkPayloadData) -> SctpData
+    ensures { result ≡ data_answered (data_of chunk.now) }
 {
     SctpData {
         length: chunk.user_data.len(),
@@ -135,7 +135,7 @@ pub extern "C" fn sctp_read_data(alloc: Global, chunk: &[u8], fields: &mut SctpD
 {
     match read::<ChunkPayloadData>(alloc, chunk) {
         Ok(read) => {
-            *fields = told(&read);
+            *fields = answered(&read);
             SCTP_OK
         }
         Err(e) => of_error(e),
@@ -143,7 +143,7 @@ pub extern "C" fn sctp_read_data(alloc: Global, chunk: &[u8], fields: &mut SctpD
 }
 
 fn fill_gaps(rows: &mut [SctpGap], blocks: &[GapAckBlock])
-    ensures { rows.new ≡ filled (map gap_told blocks.now) rows.old }
+    ensures { rows.new ≡ filled (map gap_answered blocks.now) rows.old }
 {
     let count = rows.len().min(blocks.len());
     for i in 0..count {
@@ -162,7 +162,7 @@ fn fill_numbers(rows: &mut [u32], numbers: &[u32])
 }
 
 fn fill_skips(rows: &mut [SctpSkip], streams: &[ChunkForwardTsnStream])
-    ensures { rows.new ≡ filled (map skip_told streams.now) rows.old }
+    ensures { rows.new ≡ filled (map skip_answered streams.now) rows.old }
 {
     let count = rows.len().min(streams.len());
     for i in 0..count {

@@ -258,10 +258,10 @@ pub text_led : (b e : Option (List ℕ)) (held : List ℕ) (lead : Lead) (r : Re
     → is_dump (line_in held) ≡ false → preamble_of (line_in held) ≡ Some lead → IfSome (prepend_known held b)
     (λ xs. (rest : List ℕ) × IsLed lead (after_line xs) r rest × Keeps (Some rest) e) → IfSome (prepend_known held b) (λ xs. IsTextTaken xs (Some r) e)
 unfolding lead_or
-text_led None e held lead r holds some none told is = tt
-text_led (Some ys) e held lead r holds some none told is =
+text_led None e held lead r holds some none answered is = tt
+text_led (Some ys) e held lead r holds some none answered is =
     let begins : is_dump (line_in (held ++ ys)) ≡ false = same_said is_dump false long_is_dump held ys holds ∙ none in
-    let tells : preamble_of (line_in (held ++ ys)) ≡ Some lead = same_said preamble_of None long_preamble held ys holds ∙ told in (
+    let tells : preamble_of (line_in (held ++ ys)) ≡ Some lead = same_said preamble_of None long_preamble held ys holds ∙ answered in (
       is.0,
       longer held ys some,
       record {
@@ -279,10 +279,10 @@ text_led (Some ys) e held lead r holds some none told is =
 pub text_line : (b e : Option (List ℕ)) (held : List ℕ) (found : Option Record) → HoldsLine held ⊎ IsAtEnd b → 0 < length held → is_dump (line_in held) ≡ false
     → preamble_of (line_in held) ≡ None → IfSome (prepend_known held b) (λ xs. IsLineFound xs found × Keeps (Some (after_line xs)) e)
     → IfSome (prepend_known held b) (λ xs. IsTextTaken xs found e)
-text_line None e held found holds some none told is = tt
-text_line (Some ys) e held found holds some none told is =
+text_line None e held found holds some none answered is = tt
+text_line (Some ys) e held found holds some none answered is =
     let begins : is_dump (line_in (held ++ ys)) ≡ false = same_said is_dump false long_is_dump held ys holds ∙ none in
-    let tells : preamble_of (line_in (held ++ ys)) ≡ None = same_said preamble_of None long_preamble held ys holds ∙ told in (
+    let tells : preamble_of (line_in (held ++ ys)) ≡ None = same_said preamble_of None long_preamble held ys holds ∙ answered in (
       after_line (held ++ ys),
       longer held ys some,
       record {

@@ -17,7 +17,7 @@ use Rattle.sctp_outbound.specs.outbound_queue.OutboundQueue.{Outbound, abandoned
 use Rattle.sctp_outbound.specs.outbound_queue.OutboundQueue.{terminal_chunk, to_abandon, total_bytes, with_terminal_chunk}
 use Rattle.sctp_outbound.specs.payload_queue.PayloadQueue as payload
 use Rattle.sctp_outbound.specs.pending_queue.PendingQueue.{Pending, last_removed, next_pending}
-use Rattle.sctp_outbound.specs.pending_queue.Whole.{half_of, partially_sent, waits}
+use Rattle.sctp_outbound.specs.pending_queue.Whole.{partial_of, partially_sent, waits}
 use Rattle.sctp_outbound.proofs.lemmas.outbound_queue.Outbounds.{peeked_all_started}
 use Rattle.sctp_outbound.proofs.lemmas.outbound_queue.Abandoned.{last_is_of}
 use Rattle.sctp_serial.specs.DataChunks.{chunk_before, following_tsn, has_tsn}
@@ -29,7 +29,7 @@ use Rattle.sctp_sender.specs.Outgoing.{fragments_with_mode}
 use Rattle.sctp_sender.specs.Resending.{can_miss, count_again, missed, sent_again}
 use Rattle.sctp_sender.specs.Sender.{Transmission, after_expire, stream_of}
 use Rattle.sctp_sender.proofs.Flights.{started-inflight}
-use Rattle.sctp_sender.proofs.InLine.{found-half, tail-half}
+use Rattle.sctp_sender.proofs.InLine.{found-partial, tail-partial}
 use Rattle.sctp_delivery.specs.Abandoned.{abandoned_by}
 use Rattle.sctp_delivery.specs.SenderCalls as outgoing
 use Rattle.sctp_delivery.specs.SenderCalls.{SenderCall}
@@ -55,7 +55,7 @@ abbrev pub flight_of : Session → Flight
 flight_of s = s.sending.sender.flight
 
 abbrev pub numbers : List AbandonedMessage → List ℕ
-numbers told = map (λ a. a.number) told
+numbers answered = map (λ a. a.number) answered
 
 pub gone-left : (xs ys : List ℕ) (m : ℕ) → is_gone xs m ≡ true → is_gone (xs ++ ys) m ≡ true
 gone-left xs ys m e = list_any-append (nat_eq m) xs ys ∙ or-left (is_gone xs m) (is_gone ys m) e
@@ -72,31 +72,31 @@ one-gone m None e = absurd (none-some m e)
 one-gone m (Some k) e = or-left (nat_eq m k) false (subst (λ j. (m == j) ≡ true) (sym (some-same e)) (same-yes m))
 
 -- the message of a chunk that is abandoned is told
-told-of : (o : Option ChunkPayloadData) (bytes m : ℕ) → to_abandon o ≡ Some m → is_gone (numbers (abandoned_with o bytes)) m ≡ true
-told-of None bytes m e = absurd (none-some m e)
-told-of (Some c) bytes m e = by c.abandoned e
+answered-of : (o : Option ChunkPayloadData) (bytes m : ℕ) → to_abandon o ≡ Some m → is_gone (numbers (abandoned_with o bytes)) m ≡ true
+answered-of None bytes m e = absurd (none-some m e)
+answered-of (Some c) bytes m e = by c.abandoned e
   where
-    told : List AbandonedMessage
-    told = record { stream = c.stream_identifier; number = c.message_id; bytes = bytes; is_low = false } ∷ []
+    answered : List AbandonedMessage
+    answered = record { stream = c.stream_identifier; number = c.message_id; bytes = bytes; is_low = false } ∷ []
 
-    by : (b : Bool) → (if b then None else Some c.message_id) ≡ Some m → is_gone (numbers (if b then [] else told)) m ≡ true
+    by : (b : Bool) → (if b then None else Some c.message_id) ≡ Some m → is_gone (numbers (if b then [] else answered)) m ≡ true
     by true g = absurd (none-some m g)
     by false g = or-left (nat_eq m c.message_id) false (subst (λ j. (m == j) ≡ true) (sym (some-same g)) (same-yes m))
 
-told-at : (tsn : ℕ) (f : Flight) (m : ℕ) → message_to_abandon tsn f ≡ Some m → is_gone (numbers (leaving_at tsn f)) m ≡ true
-told-at tsn f m e =
-    told-of (find (has_tsn tsn) f.queue.inflight.chunks) (total_bytes f.queue - total_bytes (abandoned_at tsn f).queue) m e
+answered-at : (tsn : ℕ) (f : Flight) (m : ℕ) → message_to_abandon tsn f ≡ Some m → is_gone (numbers (leaving_at tsn f)) m ≡ true
+answered-at tsn f m e =
+    answered-of (find (has_tsn tsn) f.queue.inflight.chunks) (total_bytes f.queue - total_bytes (abandoned_at tsn f).queue) m e
 
 -- the messages of these TSNs are among those that are gone
 abbrev pub AreAmong : List ℕ → List ℕ → Type 0
-AreAmong told gone = (m : ℕ) → is_gone told m ≡ true → is_gone gone m ≡ true
+AreAmong answered gone = (m : ℕ) → is_gone answered m ≡ true → is_gone gone m ≡ true
 
 pub among-first : (tsn : ℕ) (tsns : List ℕ) (f : Flight) (gone : List ℕ) → AreAmong (numbers (leaving_each (tsn ∷ tsns) f)) gone
     → (m : ℕ) → message_to_abandon tsn f ≡ Some m → is_gone gone m ≡ true
 among-first tsn tsns f gone a m e =
     let xs = leaving_at tsn f in
     let ys = leaving_each tsns (abandoned_at tsn f) in
-    a m (ap (λ ns. is_gone ns m) (numbers-append xs ys) ∙ gone-left (numbers xs) (numbers ys) m (told-at tsn f m e))
+    a m (ap (λ ns. is_gone ns m) (numbers-append xs ys) ∙ gone-left (numbers xs) (numbers ys) m (answered-at tsn f m e))
 
 pub among-rest : (tsn : ℕ) (tsns : List ℕ) (f : Flight) (gone : List ℕ) → AreAmong (numbers (leaving_each (tsn ∷ tsns) f)) gone
     → AreAmong (numbers (leaving_each tsns (abandoned_at tsn f))) gone
@@ -226,9 +226,9 @@ module _ (gone : List ℕ) (old new : Session) (taken passed : ℕ → Bool) (va
   stays-marked (outgoing.expires_tail now (Some x)) a f =
       let o = message_of (expiring_tail now (flight_of old).queue) in
       marked-to _ f.exact.0 (abandoned-marked gone o (flight_of old).next_tsn (flight_of old).queue (λ m e. a m (one-gone m o e)) h)
-  stays-marked (outgoing.expires_late now told) a f = marked-to _ f.exact (each-marked gone (late_order now (flight_of old)) (flight_of old) a h)
-  stays-marked (outgoing.expires_rexmit told) a f = marked-to _ f.exact (each-marked gone (worn_order (flight_of old)) (flight_of old) a h)
-  stays-marked (outgoing.takes_sack k told) a f = marked-to _ f.exact (acked-marked gone k (flight_of old) h)
+  stays-marked (outgoing.expires_late now answered) a f = marked-to _ f.exact (each-marked gone (late_order now (flight_of old)) (flight_of old) a h)
+  stays-marked (outgoing.expires_rexmit answered) a f = marked-to _ f.exact (each-marked gone (worn_order (flight_of old)) (flight_of old) a h)
+  stays-marked (outgoing.takes_sack k answered) a f = marked-to _ f.exact (acked-marked gone k (flight_of old) h)
 
 -- ## Terminal chunks
 
@@ -244,9 +244,9 @@ open-gone gone m (terminal ∷ xs) g e = e
 open-gone gone m (fragment d w after ∷ xs) g e = (e.0, subst (λ k. is_gone gone k ≡ true) (sym e.1) g)
 
 -- the last entry is of the message that is partially sent
-half-entry : (ws : List Numbered) (first : ℕ) (number : ℕ → ℕ) (q : Pending) (sent : List Entry) (m : ℕ) → Queued ws first number q sent
+partial-entry : (ws : List Numbered) (first : ℕ) (number : ℕ → ℕ) (q : Pending) (sent : List Entry) (m : ℕ) → Queued ws first number q sent
     → partially_sent q ≡ Some m → EndsOpen m sent
-half-entry ws first number q sent m h e = by q.selected e h.ordered h.unordered h.open'
+partial-entry ws first number q sent m h e = by q.selected e h.ordered h.unordered h.open'
   where
     at : (s : Selected) (cs : List ChunkPayloadData) (ys : List Entry) → s.message_id ≡ m → Waits ws cs (inside s.message_id ys) → IsOpen ys (Some s)
         → EndsOpen m ys
@@ -254,7 +254,7 @@ half-entry ws first number q sent m h e = by q.selected e h.ordered h.unordered 
     at s cs (terminal ∷ ys) same w o = nowhere-none ws cs w
     at s cs (fragment d v after ∷ ys) same w o = (o.0, o.1 ∙ same)
 
-    by : (o : Option Selected) → half_of o ≡ Some m → Waits ws q.ordered (place_of false o sent) → Waits ws q.unordered (place_of true o sent)
+    by : (o : Option Selected) → partial_of o ≡ Some m → Waits ws q.ordered (place_of false o sent) → Waits ws q.unordered (place_of true o sent)
         → IsOpen sent o → EndsOpen m sent
     by None g w v o = absurd (none-some m g)
     by (Some s) g w v o = kind s.unordered w v
@@ -278,26 +278,26 @@ module _ (gone : List ℕ) (ws : List Numbered) (first : ℕ) (number : ℕ → 
   abandon-cut : (o : Option ℕ) (f : Flight) → Stands ws first number f.queue f.next_tsn sent
       → ((m : ℕ) → o ≡ Some m → waits m f.queue.pending ≡ true → partially_sent f.queue.pending ≡ Some m)
       → ((m : ℕ) → o ≡ Some m → is_gone gone m ≡ true) → EndsOrSame f (after_abandonment o f)
-  abandon-cut None f s half g = inl refl
-  abandon-cut (Some m) f s half g = by (waits m f.queue.pending) refl
+  abandon-cut None f s partial g = inl refl
+  abandon-cut (Some m) f s partial g = by (waits m f.queue.pending) refl
     where
       by : (b : Bool) → waits m f.queue.pending ≡ b
           → ((if b then following_tsn f.next_tsn else f.next_tsn) ≡ f.next_tsn) ⊎ EndsGone gone sent
-      by true e = inr (open-gone gone m sent (g m refl) (half-entry ws first number f.queue.pending sent m s.queued (half m refl e)))
+      by true e = inr (open-gone gone m sent (g m refl) (partial-entry ws first number f.queue.pending sent m s.queued (partial m refl e)))
       by false e = inl refl
 
   -- of one message after another
   each-cut : (tsns : List ℕ) (f : Flight) → Stands ws first number f.queue f.next_tsn sent → AreAmong (numbers (leaving_each tsns f)) gone
       → EndsOrSame f (abandoned_each tsns f)
   each-cut [] f s a = inl refl
-  each-cut (tsn ∷ tsns) f s a = by (abandon-cut (message_to_abandon tsn f) f s half (among-first tsn tsns f gone a))
+  each-cut (tsn ∷ tsns) f s a = by (abandon-cut (message_to_abandon tsn f) f s partial (among-first tsn tsns f gone a))
       (λ k. each-cut tsns (abandoned_at tsn f) k (among-rest tsn tsns f gone a))
     where
-      half : (m : ℕ) → message_to_abandon tsn f ≡ Some m → waits m f.queue.pending ≡ true → partially_sent f.queue.pending ≡ Some m
-      half = found-half f.queue s.sendable tsn (find (has_tsn tsn) f.queue.inflight.chunks) refl
+      partial : (m : ℕ) → message_to_abandon tsn f ≡ Some m → waits m f.queue.pending ≡ true → partially_sent f.queue.pending ≡ Some m
+      partial = found-partial f.queue s.sendable tsn (find (has_tsn tsn) f.queue.inflight.chunks) refl
 
       x : Abandons ws first number sent f.queue (abandoned_at tsn f).queue (abandoned_at tsn f).next_tsn
-      x = abandoned ws first number f.queue f.next_tsn sent s (message_to_abandon tsn f) half
+      x = abandoned ws first number f.queue f.next_tsn sent s (message_to_abandon tsn f) partial
 
       by : EndsOrSame f (abandoned_at tsn f) → (Stands ws first number (abandoned_at tsn f).queue (abandoned_at tsn f).next_tsn sent
           → EndsOrSame (abandoned_at tsn f) (abandoned_each tsns (abandoned_at tsn f))) → EndsOrSame f (abandoned_each (tsn ∷ tsns) f)
@@ -372,7 +372,7 @@ module _ (gone : List ℕ) (first : ℕ) (old new : Session) (ns : List Numbered
       let o = message_to_abandon u (flight_of old) in
       cuts g (to _ f.exact
       (abandon-cut gone ns first (λ s. number_of s old.sending.sender.streams) sent o (flight_of old) i.held.stands
-      (found-half (flight_of old).queue i.held.stands.sendable u (find (has_tsn u) (flight_of old).queue.inflight.chunks) refl)
+      (found-partial (flight_of old).queue i.held.stands.sendable u (find (has_tsn u) (flight_of old).queue.inflight.chunks) refl)
       (λ m e. a m (one-gone m o e))))
   stays-cut (outgoing.expires now None) a f g = cuts g (same-to _ (f.exact.1.1 refl) refl)
   stays-cut (outgoing.expires now (Some e)) a f g = by (expiring now (flight_of old).queue) f.exact.0 f.exact.1.0
@@ -386,15 +386,15 @@ module _ (gone : List ℕ) (first : ℕ) (old new : Session) (ns : List Numbered
       let o = message_of (expiring_tail now (flight_of old).queue) in
       cuts g (to _ f.exact.0
       (abandon-cut gone ns first (λ s. number_of s old.sending.sender.streams) sent o (flight_of old) i.held.stands
-      (λ m e _. tail-half (flight_of old).queue i.held.stands.sendable now (next_pending (flight_of old).queue.pending) refl m e)
+      (λ m e _. tail-partial (flight_of old).queue i.held.stands.sendable now (next_pending (flight_of old).queue.pending) refl m e)
       (λ m e. a m (one-gone m o e))))
-  stays-cut (outgoing.expires_late now told) a f g =
+  stays-cut (outgoing.expires_late now answered) a f g =
       cuts g (to _ f.exact (each-cut gone ns first (λ s. number_of s old.sending.sender.streams) sent (late_order now (flight_of old)) (flight_of old)
       i.held.stands a))
-  stays-cut (outgoing.expires_rexmit told) a f g =
+  stays-cut (outgoing.expires_rexmit answered) a f g =
       cuts g (to _ f.exact (each-cut gone ns first (λ s. number_of s old.sending.sender.streams) sent (worn_order (flight_of old)) (flight_of old)
       i.held.stands a))
-  stays-cut (outgoing.takes_sack k told) a f g = cuts g (same-to _ f.exact (by (is_outdated k (flight_of old))))
+  stays-cut (outgoing.takes_sack k answered) a f g = cuts g (same-to _ f.exact (by (is_outdated k (flight_of old))))
     where
       by : (b : Bool) → (if b then flight_of old else take_sack k (flight_of old)).next_tsn ≡ (flight_of old).next_tsn
       by true = refl

@@ -18,7 +18,7 @@ use Rattle.sctp_sender.specs.declared.sender.flight.late.AbandonedMessage.{Aband
 use Rattle.sctp_sender.specs.Flight.{Flight, message_to_abandon}
 use Rattle.sctp_sender.specs.Late.{abandoned_at, abandoned_with, late_order, leaving_at, leaving_each, worn_order}
 use Rattle.sctp_sender.specs.Sender.{Transmission}
-use Rattle.sctp_sender.proofs.InLine.{found-half}
+use Rattle.sctp_sender.proofs.InLine.{found-partial}
 use Rattle.sctp_delivery.specs.Abandoned.{abandoned_by}
 use Rattle.sctp_delivery.specs.SenderCalls as outgoing
 use Rattle.sctp_delivery.specs.SenderCalls.{SenderCall}
@@ -74,14 +74,14 @@ module _ (q : Pending) (xs : List ChunkPayloadData) (n : ℕ) (s : IsSendable q 
       by true = tt
       by false = (found-below tsn c e, tt)
 
-  told-below : (tsn bytes : ℕ) (o : Option ChunkPayloadData) → find (has_tsn tsn) xs ≡ o → AreBelow n (numbers (abandoned_with o bytes))
-  told-below tsn bytes None e = tt
-  told-below tsn bytes (Some c) e = by c.abandoned
+  answered-below : (tsn bytes : ℕ) (o : Option ChunkPayloadData) → find (has_tsn tsn) xs ≡ o → AreBelow n (numbers (abandoned_with o bytes))
+  answered-below tsn bytes None e = tt
+  answered-below tsn bytes (Some c) e = by c.abandoned
     where
-      told : List AbandonedMessage
-      told = record { stream = c.stream_identifier; number = c.message_id; bytes = bytes; is_low = false } ∷ []
+      answered : List AbandonedMessage
+      answered = record { stream = c.stream_identifier; number = c.message_id; bytes = bytes; is_low = false } ∷ []
 
-      by : (b : Bool) → AreBelow n (numbers (if b then [] else told))
+      by : (b : Bool) → AreBelow n (numbers (if b then [] else answered))
       by true = tt
       by false = (found-below tsn c e, tt)
 
@@ -93,12 +93,12 @@ module _ (ws : List Numbered) (first : ℕ) (number : ℕ → ℕ) where
       subst (AreBelow (length ws)) (sym (numbers-append (leaving_at tsn f) (leaving_each tsns (abandoned_at tsn f))))
       (every-joined (λ m. m < length ws) (numbers (leaving_at tsn f)) (numbers (leaving_each tsns (abandoned_at tsn f)))
       (subst (λ n. AreBelow n (numbers (leaving_at tsn f))) s.ids
-      (told-below f.queue.pending f.queue.inflight.chunks f.queue.next_message_id s.sendable tsn _ (find (has_tsn tsn) f.queue.inflight.chunks) refl))
+      (answered-below f.queue.pending f.queue.inflight.chunks f.queue.next_message_id s.sendable tsn _ (find (has_tsn tsn) f.queue.inflight.chunks) refl))
       (each-below tsns (abandoned_at tsn f) x.more x.stands))
     where
       x : Abandons ws first number sent f.queue (abandoned_at tsn f).queue (abandoned_at tsn f).next_tsn
       x = abandoned ws first number f.queue f.next_tsn sent s (message_to_abandon tsn f)
-          (found-half f.queue s.sendable tsn (find (has_tsn tsn) f.queue.inflight.chunks) refl)
+          (found-partial f.queue s.sendable tsn (find (has_tsn tsn) f.queue.inflight.chunks) refl)
 
   -- of a call
   pub by-below : (call : SenderCall) (t : Transmission) (sent : List Entry) → Stands ws first number t.flight.queue t.flight.next_tsn sent
@@ -116,8 +116,8 @@ module _ (ws : List Numbered) (first : ℕ) (number : ℕ → ℕ) where
       subst (λ n. AreBelow n (option_to_list (message_of (expiring_tail now t.flight.queue)))) s.ids
       (passing-below t.flight.queue.pending t.flight.queue.inflight.chunks t.flight.queue.next_message_id s.sendable (is_expired_tail now)
       (next_pending t.flight.queue.pending) refl)
-  by-below (outgoing.expires_late now told) t sent s = each-below (late_order now t.flight) t.flight sent s
-  by-below (outgoing.expires_rexmit told) t sent s = each-below (worn_order t.flight) t.flight sent s
+  by-below (outgoing.expires_late now answered) t sent s = each-below (late_order now t.flight) t.flight sent s
+  by-below (outgoing.expires_rexmit answered) t sent s = each-below (worn_order t.flight) t.flight sent s
   by-below call t sent s = tt
 
 longer : (call : SenderCall) (ns : List Numbered) → length ns ≤ length (numbered_after call ns)

@@ -31,7 +31,7 @@ use Rattle.sctp_delivery.proofs.GivenTsns.{IsNumbered, taken-numbered}
 use Rattle.sctp_delivery.proofs.PassedTsns.{lead, lead-within, point-ahead, point-is, rest-run}
 use Rattle.sctp_delivery.proofs.Reached.{IsReached, kept}
 use Rattle.sctp_delivery.proofs.SackLaws.{IsInStep}
-use Rattle.sctp_delivery.proofs.ToldCalls.{next-sack-tells}
+use Rattle.sctp_delivery.proofs.AnsweredCalls.{next-sack-tells}
 use Rattle.sctp_delivery.proofs.SackSteps.{known}
 use Rattle.sctp_delivery.proofs.TsnPlaces.{at-or-before, base, before, next-place, same-place}
 use Rattle.sctp_delivery.proofs.UnwrappedSessions.{unwrapped}
@@ -71,20 +71,20 @@ all-skip first size max most limits cs s small some r few =
 -- ## A SACK of a receiver that is caught up
 
 -- no SACK that was taken was ahead of the receiver
-ahead-of-sacks : (first n : ℕ) (s : Session) → n < 2 ^ 31 → IsReached first n s → (h : IsInStep (base first) n s) → h.numbered.acked ≤ h.heard.place
+ahead-of-sacks : (first n : ℕ) (s : Session) → n < 2 ^ 31 → IsReached first n s → (h : IsInStep (base first) n s) → h.numbered.acked ≤ h.arrived.place
 ahead-of-sacks first n s few i h =
     let p = base first in
     let given = i.given in
     let u = unwrapped first i.size i.max i.most i.limits i.calls s i.small i.some i.run (omega (arith, few, given)) in
     let g = u.unwrapped.spread.step.numbered in
-    let d = (u.unwrapped.told 0).0.heard in
+    let d = (u.unwrapped.answered 0).0.arrived in
     let total = h.numbered.total in
     let most = g.total in
-    let within = h.heard.within in
+    let within = h.arrived.within in
     let upto = d.within in
     let least = d.least_is in
     let a = same-place p h.numbered.acked g.acked (omega (arith, total, few)) (omega (arith, most, few, given)) (sym h.numbered.acked_is ∙ g.acked_is) in
-    let b = same-place p h.heard.place d.place (omega (arith, within, few)) (omega (arith, upto, few, given)) (sym h.heard.is ∙ d.is) in
+    let b = same-place p h.arrived.place d.place (omega (arith, within, few)) (omega (arith, upto, few, given)) (sym h.arrived.is ∙ d.is) in
     omega (arith, a, b, least)
 
 module _ (first n : ℕ) (s t : Session) (few : n < 2 ^ 31) (i : IsReached first n s) (c : IsCaughtUp s) (a : IsAnswered s t) where
@@ -99,13 +99,13 @@ module _ (first n : ℕ) (s t : Session) (few : n < 2 ^ 31) (i : IsReached first
 
   -- the place of the cumulative TSN of the receiver
   abbrev q : ℕ
-  q = step.heard.place
+  q = step.arrived.place
 
   up : acked ≤ q
   up = ahead-of-sacks first n s few i step
 
   within : q ≤ n
-  within = step.heard.within
+  within = step.arrived.within
 
   -- the SACK tells of it
   abbrev k : Sack
@@ -122,7 +122,7 @@ module _ (first n : ℕ) (s t : Session) (few : n < 2 ^ 31) (i : IsReached first
   current : is_outdated (sack a.credit s.receiving.receiver) s.sending.sender.flight ≡ false
   current =
       let total = step.numbered.total in
-      ap (λ x. comes_before x f.acked_tsn) step.heard.is ∙ ap (comes_before (tsn (base first) q)) step.numbered.acked_is
+      ap (λ x. comes_before x f.acked_tsn) step.arrived.is ∙ ap (comes_before (tsn (base first) q)) step.numbered.acked_is
       ∙ before (base first) q acked (omega (arith, within, few)) (omega (arith, total, few))
       ∙ (let e : nat_lt q acked ≡ false = grind (arith, nat_tests, up) in e)
 
@@ -132,20 +132,20 @@ module _ (first n : ℕ) (s t : Session) (few : n < 2 ^ 31) (i : IsReached first
   numbered : IsNumbered (base first) n (take_sack (sack a.credit s.receiving.receiver) s.sending.sender.flight)
   numbered =
       subst (λ b. IsNumbered (base first) n (if b then f else take_sack k f)) current
-      (taken-numbered (base first) n q k f few within step.heard.is step.numbered)
+      (taken-numbered (base first) n q k f few within step.arrived.is step.numbered)
 
   there : numbered.acked ≡ q
   there =
       let total = numbered.total in
-      same-place (base first) numbered.acked q (omega (arith, total, few)) (omega (arith, within, few)) (sym numbered.acked_is ∙ step.heard.is)
+      same-place (base first) numbered.acked q (omega (arith, total, few)) (omega (arith, within, few)) (sym numbered.acked_is ∙ step.arrived.is)
 
   -- the TSN behind it was not taken
   untaken : was_taken (tsn (base first) (q + 1)) s ≡ false
   untaken =
-      let e = next-sack-tells (base first) n s (known s) few step.heard step.order step.taken a.credit a.reported a.reporting in
+      let e = next-sack-tells (base first) n s (known s) few step.arrived step.order step.taken a.credit a.reported a.reporting in
       let same : e.0 ≡ k =
       (let l : e.0 ∷ s.sacks ≡ k ∷ s.sacks = sym e.1 ∙ ap (λ (x : Session). x.sacks) a.reporting.after in cc) in
-      ap (λ u. was_taken u s) (sym (next-place (base first) q)) ∙ ap (λ u. was_taken (following_tsn u) s) (sym step.heard.is)
+      ap (λ u. was_taken u s) (sym (next-place (base first) q)) ∙ ap (λ u. was_taken (following_tsn u) s) (sym step.arrived.is)
       ∙ ap (λ (x : Sack). was_taken (following_tsn x.cumulative_tsn_ack) s) (sym same) ∙ e.2.next
 
   -- a chunk that is kept was taken
@@ -182,7 +182,7 @@ module _ (first n : ℕ) (s t : Session) (few : n < 2 ^ 31) (i : IsReached first
           let order : nat_le (acked + lead (in_flight s)) q ≡ true =
           sym (at-or-before (base first) (acked + lead (in_flight s)) q (omega (arith, total, most, few)) (omega (arith, within, few)))
           ∙ ap (λ u. at_or_before u (tsn (base first) q)) (sym (point (base first) n f step.numbered))
-          ∙ ap (at_or_before (advanced_ack_point f)) (sym step.heard.is) ∙ upto in
+          ∙ ap (at_or_before (advanced_ack_point f)) (sym step.arrived.is) ∙ upto in
           let le : acked + lead (in_flight s) ≤ q = grind (arith, nat_tests, order) in
           omega (arith, le, some)
 

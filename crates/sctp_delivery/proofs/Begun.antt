@@ -131,10 +131,10 @@ none-again os us sel ro ru n xs s m there = by (list_any (is_of m) us || list_an
     apart-from : list_any (is_of m) us ≡ true → list_any (is_of m) os ≡ false
     apart-from e = fails (list_any (is_of m) os) (λ h. not_both (sym (s.apart m h) ∙ e))
 
-    half : (o : Option Selected) → IsWhole false n (stage_of false o) os → IsWhole true n (stage_of true o) us → partially_sent (made os us o ro ru) ≡ Some m
+    partial : (o : Option Selected) → IsWhole false n (stage_of false o) os → IsWhole true n (stage_of true o) us → partially_sent (made os us o ro ru) ≡ Some m
         → (list_any (begins m) os ≡ false) × (list_any (begins m) us ≡ false)
-    half None w v h = absurd (none-some m h)
-    half (Some t) w v h = kind t.unordered w v
+    partial None w v h = absurd (none-some m h)
+    partial (Some t) w v h = kind t.unordered w v
       where
         same : t.message_id ≡ m
         same = some-same h
@@ -149,7 +149,7 @@ none-again os us sel ro ru n xs s m there = by (list_any (is_of m) us || list_an
         kind false w v = (rest-begins false n m os (subst (λ j. IsWhole false n (begun j) os) same w), none us (s.apart m (front false os w)))
 
     by : (b : Bool) → (list_any (is_of m) us || list_any (is_of m) os) ≡ b → (list_any (begins m) os ≡ false) × (list_any (begins m) us ≡ false)
-    by true e = half sel s.ordered s.unordered (s.sent m there e)
+    by true e = partial sel s.ordered s.unordered (s.sent m there e)
     by false e = (
       none os (fails (list_any (is_of m) os) (λ h. not_both (sym e ∙ or-right (list_any (is_of m) us) (list_any (is_of m) os) h))),
       none us (fails (list_any (is_of m) us) (λ h. not_both (sym e ∙ or-left (list_any (is_of m) us) (list_any (is_of m) os) h))),

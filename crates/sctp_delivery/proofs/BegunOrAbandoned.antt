@@ -219,11 +219,11 @@ module _ (gone : List ℕ) (first : ℕ) (old new : Session) (ns : List Numbered
   stays-begun-or-gone (outgoing.expires_tail now (Some x)) a f g =
       let o = message_of (expiring_tail now (flight_of old).queue) in
       keeps-to _ f.exact.0 (abandon-keeps gone o (flight_of old).next_tsn (flight_of old).queue (λ m e. a m (one-gone m o e)))
-  stays-begun-or-gone (outgoing.expires_late now told) a f g =
+  stays-begun-or-gone (outgoing.expires_late now answered) a f g =
       keeps-to _ f.exact (each-keeps gone (late_order now (flight_of old)) (flight_of old) a)
-  stays-begun-or-gone (outgoing.expires_rexmit told) a f g =
+  stays-begun-or-gone (outgoing.expires_rexmit answered) a f g =
       keeps-to _ f.exact (each-keeps gone (worn_order (flight_of old)) (flight_of old) a)
-  stays-begun-or-gone (outgoing.takes_sack k told) a f g = same-to _ f.exact (by (is_outdated k (flight_of old)))
+  stays-begun-or-gone (outgoing.takes_sack k answered) a f g = same-to _ f.exact (by (is_outdated k (flight_of old)))
     where
       by : (b : Bool) → (if b then flight_of old else take_sack k (flight_of old)).queue.pending ≡ (flight_of old).queue.pending
       by true = refl

@@ -19,7 +19,7 @@ use Rattle.sctp_sender.specs.Outgoing.{has_number, with_low, with_mode}
 use Rattle.sctp_sender.specs.Resending.{can_miss, count_again, missed, sent_again}
 use Rattle.sctp_sender.specs.Sender.{Transmission, after_expire, written_to}
 use Rattle.sctp_sender.specs.SenderRuns.{Makes}
-use Rattle.sctp_sender.proofs.InLine.{found-half, tail-half}
+use Rattle.sctp_sender.proofs.InLine.{found-partial, tail-partial}
 use Rattle.sctp_delivery.specs.SenderCalls.{Expires, ExpiresTail, IsAccepted, Made, MakesExactly, SenderCall, abandons, as_run, expires, expires_late}
 use Rattle.sctp_delivery.specs.SenderCalls.{expires_rexmit, expires_tail, forward_tsn, forwards, forwards_within, made_after, marks, misses, next_chunk, opens}
 use Rattle.sctp_delivery.specs.SenderCalls.{resends, reserves, sends, sets_low, sets_mode, sets_size, starts, takes_sack, writes, written_after, Write}
@@ -78,7 +78,7 @@ module _ (ws : List Numbered) (first : ℕ) (t : Transmission) (sent : List Entr
   expires-tail-call now (Some a) u x =
       subst (λ y. Result None ws ws first sent y ms ms) (sym x.0)
       (abandons-message ws first t sent ms h (message_of (expiring_tail now t.flight.queue))
-      (λ m e _. tail-half t.flight.queue h.stands.sendable now (next_pending t.flight.queue.pending) refl m e) a.stream a.bytes)
+      (λ m e _. tail-partial t.flight.queue h.stands.sendable now (next_pending t.flight.queue.pending) refl m e) a.stream a.bytes)
 
   again-keeps : (n now : ℕ) → KeepsMessage (sent_again n now)
   again-keeps n now = record { number = λ _. refl; begins = λ _. refl; ends = λ _. refl; kind = λ _. refl }
@@ -136,7 +136,7 @@ module _ (ws : List Numbered) (first : ℕ) (t : Transmission) (sent : List Entr
   stepped (abandons tsn a') u m x a =
       subst (λ y. Result None ws ws first sent y ms ms) (sym x)
       (abandons-message ws first t sent ms h (message_to_abandon tsn t.flight)
-      (found-half t.flight.queue h.stands.sendable tsn (find (has_tsn tsn) t.flight.queue.inflight.chunks) refl) a'.stream a'.bytes)
+      (found-partial t.flight.queue h.stands.sendable tsn (find (has_tsn tsn) t.flight.queue.inflight.chunks) refl) a'.stream a'.bytes)
   stepped (expires now m') u m x a = expires-call now m' u x
   stepped (expires_tail now m') u m x a = expires-tail-call now m' u x
   stepped (expires_late now gone) u m x a =

@@ -16,7 +16,7 @@ use Rattle.sctp_outbound.specs.outbound_queue.OutboundQueue.{with_message, with_
 use Rattle.sctp_outbound.specs.payload_queue.PayloadQueue as payload
 use Rattle.sctp_outbound.specs.pending_queue.PendingQueue.{next_pending}
 use Rattle.sctp_outbound.specs.pending_queue.Whole.{partially_sent, waits}
-use Rattle.sctp_outbound.proofs.lemmas.outbound_queue.SideBySide.{half_appended}
+use Rattle.sctp_outbound.proofs.lemmas.outbound_queue.SideBySide.{partial_appended}
 use Rattle.sctp_serial.specs.DataChunks.{has_tsn}
 use Rattle.sctp_stream.specs.declared.stream.StreamState.{StreamState}
 use Rattle.sctp_sender.specs.Flight.{Flight, after_sack, is_outdated, message_to_abandon, reports_anew, take_sack, tsns_from}
@@ -25,7 +25,7 @@ use Rattle.sctp_sender.specs.Outgoing.{fragments_with_mode}
 use Rattle.sctp_sender.specs.Resending.{after_misses, all_marked, can_miss, count_again, missed, resent_at, sent_again}
 use Rattle.sctp_sender.specs.Sender.{Transmission, after_expire, stream_of}
 use Rattle.sctp_sender.proofs.Flights.{started-inflight}
-use Rattle.sctp_sender.proofs.InLine.{found-half, tail-half}
+use Rattle.sctp_sender.proofs.InLine.{found-partial, tail-partial}
 use Rattle.sctp_sender.proofs.Runs.{IsRunFrom, changed-run, past-is}
 use Rattle.sctp_delivery.specs.Rounds.{flight_of, is_exchange}
 use Rattle.sctp_delivery.specs.SenderCalls as outgoing
@@ -89,9 +89,9 @@ gone-each : (ws : List Numbered) (first : ℕ) (number : ℕ → ℕ) (tsns : Li
 gone-each ws first number [] f sent s place = goes-none true f.queue
 gone-each ws first number (t ∷ ts) f sent s place =
     let o = message_to_abandon t f in
-    let half = found-half f.queue s.sendable t (find (has_tsn t) f.queue.inflight.chunks) refl in
-    let a = abandoned-goes f.queue f.next_tsn s.sendable o half place in
-    let b = abandoned ws first number f.queue f.next_tsn sent s o half in
+    let partial = found-partial f.queue s.sendable t (find (has_tsn t) f.queue.inflight.chunks) refl in
+    let a = abandoned-goes f.queue f.next_tsn s.sendable o partial place in
+    let b = abandoned ws first number f.queue f.next_tsn sent s o partial in
     goes-then f.queue (abandoned_at t f).queue (abandoned_each ts (abandoned_at t f)).queue a.goes
     (gone-each ws first number ts (abandoned_at t f) b.more b.stands a.place)
 
@@ -100,7 +100,7 @@ gone-each ws first number (t ∷ ts) f sent s place =
 message-same : (cs : List ChunkPayloadData) (q : Outbound) → Goes false q (with_message cs q)
 message-same [] q = goes-none false q
 message-same (c ∷ cs) q =
-    same-goes false q (with_message (c ∷ cs) q) refl (half_appended c.unordered (map (with_message_id q.next_message_id) (c ∷ cs)) q.pending)
+    same-goes false q (with_message (c ∷ cs) q) refl (partial_appended c.unordered (map (with_message_id q.next_message_id) (c ∷ cs)) q.pending)
     (λ e. absurd (not_both e))
 
 -- ## The calls
@@ -132,9 +132,9 @@ module _ (p n : ℕ) (old new : Session) (few : n < 2 ^ 31) (h : IsNumbered p n 
       → ((m : ℕ) → o ≡ Some m → waits m old.sending.sender.flight.queue.pending ≡ true → partially_sent old.sending.sender.flight.queue.pending ≡ Some m)
       → (t : Transmission) → new.sending.sender ≡ t
       → t.flight.queue ≡ abandoned_of o old.sending.sender.flight.next_tsn old.sending.sender.flight.queue → GoesOn true
-  abandons o half t e is =
+  abandons o partial t e is =
       goes-to true t e (subst (Goes true queue) (sym is)
-      (abandoned-goes queue old.sending.sender.flight.next_tsn held.stands.sendable o half (inr place)).goes)
+      (abandoned-goes queue old.sending.sender.flight.next_tsn held.stands.sendable o partial (inr place)).goes)
 
   sends : (now : ℕ) → Goes true old.sending.sender.flight.queue (sent_next old.sending.sender.flight.queue old.sending.sender.flight.next_tsn now)
   sends now =
@@ -175,7 +175,7 @@ module _ (p n : ℕ) (old new : Session) (few : n < 2 ^ 31) (h : IsNumbered p n 
       (same-goes true queue (after_misses count (flight_of old)).queue
       (facts-part-changed can_miss missed (λ d. refl) queue.inflight.chunks count) refl (λ _. omega arith))
   calls-go (outgoing.abandons u a) t f =
-      abandons (message_to_abandon u (flight_of old)) (found-half queue held.stands.sendable u (find (has_tsn u) queue.inflight.chunks) refl) _ f.exact refl
+      abandons (message_to_abandon u (flight_of old)) (found-partial queue held.stands.sendable u (find (has_tsn u) queue.inflight.chunks) refl) _ f.exact refl
   calls-go (outgoing.expires now None) t f = stays _ (f.exact.1.1 refl) refl
   calls-go (outgoing.expires now (Some e)) t f = by (expiring now queue) refl f.exact.0 f.exact.1.0
     where
@@ -188,7 +188,7 @@ module _ (p n : ℕ) (old new : Session) (few : n < 2 ^ 31) (h : IsNumbered p n 
   calls-go (outgoing.expires_tail now None) t f = stays _ (f.exact.1 refl) refl
   calls-go (outgoing.expires_tail now (Some a)) t f =
       abandons (message_of (expiring_tail now queue))
-      (λ m e _. tail-half queue held.stands.sendable now (next_pending queue.pending) refl m e) _ f.exact.0 refl
+      (λ m e _. tail-partial queue held.stands.sendable now (next_pending queue.pending) refl m e) _ f.exact.0 refl
   calls-go (outgoing.expires_late now gone) t f =
       goes-to true _ f.exact
       (gone-each ws first (λ s. number_of s old.sending.sender.streams) (late_order now (flight_of old)) (flight_of old) sent held.stands (inr place))

@@ -34,30 +34,30 @@ facts_of cs = map facts cs
 -- behind each that does not end its message stands one of it, abandoned or not as it is; the last of all ends its message, or that is
 -- the partially sent one, and not abandoned
 abbrev pub AreContinued : Option ℕ → List Facts → Type 0
-AreContinued half [] = Unit {0}
-AreContinued half (x ∷ []) = x.1 ≡ false → (half ≡ Some x.0) × (x.2 ≡ false)
-AreContinued half (x ∷ y ∷ ys) = (x.1 ≡ false → (y.0 ≡ x.0) × (y.2 ≡ x.2)) × AreContinued half (y ∷ ys)
+AreContinued partial [] = Unit {0}
+AreContinued partial (x ∷ []) = x.1 ≡ false → (partial ≡ Some x.0) × (x.2 ≡ false)
+AreContinued partial (x ∷ y ∷ ys) = (x.1 ≡ false → (y.0 ≡ x.0) × (y.2 ≡ x.2)) × AreContinued partial (y ∷ ys)
 
 abbrev pub IsContinued : Outbound → Type 0
 IsContinued q = AreContinued (partially_sent q.pending) (facts_of q.inflight.chunks)
 
 -- ## Without the first, and with a further one
 
-pub rest-continued : (half : Option ℕ) (x : Facts) (xs : List Facts) → AreContinued half (x ∷ xs) → AreContinued half xs
-rest-continued half x [] a = tt
-rest-continued half x (y ∷ ys) a = a.1
+pub rest-continued : (partial : Option ℕ) (x : Facts) (xs : List Facts) → AreContinued partial (x ∷ xs) → AreContinued partial xs
+rest-continued partial x [] a = tt
+rest-continued partial x (y ∷ ys) a = a.1
 
-pub left-continued : (half : Option ℕ) (n : ℕ) (xs : List Facts) → AreContinued half xs → AreContinued half (drop n xs)
-left-continued half zero xs a = a
-left-continued half (suc n) [] a = tt
-left-continued half (suc n) (x ∷ xs) a = left-continued half n xs (rest-continued half x xs a)
+pub left-continued : (partial : Option ℕ) (n : ℕ) (xs : List Facts) → AreContinued partial xs → AreContinued partial (drop n xs)
+left-continued partial zero xs a = a
+left-continued partial (suc n) [] a = tt
+left-continued partial (suc n) (x ∷ xs) a = left-continued partial n xs (rest-continued partial x xs a)
 
 -- a chunk of the message that is partially sent, or of a new one, is sent
-pub sent-continued : (half next : Option ℕ) (m : ℕ) (e : Bool) (xs : List Facts) → ((j : ℕ) → half ≡ Some j → m ≡ j) → (e ≡ false → next ≡ Some m)
-    → AreContinued half xs → AreContinued next (xs ++ (m, e, false) ∷ [])
-sent-continued half next m e [] on goes a = λ f. (goes f, refl)
-sent-continued half next m e (x ∷ []) on goes a = (λ f. let h = a f in (on x.0 h.0, sym h.1), λ f. (goes f, refl))
-sent-continued half next m e (x ∷ y ∷ ys) on goes a = (a.0, sent-continued half next m e (y ∷ ys) on goes a.1)
+pub sent-continued : (partial next : Option ℕ) (m : ℕ) (e : Bool) (xs : List Facts) → ((j : ℕ) → partial ≡ Some j → m ≡ j) → (e ≡ false → next ≡ Some m)
+    → AreContinued partial xs → AreContinued next (xs ++ (m, e, false) ∷ [])
+sent-continued partial next m e [] on goes a = λ f. (goes f, refl)
+sent-continued partial next m e (x ∷ []) on goes a = (λ f. let h = a f in (on x.0 h.0, sym h.1), λ f. (goes f, refl))
+sent-continued partial next m e (x ∷ y ∷ ys) on goes a = (a.0, sent-continued partial next m e (y ∷ ys) on goes a.1)
 
 -- ## A message is abandoned
 
@@ -107,26 +107,27 @@ pair-gone : (m : ℕ) (x y : Facts) → (x.1 ≡ false → (y.0 ≡ x.0) × (y.2
 pair-gone m x y p e = let h = p (sym (same-end m x) ∙ e) in (same-number m y ∙ h.0 ∙ sym (same-number m x), alike m x y h.0 h.1)
 
 -- one that is not partially sent
-pub abandoned-continued : (half : Option ℕ) (m : ℕ) (xs : List Facts) → (half ≡ Some m → ⊥) → AreContinued half xs → AreContinued half (map (gone_at m) xs)
-abandoned-continued half m [] other a = tt
-abandoned-continued half m (x ∷ []) other a =
+pub abandoned-continued : (partial : Option ℕ) (m : ℕ) (xs : List Facts) → (partial ≡ Some m → ⊥) → AreContinued partial xs
+    → AreContinued partial (map (gone_at m) xs)
+abandoned-continued partial m [] other a = tt
+abandoned-continued partial m (x ∷ []) other a =
     λ e. let h = a (sym (same-end m x) ∙ e) in (
       h.0 ∙ ap Some (sym (same-number m x)),
       kept m x (λ is. other (h.0 ∙ ap Some is)) ∙ h.1,
     )
-abandoned-continued half m (x ∷ y ∷ ys) other a = (pair-gone m x y a.0, abandoned-continued half m (y ∷ ys) other a.1)
+abandoned-continued partial m (x ∷ y ∷ ys) other a = (pair-gone m x y a.0, abandoned-continued partial m (y ∷ ys) other a.1)
 
 -- the one that is: its terminal chunk stands behind its chunks
-pub ended-continued : (half next : Option ℕ) (m : ℕ) (xs : List Facts) → half ≡ Some m → AreContinued half xs
+pub ended-continued : (partial next : Option ℕ) (m : ℕ) (xs : List Facts) → partial ≡ Some m → AreContinued partial xs
     → AreContinued next (map (gone_at m) xs ++ (m, true, true) ∷ [])
-ended-continued half next m [] is a = λ e. absurd (not_both (sym e))
-ended-continued half next m (x ∷ []) is a = (
+ended-continued partial next m [] is a = λ e. absurd (not_both (sym e))
+ended-continued partial next m (x ∷ []) is a = (
   λ e. let h = a (sym (same-end m x) ∙ e) in
       let same : m ≡ x.0 = some-same (sym is ∙ h.0) in
       (same ∙ sym (same-number m x), sym (gone m x (sym same))),
   λ e. absurd (not_both (sym e)),
 )
-ended-continued half next m (x ∷ y ∷ ys) is a = (pair-gone m x y a.0, ended-continued half next m (y ∷ ys) is a.1)
+ended-continued partial next m (x ∷ y ∷ ys) is a = (pair-gone m x y a.0, ended-continued partial next m (y ∷ ys) is a.1)
 
 -- ## Other changes
 
@@ -158,10 +159,11 @@ last-more : (c e : ChunkPayloadData) (cs : List ChunkPayloadData) → last_of cs
 last-more c e [] h = absurd (none-some e h)
 last-more c e (d ∷ ds) h = h
 
-pub lead-ends : (half : Option ℕ) (p place : ℕ) (cs : List ChunkPayloadData) → AreContinued half (facts_of cs) → IsRunFrom (tsn p (place + 1)) cs
+pub lead-ends : (partial : Option ℕ) (p place : ℕ) (cs : List ChunkPayloadData) → AreContinued partial (facts_of cs) → IsRunFrom (tsn p (place + 1)) cs
     → is_first_abandoned cs ≡ true → EndsThere p place cs
-lead-ends half p place [] a run first = absurd (not_both first)
-lead-ends half p place (c ∷ cs) a run first = by cs refl a r.1 (λ b. lead-ends half p (place + 1) cs (rest-continued half (facts c) (facts_of cs) a) r.1 b)
+lead-ends partial p place [] a run first = absurd (not_both first)
+lead-ends partial p place (c ∷ cs) a run first = by cs refl a r.1
+    (λ b. lead-ends partial p (place + 1) cs (rest-continued partial (facts c) (facts_of cs) a) r.1 b)
   where
     r : (c.tsn ≡ tsn p (place + 1)) × IsRunFrom (tsn p (place + 1 + 1)) cs
     r = rest-run p place c cs run
@@ -194,7 +196,7 @@ lead-ends half p place (c ∷ cs) a run first = by cs refl a r.1 (λ b. lead-end
         more true = last-more c i.chunk (filter ends (take (lead cs) cs)) i.last
         more false = i.last
 
-    by : (ds : List ChunkPayloadData) → cs ≡ ds → AreContinued half (facts c ∷ facts_of ds) → IsRunFrom (tsn p (place + 1 + 1)) ds
+    by : (ds : List ChunkPayloadData) → cs ≡ ds → AreContinued partial (facts c ∷ facts_of ds) → IsRunFrom (tsn p (place + 1 + 1)) ds
         → (is_first_abandoned cs ≡ true → EndsThere p (place + 1) cs) → EndsThere p place (c ∷ cs)
     by [] e k run' ih = alone (ap lead e) (end c.ending_fragment refl)
       where

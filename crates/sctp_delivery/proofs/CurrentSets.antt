@@ -310,7 +310,7 @@ module _ (p n : ℕ) (B : ℕ → ℕ) (Fits : ℕ → List ChunkPayloadData →
       ∙ ap (λ ss. record q { ordered = ss; next_ssn = q.next_ssn }) f.1
 
   module _ (k reach j last : ℕ) (q : Reassembly) (d : IsDue p n B Fits Came k reach q) (is : last ≡ j % 2 ^ 16) (back : reach ≤ j + 1 + 2 ^ 14)
-      (ahead : j + 1 ≤ reach + 2 ^ 14) (told : is_name_too_far last q ≡ false) where
+      (ahead : j + 1 ≤ reach + 2 ^ 14) (answered : is_name_too_far last q ≡ false) where
     -- the name is less than half the circle past the lowest index
     pub name-near : j < d.low + 2 ^ 15
     name-near = by (sides d.low j (let a = d.from in let b = d.within in omega (arith, a, b, back)) (let c = d.far in omega (arith, c, ahead)))
@@ -339,7 +339,7 @@ module _ (p n : ℕ) (B : ℕ → ℕ) (Fits : ℕ → List ChunkPayloadData →
         by (inl x) =
             let at = x.1 in
             let c = d.far in
-            let near = close (distance16 (lowest_ssn q) last) (first-test _ _ told) (omega (arith, same, at, c, ahead)) in
+            let near = close (distance16 (lowest_ssn q) last) (first-test _ _ answered) (omega (arith, same, at, c, ahead)) in
             omega (arith, same, at, near)
 
     order-at : (i : ℕ) (s : ChunkSet) → s.ssn ≡ i % 2 ^ 16 → d.low ≤ i → i < reach → at_or_before16 s.ssn last ≡ nat_le i j

@@ -58,20 +58,6 @@ pub end-more : (x : ℕ) (y : Entry) (sent : List Entry) → IsEnd x sent → Is
 end-more x y sent (inl e) = inl e
 end-more x y sent (inr e) = inr (entry-more ends_message x y sent (entry-within ends_message x sent e).1 ∙ e)
 
--- a fragment on a stream is at its place
-pub fragment-is-at : (st k : ℕ) (sent : List Entry) → has_fragment st k sent ≡ true → is_at st k sent ≡ true
-fragment-is-at st k [] e = absurd (not_both e)
-fragment-is-at st k (x ∷ xs) e = by (length (x ∷ xs) == k) e (fragment-is-at st k xs)
-  where
-    own : (y : Entry) → is_fragment_on st y ≡ true → ends_on st (y ∷ xs) ≡ true
-    own terminal h = absurd (not_both h)
-    own (fragment d w after) h = h
-
-    by : (b : Bool) → (if b then is_fragment_on st x else entry_at (is_fragment_on st) k xs) ≡ true
-        → (has_fragment st k xs ≡ true → is_at st k xs ≡ true) → (if b then ends_on st (x ∷ xs) else is_at st k xs) ≡ true
-    by true h ih = own x h
-    by false h ih = ih h
-
 counted : (st : ℕ) (d : Data) → d.beginning_fragment ≡ true → ((d.stream_identifier == st) && not d.unordered) ≡ true → begins_on st d ≡ true
 counted st d h on = ap (λ b. (d.stream_identifier == st) && (b && not d.unordered)) h ∙ on
 

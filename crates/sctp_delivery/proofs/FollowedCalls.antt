@@ -48,7 +48,7 @@ use Rattle.sctp_delivery.proofs.Every.{Every, every-contained, every-joined, eve
 use Rattle.sctp_delivery.proofs.FollowedSets.{each-dropped, each-leading, filter-split, leading, leading-split, left-orderly, left-tidy, skipped-orderly}
 use Rattle.sctp_delivery.proofs.FollowedSets.{skipped-tidy}
 use Rattle.sctp_delivery.proofs.GoneMessages.{IsGone, resolved}
-use Rattle.sctp_delivery.proofs.HeardTsns.{IsKnown}
+use Rattle.sctp_delivery.proofs.ArrivedTsns.{IsKnown}
 use Rattle.sctp_delivery.proofs.KeptCalls as calls
 use Rattle.sctp_delivery.proofs.KeptOrGone.{HeldWell, IsHeldWell, IsKeptBut, IsLate, IsPassedBy, at-in, place-in}
 use Rattle.sctp_delivery.proofs.MessagePlaces.{EndsAt, IsWanted, wanted-after, within}
@@ -128,8 +128,8 @@ module _ (first n : ℕ) (few : n < 2 ^ 31) (old new : Session) (ns : List Numbe
   abbrev Fits : ℕ → List ChunkPayloadData → Type 0
   Fits = holds.Fits p st n (λ k. begun_to st k sent) (λ k. is_at st k sent) (λ c. WasSent sent (data_of c))
 
-  abbrev told : holds.AreDue p st n (λ k. begun_to st k sent) (λ k. is_at st k sent) (λ c. WasSent sent (data_of c)) a old.receiving
-  told = calls.told first n few old new ns sent i gone st
+  abbrev answered : holds.AreDue p st n (λ k. begun_to st k sent) (λ k. is_at st k sent) (λ c. WasSent sent (data_of c)) a old.receiving
+  answered = calls.answered first n few old new ns sent i gone st
 
   near : begun_to st n sent ≤ begun_to st a sent + 2 ^ 14
   near = calls.near first n few old new ns sent i gone st
@@ -175,22 +175,22 @@ module _ (first n : ℕ) (few : n < 2 ^ 31) (old new : Session) (ns : List Numbe
     now-is : new.receiving.receiver ≡ without_incomplete t (follow_forward_tsn g r)
     now-is = f.step.receiver ∙ ap (λ b. if b then r else without_incomplete t (if b then r else follow_forward_tsn g r)) fresh
 
-    ahead-is' : told.heard.place < m
+    ahead-is' : answered.arrived.place < m
     ahead-is' =
-        let v = told.heard.within in
-        let b : nat_le m told.heard.place ≡ false =
-        sym (at-or-before p m told.heard.place (omega (arith, least, few)) (omega (arith, v, few)))
-        ∙ ap (λ u. at_or_before u (tsn p told.heard.place)) (sym pass.is)
-        ∙ ap (at_or_before t) (sym told.heard.is) ∙ fresh in
+        let v = answered.arrived.within in
+        let b : nat_le m answered.arrived.place ≡ false =
+        sym (at-or-before p m answered.arrived.place (omega (arith, least, few)) (omega (arith, v, few)))
+        ∙ ap (λ u. at_or_before u (tsn p answered.arrived.place)) (sym pass.is)
+        ∙ ap (at_or_before t) (sym answered.arrived.is) ∙ fresh in
         grind (arith, nat_tests, b)
 
     is-ahead' : is_ahead g r ≡ true
     is-ahead' =
-        let v = told.heard.within in
+        let v = answered.arrived.within in
         let lt = ahead-is' in
-        let b : nat_lt told.heard.place m ≡ true = grind (arith, nat_tests, lt) in
-        ap (λ u. comes_before u t) told.heard.is ∙ ap (comes_before (tsn p told.heard.place)) pass.is
-        ∙ before p told.heard.place m (omega (arith, v, few)) (omega (arith, least, few)) ∙ b
+        let b : nat_lt answered.arrived.place m ≡ true = grind (arith, nat_tests, lt) in
+        ap (λ u. comes_before u t) answered.arrived.is ∙ ap (comes_before (tsn p answered.arrived.place)) pass.is
+        ∙ before p answered.arrived.place m (omega (arith, v, few)) (omega (arith, least, few)) ∙ b
 
     -- all up to the place has come then
     upto-come : (y : ℕ) → 0 < y → y ≤ m → come (tsn p y) new.receiving.receiver.cumulative_tsn new.receiving.receiver.beyond ≡ true
@@ -206,7 +206,7 @@ module _ (first n : ℕ) (few : n < 2 ^ 31) (old new : Session) (ns : List Numbe
         beyond-given : Every (IsGiven p n) r.beyond
         beyond-given =
             every-of (IsKnown p n _) (IsGiven p n) (λ u x. record { place = x.place; some = x.some; within = x.within; is = x.is }) r.beyond
-            i.spread.step.heard.each
+            i.spread.step.arrived.each
 
     -- what is still to come is of later messages
     past-new : (y : ℕ) → y ≤ n + 1 → New y → begun_to st m sent < begun_to st y sent
@@ -220,7 +220,7 @@ module _ (first n : ℕ) (few : n < 2 ^ 31) (old new : Session) (ns : List Numbe
         some (inr h) = let e = h.1 in omega (arith, e)
 
     module _ (l : InboundStream) (e : stream_of st r ≡ Some l) (h : IsHeldWell first sent st n a Old l.queue) where
-      d : IsDue p n (λ k. begun_to st k sent) Fits Came told.k told.reach l.queue.held
+      d : IsDue p n (λ k. begun_to st k sent) Fits Came answered.k answered.reach l.queue.held
       d = calls.due-on first n few old new ns sent i gone st l e
 
       same-index : h.current.index ≡ d.index
@@ -245,9 +245,9 @@ module _ (first n : ℕ) (few : n < 2 ^ 31) (old new : Session) (ns : List Numbe
         well = record { current = later; tidy = h.tidy; orderly = h.orderly };
         uncut =
             current.none-cut p n (λ k. begun_to st k sent) Fits Came (at-in ns first sent line joined n i.spread.long few st)
-            (place-in ns first sent line joined n i.spread.long few st) t h.current.index d.low told.reach l.queue.held.ordered d.sets
+            (place-in ns first sent line joined n i.spread.long few st) t h.current.index d.low answered.reach l.queue.held.ordered d.sets
             (gone-held p st n (λ k. begun_to st k sent) (λ k. is_at st k sent) (λ c. WasSent sent (data_of c)) few up a near g m old.receiving
-            new.receiving told least pass.is f.step.receiver f.step.read naming accepted.0 accepted.1 missing h.current.index d.low told.reach
+            new.receiving answered least pass.is f.step.receiver f.step.read naming accepted.0 accepted.1 missing h.current.index d.low answered.reach
             l.queue.held.ordered d.sets held)
             h.current.whole h.current.some;
         same-unassembled = refl;
@@ -257,13 +257,14 @@ module _ (first n : ℕ) (few : n < 2 ^ 31) (old new : Session) (ns : List Numbe
           came z upto on = elim (cases_lt a z) [
             | inl lt ↦ absurd (not_both (sym (clear z lt upto) ∙ on))
             | inr ge ↦
-                let v = told.heard.within in
-                let x = told.heard.least_is in
-                let b : nat_le z told.heard.place ≡ true = (let le : z ≤ told.heard.place = omega (arith, ge, x) in grind (arith, nat_tests, le)) in (
+                let v = answered.arrived.within in
+                let x = answered.arrived.least_is in
+                let b : nat_le z answered.arrived.place ≡ true =
+                (let le : z ≤ answered.arrived.place = omega (arith, ge, x) in grind (arith, nat_tests, le)) in (
                   on,
                   or-left (at_or_before (tsn p z) r.cumulative_tsn) (list_any (λ u. u == tsn p z) r.beyond)
-                      (ap (at_or_before (tsn p z)) told.heard.is
-                      ∙ at-or-before p z told.heard.place (omega (arith, upto, least, few)) (omega (arith, v, few)) ∙ b),
+                      (ap (at_or_before (tsn p z)) answered.arrived.is
+                      ∙ at-or-before p z answered.arrived.place (omega (arith, upto, least, few)) (omega (arith, v, few)) ∙ b),
                 )
           ]
 
@@ -290,19 +291,19 @@ module _ (first n : ℕ) (few : n < 2 ^ 31) (old new : Session) (ns : List Numbe
             first-off true y z = absurd (not_both (sym z))
             first-off false y z = refl
 
-        back : told.reach ≤ j + 1 + 2 ^ 14
+        back : answered.reach ≤ j + 1 + 2 ^ 14
         back =
             let lt = ahead-is' in
-            let x = up told.heard.place m (omega (arith, lt)) in
-            let y = up a told.heard.place told.heard.least_is in
-            let w = told.most in
+            let x = up answered.arrived.place m (omega (arith, lt)) in
+            let y = up a answered.arrived.place answered.arrived.least_is in
+            let w = answered.most in
             let v = near in
             omega (arith, w, v, y, x, last)
 
-        ahead' : j + 1 ≤ told.reach + 2 ^ 14
+        ahead' : j + 1 ≤ answered.reach + 2 ^ 14
         ahead' =
-            let y = up a told.heard.place told.heard.least_is in
-            let z = told.heard.covered in
+            let y = up a answered.arrived.place answered.arrived.least_is in
+            let z = answered.arrived.covered in
             let top = up m n least in
             let v = near in
             omega (arith, top, v, y, z, last)
@@ -311,20 +312,20 @@ module _ (first n : ℕ) (few : n < 2 ^ 31) (old new : Session) (ns : List Numbe
             × (j + 1 ≤ x.index)
         skip =
             let lt = ahead-is' in
-            let x = up a m (let y = told.heard.least_is in omega (arith, y, lt)) in
+            let x = up a m (let y = answered.arrived.least_is in omega (arith, y, lt)) in
             let top = up m n least in
             current.skip-current p n (λ k. begun_to st k sent) Fits Came (at-in ns first sent line joined n i.spread.long few st)
-            (place-in ns first sent line joined n i.spread.long few st) told.k told.reach j (j % 2 ^ 16) l.queue.held d refl back ahead' close
+            (place-in ns first sent line joined n i.spread.long few st) answered.k answered.reach j (j % 2 ^ 16) l.queue.held d refl back ahead' close
             (begun_to st a sent) (begun_to st n sent) New later (same-of later) (omega (arith, top, last)) (omega (arith, x, last))
             (λ y le l'. let z = past-new y le l' in omega (arith, z, last))
           where
             same-of : (x : IsCurrent p n (λ k. begun_to st k sent) (begun_to st a sent) (begun_to st n sent) New l.queue.held) → x.index ≡ d.index
             same-of x =
-                let c = told.heard.covered in
-                let u = up a told.heard.place told.heard.least_is in
+                let c = answered.arrived.covered in
+                let u = up a answered.arrived.place answered.arrived.least_is in
                 current.due-index p n (λ k. begun_to st k sent) Fits Came (at-in ns first sent line joined n i.spread.long few st)
-                (place-in ns first sent line joined n i.spread.long few st) (begun_to st a sent) (begun_to st n sent) New l.queue.held x told.k
-                told.reach d near (omega (arith, c, u)) told.most
+                (place-in ns first sent line joined n i.spread.long few st) (begun_to st a sent) (begun_to st n sent) New l.queue.held x answered.k
+                answered.reach d near (omega (arith, c, u)) answered.most
 
         misses-held : (x : ℕ) (cs : List ChunkPayloadData) → Fits x cs → 0 < length cs → is_complete cs ≡ false → x ≤ j
             → (z : ℕ) × (z ≤ m) × (is_at st z sent ≡ true) × (begun_to st z sent ≡ x + 1) × (list_any (has_tsn (tsn p z)) cs ≡ false)
@@ -347,7 +348,7 @@ module _ (first n : ℕ) (few : n < 2 ^ 31) (old new : Session) (ns : List Numbe
         passed-gone : Every (λ s. is_passed (j % 2 ^ 16) s ≡ true → Every Goes s.chunks) l.queue.held.ordered
         passed-gone =
             current.all-passed p n (λ k. begun_to st k sent) Fits Came (at-in ns first sent line joined n i.spread.long few st)
-            (place-in ns first sent line joined n i.spread.long few st) told.k told.reach j (j % 2 ^ 16) l.queue.held d refl back ahead' close
+            (place-in ns first sent line joined n i.spread.long few st) answered.k answered.reach j (j % 2 ^ 16) l.queue.held d refl back ahead' close
             Goes m least (λ k. is_at st k sent) misses-held (begun_to st a sent) (begun_to st n sent) Old h.current hold
           where
             hold : (z : ℕ) → z ≤ m → is_at st z sent ≡ true → h.current.index + 1 ≤ begun_to st z sent
@@ -378,11 +379,12 @@ module _ (first n : ℕ) (few : n < 2 ^ 31) (old new : Session) (ns : List Numbe
               uncut =
                   let q = held_after_ordered_skip (j % 2 ^ 16) l.queue.held in
                   let sets = reads.sets-those p n (λ k. begun_to st k sent) Fits Came (at-in ns first sent line joined n i.spread.long few st)
-                  (λ s. not (is_passed (j % 2 ^ 16) s)) d.low told.reach l.queue.held.ordered d.sets in
+                  (λ s. not (is_passed (j % 2 ^ 16) s)) d.low answered.reach l.queue.held.ordered d.sets in
                   current.none-cut p n (λ k. begun_to st k sent) Fits Came (at-in ns first sent line joined n i.spread.long few st)
-                  (place-in ns first sent line joined n i.spread.long few st) t x.0.index d.low told.reach q.ordered sets
+                  (place-in ns first sent line joined n i.spread.long few st) t x.0.index d.low answered.reach q.ordered sets
                   (gone-begun p st n (λ k. begun_to st k sent) (λ k. is_at st k sent) (λ c. WasSent sent (data_of c)) few up a near g m old.receiving
-                  new.receiving told least pass.is f.step.receiver f.step.read naming accepted.0 accepted.1 missing x.0.index d.low told.reach q.ordered sets
+                  new.receiving answered least pass.is f.step.receiver f.step.read naming accepted.0 accepted.1
+                  missing x.0.index d.low answered.reach q.ordered sets
                   (omega (arith, past, last))) x.0.whole x.0.some;
               same-unassembled = refl;
             }

@@ -38,7 +38,7 @@ use Rattle.sctp_delivery.proofs.SpreadCalls.{IsSpread}
 use Rattle.sctp_delivery.proofs.SpreadEntries.{begun_to, is_at, to-all}
 use Rattle.sctp_delivery.proofs.SpreadFlight.{AreOn, AreSteps, IsNaming, are-on, are-steps, named}
 use Rattle.sctp_delivery.proofs.TightFlight.{last-at}
-use Rattle.sctp_delivery.proofs.ToldCalls as told
+use Rattle.sctp_delivery.proofs.AnsweredCalls as answered
 use Rattle.sctp_delivery.proofs.TsnPlaces.{base, before, same-place}
 use Rattle.sctp_delivery.proofs.UnwrappedHolds.{AreDue, Came, DueOn}
 use Rattle.sctp_delivery.proofs.UnwrappedSessions as sessions
@@ -175,7 +175,7 @@ module _ (first n : ℕ) (few : n < 2 ^ 31) (s : Session) (h : HasValid first n 
     M c = WasSent sent (data_of c)
 
     abbrev d : AreDue p st n B E M a s.receiving
-    d = (h.valid.unwrapped.told st).0
+    d = (h.valid.unwrapped.answered st).0
 
     abbrev Prior : ℕ → Type 0
     Prior = Came p st n B E M r.cumulative_tsn r.beyond
@@ -216,14 +216,6 @@ module _ (first n : ℕ) (few : n < 2 ^ 31) (s : Session) (h : HasValid first n 
             one k (inl e) = sym (ap (λ (y : ChunkForwardTsnStream). y.sequence) e)
             one k (inr e) = absurd e
 
-    past-heard : d.heard.place < m
-    past-heard =
-        let w = d.heard.within in
-        let v = passable.given.within in
-        let order : nat_lt d.heard.place m ≡ true = sym (before p d.heard.place m (omega (arith, w, few)) (omega (arith, v, few)))
-        ∙ ap (λ u. comes_before u (tsn p m)) (sym d.heard.is) ∙ ap (comes_before r.cumulative_tsn) (sym passable.given.is) ∙ lead in
-        grind (arith, nat_tests, order)
-
     near-name : (l : InboundStream) → stream_of st r ≡ Some l → message_read l.queue.held ≡ None → is_name_too_far x.sequence l.queue.held ≡ false
     near-name l there none =
         let b : Both (Some l) = subst Both there (d.due, h.valid.valid st) in
@@ -231,7 +223,7 @@ module _ (first n : ℕ) (few : n < 2 ^ 31) (s : Session) (h : HasValid first n 
         let up = sessions.grows st first n s h.numbered sent spread few in
         let low = begun-low st first n few s h.numbered sent spread d l.queue.held e b.1 none in
         let near = sessions.near st first n s h.numbered sent spread few in
-        let least = up a d.heard.place d.heard.least_is in
+        let least = up a d.arrived.place d.arrived.least_is in
         let v = passable.given.within in
         let top = up m n v in
         let k = number-is.1 in
@@ -275,7 +267,7 @@ module _ (first n : ℕ) (few : n < 2 ^ 31) (s : Session) (h : HasValid first n 
 
   pub made-taken : skip_refusal f r ≡ None
   made-taken =
-      let near = told.near p n r (known s) few spread.step.heard spread.step.order t passable.given in
+      let near = answered.near p n r (known s) few spread.step.arrived spread.step.order t passable.given in
       ap (λ b. if b then Some NamedStreamUnknown else (if names_too_far f r then Some NamedSsnTooFar else forward_refusal f r)) (closed (is_ahead f r))
       ∙ ap (λ b. if b then Some NamedSsnTooFar else forward_refusal f r) (near-all (is_ahead f r) refl)
       ∙ ap (λ b. if b then Some TsnOpposite else None) near

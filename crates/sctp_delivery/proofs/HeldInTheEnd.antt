@@ -144,20 +144,21 @@ module _ (first size max most : ℕ) (limits : Option Limits) (cs : List Call) (
     abbrev Came : ℕ → Type 0
     Came = holds.Came p st n (λ y. begun_to st y sent) (λ y. is_at st y sent) (λ c. WasSent sent (data_of c)) r.cumulative_tsn r.beyond
 
-    abbrev told : holds.AreDue p st n (λ y. begun_to st y sent) (λ y. is_at st y sent) (λ c. WasSent sent (data_of c)) a s.receiving
-    told = calls.told first n few s s ns sent k.unwrapped gone st
+    abbrev answered : holds.AreDue p st n (λ y. begun_to st y sent) (λ y. is_at st y sent) (λ c. WasSent sent (data_of c)) a s.receiving
+    answered = calls.answered first n few s s ns sent k.unwrapped gone st
 
     -- all that got TSNs has come
     all-came : (y : ℕ) → y ≤ n → is_at st y sent ≡ true → Came y
     all-came y le on =
         let empty = ap length idle.inflight in
         let total = k.unwrapped.spread.step.numbered.total in
-        let v = told.heard.within in
-        let x = told.heard.least_is in
-        let b : nat_le y told.heard.place ≡ true = (let h : y ≤ told.heard.place = omega (arith, le, x, total, empty) in grind (arith, nat_tests, h)) in (
+        let v = answered.arrived.within in
+        let x = answered.arrived.least_is in
+        let b : nat_le y answered.arrived.place ≡ true =
+        (let h : y ≤ answered.arrived.place = omega (arith, le, x, total, empty) in grind (arith, nat_tests, h)) in (
           on,
           or-left (at_or_before (tsn p y) r.cumulative_tsn) (list_any (λ u. u == tsn p y) r.beyond)
-              (ap (at_or_before (tsn p y)) told.heard.is ∙ at-or-before p y told.heard.place (omega (arith, le, few)) (omega (arith, v, few)) ∙ b),
+              (ap (at_or_before (tsn p y)) answered.arrived.is ∙ at-or-before p y answered.arrived.place (omega (arith, le, few)) (omega (arith, v, few)) ∙ b),
         )
 
     in-set : (i y : ℕ) (cs : List ChunkPayloadData) → y ≤ n → Fits i cs → list_any (has_tsn (tsn p y)) cs ≡ true → begun_to st y sent ≡ i + 1
@@ -170,7 +171,7 @@ module _ (first size max most : ℕ) (limits : Option Limits) (cs : List Call) (
       well : IsHeldWell first sent st n a (IsLate first sent st r.cumulative_tsn r.beyond) l.queue
       well = subst (HeldWell first sent st n a (IsLate first sent st r.cumulative_tsn r.beyond)) found (k.kept st).holds
 
-      d : IsDue p n (λ y. begun_to st y sent) Fits Came told.k told.reach q
+      d : IsDue p n (λ y. begun_to st y sent) Fits Came answered.k answered.reach q
       d = calls.due-on first n few s s ns sent k.unwrapped gone st l found
 
       index : well.current.index ≡ d.index
@@ -189,8 +190,8 @@ module _ (first size max most : ℕ) (limits : Option Limits) (cs : List Call) (
       -- ## Ordered sets
 
       module _ (F : ChunkSet) (rest : List ChunkSet) (is : q.ordered ≡ F ∷ rest) where
-        sets : reads.AreSets p n (λ y. begun_to st y sent) Fits Came d.low told.reach (F ∷ rest)
-        sets = subst (reads.AreSets p n (λ y. begun_to st y sent) Fits Came d.low told.reach) is d.sets
+        sets : reads.AreSets p n (λ y. begun_to st y sent) Fits Came d.low answered.reach (F ∷ rest)
+        sets = subst (reads.AreSets p n (λ y. begun_to st y sent) Fits Came d.low answered.reach) is d.sets
 
         whole-front : IsWholeAt p n (λ y. begun_to st y sent) well.current.index F
         whole-front = (subst (Every (IsWholeAt p n (λ y. begun_to st y sent) well.current.index)) is well.current.whole).0
@@ -246,7 +247,7 @@ module _ (first size max most : ℕ) (limits : Option Limits) (cs : List Call) (
             elim (is-held z.0 z.1 z.2 (omega (arith, at, ge))) [
               | inl h ↦ not_both (sym z.4 ∙ h)
               | inr h ↦
-                  none-later p n (λ y. begun_to st y sent) Fits Came in-set (sets.0 + 1) told.reach z.0 rest sets.2 z.1 (omega (arith, at)) h
+                  none-later p n (λ y. begun_to st y sent) Fits Came in-set (sets.0 + 1) answered.reach z.0 rest sets.2 z.1 (omega (arith, at)) h
             ]
           where
             to-most' : begun_to st n sent ≤ n
@@ -271,7 +272,7 @@ module _ (first size max most : ℕ) (limits : Option Limits) (cs : List Call) (
             let at = x.3 in
             elim (is-held x.0 within x.2 (omega (arith, at))) [
               | inl h ↦ let c = in-set sets.0 x.0 F.chunks within sets.1.1 h in omega (arith, c, at, lt)
-              | inr h ↦ none-later p n (λ y. begun_to st y sent) Fits Came in-set (sets.0 + 1) told.reach x.0 rest sets.2 within (omega (arith, at, lt)) h
+              | inr h ↦ none-later p n (λ y. begun_to st y sent) Fits Came in-set (sets.0 + 1) answered.reach x.0 rest sets.2 within (omega (arith, at, lt)) h
             ]
 
         no-front : ⊥

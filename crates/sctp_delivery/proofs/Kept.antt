@@ -66,7 +66,7 @@ sets-fresh t (s ∷ ss) e =
     let m = sum_by-cons (set_weight (one t)) s ss in
     (count-none t s.chunks (omega (arith, m, e)), sets-fresh t ss (omega (arith, m, e)))
 
-unordered-turn : (xs : List ChunkPayloadData) (old new : Reassembly) (told : Bool) → BecomesComplete xs old new told → IsInTurn old → IsInTurn new
+unordered-turn : (xs : List ChunkPayloadData) (old new : Reassembly) (answered : Bool) → BecomesComplete xs old new answered → IsInTurn old → IsInTurn new
 unordered-turn xs old new true b t = subst IsInTurn (sym b.moved) (record { index = t.index; next = t.next; rise = t.rise })
 unordered-turn xs old new false b t = subst IsInTurn (sym b.1) (record { index = t.index; next = t.next; rise = t.rise })
 
@@ -74,12 +74,12 @@ record IsPut (c : ChunkPayloadData) (old new : Reassembly) : Type 0 where
   weighs : (w : ChunkPayloadData → ℕ) → weight w new ≡ w c + weight w old
   turn : IsInTurn new
 
-pushed : (c : ChunkPayloadData) (told : Bool) (old new : ReassemblyState) → Pushes c told old new → (t : IsInTurn old.held)
+pushed : (c : ChunkPayloadData) (answered : Bool) (old new : ReassemblyState) → Pushes c answered old new → (t : IsInTurn old.held)
     → (c.unordered ≡ false → IsNear t.index c.stream_sequence_number) → Every (λ (s : ChunkSet). list_any (has_tsn c.tsn) s.chunks ≡ false) old.held.ordered
     → IsPut c old.held new.held
-pushed c told old new p t near fresh = by c.unordered refl p
+pushed c answered old new p t near fresh = by c.unordered refl p
   where
-    by : (b : Bool) → c.unordered ≡ b → PushesAs b c told old new → IsPut c old.held new.held
+    by : (b : Bool) → c.unordered ≡ b → PushesAs b c answered old new → IsPut c old.held new.held
     by false u e =
         let held : new.held ≡ held_after_ordered_push c old.held = ap (λ (q : ReassemblyState). q.held) e.0 in
         record {
@@ -91,10 +91,10 @@ pushed c told old new p t near fresh = by c.unordered refl p
         }
     by true u e = record {
       weighs = λ w.
-          let h = weights.becomes w (insert_before chunk_before c old.held.unassembled) old.held new.held told e.0 in
+          let h = weights.becomes w (insert_before chunk_before c old.held.unassembled) old.held new.held answered e.0 in
           let m = sum_by-inserted w chunk_before c old.held.unassembled in
           omega (arith, h, m);
-      turn = unordered-turn (insert_before chunk_before c old.held.unassembled) old.held new.held told e.0 t;
+      turn = unordered-turn (insert_before chunk_before c old.held.unassembled) old.held new.held answered e.0 t;
     }
 
 pub not-too-far : (c : ChunkPayloadData) (r : Reception) → arrival_refusal c r ≡ None → has_come c.tsn (filter_of r) ≡ false
@@ -106,13 +106,13 @@ not-too-far c r e fresh = by (is_too_far_on c (stream_of c.stream_identifier r))
     by true f = absurd (none-some SsnTooFar (sym f))
     by false f = refl
 
-module _ (c : ChunkPayloadData) (told : Bool) (old new : Reception) (a : Accepts c told old new) (short : IsShort c)
+module _ (c : ChunkPayloadData) (answered : Bool) (old new : Reception) (a : Accepts c answered old new) (short : IsShort c)
     (near : is_too_far_on c (stream_of c.stream_identifier old) ≡ false) where
   abbrev sid : ℕ
   sid = c.stream_identifier
 
   keeps : (l : InboundStream) → has_number sid l ≡ true → a.queue.si ≡ number l
-  keeps l e = pushed-number c told a.stream.queue a.queue a.pushed ∙ same-is (number a.stream) sid
+  keeps l e = pushed-number c answered a.stream.queue a.queue a.pushed ∙ same-is (number a.stream) sid
       (found-passes (has_number sid) old.streams a.stream a.found) ∙ sym (same-is (number l) sid e)
 
   now : (st : ℕ) → stream_of st new ≡ option_map (λ l. if has_number sid l then with_queue a.queue l else l) (stream_of st old)
@@ -143,7 +143,8 @@ module _ (c : ChunkPayloadData) (told : Bool) (old new : Reception) (a : Accepts
           let is : l ≡ a.stream = some-same (sym e ∙ ap (λ n. stream_of n old) same ∙ a.found) in
           let turn : IsInTurn a.stream.queue.held = subst (λ (x : InboundStream). IsInTurn x.queue.held) is t in
           let bare : weight (one c.tsn) a.stream.queue.held ≡ 0 = ap (λ (x : InboundStream). weight (one c.tsn) x.queue.held) (sym is) ∙ none in
-          let put = pushed c told a.stream.queue a.queue a.pushed turn (is-near turn) (sets-fresh c.tsn a.stream.queue.held.ordered (omega (arith, bare))) in
+          let put = pushed c answered a.stream.queue a.queue a.pushed turn (is-near turn)
+          (sets-fresh c.tsn a.stream.queue.held.ordered (omega (arith, bare))) in
           subst (λ b. IsMore (λ w. if b then w c else 0) (Some l) (Some (with_queue a.queue l))) (sym (eq-eqb sid st (sym same)))
           (record {
             weighs = λ w. let m = put.weighs w in let q = ap (λ (x : InboundStream). weight w x.queue.held) is in omega (arith, m, q);
@@ -245,15 +246,15 @@ kept-on (incoming.opens stream) old new st r made apart f k =
     (opened st stream old.receiving.receiver.max_message_size old.receiving.receiver.streams k.turn)) k
 kept-on (incoming.takes c Repeat) old new st r made apart f k = still st old.receiving new.receiving f.step.accepted f.step.read
     (ap (λ (x : Reception). x.streams) f.step.receiver) k
-kept-on (incoming.takes c (New told)) old new st r made apart f k =
+kept-on (incoming.takes c (New answered)) old new st r made apart f k =
     let x = old.receiving.receiver in
     let short : IsShort c = every-contained IsShortMade old.made (data_chunk (data_of c)) f.handed made in
-    let fresh = fresh-new c.tsn told x f.accepted.1 in
+    let fresh = fresh-new c.tsn answered x f.accepted.1 in
     let near = not-too-far c x f.accepted.0 fresh in
     let all = subst (λ cs. are_apart cs ≡ true) f.step.accepted apart in
     let none = negated (list_any (has_tsn c.tsn) old.receiving.accepted)
     (both (not (list_any (has_tsn c.tsn) old.receiving.accepted)) (are_apart old.receiving.accepted) all).0 in
-    let m = taken c told x new.receiving.receiver f.step.receiver short near st k.turn (none-held st c.tsn old.receiving k none) in
+    let m = taken c answered x new.receiving.receiver f.step.receiver short near st k.turn (none-held st c.tsn old.receiving k none) in
     record {
       weighs = λ w.
           let h = k.weighs w in
@@ -289,7 +290,7 @@ apart-then : (call : ReceiverCall) (old new : Session) → ReceiverFollows call 
     → are_apart old.receiving.accepted ≡ true
 apart-then (incoming.opens stream) old new f a = ap are_apart (sym f.step.accepted) ∙ a
 apart-then (incoming.takes c Repeat) old new f a = ap are_apart (sym f.step.accepted) ∙ a
-apart-then (incoming.takes c (New told)) old new f a = (both (not (list_any (has_tsn c.tsn) old.receiving.accepted)) (are_apart old.receiving.accepted)
+apart-then (incoming.takes c (New answered)) old new f a = (both (not (list_any (has_tsn c.tsn) old.receiving.accepted)) (are_apart old.receiving.accepted)
     (ap are_apart (sym f.step.accepted) ∙ a)).1
 apart-then (incoming.follows g) old new f a = ap are_apart (sym f.step.accepted) ∙ a
 apart-then (incoming.reports credit) old new f a = ap are_apart (sym f.step.accepted) ∙ a

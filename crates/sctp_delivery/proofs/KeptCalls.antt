@@ -129,11 +129,11 @@ module _ (first n : ℕ) (few : n < 2 ^ 31) (old new : Session) (ns : List Numbe
   up : (j k : ℕ) → j ≤ k → begun_to st j sent ≤ begun_to st k sent
   up j k le = to-up st j k sent le
 
-  abbrev pub Told : Session → Type 0
-  Told s = holds.AreDue p st n (λ k. begun_to st k sent) (λ k. is_at st k sent) (λ c. WasSent sent (data_of c)) a s.receiving
+  abbrev pub Answered : Session → Type 0
+  Answered s = holds.AreDue p st n (λ k. begun_to st k sent) (λ k. is_at st k sent) (λ c. WasSent sent (data_of c)) a s.receiving
 
-  pub told : Told old
-  told = (i.told st).0
+  pub answered : Answered old
+  answered = (i.answered st).0
 
   pub near : begun_to st n sent ≤ begun_to st a sent + 2 ^ 14
   near = sessions.near st first n old ns sent i.spread few
@@ -148,18 +148,18 @@ module _ (first n : ℕ) (few : n < 2 ^ 31) (old new : Session) (ns : List Numbe
   Keeps = IsKeptBut first sent st n a gone old.made
 
   -- what was not given out has not come
-  pub unheard : come (tsn p (n + 1)) r.cumulative_tsn r.beyond ≡ true → ⊥
-  unheard e = elim (or-split (at_or_before (tsn p (n + 1)) r.cumulative_tsn) (list_any (λ t. t == tsn p (n + 1)) r.beyond) e) [
+  pub unarrived : come (tsn p (n + 1)) r.cumulative_tsn r.beyond ≡ true → ⊥
+  unarrived e = elim (or-split (at_or_before (tsn p (n + 1)) r.cumulative_tsn) (list_any (λ t. t == tsn p (n + 1)) r.beyond) e) [
     | inl x ↦
-        let w = told.heard.within in
-        let t : nat_le (n + 1) told.heard.place ≡ true =
-        sym (at-or-before p (n + 1) told.heard.place (omega (arith, few)) (omega (arith, w, few)))
-        ∙ ap (at_or_before (tsn p (n + 1))) (sym told.heard.is) ∙ x in
-        let le : n + 1 ≤ told.heard.place = grind (arith, nat_tests, t) in
+        let w = answered.arrived.within in
+        let t : nat_le (n + 1) answered.arrived.place ≡ true =
+        sym (at-or-before p (n + 1) answered.arrived.place (omega (arith, few)) (omega (arith, w, few)))
+        ∙ ap (at_or_before (tsn p (n + 1))) (sym answered.arrived.is) ∙ x in
+        let le : n + 1 ≤ answered.arrived.place = grind (arith, nat_tests, t) in
         omega (arith, le, w)
     | inr x ↦
-        let o = one-of (holds.IsBeyond p st n (λ k. begun_to st k sent) (λ k. is_at st k sent) (λ c. WasSent sent (data_of c)) told.reach)
-        (λ t. t == tsn p (n + 1)) r.beyond x told.heard.each in
+        let o = one-of (holds.IsBeyond p st n (λ k. begun_to st k sent) (λ k. is_at st k sent) (λ c. WasSent sent (data_of c)) answered.reach)
+        (λ t. t == tsn p (n + 1)) r.beyond x answered.arrived.each in
         let w = o.2.within in
         let same = same-place p (o.2.before + 1) (n + 1) (omega (arith, w, few)) (omega (arith, few)) (sym o.2.is ∙ same-is o.0 (tsn p (n + 1)) o.1) in
         omega (arith, same, w)
@@ -169,9 +169,9 @@ module _ (first n : ℕ) (few : n < 2 ^ 31) (old new : Session) (ns : List Numbe
   late-less call f y le l = (
     l.0,
     fails (come (tsn p y) r.cumulative_tsn r.beyond) (λ e. elim (cases_lt n y) [
-      | inl over ↦ let it : y ≡ n + 1 = omega (arith, over, le) in unheard (subst (λ k. come (tsn p k) r.cumulative_tsn r.beyond ≡ true) it e)
+      | inl over ↦ let it : y ≡ n + 1 = omega (arith, over, le) in unarrived (subst (λ k. come (tsn p k) r.cumulative_tsn r.beyond ≡ true) it e)
       | inr under ↦
-          not_both (sym l.1 ∙ stays-come p n _ old new few i.spread.step.made i.spread.step.heard (tsn p y)
+          not_both (sym l.1 ∙ stays-come p n _ old new few i.spread.step.made i.spread.step.arrived (tsn p y)
           (record { place = y; some = some l.0; within = under; is = refl }) e call f)
     ]),
   )
@@ -220,7 +220,7 @@ module _ (first n : ℕ) (few : n < 2 ^ 31) (old new : Session) (ns : List Numbe
   opened stream f k =
       quiet (incoming.opens stream) f f.step.accepted f.step.read
       (λ w. ap (held_weight w) is ∙ weigh w (stream_of st r) (stream == st))
-      (subst (Well (Late old.receiving)) (sym is) (by (stream_of st r) (stream == st) k.holds told.due)) k
+      (subst (Well (Late old.receiving)) (sym is) (by (stream_of st r) (stream == st) k.holds answered.due)) k
     where
       is : stream_of st new.receiving.receiver
           ≡ option_or (stream_of st r) (if stream == st then Some (new_stream stream r.max_message_size) else None)
@@ -233,12 +233,12 @@ module _ (first n : ℕ) (few : n < 2 ^ 31) (old new : Session) (ns : List Numbe
       weigh w (Some l) b = refl
 
       by : (o : Option InboundStream) (b : Bool) → Well (Late old.receiving) o
-          → DueOn Came told.k told.reach o
+          → DueOn Came answered.k answered.reach o
           → Well (Late old.receiving) (option_or o (if b then Some (new_stream stream r.max_message_size) else None))
       by None true h d =
           let z = d.1 in
-          let c = told.heard.covered in
-          let u = up a told.heard.place told.heard.least_is in
+          let c = answered.arrived.covered in
+          let u = up a answered.arrived.place answered.arrived.least_is in
           record {
             current = record {
               index = 0;
@@ -293,22 +293,22 @@ module _ (first n : ℕ) (few : n < 2 ^ 31) (old new : Session) (ns : List Numbe
 
   -- where the queue is current, its index is the one that is due
   pub index-due : (L : ℕ → Type 0) (l : InboundStream) → stream_of st r ≡ Some l → (h : IsHeldWell first sent st n a L l.queue)
-      → (d : IsDue p n (λ k. begun_to st k sent) Fits Came told.k told.reach l.queue.held)
+      → (d : IsDue p n (λ k. begun_to st k sent) Fits Came answered.k answered.reach l.queue.held)
       → h.current.index ≡ d.index
   index-due L l e h d =
-      let c = told.heard.covered in
-      let u = up a told.heard.place told.heard.least_is in
+      let c = answered.arrived.covered in
+      let u = up a answered.arrived.place answered.arrived.least_is in
       due-index p n (λ k. begun_to st k sent) Fits Came
       (at-in ns first sent line joined n i.spread.long few st) (place-in ns first sent line joined n i.spread.long few st)
-      (begun_to st a sent) (begun_to st n sent) L l.queue.held h.current told.k told.reach d near (omega (arith, c, u)) told.most
+      (begun_to st a sent) (begun_to st n sent) L l.queue.held h.current answered.k answered.reach d near (omega (arith, c, u)) answered.most
 
   abbrev Due : ReassemblyState → Type 0
   Due q =
-      IsDue p n (λ k. begun_to st k sent) Fits Came told.k told.reach q.held
+      IsDue p n (λ k. begun_to st k sent) Fits Came answered.k answered.reach q.held
 
   pub due-on : (l : InboundStream) → stream_of st r ≡ Some l → Due l.queue
   due-on l e =
-      subst (DueOn Came told.k told.reach) e told.due
+      subst (DueOn Came answered.k answered.reach) e answered.due
 
   -- ## A message is read
 
@@ -343,7 +343,7 @@ module _ (first n : ℕ) (few : n < 2 ^ 31) (old new : Session) (ns : List Numbe
               let d = due-on l e in
               read-well ns first sent line joined n i.spread.long few st a (Late old.receiving) l.queue h
               Came
-              told.k told.reach d (index-due (Late old.receiving) l e h d) told.most (λ y l'. l'.0)
+              answered.k answered.reach d (index-due (Late old.receiving) l e h d) answered.most (λ y l'. l'.0)
               (λ y there l'.
               let lt = sets-came (tsn p y) l.queue.held.ordered there in
               let g = ap (held_weight (one (tsn p y))) e in
@@ -352,7 +352,7 @@ module _ (first n : ℕ) (few : n < 2 ^ 31) (old new : Session) (ns : List Numbe
   -- ## A chunk is taken
 
   module _ (c : ChunkPayloadData) (said : Bool) (f : ReceiverFollows (incoming.takes c (New said)) old new) (k : Keeps old.receiving)
-      (after : Told new) where
+      (after : Answered new) where
     abbrev sid : ℕ
     sid = c.stream_identifier
 
@@ -383,15 +383,15 @@ module _ (first n : ℕ) (few : n < 2 ^ 31) (old new : Session) (ns : List Numbe
     now : stream_of st new.receiving.receiver ≡ option_map (λ l. if has_number sid l then with_queue acc.queue l else l) (stream_of st r)
     now = ap (stream_of st) acc.after ∙ found-changed sid st (with_queue acc.queue) keeps r.streams
 
-    past : told.heard.place < g.before + 1
+    past : answered.arrived.place < g.before + 1
     past =
         let w = g.within in
-        let v = told.heard.within in
+        let v = answered.arrived.within in
         let none : (x y : Bool) → (x || y) ≡ false → x ≡ false = λ x y e. first-off x y e in
         let e = none (at_or_before c.tsn r.cumulative_tsn) (list_any (λ t. t == c.tsn) r.beyond) fresh in
-        let t : nat_le (g.before + 1) told.heard.place ≡ false =
-        sym (at-or-before p (g.before + 1) told.heard.place (omega (arith, w, few)) (omega (arith, v, few)))
-        ∙ ap (λ u. at_or_before u (tsn p told.heard.place)) (sym g.is) ∙ ap (at_or_before c.tsn) (sym told.heard.is) ∙ e in
+        let t : nat_le (g.before + 1) answered.arrived.place ≡ false =
+        sym (at-or-before p (g.before + 1) answered.arrived.place (omega (arith, w, few)) (omega (arith, v, few)))
+        ∙ ap (λ u. at_or_before u (tsn p answered.arrived.place)) (sym g.is) ∙ ap (at_or_before c.tsn) (sym answered.arrived.is) ∙ e in
         grind (arith, nat_tests, t)
       where
         first-off : (x y : Bool) → (x || y) ≡ false → x ≡ false
@@ -426,10 +426,10 @@ module _ (first n : ℕ) (few : n < 2 ^ 31) (old new : Session) (ns : List Numbe
             → o.0 < h.current.index + 2 ^ 15
         near-number o kind =
             let u = past in
-            let x = up told.heard.place (g.before + 1) (omega (arith, u)) in
-            let y = up a told.heard.place told.heard.least_is in
-            let z = told.heard.covered in
-            let m = told.most in
+            let x = up answered.arrived.place (g.before + 1) (omega (arith, u)) in
+            let y = up a answered.arrived.place answered.arrived.least_is in
+            let z = answered.arrived.covered in
+            let m = answered.most in
             let b = o.1 in
             let top = up (g.before + 1) n g.within in
             let close = not-too-far c r f.accepted.0 fresh in
@@ -437,7 +437,7 @@ module _ (first n : ℕ) (few : n < 2 ^ 31) (old new : Session) (ns : List Numbe
             ap (λ b. not b && is_ssn_too_far c.stream_sequence_number acc.stream.queue.held) (sym kind) ∙ (ap (is_too_far_on c) (sym acc.found) ∙ close) in
             let far = near in
             let w = in-window p n (λ k. begun_to st k sent) Fits Came
-            (at-in ns first sent line joined n i.spread.long few st) told.k told.reach o.0 c.stream_sequence_number acc.stream.queue.held dd o.2
+            (at-in ns first sent line joined n i.spread.long few st) answered.k answered.reach o.0 c.stream_sequence_number acc.stream.queue.held dd o.2
             (omega (arith, m, far, y, x, b)) (omega (arith, top, far, y, z, b)) test in
             let v = w.1 in
             let from = dd.from in
@@ -514,7 +514,7 @@ module _ (first n : ℕ) (few : n < 2 ^ 31) (old new : Session) (ns : List Numbe
   IsOther (incoming.follows g) = ⊥
   IsOther call = ⊤
 
-  pub keeps-other : (call : ReceiverCall) → IsOther call → ReceiverFollows call old new → Told new → Keeps old.receiving → Keeps new.receiving
+  pub keeps-other : (call : ReceiverCall) → IsOther call → ReceiverFollows call old new → Answered new → Keeps old.receiving → Keeps new.receiving
   keeps-other (incoming.opens stream) o f after k = opened stream f k
   keeps-other (incoming.takes c Repeat) o f after k =
       still (incoming.takes c Repeat) f f.step.accepted f.step.read (ap (λ (x : Reception). x.streams) f.step.receiver) k

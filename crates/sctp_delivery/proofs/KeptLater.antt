@@ -47,8 +47,8 @@ entry-back x sent y d w i = by i.part
 
 module _ (ns : List Numbered) (first : ℕ) (sent more : List Entry) (line : IsLine ns first more) (joined : AreJoined more) (once : IsOnceMore sent more)
     (n m : ℕ) (long : length sent ≡ n) (longer : length more ≡ m) (few : m < 2 ^ 31) (st a b : ℕ) (s : Stand)
-    (told : holds.AreDue (base first) st n (λ k. begun_to st k sent) (λ k. is_at st k sent) (λ c. WasSent sent (data_of c)) a s)
-    (upto : b ≤ told.heard.place) (unheard : come (tsn (base first) (n + 1)) s.receiver.cumulative_tsn s.receiver.beyond ≡ true → ⊥) where
+    (answered : holds.AreDue (base first) st n (λ k. begun_to st k sent) (λ k. is_at st k sent) (λ c. WasSent sent (data_of c)) a s)
+    (upto : b ≤ answered.arrived.place) (unarrived : come (tsn (base first) (n + 1)) s.receiver.cumulative_tsn s.receiver.beyond ≡ true → ⊥) where
   abbrev p : ℕ
   p = base first
 
@@ -160,7 +160,7 @@ module _ (ns : List Numbered) (first : ℕ) (sent more : List Entry) (line : IsL
               let next = h.1 in
               let i = subst (λ k. IsEntryAt more k h.2 h.3) at (subst (λ ys. IsEntryAt ys h.0 h.2 h.3) (sym e) h.4) in
               let none : come (tsn p (n + 1)) s.receiver.cumulative_tsn s.receiver.beyond ≡ false =
-              fails (come (tsn p (n + 1)) s.receiver.cumulative_tsn s.receiver.beyond) unheard in
+              fails (come (tsn p (n + 1)) s.receiver.cumulative_tsn s.receiver.beyond) unarrived in
               let lt = fresh-here x e h.2 h.3 i h.5 none in
               let u = up (n + 1) y (omega (arith, at, next)) in
               omega (arith, lt, u)
@@ -207,7 +207,7 @@ module _ (ns : List Numbered) (first : ℕ) (sent more : List Entry) (line : IsL
   )
 
   well-more : (o : Option InboundStream)
-      → holds.DueOn p st n (λ k. begun_to st k sent) (λ k. is_at st k sent) (λ c. WasSent sent (data_of c)) Came told.k told.reach o
+      → holds.DueOn p st n (λ k. begun_to st k sent) (λ k. is_at st k sent) (λ c. WasSent sent (data_of c)) Came answered.k answered.reach o
       → begun_to st n sent ≤ begun_to st a sent + 2 ^ 14 → HeldWell first sent st n a Old o → HeldWell first more st m b New o
   well-more None d near h = tt
   well-more (Some l) d near h = record {
@@ -215,10 +215,10 @@ module _ (ns : List Numbered) (first : ℕ) (sent more : List Entry) (line : IsL
       index = h.current.index;
       next = h.current.next;
       from =
-          let c = told.heard.covered in
-          let w = told.heard.within in
-          let x = up b told.heard.place upto in
-          let y = same-to told.heard.place w in
+          let c = answered.arrived.covered in
+          let w = answered.arrived.within in
+          let x = up b answered.arrived.place upto in
+          let y = same-to answered.arrived.place w in
           let e = same in
           let f = d.from in
           let g = d.far in
@@ -229,7 +229,7 @@ module _ (ns : List Numbered) (first : ℕ) (sent more : List Entry) (line : IsL
           let z = up n m wider in
           omega (arith, x, y, z);
       late = late-more h.current.index h.current.upto h.current.late;
-      whole = whole-more h.current.index d.low told.reach l.queue.held.ordered d.sets h.current.whole;
+      whole = whole-more h.current.index d.low answered.reach l.queue.held.ordered d.sets h.current.whole;
       some = h.current.some;
     };
     tidy = tidy-more p n (let w = wider in omega (arith, w, few)) m l.queue.held wider h.tidy;
@@ -245,9 +245,9 @@ module _ (ns : List Numbered) (first : ℕ) (sent more : List Entry) (line : IsL
           let g = d.from in
           let i = d.within in
           let j = d.far in
-          let c = told.heard.covered in
-          let u = to-up st a told.heard.place sent told.heard.least_is in
-          let v = told.most in
+          let c = answered.arrived.covered in
+          let u = to-up st a answered.arrived.place sent answered.arrived.least_is in
+          let v = answered.most in
           omega (arith, x, y, e, f, g, i, j, near, c, u, v)
 
   gone-more : (gone now : List ℕ) → ((k : ℕ) → is_gone gone k ≡ true → is_gone now k ≡ true) → (c : ChunkPayloadData) → IsGone gone sent c
@@ -270,5 +270,5 @@ module _ (ns : List Numbered) (first : ℕ) (sent more : List Entry) (line : IsL
     lost = k.lost;
     of-gone = every-of (IsPassedBy gone sent ms) (IsPassedBy now more later) (λ c g. (gone-more gone now among c g.0, grows c.tsn g.1)) k.lost k.of-gone;
     weighs = k.weighs;
-    holds = well-more (stream_of st s.receiver) told.due near k.holds;
+    holds = well-more (stream_of st s.receiver) answered.due near k.holds;
   }

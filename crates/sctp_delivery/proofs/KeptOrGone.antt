@@ -111,7 +111,7 @@ module _ (ws : List Numbered) (first : ℕ) (sent : List Entry) (line : IsLine w
       pub late : L place
       pub near : of < index + 2 ^ 15
 
-    module _ (x : ChunkPayloadData) (told : Bool) (old new : ReassemblyState) (pushes : Pushes x told old new) (h : Well old)
+    module _ (x : ChunkPayloadData) (answered : Bool) (old new : ReassemblyState) (pushes : Pushes x answered old new) (h : Well old)
         (fresh : Every (λ (s : ChunkSet). list_any (has_tsn x.tsn) s.chunks ≡ false) old.held.ordered) (C : ℕ → Type 0) where
       abbrev Now : Type 0
       Now = IsCurrent (base first) n (λ k. begun_to st k sent) (begun_to st a sent) (begun_to st n sent) L new.held
@@ -136,15 +136,15 @@ module _ (ws : List Numbered) (first : ℕ) (sent : List Entry) (line : IsLine w
 
           held : new.held ≡ record old.held { ordered = sets_with x old.held.ordered }
           held =
-              ap (λ (q : ReassemblyState). q.held) (subst (λ b. PushesAs b x told old new) u pushes).0
+              ap (λ (q : ReassemblyState). q.held) (subst (λ b. PushesAs b x answered old new) u pushes).0
               ∙ put-in p n (λ k. begun_to st k sent) Pieces C at-in place-in x h.current.index e.of old.held h.current.next e.number
               (let b = e.begun in omega (arith, after, b)) e.near
 
       put-unordered : x.unordered ≡ true → Now × Weighs
-      put-unordered u = (same told b, weighs)
+      put-unordered u = (same answered b, weighs)
         where
-          b : BecomesComplete (insert_before chunk_before x old.held.unassembled) old.held new.held told
-          b = (subst (λ k. PushesAs k x told old new) u pushes).0
+          b : BecomesComplete (insert_before chunk_before x old.held.unassembled) old.held new.held answered
+          b = (subst (λ k. PushesAs k x answered old new) u pushes).0
 
           same : (k : Bool) → BecomesComplete (insert_before chunk_before x old.held.unassembled) old.held new.held k → Now
           same true t =
@@ -156,7 +156,7 @@ module _ (ws : List Numbered) (first : ℕ) (sent : List Entry) (line : IsLine w
 
           weighs : (w : ChunkPayloadData → ℕ) → weight w new.held ≡ w x + weight w old.held
           weighs w =
-              let e = weights.becomes w (insert_before chunk_before x old.held.unassembled) old.held new.held told b in
+              let e = weights.becomes w (insert_before chunk_before x old.held.unassembled) old.held new.held answered b in
               let m = sum_by-inserted w chunk_before x old.held.unassembled in
               omega (arith, e, m)
 
@@ -170,10 +170,10 @@ module _ (ws : List Numbered) (first : ℕ) (sent : List Entry) (line : IsLine w
               let o = orderly-both old h.orderly in (
                 record {
                   current = r.0;
-                  tidy = pushed-tidy p n few x fit.0 fit.1 told old new pushes fresh bare h.tidy;
+                  tidy = pushed-tidy p n few x fit.0 fit.1 answered old new pushes fresh bare h.tidy;
                   orderly =
-                      and (all_complete new.held.unordered) (is_unmixed new.si new.held) (pushed-complete x told old new pushes o.0)
-                      (ap (λ k. is_unmixed k new.held) (pushed-number x told old new pushes) ∙ pushed-unmixed x told old new on pushes o.1);
+                      and (all_complete new.held.unordered) (is_unmixed new.si new.held) (pushed-complete x answered old new pushes o.0)
+                      (ap (λ k. is_unmixed k new.held) (pushed-number x answered old new pushes) ∙ pushed-unmixed x answered old new on pushes o.1);
                 },
                 r.1,
               )

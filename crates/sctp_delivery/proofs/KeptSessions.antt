@@ -29,7 +29,7 @@ use Rattle.sctp_delivery.proofs.SpreadCalls.{sender-spreads}
 use Rattle.sctp_delivery.proofs.TsnPlaces.{base, same-place}
 use Rattle.sctp_delivery.proofs.UnwrappedHolds as holds
 use Rattle.sctp_delivery.proofs.UnwrappedSessions as sessions
-use Rattle.sctp_delivery.proofs.UnwrappedSessions.{IsUnwrapped, receiver-unwrapped, sender-told, unwrapped-first}
+use Rattle.sctp_delivery.proofs.UnwrappedSessions.{IsUnwrapped, receiver-unwrapped, sender-answered, unwrapped-first}
 
 -- ## One call more
 
@@ -57,9 +57,9 @@ module _ (first size max most : ℕ) (limits : Option Limits) (n : ℕ) (few : n
       (sym k.unwrapped.spread.step.numbered.acked_is ∙ sym (ap (λ (s : Session). s.sending.sender.flight.acked_tsn) f.after)
       ∙ j.spread.step.numbered.acked_is)
 
-  after : (st : ℕ) → calls.Told first n few old new ns sent k.unwrapped gone st new
+  after : (st : ℕ) → calls.Answered first n few old new ns sent k.unwrapped gone st new
   after st = subst (λ a. holds.AreDue (base first) st n (λ m. begun_to st m sent) (λ m. is_at st m sent) (λ c. WasSent sent (data_of c)) a new.receiving)
-      (sym same) (j.told st).0
+      (sym same) (j.answered st).0
 
   other : (st : ℕ) (c : ReceiverCall) → calls.IsOther first n few old new ns sent k.unwrapped gone st c → ReceiverFollows c old new
       → IsKeptBut first sent st n k.unwrapped.spread.step.numbered.acked gone old.made new.receiving
@@ -94,25 +94,25 @@ sender-kept first n gone call old new ns sent few f k =
     let small : n < 2 ^ 31 = omega (arith, few) in
     let m = n + distance (next_tsn old) (next_tsn new) in
     let x = sender-spreads first n call old new ns sent i.spread few f in
-    let told = λ (st : ℕ). sender-told st first n call old new ns sent i.spread few f x (i.told st) in (
+    let answered = λ (st : ℕ). sender-answered st first n call old new ns sent i.spread few f x (i.answered st) in (
       x.more,
       record {
-        unwrapped = record { spread = x.spread; told = told };
+        unwrapped = record { spread = x.spread; answered = answered };
         passed = sender-passes first n gone call old new ns sent i.spread few f x k.passed;
         kept = λ st.
-            let d = (i.told st).0 in
-            let e = (told st).0 in
-            let w = d.heard.within in
-            let v = e.heard.within in
-            let least = e.heard.least_is in
-            let same : e.heard.place ≡ d.heard.place =
-            same-place (base first) e.heard.place d.heard.place (omega (arith, v, few)) (omega (arith, w, small))
-            (sym e.heard.is ∙ ap (λ (s : Session). s.receiving.receiver.cumulative_tsn) f.after ∙ d.heard.is) in
+            let d = (i.answered st).0 in
+            let e = (answered st).0 in
+            let w = d.arrived.within in
+            let v = e.arrived.within in
+            let least = e.arrived.least_is in
+            let same : e.arrived.place ≡ d.arrived.place =
+            same-place (base first) e.arrived.place d.arrived.place (omega (arith, v, few)) (omega (arith, w, small))
+            (sym e.arrived.is ∙ ap (λ (s : Session). s.receiving.receiver.cumulative_tsn) f.after ∙ d.arrived.is) in
             subst (λ (s : Session). IsKeptBut first x.more st m x.spread.step.numbered.acked (gone ++ abandoned_by call old.sending.sender) s.made
             s.receiving) (sym f.after)
             (keeps-more (numbered_after call ns) first sent x.more x.spread.holds.held.stands.queued.line x.spread.holds.held.stands.queued.joined x.once n m
             i.spread.long x.spread.long few st i.spread.step.numbered.acked x.spread.step.numbered.acked old.receiving d (omega (arith, least, same))
-            (calls.unheard first n small old old ns sent i gone st) gone (gone ++ abandoned_by call old.sending.sender) old.made
+            (calls.unarrived first n small old old ns sent i gone st) gone (gone ++ abandoned_by call old.sending.sender) old.made
             (made_after call old.sending.sender old.made) (gone-left gone (abandoned_by call old.sending.sender))
             (λ t. made_in.more-made (passes t) call old.sending.sender old.made) (sessions.near st first n old ns sent i.spread small) (k.kept st));
       },
@@ -132,16 +132,16 @@ module _ (first size max most : ℕ) (limits : Option Limits) where
       → HasKept first (n + tsns_given old cs new r) (gone ++ abandoned_in old cs new r) new
   kept-after n gone bs [] old new run ns sent r few k =
       subst (λ m. HasKept first m (gone ++ []) new) {x = n} {y = n + 0} (omega arith)
-      (subst (λ told. HasKept first n told new) (sym (append-nil gone))
+      (subst (λ answered. HasKept first n answered new) (sym (append-nil gone))
       (subst (HasKept first n gone) (sym r) (record { numbered = ns; sent = sent; kept = k })))
   kept-after n gone bs (of_sender call ∷ cs) old new run ns sent r few k =
       let d = distance (next_tsn old) (next_tsn r.0) in
-      let told = abandoned_by call old.sending.sender in
+      let answered = abandoned_by call old.sending.sender in
       let x = sender-kept first n gone call old r.0 ns sent (omega (arith, few)) r.1.0 k in
       let sum : (n + d) + tsns_given r.0 cs new r.1.1 ≡ n + (d + tsns_given r.0 cs new r.1.1) = omega arith in
-      subst (λ m. HasKept first m (gone ++ (told ++ abandoned_in r.0 cs new r.1.1)) new) sum
-      (subst (λ all. HasKept first ((n + d) + tsns_given r.0 cs new r.1.1) all new) (append_assoc gone told (abandoned_in r.0 cs new r.1.1))
-      (kept-after (n + d) (gone ++ told) (bs ++ of_sender call ∷ []) cs r.0 new
+      subst (λ m. HasKept first m (gone ++ (answered ++ abandoned_in r.0 cs new r.1.1)) new) sum
+      (subst (λ all. HasKept first ((n + d) + tsns_given r.0 cs new r.1.1) all new) (append_assoc gone answered (abandoned_in r.0 cs new r.1.1))
+      (kept-after (n + d) (gone ++ answered) (bs ++ of_sender call ∷ []) cs r.0 new
       (runs-on bs (at_start first size max most limits) old r.0 (of_sender call) run r.1.0) (numbered_after call ns) x.0 r.1.1 (omega (arith, few)) x.1))
   kept-after n gone bs (of_receiver call ∷ cs) old new run ns sent r few k =
       let d = distance (next_tsn old) (next_tsn r.0) in

@@ -26,13 +26,13 @@ pub mod GivenTsns
 pub mod PassedTsns
 pub mod PassedMessages
 pub mod SpreadFlight
-pub mod HeardTsns
+pub mod ArrivedTsns
 pub mod ReportedTsns
-pub mod HeardCalls
+pub mod ArrivedCalls
 pub mod TakenTsns
 pub mod TakenCalls
-pub mod ToldTsns
-pub mod ToldCalls
+pub mod AnsweredTsns
+pub mod AnsweredCalls
 pub mod ValidMarks
 pub mod SackSteps
 pub mod SackMarks
@@ -69,7 +69,7 @@ pub mod UnwrappedHolds
 pub mod UnwrappedCalls
 pub mod UnwrappedSessions
 pub mod UnwrappedLaw
-pub mod UnwrappedHeard
+pub mod UnwrappedArrived
 pub mod MessagePlaces
 pub mod MessageSets
 pub mod MessageSpans

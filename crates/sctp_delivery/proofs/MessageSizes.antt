@@ -92,10 +92,10 @@ every-mapped : (P : InboundStream → Type 0) (f : InboundStream → InboundStre
 every-mapped P f keep [] h = tt
 every-mapped P f keep (l ∷ ls) h = (keep l h.0, every-mapped P f keep ls h.1)
 
-pushed-size : (c : ChunkPayloadData) (told : Bool) (old new : ReassemblyState) → Pushes c told old new → new.max_message_size ≡ old.max_message_size
-pushed-size c told old new pushed = by c.unordered pushed
+pushed-size : (c : ChunkPayloadData) (answered : Bool) (old new : ReassemblyState) → Pushes c answered old new → new.max_message_size ≡ old.max_message_size
+pushed-size c answered old new pushed = by c.unordered pushed
   where
-    by : (b : Bool) → PushesAs b c told old new → new.max_message_size ≡ old.max_message_size
+    by : (b : Bool) → PushesAs b c answered old new → new.max_message_size ≡ old.max_message_size
     by false h = ap (λ (s : ReassemblyState). s.max_message_size) h.0
     by true h = ap (λ (s : ReassemblyState). s.max_message_size) h.1
 
@@ -110,10 +110,10 @@ module _ (most : ℕ) where
     each = every-joined P old.receiving.receiver.streams (new_stream stream old.receiving.receiver.max_message_size ∷ []) s.each (s.own, tt);
   })
   sized-after (incoming.takes c Repeat) old new f s = subst (AreSized most) (sym f.step.receiver) (record { own = s.own; each = s.each })
-  sized-after (incoming.takes c (New told)) old new f s =
+  sized-after (incoming.takes c (New answered)) old new f s =
       let r = old.receiving.receiver in
       let acc = f.step.receiver in
-      let size : acc.queue.max_message_size ≡ most = pushed-size c told acc.stream.queue acc.queue acc.pushed
+      let size : acc.queue.max_message_size ≡ most = pushed-size c answered acc.stream.queue acc.queue acc.pushed
       ∙ every-found P (has_number c.stream_identifier) r.streams acc.stream acc.found s.each in
       subst (AreSized most) (sym acc.after) (record {
         own = s.own;

@@ -112,9 +112,6 @@ module _ (st first n : ℕ) (few : n < 2 ^ 31) (s : Session) (ns : List Numbered
   up : (j k : ℕ) → j ≤ k → B j ≤ B k
   up = sessions.grows st first n s ns sent i few
 
-  near : B n ≤ B i.step.numbered.acked + 2 ^ 14
-  near = sessions.near st first n s ns sent i few
-
   -- an incomplete set misses a TSN of its message, where all its chunks stand before the place
   upto : (j m : ℕ) → j ≤ m → m ≤ n → at_or_before (tsn p j) (tsn p m) ≡ true
   upto j m le most =
@@ -239,16 +236,16 @@ module _ (st first n : ℕ) (few : n < 2 ^ 31) (s : Session) (ns : List Numbered
       ]
 
       -- a place of the lowest message, up to the cumulative TSN, is of the front set
-      in-front : (z : ℕ) → z ≤ d.heard.place → E z ≡ true → B z ≡ due.low + 1
+      in-front : (z : ℕ) → z ≤ d.arrived.place → E z ≡ true → B z ≡ due.low + 1
           → (x : ChunkSet) × (xs : List ChunkSet) × (held.ordered ≡ x ∷ xs) × (has z x ≡ true)
       in-front z le on begun = by held.ordered refl (kept (due.kept z (omega (arith, le, w)) (on, come-upto)))
         where
-          w : d.heard.place ≤ n
-          w = d.heard.within
+          w : d.arrived.place ≤ n
+          w = d.arrived.within
 
           come-upto : come (tsn p z) r.cumulative_tsn r.beyond ≡ true
           come-upto = or-left (at_or_before (tsn p z) r.cumulative_tsn) (list_any (λ u. u == tsn p z) r.beyond)
-              (ap (at_or_before (tsn p z)) d.heard.is ∙ upto z d.heard.place le w)
+              (ap (at_or_before (tsn p z)) d.arrived.is ∙ upto z d.arrived.place le w)
 
           kept : (B z ≤ due.index) ⊎ (list_any (has z) held.ordered ≡ true) → list_any (has z) held.ordered ≡ true
           kept (inl h) = absurd (omega (arith, h, begun, lowest-next))
@@ -270,19 +267,19 @@ module _ (st first n : ℕ) (few : n < 2 ^ 31) (s : Session) (ns : List Numbered
       some-there z (c ∷ cs) h = refl
 
       -- so no message but it was begun up to the cumulative TSN, from it on
-      pub begun-low : B d.heard.place ≤ due.low + 1
-      begun-low = elim (cases_lt (due.low + 1) (B d.heard.place)) [
+      pub begun-low : B d.arrived.place ≤ due.low + 1
+      begun-low = elim (cases_lt (due.low + 1) (B d.arrived.place)) [
         | inr ge ↦ ge
         | inl lt ↦ absurd (stuck lt)
       ]
         where
-          stuck : due.low + 1 < B d.heard.place → ⊥
+          stuck : due.low + 1 < B d.arrived.place → ⊥
           stuck lt =
-              let z = begin-place st d.heard.place due.low sent (omega (arith, lt)) in
+              let z = begin-place st d.arrived.place due.low sent (omega (arith, lt)) in
               let f = in-front z.0 z.1 z.2 z.3 in
               let a = subst (Sets due.low) f.2 due.sets in
               let le = due.from in
-              let w = d.heard.within in
+              let w = d.arrived.within in
               let l = z.1 in
               let b = at-in p st n B E M few up a.0 z.0 f.0.chunks (omega (arith, l, w)) a.1.1 f.3 in
               let begun = z.3 in
@@ -298,9 +295,9 @@ module _ (st first n : ℕ) (few : n < 2 ^ 31) (s : Session) (ns : List Numbered
                   → at_or_before16 x.ssn held.next_ssn ≡ true → (b : Bool) → is_complete x.chunks ≡ b → list_any (λ c. true) x.chunks ≡ true → ⊥
               by x xs is a same at true whole some = not-readable x xs is whole at
               by x xs is a same at false open' some =
-                  let w = d.heard.within in
-                  let e = incomplete-misses d.heard.place a.0 x.chunks (omega (arith, same, lt)) w a.1.1 open' some in
-                  let z = sessions.missed st first n s ns sent i few d.heard.place a.0 x.chunks w a.1.1 e in
+                  let w = d.arrived.within in
+                  let e = incomplete-misses d.arrived.place a.0 x.chunks (omega (arith, same, lt)) w a.1.1 open' some in
+                  let z = sessions.missed st first n s ns sent i few d.arrived.place a.0 x.chunks w a.1.1 e in
                   let begun = z.3 in
                   let f = in-front z.0 z.1 z.2 (omega (arith, begun, same)) in
                   let head : f.0 ≡ x = front-same f.0 f.1 x xs (sym f.2 ∙ is) in

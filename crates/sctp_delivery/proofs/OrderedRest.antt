@@ -9,7 +9,7 @@ use Rattle.sctp_data.specs.declared.chunk.chunk_payload_data.ChunkPayloadData.{C
 use Rattle.sctp_outbound.specs.declared.pending_queue.Selected.{Selected}
 use Rattle.sctp_outbound.specs.Marks.{is_of}
 use Rattle.sctp_outbound.specs.pending_queue.PendingQueue.{Pending, last_of, last_removed}
-use Rattle.sctp_outbound.specs.pending_queue.Whole.{IsSendable, IsWhole, begun, free, half_of, partially_sent, stage_of}
+use Rattle.sctp_outbound.specs.pending_queue.Whole.{IsSendable, IsWhole, begun, free, partial_of, partially_sent, stage_of}
 use Rattle.sctp_outbound.proofs.lemmas.pending_queue.CompleteMessages.{none_before}
 use Rattle.sctp_delivery.proofs.Every.{Every, every-joined}
 use Rattle.sctp_delivery.proofs.OrderedEntries.{AreIndexed, IsLatest, begun_on, ends_on, latest-here}
@@ -84,9 +84,9 @@ rest-from ws kind first n m (fragment e v rest ∷ xs) (c ∷ cs) i l w h =
 pub last-rest : (ws : List Numbered) (first : ℕ) (number : ℕ → ℕ) (sent : List Entry) (m : ℕ) (c : ChunkPayloadData) (p : Pending)
     (xs : List ChunkPayloadData) (n : ℕ) → IsSendable p xs n → partially_sent p ≡ Some m → last_removed m p ≡ Some c → Queued ws first number p sent
     → IsRest sent c
-last-rest ws first number sent m c p xs n s half last q =
+last-rest ws first number sent m c p xs n s partial last q =
     last-is (IsRest sent) (filter (is_of m) p.ordered ++ filter (is_of m) p.unordered) c last
-    (by p.selected half s.ordered s.unordered q.ordered q.unordered)
+    (by p.selected partial s.ordered s.unordered q.ordered q.unordered)
   where
     there : (kind : Bool) (cs : List ChunkPayloadData) → IsWhole kind n (begun m) cs → list_any (is_of m) cs ≡ true
     there kind [] w = absurd w
@@ -105,7 +105,7 @@ last-rest ws first number sent m c p xs n s half last q =
         (rest-from ws false first n m sent p.ordered q.indexed q.line v h)
         (none-pass (IsRest sent) (is_of m) p.unordered (s.apart m (there false p.ordered v)))
 
-    by : (sel : Option Selected) → half_of sel ≡ Some m → IsWhole false n (stage_of false sel) p.ordered
+    by : (sel : Option Selected) → partial_of sel ≡ Some m → IsWhole false n (stage_of false sel) p.ordered
         → IsWhole true n (stage_of true sel) p.unordered → Waits ws p.ordered (place_of false sel sent) → Waits ws p.unordered (place_of true sel sent)
         → Every (IsRest sent) (filter (is_of m) p.ordered ++ filter (is_of m) p.unordered)
     by None e v w h g = absurd (none-some m e)

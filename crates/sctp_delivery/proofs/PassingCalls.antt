@@ -340,10 +340,10 @@ pub sender-passes : (first n : ℕ) (gone : List ℕ) (call : SenderCall) (old n
     → IsPassed first (gone ++ abandoned_by call old.sending.sender) new (numbered_after call ns) x.more
 sender-passes first n gone call old new ns sent i few f x h =
     let small : n < 2 ^ 31 = omega (arith, few) in
-    let told = abandoned_by call old.sending.sender in
-    let more = gone ++ told in
-    let later : AreAmong gone more = gone-left gone told in
-    let among : AreAmong told more = gone-right gone told in
+    let answered = abandoned_by call old.sending.sender in
+    let more = gone ++ answered in
+    let later : AreAmong gone more = gone-left gone answered in
+    let among : AreAmong answered more = gone-right gone answered in
     let valid = i.step.valid in
     let marked = marked-later gone more later (flight_of old).queue.inflight.chunks h.marked in
     let before = passing-later (base first) gone more old old sent sent later (λ k e. e) (inl refl) old.made h.passing in
@@ -355,7 +355,7 @@ sender-passes first n gone call old new ns sent i few f x h =
           (begun-later gone more later (length ns) sent (flight_of old).queue.pending h.begun') call among f x.grown;
       below =
           below-after call ns more
-          (every-joined (λ m. m < length ns) gone told h.below
+          (every-joined (λ m. m < length ns) gone answered h.below
           (by-below ns first (λ s. number_of s old.sending.sender.streams) call old.sending.sender sent i.holds.held.stands));
       passing =
           subst (Every (IsMadePassing (base first) more new x.more)) (sym (ap (λ (s : Session). s.made) f.after))

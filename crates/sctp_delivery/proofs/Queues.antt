@@ -16,9 +16,9 @@ use Rattle.sctp_outbound.specs.outbound_queue.OutboundQueue.{tsn_after_of, with_
 use Rattle.sctp_outbound.specs.payload_queue.PayloadQueue as payload
 use Rattle.sctp_outbound.specs.pending_queue.PendingQueue.{is_to_start, last_removed, next_pending, selected_without, start_pending, with_deadline, without}
 use Rattle.sctp_outbound.specs.pending_queue.PendingQueue.{without_message}
-use Rattle.sctp_outbound.specs.pending_queue.Whole.{IsSendable, IsWhole, begun, free, half_of, partially_sent, waits}
+use Rattle.sctp_outbound.specs.pending_queue.Whole.{IsSendable, IsWhole, begun, free, partial_of, partially_sent, waits}
 use Rattle.sctp_outbound.proofs.lemmas.outbound_queue.Abandoned.{abandoned_none, last_is_of, no_last, sendable-abandoned}
-use Rattle.sctp_outbound.proofs.lemmas.outbound_queue.Sendable.{half_gone, sendable-changed, sendable-fewer, sendable-marked, sendable-sent}
+use Rattle.sctp_outbound.proofs.lemmas.outbound_queue.Sendable.{partial_gone, sendable-changed, sendable-fewer, sendable-marked, sendable-sent}
 use Rattle.sctp_outbound.proofs.lemmas.pending_queue.CompleteMessages.{KeepsMessage}
 use Rattle.sctp_serial.specs.DataChunks.{chunk_before, following_tsn}
 use Rattle.sctp_list_lemmas.proofs.Edits.{list_any-inserted, list_any-those}
@@ -278,15 +278,15 @@ module _ (ws : List Numbered) (first : ℕ) (number : ℕ → ℕ) (q : Outbound
   rest-abandoned : waits m q.pending ≡ true → partially_sent q.pending ≡ Some m → (o : Option ChunkPayloadData) → last_removed m q.pending ≡ o
       → Abandons ws first number sent q (record q { pending = without m q.pending; inflight = with_terminal_chunk o next (payload.with_chunks q.inflight xs) })
       (following_tsn next)
-  rest-abandoned e half None f = absurd (no_last m q.pending e f)
-  rest-abandoned e half (Some c) f =
+  rest-abandoned e partial None f = absurd (no_last m q.pending e f)
+  rest-abandoned e partial (Some c) f =
       let t = terminal_chunk next c in
-      let rest = last-rest ws first number sent m c q.pending q.inflight.chunks q.next_message_id s.sendable half f s.queued in
-      let gone : partially_sent (without m q.pending) ≡ None = half_gone m q.pending.selected half in
+      let rest = last-rest ws first number sent m c q.pending q.inflight.chunks q.next_message_id s.sendable partial f s.queued in
+      let gone : partially_sent (without m q.pending) ≡ None = partial_gone m q.pending.selected partial in
       record {
         more = terminal ∷ sent;
         stands = record {
-          queued = selected q.pending.selected half s.sendable s.queued;
+          queued = selected q.pending.selected partial s.sendable s.queued;
           sendable = sendable-abandoned q.pending q.inflight.chunks q.next_message_id m t (last_is_of m q.pending c f) e s.sendable;
           known = known-inserted first (terminal ∷ sent) chunk_before t xs (
             (λ o. absurd (abandoned-not t refl o)),
@@ -311,10 +311,10 @@ module _ (ws : List Numbered) (first : ℕ) (number : ℕ → ℕ) (q : Outbound
         };
         ended = inr refl;
         last = inr gone;
-        none = λ h. absurd (none-some m (sym h ∙ half));
+        none = λ h. absurd (none-some m (sym h ∙ partial));
       }
     where
-      selected : (sel : Option Selected) → half_of sel ≡ Some m → IsSendable (record q.pending { selected = sel }) q.inflight.chunks q.next_message_id
+      selected : (sel : Option Selected) → partial_of sel ≡ Some m → IsSendable (record q.pending { selected = sel }) q.inflight.chunks q.next_message_id
           → Queued ws first number (record q.pending { selected = sel }) sent
           → Queued ws first number (without m (record q.pending { selected = sel })) (terminal ∷ sent)
       selected None h k r = absurd (none-some m h)
@@ -324,11 +324,11 @@ module _ (ws : List Numbered) (first : ℕ) (number : ℕ → ℕ) (q : Outbound
 pub abandoned : (ws : List Numbered) (first : ℕ) (number : ℕ → ℕ) (q : Outbound) (next : ℕ) (sent : List Entry) → Stands ws first number q next sent
     → (o : Option ℕ) → ((m : ℕ) → o ≡ Some m → waits m q.pending ≡ true → partially_sent q.pending ≡ Some m)
     → Abandons ws first number sent q (abandoned_of o next q) (tsn_after_of o next q)
-abandoned ws first number q next sent s None half = no-abandons ws first number sent q next s
-abandoned ws first number q next sent s (Some m) half = by (waits m q.pending) refl
+abandoned ws first number q next sent s None partial = no-abandons ws first number sent q next s
+abandoned ws first number q next sent s (Some m) partial = by (waits m q.pending) refl
   where
     by : (b : Bool) → waits m q.pending ≡ b → Abandons ws first number sent q (abandon_chunks m next q) (if waits m q.pending then following_tsn next else next)
     by true e = subst (λ b. Abandons ws first number sent q (abandon_chunks m next q) (if b then following_tsn next else next)) (sym e)
-        (rest-abandoned ws first number q next sent s m e (half m refl e) (last_removed m q.pending) refl)
+        (rest-abandoned ws first number q next sent s m e (partial m refl e) (last_removed m q.pending) refl)
     by false e = subst (λ b. Abandons ws first number sent q (abandon_chunks m next q) (if b then following_tsn next else next)) (sym e)
         (whole-abandoned ws first number q next sent s m e)

@@ -19,10 +19,10 @@ use Rattle.sctp_outbound.specs.payload_queue.PayloadQueue as payload
 use Rattle.sctp_outbound.specs.pending_queue.PendingQueue.{Pending, chunk_count, chunk_to_pop_from, closed_up, is_to_start, last_removed, list_to_pop}
 use Rattle.sctp_outbound.specs.pending_queue.PendingQueue.{next_pending, one_lower, rest_after, rest_from, selected_after, start_pending, with_deadline}
 use Rattle.sctp_outbound.specs.pending_queue.PendingQueue.{without, without_message}
-use Rattle.sctp_outbound.specs.pending_queue.Whole.{GoesOn, IsSendable, half_of, partially_sent, waits}
-use Rattle.sctp_outbound.proofs.lemmas.outbound_queue.Abandoned.{abandoned_none, half_waits, last_is_of, no_last}
-use Rattle.sctp_outbound.proofs.lemmas.outbound_queue.Sendable.{goes_on, half_gone, made, sendable-sent}
-use Rattle.sctp_outbound.proofs.lemmas.outbound_queue.SideBySide.{half_before}
+use Rattle.sctp_outbound.specs.pending_queue.Whole.{GoesOn, IsSendable, partial_of, partially_sent, waits}
+use Rattle.sctp_outbound.proofs.lemmas.outbound_queue.Abandoned.{abandoned_none, partial_waits, last_is_of, no_last}
+use Rattle.sctp_outbound.proofs.lemmas.outbound_queue.Sendable.{goes_on, partial_gone, made, sendable-sent}
+use Rattle.sctp_outbound.proofs.lemmas.outbound_queue.SideBySide.{partial_before}
 use Rattle.sctp_serial.specs.DataChunks.{chunk_before, following_tsn, is_on}
 use Rattle.sctp_sender.specs.Flight.{tsns_from}
 use Rattle.sctp_sender.proofs.Flights.{behind}
@@ -55,8 +55,8 @@ count-facts cs = length-map cs facts
 -- the same is so of the chunks in flight, the same message is partially sent, and no more chunks wait
 pub same-goes : (b : Bool) (q r : Outbound) → facts_of r.inflight.chunks ≡ facts_of q.inflight.chunks
     → partially_sent r.pending ≡ partially_sent q.pending → (b ≡ true → chunk_count r.pending ≤ chunk_count q.pending) → Goes b q r
-same-goes b q r same half fewer = record {
-  continued = λ c. subst (λ o. AreContinued o (facts_of r.inflight.chunks)) (sym half) (subst (AreContinued (partially_sent q.pending)) (sym same) c);
+same-goes b q r same partial fewer = record {
+  continued = λ c. subst (λ o. AreContinued o (facts_of r.inflight.chunks)) (sym partial) (subst (AreContinued (partially_sent q.pending)) (sym same) c);
   fewer = λ e.
       let le = fewer e in
       let n = ap length same in
@@ -112,23 +112,23 @@ popped (Some false) [] us sel ro ru c h = absurd (none-some c h)
 popped (Some false) (o ∷ os) us sel ro ru c h = omega arith
 
 -- and where it does not end its message, that is partially sent
-on-sel : (kind : Bool) (c : ChunkPayloadData) (sel : Option Selected) → c.ending_fragment ≡ false → ((m : ℕ) → half_of sel ≡ Some m → c.message_id ≡ m)
-    → half_of (selected_after sel kind c) ≡ Some c.message_id
-on-sel kind c None e on = ap (λ b. half_of (if b then None else Some (let s : Selected = record { message_id = c.message_id; unordered = kind } in s))) e
-on-sel kind c (Some s) e on = ap (λ b. half_of (if b && (c.message_id == s.message_id) then None else Some s)) e ∙ ap Some (sym (on s.message_id refl))
+on-sel : (kind : Bool) (c : ChunkPayloadData) (sel : Option Selected) → c.ending_fragment ≡ false → ((m : ℕ) → partial_of sel ≡ Some m → c.message_id ≡ m)
+    → partial_of (selected_after sel kind c) ≡ Some c.message_id
+on-sel kind c None e on = ap (λ b. partial_of (if b then None else Some (let s : Selected = record { message_id = c.message_id; unordered = kind } in s))) e
+on-sel kind c (Some s) e on = ap (λ b. partial_of (if b && (c.message_id == s.message_id) then None else Some s)) e ∙ ap Some (sym (on s.message_id refl))
 
-half-on : (k : Option Bool) (os us : List ChunkPayloadData) (sel : Option Selected) (ro ru : ℕ) (c : ChunkPayloadData)
-    → chunk_to_pop_from k (made os us sel ro ru) ≡ Some c → c.ending_fragment ≡ false → ((m : ℕ) → half_of sel ≡ Some m → c.message_id ≡ m)
+partial-on : (k : Option Bool) (os us : List ChunkPayloadData) (sel : Option Selected) (ro ru : ℕ) (c : ChunkPayloadData)
+    → chunk_to_pop_from k (made os us sel ro ru) ≡ Some c → c.ending_fragment ≡ false → ((m : ℕ) → partial_of sel ≡ Some m → c.message_id ≡ m)
     → partially_sent (rest_from k (made os us sel ro ru)) ≡ Some c.message_id
-half-on None os us sel ro ru c h e on = absurd (none-some c h)
-half-on (Some true) os [] sel ro ru c h e on = absurd (none-some c h)
-half-on (Some true) os (u ∷ us) sel ro ru c h e on =
+partial-on None os us sel ro ru c h e on = absurd (none-some c h)
+partial-on (Some true) os [] sel ro ru c h e on = absurd (none-some c h)
+partial-on (Some true) os (u ∷ us) sel ro ru c h e on =
     let same : u ≡ c = some-same h in
-    ap (λ x. half_of (selected_after sel true x)) same ∙ on-sel true c sel e on
-half-on (Some false) [] us sel ro ru c h e on = absurd (none-some c h)
-half-on (Some false) (o ∷ os) us sel ro ru c h e on =
+    ap (λ x. partial_of (selected_after sel true x)) same ∙ on-sel true c sel e on
+partial-on (Some false) [] us sel ro ru c h e on = absurd (none-some c h)
+partial-on (Some false) (o ∷ os) us sel ro ru c h e on =
     let same : o ≡ c = some-same h in
-    ap (λ x. half_of (selected_after sel false x)) same ∙ on-sel false c sel e on
+    ap (λ x. partial_of (selected_after sel false x)) same ∙ on-sel false c sel e on
 
 goes-with : (m : ℕ) (c : ChunkPayloadData) (o : Option ChunkPayloadData) → o ≡ Some c → GoesOn m o → c.message_id ≡ m
 goes-with m c None e g = absurd g
@@ -142,8 +142,8 @@ sent-goes q tsn now k can (Some c) e unmarked = record {
   continued = λ s.
       subst (AreContinued (partially_sent (rest_after c.beginning_fragment c.unordered p))) (sym all)
       (sent-continued (partially_sent p) (partially_sent (rest_after c.beginning_fragment c.unordered p)) c.message_id c.ending_fragment
-      (facts_of q.inflight.chunks) half (λ f. half-on (list_to_pop p.selected c.beginning_fragment c.unordered) p.ordered p.unordered p.selected
-      p.ordered_room p.unordered_room c on f half) s);
+      (facts_of q.inflight.chunks) partial (λ f. partial-on (list_to_pop p.selected c.beginning_fragment c.unordered) p.ordered p.unordered p.selected
+      p.ordered_room p.unordered_room c on f partial) s);
   fewer = λ _.
       let n = popped (list_to_pop p.selected c.beginning_fragment c.unordered) p.ordered p.unordered p.selected p.ordered_room p.unordered_room c on in
       let m = ap length at-end in
@@ -157,8 +157,8 @@ sent-goes q tsn now k can (Some c) e unmarked = record {
     on : chunk_to_pop_from (list_to_pop q.pending.selected c.beginning_fragment c.unordered) q.pending ≡ Some c
     on = (sendable-sent q.pending q.inflight.chunks q.next_message_id c (as_sent tsn now c) refl k e).taken
 
-    half : (m : ℕ) → half_of q.pending.selected ≡ Some m → c.message_id ≡ m
-    half m h = goes-with m c (next_pending q.pending) e (goes_on q.pending q.inflight.chunks q.next_message_id m k h)
+    partial : (m : ℕ) → partial_of q.pending.selected ≡ Some m → c.message_id ≡ m
+    partial m h = goes-with m c (next_pending q.pending) e (goes_on q.pending q.inflight.chunks q.next_message_id m k h)
 
     at-end : insert_before chunk_before (as_sent tsn now c) q.inflight.chunks ≡ q.inflight.chunks ++ as_sent tsn now c ∷ []
     at-end = put-behind (as_sent tsn now c) q.inflight.chunks can.first can.small can.few can.run can.is
@@ -239,23 +239,23 @@ module _ (q : Outbound) (tsn : ℕ) (k : IsSendable q.pending q.inflight.chunks 
   whole-goes w = record {
     continued = λ s.
         subst (AreContinued (partially_sent q.pending)) (sym (facts-abandoned m q.inflight.chunks))
-        (abandoned-continued (partially_sent q.pending) m (facts_of q.inflight.chunks) (λ half. not_both (sym w ∙ waiting half)) s);
+        (abandoned-continued (partially_sent q.pending) m (facts_of q.inflight.chunks) (λ partial. not_both (sym w ∙ waiting partial)) s);
     fewer = λ _. omega (arith, long);
   }
     where
       waiting : partially_sent q.pending ≡ Some m → waits m q.pending ≡ true
-      waiting half =
+      waiting partial =
           let p = q.pending in
-          half_waits p.ordered p.unordered p.selected p.ordered_room p.unordered_room q.next_message_id m q.inflight.chunks k half
+          partial_waits p.ordered p.unordered p.selected p.ordered_room p.unordered_room q.next_message_id m q.inflight.chunks k partial
 
   -- its terminal chunk stands behind those in flight
   ended-goes : waits m q.pending ≡ true → partially_sent q.pending ≡ Some m → CanPut q.inflight.chunks tsn → (o : Option ChunkPayloadData)
       → last_removed m q.pending ≡ o → Goes true q (ended o)
-  ended-goes w half can None e = absurd (no_last m q.pending w e)
-  ended-goes w half can (Some c) e = record {
+  ended-goes w partial can None e = absurd (no_last m q.pending w e)
+  ended-goes w partial can (Some c) e = record {
     continued = λ s.
         subst (AreContinued (partially_sent (without m q.pending))) (sym all)
-        (ended-continued (partially_sent q.pending) (partially_sent (without m q.pending)) m (facts_of q.inflight.chunks) half s);
+        (ended-continued (partially_sent q.pending) (partially_sent (without m q.pending)) m (facts_of q.inflight.chunks) partial s);
     fewer = λ _.
         let n = waiting-gone m q.pending w in
         let a = ap length at-end in
@@ -279,8 +279,8 @@ module _ (q : Outbound) (tsn : ℕ) (k : IsSendable q.pending q.inflight.chunks 
 pub abandoned-goes : (q : Outbound) (tsn : ℕ) → IsSendable q.pending q.inflight.chunks q.next_message_id → (o : Option ℕ)
     → ((m : ℕ) → o ≡ Some m → waits m q.pending ≡ true → partially_sent q.pending ≡ Some m) → HasPlace q tsn
     → Abandons q (abandoned_of o tsn q) (tsn_after_of o tsn q)
-abandoned-goes q tsn k None half place = record { goes = goes-none true q; place = place }
-abandoned-goes q tsn k (Some m) half place = by (waits m q.pending) refl
+abandoned-goes q tsn k None partial place = record { goes = goes-none true q; place = place }
+abandoned-goes q tsn k (Some m) partial place = by (waits m q.pending) refl
   where
     by : (b : Bool) → waits m q.pending ≡ b → Abandons q (abandon_chunks m tsn q) (if waits m q.pending then following_tsn tsn else tsn)
     by false w =
@@ -288,10 +288,10 @@ abandoned-goes q tsn k (Some m) half place = by (waits m q.pending) refl
         (subst (λ r. Abandons q r tsn) (sym (abandoned_none m tsn q k w))
         (record { goes = whole-goes q tsn k m w; place = marked-place q tsn k m place }))
     by true w =
-        let is = half m refl w in
+        let is = partial m refl w in
         record {
           goes = put is place;
-          place = inl (half_gone m q.pending.selected is);
+          place = inl (partial_gone m q.pending.selected is);
         }
       where
         put : partially_sent q.pending ≡ Some m → HasPlace q tsn → Goes true q (abandon_chunks m tsn q)
@@ -301,10 +301,10 @@ abandoned-goes q tsn k (Some m) half place = by (waits m q.pending) refl
 -- ## A message expires
 
 -- a message that is in front whole is not partially sent
-none-half : (q : Outbound) → IsSendable q.pending q.inflight.chunks q.next_message_id → (c : ChunkPayloadData) → next_pending q.pending ≡ Some c
+none-partial : (q : Outbound) → IsSendable q.pending q.inflight.chunks q.next_message_id → (c : ChunkPayloadData) → next_pending q.pending ≡ Some c
     → c.beginning_fragment ≡ true → (o : Option ℕ) → partially_sent q.pending ≡ o → o ≡ None
-none-half q k c e begins None h = refl
-none-half q k c e begins (Some m) h = absurd (inner (next_pending q.pending) e (goes_on q.pending q.inflight.chunks q.next_message_id m k h))
+none-partial q k c e begins None h = refl
+none-partial q k c e begins (Some m) h = absurd (inner (next_pending q.pending) e (goes_on q.pending q.inflight.chunks q.next_message_id m k h))
   where
     inner : (o : Option ChunkPayloadData) → o ≡ Some c → GoesOn m o → ⊥
     inner None f g = g
@@ -315,11 +315,11 @@ pub expired-goes : (q : Outbound) → IsSendable q.pending q.inflight.chunks q.n
 expired-goes q k c e begins = by c.unordered
   where
     none : partially_sent q.pending ≡ None
-    none = none-half q k c e begins (partially_sent q.pending) refl
+    none = none-partial q k c e begins (partially_sent q.pending) refl
 
     still : (o : Option ℕ) → partially_sent (without c.message_id q.pending) ≡ o → o ≡ None
     still None h = refl
-    still (Some j) h = absurd (none-some j (sym none ∙ half_before c.message_id j q.pending.selected h))
+    still (Some j) h = absurd (none-some j (sym none ∙ partial_before c.message_id j q.pending.selected h))
 
     same : partially_sent (without c.message_id q.pending) ≡ partially_sent q.pending
     same = still (partially_sent (without c.message_id q.pending)) refl ∙ sym none

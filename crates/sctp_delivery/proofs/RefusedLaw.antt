@@ -49,7 +49,7 @@ use Rattle.sctp_delivery.proofs.SpreadCalls.{IsSpread}
 use Rattle.sctp_delivery.proofs.SpreadEntries.{begun_to, is_at, made-entry}
 use Rattle.sctp_delivery.proofs.TakenCalls.{HasCome}
 use Rattle.sctp_delivery.proofs.TakenTsns.{come}
-use Rattle.sctp_delivery.proofs.ToldCalls as told
+use Rattle.sctp_delivery.proofs.AnsweredCalls as answered
 use Rattle.sctp_delivery.proofs.TsnPlaces.{IsGiven, base}
 use Rattle.sctp_delivery.proofs.UnwrappedHolds.{AreDue, Came, DueOn, IsOf, rises-put, Fits}
 use Rattle.sctp_delivery.proofs.UnwrappedSessions as sessions
@@ -70,7 +70,7 @@ limits-after : (call : ReceiverCall) (old new : Session) → ReceiverFollows cal
     → new.receiving.receiver.limits ≡ old.receiving.receiver.limits
 limits-after (incoming.opens stream) old new f = ap (λ (r : Reception). r.limits) f.step.receiver.1
 limits-after (incoming.takes c Repeat) old new f = ap (λ (r : Reception). r.limits) f.step.receiver
-limits-after (incoming.takes c (New told)) old new f = ap (λ (r : Reception). r.limits) f.step.receiver.after
+limits-after (incoming.takes c (New answered)) old new f = ap (λ (r : Reception). r.limits) f.step.receiver.after
 limits-after (incoming.follows g) old new f = ap (λ (r : Reception). r.limits) f.step.receiver ∙ by (is_stale g old.receiving.receiver)
   where
     by : (b : Bool) → (if b then old.receiving.receiver else without_incomplete g.new_cumulative_tsn
@@ -137,10 +137,10 @@ module _ (first n : ℕ) (few : n < 2 ^ 31) (s : Session) (h : HasValid first n 
       by : (b : Bool) → c.acked ≡ b → WasSent sent (data_of c)
       by false e = k.0 (and (not c.acked) (not c.abandoned) (ap not e) (ap not kept))
       by true e =
-          let told' = every-contained (λ (y : ChunkPayloadData). is_reported s y ≡ true → (was_taken y.tsn s || y.abandoned) ≡ true) chunks c in'
+          let answered' = every-contained (λ (y : ChunkPayloadData). is_reported s y ≡ true → (was_taken y.tsn s || y.abandoned) ≡ true) chunks c in'
           (every-of-all (λ (y : ChunkPayloadData). is_reported s y ≡ true → (was_taken y.tsn s || y.abandoned) ≡ true) chunks
           (sacks.came p n s few spread.step)) in
-          absurd (elim (or-split (was_taken c.tsn s) c.abandoned (told' (or-left c.acked (list_any (λ sack. reports sack c) s.sacks) e))) [
+          absurd (elim (or-split (was_taken c.tsn s) c.abandoned (answered' (or-left c.acked (list_any (λ sack. reports sack c) s.sacks) e))) [
             | inl t ↦ not_both (sym fresh ∙ taken-came c.tsn t)
             | inr t ↦ not_both (sym kept ∙ t)
           ])
@@ -159,7 +159,7 @@ module _ (first n : ℕ) (few : n < 2 ^ 31) (s : Session) (h : HasValid first n 
     M c = WasSent sent (data_of c)
 
     abbrev d : AreDue p st n B E M spread.step.numbered.acked s.receiving
-    d = (h.valid.unwrapped.told st).0
+    d = (h.valid.unwrapped.answered st).0
 
     abbrev Prior : ℕ → Type 0
     Prior = Came p st n B E M r.cumulative_tsn r.beyond
@@ -197,7 +197,7 @@ module _ (first n : ℕ) (few : n < 2 ^ 31) (s : Session) (h : HasValid first n 
           let past = late (entry.before + 1) (at.1 ∙ on) entry.is in
           let low = begun-low st first n few s h.numbered sent spread d held due valid none in
           let near = sessions.near st first n s h.numbered sent spread few in
-          let least = sessions.grows st first n s h.numbered sent spread few spread.step.numbered.acked d.heard.place d.heard.least_is in
+          let least = sessions.grows st first n s h.numbered sent spread few spread.step.numbered.acked d.arrived.place d.arrived.least_is in
           let top = sessions.grows st first n s h.numbered sent spread few (entry.before + 1) n (omega (arith, within, long)) in
           let from = due.from in
           record {
@@ -272,7 +272,7 @@ module _ (first n : ℕ) (few : n < 2 ^ 31) (s : Session) (h : HasValid first n 
   module _ (x : ChunkPayloadData) (g : IsGiven p n x.tsn) (fresh : has_come x.tsn (filter_of r) ≡ false) (was : WasSent sent (data_of x))
       (l : InboundStream) (there : stream_of x.stream_identifier r ≡ Some l) (unread : x.unordered ≡ false → message_read l.queue.held ≡ None) where
     both-of : Both x g fresh was (Some l)
-    both-of = subst (Both x g fresh was) there ((h.valid.unwrapped.told x.stream_identifier).0.due, h.valid.valid x.stream_identifier)
+    both-of = subst (Both x g fresh was) there ((h.valid.unwrapped.answered x.stream_identifier).0.due, h.valid.valid x.stream_identifier)
 
     near-enough : (not x.unordered && is_ssn_too_far x.stream_sequence_number l.queue.held) ≡ false
     near-enough = by x.unordered refl
@@ -353,7 +353,7 @@ module _ (first n : ℕ) (few : n < 2 ^ 31) (s : Session) (h : HasValid first n 
           else option_or (new_refusal x.tsn r) (stream_refusal x (stream_of x.stream_identifier r))))) ≡ None
       by true e = refl
       by false e =
-          let near = told.near p n r (known s) few spread.step.heard spread.step.order x.tsn g in
+          let near = answered.near p n r (known s) few spread.step.arrived spread.step.order x.tsn g in
           let limits : new_refusal x.tsn r ≡ None = ap (λ o. refusal_by o x.tsn (filter_of r) r.streams) free in
           let stream = on e (stream_of x.stream_identifier r) refl in
           ap (λ b. if b then Some SsnTooFar else (if is_opposite x.tsn (filter_of r) then Some TsnOpposite

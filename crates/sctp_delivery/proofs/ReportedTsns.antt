@@ -1,4 +1,4 @@
--- What a SACK reports, where the filter of which it speaks heard of none but those that were given out.
+-- What a SACK reports, where none arrived at the filter of which it speaks but those that were given out.
 use Rattle.std.proofs.Common.{◌≡◌, ℕ, zero, suc, ◌+◌, ◌-◌, ◌<◌, ◌≤◌, ◌^◌, Bool, true, false, List, [], ◌∷◌, length, map, take, Some, None, refl, ap, sym, subst}
 use Rattle.std.proofs.Common.{◌∙◌, inl, inr, arith}
 use Rattle.std.specs.Prelude.{if◌then◌else◌, ◌&&◌, ◌||◌, nat_lt, nat_le}
@@ -19,7 +19,7 @@ use Rattle.sctp_sender.specs.declared.sender.refusal.SenderRefusal.TheVariants.{
 use Rattle.sctp_sender.specs.Flight.{Flight, count_acked, is_outdated, is_within, sack_refusal}
 use Rattle.sctp_delivery.specs.Sacks.{reports_tsn}
 use Rattle.sctp_delivery.proofs.GivenTsns.{IsNumbered}
-use Rattle.sctp_delivery.proofs.HeardTsns.{IsHeard, IsKnownAfter, after-cumulative, in-runs, in_run}
+use Rattle.sctp_delivery.proofs.ArrivedTsns.{IsArrived, IsKnownAfter, after-cumulative, in-runs, in_run}
 use Rattle.sctp_delivery.proofs.TsnPlaces.{at-or-before, before}
 
 -- all that it reports is known, and was given out
@@ -48,7 +48,7 @@ any-taken d (suc n) (b ∷ bs) e = elim (or-split (is_in_block d b) (is_in_block
 offset-is : (d : ℕ) → is_offset d ≡ true → (0 < d) × (d < 2 ^ 16)
 offset-is d e = let b = both (nat_lt 0 d) (nat_lt d (2 ^ 16)) e in (grind (arith, nat_tests, b.0), grind (arith, nat_tests, b.1))
 
-pub sack-truthful : (p n : ℕ) (known : ℕ → Bool) (credit : ℕ) (r : Reception) → n < 2 ^ 31 → IsHeard p n known r.cumulative_tsn r.beyond
+pub sack-truthful : (p n : ℕ) (known : ℕ → Bool) (credit : ℕ) (r : Reception) → n < 2 ^ 31 → IsArrived p n known r.cumulative_tsn r.beyond
     → IsTruthful p n known (sack credit r)
 sack-truthful p n known credit r few h = record {
   place = h.place;
@@ -127,9 +127,10 @@ not-refused p n known s f few h t = by (is_outdated s f) refl
 
 -- ## What it reports
 
-pub told-known : (p n : ℕ) (known : ℕ → Bool) (s : Sack) (k : ℕ) → n < 2 ^ 31 → 0 < k → k ≤ 2 ^ 31 → IsTruthful p n known s → reports_tsn (tsn p k) s ≡ true →
+pub answered-known : (p n : ℕ) (known : ℕ → Bool) (s : Sack) (k : ℕ) → n < 2 ^ 31 → 0 < k → k ≤ 2 ^ 31 → IsTruthful p n known s
+    → reports_tsn (tsn p k) s ≡ true →
     (known (tsn p k) ≡ true) × (k ≤ n)
-told-known p n known s k few pos far t e = elim (or-split (at_or_before (tsn p k) s.cumulative_tsn_ack)
+answered-known p n known s k few pos far t e = elim (or-split (at_or_before (tsn p k) s.cumulative_tsn_ack)
     (is_in_blocks s.gap_ack_blocks (distance s.cumulative_tsn_ack (tsn p k))) e) [
       | inl a ↦
           let within = t.within in

@@ -81,8 +81,8 @@ abandons-first = record {
   after = refl;
 }
 
-abbrev told_of : Session
-told_of = record first_gone { made = forward_tsn skip ∷ first_gone.made }
+abbrev answered_of : Session
+answered_of = record first_gone { made = forward_tsn skip ∷ first_gone.made }
 
 names-first : Name skip.streams (named_up_to 10 first_gone.sending.sender.flight)
 unfolding distance
@@ -92,7 +92,7 @@ names-first s = by (1 == s)
     by true = refl
     by false = refl
 
-makes-first-skip : SenderFollows (forwards 10 skip) first_gone told_of
+makes-first-skip : SenderFollows (forwards 10 skip) first_gone answered_of
 unfolding at_or_before comes_before distance
 makes-first-skip = record {
   handed = tt;
@@ -103,9 +103,9 @@ makes-first-skip = record {
 }
 
 abbrev receiver_open : Session
-receiver_open = receiving (receiver.open_stream 1 told_of.receiving.receiver) told_of
+receiver_open = receiving (receiver.open_stream 1 answered_of.receiving.receiver) answered_of
 
-opens-receiver : ReceiverFollows (incoming.opens 1) told_of receiver_open
+opens-receiver : ReceiverFollows (incoming.opens 1) answered_of receiver_open
 opens-receiver = record { handed = tt; step = record { receiver = (refl, refl); accepted = refl; read = refl }; accepted = tt; after = refl }
 
 abbrev past_first : Session
@@ -162,7 +162,7 @@ first-round = record {
       of_sender (abandons 10 lost) ∷ of_sender (forwards 10 skip) ∷ of_receiver (incoming.opens 1) ∷ of_receiver (incoming.follows skip) ∷ [];
   reached = past_first;
   exchange = refl;
-  run = (first_gone, (abandons-first, (told_of, (makes-first-skip, (receiver_open, (opens-receiver, (past_first, (follows-skip, refl))))))));
+  run = (first_gone, (abandons-first, (answered_of, (makes-first-skip, (receiver_open, (opens-receiver, (past_first, (follows-skip, refl))))))));
   caught_up = first-caught-up;
   sent = λ _. omega arith;
   answered = record {

@@ -24,25 +24,25 @@ use Rattle.sctp_delivery.specs.SenderCalls.{SenderCall}
 use Rattle.sctp_delivery.specs.Session.{Call, ReceiverFollows, RunsTo, SenderFollows, Session, at_start, of_receiver, of_sender}
 use Rattle.sctp_delivery.proofs.Every.{Every, all-of-every, every-of, one-of}
 use Rattle.sctp_delivery.proofs.GivenTsns.{IsNumbered, taken-numbered}
-use Rattle.sctp_delivery.proofs.HeardCalls.{hears, more-heard, tells}
-use Rattle.sctp_delivery.proofs.HeardTsns.{IsHeard}
+use Rattle.sctp_delivery.proofs.ArrivedCalls.{hears, more-arrived, tells}
+use Rattle.sctp_delivery.proofs.ArrivedTsns.{IsArrived}
 use Rattle.sctp_delivery.proofs.PassedTsns.{flight-given}
-use Rattle.sctp_delivery.proofs.ReportedTsns.{IsTruthful, later-truthful, not-refused, told-known}
+use Rattle.sctp_delivery.proofs.ReportedTsns.{IsTruthful, later-truthful, not-refused, answered-known}
 use Rattle.sctp_delivery.proofs.SackMarks.{IsValidIn, stays-valid-with}
 use Rattle.sctp_delivery.proofs.SackSteps.{IsMadeGiven, known, made-given, moves}
 use Rattle.sctp_delivery.proofs.Sessions.{more-made, or-more}
 use Rattle.sctp_delivery.proofs.ValidMarks.{IsRight, IsValid, came-of, every-mapped, more-taken}
 use Rattle.sctp_delivery.proofs.TakenCalls.{AreTaken, more-come, takes-once}
-use Rattle.sctp_delivery.proofs.ToldCalls.{IsInOrder, keeps-order, next-sack-tells}
+use Rattle.sctp_delivery.proofs.AnsweredCalls.{IsInOrder, keeps-order, next-sack-tells}
 use Rattle.sctp_delivery.proofs.TsnPlaces.{IsGiven, at-or-before, base, before, first-is, next-place, past-first, same-place}
 
 -- after n TSNs were given out nobody speaks of another
 pub record IsInStep (p n : ℕ) (s : Session) : Type 0 where
   pub numbered : IsNumbered p n s.sending.sender.flight
   pub made : Every (IsMadeGiven p n) s.made
-  pub heard : IsHeard p n (known s) s.receiving.receiver.cumulative_tsn s.receiving.receiver.beyond
+  pub arrived : IsArrived p n (known s) s.receiving.receiver.cumulative_tsn s.receiving.receiver.beyond
   pub sacks : Every (IsTruthful p n (known s)) s.sacks
-  pub settled : IsHeard p n (known s) s.sending.sender.flight.acked_tsn []
+  pub settled : IsArrived p n (known s) s.sending.sender.flight.acked_tsn []
   pub valid : IsValidIn s
   pub taken : AreTaken p n s.receiving.receiver s.receiving.accepted
   pub order : IsInOrder s.receiving.receiver
@@ -51,7 +51,7 @@ pub begin : (first size max most : ℕ) (limits : Option Limits) → first < 2 ^
 begin first size max most limits small = record {
   numbered = record { acked = 0; acked_is = omega arith; next_is = first-is first small; run = refl; total = refl };
   made = tt;
-  heard = record { place = 0; within = omega arith; is = omega arith; so_far = λ k pos le. absurd (omega (arith, pos, le)); each = tt };
+  arrived = record { place = 0; within = omega arith; is = omega arith; so_far = λ k pos le. absurd (omega (arith, pos, le)); each = tt };
   sacks = tt;
   settled = record { place = 0; within = omega arith; is = omega arith; so_far = λ k pos le. absurd (omega (arith, pos, le)); each = tt };
   valid = record { ordered = tt; unordered = tt; inflight = tt };
@@ -77,11 +77,11 @@ sender-step p n call old new few f i =
     let move = moves p n (known old) old new small i.numbered call i.sacks f in
     record {
       numbered = move.numbered few;
-      settled = more-heard p n after (known old) (known new) new.sending.sender.flight.acked_tsn [] (omega arith) grows (move.settled i.settled);
+      settled = more-arrived p n after (known old) (known new) new.sending.sender.flight.acked_tsn [] (omega arith) grows (move.settled i.settled);
       made = subst (Every (IsMadeGiven p after)) (sym (ap (λ (s : Session). s.made) f.after)) (made-given p n old new small i.numbered call i.made f);
-      heard =
-          subst (λ (r : Reception). IsHeard p after (known new) r.cumulative_tsn r.beyond) (sym (ap (λ (s : Session). s.receiving.receiver) f.after))
-          (more-heard p n after (known old) (known new) old.receiving.receiver.cumulative_tsn old.receiving.receiver.beyond (omega arith) grows i.heard);
+      arrived =
+          subst (λ (r : Reception). IsArrived p after (known new) r.cumulative_tsn r.beyond) (sym (ap (λ (s : Session). s.receiving.receiver) f.after))
+          (more-arrived p n after (known old) (known new) old.receiving.receiver.cumulative_tsn old.receiving.receiver.beyond (omega arith) grows i.arrived);
       order = subst (λ (s : Stand). IsInOrder s.receiver) (sym (ap (λ (s : Session). s.receiving) f.after)) i.order;
       taken =
           subst (λ (s : Stand). AreTaken p after s.receiver s.accepted) (sym (ap (λ (s : Session). s.receiving) f.after))
@@ -101,7 +101,7 @@ sender-step p n call old new few f i =
 pub more-accepted : (call : ReceiverCall) (old new : Session) → ReceiverFollows call old new → (t : ℕ) → was_taken t old ≡ true → was_taken t new ≡ true
 more-accepted (incoming.opens stream) old new f t e = ap (list_any (has_tsn t)) f.step.accepted ∙ e
 more-accepted (incoming.takes c Repeat) old new f t e = ap (list_any (has_tsn t)) f.step.accepted ∙ e
-more-accepted (incoming.takes c (New told)) old new f t e = ap (list_any (has_tsn t)) f.step.accepted ∙ or-more (has_tsn t c) (was_taken t old) e
+more-accepted (incoming.takes c (New answered)) old new f t e = ap (list_any (has_tsn t)) f.step.accepted ∙ or-more (has_tsn t c) (was_taken t old) e
 more-accepted (incoming.follows g) old new f t e = ap (list_any (has_tsn t)) f.step.accepted ∙ e
 more-accepted (incoming.reports credit) old new f t e = ap (list_any (has_tsn t)) f.step.accepted ∙ e
 more-accepted (incoming.reads stream) old new f t e = ap (list_any (has_tsn t)) f.step.accepted ∙ e
@@ -117,14 +117,14 @@ receiver-step p n call old new few f i =
     ] in
     record {
       numbered = subst (λ l. IsNumbered p n l.sender.flight) (sym sender) i.numbered;
-      settled = subst (λ l. IsHeard p n (known new) l.sender.flight.acked_tsn []) (sym sender)
-          (more-heard p n n (known old) (known new) old.sending.sender.flight.acked_tsn [] (omega arith) grows i.settled);
+      settled = subst (λ l. IsArrived p n (known new) l.sender.flight.acked_tsn []) (sym sender)
+          (more-arrived p n n (known old) (known new) old.sending.sender.flight.acked_tsn [] (omega arith) grows i.settled);
       made = subst (Every (IsMadeGiven p n)) (sym made) i.made;
-      order = keeps-order p n (known old) old new few i.made i.heard i.order call f;
-      taken = takes-once p n (known old) old new few i.made i.heard i.taken call f;
-      heard = hears p n old new few i.made made grows i.heard call f;
+      order = keeps-order p n (known old) old new few i.made i.arrived i.order call f;
+      taken = takes-once p n (known old) old new few i.made i.arrived i.taken call f;
+      arrived = hears p n old new few i.made made grows i.arrived call f;
       sacks = subst (Every (IsTruthful p n (known new))) (sym (ap (λ (s : Session). s.sacks) f.after))
-          (tells p n old (known new) call few grows i.heard i.sacks);
+          (tells p n old (known new) call few grows i.arrived i.sacks);
       valid =
           subst (λ l. IsValid (λ t. was_taken t new) (λ t. list_any (passes t) new.made) l.sender.flight.queue) (sym sender)
           (subst (λ ms. IsValid (λ t. was_taken t new) (λ t. list_any (passes t) ms) old.sending.sender.flight.queue) (sym made)
@@ -188,7 +188,7 @@ reports-given first n s small few i t fits from e =
     let near = near-first first t from in
     let at : t ≡ tsn p k = past-first first t small fits in
     let one = one-of (IsTruthful p n (known s)) (reports_tsn t) s.sacks e i.sacks in
-    let r = told-known p n (known s) one.0 k few (omega arith) (omega (arith, near)) one.2 (subst (λ u. reports_tsn u one.0 ≡ true) at one.1) in
+    let r = answered-known p n (known s) one.0 k few (omega arith) (omega (arith, near)) one.2 (subst (λ u. reports_tsn u one.0 ≡ true) at one.1) in
     (subst (λ u. known s u ≡ true) (sym at) r.0, omega (arith, r.1))
 
 pub report-given : AfterEachSessionOfFewTsns ReportWhatCame
@@ -216,11 +216,11 @@ all-left-came first size max most limits cs s run small few =
 -- ## What is acknowledged
 
 -- a SACK reports a chunk in flight
-told-of : (p n : ℕ) (s : Session) → n < 2 ^ 31 → (k : Sack) → IsTruthful p n (known s) k → (c : ChunkPayloadData) → IsGiven p n c.tsn → reports k c ≡ true
+answered-of : (p n : ℕ) (s : Session) → n < 2 ^ 31 → (k : Sack) → IsTruthful p n (known s) k → (c : ChunkPayloadData) → IsGiven p n c.tsn → reports k c ≡ true
     → known s c.tsn ≡ true
-told-of p n s few k t c g e =
+answered-of p n s few k t c g e =
     let within = g.within in
-    let r = told-known p n (known s) k g.place few g.some (omega (arith, within, few)) t (subst (λ u. reports_tsn u k ≡ true) g.is e) in
+    let r = answered-known p n (known s) k g.place few g.some (omega (arith, within, few)) t (subst (λ u. reports_tsn u k ≡ true) g.is e) in
     subst (λ u. known s u ≡ true) (sym g.is) r.0
 
 pub came : (p n : ℕ) (s : Session) → n < 2 ^ 31 → IsInStep p n s → AcknowledgedCame s
@@ -229,10 +229,10 @@ came p n s few i =
     all-of-every (λ (c : ChunkPayloadData). is_reported s c ≡ true → (was_taken c.tsn s || c.abandoned) ≡ true) cs
     (each cs (flight-given p n s.sending.sender.flight i.numbered) i.valid.inflight)
   where
-    told : (c : ChunkPayloadData) → IsGiven p n c.tsn → list_any (λ k. reports k c) s.sacks ≡ true → known s c.tsn ≡ true
-    told c g e =
+    answered : (c : ChunkPayloadData) → IsGiven p n c.tsn → list_any (λ k. reports k c) s.sacks ≡ true → known s c.tsn ≡ true
+    answered c g e =
         let one = one-of (IsTruthful p n (known s)) (λ k. reports k c) s.sacks e i.sacks in
-        told-of p n s few one.0 one.2 c g one.1
+        answered-of p n s few one.0 one.2 c g one.1
 
     each : (cs : List ChunkPayloadData) → Every (λ (c : ChunkPayloadData). IsGiven p n c.tsn) cs → Every
         (IsRight (λ t. was_taken t s) (λ t. was_passed t s)) cs → Every
@@ -241,7 +241,7 @@ came p n s few i =
     each (c ∷ cs) g r = (
       λ e. elim (or-split c.acked (list_any (λ k. reports k c) s.sacks) e) [
         | inl a ↦ r.0.came a
-        | inr a ↦ came-of (λ t. was_taken t s) (λ t. was_passed t s) c r.0 (told c g.0 a)
+        | inr a ↦ came-of (λ t. was_taken t s) (λ t. was_passed t s) c r.0 (answered c g.0 a)
       ],
       each cs g.1 r.1,
     )
@@ -281,7 +281,7 @@ released p n s few i =
     one : (k : Sack) → IsTruthful p n (known s) k → (c : ChunkPayloadData) → IsGiven p n c.tsn → IsRight (λ t. was_taken t s) (λ t. was_passed t s) c
         → reports_anew k c ≡ true → HasCome s c
     one k t c g r e some = elim (or-split (was_taken c.tsn s) c.abandoned
-        (came-of (λ u. was_taken u s) (λ u. was_passed u s) c r (told-of p n s few k t c g (both (not c.acked) (reports k c) e).1))) [
+        (came-of (λ u. was_taken u s) (λ u. was_passed u s) c r (answered-of p n s few k t c g (both (not c.acked) (reports k c) e).1))) [
           | inl a ↦ a
           | inr a ↦ let none = r.bare a in absurd (omega (arith, none, some))
         ]
@@ -315,10 +315,10 @@ none-twice first size max most limits cs s run small few = (in-step first size m
 
 -- ## What is told
 
-pub all-told : AfterEachSessionOfFewTsns (λ first count s. NextSackTells s)
-all-told first size max most limits cs s run small few =
+pub all-answered : AfterEachSessionOfFewTsns (λ first count s. NextSackTells s)
+all-answered first size max most limits cs s run small few =
     let i = in-step first size max most limits cs s run small few in
-    next-sack-tells (base first) (tsns_given (at_start first size max most limits) cs s run) s (known s) few i.heard i.order i.taken
+    next-sack-tells (base first) (tsns_given (at_start first size max most limits) cs s run) s (known s) few i.arrived i.order i.taken
 
 -- ## Nothing is left
 

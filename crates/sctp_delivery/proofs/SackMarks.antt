@@ -22,7 +22,7 @@ use Rattle.sctp_delivery.specs.Session.{SenderFollows, Session}
 use Rattle.sctp_delivery.proofs.Every.{Every, every-contained, every-of}
 use Rattle.sctp_delivery.proofs.GivenTsns.{IsNumbered}
 use Rattle.sctp_delivery.proofs.PassedTsns.{IsGoneUpTo, IsPassable, flight-given, passable-end, passable-skip, passed-gone}
-use Rattle.sctp_delivery.proofs.ReportedTsns.{IsTruthful, told-known}
+use Rattle.sctp_delivery.proofs.ReportedTsns.{IsTruthful, answered-known}
 use Rattle.sctp_delivery.proofs.SackSteps.{IsMadeGiven, known, next-unpassed, written-open}
 use Rattle.sctp_delivery.proofs.ValidMarks.{IsValid, abandoned-valid, each-valid, expired-valid, fragments-unmarked, marked-valid, message-valid, missed-valid}
 use Rattle.sctp_delivery.proofs.ValidMarks.{more-passed, resent-valid, sack-valid, sent-valid, started-valid}
@@ -48,9 +48,9 @@ module _ (p n : ℕ) (old new : Session) (few : n < 2 ^ 31) (h : IsNumbered p n 
   valid-to : (t : Transmission) → new.sending.sender ≡ t → IsValid (taken_in old) (passed_in old.made) t.flight.queue → StillValid
   valid-to t e k = subst (λ (u : Transmission). IsValid (taken_in old) (passed_in old.made) u.flight.queue) (sym e) k
 
-  told : Every (IsTruthful p n (known old)) old.sacks → (k : Sack) → Contains old.sacks k → Every
+  answered : Every (IsTruthful p n (known old)) old.sacks → (k : Sack) → Contains old.sacks k → Every
       (λ (c : ChunkPayloadData). reports k c ≡ true → known old c.tsn ≡ true) old.sending.sender.flight.queue.inflight.chunks
-  told t k in' =
+  answered t k in' =
       let truth = every-contained (IsTruthful p n (known old)) old.sacks k in' t in
       every-of (λ (c : ChunkPayloadData). IsGiven p n c.tsn) (λ (c : ChunkPayloadData). reports k c ≡ true → known old c.tsn ≡ true)
       (λ c g e. one truth c g e) old.sending.sender.flight.queue.inflight.chunks (flight-given p n old.sending.sender.flight h)
@@ -58,7 +58,7 @@ module _ (p n : ℕ) (old new : Session) (few : n < 2 ^ 31) (h : IsNumbered p n 
       one : IsTruthful p n (known old) k → (c : ChunkPayloadData) → IsGiven p n c.tsn → reports k c ≡ true → known old c.tsn ≡ true
       one truth c g e =
           let within = g.within in
-          let at = told-known p n (known old) k g.place few g.some (omega (arith, within, few)) truth (subst (λ t. reports_tsn t k ≡ true) g.is e) in
+          let at = answered-known p n (known old) k g.place few g.some (omega (arith, within, few)) truth (subst (λ t. reports_tsn t k ≡ true) g.is e) in
           subst (λ t. known old t ≡ true) (sym g.is) at.0
 
   stays-valid : (call : SenderCall) → Every (IsTruthful p n (known old)) old.sacks → Every (IsMadeGiven p n) old.made → SenderFollows call old new → StillValid
@@ -106,7 +106,7 @@ module _ (p n : ℕ) (old new : Session) (few : n < 2 ^ 31) (h : IsNumbered p n 
   stays-valid (outgoing.expires_rexmit gone) t m f = valid-to _ f.exact
       (each-valid (taken_in old) (passed_in old.made) (worn_order old.sending.sender.flight) old.sending.sender.flight s)
   stays-valid (outgoing.takes_sack k gone) t m f = valid-to _ f.exact
-      (sack-valid (taken_in old) (passed_in old.made) k old.sending.sender.flight (told t k f.handed) s)
+      (sack-valid (taken_in old) (passed_in old.made) k old.sending.sender.flight (answered t k f.handed) s)
 
   -- and with what it passes itself
   abbrev IsValidWith : List Made → Type 0

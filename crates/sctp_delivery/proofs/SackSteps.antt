@@ -35,7 +35,7 @@ use Rattle.sctp_delivery.specs.SenderCalls.{Made, SenderCall, data_chunk, forwar
 use Rattle.sctp_delivery.specs.Session.{SenderFollows, Session}
 use Rattle.sctp_delivery.proofs.Every.{Every, every-contained, every-found, every-of}
 use Rattle.sctp_delivery.proofs.GivenTsns.{IsNumbered, Raises, given, raises-abandoned, raises-each, raises-none, raises-sent, taken-numbered}
-use Rattle.sctp_delivery.proofs.HeardTsns.{IsHeard}
+use Rattle.sctp_delivery.proofs.ArrivedTsns.{IsArrived}
 use Rattle.sctp_delivery.proofs.PassedTsns.{flight-given, passable-end, passable-skip}
 use Rattle.sctp_delivery.proofs.ReportedTsns.{IsTruthful}
 use Rattle.sctp_delivery.proofs.TsnPlaces.{IsGiven, at-or-before, before, more-given, next-place}
@@ -75,7 +75,7 @@ IsFrom p n k t = (j : ℕ) × (k ≤ j) × (j ≤ n) × (t ≡ tsn p j)
 -- so many TSNs more, as a session counts them; what is acknowledged cumulatively is known still, and never less
 pub record IsMoved (p n : ℕ) (kn : ℕ → Bool) (f g : Flight) : Type 0 where
   pub numbered : n + distance f.next_tsn g.next_tsn < 2 ^ 31 → IsNumbered p (n + distance f.next_tsn g.next_tsn) g
-  pub settled : IsHeard p n kn f.acked_tsn [] → IsHeard p n kn g.acked_tsn []
+  pub settled : IsArrived p n kn f.acked_tsn [] → IsArrived p n kn g.acked_tsn []
   pub rises : (k : ℕ) → f.acked_tsn ≡ tsn p k → k ≤ n → IsFrom p n k g.acked_tsn
 
 moved : (p n most : ℕ) (kn : ℕ → Bool) (f g : Flight) → most < 2 ^ 32 → IsNumbered p n f → Raises p most f g → IsMoved p n kn f g
@@ -84,12 +84,12 @@ moved p n most kn f g short h r =
     record {
       numbered = λ few. subst (λ k. IsNumbered p (n + k) g) (sym e) (r.numbered n (omega (arith, few, e)) h);
       settled = λ k. subst
-          (λ t. IsHeard p n kn t []) (sym r.acked) k;
+          (λ t. IsArrived p n kn t []) (sym r.acked) k;
       rises = λ k is le. (k, omega arith, le, r.acked ∙ is);
     }
 
 -- where none is given out
-moved-none : (p n : ℕ) (kn : ℕ → Bool) (f g : Flight) → g.next_tsn ≡ f.next_tsn → (IsHeard p n kn f.acked_tsn [] → IsHeard p n kn g.acked_tsn [])
+moved-none : (p n : ℕ) (kn : ℕ → Bool) (f g : Flight) → g.next_tsn ≡ f.next_tsn → (IsArrived p n kn f.acked_tsn [] → IsArrived p n kn g.acked_tsn [])
     → ((k : ℕ) → f.acked_tsn ≡ tsn p k → k ≤ n → IsFrom p n k g.acked_tsn) → IsNumbered p n f → IsNumbered p n g → IsMoved p n kn f g
 moved-none p n kn f g same settled rises h k =
     let at = h.next_is in
@@ -148,11 +148,11 @@ sack-next k f = by (is_outdated k f)
     by true = refl
     by false = refl
 
-sack-settled : (p n : ℕ) (kn : ℕ → Bool) (k : Sack) (f : Flight) → IsTruthful p n kn k → IsHeard p n kn f.acked_tsn [] → IsHeard p n kn
+sack-settled : (p n : ℕ) (kn : ℕ → Bool) (k : Sack) (f : Flight) → IsTruthful p n kn k → IsArrived p n kn f.acked_tsn [] → IsArrived p n kn
     (after_sack k f).acked_tsn []
 sack-settled p n kn k f t h = by (is_outdated k f)
   where
-    by : (b : Bool) → IsHeard p n kn (if b then f else take_sack k f).acked_tsn []
+    by : (b : Bool) → IsArrived p n kn (if b then f else take_sack k f).acked_tsn []
     by true = h
     by false = record { place = t.place; within = t.within; is = t.is; so_far = t.so_far; each = tt }
 

@@ -20,7 +20,7 @@ use Rattle.sctp_sender.specs.Flight.{Flight, after_abandonment, is_outdated, mes
 use Rattle.sctp_sender.specs.Late.{abandoned_at, abandoned_each, after_abandoning, after_leaving, leaving_each}
 use Rattle.sctp_sender.specs.Outgoing.{has_number, less_by}
 use Rattle.sctp_sender.specs.Sender.{Transmission, after_abandon, after_acked, with_flight}
-use Rattle.sctp_sender.proofs.InLine.{found-half}
+use Rattle.sctp_sender.proofs.InLine.{found-partial}
 use Rattle.sctp_stream.specs.declared.stream.StreamState.{StreamState}
 use Rattle.sctp_delivery.specs.SenderCalls.{Made, data_chunk, forward_tsn, next_chunk, with_chunk}
 use Rattle.sctp_delivery.proofs.InFlight.{KeepsData, acknowledged-keeps, known-changed, known-part-changed, known-those}
@@ -166,7 +166,7 @@ gone-one : (ws : List Numbered) (first : ℕ) (number : ℕ → ℕ) (f : Flight
     → Abandons ws first number sent f.queue (abandoned_at tsn f).queue (abandoned_at tsn f).next_tsn
 gone-one ws first number f sent s tsn =
     abandoned ws first number f.queue f.next_tsn sent s (message_to_abandon tsn f)
-    (found-half f.queue s.sendable tsn (find (has_tsn tsn) f.queue.inflight.chunks) refl)
+    (found-partial f.queue s.sendable tsn (find (has_tsn tsn) f.queue.inflight.chunks) refl)
 
 gone-each : (ws : List Numbered) (first : ℕ) (number : ℕ → ℕ) (tsns : List ℕ) (f : Flight) (sent : List Entry) → Stands ws first number f.queue f.next_tsn sent
     → Abandons ws first number sent f.queue (abandoned_each tsns f).queue (abandoned_each tsns f).next_tsn
@@ -196,9 +196,9 @@ left ws first t sent ms ls f h st a = record {
 pub abandons-message : (ws : List Numbered) (first : ℕ) (t : Transmission) (sent : List Entry) (ms : List Made) → IsHeld ws first t sent → (o : Option ℕ)
     → ((m : ℕ) → o ≡ Some m → waits m t.flight.queue.pending ≡ true → partially_sent t.flight.queue.pending ≡ Some m) → (stream bytes : ℕ)
     → Result None ws ws first sent (after_abandon o stream bytes t) ms ms
-abandons-message ws first t sent ms h o half stream bytes =
+abandons-message ws first t sent ms h o partial stream bytes =
     left ws first t sent ms (change_where (has_number stream) (less_by bytes) t.streams) (after_abandonment o t.flight) h (steady-less stream bytes t.streams)
-    (abandoned ws first (λ s. number_of s t.streams) t.flight.queue t.flight.next_tsn sent h.stands o half)
+    (abandoned ws first (λ s. number_of s t.streams) t.flight.queue t.flight.next_tsn sent h.stands o partial)
 
 pub abandons-all : (ws : List Numbered) (first : ℕ) (t : Transmission) (sent : List Entry) (ms : List Made) → IsHeld ws first t sent → (tsns : List ℕ)
     → Result None ws ws first sent (after_abandoning tsns t) ms ms

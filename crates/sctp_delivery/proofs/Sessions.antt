@@ -244,7 +244,7 @@ kept-made call old new f e h =
     ∙ (ap (list_all (made_among old.made)) e ∙ h)
 
 taken-made : (call : ReceiverCall) (old new : Session) → ReceiverFollows call old new → IsTakenMade old → IsTakenMade new
-taken-made (incoming.takes c (New told)) old new f h =
+taken-made (incoming.takes c (New answered)) old new f h =
     ap (λ ms. list_all (made_among ms) new.receiving.accepted) (ap (λ (s : Session). s.made) f.after)
     ∙ (ap (list_all (made_among old.made)) f.step.accepted
     ∙ and _ _ (found (is_made_so (data_of c)) old.made (data_chunk (data_of c)) (same-itself (data_of c)) f.handed) h)

@@ -16,13 +16,13 @@ use Rattle.sctp_delivery.specs.ReceiverCalls.{ReceiverCall}
 use Rattle.sctp_delivery.specs.SenderCalls.{data_chunk, forward_tsn}
 use Rattle.sctp_delivery.specs.Session.{ReceiverFollows, Session}
 use Rattle.sctp_delivery.proofs.Every.{Every, every-contained, every-inserted, every-of, every-passing}
-use Rattle.sctp_delivery.proofs.HeardTsns.{IsHeard, IsKnown}
+use Rattle.sctp_delivery.proofs.ArrivedTsns.{IsArrived, IsKnown}
 use Rattle.sctp_delivery.proofs.SackSteps.{IsMadeGiven}
 use Rattle.sctp_delivery.proofs.TakenTsns.{advance-keeps, come, insert-keeps, skip-keeps}
 use Rattle.sctp_delivery.proofs.TsnPlaces.{IsGiven, at-or-before}
 
 module _ (p n : ℕ) (kn : ℕ → Bool) (old new : Session) (few : n < 2 ^ 31) (made : Every (IsMadeGiven p n) old.made)
-    (h : IsHeard p n kn old.receiving.receiver.cumulative_tsn old.receiving.receiver.beyond) (t : ℕ) (given : IsGiven p n t)
+    (h : IsArrived p n kn old.receiving.receiver.cumulative_tsn old.receiving.receiver.beyond) (t : ℕ) (given : IsGiven p n t)
     (e : come t old.receiving.receiver.cumulative_tsn old.receiving.receiver.beyond ≡ true) where
   abbrev r : Reception
   r = old.receiving.receiver
@@ -55,7 +55,7 @@ module _ (p n : ℕ) (kn : ℕ → Bool) (old new : Session) (few : n < 2 ^ 31) 
   pub stays-come : (call : ReceiverCall) → ReceiverFollows call old new → Knows new.receiving.receiver
   stays-come (incoming.opens stream) f = subst Knows (sym f.step.receiver.1) e
   stays-come (incoming.takes c Repeat) f = subst Knows (sym f.step.receiver) e
-  stays-come (incoming.takes c (New told)) f =
+  stays-come (incoming.takes c (New answered)) f =
       let g : IsGiven p n c.tsn = every-contained (IsMadeGiven p n) old.made (data_chunk (data_of c)) f.handed made in
       subst Knows (sym f.step.receiver.after)
       (advance-keeps p n r.cumulative_tsn h.place (insert_before comes_before c.tsn r.beyond) few h.within h.is

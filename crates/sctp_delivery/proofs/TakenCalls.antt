@@ -22,7 +22,7 @@ use Rattle.sctp_delivery.specs.Sacks.{are_apart}
 use Rattle.sctp_delivery.specs.SenderCalls.{data_chunk, forward_tsn}
 use Rattle.sctp_delivery.specs.Session.{ReceiverFollows, Session}
 use Rattle.sctp_delivery.proofs.Every.{Every, every-contained, every-inserted, every-of, every-passing, one-of}
-use Rattle.sctp_delivery.proofs.HeardTsns.{IsHeard, IsKnown}
+use Rattle.sctp_delivery.proofs.ArrivedTsns.{IsArrived, IsKnown}
 use Rattle.sctp_delivery.proofs.SackSteps.{IsMadeGiven}
 use Rattle.sctp_delivery.proofs.TakenTsns.{advance-keeps, any-inserted, come, insert-keeps, skip-keeps}
 use Rattle.sctp_delivery.proofs.TsnPlaces.{IsGiven, at-or-before, more-given}
@@ -49,14 +49,15 @@ not-among p n r cs t fresh h =
     fails (list_any (has_tsn t) cs) (λ e. let one = one-of (HasCome p n r) (has_tsn t) cs e h in not_both
     (sym fresh ∙ ap (λ u. come u r.cumulative_tsn r.beyond) (sym (same-is one.0.tsn t one.1)) ∙ one.2.1))
 
-pub fresh-new : (t : ℕ) (told : Bool) (r : Reception) → New told ≡ (if has_come t (filter_of r) then Repeat else New told) → has_come t (filter_of r) ≡ false
-fresh-new t told r e = by (has_come t (filter_of r)) e
+pub fresh-new : (t : ℕ) (answered : Bool) (r : Reception) → New answered ≡ (if has_come t (filter_of r) then Repeat else New answered)
+    → has_come t (filter_of r) ≡ false
+fresh-new t answered r e = by (has_come t (filter_of r)) e
   where
-    by : (b : Bool) → New told ≡ (if b then Repeat else New told) → b ≡ false
+    by : (b : Bool) → New answered ≡ (if b then Repeat else New answered) → b ≡ false
     by true i = cc
     by false i = refl
 
-module _ (p n : ℕ) (r : Reception) (kn : ℕ → Bool) (few : n < 2 ^ 31) (h : IsHeard p n kn r.cumulative_tsn r.beyond) where
+module _ (p n : ℕ) (r : Reception) (kn : ℕ → Bool) (few : n < 2 ^ 31) (h : IsArrived p n kn r.cumulative_tsn r.beyond) where
   pub beyond-given : Every (IsGiven p n) r.beyond
   beyond-given = every-of (IsKnown p n kn) (IsGiven p n) (λ t k. record { place = k.place; some = k.some; within = k.within; is = k.is }) r.beyond h.each
 
@@ -119,7 +120,7 @@ module _ (p n : ℕ) (r : Reception) (kn : ℕ → Bool) (few : n < 2 ^ 31) (h :
 -- ## The calls
 
 module _ (p n : ℕ) (kn : ℕ → Bool) (old new : Session) (few : n < 2 ^ 31) (m : Every (IsMadeGiven p n) old.made)
-    (h : IsHeard p n kn old.receiving.receiver.cumulative_tsn old.receiving.receiver.beyond)
+    (h : IsArrived p n kn old.receiving.receiver.cumulative_tsn old.receiving.receiver.beyond)
     (t : AreTaken p n old.receiving.receiver old.receiving.accepted) where
   taken-to : (q : Reception) (cs : List ChunkPayloadData) → new.receiving.receiver ≡ q → new.receiving.accepted ≡ cs → AreTaken p n q cs
       → AreTaken p n new.receiving.receiver new.receiving.accepted
@@ -143,10 +144,10 @@ module _ (p n : ℕ) (kn : ℕ → Bool) (old new : Session) (few : n < 2 ^ 31) 
   pub takes-once : (call : ReceiverCall) → ReceiverFollows call old new → AreTaken p n new.receiving.receiver new.receiving.accepted
   takes-once (incoming.opens stream) f = kept _ f.step.receiver.1 refl refl f.step.accepted
   takes-once (incoming.takes c Repeat) f = kept _ f.step.receiver refl refl f.step.accepted
-  takes-once (incoming.takes c (New told)) f =
+  takes-once (incoming.takes c (New answered)) f =
       let g : IsGiven p n c.tsn = every-contained (IsMadeGiven p n) old.made (data_chunk (data_of c)) f.handed m in
       taken-to _ (c ∷ old.receiving.accepted) f.step.receiver.after f.step.accepted
-      (new-come p n old.receiving.receiver kn few h c _ old.receiving.accepted g (fresh-new c.tsn told old.receiving.receiver f.accepted.1) refl refl t)
+      (new-come p n old.receiving.receiver kn few h c _ old.receiving.accepted g (fresh-new c.tsn answered old.receiving.receiver f.accepted.1) refl refl t)
   takes-once (incoming.follows g) f =
       taken-to _ old.receiving.accepted f.step.receiver f.step.accepted
       (skip-come p n old.receiving.receiver kn few h g old.receiving.accepted (every-contained (IsMadeGiven p n) old.made (forward_tsn g) f.handed m) t)

@@ -1,4 +1,4 @@
--- A TSN that a filter heard of stays one that came.
+-- A TSN that arrived at a filter stays one that came.
 use Rattle.std.proofs.Common.{◌≡◌, ℕ, ◌+◌, ◌<◌, ◌≤◌, ◌%◌, ◌^◌, Bool, true, false, List, [], ◌∷◌, refl, ap, sym, ◌∙◌, inl, inr, arith}
 use Rattle.std.specs.Prelude.{if◌then◌else◌, ◌==◌, ◌||◌, ◌⊎◌, not, nat_le}
 use Rattle.std.specs.List.{filter, list_any}

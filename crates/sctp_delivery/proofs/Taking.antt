@@ -103,7 +103,7 @@ module _ (p n : ℕ) (s : Session) (few : n < 2 ^ 31) (i : IsInStep p n s) (cred
       taken_back = omega arith;
     };
     exact = refl;
-    accepted = not-refused p n (known s) k s.sending.sender.flight few i.numbered (sack-truthful p n (known s) credit s.receiving.receiver few i.heard);
+    accepted = not-refused p n (known s) k s.sending.sender.flight few i.numbered (sack-truthful p n (known s) credit s.receiving.receiver few i.arrived);
     after = refl;
   }
 

@@ -10,7 +10,7 @@ use Rattle.sctp_data.specs.ChunkSet.{ChunkSet}
 use Rattle.sctp_reassembly.specs.reassembly_queue.Fragments.{has_ssn, new_set, set_before, sets_with, with_chunk}
 use Rattle.sctp_reassembly.specs.reassembly_queue.ReassemblyQueue.{BecomesComplete, Reassembly, ReassemblyState, after_read, front_readable}
 use Rattle.sctp_reassembly.specs.reassembly_queue.ReassemblyQueue.{held_after_ordered_push, is_readable, rest_among, rest_read, set_of_run, without_first}
-use Rattle.sctp_reassembly.proofs.lemmas.reassembly_queue.TakenRuns.{mark_after_take}
+use Rattle.sctp_reassembly.proofs.lemmas.reassembly_queue.TakenRuns.{flag_after_take}
 use Rattle.sctp_receiver.specs.Inbound.{Pushes, PushesAs}
 use Rattle.sctp_serial.specs.DataChunks.{chunk_before, has_tsn}
 use Rattle.sctp_serial.specs.Runs.{HasNoRun}
@@ -94,8 +94,8 @@ module _ (p n : ℕ) (few : n < 2 ^ 31) where
     run-set [] e = tt
     run-set (y ∷ ys) e = e
 
-    unassembled-tidy : (old new : Reassembly) (told : Bool) → x.unordered ≡ true → list_any (has_tsn x.tsn) old.unassembled ≡ false
-        → BecomesComplete (insert_before chunk_before x old.unassembled) old new told → IsTidy p n old → IsTidy p n new
+    unassembled-tidy : (old new : Reassembly) (answered : Bool) → x.unordered ≡ true → list_any (has_tsn x.tsn) old.unassembled ≡ false
+        → BecomesComplete (insert_before chunk_before x old.unassembled) old new answered → IsTidy p n old → IsTidy p n new
     unassembled-tidy old new false u fresh b t = subst (IsTidy p n) (sym b.1) (record {
       sets = t.sets;
       whole = t.whole;
@@ -115,13 +115,13 @@ module _ (p n : ℕ) (few : n < 2 ^ 31) where
           unassembled = ascend-cut p n few 0 b.first b.count xs up;
           kinds = every-joined IsUnordered (take b.first xs) (drop (b.first + b.count) xs) (every-taken IsUnordered b.first xs kinds)
               (every-left IsUnordered (b.first + b.count) xs kinds);
-          none = mark_after_take true true xs i.0 b.first b.count i.1 (subst HasNoRun (sym i.2) t.none) (ascend-serial p n few 0 xs up) b.run.run;
+          none = flag_after_take true true xs i.0 b.first b.count i.1 (subst HasNoRun (sym i.2) t.none) (ascend-serial p n few 0 xs up) b.run.run;
         })
 
-    pub pushed-tidy : (told : Bool) (old new : ReassemblyState) → Pushes x told old new
+    pub pushed-tidy : (answered : Bool) (old new : ReassemblyState) → Pushes x answered old new
         → Every (λ (s : ChunkSet). list_any (has_tsn x.tsn) s.chunks ≡ false) old.held.ordered → list_any (has_tsn x.tsn) old.held.unassembled ≡ false
         → IsTidy p n old.held → IsTidy p n new.held
-    pushed-tidy told old new h fresh none y = by x.unordered refl h
+    pushed-tidy answered old new h fresh none y = by x.unordered refl h
       where
         put-or-not : x.unordered ≡ false → (b : Bool) → IsTidy p n (if b then old.held else record old.held { ordered = sets_with x old.held.ordered })
         put-or-not u true = y
@@ -133,11 +133,11 @@ module _ (p n : ℕ) (few : n < 2 ^ 31) where
           none = y.none;
         }
 
-        by : (b : Bool) → x.unordered ≡ b → PushesAs b x told old new → IsTidy p n new.held
+        by : (b : Bool) → x.unordered ≡ b → PushesAs b x answered old new → IsTidy p n new.held
         by false u e =
             let held : new.held ≡ held_after_ordered_push x old.held = ap (λ (q : ReassemblyState). q.held) e.0 in
             subst (IsTidy p n) (sym held) (put-or-not u (comes_before16 x.stream_sequence_number old.held.next_ssn))
-        by true u e = unassembled-tidy old.held new.held told u none e.0 y
+        by true u e = unassembled-tidy old.held new.held answered u none e.0 y
 
   -- ## A message is read
 

@@ -22,7 +22,7 @@ use Rattle.sctp_delivery.proofs.Sent.{Entry, Numbered, fragment, terminal}
 use Rattle.sctp_delivery.proofs.SpreadCalls.{not-far}
 use Rattle.sctp_delivery.proofs.SpreadEntries.{at-here, at-more, begun_to, is_at, to-all, to-more, to-up}
 use Rattle.sctp_delivery.proofs.SpreadFlight.{AreOn, AreSteps}
-use Rattle.sctp_delivery.proofs.UnwrappedHeard.{at-within}
+use Rattle.sctp_delivery.proofs.UnwrappedArrived.{at-within}
 
 -- ## Entries
 

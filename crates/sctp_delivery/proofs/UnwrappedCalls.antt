@@ -140,9 +140,9 @@ module _ (p st n : ℕ) (B : ℕ → ℕ) (E : ℕ → Bool) (M : ChunkPayloadDa
     -- nothing is read, and no TSN comes
     pub quiet : (a : ℕ) (old new : Stand) (d : AreDue a old) → new.read ≡ old.read
         → DueOn (Came old.receiver.cumulative_tsn old.receiver.beyond) d.k d.reach (stream_of st new.receiver)
-        → new.receiver.cumulative_tsn ≡ old.receiver.cumulative_tsn → new.receiver.beyond ≡ old.receiver.beyond → AreDue d.heard.place new
+        → new.receiver.cumulative_tsn ≡ old.receiver.cumulative_tsn → new.receiver.beyond ≡ old.receiver.beyond → AreDue d.arrived.place new
     quiet a old new d e due c b =
-        let h = d.heard in
+        let h = d.arrived in
         record {
           k = d.k;
           reach = d.reach;
@@ -150,7 +150,7 @@ module _ (p st n : ℕ) (B : ℕ → ℕ) (E : ℕ → Bool) (M : ChunkPayloadDa
               (subst (λ ts. DueOn (Came old.receiver.cumulative_tsn ts) d.k d.reach (stream_of st new.receiver)) (sym b) due);
           turns = subst (AreInTurn d.k) (sym e) d.turns;
           most = d.most;
-          heard = record {
+          arrived = record {
             place = h.place;
             least_is = omega arith;
             within = h.within;
@@ -162,7 +162,8 @@ module _ (p st n : ℕ) (B : ℕ → ℕ) (E : ℕ → Bool) (M : ChunkPayloadDa
 
     module _ (a : ℕ) (near : B n ≤ B a + 2 ^ 14) where
       -- a chunk with a new TSN, that is not too far past the lowest number
-      module _ (c : ChunkPayloadData) (told : Bool) (old new : Stand) (d : AreDue a old) (g : IsStepOf c) (acc : Accepts c told old.receiver new.receiver)
+      module _ (c : ChunkPayloadData) (answered : Bool) (old new : Stand) (d : AreDue a old) (g : IsStepOf c)
+          (acc : Accepts c answered old.receiver new.receiver)
           (read : new.read ≡ old.read) (fresh : has_come c.tsn (filter_of old.receiver) ≡ false)
           (close : is_too_far_on c (stream_of c.stream_identifier old.receiver) ≡ false) where
         abbrev sid : ℕ
@@ -170,12 +171,12 @@ module _ (p st n : ℕ) (B : ℕ → ℕ) (E : ℕ → Bool) (M : ChunkPayloadDa
 
         keeps : (l : InboundStream) → has_number sid l ≡ true → acc.queue.si ≡ number l
         keeps l e =
-            pushed-number c told acc.stream.queue acc.queue acc.pushed
+            pushed-number c answered acc.stream.queue acc.queue acc.pushed
             ∙ same-is (number acc.stream) sid (found-passes (has_number sid) old.receiver.streams acc.stream acc.found) ∙ sym (same-is (number l) sid e)
 
-        past : d.heard.place < g.before + 1
+        past : d.arrived.place < g.before + 1
         past =
-            let h = d.heard in
+            let h = d.arrived in
             let w = g.within in
             let v = h.within in
             let e = (neither (at_or_before c.tsn old.receiver.cumulative_tsn) (list_any (λ t. t == c.tsn) old.receiver.beyond) fresh).0 in
@@ -201,9 +202,9 @@ module _ (p st n : ℕ) (B : ℕ → ℕ) (E : ℕ → Bool) (M : ChunkPayloadDa
         held same = subst (DueOn Old d.k d.reach) (subst (λ s. stream_of s old.receiver ≡ Some acc.stream) same acc.found) d.due
 
         inserted : (more : ℕ) → d.reach ≤ more → (B (g.before + 1) ≤ B g.before) ⊎ (B (g.before + 1) ≤ more)
-            → Covers more d.heard.place old.receiver.cumulative_tsn (insert_before comes_before c.tsn old.receiver.beyond)
+            → Covers more d.arrived.place old.receiver.cumulative_tsn (insert_before comes_before c.tsn old.receiver.beyond)
         inserted more le so =
-            let h = d.heard in
+            let h = d.arrived in
             let v = h.covered in
             record {
               place = h.place;
@@ -219,7 +220,7 @@ module _ (p st n : ℕ) (B : ℕ → ℕ) (E : ℕ → Bool) (M : ChunkPayloadDa
         -- what came, but for the chunk, came before
         back : (y : ℕ) → y ≤ n → Came new.receiver.cumulative_tsn new.receiver.beyond y → Old y ⊎ ((y ≡ g.before + 1) × (E y ≡ true))
         back y le h =
-            let k = advance-back p st n B E M few up (d.reach + B (g.before + 1)) d.heard.place old.receiver.cumulative_tsn
+            let k = advance-back p st n B E M few up (d.reach + B (g.before + 1)) d.arrived.place old.receiver.cumulative_tsn
             (insert_before comes_before c.tsn old.receiver.beyond) (inserted (d.reach + B (g.before + 1)) (omega arith) (inr (omega arith))) y le
             (subst (λ (r : Reception). come (tsn p y) r.cumulative_tsn r.beyond ≡ true) acc.after h.1) in
             elim (or-split (at_or_before (tsn p y) old.receiver.cumulative_tsn)
@@ -236,20 +237,20 @@ module _ (p st n : ℕ) (B : ℕ → ℕ) (E : ℕ → Bool) (M : ChunkPayloadDa
             ]
 
         build : (more : ℕ) → d.reach ≤ more → more ≤ B n → DueIn d.k more new.receiver
-            → (B (g.before + 1) ≤ B g.before) ⊎ (B (g.before + 1) ≤ more) → AreDue d.heard.place new
+            → (B (g.before + 1) ≤ B g.before) ⊎ (B (g.before + 1) ≤ more) → AreDue d.arrived.place new
         build more le most due so = record {
           k = d.k;
           reach = more;
           due = due;
           turns = subst (AreInTurn d.k) (sym read) d.turns;
           most = most;
-          heard =
-              subst (λ (r : Reception). Covers more d.heard.place r.cumulative_tsn r.beyond) (sym acc.after)
-              (advanced p st n B E M few up more d.heard.place old.receiver.cumulative_tsn (insert_before comes_before c.tsn old.receiver.beyond)
+          arrived =
+              subst (λ (r : Reception). Covers more d.arrived.place r.cumulative_tsn r.beyond) (sym acc.after)
+              (advanced p st n B E M few up more d.arrived.place old.receiver.cumulative_tsn (insert_before comes_before c.tsn old.receiver.beyond)
               (inserted more le so));
         }
 
-        ordered : is_ordered_on st c ≡ true → AreDue d.heard.place new
+        ordered : is_ordered_on st c ≡ true → AreDue d.arrived.place new
         ordered e = elim (cases_lt d.reach (i + 1)) [
           | inl lt ↦ put (i + 1) (omega (arith, lt)) (omega arith) (let w = window.1 in omega (arith, w)) (omega (arith, top, o.1))
           | inr ge ↦ put d.reach (omega arith) (omega (arith, ge)) dd.far d.most
@@ -278,7 +279,7 @@ module _ (p st n : ℕ) (B : ℕ → ℕ) (E : ℕ → Bool) (M : ChunkPayloadDa
 
             window : (dd.low ≤ i) × (i < dd.low + 2 ^ 15)
             window =
-                let h = d.heard in
+                let h = d.arrived in
                 let f = past in
                 let x = up h.place (g.before + 1) (omega (arith, f)) in
                 let y = up a h.place h.least_is in
@@ -293,11 +294,11 @@ module _ (p st n : ℕ) (B : ℕ → ℕ) (E : ℕ → Bool) (M : ChunkPayloadDa
             of : IsOf i c
             of = record { before = g.before; within = g.within; is = g.is; begun = o.1; made = g.made; on = e; inner = λ f. g.inner e f ∙ o.1 }
 
-            put : (more : ℕ) → d.reach ≤ more → i < more → more ≤ dd.low + 2 ^ 15 → more ≤ B n → AreDue d.heard.place new
+            put : (more : ℕ) → d.reach ≤ more → i < more → more ≤ dd.low + 2 ^ 15 → more ≤ B n → AreDue d.arrived.place new
             put more le lt far most =
                 let b = o.1 in
                 let at : has_tsn (tsn p (g.before + 1)) c ≡ true = eq-eqb c.tsn (tsn p (g.before + 1)) g.is in
-                let x = push-ordered p n B Fits Old (at-in p st n B E M few up) d.k d.reach more i (g.before + 1) c told acc.stream.queue acc.queue dd kind
+                let x = push-ordered p n B Fits Old (at-in p st n B E M few up) d.k d.reach more i (g.before + 1) c answered acc.stream.queue acc.queue dd kind
                 (of, omega arith, tt)
                 (λ cs none r. rises-put p st n B E M few up i 0 c cs of (omega arith) none r) o.2 at o.1 window.0 window.1 le lt far acc.pushed in
                 build more le most
@@ -307,7 +308,7 @@ module _ (p st n : ℕ) (B : ℕ → ℕ) (E : ℕ → Bool) (M : ChunkPayloadDa
                   | inr z ↦ inr (subst (IsKeptAt p n B Fits Old x.0.index acc.queue.held.ordered) (sym z.0) x.1)
                 ]))) (inr (omega (arith, b, lt)))
 
-        other : is_ordered_on st c ≡ false → AreDue d.heard.place new
+        other : is_ordered_on st c ≡ false → AreDue d.arrived.place new
         other e = build d.reach (omega arith) d.most
             (on-of p st n B E M few up Old (Came new.receiver.cumulative_tsn new.receiver.beyond) less d.k d.reach (stream_of st new.receiver)
             (by (sid == st) refl e))
@@ -324,14 +325,14 @@ module _ (p st n : ℕ) (B : ℕ → ℕ) (E : ℕ → Bool) (M : ChunkPayloadDa
             by true on h =
                 let same = same-is sid st on in
                 subst (DueOn Old d.k d.reach) (sym (streams-here same))
-                (push-unordered p n B Fits Old (at-in p st n B E M few up) d.k d.reach c told acc.stream.queue acc.queue (kind c.unordered h) acc.pushed
+                (push-unordered p n B Fits Old (at-in p st n B E M few up) d.k d.reach c answered acc.stream.queue acc.queue (kind c.unordered h) acc.pushed
                 (held same))
             by false on h = subst (DueOn Old d.k d.reach) (sym (streams-elsewhere on)) d.due
 
-        pub taken-due : AreDue d.heard.place new
+        pub taken-due : AreDue d.arrived.place new
         taken-due = by (is_ordered_on st c) refl
           where
-            by : (b : Bool) → is_ordered_on st c ≡ b → AreDue d.heard.place new
+            by : (b : Bool) → is_ordered_on st c ≡ b → AreDue d.arrived.place new
             by true e = ordered e
             by false e = other e
 
@@ -344,9 +345,9 @@ module _ (p st n : ℕ) (B : ℕ → ℕ) (E : ℕ → Bool) (M : ChunkPayloadDa
       Then = Came old.receiver.cumulative_tsn old.receiver.beyond
 
       read-to : (k : ℕ) → DueOn Then k d.reach (stream_of st new.receiver) → AreInTurn k (with_message stream (message_on stream old.receiver) old.read)
-          → AreDue d.heard.place new
+          → AreDue d.arrived.place new
       read-to k due turns =
-          let h = d.heard in
+          let h = d.arrived in
           record {
             k = k;
             reach = d.reach;
@@ -354,7 +355,7 @@ module _ (p st n : ℕ) (B : ℕ → ℕ) (E : ℕ → Bool) (M : ChunkPayloadDa
                 (subst (λ ts. DueOn (Came old.receiver.cumulative_tsn ts) k d.reach (stream_of st new.receiver)) (sym beyond) due);
             turns = subst (AreInTurn k) (sym read) turns;
             most = d.most;
-            heard = record {
+            arrived = record {
               place = h.place;
               least_is = omega arith;
               within = h.within;
@@ -367,7 +368,7 @@ module _ (p st n : ℕ) (B : ℕ → ℕ) (E : ℕ → Bool) (M : ChunkPayloadDa
       found : stream_of st new.receiver ≡ find (has_number st) (change_where (has_number stream) stream_read old.receiver.streams)
       found = ap (find (has_number st)) streams
 
-      here : stream ≡ st → (o : Option InboundStream) → stream_of stream old.receiver ≡ o → AreDue d.heard.place new
+      here : stream ≡ st → (o : Option InboundStream) → stream_of stream old.receiver ≡ o → AreDue d.arrived.place new
       here same None e =
           let due = subst (λ s. DueOn Then d.k d.reach (stream_of s old.receiver)) (sym same) d.due in
           let none = subst (λ s. find (has_number s) (change_where (has_number stream) stream_read old.receiver.streams) ≡ None) same
@@ -394,7 +395,7 @@ module _ (p st n : ℕ) (B : ℕ → ℕ) (E : ℕ → Bool) (M : ChunkPayloadDa
               by true false h = turn-more p st n B E M few up d.k after old.read le d.turns
               by false c h = turn-more p st n B E M few up d.k after old.read le d.turns
 
-      elsewhere : (stream == st) ≡ false → AreDue d.heard.place new
+      elsewhere : (stream == st) ≡ false → AreDue d.arrived.place new
       elsewhere differ =
           read-to d.k (subst (DueOn Then d.k d.reach) (sym (found ∙ changed-elsewhere stream stream_read (λ l h. refl) old.receiver.streams st differ)) d.due)
           (by (message_on stream old.receiver))
@@ -405,10 +406,10 @@ module _ (p st n : ℕ) (B : ℕ → ℕ) (E : ℕ → Bool) (M : ChunkPayloadDa
               subst (λ b. Where (b && starts_ordered set.chunks) ((i : ℕ) × (i < d.k) × Fits i set.chunks × AreInTurn i old.read)
               (AreInTurn d.k old.read)) (sym differ) d.turns
 
-      pub read-on-due : AreDue d.heard.place new
+      pub read-on-due : AreDue d.arrived.place new
       read-on-due = by (stream == st) refl
         where
-          by : (b : Bool) → (stream == st) ≡ b → AreDue d.heard.place new
+          by : (b : Bool) → (stream == st) ≡ b → AreDue d.arrived.place new
           by true e = here (same-is stream st e) (stream_of stream old.receiver) refl
           by false e = elsewhere e
 
@@ -431,27 +432,27 @@ module _ (p st n : ℕ) (B : ℕ → ℕ) (E : ℕ → Bool) (M : ChunkPayloadDa
 
     module _ (a : ℕ) (near : B n ≤ B a + 2 ^ 14) (f : ForwardTsn) (m : ℕ) (old new : Stand) (d : AreDue a old) (le : m ≤ n)
         (is : f.new_cumulative_tsn ≡ tsn p m) (after : new.receiver ≡ after_forward_tsn f old.receiver) (read : new.read ≡ old.read)
-        (naming : IsNamingTo a m f.streams) (told : names_too_far f old.receiver ≡ false) (shut : names_closed f old.receiver ≡ false)
+        (naming : IsNamingTo a m f.streams) (answered : names_too_far f old.receiver ≡ false) (shut : names_closed f old.receiver ≡ false)
         (missing : (i : ℕ) (cs : List ChunkPayloadData) → Fits i cs → misses (tsn p m) cs ≡ true
         → (z : ℕ) × (z ≤ m) × (E z ≡ true) × (B z ≡ i + 1) × (list_any (has_tsn (tsn p z)) cs ≡ false)) where
-      pub ahead-is : is_stale f old.receiver ≡ false → d.heard.place < m
+      pub ahead-is : is_stale f old.receiver ≡ false → d.arrived.place < m
       ahead-is e =
-          let h = d.heard in
+          let h = d.arrived in
           let v = h.within in
           let t : nat_le m h.place ≡ false =
           sym (at-or-before p m h.place (omega (arith, le, few)) (omega (arith, v, few))) ∙ ap (λ u. at_or_before u (tsn p h.place)) (sym is)
           ∙ ap (at_or_before f.new_cumulative_tsn) (sym h.is) ∙ e in
           grind (arith, nat_tests, t)
 
-      pub is-ahead : d.heard.place < m → is_ahead f old.receiver ≡ true
+      pub is-ahead : d.arrived.place < m → is_ahead f old.receiver ≡ true
       is-ahead lt =
-          let h = d.heard in
+          let h = d.arrived in
           let v = h.within in
           let t : nat_lt h.place m ≡ true = grind (arith, nat_tests, lt) in
           ap (λ u. comes_before u f.new_cumulative_tsn) h.is ∙ ap (comes_before (tsn p h.place)) is
           ∙ before p h.place m (omega (arith, v, few)) (omega (arith, le, few)) ∙ t
 
-      pub none-among : (q : ChunkForwardTsnStream → Bool) → (is_ahead f old.receiver && list_any q f.streams) ≡ false → d.heard.place < m
+      pub none-among : (q : ChunkForwardTsnStream → Bool) → (is_ahead f old.receiver && list_any q f.streams) ≡ false → d.arrived.place < m
           → (x : ChunkForwardTsnStream) → filter (is_pair_of st) f.streams ≡ x ∷ [] → q x ≡ false
       none-among q e lt x only =
           let any : list_any q f.streams ≡ false = ap (λ b. b && list_any q f.streams) (sym (is-ahead lt)) ∙ e in
@@ -484,8 +485,8 @@ module _ (p st n : ℕ) (B : ℕ → ℕ) (E : ℕ → Bool) (M : ChunkPayloadDa
       abbrev rest : List ℕ
       rest = filter (λ u. not (at_or_before u f.new_cumulative_tsn)) old.receiver.beyond
 
-      heard-upto : is_stale f old.receiver ≡ false → (more : ℕ) → d.reach ≤ more → B m ≤ more → Covers more d.heard.place f.new_cumulative_tsn rest
-      heard-upto e more up' covered =
+      arrived-upto : is_stale f old.receiver ≡ false → (more : ℕ) → d.reach ≤ more → B m ≤ more → Covers more d.arrived.place f.new_cumulative_tsn rest
+      arrived-upto e more up' covered =
           let lt = ahead-is e in
           record {
             place = m;
@@ -494,7 +495,7 @@ module _ (p st n : ℕ) (B : ℕ → ℕ) (E : ℕ → Bool) (M : ChunkPayloadDa
             is = is;
             covered = covered;
             each = every-of (IsBeyond d.reach) (IsBeyond more) (λ u. beyond-more p st n B E M few up d.reach more u up') rest
-                (every-passing (IsBeyond d.reach) (λ u. not (at_or_before u f.new_cumulative_tsn)) old.receiver.beyond d.heard.each);
+                (every-passing (IsBeyond d.reach) (λ u. not (at_or_before u f.new_cumulative_tsn)) old.receiver.beyond d.arrived.each);
           }
 
       pub now-is : is_stale f old.receiver ≡ false → new.receiver ≡ without_incomplete f.new_cumulative_tsn (follow_forward_tsn f old.receiver)
@@ -506,7 +507,7 @@ module _ (p st n : ℕ) (B : ℕ → ℕ) (E : ℕ → Bool) (M : ChunkPayloadDa
       came-by : is_stale f old.receiver ≡ false → (y : ℕ) → y ≤ n → New y → (y ≤ m) ⊎ Prior y
       came-by e y most h =
           let t = f.new_cumulative_tsn in
-          let k = advance-back p st n B E M few up (d.reach + B m) d.heard.place t rest (heard-upto e (d.reach + B m) (omega arith) (omega arith)) y most
+          let k = advance-back p st n B E M few up (d.reach + B m) d.arrived.place t rest (arrived-upto e (d.reach + B m) (omega arith) (omega arith)) y most
           (subst (λ (r : Reception). come (tsn p y) r.cumulative_tsn r.beyond ≡ true) (now-is e) h.1) in
           elim (or-split (at_or_before (tsn p y) t) (list_any (λ u. u == tsn p y) rest) k) [
             | inl z ↦
@@ -522,16 +523,16 @@ module _ (p st n : ℕ) (B : ℕ → ℕ) (E : ℕ → Bool) (M : ChunkPayloadDa
 
       -- with this reach
       leads-to : is_stale f old.receiver ≡ false → (more : ℕ) → d.reach ≤ more → more ≤ B n → B m ≤ more
-          → DueOn New d.k more (option_map changed (stream_of st old.receiver)) → AreDue d.heard.place new
+          → DueOn New d.k more (option_map changed (stream_of st old.receiver)) → AreDue d.arrived.place new
       leads-to e more up' most covered due = record {
         k = d.k;
         reach = more;
         due = subst (DueOn New d.k more) (sym (found-after e)) due;
         turns = subst (AreInTurn d.k) (sym read) d.turns;
         most = most;
-        heard =
-            subst (λ (r : Reception). Covers more d.heard.place r.cumulative_tsn r.beyond) (sym (now-is e))
-            (advanced p st n B E M few up more d.heard.place f.new_cumulative_tsn rest (heard-upto e more up' covered));
+        arrived =
+            subst (λ (r : Reception). Covers more d.arrived.place r.cumulative_tsn r.beyond) (sym (now-is e))
+            (advanced p st n B E M few up more d.arrived.place f.new_cumulative_tsn rest (arrived-upto e more up' covered));
       }
 
       -- the queue of the stream, by its names
@@ -599,21 +600,21 @@ module _ (p st n : ℕ) (B : ℕ → ℕ) (E : ℕ → Bool) (M : ChunkPayloadDa
       )
 
       unnamed : is_stale f old.receiver ≡ false → filter (is_pair_of st) f.streams ≡ [] → B m ≤ B a → ((k : ℕ) → a < k → k ≤ m → E k ≡ false)
-          → AreDue d.heard.place new
+          → AreDue d.arrived.place new
       unnamed e none most clear = leads-to e d.reach (omega arith) d.most covered (by (stream_of st old.receiver) refl)
         where
           covered : B m ≤ d.reach
-          covered = let h = d.heard in let y = up a h.place h.least_is in let z = h.covered in omega (arith, most, y, z)
+          covered = let h = d.arrived in let y = up a h.place h.least_is in let z = h.covered in omega (arith, most, y, z)
 
           came : (y : ℕ) → y ≤ n → y ≤ m → E y ≡ true → Prior y
-          came y within upto on = elim (cases_lt d.heard.place y) [
-            | inl lt ↦ let x = d.heard.least_is in absurd (not_both (sym (clear y (omega (arith, x, lt)) upto) ∙ on))
+          came y within upto on = elim (cases_lt d.arrived.place y) [
+            | inl lt ↦ let x = d.arrived.least_is in absurd (not_both (sym (clear y (omega (arith, x, lt)) upto) ∙ on))
             | inr ge ↦
-                let v = d.heard.within in
-                let t : nat_le y d.heard.place ≡ true = grind (arith, nat_tests, ge) in (
+                let v = d.arrived.within in
+                let t : nat_le y d.arrived.place ≡ true = grind (arith, nat_tests, ge) in (
                   on,
                   or-left (at_or_before (tsn p y) old.receiver.cumulative_tsn) (list_any (λ u. u == tsn p y) old.receiver.beyond)
-                      (ap (at_or_before (tsn p y)) d.heard.is ∙ at-or-before p y d.heard.place (omega (arith, within, few)) (omega (arith, v, few)) ∙ t),
+                      (ap (at_or_before (tsn p y)) d.arrived.is ∙ at-or-before p y d.arrived.place (omega (arith, within, few)) (omega (arith, v, few)) ∙ t),
                 )
           ]
 
@@ -639,22 +640,23 @@ module _ (p st n : ℕ) (B : ℕ → ℕ) (E : ℕ → Bool) (M : ChunkPayloadDa
               gone)
 
       named : is_stale f old.receiver ≡ false → (j : ℕ) → j + 1 ≡ B m
-          → filter (is_pair_of st) f.streams ≡ record { identifier = st; sequence = j % 2 ^ 16 } ∷ [] → AreDue d.heard.place new
+          → filter (is_pair_of st) f.streams ≡ record { identifier = st; sequence = j % 2 ^ 16 } ∷ [] → AreDue d.arrived.place new
       named e j last only = by (stream_of st old.receiver) refl
         where
-          lt : d.heard.place < m
+          lt : d.arrived.place < m
           lt = ahead-is e
 
-          by : (o : Option InboundStream) → stream_of st old.receiver ≡ o → AreDue d.heard.place new
+          by : (o : Option InboundStream) → stream_of st old.receiver ≡ o → AreDue d.arrived.place new
           by None g =
               let open' = none-among (λ x. not (is_open x.identifier old.receiver)) shut lt (record { identifier = st; sequence = j % 2 ^ 16 }) only in
               absurd (not_both (sym open' ∙ ap (λ o. not (is_some o)) g))
           by (Some l) g =
-              let h = d.heard in
+              let h = d.arrived in
               let held = subst (DueOn Prior d.k d.reach) g d.due in
               let close : is_name_too_far (j % 2 ^ 16) l.queue.held ≡ false =
               ap (is_named_too_far (record { identifier = st; sequence = j % 2 ^ 16 })) (sym g)
-              ∙ none-among (λ x. is_named_too_far x (stream_of x.identifier old.receiver)) told lt (record { identifier = st; sequence = j % 2 ^ 16 }) only in
+              ∙ none-among (λ x. is_named_too_far x (stream_of x.identifier old.receiver))
+              answered lt (record { identifier = st; sequence = j % 2 ^ 16 }) only in
               let x = up h.place m (omega (arith, lt)) in
               let y = up a h.place h.least_is in
               let z = h.covered in
@@ -679,10 +681,10 @@ module _ (p st n : ℕ) (B : ℕ → ℕ) (E : ℕ → Bool) (M : ChunkPayloadDa
               (sym names) (incomplete-due p n B Fits New (at-in p st n B E M few up) d.k s.more f.new_cumulative_tsn
               (held_after_unordered_skip f.new_cumulative_tsn q) u past)))
 
-      pub followed-due : AreDue d.heard.place new
+      pub followed-due : AreDue d.arrived.place new
       followed-due = by (is_stale f old.receiver) refl
         where
-          by : (b : Bool) → is_stale f old.receiver ≡ b → AreDue d.heard.place new
+          by : (b : Bool) → is_stale f old.receiver ≡ b → AreDue d.arrived.place new
           by true e =
               let same : new.receiver ≡ old.receiver = after
               ∙ ap (λ b. if b then old.receiver

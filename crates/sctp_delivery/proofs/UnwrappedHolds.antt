@@ -103,7 +103,7 @@ module _ (p st n : ℕ) (B : ℕ → ℕ) (E : ℕ → Bool) (M : ChunkPayloadDa
     pub due : DueIn k reach s.receiver
     pub turns : AreInTurn k s.read
     pub most : reach ≤ B n
-    pub heard : Covers reach a s.receiver.cumulative_tsn s.receiver.beyond
+    pub arrived : Covers reach a s.receiver.cumulative_tsn s.receiver.beyond
 
   module _ (few : n < 2 ^ 31) (up : (j k : ℕ) → j ≤ k → B j ≤ B k) where
     -- ## Chunks

@@ -115,6 +115,6 @@ in-order tsn size max most limits cs s small some r few =
           (stand a.numbered a.sent a.once s.receiving.read e),
       apart a.numbered a.sent a.once s.receiving.read e (read_once.none-twice tsn size max most limits cs s r small few),
       λ st.
-          let t = (u.unwrapped.told st).0 in
+          let t = (u.unwrapped.answered st).0 in
           in-order-of st tsn _ u.numbered u.sent few long h.held.stands.queued.line a.once a.rising a.placed t.k s.receiving.read e t.turns,
     )

@@ -300,9 +300,9 @@ module _ (p n : ℕ) (B : ℕ → ℕ) (Fits : ℕ → List ChunkPayloadData →
         (every-joined P (take t.first xs) (drop (t.first + t.count) xs) (every-taken P t.first xs all) (every-left P (t.first + t.count) xs all)) d)
 
     -- an unordered one
-    pub push-unordered : (k reach : ℕ) (c : ChunkPayloadData) (told : Bool) (old new : ReassemblyState) → c.unordered ≡ true → Pushes c told old new
+    pub push-unordered : (k reach : ℕ) (c : ChunkPayloadData) (answered : Bool) (old new : ReassemblyState) → c.unordered ≡ true → Pushes c answered old new
         → IsDue k reach old.held → IsDue k reach new.held
-    push-unordered k reach c told old new u p d = by told (subst (λ b. PushesAs b c told old new) u p).0
+    push-unordered k reach c answered old new u p d = by answered (subst (λ b. PushesAs b c answered old new) u p).0
       where
         all : Every (λ x. x.unordered ≡ true) (insert_before chunk_before c old.held.unassembled)
         all = every-inserted (λ x. x.unordered ≡ true) chunk_before c old.held.unassembled u d.unassembled
@@ -379,14 +379,14 @@ module _ (p n : ℕ) (B : ℕ → ℕ) (Fits : ℕ → List ChunkPayloadData →
           by false e g = any-inserted (has_place y) set_before (new_set x) ss (new g)
 
     -- an ordered one of the place y, of an index in the window
-    pub push-ordered : (k reach more i y : ℕ) (c : ChunkPayloadData) (told : Bool) (old new : ReassemblyState) (d : IsDue k reach old.held)
+    pub push-ordered : (k reach more i y : ℕ) (c : ChunkPayloadData) (answered : Bool) (old new : ReassemblyState) (d : IsDue k reach old.held)
         → c.unordered ≡ false → Fits i (c ∷ [])
         → ((cs : List ChunkPayloadData) → list_any (has_tsn c.tsn) cs ≡ false → Fits i cs → Fits i (insert_before chunk_before c cs))
         → c.stream_sequence_number ≡ i % 2 ^ 16 → has_tsn (tsn p y) c ≡ true → B y ≡ i + 1 → d.low ≤ i → i < d.low + 2 ^ 15 → reach ≤ more → i < more
-        → more ≤ d.low + 2 ^ 15 → Pushes c told old new → (e : IsDue k more new.held) × IsKeptAt e.index new.held.ordered y
-    push-ordered k reach more i y c told old new d u single put is at begun low top le top' far p' =
+        → more ≤ d.low + 2 ^ 15 → Pushes c answered old new → (e : IsDue k more new.held) × IsKeptAt e.index new.held.ordered y
+    push-ordered k reach more i y c answered old new d u single put is at begun low top le top' far p' =
         subst (λ (s : ReassemblyState). (e : IsDue k more s.held) × IsKeptAt e.index s.held.ordered y)
-        (sym (subst (λ b. PushesAs b c told old new) u p').0) (by (comes_before16 c.stream_sequence_number old.held.next_ssn) refl)
+        (sym (subst (λ b. PushesAs b c answered old new) u p').0) (by (comes_before16 c.stream_sequence_number old.held.next_ssn) refl)
       where
         e : IsDue k more old.held
         e = wider k reach more old.held d le far

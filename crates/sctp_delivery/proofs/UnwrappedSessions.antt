@@ -33,7 +33,7 @@ use Rattle.sctp_delivery.specs.SenderCalls.{Made, SenderCall, data_chunk, forwar
 use Rattle.sctp_delivery.specs.Session.{Call, ReceiverFollows, RunsTo, SenderFollows, Session, at_start, of_receiver, of_sender}
 use Rattle.sctp_delivery.proofs.Calls.{numbered_after}
 use Rattle.sctp_delivery.proofs.Delivered.{found-sent, next_tsn}
-use Rattle.sctp_delivery.proofs.UnwrappedHeard.{IsPiece, Rising, missing, missing-of}
+use Rattle.sctp_delivery.proofs.UnwrappedArrived.{IsPiece, Rising, missing, missing-of}
 use Rattle.sctp_reassembly.specs.reassembly_queue.Skips.{misses}
 use Rattle.sctp_serial.specs.DataChunks.{has_tsn}
 use Rattle.std.proofs.lemmas.Bool.{cases_lt}
@@ -145,19 +145,19 @@ module _ (p st n m : ℕ) (B C : ℕ → ℕ) (E F : ℕ → Bool) (M N : ChunkP
   came-more a s d y most h = elim (cases_lt n y) [
     | inl lt ↦ absurd (elim (or-split (at_or_before (tsn p y) s.receiver.cumulative_tsn) (list_any (λ t. t == tsn p y) s.receiver.beyond) h.1) [
       | inl g ↦
-          let w = d.heard.within in
-          let t : nat_le y d.heard.place ≡ true =
-          sym (at-or-before p y d.heard.place (omega (arith, most, few)) (omega (arith, w, le, few))) ∙ ap (at_or_before (tsn p y)) (sym d.heard.is) ∙ g in
-          let u : y ≤ d.heard.place = grind (arith, nat_tests, t) in
+          let w = d.arrived.within in
+          let t : nat_le y d.arrived.place ≡ true =
+          sym (at-or-before p y d.arrived.place (omega (arith, most, few)) (omega (arith, w, le, few))) ∙ ap (at_or_before (tsn p y)) (sym d.arrived.is) ∙ g in
+          let u : y ≤ d.arrived.place = grind (arith, nat_tests, t) in
           omega (arith, u, w, lt)
-      | inr g ↦ none-new d.reach y s.receiver.beyond most lt d.heard.each g
+      | inr g ↦ none-new d.reach y s.receiver.beyond most lt d.arrived.each g
     ])
     | inr ge ↦ (ge, (sym (alike y ge) ∙ h.0, h.1))
   ]
 
-  abbrev are-more : (a b : ℕ) (s : Stand) (d : AreDue p st n B E M a s) → b ≤ d.heard.place → AreDue p st m C F N b s
+  abbrev are-more : (a b : ℕ) (s : Stand) (d : AreDue p st n B E M a s) → b ≤ d.arrived.place → AreDue p st m C F N b s
   are-more a b s d least =
-      let h = d.heard in
+      let h = d.arrived in
       let w = h.within in
       let x = same h.place w in
       let y = h.covered in
@@ -170,7 +170,7 @@ module _ (p st n m : ℕ) (B C : ℕ → ℕ) (E F : ℕ → Bool) (M N : ChunkP
             (came-more a s d) d.k d.reach (stream_of st s.receiver) d.due;
         turns = turns-more d.k s.read d.turns;
         most = omega (arith, most, z, up);
-        heard = record {
+        arrived = record {
           place = h.place;
           least_is = least;
           within = omega (arith, w, le);
@@ -250,8 +250,8 @@ module _ (st first : ℕ) where
   abbrev pub IsUpTo : ℕ → Sack → Type 0
   IsUpTo place k = (x : ℕ) × (k.cumulative_tsn_ack ≡ tsn (base first) x) × (x ≤ place)
 
-  abbrev pub IsTold : ℕ → List Entry → ℕ → Session → Type 0
-  IsTold n sent a s = (d : AreDue (base first) st n (to sent) (at sent) (Was sent) a s.receiving) × Every (IsUpTo d.heard.place) s.sacks
+  abbrev pub IsAnswered : ℕ → List Entry → ℕ → Session → Type 0
+  IsAnswered n sent a s = (d : AreDue (base first) st n (to sent) (at sent) (Was sent) a s.receiving) × Every (IsUpTo d.arrived.place) s.sacks
 
   upto-more : (a b : ℕ) (ks : List Sack) → a ≤ b → Every (IsUpTo a) ks → Every (IsUpTo b) ks
   upto-more a b ks le h = every-of (IsUpTo a) (IsUpTo b) (λ k x. let y = x.2 in (x.0, x.1, omega (arith, y, le))) ks h
@@ -270,29 +270,29 @@ module _ (st first : ℕ) where
   same-to n sent more long (inl e) k le = ap (begun_to st k) e
   same-to n sent more long (inr x) k le = ap (begun_to st k) x.1 ∙ to-more st k x.0 sent (omega (arith, le, long))
 
-  pub sender-told : (n : ℕ) (call : SenderCall) (old new : Session) (ns : List Numbered) (sent : List Entry) (i : IsSpread first n old ns sent)
+  pub sender-answered : (n : ℕ) (call : SenderCall) (old new : Session) (ns : List Numbered) (sent : List Entry) (i : IsSpread first n old ns sent)
       → (few : n + distance (next_tsn old) (next_tsn new) < 2 ^ 31) → (f : SenderFollows call old new) → (x : Spreads first n call old new ns sent i)
-      → IsTold n sent i.step.numbered.acked old → IsTold (n + distance (next_tsn old) (next_tsn new)) x.more x.spread.step.numbered.acked new
-  sender-told n call old new ns sent i few f x t =
+      → IsAnswered n sent i.step.numbered.acked old → IsAnswered (n + distance (next_tsn old) (next_tsn new)) x.more x.spread.step.numbered.acked new
+  sender-answered n call old new ns sent i few f x t =
       let d = t.0 in
       let m = n + distance (next_tsn old) (next_tsn new) in
       let b = x.spread.step.numbered.acked in
       let total = x.spread.step.numbered.total in
       let is = x.spread.step.numbered.acked_is in
-      let w = d.heard.within in
-      let low = d.heard.least_is in
-      let least : b ≤ d.heard.place = elim (acked-by call old new f) [
+      let w = d.arrived.within in
+      let low = d.arrived.least_is in
+      let least : b ≤ d.arrived.place = elim (acked-by call old new f) [
         | inl e ↦
             let same = same-place (base first) b i.step.numbered.acked (omega (arith, total, few)) (omega (arith, low, w, few))
             (sym is ∙ e ∙ i.step.numbered.acked_is) in
             omega (arith, same, low)
         | inr k ↦
-            let u = every-contained (IsUpTo d.heard.place) old.sacks k.0 k.1 t.1 in
+            let u = every-contained (IsUpTo d.arrived.place) old.sacks k.0 k.1 t.1 in
             let le = u.2 in
             let same = same-place (base first) b u.0 (omega (arith, total, few)) (omega (arith, le, w, few)) (sym is ∙ k.2 ∙ u.1) in
             omega (arith, same, le)
       ] in
-      subst (IsTold m x.more b) (sym f.after) (
+      subst (IsAnswered m x.more b) (sym f.after) (
         are-more (base first) st n m (to sent) (to x.more) (at sent) (at x.more) (Was sent) (Was x.more) few (omega arith)
             (same-to n sent x.more i.long x.once) (to-up st n m x.more (omega arith)) (same-at n sent x.more i.long x.once)
             (was-more sent x.more x.once) i.step.numbered.acked b old.receiving d least,
@@ -382,7 +382,7 @@ module _ (st first : ℕ) where
       Old = Came (base first) st n (to sent) (at sent) (Was sent) old.receiving.receiver.cumulative_tsn old.receiving.receiver.beyond
 
       abbrev Now : Type 0
-      Now = AreDue (base first) st n (to sent) (at sent) (Was sent) d.heard.place new.receiving
+      Now = AreDue (base first) st n (to sent) (at sent) (Was sent) d.arrived.place new.receiving
 
       same-streams : new.receiving.read ≡ old.receiving.read → new.receiving.receiver.streams ≡ old.receiving.receiver.streams
           → new.receiving.receiver.cumulative_tsn ≡ old.receiving.receiver.cumulative_tsn
@@ -401,10 +401,10 @@ module _ (st first : ℕ) where
       due-after (incoming.takes c Repeat) f =
           same-streams f.step.read (ap (λ (r : Reception). r.streams) f.step.receiver) (ap (λ (r : Reception). r.cumulative_tsn) f.step.receiver)
           (ap (λ (r : Reception). r.beyond) f.step.receiver)
-      due-after (incoming.takes c (New told)) f =
-          let fresh = fresh-new c.tsn told old.receiving.receiver f.accepted.1 in
+      due-after (incoming.takes c (New answered)) f =
+          let fresh = fresh-new c.tsn answered old.receiving.receiver f.accepted.1 in
           taken-due (base first) st n (to sent) (at sent)
-          (Was sent) few grows acked near c told old.receiving new.receiving d (step-of c f.handed) f.step.receiver f.step.read
+          (Was sent) few grows acked near c answered old.receiving new.receiving d (step-of c f.handed) f.step.receiver f.step.read
           fresh (not-far c old.receiving.receiver fresh f.accepted.0)
       due-after (incoming.follows g) f =
           let x = every-contained (IsMadeNaming st (base first) acked sent) old.made (forward_tsn g) f.handed (i.names st) in
@@ -424,18 +424,18 @@ module _ (st first : ℕ) where
           (ap (λ (r : Reception). r.cumulative_tsn) f.step.receiver) (ap (λ (r : Reception). r.beyond) f.step.receiver) f.step.read
 
   -- the SACKs that were made
-  told-after : (place more : ℕ) (old : Session) (call : ReceiverCall) → old.receiving.receiver.cumulative_tsn ≡ tsn (base first) place → place ≤ more
+  answered-after : (place more : ℕ) (old : Session) (call : ReceiverCall) → old.receiving.receiver.cumulative_tsn ≡ tsn (base first) place → place ≤ more
       → Every (IsUpTo place) old.sacks → Every (IsUpTo more) (reports_after call old.receiving.receiver old.sacks)
-  told-after place more old (incoming.reports credit) is le h = ((place, is, le), upto-more place more old.sacks le h)
-  told-after place more old (incoming.opens stream) is le h = upto-more place more old.sacks le h
-  told-after place more old (incoming.takes c arrival) is le h = upto-more place more old.sacks le h
-  told-after place more old (incoming.follows f) is le h = upto-more place more old.sacks le h
-  told-after place more old (incoming.reads stream) is le h = upto-more place more old.sacks le h
+  answered-after place more old (incoming.reports credit) is le h = ((place, is, le), upto-more place more old.sacks le h)
+  answered-after place more old (incoming.opens stream) is le h = upto-more place more old.sacks le h
+  answered-after place more old (incoming.takes c arrival) is le h = upto-more place more old.sacks le h
+  answered-after place more old (incoming.follows f) is le h = upto-more place more old.sacks le h
+  answered-after place more old (incoming.reads stream) is le h = upto-more place more old.sacks le h
 
-  pub receiver-told : (n : ℕ) (call : ReceiverCall) (old new : Session) (ns : List Numbered) (sent : List Entry) (i : IsSpread first n old ns sent)
+  pub receiver-answered : (n : ℕ) (call : ReceiverCall) (old new : Session) (ns : List Numbered) (sent : List Entry) (i : IsSpread first n old ns sent)
       → (few : n < 2 ^ 31) → (f : ReceiverFollows call old new) → (spread : IsSpread first n new ns sent)
-      → IsTold n sent i.step.numbered.acked old → IsTold n sent spread.step.numbered.acked new
-  receiver-told n call old new ns sent i few f spread t =
+      → IsAnswered n sent i.step.numbered.acked old → IsAnswered n sent spread.step.numbered.acked new
+  receiver-answered n call old new ns sent i few f spread t =
       let d = t.0 in
       let e = due-after n old ns sent i few new d call f in
       let a = i.step.numbered.acked in
@@ -444,13 +444,13 @@ module _ (st first : ℕ) where
       let most = spread.step.numbered.total in
       let same : b ≡ a = same-place (base first) b a (omega (arith, most, few)) (omega (arith, total, few))
       (sym spread.step.numbered.acked_is ∙ ap (λ (s : Session). s.sending.sender.flight.acked_tsn) f.after ∙ i.step.numbered.acked_is) in
-      let low = d.heard.least_is in
-      let up = e.heard.least_is in (
+      let low = d.arrived.least_is in
+      let up = e.arrived.least_is in (
         are-more (base first) st n n (to sent) (to sent) (at sent) (at sent) (Was sent) (Was sent) few (omega arith) (λ k le. refl) (omega arith)
-            (λ k le. refl) (λ c w. w) d.heard.place b new.receiving e
+            (λ k le. refl) (λ c w. w) d.arrived.place b new.receiving e
             (omega (arith, same, low, up)),
-        subst (Every (IsUpTo e.heard.place)) (sym (ap (λ (s : Session). s.sacks) f.after))
-            (told-after d.heard.place e.heard.place old call d.heard.is up t.1),
+        subst (Every (IsUpTo e.arrived.place)) (sym (ap (λ (s : Session). s.sacks) f.after))
+            (answered-after d.arrived.place e.arrived.place old call d.arrived.is up t.1),
       )
 
 -- ## Every session
@@ -458,7 +458,7 @@ module _ (st first : ℕ) where
 -- on each stream that each FORWARD-TSN names, what is read is in turn
 pub record IsUnwrapped (first n : ℕ) (s : Session) (ns : List Numbered) (sent : List Entry) : Type 0 where
   pub spread : IsSpread first n s ns sent
-  pub told : (st : ℕ) → IsTold st first n sent spread.step.numbered.acked s
+  pub answered : (st : ℕ) → IsAnswered st first n sent spread.step.numbered.acked s
 
 -- the writes and entries of a session
 pub record HasUnwrapped (first n : ℕ) (s : Session) : Type 0 where
@@ -474,7 +474,7 @@ sender-unwrapped first n call old new ns sent i few f =
       x.more,
       record {
         spread = x.spread;
-        told = λ st. sender-told st first n call old new ns sent i.spread few f x (i.told st);
+        answered = λ st. sender-answered st first n call old new ns sent i.spread few f x (i.answered st);
       },
     )
 
@@ -484,7 +484,7 @@ receiver-unwrapped first n call old new ns sent few f i =
     let spread = receiver-spreads first n call old new ns sent few f i.spread in
     record {
       spread = spread;
-      told = λ st. receiver-told st first n call old new ns sent i.spread few f spread (i.told st);
+      answered = λ st. receiver-answered st first n call old new ns sent i.spread few f spread (i.answered st);
     }
 
 unwrapped-after : (first n : ℕ) (cs : List Call) (old new : Session) (ns : List Numbered) (sent : List Entry) (r : RunsTo old cs new)
@@ -512,14 +512,14 @@ unwrapped-first first size max most limits small some =
     let total = start.step.numbered.total in
     record {
       spread = start;
-      told = λ st. (
+      answered = λ st. (
         record {
           k = 0;
           reach = 0;
           due = (refl, refl, λ y le h. absurd (let z : y ≡ 0 = omega (arith, le) in not_both h.0));
           turns = tt;
           most = omega arith;
-          heard = record { place = 0; least_is = omega (arith, total); within = omega arith; is = omega arith; covered = omega arith; each = tt };
+          arrived = record { place = 0; least_is = omega (arith, total); within = omega arith; is = omega arith; covered = omega arith; each = tt };
         },
         tt,
       );

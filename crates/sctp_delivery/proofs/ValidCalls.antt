@@ -86,8 +86,8 @@ module _ (st first n : ℕ) (few : n < 2 ^ 31) (old new : Session) (ns : List Nu
       let far = f.1 in
       let most = f.2 in
       let top = d.most in
-      let least = up b d.heard.place d.heard.least_is in
-      let covered = d.heard.covered in
+      let least = up b d.arrived.place d.arrived.least_is in
+      let covered = d.arrived.covered in
       let at = ap B same in
       let it : x.index ≡ y = same-index (B a) x.index y x.low x.high (omega (arith, far, least, covered, at)) (omega (arith, most, top, near))
       (sym x.number' ∙ f.0) in
@@ -107,8 +107,8 @@ module _ (st first n : ℕ) (few : n < 2 ^ 31) (old new : Session) (ns : List Nu
         let far = f.1 in
         let most = f.2 in
         let top = d.most in
-        let least = up a d.heard.place d.heard.least_is in
-        let covered = d.heard.covered in
+        let least = up a d.arrived.place d.arrived.least_is in
+        let covered = d.arrived.covered in
         (f.0, omega (arith, far, least, covered), omega (arith, most, top, near))
 
     -- the queue is as it was
@@ -150,20 +150,20 @@ module _ (st first n : ℕ) (few : n < 2 ^ 31) (old new : Session) (ns : List Nu
 
     -- ## A chunk comes
 
-    module _ (keeps : KeepsCome p n n r q) (c : ChunkPayloadData) (told : Bool) (acc : Accepts c told r q) (own : HasCome p n q c)
+    module _ (keeps : KeepsCome p n n r q) (c : ChunkPayloadData) (answered : Bool) (acc : Accepts c answered r q) (own : HasCome p n q c)
         (was : WasSent sent (data_of c)) where
       abbrev sid : ℕ
       sid = c.stream_identifier
 
       same-number : (l : InboundStream) → has_number sid l ≡ true → acc.queue.si ≡ number l
       same-number l e =
-          pushed-number c told acc.stream.queue acc.queue acc.pushed
+          pushed-number c answered acc.stream.queue acc.queue acc.pushed
           ∙ same-is (number acc.stream) sid (found-passes (has_number sid) r.streams acc.stream acc.found) ∙ sym (same-is (number l) sid e)
 
       pushed : Both (Some acc.stream) → IsNext (Some (with_queue acc.queue acc.stream))
       pushed x =
           let s = kept keeps (Some acc.stream) x in
-          let h = push-valid p n q c own told acc.stream.queue acc.queue acc.pushed s.valid.sets in
+          let h = push-valid p n q c own answered acc.stream.queue acc.queue acc.pushed s.valid.sets in
           record {
             index = s.index;
             number' = h.0 ∙ s.number';
@@ -176,7 +176,7 @@ module _ (st first n : ℕ) (few : n < 2 ^ 31) (old new : Session) (ns : List Nu
               end' = s.valid.end';
               reach = s.valid.reach;
               came = s.valid.came;
-              unassembled = push-unassembled (λ x. WasSent sent (data_of x)) c was told acc.stream.queue acc.queue acc.pushed s.valid.unassembled;
+              unassembled = push-unassembled (λ x. WasSent sent (data_of x)) c was answered acc.stream.queue acc.queue acc.pushed s.valid.unassembled;
             };
           }
 

@@ -239,8 +239,8 @@ module _ (taken passed : ℕ → Bool) where
   -- ## A SACK
 
   -- what it reports was taken or passed
-  abbrev IsTold : Sack → ChunkPayloadData → Type 0
-  IsTold k c = reports k c ≡ true → (taken c.tsn || passed c.tsn) ≡ true
+  abbrev IsAnswered : Sack → ChunkPayloadData → Type 0
+  IsAnswered k c = reports k c ≡ true → (taken c.tsn || passed c.tsn) ≡ true
 
   pub came-of : (c : ChunkPayloadData) → Right c → (taken c.tsn || passed c.tsn) ≡ true → (taken c.tsn || c.abandoned) ≡ true
   came-of c r e = elim (or-split (taken c.tsn) (passed c.tsn) e) [
@@ -249,10 +249,10 @@ module _ (taken passed : ℕ → Bool) where
         (r.gone a)
   ]
 
-  pub sack-valid : (k : Sack) (f : Flight) → Every (IsTold k) f.queue.inflight.chunks → Valid f.queue → Valid (after_sack k f).queue
-  sack-valid k f told s = by (is_outdated k f)
+  pub sack-valid : (k : Sack) (f : Flight) → Every (IsAnswered k) f.queue.inflight.chunks → Valid f.queue → Valid (after_sack k f).queue
+  sack-valid k f answered s = by (is_outdated k f)
     where
-      both-right : (c : ChunkPayloadData) → reports_anew k c ≡ true → Right c × IsTold k c → Right (as_acknowledged c) × IsTold k (as_acknowledged c)
+      both-right : (c : ChunkPayloadData) → reports_anew k c ≡ true → Right c × IsAnswered k c → Right (as_acknowledged c) × IsAnswered k (as_acknowledged c)
       both-right c e h = (
         record { came = λ a. came-of c h.0 (h.1 (both (not c.acked) (reports k c) e).1); gone = h.0.gone; bare = λ a. refl },
         h.1,
@@ -261,8 +261,9 @@ module _ (taken passed : ℕ → Bool) where
       marked : Every Right (change_where (reports_anew k) as_acknowledged f.queue.inflight.chunks)
       marked =
           let cs = f.queue.inflight.chunks in
-          every-of (λ c. Right c × IsTold k c) Right (λ c h. h.0) (change_where (reports_anew k) as_acknowledged cs)
-          (every-changed (λ c. Right c × IsTold k c) (reports_anew k) as_acknowledged both-right cs (every-both Right (IsTold k) cs s.inflight told))
+          every-of (λ c. Right c × IsAnswered k c) Right (λ c h. h.0) (change_where (reports_anew k) as_acknowledged cs)
+          (every-changed (λ c. Right c × IsAnswered k c) (reports_anew k) as_acknowledged
+          both-right cs (every-both Right (IsAnswered k) cs s.inflight answered))
 
       by : (b : Bool) → Valid (if b then f else take_sack k f).queue
       by true = s

@@ -10,7 +10,7 @@ use Rattle.sctp_receiver.specs.declared.receiver.limits.Limits.{Limits}
 use Rattle.sctp_receiver.specs.Inbound.{has_number, new_stream}
 use Rattle.sctp_receiver.specs.Receiver.{Reception, stream_of}
 use Rattle.sctp_receiver.specs.ReceiverRuns.{Stand}
-use Rattle.sctp_receiver.specs.TsnFilter.{mark}
+use Rattle.sctp_receiver.specs.TsnFilter.{placeholder}
 use Rattle.sctp_delivery.specs.ReceiverCalls as incoming
 use Rattle.sctp_delivery.specs.ReceiverCalls.{ReceiverCall}
 use Rattle.sctp_delivery.specs.Sacks.{tsns_given}
@@ -37,7 +37,7 @@ use Rattle.sctp_delivery.proofs.TightFlight.{IsTight, tight-after, tight-later}
 use Rattle.sctp_delivery.proofs.TsnPlaces.{base, same-place}
 use Rattle.sctp_delivery.proofs.UnwrappedHolds.{AreDue}
 use Rattle.sctp_delivery.proofs.UnwrappedSessions as sessions
-use Rattle.sctp_delivery.proofs.UnwrappedSessions.{IsUnwrapped, receiver-told, sender-told}
+use Rattle.sctp_delivery.proofs.UnwrappedSessions.{IsUnwrapped, receiver-answered, sender-answered}
 
 -- ## A call of the receiver
 
@@ -55,20 +55,20 @@ keeps-come p n old new few i call f t g h = by call f
     q : Reception
     q = new.receiving.receiver
 
-    one : AreTaken p n r (mark t ∷ [])
+    one : AreTaken p n r (placeholder t ∷ [])
     one = record { each = ((g, h), tt); apart = refl }
 
     by : (call : ReceiverCall) → ReceiverFollows call old new → HasTsn t q
     by (incoming.opens stream) f = subst (HasTsn t) (sym f.step.receiver.1) h
     by (incoming.takes c Repeat) f = subst (HasTsn t) (sym f.step.receiver) h
-    by (incoming.takes c (New told)) f =
+    by (incoming.takes c (New answered)) f =
         let given = every-contained (IsMadeGiven p n) old.made (data_chunk (data_of c)) f.handed i.made in
         let acc = f.step.receiver in
-        (new-come p n r (known old) few i.heard c q (mark t ∷ []) given (fresh-new c.tsn told r f.accepted.1)
+        (new-come p n r (known old) few i.arrived c q (placeholder t ∷ []) given (fresh-new c.tsn answered r f.accepted.1)
         (ap (λ (x : Reception). x.cumulative_tsn) acc.after) (ap (λ (x : Reception). x.beyond) acc.after) one).each.1.0.1
     by (incoming.follows k) f =
         let given = every-contained (IsMadeGiven p n) old.made (forward_tsn k) f.handed i.made in
-        subst (HasTsn t) (sym f.step.receiver) (skip-come p n r (known old) few i.heard k (mark t ∷ []) given one).each.0.1
+        subst (HasTsn t) (sym f.step.receiver) (skip-come p n r (known old) few i.arrived k (placeholder t ∷ []) given one).each.0.1
     by (incoming.reports credit) f = subst (HasTsn t) (sym f.step.receiver) h
     by (incoming.reads stream) f = subst (HasTsn t) (sym f.step.receiver) h
 
@@ -100,14 +100,14 @@ module _ (st first n : ℕ) (few : n < 2 ^ 31) (old new : Session) (ns : List Nu
           (sym (ap (stream_of st) f.step.receiver.1 ∙ find-append (has_number st) r.streams (new-one ∷ [])))
           (opened st first n few old new ns sent i d keeps stream r.max_message_size (stream_of st r) (stream == st) (d.due, x))
       by (incoming.takes c Repeat) f keeps = still (ap (stream_of st) f.step.receiver) keeps
-      by (incoming.takes c (New told)) f keeps =
+      by (incoming.takes c (New answered)) f keeps =
           let r = old.receiving.receiver in
           let given = every-contained (IsMadeGiven (base first) n) old.made (data_chunk (data_of c)) f.handed i.step.made in
           let acc = f.step.receiver in
           let own : HasCome (base first) n new.receiving.receiver c =
-          (new-come (base first) n r (known old) few i.step.heard c new.receiving.receiver [] given (fresh-new c.tsn told r f.accepted.1)
+          (new-come (base first) n r (known old) few i.step.arrived c new.receiving.receiver [] given (fresh-new c.tsn answered r f.accepted.1)
           (ap (λ (x : Reception). x.cumulative_tsn) acc.after) (ap (λ (x : Reception). x.beyond) acc.after) (record { each = tt; apart = refl })).each.0 in
-          taken st first n few old new ns sent i d keeps c told acc own (found-sent sent old.made (data_of c) i.holds.made f.handed) (d.due, x)
+          taken st first n few old new ns sent i d keeps c answered acc own (found-sent sent old.made (data_of c) i.holds.made f.handed) (d.due, x)
       by (incoming.follows g) f keeps =
           let k = every-contained (IsMadeNaming st (base first) i.step.numbered.acked sent) old.made (forward_tsn g) f.handed (i.names st) in
           let e = every-contained (IsMadeEnd (base first) sent) old.made (forward_tsn g) f.handed ends in
@@ -133,7 +133,7 @@ pub record IsValidAt (first n : ℕ) (s : Session) (ns : List Numbered) (sent : 
   pub tight : (st : ℕ) → IsTight st unwrapped.spread.step.numbered.acked sent
   pub valid : (st : ℕ) → ValidIn st first n sent s.receiving.receiver
       (index_of (base first) st n (λ k. begun_to st k sent) (λ k. is_at st k sent) (λ c. WasSent sent (data_of c)) unwrapped.spread.step.numbered.acked
-      s.receiving (unwrapped.told st).0) (stream_of st s.receiving.receiver)
+      s.receiving (unwrapped.answered st).0) (stream_of st s.receiving.receiver)
 
 pub record HasValid (first n : ℕ) (s : Session) : Type 0 where
   pub numbered : List Numbered
@@ -151,12 +151,12 @@ receiver-valid first n call old new ns sent few f i =
     same-place (base first) spread.step.numbered.acked u.spread.step.numbered.acked (omega (arith, most, few)) (omega (arith, total, few))
     (sym spread.step.numbered.acked_is ∙ ap (λ (s : Session). s.sending.sender.flight.acked_tsn) f.after ∙ u.spread.step.numbered.acked_is) in
     record {
-      unwrapped = record { spread = spread; told = λ st. receiver-told st first n call old new ns sent u.spread few f spread (u.told st) };
+      unwrapped = record { spread = spread; answered = λ st. receiver-answered st first n call old new ns sent u.spread few f spread (u.answered st) };
       ends = subst (Every (IsMadeEnd (base first) sent)) (sym (ap (λ (s : Session). s.made) f.after)) i.ends;
       tight = λ st. subst (λ k. IsTight st k sent) (sym same) (i.tight st);
       valid = λ st. arrives st first n few old new ns sent u.spread spread.step.numbered.acked
-          (receiver-told st first n call old new ns sent u.spread few f spread (u.told st)).0 same
-          (valid-after st first n few old new ns sent u.spread i.ends (u.told st).0 call f (i.valid st));
+          (receiver-answered st first n call old new ns sent u.spread few f spread (u.answered st)).0 same
+          (valid-after st first n few old new ns sent u.spread i.ends (u.answered st).0 call f (i.valid st));
     }
 
 -- after a call of the sender
@@ -177,8 +177,8 @@ module _ (first n : ℕ) (call : SenderCall) (old new : Session) (ns : List Numb
   abbrev b : ℕ
   b = x.spread.step.numbered.acked
 
-  told : (st : ℕ) → sessions.IsTold st first m x.more b new
-  told st = sender-told st first n call old new ns sent u.spread few f x (u.told st)
+  answered : (st : ℕ) → sessions.IsAnswered st first m x.more b new
+  answered st = sender-answered st first n call old new ns sent u.spread few f x (u.answered st)
 
   small : n < 2 ^ 31
   small = omega (arith, few)
@@ -199,19 +199,19 @@ module _ (first n : ℕ) (call : SenderCall) (old new : Session) (ns : List Numb
       → ValidIn st first m x.more s.receiver
       (index_of (base first) st m (λ k. begun_to st k x.more) (λ k. is_at st k x.more) (λ c. WasSent x.more (data_of c)) b s e) (stream_of st s.receiver)
   moved st s same e =
-      let d = (u.told st).0 in
-      let k = d.heard.place in
-      let j = e.heard.place in
-      let w = d.heard.within in
-      let v = e.heard.within in
+      let d = (u.answered st).0 in
+      let k = d.arrived.place in
+      let j = e.arrived.place in
+      let w = d.arrived.within in
+      let v = e.arrived.within in
       let one : j ≡ k = same-place (base first) j k (omega (arith, v, few)) (omega (arith, w, few))
-      (sym e.heard.is ∙ ap (λ (z : Stand). z.receiver.cumulative_tsn) same ∙ d.heard.is) in
-      let least = d.heard.least_is in
+      (sym e.arrived.is ∙ ap (λ (z : Stand). z.receiver.cumulative_tsn) same ∙ d.arrived.is) in
+      let least = d.arrived.least_is in
       let first' = index-near (base first) st n (λ y. begun_to st y sent) (λ y. is_at st y sent) (λ c. WasSent sent (data_of c)) a k old.receiving d
       (sessions.grows st first n old ns sent u.spread small) (sessions.near st first n old ns sent u.spread small) least (omega arith) in
       let then = index-near (base first) st m (λ y. begun_to st y x.more) (λ y. is_at st y x.more) (λ c. WasSent x.more (data_of c)) b j s e
       (sessions.grows st first m new (numbered_after call ns) x.more x.spread few) (sessions.near st first m new (numbered_after call ns) x.more x.spread few)
-      e.heard.least_is (omega arith) in
+      e.arrived.least_is (omega arith) in
       let at = sessions.same-to st first n sent x.more u.spread.long x.once k w in
       let at' = ap (λ y. begun_to st y x.more) one in
       let x1 = first'.1 in
@@ -232,14 +232,14 @@ module _ (first n : ℕ) (call : SenderCall) (old new : Session) (ns : List Numb
   sender-valid = (
     x.more,
     record {
-      unwrapped = record { spread = x.spread; told = told };
+      unwrapped = record { spread = x.spread; answered = answered };
       ends = subst (Every (IsMadeEnd (base first) x.more)) (sym (ap (λ (s : Session). s.made) f.after))
           (every-of (IsMadeEnd (base first) sent) (IsMadeEnd (base first) x.more) (made-end-later (base first) sent x.more x.once)
           (made_after call old.sending.sender old.made)
           (ends-after first sent old.sending.sender u.spread.holds.held.stands.known call f.accepted old.made i.ends));
       tight = λ st. tight-later st a b x.more x.rises (tight-after st a n sent x.more old.sending.sender call x.grown f.accepted
           x.spread.holds.held.stands.queued.indexed u.spread.long u.spread.step.numbered.total (steps st) (on st) (i.tight st));
-      valid = λ st. moved st new.receiving (ap (λ (s : Session). s.receiving) f.after) (told st).0;
+      valid = λ st. moved st new.receiving (ap (λ (s : Session). s.receiving) f.after) (answered st).0;
     },
   )
 
@@ -272,14 +272,14 @@ valid-session first size max most limits cs s small some r few =
     (valid-of first 0 cs (at_start first size max most limits) s [] [] r (omega (arith, few)) (record {
       unwrapped = record {
         spread = start;
-        told = λ st. (
+        answered = λ st. (
           record {
             k = 0;
             reach = 0;
             due = (refl, refl, λ y le h. absurd (let z : y ≡ 0 = omega (arith, le) in not_both h.0));
             turns = tt;
             most = omega arith;
-            heard = record { place = 0; least_is = omega (arith, total); within = omega arith; is = omega arith; covered = omega arith; each = tt };
+            arrived = record { place = 0; least_is = omega (arith, total); within = omega arith; is = omega arith; covered = omega arith; each = tt };
           },
           tt,
         );

@@ -71,7 +71,7 @@ module _ (st first n : ℕ) (few : n < 2 ^ 31) (old new : Session) (ns : List Nu
     (d : AreDue (base first) st n (λ k. begun_to st k sent) (λ k. is_at st k sent) (λ c. WasSent sent (data_of c)) i.step.numbered.acked old.receiving)
     (g : ForwardTsn) (m : ℕ) (le : m ≤ n) (is : g.new_cumulative_tsn ≡ tsn (base first) m)
     (after : new.receiving.receiver ≡ after_forward_tsn g old.receiving.receiver) (read : new.receiving.read ≡ old.receiving.read)
-    (naming : Tells st i.step.numbered.acked m sent g.streams) (told : names_too_far g old.receiving.receiver ≡ false)
+    (naming : Tells st i.step.numbered.acked m sent g.streams) (answered : names_too_far g old.receiving.receiver ≡ false)
     (shut : names_closed g old.receiving.receiver ≡ false) (ends : has_end m sent ≡ true)
     (keeps : KeepsCome (base first) n n old.receiving.receiver new.receiving.receiver) where
   abbrev p : ℕ
@@ -128,9 +128,9 @@ module _ (st first n : ℕ) (few : n < 2 ^ 31) (old new : Session) (ns : List Nu
       let here : at_or_before (tsn p y) t ≡ true = ap (at_or_before (tsn p y)) is ∙ at-or-before p y m (omega (arith, upto, le, few))
       (omega (arith, le, few)) ∙ order in
       subst (λ (x : Reception). come (tsn p y) x.cumulative_tsn x.beyond ≡ true)
-      (sym (unwrapped.now-is p st n B E M few up a near g m old.receiving new.receiving d le is after read naming told shut missing e))
+      (sym (unwrapped.now-is p st n B E M few up a near g m old.receiving new.receiving d le is after read naming answered shut missing e))
       (advance-keeps p n t m rest few le is
-      (every-passing (IsGiven p n) (λ u. not (at_or_before u t)) r.beyond (beyond-given p n r (known old) few i.step.heard))
+      (every-passing (IsGiven p n) (λ u. not (at_or_before u t)) r.beyond (beyond-given p n r (known old) few i.step.arrived))
       (tsn p y) (record { place = y; some = some; within = omega (arith, upto, le); is = refl })
       (or-left (at_or_before (tsn p y) t) (list_any (λ u. u == tsn p y) rest) here))
 
@@ -167,19 +167,19 @@ module _ (st first n : ℕ) (few : n < 2 ^ 31) (old new : Session) (ns : List Nu
       }
     where
       came : (y : ℕ) → y ≤ m → E y ≡ true → Prior y
-      came y upto on = elim (cases_lt d.heard.place y) [
-        | inl lt ↦ let least = d.heard.least_is in absurd (not_both (sym (clear y (omega (arith, least, lt)) upto) ∙ on))
+      came y upto on = elim (cases_lt d.arrived.place y) [
+        | inl lt ↦ let least = d.arrived.least_is in absurd (not_both (sym (clear y (omega (arith, least, lt)) upto) ∙ on))
         | inr ge ↦
-            let v = d.heard.within in
-            let order : nat_le y d.heard.place ≡ true = grind (arith, nat_tests, ge) in (
+            let v = d.arrived.within in
+            let order : nat_le y d.arrived.place ≡ true = grind (arith, nat_tests, ge) in (
               on,
               or-left (at_or_before (tsn p y) r.cumulative_tsn) (list_any (λ u. u == tsn p y) r.beyond)
-                  (ap (at_or_before (tsn p y)) d.heard.is ∙ at-or-before p y d.heard.place (omega (arith, upto, le, few)) (omega (arith, v, few)) ∙ order),
+                  (ap (at_or_before (tsn p y)) d.arrived.is ∙ at-or-before p y d.arrived.place (omega (arith, upto, le, few)) (omega (arith, v, few)) ∙ order),
             )
       ]
 
       gone : Gone p n B FitsOn Prior (λ set. not (cannot_complete t set)) x.0.index x.0.low d.reach l.queue.held.ordered x.0.sets
-      gone = unwrapped.gone-held p st n B E M few up a near g m old.receiving new.receiving d le is after read naming told shut missing
+      gone = unwrapped.gone-held p st n B E M few up a near g m old.receiving new.receiving d le is after read naming answered shut missing
           x.0.index x.0.low d.reach l.queue.held.ordered x.0.sets (λ z upto on lo from. elim (x.0.kept z (omega (arith, upto, le)) (came z upto on)) [
             | inl h ↦ absurd (omega (arith, h, from))
             | inr h ↦ h
@@ -196,18 +196,18 @@ module _ (st first n : ℕ) (few : n < 2 ^ 31) (old new : Session) (ns : List Nu
       skipped : Reassembly
       skipped = held_after_ordered_skip (j % 2 ^ 16) held
 
-      lt : d.heard.place < m
-      lt = unwrapped.ahead-is p st n B E M few up a near g m old.receiving new.receiving d le is after read naming told shut missing e
+      lt : d.arrived.place < m
+      lt = unwrapped.ahead-is p st n B E M few up a near g m old.receiving new.receiving d le is after read naming answered shut missing e
 
       close : is_name_too_far (j % 2 ^ 16) held ≡ false
       close =
           ap (is_named_too_far (record { identifier = st; sequence = j % 2 ^ 16 })) (sym there)
-          ∙ unwrapped.none-among p st n B E M few up a near g m old.receiving new.receiving d le is after read naming told shut missing
-          (λ y. is_named_too_far y (stream_of y.identifier r)) told lt (record { identifier = st; sequence = j % 2 ^ 16 }) only
+          ∙ unwrapped.none-among p st n B E M few up a near g m old.receiving new.receiving d le is after read naming answered shut missing
+          (λ y. is_named_too_far y (stream_of y.identifier r)) answered lt (record { identifier = st; sequence = j % 2 ^ 16 }) only
 
       due : IsSkipped p n B FitsOn Prior d.k d.reach j (B n) skipped
       due =
-          let h = d.heard in
+          let h = d.arrived in
           let v = up h.place m (omega (arith, lt)) in
           let w = up a h.place h.least_is in
           let z = h.covered in
@@ -222,7 +222,7 @@ module _ (st first n : ℕ) (few : n < 2 ^ 31) (old new : Session) (ns : List Nu
           past-sets p n B FitsOn Prior (at-in p st n B E M few up) due.due.low due.due.low due.more t due.due.index skipped.next_ssn skipped.ordered
           due.due.sets
           due.due.next due.due.near (omega arith)
-          (unwrapped.gone-begun p st n B E M few up a near g m old.receiving new.receiving d le is after read naming told shut missing
+          (unwrapped.gone-begun p st n B E M few up a near g m old.receiving new.receiving d le is after read naming answered shut missing
           due.due.index due.due.low due.more skipped.ordered due.due.sets (omega (arith, past, last)))
 
       s : Next (Some l)
@@ -257,7 +257,7 @@ module _ (st first n : ℕ) (few : n < 2 ^ 31) (old new : Session) (ns : List Nu
           let next : ℕ = (j % 2 ^ 16 + 1) % 2 ^ 16 in
           let is' : skipped.next_ssn ≡ (j % 2 ^ 16 + 1) % 2 ^ 16 = ap (λ b. if b then (j % 2 ^ 16 + 1) % 2 ^ 16 else held.next_ssn) f in
           let top = up m n le in
-          let low = up a m (let least = d.heard.least_is in omega (arith, least, lt)) in
+          let low = up a m (let least = d.arrived.least_is in omega (arith, least, lt)) in
           record {
             index = j + 1;
             number' = same ∙ is' ∙ next16 j;
@@ -291,7 +291,7 @@ module _ (st first n : ℕ) (few : n < 2 ^ 31) (old new : Session) (ns : List Nu
   followed x = by (is_stale g r) refl
     where
       changed : is_stale g r ≡ false → (o : Option InboundStream) → stream_of st r ≡ o → Both o
-          → Next (option_map (unwrapped.changed p st n B E M few up a near g m old.receiving new.receiving d le is after read naming told shut missing) o)
+          → Next (option_map (unwrapped.changed p st n B E M few up a near g m old.receiving new.receiving d le is after read naming answered shut missing) o)
       changed e None there y = kept st first n few old new ns sent i d keeps None y
       changed e (Some l) there y = elim naming [
         | inl z ↦ subst (λ ssns. Next (Some (with-names ssns l))) (sym (names ∙ ap (map (λ (k : ChunkForwardTsnStream). k.sequence)) z.0))
@@ -301,7 +301,7 @@ module _ (st first n : ℕ) (few : n < 2 ^ 31) (old new : Session) (ns : List Nu
       ]
         where
           names : ssns_of l.queue.si g.streams ≡ map (λ k. k.sequence) (filter (is_pair_of st) g.streams)
-          names = unwrapped.skipped p st n B E M few up a near g m old.receiving new.receiving d le is after read naming told shut missing l there
+          names = unwrapped.skipped p st n B E M few up a near g m old.receiving new.receiving d le is after read naming answered shut missing l there
 
       by : (b : Bool) → is_stale g r ≡ b → Next (stream_of st q)
       by true e =
@@ -309,5 +309,5 @@ module _ (st first n : ℕ) (few : n < 2 ^ 31) (old new : Session) (ns : List Nu
           ∙ ap (λ b. if b then r else without_incomplete t (if b then r else follow_forward_tsn g r)) e in
           subst (λ (y : Reception). Next (stream_of st y)) (sym same) (kept st first n few old new ns sent i d keeps (stream_of st r) x)
       by false e =
-          subst Next (sym (unwrapped.found-after p st n B E M few up a near g m old.receiving new.receiving d le is after read naming told shut missing e))
+          subst Next (sym (unwrapped.found-after p st n B E M few up a near g m old.receiving new.receiving d le is after read naming answered shut missing e))
           (changed e (stream_of st r) refl x)

@@ -88,9 +88,9 @@ module _ (p n : ℕ) (r : Reception) (c : ChunkPayloadData) (own : HasCome p n r
           (record { whole = λ b. absurd (not-before (new_set c) refl b); came = (own, tt) }) e
 
   -- the chunk comes to the queue
-  pub push-valid : (told : Bool) (old new : ReassemblyState) → Pushes c told old new → Every (IsValidSet p n r old.held.next_ssn) old.held.ordered
+  pub push-valid : (answered : Bool) (old new : ReassemblyState) → Pushes c answered old new → Every (IsValidSet p n r old.held.next_ssn) old.held.ordered
       → (new.held.next_ssn ≡ old.held.next_ssn) × Every (IsValidSet p n r old.held.next_ssn) new.held.ordered
-  push-valid told old new pushed e = by c.unordered pushed
+  push-valid answered old new pushed e = by c.unordered pushed
     where
       Valid : Reassembly → Type 0
       Valid q = (q.next_ssn ≡ old.held.next_ssn) × Every (IsValidSet p n r old.held.next_ssn) q.ordered
@@ -104,15 +104,15 @@ module _ (p n : ℕ) (r : Reception) (c : ChunkPayloadData) (own : HasCome p n r
       unordered xs true t = subst Valid (sym t.moved) (refl, e)
       unordered xs false t = subst Valid (sym t.1) (refl, e)
 
-      by : (b : Bool) → PushesAs b c told old new → Valid new.held
+      by : (b : Bool) → PushesAs b c answered old new → Valid new.held
       by false h = subst (λ (s : ReassemblyState). Valid s.held) (sym h.0)
           (ordered (comes_before16 c.stream_sequence_number old.held.next_ssn) refl)
-      by true h = unordered (insert_before chunk_before c old.held.unassembled) told h.0
+      by true h = unordered (insert_before chunk_before c old.held.unassembled) answered h.0
 
 -- what is so of the unassembled fragments and of the chunk stays so of them
-pub push-unassembled : (P : ChunkPayloadData → Type 0) (c : ChunkPayloadData) → P c → (told : Bool) (old new : ReassemblyState) → Pushes c told old new
+pub push-unassembled : (P : ChunkPayloadData → Type 0) (c : ChunkPayloadData) → P c → (answered : Bool) (old new : ReassemblyState) → Pushes c answered old new
     → Every P old.held.unassembled → Every P new.held.unassembled
-push-unassembled P c own told old new pushed e = by c.unordered pushed
+push-unassembled P c own answered old new pushed e = by c.unordered pushed
   where
     ordered : (b : Bool) → Every P (if b then old.held else record old.held { ordered = sets_with c old.held.ordered }).unassembled
     ordered true = e
@@ -124,10 +124,10 @@ push-unassembled P c own told old new pushed e = by c.unordered pushed
         (every-joined P (take t.first xs) (drop (t.first + t.count) xs) (every-taken P t.first xs all) (every-left P (t.first + t.count) xs all))
     unordered xs all false t = subst (λ (q : Reassembly). Every P q.unassembled) (sym t.1) all
 
-    by : (b : Bool) → PushesAs b c told old new → Every P new.held.unassembled
+    by : (b : Bool) → PushesAs b c answered old new → Every P new.held.unassembled
     by false h = subst (λ (s : ReassemblyState). Every P s.held.unassembled) (sym h.0)
         (ordered (comes_before16 c.stream_sequence_number old.held.next_ssn))
-    by true h = unordered (insert_before chunk_before c old.held.unassembled) (every-inserted P chunk_before c old.held.unassembled own e) told h.0
+    by true h = unordered (insert_before chunk_before c old.held.unassembled) (every-inserted P chunk_before c old.held.unassembled own e) answered h.0
 
 -- ## A stream
 
@@ -219,7 +219,7 @@ module _ (p st n : ℕ) (B : ℕ → ℕ) (E : ℕ → Bool) (M : ChunkPayloadDa
       index_in (Came p st n B E M s.receiver.cumulative_tsn s.receiver.beyond) d.k d.reach (stream_of st s.receiver) d.due
 
   -- near how many were begun up to a place that is not past the cumulative TSN, and not before the acknowledged one
-  pub index-near : (a b : ℕ) (s : Stand) (d : AreDue p st n B E M a s) → ((j k : ℕ) → j ≤ k → B j ≤ B k) → B n ≤ B a + 2 ^ 14 → a ≤ b → b ≤ d.heard.place
+  pub index-near : (a b : ℕ) (s : Stand) (d : AreDue p st n B E M a s) → ((j k : ℕ) → j ≤ k → B j ≤ B k) → B n ≤ B a + 2 ^ 14 → a ≤ b → b ≤ d.arrived.place
       → (next_in (stream_of st s.receiver) ≡ index_of a s d % 2 ^ 16) × (B b ≤ index_of a s d + 2 ^ 15) × (index_of a s d ≤ B b + 2 ^ 14)
       × (index_of a s d ≤ B n)
   index-near a b s d up near low upto =
@@ -228,8 +228,8 @@ module _ (p st n : ℕ) (B : ℕ → ℕ) (E : ℕ → Bool) (M : ChunkPayloadDa
       let y = i.2 in
       let least = up a b low in
       let most = d.most in
-      let covered = d.heard.covered in
-      let rest = up b d.heard.place upto in
+      let covered = d.arrived.covered in
+      let rest = up b d.arrived.place upto in
       (i.0, omega (arith, x, rest, covered), omega (arith, y, most, near, least), omega (arith, y, most))
 
 -- ## A complete message

@@ -4,7 +4,7 @@ use Rattle.sctp_data.specs.declared.chunk.chunk_payload_data.ChunkPayloadData.{C
 use Rattle.sctp_data.specs.ForwardTsn.{ForwardTsn}
 use Rattle.sctp_data.specs.SelectiveAck.{Sack}
 use Rattle.sctp_receiver.specs.declared.receiver.arrival.Arrival.{Arrival}
-use Rattle.sctp_receiver.specs.Receiver.{Reception, arrival_of, arrival_refusal, is_open, is_told_complete, sack}
+use Rattle.sctp_receiver.specs.Receiver.{Reception, arrival_of, arrival_refusal, is_open, is_answered_complete, sack}
 use Rattle.sctp_receiver.specs.ReceiverRuns as runs
 use Rattle.sctp_receiver.specs.ReceiverRuns.{Makes}
 use Rattle.sctp_receiver.specs.Skips.{skip_refusal}
@@ -32,7 +32,7 @@ as_run (reads stream) = runs.reads stream
 abbrev pub IsAccepted : ReceiverCall → Reception → Type 0
 IsAccepted (opens stream) r = ⊤
 IsAccepted (takes c arrival) r =
-    (arrival_refusal c r ≡ None) × (arrival ≡ arrival_of c.tsn (is_told_complete arrival) r)
+    (arrival_refusal c r ≡ None) × (arrival ≡ arrival_of c.tsn (is_answered_complete arrival) r)
 IsAccepted (follows f) r = skip_refusal f r ≡ None
 IsAccepted (reports credit) r = ⊤
 IsAccepted (reads stream) r = is_open stream r ≡ true

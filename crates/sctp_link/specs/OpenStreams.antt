@@ -36,9 +36,9 @@ abbrev pub start_from : ℕ → ℕ → List Message → List Message
 start_from first now ms = take first ms ++ map (with_start now) (drop first ms)
 
 -- the slots that abandoning a message takes: one for its terminal chunk, where it is partially sent
-abbrev pub marks : Bool → ℕ → ℕ → List Slot
-marks false number fragment = []
-marks true number fragment =
+abbrev pub terminals : Bool → ℕ → ℕ → List Slot
+terminals false number fragment = []
+terminals true number fragment =
     record {
       message = number;
       fragment = fragment;

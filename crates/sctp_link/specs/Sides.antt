@@ -14,7 +14,7 @@ use Rattle.sctp_sender.specs.Flight.{Flight, with_queue, after_abandonment, afte
 use Rattle.sctp_receiver.specs.Inbound as Inbound
 use Rattle.sctp_sender.specs.Outgoing as Outgoing
 use Rattle.sctp_sender.specs.Outgoing.{fragments_with_mode}
-use Rattle.sctp_receiver.specs.Receiver.{Reception, filter_of, is_stale, arrival_of, is_told_complete, data_refusal}
+use Rattle.sctp_receiver.specs.Receiver.{Reception, filter_of, is_stale, arrival_of, is_answered_complete, data_refusal}
 use Rattle.sctp_sender.specs.Sender.{Transmission}
 use Rattle.sctp_receiver.specs.TsnFilter.{Filter, with_tsn, with_duplicate, skipped_to}
 use Rattle.sctp_progress.specs.Progress as Progress
@@ -173,7 +173,7 @@ CanTake (c ∷ cs) (n ∷ ns) x =
 
 -- one is taken, with its answer
 pub record TakesFirst (c : ChunkPayloadData) (n : ℕ) (a : Arrival) (old mid : Sides) : Type 0 where
-  pub answer : a ≡ arrival_of c.tsn (is_told_complete a) (reception_of old)
+  pub answer : a ≡ arrival_of c.tsn (is_answered_complete a) (reception_of old)
   pub taken : Takes c n a old mid
 
 abbrev pub TakesEach : List ChunkPayloadData → List ℕ → List Arrival → Sides → Sides → Type 0

@@ -156,7 +156,3 @@ kept-split t from (suc a) b =
         ≡ (if c then from ∷ numbers_where t (from + 1) a else numbers_where t (from + 1) a) ++ numbers_where t (from + suc a) b
     step true ih = ap (λ l. from ∷ l) ih
     step false ih = ih
-
-pub all-left : (t : ℕ → Bool) (xs ys : List ℕ) → list_all t (xs ++ ys) ≡ true → list_all t ys ≡ true
-all-left t [] ys e = e
-all-left t (x ∷ xs) ys e = all-left t xs ys (both (t x) (list_all t (xs ++ ys)) e).1

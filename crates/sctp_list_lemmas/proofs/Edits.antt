@@ -50,9 +50,6 @@ module _ {X : Type 0} (p : X → Bool) where
   find-none [] h = refl
   find-none (x ∷ xs) h = rw (All-head (λ y. p y ≡ false) x xs h) (find-none xs (All-tail (λ y. p y ≡ false) x xs h))
 
-  pub All-those : (Q : X → Type 0) (xs : List X) → All Q xs → All Q (filter p xs)
-  All-those Q xs h = subst (All Q) (sym (those-filter xs)) (All-filter p Q xs h)
-
   -- the one place that passes
   pub record OnlyAt (xs : List X) (i : ℕ) : Type 0 where
     pub in_range : i < length xs
@@ -100,12 +97,6 @@ inserted-at before x (e ∷ es) (suc i) le low high = rw (low 0 e (omega arith))
     (ap (λ ys. e ∷ ys) (inserted-at before x es i (omega arith) (λ k d lt. low (suc k) d (omega arith)) (λ d lt. high d (omega arith))))
 
 module _ {X : Type 0} (R : X → X → Type 0) where
-  pub pairs_tail : (x : X) (xs : List X) → AllPairs R (x ∷ xs) → AllPairs R xs
-  pairs_tail x xs h i j d lt short = h (suc i) (suc j) d (omega arith) (omega arith)
-
-  pub pairs_head : (x : X) (xs : List X) → AllPairs R (x ∷ xs) → All (R x) xs
-  pairs_head x xs h k d lt = h 0 (suc k) d (omega arith) (omega arith)
-
   pub pairs_cons : (x : X) (xs : List X) → All (R x) xs → AllPairs R xs → AllPairs R (x ∷ xs)
   pairs_cons x xs a h zero zero d lt short = absurd (omega arith)
   pairs_cons x xs a h zero (suc j) d lt short = a j d (omega arith)
@@ -208,13 +199,6 @@ sum_by-inserted f before x (e ∷ es) = elim (before x e) as (λ b. sum_by f (if
   | true ↦ sum_by-cons f x (e ∷ es)
   | false ↦ let rest = sum_by-inserted f before x es in let new = sum_by-cons f e (insert_before before x es) in let old = sum_by-cons f e es in omega arith
 ]
-
--- a write that makes the test pass where q holds too
-pub list_any-set : {X : Type 0} (p : X → Bool) (q : Bool) (xs : List X) (i : ℕ) (y d : X) → i < length xs → p y ≡ (q || p (get_or xs i d))
-    → list_any p (set xs i y) ≡ (q || list_any p xs)
-list_any-set p q [] i y d lt h = absurd (omega arith)
-list_any-set p q (x ∷ xs) zero y d lt h = ap (λ b. b || list_any p xs) h ∙ or_assoc q (p x) (list_any p xs)
-list_any-set p q (x ∷ xs) (suc i) y d lt h = ap (λ b. p x || b) (list_any-set p q xs i y d (omega arith) h) ∙ or_swap (p x) q (list_any p xs)
 
 -- a step of a loop that changes what passes
 module _ {X : Type 0} (p : X → Bool) (f : X → X) (xs ys : List X) (i : ℕ) (x : X) (lt : i < length xs) (so_far : ys ≡ change_where p f (take i xs) ++ drop i xs)

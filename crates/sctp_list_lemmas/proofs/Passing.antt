@@ -59,12 +59,6 @@ pub unbroken-le : (p : ℕ → Bool) (from count : ℕ) → unbroken p from coun
 unbroken-le p from zero = omega arith
 unbroken-le p from (suc count) = grind (arith, unbroken-le p (from + 1) count)
 
--- a last number that does not pass changes nothing
-pub unbroken-snoc : (p : ℕ → Bool) (from count last : ℕ) → last ≡ from + count → p last ≡ false → unbroken p from (suc count) ≡ unbroken p from count
-unbroken-snoc p from zero last e none = let here : p from ≡ false = rw (← add-zero from, ← e) none in rw here refl
-unbroken-snoc p from (suc count) last e none =
-    let ih = unbroken-snoc p (from + 1) count last (omega arith) none in ap (λ n. if p from then n + 1 else 0) ih
-
 -- those in front pass
 pub unbroken-passes : (p : ℕ → Bool) (from count k : ℕ) → from ≤ k → k < from + unbroken p from count → p k ≡ true
 unbroken-passes p from zero k a b = absurd (omega arith)

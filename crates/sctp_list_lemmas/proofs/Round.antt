@@ -13,22 +13,12 @@ tsn first k = (first + k) % 2 ^ 32
 abbrev pub tsn_before : ℕ → ℕ → ℕ
 tsn_before first k = (first + 2 ^ 32 - 1 + k) % 2 ^ 32
 
-pub next_tsn : (first k : ℕ) → (tsn_before first k + 1) % 2 ^ 32 ≡ tsn first k
-next_tsn first k = omega arith
-
-pub before_tsn : (first k : ℕ) → tsn_before first (k + 1) ≡ tsn first k
-before_tsn first k = omega arith
-
 pub tsn_differ : (first j k : ℕ) → j < k → k < j + 2 ^ 32 → (tsn first k == tsn first j) ≡ false
 tsn_differ first j k lt near =
     let ne : tsn first k ≡ tsn first j → ⊥ = λ e. omega arith in grind (arith, nat_tests)
 
 pub tsn_same : (first k : ℕ) → (tsn first k == tsn first k) ≡ true
 tsn_same first k = grind (arith, nat_tests)
-
-pub distance_from_first : (first n : ℕ) → first < 2 ^ 32 → n < 2 ^ 32 → distance first (tsn first n) ≡ n
-unfolding distance
-distance_from_first first n f lt = omega arith
 
 pub distance-tsn : (first j k : ℕ) → j ≤ k → k < j + 2 ^ 32 → distance (tsn first j) (tsn first k) ≡ k - j
 unfolding distance
@@ -42,10 +32,6 @@ near : (first c k : ℕ) → c ≤ k → k < c + 2 ^ 31 - 1 → distance (tsn_be
 unfolding distance
 near first c k le lt = omega arith
 
-far : (first c k : ℕ) → c < k + 2 ^ 31 → k < c → distance (tsn_before first c) (tsn first k) ≡ (2 ^ 32 + k + 1 - c) % 2 ^ 32
-unfolding distance
-far first c k near lt = omega arith
-
 -- within half a circle, one comes before the other as their places do
 pub comes_before-tsn : (first j k : ℕ) → j < k + 2 ^ 31 → k < j + 2 ^ 31 → (j ≡ k → ⊥) → comes_before (tsn first j) (tsn first k) ≡ nat_lt j k
 unfolding comes_before
@@ -54,21 +40,3 @@ comes_before-tsn first j k a b ne = step (cases_lt j k)
     step : (j < k) ⊎ (k ≤ j) → (nat_lt 0 (distance (tsn first j) (tsn first k)) && nat_lt (distance (tsn first j) (tsn first k)) (2 ^ 31)) ≡ nat_lt j k
     step (inl lt) = rw (distance-tsn first j k (omega arith) (omega arith)) (grind (arith, nat_tests))
     step (inr ge) = rw (distance-tsn_back first k j (omega arith) (omega arith)) (grind (arith, nat_tests))
-
--- a place is after the cumulative ones exactly if its TSN comes after theirs
-pub comes_before-cum : (first c k : ℕ) → c < k + 2 ^ 31 → k < c + 2 ^ 31 - 1 → comes_before (tsn_before first c) (tsn first k) ≡ nat_le c k
-unfolding comes_before
-comes_before-cum first c k a b = step (cases_lt k c)
-  where
-    step : (k < c) ⊎ (c ≤ k)
-        → (nat_lt 0 (distance (tsn_before first c) (tsn first k)) && nat_lt (distance (tsn_before first c) (tsn first k)) (2 ^ 31)) ≡ nat_le c k
-    step (inl lt) = rw (far first c k a lt) (grind (arith, nat_tests))
-    step (inr ge) = rw (near first c k ge b) (grind (arith, nat_tests))
-
-pub is_round : (first low high : ℕ) → high < low + 2 ^ 32 → IsRound (tsn first) (tsn_before first) low high
-is_round first low high short = record {
-  next = λ k a b. next_tsn first k;
-  before = λ k. before_tsn first k;
-  differ = λ j k a b c. tsn_differ first j k b (omega arith);
-  same = λ k. tsn_same first k;
-}

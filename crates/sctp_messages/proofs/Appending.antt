@@ -29,11 +29,3 @@ reads_onto_more s before after m old mid r e = record {
   read = reads_more s r.messages m old mid r.read e;
   joined = ap (λ (l : List Chunks). l ++ m ∷ []) r.joined ∙ append_assoc before r.messages (m ∷ []);
 }
-
--- a stream with a message to read is open
-none_of : (x : Option InboundStream) → is_some x ≡ false → is_some (message_of x) ≡ true → message_of x ≡ None
-none_of None closed is = refl
-none_of (Some l) closed is = cc
-
-pub closed_has_none : (s : ℕ) (r : Reception) → is_open s r ≡ false → is_some (message_on s r) ≡ true → message_on s r ≡ None
-closed_has_none s r closed is = none_of (stream_of s r) closed is

@@ -24,7 +24,7 @@ use Rattle.sctp_model.specs.Laws.{complete_unordered, ordered_shown, unordered_s
 use Rattle.sctp_model.proofs.sender.Shape.{Shape, shape, has, sent}
 use Rattle.sctp_model.proofs.sender.Sender.{Sender}
 use Rattle.sctp_model.proofs.sender.SenderSteps.{of-has}
-use Rattle.sctp_model.proofs.sender.SenderRun.{sane-run}
+use Rattle.sctp_model.proofs.sender.SenderRun.{consistent-run}
 use Rattle.sctp_model.proofs.receiver.Due.{take-kept}
 use Rattle.sctp_model.proofs.receiver.ReadLaws.{nothing_where_read, passing-kept}
 use Rattle.sctp_model.proofs.sender.Written.{messages_are_writes}
@@ -227,7 +227,7 @@ module _ (setup : Setup) (h : History) (run : IsRun setup h) (lossless : list_al
   none = no-skips setup h lossless
 
   late : (n : ℕ) → n < length v.messages → (a : Bool) → arrived_wholly v came n ≡ a → (a && not (were_complete (Messages.slots_of v n) came)) ≡ false
-  late n lt true e = ap not (early-enough v came n (sane-run setup h run).sender lt none e)
+  late n lt true e = ap not (early-enough v came n (consistent-run setup h run).sender lt none e)
   late n lt false e = refl
 
   never : (i : ℕ) → nat_lt i 0 ≡ false
@@ -368,7 +368,7 @@ module _ (setup : Setup) (h : History) (s : ℕ) (is : IsSetup setup) (run : IsR
   parts n lt at = unlost-parts w log s n (same-is (Messages.message_at w n).stream s at) (none-has (was_lost w log) here (length w.messages) unlost n lt at)
 
   complete-here : (n : ℕ) → n < length w.messages → here n ≡ true → is_complete_by w log n ≡ arrived_wholly w log n
-  complete-here n lt at = complete-settled w log n (sane-run setup h run).sender lt (parts n lt at).early
+  complete-here n lt at = complete-settled w log n (consistent-run setup h run).sender lt (parts n lt at).early
 
   complete_ones-are : map (is_complete_by w log) (messages_on w s) ≡ arrivals_on setup h s
   complete_ones-are =
@@ -461,21 +461,6 @@ pub record SameFragments (setup : Setup) (g h : History) (s : ℕ) : Type 0 wher
   pub fragments : (n i : ℕ) → (Messages.message_at (record_of setup h) n).stream ≡ s
       → fragment_arrived (record_of setup g) (log_of setup g) n i ≡ fragment_arrived (record_of setup h) (log_of setup h) n i
 
-written-kinds : (s : ℕ) (xs : List Shown) (ms ns : List Mode) → map (λ m. m.unordered) ms ≡ map (λ m. m.unordered) ns → written_on s xs ms ≡ written_on s xs ns
-written-kinds s [] ms ns e = refl
-written-kinds s (y ∷ ys) [] [] e = refl
-written-kinds s (y ∷ ys) [] (n ∷ ns) e = cc
-written-kinds s (y ∷ ys) (m ∷ ms) [] e = cc
-written-kinds s (y ∷ ys) (m ∷ ms) (n ∷ ns) e =
-    let first : m.unordered ≡ n.unordered = cc in
-    let others : map (λ m. m.unordered) ms ≡ map (λ m. m.unordered) ns = cc in
-    step (y.0 == s) first (written-kinds s ys ms ns others)
-  where
-    step : (b : Bool) → m.unordered ≡ n.unordered → written_on s ys ms ≡ written_on s ys ns
-        → (if b then (y, m.unordered) ∷ written_on s ys ms else written_on s ys ms) ≡ (if b then (y, n.unordered) ∷ written_on s ys ns else written_on s ys ns)
-    step true k ih = ap (λ u. (y, u) ∷ written_on s ys ms) k ∙ ap (λ l. (y, n.unordered) ∷ l) ih
-    step false k ih = ih
-
 -- values that agree one after another agree at each number
 same-at : {A : Type 0} (f g : ℕ → A) (p : ℕ → Bool) (from count n : ℕ) → map f (numbers_where p from count) ≡ map g (numbers_where p from count) → from ≤ n
     → n < from + count → p n ≡ true → f n ≡ g n
@@ -525,7 +510,7 @@ module _ (setup : Setup) (g h : History) (s : ℕ) (a : IsReadWholly setup g s) 
   parts-same n lt =
       ap (λ y. length (pieces (length y) old.setup.size y)) (ap (λ y. y.2) (each n lt))
       ∙ ap (λ z. length (pieces (length (Messages.message_at new n).bytes) z.size (Messages.message_at new n).bytes))
-      ((sane-run setup g a.run).setup_is ∙ sym (sane-run setup h b.run).setup_is)
+      ((consistent-run setup g a.run).setup_is ∙ sym (consistent-run setup h b.run).setup_is)
 
   arrivals : arrivals_on setup g s ≡ arrivals_on setup h s
   arrivals =
@@ -535,54 +520,3 @@ module _ (setup : Setup) (g h : History) (s : ℕ) (a : IsReadWholly setup g s) 
       ap (λ c. list_all (fragment_arrived old (log_of setup g) n) (numbers_from 0 c)) (parts-same n (omega arith))
       ∙ all-same (fragment_arrived old (log_of setup g) n) (fragment_arrived new (log_of setup h) n) always 0 (Messages.fragment_count new n)
       (λ k x y z. same.fragments n k (same-is (Messages.message_at new n).stream s at)))
-
-  both-read : (ordered_shown setup g s ≡ ordered_shown setup h s) × (unordered_shown setup g s ≡ unordered_shown setup h s)
-  both-read =
-      reads_are_settled setup setup g h s a b
-      (ap (λ xs. written_on s xs (modes_in g)) same.writes ∙ written-kinds s (writes_in h) (modes_in g) (modes_in h) same.kinds)
-      arrivals
-
-  abbrev was_read : History → ℕ → Bool
-  was_read k n = list_any (λ m. m == n) (unordered_reads setup k s)
-
-  among : (k : History) → IsReadWholly setup k s → (n : ℕ) → was_read k n ≡ (nat_lt n (length (record_of setup k).messages)
-      && (Messages.is_unordered_on (record_of setup k) s n && is_complete_by (record_of setup k) (log_of setup k) n))
-  among k c n = ap (list_any (λ m. m == n)) ((nothing_where_read setup k c.is c.run s).0 c.exhausted).1
-      ∙ complete-among (record_of setup k) s n (log_of setup k)
-
-  each-read : (n : ℕ) → was_read g n ≡ was_read h n
-  each-read n = step (nat_lt n (length new.messages)) refl (there n) refl
-    where
-      step : (l : Bool) → nat_lt n (length new.messages) ≡ l → (c : Bool) → there n ≡ c → was_read g n ≡ was_read h n
-      step true l true c =
-          let lt : n < length new.messages = grind (arith, nat_tests) in
-          same-at (was_read g) (was_read h) there 0 (length new.messages) n (ap (map (was_read g)) (sym line) ∙ both-read.1) (omega arith) (omega arith) c
-      step true l false c =
-          let lt : n < length new.messages = grind (arith, nat_tests) in
-          among g a n
-          ∙ ap (λ y. nat_lt n (length old.messages) && ((y && not (Messages.message_at old n).ordered) && is_complete_by old (log_of setup g) n))
-          (ap (λ y. y.0 == s) (each n lt) ∙ c) ∙ and-none (nat_lt n (length old.messages)) ∙ sym (among h b n ∙ ap (λ y. nat_lt n (length new.messages)
-          && ((y && not (Messages.message_at new n).ordered) && is_complete_by new (log_of setup h) n)) c ∙ and-none (nat_lt n (length new.messages)))
-      step false l c e =
-          among g a n
-          ∙ ap (λ y. y && (Messages.is_unordered_on old s n && is_complete_by old (log_of setup g) n)) (ap (nat_lt n) counts ∙ l)
-          ∙ sym (among h b n ∙ ap (λ y. y && (Messages.is_unordered_on new s n && is_complete_by new (log_of setup h) n)) l)
-
--- the same ordered messages are read, and by number the same unordered ones
-pub settled-by_number : (setup : Setup) (g h : History) (s : ℕ) → IsReadWholly setup g s → IsReadWholly setup h s → SameFragments setup g h s →
-    (ordered_shown setup g s ≡ ordered_shown setup h s)
-    × ((n : ℕ) → list_any (λ m. m == n) (unordered_reads setup g s) ≡ list_any (λ m. m == n) (unordered_reads setup h s))
-settled-by_number setup g h s a b same = ((both-read setup g h s a b same).0, each-read setup g h s a b same)
-
--- so too where no event can lose, all modes are the same, and the same fragments of all messages arrived
-pub settled-lossless : (setup : Setup) (g h : History) (s : ℕ) → IsSetup setup → IsRun setup g → IsRun setup h → Lossless g → Lossless h →
-    reply_to (record_of setup g) (E.Read s) ≡ R.Nothing → reply_to (record_of setup h) (E.Read s) ≡ R.Nothing →
-    writes_in g ≡ writes_in h → modes_in g ≡ modes_in h →
-    ((n i : ℕ) → fragment_arrived (record_of setup g) (log_of setup g) n i ≡ fragment_arrived (record_of setup h) (log_of setup h) n i) →
-    (ordered_shown setup g s ≡ ordered_shown setup h s)
-    × ((n : ℕ) → list_any (λ m. m == n) (unordered_reads setup g s) ≡ list_any (λ m. m == n) (unordered_reads setup h s))
-settled-lossless setup g h s is a b k l x y writes modes fragments =
-    settled-by_number setup g h s
-    (record { is = is; run = a; unlost = none_is_lost setup g is a s k; exhausted = x })
-    (record { is = is; run = b; unlost = none_is_lost setup h is b s l; exhausted = y })
-    (record { writes = writes; kinds = ap (map (λ m. m.unordered)) modes; fragments = λ n i e. fragments n i })

@@ -5,7 +5,7 @@ use Rattle.sctp_model.specs.Laws.{ReliableDelivery, PartialDelivery}
 use Rattle.sctp_model.proofs.acknowledgement.Acknowledged.{acknowledged_arrived, acknowledged_is_reported, sacks_say}
 use Rattle.sctp_model.proofs.receiver.Arrivals.{arrived_is_new, cumulative_is_seen, arrivals_answered}
 use Rattle.sctp_model.proofs.acknowledgement.Bytes.{balances}
-use Rattle.sctp_model.proofs.acknowledgement.BytesTold.{sums_agree}
+use Rattle.sctp_model.proofs.acknowledgement.BytesAnswered.{sums_agree}
 use Rattle.sctp_model.proofs.receiver.Counted.{reads_differ, counters_are_sums}
 use Rattle.sctp_model.proofs.receiver.KnownRun.{completeness_agrees}
 use Rattle.sctp_model.proofs.sender.Lifetimes.{starts_once, late_abandons_listed}

@@ -29,7 +29,7 @@ use Rattle.sctp_model.specs.Steps.{History, record_of, IsRun, after, refusal_of,
 use Rattle.sctp_model.specs.Laws.{OnEveryRun, is_ordered, sent_before, shown_of}
 use Rattle.sctp_model.specs.Exchanges
 use Rattle.sctp_model.proofs.acknowledgement.Acknowledged.{acknowledged_is_reported, blocks-are}
-use Rattle.sctp_model.proofs.receiver.Arrivals.{heard-run, cumulative_is_seen}
+use Rattle.sctp_model.proofs.receiver.Arrivals.{arrivals-run, cumulative_is_seen}
 use Rattle.sctp_model.proofs.receiver.Shown.{slots-joined}
 use Rattle.sctp_model.proofs.sender.Shape.{shape, front_of, index}
 use Rattle.sctp_model.proofs.sender.Network.{same-network, network-written, network-expired, network-tail, network-late, network-abandoned, same-received}
@@ -37,7 +37,7 @@ use Rattle.sctp_model.proofs.sender.Network.{same-taken, same-read}
 use Rattle.sctp_model.proofs.sender.Shapes
 use Rattle.sctp_list_lemmas.specs.Lists.{pieces}
 use Rattle.sctp_model.proofs.sender.SenderSteps.{of-has}
-use Rattle.sctp_model.proofs.sender.SenderRun.{sane-run, filled-keeps, unless-holds}
+use Rattle.sctp_model.proofs.sender.SenderRun.{consistent-run, filled-keeps, unless-holds}
 use Rattle.sctp_model.proofs.sender.Slots.{slots_in_order, indexes_leave_no_gap}
 use Rattle.sctp_model.proofs.sender.Written.{messages_are_writes}
 
@@ -107,7 +107,7 @@ chunks_say_messages setup h is run n =
 
 pub chunks_join : OnEveryRun Exchanges.ChunksJoin
 chunks_join setup h is run n lt all =
-    let s = sane-run setup h run in slots-joined (record_of setup h) n s.sender (omega (arith, ap (λ t. t.size) s.setup_is, is.some)) all
+    let s = consistent-run setup h run in slots-joined (record_of setup h) n s.sender (omega (arith, ap (λ t. t.size) s.setup_is, is.some)) all
 
 -- ## What goes again
 
@@ -241,7 +241,7 @@ acknowledges_arrived setup h is run credit place lt arrived near few = step (cas
     c = cumulative_is_seen setup h is run
 
     came : arrived_at w place ≡ true
-    came = (heard-run setup h is run).arrived place ∙ arrived
+    came = (arrivals-run setup h is run).arrived place ∙ arrived
 
     blocks : gap_blocks w ≡ runs_of (distances w)
     blocks = take-all 16379 (runs_of (distances w)) (omega (arith, few, ap length (blocks-are setup h is run)))
@@ -319,8 +319,8 @@ unordered_go_first setup h is run now d tsn ssn count n m e first ordered none l
     front : Messages.front w ≡ Some n
     front = of_front (Messages.front w) refl e first
 
-    half_front : (k : ℕ) → Messages.is_partially_sent w k ≡ true → Some k ≡ Some n → ⊥
-    half_front k p same =
+    partial_front : (k : ℕ) → Messages.is_partially_sent w k ≡ true → Some k ≡ Some n → ⊥
+    partial_front k p same =
         let s : k ≡ n = cc in
         let a = (both (nat_lt 0 (Messages.sent_of w k))
         (nat_lt (Messages.sent_of w k) (Messages.fragment_count w k) && not (Messages.message_at w k).abandoned) p).0 in
@@ -329,11 +329,8 @@ unordered_go_first setup h is run now d tsn ssn count n m e first ordered none l
 
     clash : Messages.is_unsent w m ≡ true → ⊥
     clash u =
-        half_or (first_of (Messages.messages_where w (Messages.is_partially_sent w))) (first-kept (Messages.is_partially_sent w) (length w.messages)) front
+        partial_or (first_of (Messages.messages_where w (Messages.is_partially_sent w))) (first-kept (Messages.is_partially_sent w) (length w.messages)) front
       where
-        waiting : ℕ → Bool
-        waiting k = Messages.is_unsent w k && not (Messages.message_at w k).ordered
-
         next : (o : Option ℕ) → FirstOf (λ k. Messages.is_unsent w k && not (Messages.message_at w k).ordered) (length w.messages) o
             → or_else o (first_of (Messages.messages_where w (λ k. Messages.is_unsent w k && (Messages.message_at w k).ordered))) ≡ Some n → ⊥
         next None f q = not_both (sym (f m lt) ∙ and (Messages.is_unsent w m) (not (Messages.message_at w m).ordered) u un)
@@ -342,18 +339,18 @@ unordered_go_first setup h is run now d tsn ssn count n m e first ordered none l
             let a = both (Messages.is_unsent w k) (not (Messages.message_at w k).ordered) f.1 in
             not_both (sym (negated (Messages.message_at w k).ordered a.1) ∙ ap (is_ordered w) same ∙ ordered)
 
-        half_or : (o : Option ℕ) → FirstOf (Messages.is_partially_sent w) (length w.messages) o
+        partial_or : (o : Option ℕ) → FirstOf (Messages.is_partially_sent w) (length w.messages) o
             → or_else o (or_else (first_of (Messages.messages_where w (λ k. Messages.is_unsent w k && not (Messages.message_at w k).ordered)))
             (first_of (Messages.messages_where w (λ k. Messages.is_unsent w k && (Messages.message_at w k).ordered)))) ≡ Some n → ⊥
-        half_or None f q =
+        partial_or None f q =
             next (first_of (Messages.messages_where w (λ k. Messages.is_unsent w k && not (Messages.message_at w k).ordered)))
             (first-kept (λ k. Messages.is_unsent w k && not (Messages.message_at w k).ordered) (length w.messages)) q
-        half_or (Some k) f q = half_front k f.1 q
+        partial_or (Some k) f q = partial_front k f.1 q
 
 -- ## What replies tell
 
-pub send_is_told : OnEveryRun Exchanges.SendIsTold
-send_is_told setup h is run now d tsn ssn count e = step (Messages.front (record_of setup h)) refl e
+pub send_is_answered : OnEveryRun Exchanges.SendIsAnswered
+send_is_answered setup h is run now d tsn ssn count e = step (Messages.front (record_of setup h)) refl e
   where
     w : LinkRecord
     w = record_of setup h
@@ -370,8 +367,8 @@ send_is_told setup h is run now d tsn ssn count e = step (Messages.front (record
         let q : Messages.ssn_of w k ≡ ssn = cc in
         (ap (λ s. (s.first + length w.slots) % 2 ^ 32) g.setup ∙ t, ap (Messages.ssn_of v) g.first ∙ g.number ∙ q)
 
-pub write_is_told : OnEveryRun Exchanges.WriteIsTold
-write_is_told setup h is run s byte ppi bytes =
+pub write_is_answered : OnEveryRun Exchanges.WriteIsAnswered
+write_is_answered setup h is run s byte ppi bytes =
     let w = record_of setup h in
     let c : length w.messages ≡ length (Log.writes_in h) =
     sym (length-numbers 0 (length w.messages)) ∙ sym (length-mapped (shown_of w) (numbers_from 0 (length w.messages)))
@@ -384,8 +381,8 @@ write_is_told setup h is run s byte ppi bytes =
     ap (λ b. R.Wrote (if b then None else Some (length w.messages)) (fragments_in w (byte ∷ bytes))) some
     ∙ ap (λ k. R.Wrote (Some (length w.messages)) k) cut ∙ ap (λ i. R.Wrote (Some i) (Messages.fragment_count v i)) c
 
-pub resend_is_told : OnEveryRun Exchanges.ResendIsTold
-resend_is_told setup h is run tsn d e =
+pub resend_is_answered : OnEveryRun Exchanges.ResendIsAnswered
+resend_is_answered setup h is run tsn d e =
     let w = record_of setup h in
     let same : length w.network ≡ d = cc in
     ap (λ k. slice_get (w.network ++ Data (Messages.place_of w tsn ∷ []) ∷ []) k) (sym same) ∙ get-last w.network (Data (Messages.place_of w tsn ∷ []))
@@ -417,7 +414,7 @@ writes-fit setup ((E.Write s ppi (b ∷ bs), r) ∷ older) run =
     (unless (nat_lt (fragments_accepted w + fragments_in w (b ∷ bs)) (2 ^ 31)) TsnsUsedUp None) open'.1).0 in
     all-snoc (fits setup) (Log.writes_in older) (s, ppi, b ∷ bs) (writes-fit setup older run.1.1)
     (and (nat_lt 0 (length (b ∷ bs))) (nat_le (length (b ∷ bs)) setup.largest) (grind (arith, nat_tests))
-    (ap (λ t. nat_le (length (b ∷ bs)) t.largest) (sym (sane-run setup older run.1.1).setup_is) ∙ short))
+    (ap (λ t. nat_le (length (b ∷ bs)) t.largest) (sym (consistent-run setup older run.1.1).setup_is) ∙ short))
 writes-fit setup ((E.Open s, r) ∷ older) run = writes-fit setup older run.1.1
 writes-fit setup ((E.Mode s u v x, r) ∷ older) run = writes-fit setup older run.1.1
 writes-fit setup ((E.Start x, r) ∷ older) run = writes-fit setup older run.1.1

@@ -22,7 +22,7 @@ use Rattle.sctp_model.proofs.sender.Shapes
 use Rattle.sctp_model.proofs.sender.SenderEnds.{message-old, message-new}
 use Rattle.sctp_model.proofs.sender.SenderRun.{written_as}
 use Rattle.sctp_model.proofs.sender.Network
-use Rattle.sctp_model.proofs.acknowledgement.BytesTold.{messages-sent}
+use Rattle.sctp_model.proofs.acknowledgement.BytesAnswered.{messages-sent}
 use Rattle.sctp_list_lemmas.proofs.Cases.{by_last}
 
 -- ## No message expires or is abandoned

@@ -1,3 +1,3 @@
 pub mod Acknowledged
 pub mod Bytes
-pub mod BytesTold
+pub mod BytesAnswered

@@ -92,22 +92,22 @@ AcknowledgesArrived setup h w log =
 -- ## What replies tell
 
 -- a Write tells how many messages were written before it, and how many fragments its own has
-abbrev pub WriteIsTold : Setup → History → LinkRecord → List Log.LogEntry → Type 0
-WriteIsTold setup h w log =
+abbrev pub WriteIsAnswered : Setup → History → LinkRecord → List Log.LogEntry → Type 0
+WriteIsAnswered setup h w log =
     (s byte : ℕ) (ppi : PayloadProtocolIdentifier) (bytes : List ℕ)
     → reply_to w (E.Write s ppi (byte ∷ bytes)) ≡ R.Wrote (Some (length (Log.writes_in h)))
     (fragment_count (after w (E.Write s ppi (byte ∷ bytes))) (length (Log.writes_in h)))
 
 -- a Send tells the TSN and the stream sequence number of its first chunk
-abbrev pub SendIsTold : Setup → History → LinkRecord → List Log.LogEntry → Type 0
-SendIsTold setup h w log =
+abbrev pub SendIsAnswered : Setup → History → LinkRecord → List Log.LogEntry → Type 0
+SendIsAnswered setup h w log =
     (now d tsn ssn count : ℕ) → reply_to w (E.Send now) ≡ R.Sent d tsn ssn count
     → ((chunk_at (after w (E.Send now)) (length w.slots)).tsn ≡ tsn)
     × ((chunk_at (after w (E.Send now)) (length w.slots)).stream_sequence_number ≡ ssn)
 
 -- a Resend tells its datagram, which has that chunk alone
-abbrev pub ResendIsTold : Setup → History → LinkRecord → List Log.LogEntry → Type 0
-ResendIsTold setup h w log =
+abbrev pub ResendIsAnswered : Setup → History → LinkRecord → List Log.LogEntry → Type 0
+ResendIsAnswered setup h w log =
     (tsn d : ℕ) → reply_to w (E.Resend tsn) ≡ R.Resent d
     → slice_get (after w (E.Resend tsn)).network d ≡ Some (Data (place_of w tsn ∷ []))
 

@@ -404,9 +404,9 @@ DeadlinesByEvents setup h w log =
     (now n : ℕ) → Messages.is_past_deadline w now n ≡ Log.is_past_deadline_by_events h now n
 
 -- what is told of a message, where there is one, and else Idle
-abbrev pub told_of : (ℕ → Reply) → Option ℕ → Reply
-told_of tell None = R.Idle
-told_of tell (Some n) = tell n
+abbrev pub answered_of : (ℕ → Reply) → Option ℕ → Reply
+answered_of tell None = R.Idle
+answered_of tell (Some n) = tell n
 
 -- message n is this one
 abbrev pub is_this : Option ℕ → ℕ → Bool
@@ -454,7 +454,7 @@ partially_sent_past_deadline h w now = front_past_deadline h w now (λ sent. nat
 abbrev pub ExpiresPastDeadline : Setup → History → LinkRecord → List Log.LogEntry → Type 0
 ExpiresPastDeadline setup h w log =
     (now : ℕ) →
-    (reply_to w (E.Expire now) ≡ told_of (expired_with w now) (unsent_past_deadline h w now))
+    (reply_to w (E.Expire now) ≡ answered_of (expired_with w now) (unsent_past_deadline h w now))
     × AddsJust w (E.Expire now) has_expired (is_this (unsent_past_deadline h w now))
 
 -- Tail abandons the front where it is past its deadline and some of it was sent, and no other message;
@@ -462,7 +462,7 @@ ExpiresPastDeadline setup h w log =
 abbrev pub TailAbandonsPastDeadline : Setup → History → LinkRecord → List Log.LogEntry → Type 0
 TailAbandonsPastDeadline setup h w log =
     (now : ℕ) →
-    (reply_to w (E.Tail now) ≡ told_of (released_with w now) (partially_sent_past_deadline h w now))
+    (reply_to w (E.Tail now) ≡ answered_of (released_with w now) (partially_sent_past_deadline h w now))
     × AddsJust w (E.Tail now) is_abandoned (is_this (partially_sent_past_deadline h w now))
 
 -- the slot at this place, of message n, is late by the events: no taken SACK acknowledged it

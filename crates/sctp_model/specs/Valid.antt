@@ -60,7 +60,7 @@ pub record ValidUnassembled (w : LinkRecord) : Type 0 where
   pub prefix : (n p j : ℕ) → has_fragment w n p ≡ true → (slot_at w p).fragment ≡ j + 1
       → has_fragment w n (p - 1) ≡ true
   -- no terminal chunk arrives
-  pub marks : (p : ℕ) → arrived_at w p ≡ true → (slot_at w p).is_terminal_chunk ≡ false
+  pub terminals : (p : ℕ) → arrived_at w p ≡ true → (slot_at w p).is_terminal_chunk ≡ false
   -- what is complete arrived, and what arrived before a skip reached it is complete
   pub complete_arrived : (n : ℕ) → (message_at w n).ordered ≡ false → is_complete_message w n ≡ true
       → has_arrived w n ≡ true

@@ -1,7 +1,7 @@
 //! What holds of every history of a link: laws, each the contract of a function that does nothing.
 
 ghost use Rattle.sctp_model.specs.Laws.{OnEveryRun, EmitsWherePending, TakesPending, IdleIsAnswered, WithinLimit, FilledToLimit, SlotsInOrder, SlotsFollow, OnePartiallySent, SentInTurn, IndexesLeaveNoGap, NoTerminalChunkIsSent, DatagramsStay, Balances, SumsAgree, AcknowledgedArrived, AcknowledgedIsReported, SacksSay, NetworkIsMade, ArrivedIsNew, CumulativeIsSeen, ArrivalsAnswered, CompletenessAgrees, NamedIsNamed, SpansFit, MessagesAreWrites, ModesAreKept, ReadsShowMessages, ReadsBeginRun, ReadsBeginCompleteRun, ReadsBeginComplete, ReadsDiffer, UnorderedFirst, NothingWhereRead, StartsOnce, DeadlinesByEvents, ExpiresPastDeadline, TailAbandonsPastDeadline, LateListsPastDeadline, LateAbandonsListed, ReadsAreSettled, ReadsByArrivals, NoneIsLost, CountersAreSums, Headline, Beside, ReliableDelivery, PartialDelivery};
-ghost use Rattle.sctp_model.specs.Exchanges.{BeginAndEnd, ChunksSayMessages, ChunksJoin, OutstandingGoAgain, AcknowledgesSeen, AcknowledgesArrived, UnorderedGoFirst, WriteIsTold, SendIsTold, ResendIsTold, MessagesAreBounded, NamesAreBounded};
+ghost use Rattle.sctp_model.specs.Exchanges.{BeginAndEnd, ChunksSayMessages, ChunksJoin, OutstandingGoAgain, AcknowledgesSeen, AcknowledgesArrived, UnorderedGoFirst, WriteIsAnswered, SendIsAnswered, ResendIsAnswered, MessagesAreBounded, NamesAreBounded};
 ghost use Rattle.sctp_model.specs.Valid.{RecordIsValid, SlotsComeValid, SkipsComeValid};
 
 /// A Send answers Idle exactly where no fragment is pending, be memory refused or not; else its
@@ -167,9 +167,9 @@ pub fn unordered_go_first()
 /// A Write tells the number of its message, by which a Skip names it, and how many fragments it has; a Send the TSN and the stream
 /// sequence number of its first chunk; a Resend the datagram that has the chunk.
 pub fn replies_tell()
-    ensures write { OnEveryRun WriteIsTold }
-    ensures send { OnEveryRun SendIsTold }
-    ensures resend { OnEveryRun ResendIsTold }
+    ensures write { OnEveryRun WriteIsAnswered }
+    ensures send { OnEveryRun SendIsAnswered }
+    ensures resend { OnEveryRun ResendIsAnswered }
 {}
 
 /// A message has a byte, and no more than the greatest; a FORWARD-TSN is no longer than a chunk may be (RFC 4960 3.2).

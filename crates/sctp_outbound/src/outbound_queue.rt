@@ -247,7 +247,7 @@ impl OutboundQueue {
         ensures raised { OnOk result (next_tsn.new ≡ tsn_after_of
             (to_abandon (find (has_tsn tsn) self.old.inflight.chunks)) next_tsn.old self.old) }
         // the next TSN is the same while a message stays partially sent
-        ensures half { OnOk result ((next_tsn.new ≡ next_tsn.old)
+        ensures partial { OnOk result ((next_tsn.new ≡ next_tsn.old)
             ⊎ (partially_sent self.new.pending ≡ None)) }
         ensures err { OnErr result ((self.new ≡ self.old) × (next_tsn.new ≡ next_tsn.old)) }
         ensures memory { IsOkUnless result ErrOutOfMemory }
@@ -282,7 +282,7 @@ impl OutboundQueue {
         ensures raised { OnOk result (next_tsn.new ≡ tsn_after_of
             (to_abandon (find (has_tsn tsn) self.old.inflight.chunks)) next_tsn.old self.old) }
         // the next TSN is the same while a message stays partially sent
-        ensures half { OnOk result ((next_tsn.new ≡ next_tsn.old)
+        ensures partial { OnOk result ((next_tsn.new ≡ next_tsn.old)
             ⊎ (partially_sent self.new.pending ≡ None)) }
         ensures err { OnErr result ((self.new ≡ self.old) × (next_tsn.new ≡ next_tsn.old)) }
         ensures memory { IsOkUnless result ErrOutOfMemory }
@@ -312,7 +312,7 @@ impl OutboundQueue {
         next_tsn: &mut u32,
     ) -> Result<usize>
         requires between { IsBetween message_id start end self.old.inflight.chunks }
-        requires half { waits message_id self.old.pending ≡ true
+        requires partial { waits message_id self.old.pending ≡ true
             → partially_sent self.old.pending ≡ Some message_id }
         requires fresh { is_held self.old.inflight.chunks next_tsn.old ≡ false }
         requires window { SpansOneWindow self.old.inflight.chunks next_tsn.old }
@@ -428,7 +428,7 @@ impl OutboundQueue {
         ensures raised { OnOk result (next_tsn.new
             ≡ tsn_after_of (message_of (expiring_tail now self.old)) next_tsn.old self.old) }
         // the next TSN is the same while a message stays partially sent
-        ensures half { OnOk result ((next_tsn.new ≡ next_tsn.old)
+        ensures partial { OnOk result ((next_tsn.new ≡ next_tsn.old)
             ⊎ (partially_sent self.new.pending ≡ None)) }
         ensures err { OnErr result ((self.new ≡ self.old) × (next_tsn.new ≡ next_tsn.old)) }
         ensures memory { IsOkUnless result ErrOutOfMemory }

@@ -4,7 +4,7 @@ use Rattle.std.specs.Prelude.{◌&&◌, if◌then◌else◌, slice_index_or}
 use Rattle.sctp_list_lemmas.specs.Lists.{change_where}
 use Rattle.sctp_data.specs.declared.chunk.chunk_payload_data.ChunkPayloadData.{ChunkPayloadData}
 use Rattle.sctp_receiver.specs.declared.receiver.arrival.Arrival.{Arrival}
-use Rattle.sctp_receiver.specs.Receiver.{Reception, TakesEachBy, data_refusal, is_told_complete}
+use Rattle.sctp_receiver.specs.Receiver.{Reception, TakesEachBy, data_refusal, is_answered_complete}
 use Rattle.sctp_progress.specs.Progress.{Standing, has_number, numbers_of, with_complete, after_one, after_each}
 
 -- one more is answered
@@ -25,17 +25,17 @@ answered (c ∷ cs) [] r s t = absurd t
 answered (c ∷ cs) (b ∷ bs) r s t = ap suc (answered cs bs t.0 s t.1.1)
 
 -- a message became complete, or none did
-pub one-complete : (c : ChunkPayloadData) (n : ℕ) (b : Arrival) (ps : List Standing) → (is_told_complete b && c.unordered) ≡ true
+pub one-complete : (c : ChunkPayloadData) (n : ℕ) (b : Arrival) (ps : List Standing) → (is_answered_complete b && c.unordered) ≡ true
     → after_one c n b ps ≡ change_where (has_number c.stream_identifier) (with_complete n) ps
 one-complete c n b ps e = ap (λ t. if t then change_where (has_number c.stream_identifier) (with_complete n) ps else ps) e
 
-pub one-more : (c : ChunkPayloadData) (n : ℕ) (b : Arrival) (ps : List Standing) → (is_told_complete b && c.unordered) ≡ false → after_one c n b ps ≡ ps
+pub one-more : (c : ChunkPayloadData) (n : ℕ) (b : Arrival) (ps : List Standing) → (is_answered_complete b && c.unordered) ≡ false → after_one c n b ps ≡ ps
 one-more c n b ps e = ap (λ t. if t then change_where (has_number c.stream_identifier) (with_complete n) ps else ps) e
 
 -- on a stream that is not open nothing is recorded
 pub one-absent : (c : ChunkPayloadData) (n : ℕ) (b : Arrival) (ps : List Standing) → ps ≡ change_where (has_number c.stream_identifier) (with_complete n) ps
     → ps ≡ after_one c n b ps
-one-absent c n b ps e = by (is_told_complete b && c.unordered)
+one-absent c n b ps e = by (is_answered_complete b && c.unordered)
   where
     by : (t : Bool) → ps ≡ (if t then change_where (has_number c.stream_identifier) (with_complete n) ps else ps)
     by true = e
@@ -52,7 +52,7 @@ changed-numbers s n (p ∷ ps) = ap (λ m. m ∷ numbers_of (change_where (has_n
     by false = refl
 
 pub one-numbers : (c : ChunkPayloadData) (n : ℕ) (b : Arrival) (ps : List Standing) → numbers_of (after_one c n b ps) ≡ numbers_of ps
-one-numbers c n b ps = by (is_told_complete b && c.unordered)
+one-numbers c n b ps = by (is_answered_complete b && c.unordered)
   where
     by : (t : Bool) → numbers_of (if t then change_where (has_number c.stream_identifier) (with_complete n) ps else ps) ≡ numbers_of ps
     by true = changed-numbers c.stream_identifier n ps

@@ -3,7 +3,7 @@ use Rattle.std.specs.Prelude.{ℕ, ◌+◌, ◌-◌, max, Bool, ◌&&◌, ◌==�
 use Rattle.sctp_list_lemmas.specs.Lists.{change_where}
 use Rattle.sctp_data.specs.declared.chunk.chunk_payload_data.ChunkPayloadData.{ChunkPayloadData}
 use Rattle.sctp_receiver.specs.declared.receiver.arrival.Arrival.{Arrival}
-use Rattle.sctp_receiver.specs.Receiver.{is_told_complete}
+use Rattle.sctp_receiver.specs.Receiver.{is_answered_complete}
 use Rattle.sctp_progress.specs.declared.progress.StreamProgress.{StreamProgress}
 
 -- of a stream
@@ -88,7 +88,7 @@ with_complete n p = record p { complete = p.complete ++ n ∷ [] }
 -- a chunk of the message n was answered
 abbrev pub after_one : ChunkPayloadData → ℕ → Arrival → List Standing → List Standing
 after_one c n b ps =
-    if is_told_complete b && c.unordered
+    if is_answered_complete b && c.unordered
     then change_where (has_number c.stream_identifier) (with_complete n) ps else ps
 
 -- several, one after another

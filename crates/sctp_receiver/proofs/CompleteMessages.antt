@@ -17,7 +17,7 @@ use Rattle.sctp_reassembly.specs.reassembly_queue.Fragments.{is_complete, comple
 use Rattle.sctp_reassembly.specs.reassembly_queue.ReassemblyQueue.{Reassembly, ReassemblyState, set_of_run, TakesRun, BecomesComplete, is_readable}
 use Rattle.sctp_reassembly.specs.reassembly_queue.ReassemblyQueue.{front_readable, after_read, message_among, message_read, rest_among, rest_read}
 use Rattle.sctp_reassembly.specs.reassembly_queue.Resets.{is_old_message, held_after_reset}
-use Rattle.sctp_receiver.specs.TsnFilter.{mark}
+use Rattle.sctp_receiver.specs.TsnFilter.{placeholder}
 use Rattle.sctp_receiver.specs.Inbound.{Pushes, PushesAs}
 
 -- ## Runs are complete
@@ -42,7 +42,7 @@ complete-front (x ∷ xs) (suc n) d pos le begins rise end =
 
 pub run-complete : (xs : List ChunkPayloadData) (first count : ℕ) → IsRun xs first count → is_complete (take count (drop first xs)) ≡ true
 run-complete xs first count r =
-    let d = mark 0 in
+    let d = placeholder 0 in
     let at : (i j : ℕ) → j ≡ first + i → get_or (drop first xs) i d ≡ get_or xs j d = λ i j e. get_or-drop first xs i d ∙ ap (λ k. get_or xs k d) (sym e) in
     complete-front (drop first xs) count d r.some (omega (arith, length-drop first xs, r.in_range))
     (ap (λ (c : ChunkPayloadData). c.beginning_fragment) (at 0 first (omega arith)) ∙ r.begins d)

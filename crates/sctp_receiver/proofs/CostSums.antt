@@ -40,16 +40,6 @@ opened-sum ls s max =
     let b = sum_by-cons cost_within (new_stream s max) [] in
     omega (arith, a, b)
 
--- one more is counted
-pub counted-next : (ls : List InboundStream) (i : ℕ) (x : InboundStream) → i < length ls → get_or ls i x ≡ x
-    → sum_by cost_within (take (i + 1) ls) ≡ sum_by cost_within (take i ls) + cost_within x
-counted-next ls i x lt at =
-    let e : sum_by cost_within (take (i + 1) ls) ≡ sum_by cost_within (take i ls ++ x ∷ []) = ap (sum_by cost_within)
-    (take_more ls i x lt ∙ ap (λ y. take i ls ++ y ∷ []) at) in
-    let a = sum_by-append cost_within (take i ls) (x ∷ []) in
-    let b = sum_by-cons cost_within x [] in
-    omega (arith, e, a, b)
-
 -- the stream at a place
 module _ (ls : List InboundStream) (k : ℕ) (x : InboundStream) (lt : k < length ls) (at : x ≡ slice_index_or ls k x) where
   pub is-part : cost_within x ≤ sum_by cost_within ls

@@ -16,9 +16,9 @@ use Rattle.sctp_serial.specs.Window
 use Rattle.sctp_serial.specs.Window.{IsWindow}
 use Rattle.sctp_outbound.specs.payload_queue.PayloadQueue.{Payload, push_chunk, add_duplicate, past, with_chunks}
 use Rattle.sctp_outbound.specs.payload_queue.Blocks.{is_offset, gap_offsets, ends_of}
-use Rattle.sctp_receiver.specs.TsnFilter.{Filter, mark, rise_beyond, has_come, is_opposite, with_tsn, with_duplicate, skipped_to, block_of}
+use Rattle.sctp_receiver.specs.TsnFilter.{Filter, placeholder, rise_beyond, has_come, is_opposite, with_tsn, with_duplicate, skipped_to, block_of}
 use Rattle.sctp_receiver.proofs.TsnLists.{IsStep, IsMoved, expected-absent, expected-after, beyond, stays, moves, moved, rise-inserted, rise-past, rebased}
-use Rattle.sctp_receiver.proofs.Marks.{tsns-mark, marked, marks-inserted, marks-past, no-bytes, new-is, window}
+use Rattle.sctp_receiver.proofs.Placeholders.{tsns-placeholder, as-placeholders, placeholders-inserted, placeholders-past, no-bytes, new-is, window}
 use Rattle.sctp_serial.proofs.lemmas.ListEdits.{neither}
 use Rattle.sctp_reassembly.proofs.lemmas.reassembly_queue.SerialPlaces.{after_one}
 
@@ -53,10 +53,10 @@ pub come-expected : (c : ℕ) (q : Payload) → c < 2 ^ 32 → rise_beyond c 1 (
 come-expected c q lt h =
     ap (λ a. a || list_any (λ u. u == following_tsn c) (tsns q.chunks)) (expected-after c lt) ∙ expected-absent c 1 (tsns q.chunks) lt (omega arith) h
 
-pub few-bytes : (cs : List ChunkPayloadData) → cs ≡ map mark (tsns cs) → bytes_of cs + 0 < 2 ^ 64
+pub few-bytes : (cs : List ChunkPayloadData) → cs ≡ map placeholder (tsns cs) → bytes_of cs + 0 < 2 ^ 64
 few-bytes cs e = let none : bytes_of cs ≡ 0 = ap bytes_of e ∙ no-bytes (tsns cs) in omega arith
 
-module _ (c t : ℕ) (q : Payload) (lt : c < 2 ^ 32) (small : t < 2 ^ 32) (marks : q.chunks ≡ map mark (tsns q.chunks))
+module _ (c t : ℕ) (q : Payload) (lt : c < 2 ^ 32) (small : t < 2 ^ 32) (placeholders : q.chunks ≡ map placeholder (tsns q.chunks))
     (rise : rise_beyond c 1 (tsns q.chunks) ≡ true) where
   pub no-window : has_come t (filter_in c q) ≡ true → IsTrue (Window.is_new q.chunks t c) → IsWindow c q.chunks t
   no-window come new = absurd (not_both (sym (ap not come) ∙ sym (new-is q.chunks t c) ∙ new))
@@ -72,22 +72,22 @@ module _ (c t : ℕ) (q : Payload) (lt : c < 2 ^ 32) (small : t < 2 ^ 32) (marks
       pub new-window : IsWindow c q.chunks t
       new-window = window c t q.chunks lt lies rise
 
-      put : tsns (insert_before chunk_before (mark t) q.chunks) ≡ insert_before comes_before t (tsns q.chunks)
-      put = ap (λ cs. tsns (insert_before chunk_before (mark t) cs)) marks ∙ ap tsns (marks-inserted t (tsns q.chunks))
-          ∙ tsns-mark (insert_before comes_before t (tsns q.chunks))
+      put : tsns (insert_before chunk_before (placeholder t) q.chunks) ≡ insert_before comes_before t (tsns q.chunks)
+      put = ap (λ cs. tsns (insert_before chunk_before (placeholder t) cs)) placeholders ∙ ap tsns (placeholders-inserted t (tsns q.chunks))
+          ∙ tsns-placeholder (insert_before comes_before t (tsns q.chunks))
 
-      pub put-marks : insert_before chunk_before (mark t) q.chunks ≡ map mark (tsns (insert_before chunk_before (mark t) q.chunks))
-      put-marks = marked (insert_before chunk_before (mark t) q.chunks) (insert_before comes_before t (tsns q.chunks))
-          (ap (insert_before chunk_before (mark t)) marks ∙ marks-inserted t (tsns q.chunks))
+      pub put-placeholders : insert_before chunk_before (placeholder t) q.chunks ≡ map placeholder (tsns (insert_before chunk_before (placeholder t) q.chunks))
+      put-placeholders = as-placeholders (insert_before chunk_before (placeholder t) q.chunks) (insert_before comes_before t (tsns q.chunks))
+          (ap (insert_before chunk_before (placeholder t)) placeholders ∙ placeholders-inserted t (tsns q.chunks))
 
       more : rise_beyond c 1 (insert_before comes_before t (tsns q.chunks)) ≡ true
       more = rise-inserted c 1 t (tsns q.chunks) lt lies (neither (at_or_before t c) (list_any (λ u. u == t) (tsns q.chunks)) fresh).1 rise
 
-      pub put-rise : rise_beyond c 1 (tsns (insert_before chunk_before (mark t) q.chunks)) ≡ true
+      pub put-rise : rise_beyond c 1 (tsns (insert_before chunk_before (placeholder t) q.chunks)) ≡ true
       put-rise = ap (rise_beyond c 1) put ∙ more
 
       pub put-is : (r : ℕ) → (let f : Filter =
-          record { cumulative_tsn = c; beyond = tsns (insert_before chunk_before (mark t) q.chunks); duplicates = q.duplicates; room = r } in f)
+          record { cumulative_tsn = c; beyond = tsns (insert_before chunk_before (placeholder t) q.chunks); duplicates = q.duplicates; room = r } in f)
           ≡ record (with_tsn t (filter_in c q)) { room = r }
       put-is r = ap (λ (ts : List ℕ). let f : Filter = record { cumulative_tsn = c; beyond = ts; duplicates = q.duplicates; room = r } in f) put
           ∙ ap (λ (s : Seen). let f : Filter = record { cumulative_tsn = s.cum; beyond = s.held; duplicates = q.duplicates; room = r } in f)
@@ -101,7 +101,8 @@ within-room (Err e) q now x b ok answer is one = cc
 
 -- ## The cumulative TSN moves
 
-module _ (c : ℕ) (q : Payload) (lt : c < 2 ^ 32) (marks : q.chunks ≡ map mark (tsns q.chunks)) (rise : rise_beyond c 1 (tsns q.chunks) ≡ true) where
+module _ (c : ℕ) (q : Payload) (lt : c < 2 ^ 32) (placeholders : q.chunks ≡ map placeholder (tsns q.chunks))
+    (rise : rise_beyond c 1 (tsns q.chunks) ≡ true) where
   -- over the one that is expected next
   pub next-moved : IsMoved (advance_over (following_tsn c) (tsns q.chunks))
   next-moved =
@@ -118,10 +119,12 @@ module _ (c : ℕ) (q : Payload) (lt : c < 2 ^ 32) (marks : q.chunks ≡ map mar
 
   module _ (n : ℕ) (small : n < 2 ^ 32) (after : comes_before c n ≡ true) where
     past-is : tsns (past n q.chunks) ≡ filter (λ t. not (at_or_before t n)) (tsns q.chunks)
-    past-is = ap (λ cs. tsns (past n cs)) marks ∙ ap tsns (marks-past n (tsns q.chunks)) ∙ tsns-mark (filter (λ t. not (at_or_before t n)) (tsns q.chunks))
+    past-is = ap (λ cs. tsns (past n cs)) placeholders ∙ ap tsns (placeholders-past n (tsns q.chunks))
+        ∙ tsns-placeholder (filter (λ t. not (at_or_before t n)) (tsns q.chunks))
 
-    pub past-marks : past n q.chunks ≡ map mark (tsns (past n q.chunks))
-    past-marks = marked (past n q.chunks) (filter (λ t. not (at_or_before t n)) (tsns q.chunks)) (ap (past n) marks ∙ marks-past n (tsns q.chunks))
+    pub past-placeholders : past n q.chunks ≡ map placeholder (tsns (past n q.chunks))
+    past-placeholders = as-placeholders (past n q.chunks) (filter (λ t. not (at_or_before t n)) (tsns q.chunks))
+        (ap (past n) placeholders ∙ placeholders-past n (tsns q.chunks))
 
     pub past-moved : IsMoved (advance_over n (tsns (past n q.chunks)))
     past-moved =
@@ -138,7 +141,8 @@ module _ (c : ℕ) (q : Payload) (lt : c < 2 ^ 32) (marks : q.chunks ≡ map mar
 
 -- ## Calls as a complete: the view before is v
 
-module _ (c : ℕ) (q then' : Payload) (r : ℕ) (v : Filter) (view : filter_in c q ≡ v) (lt : c < 2 ^ 32) (marks : q.chunks ≡ map mark (tsns q.chunks))
+module _ (c : ℕ) (q then' : Payload) (r : ℕ) (v : Filter) (view : filter_in c q ≡ v) (lt : c < 2 ^ 32)
+    (placeholders : q.chunks ≡ map placeholder (tsns q.chunks))
     (rise : rise_beyond c 1 (tsns q.chunks) ≡ true) where
   pub after-next : (t : ℕ) → t ≡ following_tsn c → advance_over t (tsns q.chunks) ≡ record { cum = r; held = tsns then'.chunks }
       → then' ≡ record q { chunks = then'.chunks; room = then'.room }
@@ -146,11 +150,11 @@ module _ (c : ℕ) (q then' : Payload) (r : ℕ) (v : Filter) (view : filter_in 
   after-next t is e rest =
       let go : advance_over (following_tsn c) (tsns q.chunks) ≡ record { cum = r; held = tsns then'.chunks } = ap (λ u. advance_over u (tsns q.chunks)) (sym is)
       ∙ e in (
-        subst IsMoved go (next-moved c q lt marks rise),
+        subst IsMoved go (next-moved c q lt placeholders rise),
         ap (λ (d : List ℕ). let f : Filter = record { cumulative_tsn = r; beyond = tsns then'.chunks; duplicates = d; room = then'.room } in f)
             (ap (λ (p : Payload). p.duplicates) rest)
             ∙ ap (λ (s : Seen). let f : Filter = record { cumulative_tsn = s.cum; beyond = s.held; duplicates = q.duplicates; room = then'.room } in f) (sym go)
-            ∙ next-is c q lt marks rise then'.room ∙ ap (λ u. let f : Filter = record (with_tsn u (filter_in c q)) { room = then'.room } in f) (sym is)
+            ∙ next-is c q lt placeholders rise then'.room ∙ ap (λ u. let f : Filter = record (with_tsn u (filter_in c q)) { room = then'.room } in f) (sym is)
             ∙ ap (λ (w : Filter). let f : Filter = record (with_tsn t w) { room = then'.room } in f) view,
       )
 
@@ -163,23 +167,24 @@ module _ (c : ℕ) (q then' : Payload) (r : ℕ) (v : Filter) (view : filter_in 
       (sym is) ∙ e in
       let dups : then'.duplicates ≡ q.duplicates = ap (λ (p : Payload). p.duplicates) rest ∙ ap (λ (p : Payload). p.duplicates) is in
       let room : then'.room ≡ q.room = ap (λ (p : Payload). p.room) rest ∙ ap (λ (p : Payload). p.room) is in (
-        subst IsMoved go (past-moved c q lt marks rise n small before),
+        subst IsMoved go (past-moved c q lt placeholders rise n small before),
         ap (λ (d : List ℕ). let f : Filter = record { cumulative_tsn = r; beyond = tsns then'.chunks; duplicates = d; room = then'.room } in f) dups
             ∙ ap (λ (m : ℕ). let f : Filter = record { cumulative_tsn = r; beyond = tsns then'.chunks; duplicates = q.duplicates; room = m } in f) room
             ∙ ap (λ (s : Seen). let f : Filter = record { cumulative_tsn = s.cum; beyond = s.held; duplicates = q.duplicates; room = q.room } in f) (sym go)
-            ∙ skipped-is c q lt marks rise n small before
+            ∙ skipped-is c q lt placeholders rise n small before
             ∙ ap (skipped_to n) view,
       )
 
-  pub skip-marks : (n : ℕ) → n < 2 ^ 32 → comes_before v.cumulative_tsn n ≡ true → (mid : Payload) → mid ≡ with_chunks q (past n q.chunks)
-      → mid.chunks ≡ map mark (tsns mid.chunks)
-  skip-marks n small after mid is =
+  pub skip-placeholders : (n : ℕ) → n < 2 ^ 32 → comes_before v.cumulative_tsn n ≡ true → (mid : Payload) → mid ≡ with_chunks q (past n q.chunks)
+      → mid.chunks ≡ map placeholder (tsns mid.chunks)
+  skip-placeholders n small after mid is =
       let e : mid.chunks ≡ past n q.chunks = ap (λ (p : Payload). p.chunks) is in
-      e ∙ past-marks c q lt marks rise n small (ap (λ (w : Filter). comes_before w.cumulative_tsn n) view ∙ after) ∙ ap (λ cs. map mark (tsns cs)) (sym e)
+      e ∙ past-placeholders c q lt placeholders rise n small (ap (λ (w : Filter). comes_before w.cumulative_tsn n) view ∙ after)
+      ∙ ap (λ cs. map placeholder (tsns cs)) (sym e)
 
 -- a new TSN that is not the one expected next is put in the queue
 module _ (c t : ℕ) (q then' : Payload) (v : Filter) (view : filter_in c q ≡ v) (lt : c < 2 ^ 32) (small : t < 2 ^ 32)
-    (marks : q.chunks ≡ map mark (tsns q.chunks)) (rise : rise_beyond c 1 (tsns q.chunks) ≡ true)
+    (placeholders : q.chunks ≡ map placeholder (tsns q.chunks)) (rise : rise_beyond c 1 (tsns q.chunks) ≡ true)
     (fresh : has_come t v ≡ false) (near : is_opposite t v ≡ false) (differs : (t == following_tsn c) ≡ false) where
   inside-fresh : has_come t (filter_in c q) ≡ false
   inside-fresh = ap (has_come t) view ∙ fresh
@@ -188,33 +193,34 @@ module _ (c t : ℕ) (q then' : Payload) (v : Filter) (view : filter_in c q ≡ 
   inside-near = ap (is_opposite t) view ∙ near
 
   pub put-window : IsWindow c q.chunks t
-  put-window = new-window c t q lt small marks rise inside-fresh inside-near differs
+  put-window = new-window c t q lt small placeholders rise inside-fresh inside-near differs
 
   pub put-new : Window.is_new q.chunks t c ≡ true
-  put-new = is-new c t q lt small marks rise inside-fresh inside-near
+  put-new = is-new c t q lt small placeholders rise inside-fresh inside-near
 
   pub record IsPut : Type 0 where
-    pub marked : then'.chunks ≡ map mark (tsns then'.chunks)
+    pub as-placeholders : then'.chunks ≡ map placeholder (tsns then'.chunks)
     pub rises : rise_beyond c 1 (tsns then'.chunks) ≡ true
     pub is : filter_in c then' ≡ record (with_tsn t v) { room = then'.room }
 
-  pub after-put : then' ≡ push_chunk q (mark t) → IsPut
+  pub after-put : then' ≡ push_chunk q (placeholder t) → IsPut
   after-put e =
-      let cs : then'.chunks ≡ insert_before chunk_before (mark t) q.chunks = ap (λ (p : Payload). p.chunks) e in
+      let cs : then'.chunks ≡ insert_before chunk_before (placeholder t) q.chunks = ap (λ (p : Payload). p.chunks) e in
       record {
-        marked = cs ∙ put-marks c t q lt small marks rise inside-fresh inside-near differs ∙ ap (λ ds. map mark (tsns ds)) (sym cs);
-        rises = ap (λ ds. rise_beyond c 1 (tsns ds)) cs ∙ put-rise c t q lt small marks rise inside-fresh inside-near differs;
+        as-placeholders = cs ∙ put-placeholders c t q lt small placeholders rise inside-fresh inside-near differs
+            ∙ ap (λ ds. map placeholder (tsns ds)) (sym cs);
+        rises = ap (λ ds. rise_beyond c 1 (tsns ds)) cs ∙ put-rise c t q lt small placeholders rise inside-fresh inside-near differs;
         is = ap (λ (ds : List ChunkPayloadData). let f : Filter =
             record { cumulative_tsn = c; beyond = tsns ds; duplicates = then'.duplicates; room = then'.room } in f) cs ∙ ap (λ (d : List ℕ). let f : Filter =
-            record { cumulative_tsn = c; beyond = tsns (insert_before chunk_before (mark t) q.chunks); duplicates = d; room = then'.room } in f)
-            (ap (λ (p : Payload). p.duplicates) e) ∙ put-is c t q lt small marks rise inside-fresh inside-near differs then'.room
+            record { cumulative_tsn = c; beyond = tsns (insert_before chunk_before (placeholder t) q.chunks); duplicates = d; room = then'.room } in f)
+            (ap (λ (p : Payload). p.duplicates) e) ∙ put-is c t q lt small placeholders rise inside-fresh inside-near differs then'.room
             ∙ ap (λ (w : Filter). let f : Filter = record (with_tsn t w) { room = then'.room } in f) view;
       }
 
 -- a TSN that came is noted
 pub after-repeat : (c t : ℕ) (q then' : Payload) (v : Filter) (new : Bool) → filter_in c q ≡ v → has_come t v ≡ true → new ≡ Window.is_new q.chunks t c
-    → then' ≡ (if new then push_chunk q (mark t) else add_duplicate q t) → (then'.chunks ≡ q.chunks) × (filter_in c then' ≡ with_duplicate t v)
+    → then' ≡ (if new then push_chunk q (placeholder t) else add_duplicate q t) → (then'.chunks ≡ q.chunks) × (filter_in c then' ≡ with_duplicate t v)
 after-repeat c t q then' v new view come answer is =
     let old : Window.is_new q.chunks t c ≡ false = new-is q.chunks t c ∙ ap not (ap (has_come t) view ∙ come) in
-    let e : then' ≡ add_duplicate q t = is ∙ ap (λ b. if b then push_chunk q (mark t) else add_duplicate q t) (answer ∙ old) in
+    let e : then' ≡ add_duplicate q t = is ∙ ap (λ b. if b then push_chunk q (placeholder t) else add_duplicate q t) (answer ∙ old) in
     (ap (λ (p : Payload). p.chunks) e, ap (filter_in c) e ∙ ap (with_duplicate t) view)

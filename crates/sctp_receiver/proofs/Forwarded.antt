@@ -88,27 +88,9 @@ stays-named p ns same ls = ap (map p) (named-mapped ns ls) ∙ stays-mapped p (s
 pub named-numbers : (ns : List ChunkForwardTsnStream) (ls : List InboundStream) → numbers_of (named_forwarded ns ls) ≡ numbers_of ls
 named-numbers ns ls = stays-named number ns (λ l. skipped-number (ssns_of l.queue.si ns) l.queue) ls
 
-pub named-stats : (ns : List ChunkForwardTsnStream) (ls : List InboundStream) → map (λ l. l.stats) (named_forwarded ns ls) ≡ map (λ l. l.stats) ls
-named-stats ns ls = stays-named (λ l. l.stats) ns (λ l. refl) ls
-
-pub named-sizes : (ns : List ChunkForwardTsnStream) (ls : List InboundStream)
-    → map (λ l. l.queue.max_message_size) (named_forwarded ns ls) ≡ map (λ l. l.queue.max_message_size) ls
-named-sizes ns ls = stays-named (λ l. l.queue.max_message_size) ns (λ l. skipped-size (ssns_of l.queue.si ns) l.queue) ls
-
-pub named-length : (ns : List ChunkForwardTsnStream) (ls : List InboundStream) → length (named_forwarded ns ls) ≡ length ls
-named-length ns ls = ap length (named-mapped ns ls) ∙ mapped (stream_forwarded ns) ls
-  where
-    mapped : (f : InboundStream → InboundStream) (xs : List InboundStream) → length (map f xs) ≡ length xs
-    mapped f [] = refl
-    mapped f (x ∷ xs) = ap suc (mapped f xs)
-
 pub followed-numbers : (f : ForwardTsn) (r : Reception) → numbers_of (follow_forward_tsn f r).streams ≡ numbers_of r.streams
 followed-numbers f r = stays-mapped number (unassembled_forwarded f.new_cumulative_tsn) (λ l. refl) (named_forwarded f.streams r.streams)
     ∙ named-numbers f.streams r.streams
-
-pub followed-stats : (f : ForwardTsn) (r : Reception) → map (λ l. l.stats) (follow_forward_tsn f r).streams ≡ map (λ l. l.stats) r.streams
-followed-stats f r = stays-mapped (λ l. l.stats) (unassembled_forwarded f.new_cumulative_tsn) (λ l. refl) (named_forwarded f.streams r.streams)
-    ∙ named-stats f.streams r.streams
 
 -- also where it is stale
 pub after-numbers : (f : ForwardTsn) (r : Reception) → numbers_of (after_forward f r).streams ≡ numbers_of r.streams

@@ -156,9 +156,6 @@ named-less st (n ∷ ns) ls =
 followed-less : (st : ℕ) (f : ForwardTsn) (r : Reception) → IsNoMore (stream_of st r) (stream_of st (after_forward f r))
 followed-less st f r = by (is_stale f r)
   where
-    unassembled : InboundStream → InboundStream
-    unassembled = unassembled_forwarded f.new_cumulative_tsn
-
     by : (b : Bool) → IsNoMore (stream_of st r) (stream_of st (if b then r else follow_forward_tsn f r))
     by true = same-held (stream_of st r)
     by false =
@@ -269,13 +266,14 @@ no-less : (c : ChunkPayloadData) (b : Bool) (o : Option InboundStream) → IsMor
 no-less c true o = record { weighs = λ w. omega arith; orderly = λ h. h }
 no-less c false o = record { weighs = λ w. omega arith; orderly = λ h. h }
 
-pushed-orderly : (c : ChunkPayloadData) (told : Bool) (old new : ReassemblyState) → is_on old.si c ≡ true → Pushes c told old new → is_orderly old ≡ true
-    → is_orderly new ≡ true
-pushed-orderly c told old new on p h =
+pushed-orderly : (c : ChunkPayloadData) (answered : Bool) (old new : ReassemblyState) → is_on old.si c ≡ true → Pushes c answered old new
+    → is_orderly old ≡ true → is_orderly new ≡ true
+pushed-orderly c answered old new on p h =
     let s = orderly-both old h in
-    and _ _ (pushed-complete c told old new p s.0) (ap (λ n. is_unmixed n new.held) (pushed-number c told old new p) ∙ pushed-unmixed c told old new on p s.1)
+    and _ _ (pushed-complete c answered old new p s.0)
+    (ap (λ n. is_unmixed n new.held) (pushed-number c answered old new p) ∙ pushed-unmixed c answered old new on p s.1)
 
-module _ (c : ChunkPayloadData) (told : Bool) (old new : Reception) (a : Accepts c told old new) (st : ℕ) where
+module _ (c : ChunkPayloadData) (answered : Bool) (old new : Reception) (a : Accepts c answered old new) (st : ℕ) where
   abbrev sid : ℕ
   sid = c.stream_identifier
 
@@ -283,7 +281,7 @@ module _ (c : ChunkPayloadData) (told : Bool) (old new : Reception) (a : Accepts
   on-stream = eq-eqb sid (number a.stream) (sym (same-is (number a.stream) sid (found-number sid old.streams a.stream a.found)))
 
   keeps : (l : InboundStream) → (number l == sid) ≡ true → a.queue.si ≡ number l
-  keeps l e = pushed-number c told a.stream.queue a.queue a.pushed ∙ same-is (number a.stream) sid (found-number sid old.streams a.stream a.found)
+  keeps l e = pushed-number c answered a.stream.queue a.queue a.pushed ∙ same-is (number a.stream) sid (found-number sid old.streams a.stream a.found)
       ∙ sym (same-is (number l) sid e)
 
   now : stream_of st new ≡ option_map (λ l. if has_number sid l then with_queue a.queue l else l) (stream_of st old)
@@ -302,26 +300,26 @@ module _ (c : ChunkPayloadData) (told : Bool) (old new : Reception) (a : Accepts
           let on : is_on st c ≡ true = eq-eqb sid st (sym same) in
           subst (λ b. IsMoreBy c b (Some l) (Some (with_queue a.queue l))) (sym on)
           (record {
-            weighs = λ w. let p = weights.pushed w c told a.stream.queue a.queue a.pushed in let q = ap (λ (x : InboundStream). weight w x.queue.held) is in
+            weighs = λ w. let p = weights.pushed w c answered a.stream.queue a.queue a.pushed in let q = ap (λ (x : InboundStream). weight w x.queue.held) is in
                 omega arith;
-            orderly = λ t. pushed-orderly c told a.stream.queue a.queue on-stream a.pushed (ap (λ (x : InboundStream). is_orderly x.queue) (sym is) ∙ t);
+            orderly = λ t. pushed-orderly c answered a.stream.queue a.queue on-stream a.pushed (ap (λ (x : InboundStream). is_orderly x.queue) (sym is) ∙ t);
           })
 
   more : IsMoreBy c (is_on st c) (stream_of st old) (stream_of st new)
   more = subst (IsMoreBy c (is_on st c) (stream_of st old)) (sym now) (at (stream_of st old) refl)
 
-taken-valid : (c : ChunkPayloadData) (told : Bool) (old new : Stand) → IsValid old → Accepts c told old.receiver new.receiver → new.accepted ≡ c ∷ old.accepted
-    → new.read ≡ old.read → IsValid new
-taken-valid c told old new s a e r = record {
+taken-valid : (c : ChunkPayloadData) (answered : Bool) (old new : Stand) → IsValid old → Accepts c answered old.receiver new.receiver
+    → new.accepted ≡ c ∷ old.accepted → new.read ≡ old.read → IsValid new
+taken-valid c answered old new s a e r = record {
   holds = λ st. record {
     weighs = λ w.
         let h = (s.holds st).weighs w in
-        let m = (more c told old.receiver new.receiver a st).weighs w in
+        let m = (more c answered old.receiver new.receiver a st).weighs w in
         let t = taken-more w st c old.accepted (is_on st c) refl in
         let f = ap (λ cs. sum_by w (filter (is_on st) cs)) e in
         let g = ap (λ ms. sum_by w (fragments_read st ms)) r in
         omega arith;
-    orderly = (more c told old.receiver new.receiver a st).orderly (s.holds st).orderly;
+    orderly = (more c answered old.receiver new.receiver a st).orderly (s.holds st).orderly;
   };
   read = ap (λ ms. list_all (λ m. is_complete m.fragments) ms) r ∙ s.read;
   one = ap (λ ms. list_all (λ m. is_one_message m.fragments) ms) r ∙ s.one;
@@ -444,7 +442,7 @@ step (opens stream) old new s f = quiet old new s f.accepted f.read (λ st. subs
     (sym f.receiver.1) (opened-less st stream old.receiver.max_message_size old.receiver.streams))
 step (closes stream) old new s f = quiet old new s f.accepted f.read
     (λ st. subst (λ (r : Reception). IsNoMore (stream_of st old.receiver) (stream_of st r)) (sym f.receiver) (closed-less st stream old.receiver.streams))
-step (takes c (New told)) old new s f = taken-valid c told old new s f.receiver f.accepted f.read
+step (takes c (New answered)) old new s f = taken-valid c answered old new s f.receiver f.accepted f.read
 step (takes c Repeat) old new s f = still old new s (ap (λ (r : Reception). r.streams) f.receiver) f.accepted f.read
 step (discards tsn) old new s f = still old new s (ap (λ (r : Reception). r.streams) f.receiver ∙ discard-streams tsn old.receiver) f.accepted f.read
 step (reports_within bytes) old new s f = still old new s (ap (λ (r : Reception). r.streams) f.receiver) f.accepted f.read

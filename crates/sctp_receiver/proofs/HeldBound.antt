@@ -22,7 +22,7 @@ use Rattle.sctp_receiver.specs.declared.receiver.refusal.ReceiverRefusal.TheVari
 use Rattle.sctp_receiver.specs.Inbound.{number, numbers_of, has_number, new_stream, with_queue, stream_read, named_forwarded, unassembled_forwarded}
 use Rattle.sctp_receiver.specs.Limits.{cost_of, held_cost, refusal_within, refusal_by}
 use Rattle.sctp_receiver.specs.Receiver.{Reception, filter_of, with_filter, Accepts, noted_by, repeat_tsn, new_refusal, stream_of, stream_refusal, data_refusal}
-use Rattle.sctp_receiver.specs.Receiver.{discard_refusal, forward_refusal, arrival_of, after_discard, max_sack_entries, duplicates_told, sack_entries}
+use Rattle.sctp_receiver.specs.Receiver.{discard_refusal, forward_refusal, arrival_of, after_discard, max_sack_entries, duplicates_answered, sack_entries}
 use Rattle.sctp_receiver.specs.Receiver.{after_sack_within, is_stale, follow_forward_tsn, after_forward}
 use Rattle.sctp_receiver.specs.ReceiverRuns.{Call, opens, closes, takes, discards, reports, reports_within, reads, resets, forwards, forwards_by_names, Stand}
 use Rattle.sctp_receiver.specs.ReceiverRuns.{Makes, accepted_after, Follows, at_start, IsAnswered, IsUnrefused, RunsUnrefused, AfterEachRunWithin}
@@ -193,11 +193,11 @@ module _ (m : InboundStream → ℕ) (fits : ChunkPayloadData → Type 0) (most 
 
   -- ## DATA
 
-  -- one that is told new did not come
-  told-new : (t : ℕ) (told : Bool) (r : Reception) → New told ≡ arrival_of t told r → has_come t (filter_of r) ≡ false
-  told-new t told r e = by (has_come t (filter_of r)) refl e
+  -- one that is answered as new did not come
+  complete-new : (t : ℕ) (complete : Bool) (r : Reception) → New complete ≡ arrival_of t complete r → has_come t (filter_of r) ≡ false
+  complete-new t complete r e = by (has_come t (filter_of r)) refl e
     where
-      by : (b : Bool) → has_come t (filter_of r) ≡ b → New told ≡ (if b then Repeat else New told) → has_come t (filter_of r) ≡ false
+      by : (b : Bool) → has_come t (filter_of r) ≡ b → New complete ≡ (if b then Repeat else New complete) → has_come t (filter_of r) ≡ false
       by true h e = cc
       by false h e = h
 
@@ -207,23 +207,23 @@ module _ (m : InboundStream → ℕ) (fits : ChunkPayloadData → Type 0) (most 
       (subst (λ b. (if b then None else (if is_opposite c.tsn (filter_of r) then Some TsnOpposite
       else option_or (new_refusal c.tsn r) (stream_refusal c (stream_of c.stream_identifier r)))) ≡ None) fresh e)
 
-  accepts : (c : ChunkPayloadData) (told : Bool) (old new : Reception) (cs : List ChunkPayloadData) → IsBounded old cs → IsAnswered c (New told) old
-      → Accepts c told old new → IsBounded new (c ∷ cs)
-  accepts c told old new cs b answered a =
-      let fresh = told-new c.tsn told old answered.answer in
+  accepts : (c : ChunkPayloadData) (complete : Bool) (old new : Reception) (cs : List ChunkPayloadData) → IsBounded old cs → IsAnswered c (New complete) old
+      → Accepts c complete old new → IsBounded new (c ∷ cs)
+  accepts c complete old new cs b answered a =
+      let fresh = complete-new c.tsn complete old answered.answer in
       let taken = chunk-taken c old b.limited fresh answered.accepted in
       let ls = change_where (has_number c.stream_identifier) (with_queue a.queue) old.streams in
       let r' : Reception = with_filter (with_tsn c.tsn (filter_of old)) (record old { streams = ls }) in
       let ascending = new-ascending c.tsn old answered.fits b.ascending fresh taken in
       let numbers : numbers_of ls ≡ numbers_of old.streams = ap (λ (r : Reception). numbers_of r.streams) (sym a.after)
-      ∙ (takes-keeps c (New told) old new a).0 in
+      ∙ (takes-keeps c (New complete) old new a).0 in
       let bounded : IsBounded r' (c ∷ cs) = record {
         limited = b.limited;
         ascending = record { small = ascending.small; rise = ascending.rise };
         apart = ap are_apart numbers ∙ b.apart;
         bound = λ fit.
             let more = one-changed m c.stream_identifier most (with_queue a.queue) a.stream old.streams b.apart a.found
-            (is.pushed c told a.stream a.queue (head c cs fit) a.pushed) in
+            (is.pushed c complete a.stream a.queue (head c cs fit) a.pushed) in
             new-bound c.tsn old answered.fits b.ascending fresh taken (sum_by m ls) more (b.bound (tail c cs fit));
         reached = reached-with (filter_of old) c.tsn l.reach b.ascending answered.fits fresh taken.near taken.limits.near b.reached;
         noted = b.noted;
@@ -313,13 +313,13 @@ module _ (m : InboundStream → ℕ) (fits : ChunkPayloadData → Type 0) (most 
       by (closes stream) u made = subst (λ r. IsBounded r old.accepted) (sym made)
           (quiet old.receiver (filter (λ x. not (has_number stream x)) old.receiver.streams) old.accepted b
           (kept-apart (λ x. not (has_number stream x)) old.receiver.streams b.apart) (kept-cost m (λ x. not (has_number stream x)) old.receiver.streams))
-      by (takes c (New told)) u made = accepts c told old.receiver new.receiver old.accepted b u made
+      by (takes c (New answered)) u made = accepts c answered old.receiver new.receiver old.accepted b u made
       by (takes c Repeat) u made = subst (λ r. IsBounded r old.accepted) (sym made) (repeated c.tsn old.receiver old.accepted b)
       by (discards tsn) u made = subst (λ r. IsBounded r old.accepted) (sym made) (discarded tsn old.receiver old.accepted b u.0 u.1)
       by reports u made = subst (λ r. IsBounded r old.accepted) (sym made) (duplicated old.receiver [] old.accepted b (omega arith))
       by (reports_within bytes) u made = subst (λ r. IsBounded r old.accepted) (sym made)
           (duplicated old.receiver (after_sack_within bytes old.receiver).duplicates old.accepted b
-          (let e = length-drop (duplicates_told (sack_entries bytes) old.receiver) old.receiver.duplicates in omega (arith, e, b.noted)))
+          (let e = length-drop (duplicates_answered (sack_entries bytes) old.receiver) old.receiver.duplicates in omega (arith, e, b.noted)))
       by (reads stream) u made = subst (λ r. IsBounded r old.accepted) (sym made)
           (quiet old.receiver (change_where (has_number stream) stream_read old.receiver.streams) old.accepted b
           (ap are_apart (read-numbers stream old.receiver) ∙ b.apart) (changed-cost m (has_number stream) stream_read is.read old.receiver.streams))

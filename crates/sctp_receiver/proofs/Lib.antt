@@ -1,5 +1,5 @@
 pub mod TsnLists
-pub mod Marks
+pub mod Placeholders
 pub mod FilterCalls
 pub mod FilterCosts
 pub mod Retracts

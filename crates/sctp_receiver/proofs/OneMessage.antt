@@ -20,7 +20,7 @@ use Rattle.sctp_reassembly.specs.reassembly_queue.ReassemblyQueue.{front_readabl
 use Rattle.sctp_reassembly.specs.reassembly_queue.ReassemblyQueue.{rest_read, is_passed, held_after_ordered_skip, held_after_unordered_skip}
 use Rattle.sctp_reassembly.specs.reassembly_queue.Resets.{is_old_message, rest_past, is_some_left, of_new_use, held_after_reset}
 use Rattle.sctp_reassembly.specs.reassembly_queue.Skips.{cannot_complete, held_after_incomplete_skip}
-use Rattle.sctp_receiver.specs.TsnFilter.{mark}
+use Rattle.sctp_receiver.specs.TsnFilter.{placeholder}
 use Rattle.sctp_receiver.specs.Inbound.{Pushes, PushesAs}
 use Rattle.sctp_receiver.specs.ReceiverRuns.{is_like, none_ends_before, is_one_message}
 
@@ -139,7 +139,7 @@ unordered-message si (x ∷ ys) d all begins ends =
 
 module _ (xs : List ChunkPayloadData) (first count : ℕ) (r : IsEarliestRun xs first count) where
   abbrev d : ChunkPayloadData
-  d = mark 0
+  d = placeholder 0
 
   abbrev run : List ChunkPayloadData
   run = take count (drop first xs)
@@ -199,9 +199,6 @@ parts si q h =
     let a = both (list_all (is_ordered_set si) q.ordered) (list_all is_message q.unordered && list_all (is_unordered_part si) q.unassembled) h in
     let b = both (list_all is_message q.unordered) (list_all (is_unordered_part si) q.unassembled) a.1 in
     record { ordered = a.0; unordered = b.0; unassembled = b.1 }
-
-whole : (si : ℕ) (q : Reassembly) → IsUnmixed si q → is_unmixed si q ≡ true
-whole si q u = and _ _ u.ordered (and _ _ u.unordered u.unassembled)
 
 -- ## A fragment comes
 

@@ -18,9 +18,9 @@ use Rattle.sctp_reassembly.proofs.lemmas.reassembly_queue.SerialPlaces.{after_on
 use Rattle.sctp_outbound.specs.payload_queue.PayloadQueue.{Payload, push_chunk, with_chunks, without}
 use Rattle.sctp_receiver.specs.declared.receiver.tsn_filter.undo.FilterUndo.{FilterUndo}
 use Rattle.sctp_receiver.specs.declared.receiver.tsn_filter.undo.FilterUndo.TheVariants.{Beyond, Next}
-use Rattle.sctp_receiver.specs.TsnFilter.{Filter, mark, rise_beyond, has_come, is_opposite, with_tsn}
+use Rattle.sctp_receiver.specs.TsnFilter.{Filter, placeholder, rise_beyond, has_come, is_opposite, with_tsn}
 use Rattle.sctp_receiver.specs.Undo.{tsns_from, passed, undo_of, retracted, CanRetract}
-use Rattle.sctp_receiver.proofs.Marks.{tsns-mark, marked, marks-inserted, new-is, window}
+use Rattle.sctp_receiver.proofs.Placeholders.{tsns-placeholder, as-placeholders, placeholders-inserted, new-is, window}
 use Rattle.sctp_receiver.proofs.FilterCalls.{filter_in}
 use Rattle.sctp_receiver.proofs.TsnLists.{IsStep, step-of, beyond, moves, stays, rise-inserted, nearer, behind-it}
 
@@ -206,14 +206,14 @@ tsns-without t (c ∷ cs) = by (not (c.tsn == t)) (tsns-without t cs)
     by true ih = ap (λ us. c.tsn ∷ us) ih
     by false ih = ih
 
-pub marks-without : (t : ℕ) (ts : List ℕ) → without t (map mark ts) ≡ map mark (filter (λ u. not (u == t)) ts)
-marks-without t [] = refl
-marks-without t (u ∷ us) = by (not (u == t)) (marks-without t us)
+pub placeholders-without : (t : ℕ) (ts : List ℕ) → without t (map placeholder ts) ≡ map placeholder (filter (λ u. not (u == t)) ts)
+placeholders-without t [] = refl
+placeholders-without t (u ∷ us) = by (not (u == t)) (placeholders-without t us)
   where
-    by : (b : Bool) → without t (map mark us) ≡ map mark (filter (λ v. not (v == t)) us)
-        → (if b then mark u ∷ without t (map mark us) else without t (map mark us)) ≡ map mark
+    by : (b : Bool) → without t (map placeholder us) ≡ map placeholder (filter (λ v. not (v == t)) us)
+        → (if b then placeholder u ∷ without t (map placeholder us) else without t (map placeholder us)) ≡ map placeholder
         (if b then u ∷ filter (λ v. not (v == t)) us else filter (λ v. not (v == t)) us)
-    by true ih = ap (λ cs. mark u ∷ cs) ih
+    by true ih = ap (λ cs. placeholder u ∷ cs) ih
     by false ih = ih
 
 -- the last one of a run by itself
@@ -254,7 +254,7 @@ length-run t zero = refl
 length-run t (suc n) = let h = length-run (following_tsn t) n in omega (arith, h)
 
 -- the mark that is put back next: so many TSNs past the one that the cumulative TSN goes back to
-module _ (c left : ℕ) (q : Payload) (lt : c < 2 ^ 32) (more : 1 < left) (marks : q.chunks ≡ map mark (tsns q.chunks))
+module _ (c left : ℕ) (q : Payload) (lt : c < 2 ^ 32) (more : 1 < left) (placeholders : q.chunks ≡ map placeholder (tsns q.chunks))
     (rise : rise_beyond c 1 (tsns_from (following_tsn (following_tsn c)) (left - 1) ++ tsns q.chunks) ≡ true) where
   pub run-split : tsns_from (following_tsn (following_tsn c)) (left - 1) ++ tsns q.chunks ≡ tsns_from (following_tsn (following_tsn c)) (left - 1 - 1)
       ++ (c + left) % 2 ^ 32 ∷ tsns q.chunks
@@ -281,26 +281,26 @@ module _ (c left : ℕ) (q : Payload) (lt : c < 2 ^ 32) (more : 1 < left) (marks
       let gone : list_any (λ u. u == t) (tsns q.chunks) ≡ false = absent-nearer c (distance c t) t (tsns q.chunks) (omega arith) stands.1 in
       new-is q.chunks t c ∙ ap (λ b. not (b || list_any (λ u. u == t) (tsns q.chunks))) after ∙ ap not gone
 
-  module _ (now : Payload) (is : now ≡ push_chunk q (mark ((c + left) % 2 ^ 32))) where
-    put-chunks : now.chunks ≡ map mark ((c + left) % 2 ^ 32 ∷ tsns q.chunks)
+  module _ (now : Payload) (is : now ≡ push_chunk q (placeholder ((c + left) % 2 ^ 32))) where
+    put-chunks : now.chunks ≡ map placeholder ((c + left) % 2 ^ 32 ∷ tsns q.chunks)
     put-chunks =
         let t = (c + left) % 2 ^ 32 in
         ap (λ (p : Payload). p.chunks) is
-        ∙ ap (insert_before chunk_before (mark t)) marks
-        ∙ marks-inserted t (tsns q.chunks)
-        ∙ ap (map mark) (in-front c t (tsns q.chunks) lt stands.0.small stands.1)
+        ∙ ap (insert_before chunk_before (placeholder t)) placeholders
+        ∙ placeholders-inserted t (tsns q.chunks)
+        ∙ ap (map placeholder) (in-front c t (tsns q.chunks) lt stands.0.small stands.1)
 
-    pub back-marks : now.chunks ≡ map mark (tsns now.chunks)
-    back-marks = marked now.chunks ((c + left) % 2 ^ 32 ∷ tsns q.chunks) put-chunks
+    pub back-placeholders : now.chunks ≡ map placeholder (tsns now.chunks)
+    back-placeholders = as-placeholders now.chunks ((c + left) % 2 ^ 32 ∷ tsns q.chunks) put-chunks
 
     pub back-same : tsns_from (following_tsn (following_tsn c)) (left - 1 - 1) ++ tsns now.chunks ≡ tsns_from (following_tsn (following_tsn c))
         (left - 1) ++ tsns q.chunks
     back-same = ap (λ us. tsns_from (following_tsn (following_tsn c)) (left - 1 - 1) ++ us)
-        (ap tsns put-chunks ∙ tsns-mark ((c + left) % 2 ^ 32 ∷ tsns q.chunks)) ∙ sym run-split
+        (ap tsns put-chunks ∙ tsns-placeholder ((c + left) % 2 ^ 32 ∷ tsns q.chunks)) ∙ sym run-split
 
 -- ## The filter as it was
 
-module _ (c : ℕ) (q : Payload) (v : Filter) (view : filter_in c q ≡ v) (marks : q.chunks ≡ map mark (tsns q.chunks)) where
+module _ (c : ℕ) (q : Payload) (v : Filter) (view : filter_in c q ≡ v) (placeholders : q.chunks ≡ map placeholder (tsns q.chunks)) where
   low-room : (room : ℕ) (mid last : Payload) → room ≤ mid.room → last ≡ record mid { room = min room mid.room } → last ≡ record mid { room = room }
   low-room room mid last le limited = let e : min room mid.room ≡ room = omega (arith, le) in limited
       ∙ ap (λ (n : ℕ). let p : Payload = record mid { room = n } in p) e
@@ -329,9 +329,9 @@ module _ (c : ℕ) (q : Payload) (v : Filter) (view : filter_in c q ≡ v) (mark
         ∙ ap (λ (us : List ℕ). let f : Filter = record { cumulative_tsn = c; beyond = us; duplicates = q.duplicates; room = room } in f) out
         ∙ ap (retracted (Beyond t room)) view
 
-    pub gone-marks : last.chunks ≡ map mark (tsns last.chunks)
-    gone-marks = marked last.chunks (filter (λ u. not (u == t)) (tsns q.chunks))
-        (ap (λ (p : Payload). p.chunks) limited ∙ ap (λ (p : Payload). p.chunks) is ∙ ap (without t) marks ∙ marks-without t (tsns q.chunks))
+    pub gone-placeholders : last.chunks ≡ map placeholder (tsns last.chunks)
+    gone-placeholders = as-placeholders last.chunks (filter (λ u. not (u == t)) (tsns q.chunks))
+        (ap (λ (p : Payload). p.chunks) limited ∙ ap (λ (p : Payload). p.chunks) is ∙ ap (without t) placeholders ∙ placeholders-without t (tsns q.chunks))
 
     pub gone-rise : rise_beyond c 1 (tsns last.chunks) ≡ true
     gone-rise = ap (λ (f : Filter). rise_beyond f.cumulative_tsn 1 f.beyond) gone-is ∙ can.rise
@@ -352,13 +352,13 @@ module _ (c : ℕ) (q : Payload) (v : Filter) (view : filter_in c q ≡ v) (mark
     pub back-room : distance n c - 1 ≤ q.room
     back-room = omega (arith, fits)
 
-    module _ (mid last : Payload) (back : mid.chunks ≡ map mark (passed n c ++ tsns q.chunks))
+    module _ (mid last : Payload) (back : mid.chunks ≡ map placeholder (passed n c ++ tsns q.chunks))
         (rest : mid ≡ record q { chunks = mid.chunks; room = q.room - (distance n c - 1) }) (limited : last ≡ record mid { room = min room mid.room })
       where
         enough-left : room ≤ mid.room
         enough-left = let e = ap (λ (p : Payload). p.room) rest in omega (arith, fits, e)
 
-        last-chunks : last.chunks ≡ map mark (passed n c ++ tsns q.chunks)
+        last-chunks : last.chunks ≡ map placeholder (passed n c ++ tsns q.chunks)
         last-chunks = ap (λ (p : Payload). p.chunks) limited ∙ back
 
         pub next-is-back : filter_in n last ≡ retracted (Next n room) v
@@ -367,11 +367,11 @@ module _ (c : ℕ) (q : Payload) (v : Filter) (view : filter_in c q ≡ v) (mark
             ∙ ap (λ (d : List ℕ). let f : Filter = record { cumulative_tsn = n; beyond = tsns mid.chunks; duplicates = d; room = room } in f)
             (ap (λ (p : Payload). p.duplicates) rest)
             ∙ ap (λ (us : List ℕ). let f : Filter = record { cumulative_tsn = n; beyond = us; duplicates = q.duplicates; room = room } in f)
-            (ap tsns back ∙ tsns-mark (passed n c ++ tsns q.chunks))
+            (ap tsns back ∙ tsns-placeholder (passed n c ++ tsns q.chunks))
             ∙ ap (retracted (Next n room)) view
 
-        pub next-marks : last.chunks ≡ map mark (tsns last.chunks)
-        next-marks = marked last.chunks (passed n c ++ tsns q.chunks) last-chunks
+        pub next-placeholders : last.chunks ≡ map placeholder (tsns last.chunks)
+        next-placeholders = as-placeholders last.chunks (passed n c ++ tsns q.chunks) last-chunks
 
         pub next-rise : rise_beyond n 1 (tsns last.chunks) ≡ true
-        next-rise = ap (rise_beyond n 1) (ap tsns last-chunks ∙ tsns-mark (passed n c ++ tsns q.chunks)) ∙ back-rise
+        next-rise = ap (rise_beyond n 1) (ap tsns last-chunks ∙ tsns-placeholder (passed n c ++ tsns q.chunks)) ∙ back-rise

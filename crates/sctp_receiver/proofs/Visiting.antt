@@ -76,16 +76,16 @@ tell true = 1
 tell false = 0
 
 -- no more than pass the test, where each place before the count does
-few-told : (count : ℕ) (order spots : List ℕ) (bs : List Bool) → AreInverse order spots
+few-answered : (count : ℕ) (order spots : List ℕ) (bs : List Bool) → AreInverse order spots
     → ((i : ℕ) → i < count → (p : ℕ) × (slice_get order i ≡ Some p) × (slice_get bs p ≡ Some true)) → count ≤ sum_by tell bs
-few-told zero order spots bs inverse h = omega arith
-few-told (suc n) order spots bs inverse h =
+few-answered zero order spots bs inverse h = omega arith
+few-answered (suc n) order spots bs inverse h =
     let last = h n (omega arith) in
     let p = last.0 in
     let lt = slice_get_within bs p true last.2 in
     let s = sum_by-set tell bs p false false lt in
     let here = ap tell (get_or_from_slice_get bs p true false last.2) in
-    let ih = few-told n order spots (slice_set bs p false) inverse (λ i less. let q = h i (omega (arith, less)) in
+    let ih = few-answered n order spots (slice_set bs p false) inverse (λ i less. let q = h i (omega (arith, less)) in
     (q.0, q.1, set-there bs p (q.0) false (λ z. omega (arith, less, spot-is i (q.0) p q.1 z last.1)) ∙ q.2)) in
     omega (arith, s, here, ih)
   where
@@ -93,9 +93,9 @@ few-told (suc n) order spots bs inverse h =
     spot-is i q p a z b = some-same (sym ((inverse i q).0 a) ∙ ap (slice_get spots) z ∙ (inverse n p).0 b)
 
 module _ {X : Type 0} (any : X → Bool) where
-  told : (xs : List X) → sum_by tell (map any xs) ≡ length (filter any xs)
-  told [] = refl
-  told (x ∷ xs) = sum_by-cons tell (any x) (map any xs) ∙ by (any x) (told xs)
+  answered : (xs : List X) → sum_by tell (map any xs) ≡ length (filter any xs)
+  answered [] = refl
+  answered (x ∷ xs) = sum_by-cons tell (any x) (map any xs) ∙ by (any x) (answered xs)
     where
       by : (b : Bool) → sum_by tell (map any xs) ≡ length (filter any xs)
           → tell b + sum_by tell (map any xs) ≡ length (if b then x ∷ filter any xs else filter any xs)
@@ -115,8 +115,8 @@ module _ {X : Type 0} (any : X → Bool) where
   pub few-visited : (v : VisitOrder) (xs : List X) → AreInverse v.order v.spots → v.count ≤ length v.order → length v.spots ≡ length xs
       → ((p : ℕ) (x : X) → slice_get xs p ≡ Some x → is_visited p v ≡ true → any x ≡ true) → v.count ≤ length (filter any xs)
   few-visited v xs inverse within same all =
-      let h = few-told v.count v.order v.spots (map any xs) inverse each in
-      omega (arith, h, told xs)
+      let h = few-answered v.count v.order v.spots (map any xs) inverse each in
+      omega (arith, h, answered xs)
     where
       each : (i : ℕ) → i < v.count → (p : ℕ) × (slice_get v.order i ≡ Some p) × (slice_get (map any xs) p ≡ Some true)
       each i lt =

@@ -141,9 +141,9 @@ abbrev pub arrival_of : ℕ → Bool → Reception → Arrival
 arrival_of tsn complete r = if has_come tsn (filter_of r) then Repeat else New complete
 
 -- whether it is told that a message became complete
-abbrev pub is_told_complete : Arrival → Bool
-is_told_complete (New complete) = complete
-is_told_complete Repeat = false
+abbrev pub is_answered_complete : Arrival → Bool
+is_answered_complete (New complete) = complete
+is_answered_complete Repeat = false
 
 -- what a DATA chunk makes, where its TSN is new and where it is not
 abbrev pub Takes : ChunkPayloadData → Arrival → Reception → Reception → Type 0
@@ -159,7 +159,7 @@ refusal_for false = arrival_refusal
 pub record TakesFirstBy (refusal : ChunkPayloadData → Reception → Option ReceiverRefusal)
     (c : ChunkPayloadData) (a : Arrival) (old mid : Reception) : Type 0 where
   pub accepted : refusal c old ≡ None
-  pub answer : a ≡ arrival_of c.tsn (is_told_complete a) old
+  pub answer : a ≡ arrival_of c.tsn (is_answered_complete a) old
   pub taken : Takes c a old mid
 
 abbrev pub TakesEachBy : (ChunkPayloadData → Reception → Option ReceiverRefusal)
@@ -222,8 +222,8 @@ abbrev pub window : Reception → ℕ
 window r = window_left r.limits r.streams
 
 -- how many duplicates fit behind the blocks, of so many blocks and duplicates in all
-abbrev pub duplicates_told : ℕ → Reception → ℕ
-duplicates_told entries r = entries - length (take entries (gap_ack_blocks (filter_of r)))
+abbrev pub duplicates_answered : ℕ → Reception → ℕ
+duplicates_answered entries r = entries - length (take entries (gap_ack_blocks (filter_of r)))
 
 -- blocks come first, then as many duplicates as fit
 abbrev pub sack_of_entries : ℕ → ℕ → Reception → Sack
@@ -232,7 +232,7 @@ sack_of_entries credit entries r =
       cumulative_tsn_ack = r.cumulative_tsn;
       advertised_receiver_window_credit = credit;
       gap_ack_blocks = take entries (gap_ack_blocks (filter_of r));
-      duplicate_tsn = take (duplicates_told entries r) r.duplicates;
+      duplicate_tsn = take (duplicates_answered entries r) r.duplicates;
     }
 
 abbrev pub sack : ℕ → Reception → Sack
@@ -251,7 +251,7 @@ sack_within credit bytes r = sack_of_entries credit (sack_entries bytes) r
 -- the duplicates that did not fit are kept
 abbrev pub after_sack_within : ℕ → Reception → Reception
 after_sack_within bytes r =
-    record r { duplicates = drop (duplicates_told (sack_entries bytes) r) r.duplicates }
+    record r { duplicates = drop (duplicates_answered (sack_entries bytes) r) r.duplicates }
 
 -- ## Read
 

@@ -11,7 +11,7 @@ use Rattle.sctp_receiver.specs.declared.receiver.arrival.Arrival.{Arrival}
 use Rattle.sctp_receiver.specs.declared.receiver.arrival.Arrival.TheVariants.{New, Repeat}
 use Rattle.sctp_receiver.specs.declared.receiver.limits.Limits.{Limits}
 use Rattle.sctp_receiver.specs.Limits.{cost_of}
-use Rattle.sctp_receiver.specs.Receiver.{Reception, at_first, is_open, open_stream, close_stream, data_refusal, arrival_of, is_told_complete, Takes}
+use Rattle.sctp_receiver.specs.Receiver.{Reception, at_first, is_open, open_stream, close_stream, data_refusal, arrival_of, is_answered_complete, Takes}
 use Rattle.sctp_receiver.specs.Receiver.{discard_refusal, after_discard, forward_refusal, without_duplicates, max_sack_entries, after_sack_within, message_on}
 use Rattle.sctp_receiver.specs.Receiver.{after_read, after_forward}
 use Rattle.sctp_receiver.specs.Resets.{reset_stream, reset_refusal}
@@ -159,7 +159,7 @@ WereAccepted s =
 pub record IsAnswered (c : ChunkPayloadData) (a : Arrival) (r : Reception) : Type 0 where
   pub fits : c.tsn < 2 ^ 32
   pub accepted : data_refusal c r ≡ None
-  pub answer : a ≡ arrival_of c.tsn (is_told_complete a) r
+  pub answer : a ≡ arrival_of c.tsn (is_answered_complete a) r
 
 -- a call is not refused
 abbrev pub IsUnrefused : Call → Reception → Type 0

@@ -70,8 +70,8 @@ gap_ack_blocks f = map block_of (runs_of (offsets f))
 -- ## What is kept
 
 -- a TSN as the queue keeps it: a chunk that says nothing else
-abbrev pub mark : ℕ → ChunkPayloadData
-mark tsn = fresh (record {
+abbrev pub placeholder : ℕ → ChunkPayloadData
+placeholder tsn = fresh (record {
   unordered = false;
   beginning_fragment = false;
   ending_fragment = false;

@@ -73,9 +73,9 @@ impl Receiver {
     ghost use Rattle.sctp_reassembly.specs.reassembly_queue.ReassemblyQueue.{at_start};
     ghost use Rattle.sctp_receiver.specs.Costs.{names_turns};
     ghost use Rattle.sctp_receiver.specs.Ssns.{is_kept_on};
-    ghost use Rattle.sctp_receiver.specs.TsnFilter.{has_come, mark};
+    ghost use Rattle.sctp_receiver.specs.TsnFilter.{has_come, placeholder};
     ghost use Rattle.sctp_serial.specs.DataChunks.{bytes_of};
-    ghost use Rattle.sctp_receiver.specs.Receiver.{at_first, filter_of, stream_of, is_open, open_stream, close_stream, data_refusal, arrival_refusal, refusal_for, IsRefusedFor, takes_memory, arrival_of, is_told_complete, Takes, discard_refusal, after_discard, discard_takes_memory, message_on, readable_streams, after_read, forward_refusal, forwarded_of, after_forward};
+    ghost use Rattle.sctp_receiver.specs.Receiver.{at_first, filter_of, stream_of, is_open, open_stream, close_stream, data_refusal, arrival_refusal, refusal_for, IsRefusedFor, takes_memory, arrival_of, is_answered_complete, Takes, discard_refusal, after_discard, discard_takes_memory, message_on, readable_streams, after_read, forward_refusal, forwarded_of, after_forward};
 
     /// A receiver with no stream, to which nothing came. The first TSN is expected next, and a message may have
     /// `max_message_size` bytes. The limits stay as they are handed in; where there are none, nothing is refused for them, and each TSN
@@ -135,7 +135,7 @@ impl Receiver {
     /// FORWARD-TSN went past its message (`kept`). The chunk that is expected next passes no filter.
     pub fn data(&mut self, chunk: &ChunkPayloadData) -> Result<Arrival, ReceiverRefusal>
         ensures answer { IfOk result (λ arrival. arrival
-            ≡ arrival_of chunk.now.tsn (is_told_complete arrival) self.old) }
+            ≡ arrival_of chunk.now.tsn (is_answered_complete arrival) self.old) }
         ensures ok { IfOk result (λ arrival. Takes chunk.now arrival self.old self.new) }
         ensures accepted { IsOk result → arrival_refusal chunk.now self.old ≡ None }
         ensures kept { IsOk result → has_come chunk.now.tsn (filter_of self.old) ≡ false
@@ -156,7 +156,7 @@ impl Receiver {
         chunk: &ChunkPayloadData,
     ) -> Result<Arrival, ReceiverRefusal>
         ensures answer { IfOk result (λ arrival. arrival
-            ≡ arrival_of chunk.now.tsn (is_told_complete arrival) self.old) }
+            ≡ arrival_of chunk.now.tsn (is_answered_complete arrival) self.old) }
         ensures ok { IfOk result (λ arrival. Takes chunk.now arrival self.old self.new) }
         ensures accepted { IsOk result → data_refusal chunk.now self.old ≡ None }
         ensures refused { IfErr result (λ e. IsRefusedFor (data_refusal chunk.now self.old) e) }
@@ -170,7 +170,7 @@ impl Receiver {
     // Takes a DATA chunk, an ordered one of any stream sequence number or not, and how it could be taken back is dropped.
     fn take(&mut self, chunk: &ChunkPayloadData, any_ssn: bool) -> Result<Arrival, ReceiverRefusal>
         ensures answer { IfOk result (λ arrival. arrival
-            ≡ arrival_of chunk.now.tsn (is_told_complete arrival) self.old) }
+            ≡ arrival_of chunk.now.tsn (is_answered_complete arrival) self.old) }
         ensures ok { IfOk result (λ arrival. Takes chunk.now arrival self.old self.new) }
         ensures accepted { IsOk result → refusal_for any_ssn chunk.now self.old ≡ None }
         ensures kept { IsOk result → any_ssn ≡ false
@@ -349,7 +349,7 @@ impl Receiver {
     /// The TSNs that came beyond the cumulative one, each as a chunk that says nothing else, and those that came again since
     /// the last SACK.
     pub fn filter(&self) -> &PayloadQueue
-        ensures beyond { result.now.chunks ≡ map mark self.now.beyond }
+        ensures beyond { result.now.chunks ≡ map placeholder self.now.beyond }
         ensures duplicates { result.now.duplicates ≡ self.now.duplicates }
     {
         self.filter.queue()

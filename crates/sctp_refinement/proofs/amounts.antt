@@ -4,6 +4,6 @@ pub mod InFlightBytes
 pub mod MessageSums
 pub mod StreamAmounts
 pub mod StreamCounters
-pub mod ToldSums
+pub mod AnsweredSums
 pub mod NoLarger
 pub mod Sizes

@@ -15,7 +15,7 @@ use Rattle.sctp_sender.specs.declared.sender.flight.Released.{Released}
 use Rattle.sctp_sender.specs.Flight.{released_of}
 use Rattle.sctp_sender.specs.Reporting.{AreKnown, ascends_from}
 use Rattle.sctp_sender.specs.Telling.{PicksAnew, PicksOpen, no_message}
-use Rattle.sctp_sender.proofs.MarkedPlaces.{all-told}
+use Rattle.sctp_sender.proofs.MarkedPlaces.{all-answered}
 
 -- ## Tests on lists
 
@@ -57,12 +57,12 @@ module _ {X : Type 0} (p : X → Bool) where
       (none-between xs i j (omega (arith, le)) (λ k d low high in'. h (suc k) d (omega (arith, low)) (omega (arith, high)) (omega (arith, in'))))
 
   module _ (xs : List X) (i : ℕ) (x : X) (lt : i < length xs) (is : x ≡ get_or xs i x) where
-    pub one-told : p x ≡ true → filter p (take (i + 1) xs) ≡ filter p (take i xs) ++ x ∷ []
-    one-told h = those-more p xs i x lt ∙ ap (λ y. filter p (take i xs) ++ (if p y then y ∷ [] else [])) (sym is)
+    pub one-answered : p x ≡ true → filter p (take (i + 1) xs) ≡ filter p (take i xs) ++ x ∷ []
+    one-answered h = those-more p xs i x lt ∙ ap (λ y. filter p (take i xs) ++ (if p y then y ∷ [] else [])) (sym is)
         ∙ ap (λ k. filter p (take i xs) ++ (if k then x ∷ [] else [])) h
 
-    pub none-told : p x ≡ false → filter p (take (i + 1) xs) ≡ filter p (take i xs)
-    none-told h = those-more p xs i x lt ∙ ap (λ y. filter p (take i xs) ++ (if p y then y ∷ [] else [])) (sym is)
+    pub none-answered : p x ≡ false → filter p (take (i + 1) xs) ≡ filter p (take i xs)
+    none-answered h = those-more p xs i x lt ∙ ap (λ y. filter p (take i xs) ++ (if p y then y ∷ [] else [])) (sym is)
         ∙ ap (λ k. filter p (take i xs) ++ (if k then x ∷ [] else [])) h ∙ append-nil (filter p (take i xs))
 
 -- ## What is known to be acknowledged
@@ -133,33 +133,15 @@ in-more bs b n = list_any-append (is_in_block n) bs (b ∷ []) ∙ ap (λ k. is_
 -- ## Block by block
 
 -- told of what the blocks before the rest report
-pub record IsToldTo (count : ℕ) (sorted rest : List GapAckBlock) (cs : List ChunkPayloadData) (rs : List Released) : Type 0 where
+pub record IsAnsweredTo (count : ℕ) (sorted rest : List GapAckBlock) (cs : List ChunkPayloadData) (rs : List Released) : Type 0 where
   pub last : ℕ
   pub within : count + last ≤ length cs
   pub ascend : ascends_from last rest ≡ true
   pub same : (n : ℕ) → last < n → is_in_blocks sorted n ≡ is_in_blocks rest n
-  pub told : (p : ChunkPayloadData → Bool) → PicksAnew p count sorted cs → rs ≡ map (released_of no_message) (filter p (take (count + last) cs))
-
-pub open-front : (p : ChunkPayloadData → Bool) (count : ℕ) (sorted : List GapAckBlock) (cs : List ChunkPayloadData) → PicksAnew p count sorted cs
-    → PicksOpen p 0 count cs
-open-front p count sorted cs picks k d low high in' =
-    let front : nat_lt k count ≡ true = grind (arith, nat_tests, high) in
-    picks k d in' ∙ ap (λ b. not (get_or cs k d).acked && (b || is_in_blocks sorted (suc k - count))) front ∙ and-true (not (get_or cs k d).acked)
-
-pub at-start : (count : ℕ) (sorted : List GapAckBlock) (cs : List ChunkPayloadData) (rs : List Released) → ascends_from 0 sorted ≡ true → count ≤ length cs
-    → ((p : ChunkPayloadData → Bool) → PicksOpen p 0 count cs → rs ≡ map (released_of no_message) (filter p (take count cs)))
-    → IsToldTo count sorted sorted cs rs
-at-start count sorted cs rs e le f = record {
-  last = 0;
-  within = omega (arith, le);
-  ascend = e;
-  same = λ n lt. refl;
-  told = λ p picks. let same : count ≡ count + 0 = omega arith in
-      subst (λ k. rs ≡ map (released_of no_message) (filter p (take k cs))) same (f p (open-front p count sorted cs picks));
-}
+  pub answered : (p : ChunkPayloadData → Bool) → PicksAnew p count sorted cs → rs ≡ map (released_of no_message) (filter p (take (count + last) cs))
 
 module _ (count : ℕ) (sorted rest : List GapAckBlock) (b : GapAckBlock) (cs : List ChunkPayloadData) (rs : List Released)
-    (t : IsToldTo count sorted (b ∷ rest) cs rs) where
+    (t : IsAnsweredTo count sorted (b ∷ rest) cs rs) where
   a : IsAhead t.last b rest
   a = ahead t.last b rest t.ascend
 
@@ -195,7 +177,7 @@ module _ (count : ℕ) (sorted rest : List GapAckBlock) (b : GapAckBlock) (cs : 
         ∙ and-true (not (get_or cs k d).acked)
 
     pub gap : rs ≡ map (released_of no_message) (filter p (take from cs))
-    gap = t.told p picks ∙ ap (map (released_of no_message))
+    gap = t.answered p picks ∙ ap (map (released_of no_message))
         (sym (none-between p cs (count + t.last) from (let h = a.behind in omega (arith, h, first)) (λ k d low high in'.
         picks k d in' ∙ ap (λ b. not (get_or cs k d).acked && (b || is_in_blocks sorted (suc k - count))) (back k low)
         ∙ ap (λ b. not (get_or cs k d).acked && b) (before-this (suc k - count) (omega (arith, low)) (omega (arith, high, first, low)))
@@ -203,20 +185,20 @@ module _ (count : ℕ) (sorted rest : List GapAckBlock) (b : GapAckBlock) (cs : 
 
   pub next-block : (from to : ℕ) → from + 1 ≡ count + b.start → to ≡ count + b.end → ((n : ℕ) → is_in_blocks sorted n ≡ true → count + n ≤ length cs)
       → (rs' : List Released) → ((p : ChunkPayloadData → Bool) → PicksOpen p from to cs → rs ≡ map (released_of no_message) (filter p (take from cs))
-      → rs' ≡ map (released_of no_message) (filter p (take to cs))) → IsToldTo count sorted rest cs rs'
+      → rs' ≡ map (released_of no_message) (filter p (take to cs))) → IsAnsweredTo count sorted rest cs rs'
   next-block from to first end within rs' f = record {
     last = b.end;
     within = block-within within;
     ascend = a.ascend;
     same = behind-this;
-    told = λ p picks. subst (λ k. rs' ≡ map (released_of no_message) (filter p (take k cs))) end
+    answered = λ p picks. subst (λ k. rs' ≡ map (released_of no_message) (filter p (take k cs))) end
         (f p (open-block from to first end p picks) (gap from to first end p picks));
   }
 
-pub told-all : (count : ℕ) (sorted : List GapAckBlock) (cs : List ChunkPayloadData) (rs : List Released) → IsToldTo count sorted [] cs rs
+pub answered-all : (count : ℕ) (sorted : List GapAckBlock) (cs : List ChunkPayloadData) (rs : List Released) → IsAnsweredTo count sorted [] cs rs
     → (p : ChunkPayloadData → Bool) → PicksAnew p count sorted cs → rs ≡ map (released_of no_message) (filter p cs)
-told-all count sorted cs rs t p picks = t.told p picks ∙ ap (map (released_of no_message))
-    (all-told p cs (count + t.last) (λ k d far lt.
+answered-all count sorted cs rs t p picks = t.answered p picks ∙ ap (map (released_of no_message))
+    (all-answered p cs (count + t.last) (λ k d far lt.
     let back : nat_lt k count ≡ false = grind (arith, nat_tests, far) in
     picks k d lt ∙ ap (λ b. not (get_or cs k d).acked && (b || is_in_blocks sorted (suc k - count))) back
     ∙ ap (λ b. not (get_or cs k d).acked && b) (t.same (suc k - count) (omega (arith, far))) ∙ and-none (not (get_or cs k d).acked)))

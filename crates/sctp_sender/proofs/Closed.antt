@@ -8,8 +8,3 @@ use Rattle.sctp_stream.specs.Stream as stream
 use Rattle.sctp_sender.specs.Outgoing as outgoing
 use Rattle.sctp_sender.specs.Sender as sender
 use Rattle.sctp_sender.specs.Sender.{Transmission, with_streams}
-
--- a stream of a sender that was not open is opened and closed
-pub sender-as-before : (s : ℕ) (t : Transmission) → find (outgoing.has_number s) t.streams ≡ None → sender.close_stream s (sender.open_stream s t) ≡ t
-sender-as-before s t none = ap (λ ls. with_streams ls t)
-    (taken-back (outgoing.has_number s) t.streams (stream.new_stream s t.fragment_size t.max_message_size Unknown) (same-yes s) none)

@@ -61,9 +61,6 @@ module _ (f : Flight) (inv : IsContiguous f) (tsn : ℕ) where
   abbrev goes : Bool → Option ℕ
   goes b = if b then option_map (λ c. c.tsn) (last_end tsn f) else None
 
-  pub none-far : can_skip_to tsn f ≡ false → None ≡ skip_end tsn f
-  none-far e = sym (ap goes e)
-
   module _ (can : can_skip_to tsn f ≡ true) (within : ahead f tsn ≤ length f.queue.inflight.chunks) (d : ChunkPayloadData) where
     pub none-ends : IsLastEnd 0 (ahead f tsn) f.queue.inflight.chunks → None ≡ skip_end tsn f
     none-ends is = sym (ap goes can ∙ ap (option_map (λ c. c.tsn)) (last-none f.queue.inflight.chunks (ahead f tsn) is within d))

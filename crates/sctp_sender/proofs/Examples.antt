@@ -17,7 +17,7 @@ use Rattle.sctp_sender.specs.Flight as flight
 use Rattle.sctp_sender.specs.Flight.{Flight}
 use Rattle.sctp_data.specs.SelectiveAck.{Sack}
 use Rattle.sctp_sender.specs.Abandonment.{advanced_ack_point}
-use Rattle.sctp_sender.specs.Keeping.{coming_back, kept_after, told_back, with_restored}
+use Rattle.sctp_sender.specs.Keeping.{coming_back, kept_after, answered_back, with_restored}
 use Rattle.sctp_sender.specs.Late.{late_order, leaving_each}
 use Rattle.sctp_sender.specs.Resending.{after_misses, is_to_resend, thirds, worn_tsns}
 use Rattle.sctp_sender.specs.declared.sender.flight.Released.{Released}
@@ -173,9 +173,9 @@ comes : coming_back (up_to 102 (block 3 3 ∷ [])) reported_two kept_two ≡ bac
 unfolding distance comes_before at_or_before
 comes = refl
 
-told : told_back back reported_two.queue.inflight.chunks ≡ record { tsn = 104; stream = 1; bytes = 1; message = 0 } ∷ []
+answered : answered_back back reported_two.queue.inflight.chunks ≡ record { tsn = 104; stream = 1; bytes = 1; message = 0 } ∷ []
 unfolding distance comes_before at_or_before
-told = refl
+answered = refl
 
 outstanding : option_map (λ (c : ChunkPayloadData). c.user_data)
     (find (λ c. not c.acked && c.tsn == 104) (with_restored back reported_two).queue.inflight.chunks) ≡ Some (4 ∷ [])

@@ -20,10 +20,10 @@ use Rattle.sctp_outbound.specs.outbound_queue.OutboundQueue.{with_terminal_chunk
 use Rattle.sctp_outbound.specs.payload_queue.PayloadQueue as payload
 use Rattle.sctp_outbound.specs.pending_queue.PendingQueue.{closed_up, is_to_start, last_removed, list_to_pop, next_pending, rest_after, start_pending}
 use Rattle.sctp_outbound.specs.pending_queue.PendingQueue.{with_deadline, without}
-use Rattle.sctp_outbound.specs.pending_queue.Whole.{GoesOn, IsSendable, half_of, partially_sent, waits}
+use Rattle.sctp_outbound.specs.pending_queue.Whole.{GoesOn, IsSendable, partial_of, partially_sent, waits}
 use Rattle.sctp_outbound.proofs.lemmas.outbound_queue.Abandoned.{last_is_of, last_removed_none}
-use Rattle.sctp_outbound.proofs.lemmas.outbound_queue.Sendable.{found_in, goes_on, half_gone, half_in_front, sendable-changed, sendable-sent}
-use Rattle.sctp_outbound.proofs.lemmas.outbound_queue.SideBySide.{half_appended, half_before, half_rest, peeked_waits, some_is}
+use Rattle.sctp_outbound.proofs.lemmas.outbound_queue.Sendable.{found_in, goes_on, partial_gone, partial_in_front, sendable-changed, sendable-sent}
+use Rattle.sctp_outbound.proofs.lemmas.outbound_queue.SideBySide.{partial_appended, partial_before, partial_rest, peeked_waits, some_is}
 use Rattle.sctp_outbound.proofs.lemmas.pending_queue.CompleteMessages.{KeepsMessage}
 use Rattle.sctp_sender.specs.Flight.{tsns_from}
 use Rattle.sctp_sender.specs.SideBySide.{StandSideBySide, is_number, messages_in_line, messages_of, number_of_half}
@@ -119,19 +119,19 @@ put-behind x (c ∷ cs) first small few run is =
 abbrev pub IsInLine : Outbound → Type 0
 IsInLine q = StandSideBySide (messages_in_line q)
 
-half-or-none : (ms : List ℕ) (h k : Option ℕ) → ((m : ℕ) → k ≡ Some m → h ≡ Some m) → StandSideBySide (ms ++ number_of_half h)
+partial-or-none : (ms : List ℕ) (h k : Option ℕ) → ((m : ℕ) → k ≡ Some m → h ≡ Some m) → StandSideBySide (ms ++ number_of_half h)
     → StandSideBySide (ms ++ number_of_half k)
-half-or-none ms h None less s = rw (append-nil ms) (shorter ms (number_of_half h) s)
-half-or-none ms h (Some m) less s = subst (λ o. StandSideBySide (ms ++ number_of_half o)) (less m refl) s
+partial-or-none ms h None less s = rw (append-nil ms) (shorter ms (number_of_half h) s)
+partial-or-none ms h (Some m) less s = subst (λ o. StandSideBySide (ms ++ number_of_half o)) (less m refl) s
 
 pub less-in-line : (q r : Outbound) → messages_of r.inflight.chunks ≡ messages_of q.inflight.chunks
     → ((m : ℕ) → partially_sent r.pending ≡ Some m → partially_sent q.pending ≡ Some m) → IsInLine q → IsInLine r
-less-in-line q r same less s = half-or-none (messages_of r.inflight.chunks) (partially_sent q.pending)
+less-in-line q r same less s = partial-or-none (messages_of r.inflight.chunks) (partially_sent q.pending)
     (partially_sent r.pending) less (subst (λ ms. StandSideBySide (ms ++ number_of_half (partially_sent q.pending))) (sym same) s)
 
 pub same-in-line : (q r : Outbound) → messages_of r.inflight.chunks ≡ messages_of q.inflight.chunks → partially_sent r.pending ≡ partially_sent q.pending
     → IsInLine q → IsInLine r
-same-in-line q r same half s = less-in-line q r same (λ m h. sym half ∙ h) s
+same-in-line q r same partial s = less-in-line q r same (λ m h. sym partial ∙ h) s
 
 pub marked-in-line : (q r : Outbound) (p : ChunkPayloadData → Bool) (f : ChunkPayloadData → ChunkPayloadData)
     → ((c : ChunkPayloadData) → (f c).message_id ≡ c.message_id) → r ≡ with_inflight q (change_where p f q.inflight.chunks) → IsInLine q → IsInLine r
@@ -152,12 +152,6 @@ rest-in-line q r i le is s =
     (drop-append-le i (messages_of q.inflight.chunks) (number_of_half (partially_sent q.pending)) (let n = length-map q.inflight.chunks (λ c. c.message_id) in
     omega (arith, n, le)) ∙ ap (λ ms. ms ++ number_of_half (partially_sent q.pending)) (drop-map (λ c. c.message_id) i q.inflight.chunks))
     (later i (messages_in_line q) s))
-
-pub pushed-in-line : (cs : List ChunkPayloadData) (q r : Outbound) → r ≡ with_message cs q → IsInLine q → IsInLine r
-pushed-in-line [] q r is s = subst IsInLine (sym is) s
-pushed-in-line (c ∷ cs) q r is s =
-    subst IsInLine (sym is)
-    (same-in-line q (with_message (c ∷ cs) q) refl (half_appended c.unordered (map (with_message_id q.next_message_id) (c ∷ cs)) q.pending) s)
 
 started-same : (now : ℕ) (q : Outbound) → (messages_of (all_started now q).inflight.chunks ≡ messages_of q.inflight.chunks)
     × (partially_sent (all_started now q).pending ≡ partially_sent q.pending)
@@ -182,9 +176,9 @@ expired-in-line (Some c) q r is s = subst IsInLine (sym is) (by c.unordered)
   where
     by : (b : Bool)
         → IsInLine (record q { pending = if b then without c.message_id q.pending else closed_up c.stream_identifier (without c.message_id q.pending) })
-    by true = less-in-line q (record q { pending = without c.message_id q.pending }) refl (λ j. half_before c.message_id j q.pending.selected) s
+    by true = less-in-line q (record q { pending = without c.message_id q.pending }) refl (λ j. partial_before c.message_id j q.pending.selected) s
     by false = less-in-line q (record q { pending = closed_up c.stream_identifier (without c.message_id q.pending) }) refl
-        (λ j. half_before c.message_id j q.pending.selected) s
+        (λ j. partial_before c.message_id j q.pending.selected) s
 
 pub expired-chunks : (o : Option ChunkPayloadData) (q r : Outbound) → r ≡ expired_of o q → tsns r.inflight.chunks ≡ tsns q.inflight.chunks
 expired-chunks None q r is = ap (λ (o : Outbound). tsns o.inflight.chunks) is
@@ -212,9 +206,9 @@ goes m c None e g = absurd g
 goes m c (Some d) e g = ap (λ (x : ChunkPayloadData). x.message_id) (sym (some_is d c e)) ∙ g.0
 
 -- a number behind those in line: that of the partially sent message, or a new one
-behind-half : (ms : List ℕ) (h k : Option ℕ) (n : ℕ) → ((m : ℕ) → h ≡ Some m → n ≡ m) → (h ≡ None → list_any (is_number n) ms ≡ false)
+behind-partial : (ms : List ℕ) (h k : Option ℕ) (n : ℕ) → ((m : ℕ) → h ≡ Some m → n ≡ m) → (h ≡ None → list_any (is_number n) ms ≡ false)
     → ((m : ℕ) → k ≡ Some m → n ≡ m) → StandSideBySide (ms ++ number_of_half h) → StandSideBySide ((ms ++ n ∷ []) ++ number_of_half k)
-behind-half ms h k n on new half s = after k half (first h on new s)
+behind-partial ms h k n on new partial s = after k partial (first h on new s)
   where
     first : (h : Option ℕ) → ((m : ℕ) → h ≡ Some m → n ≡ m) → (h ≡ None → list_any (is_number n) ms ≡ false) → StandSideBySide (ms ++ number_of_half h)
         → StandSideBySide (ms ++ n ∷ [])
@@ -222,8 +216,8 @@ behind-half ms h k n on new half s = after k half (first h on new s)
     first (Some m) on new s = subst (λ j. StandSideBySide (ms ++ j ∷ [])) (sym (on m refl)) s
 
     after : (k : Option ℕ) → ((m : ℕ) → k ≡ Some m → n ≡ m) → StandSideBySide (ms ++ n ∷ []) → StandSideBySide ((ms ++ n ∷ []) ++ number_of_half k)
-    after None half s = rw (append-nil (ms ++ n ∷ [])) s
-    after (Some m) half s = rw (append_assoc ms (n ∷ []) (m ∷ [])) (subst (λ j. StandSideBySide (ms ++ n ∷ j ∷ [])) (half m refl) (twice ms n s))
+    after None partial s = rw (append-nil (ms ++ n ∷ [])) s
+    after (Some m) partial s = rw (append_assoc ms (n ∷ []) (m ∷ [])) (subst (λ j. StandSideBySide (ms ++ n ∷ j ∷ [])) (partial m refl) (twice ms n s))
 
 module _ (q : Outbound) (first : ℕ) (small : first < 2 ^ 32) (few : length q.inflight.chunks < 2 ^ 31) (run : IsRunFrom first q.inflight.chunks)
     (k : IsSendable q.pending q.inflight.chunks q.next_message_id) (s : IsInLine q) where
@@ -235,20 +229,20 @@ module _ (q : Outbound) (first : ℕ) (small : first < 2 ^ 32) (few : length q.i
       let t = as_sent tsn now c in
       let on = sendable-sent p q.inflight.chunks q.next_message_id c t refl k e in
       let at-end = put-behind t q.inflight.chunks first small few run is in
-      let half : (m : ℕ) → half_of p.selected ≡ Some m
+      let partial : (m : ℕ) → partial_of p.selected ≡ Some m
       → c.message_id ≡ m = λ m h. goes m c (next_pending p) e (goes_on p q.inflight.chunks q.next_message_id m k h) in
       let then' : (m : ℕ) → partially_sent (rest_after c.beginning_fragment c.unordered p) ≡ Some m → c.message_id ≡ m =
-      λ m h. elim (half_rest
+      λ m h. elim (partial_rest
       (list_to_pop p.selected c.beginning_fragment c.unordered) p.ordered p.unordered p.selected p.ordered_room p.unordered_room c m on.taken h) [
-        | inl l ↦ half m l
+        | inl l ↦ partial m l
         | inr r ↦ r
       ] in
       let new : partially_sent p ≡ None → list_any (is_number c.message_id) (messages_of q.inflight.chunks) ≡ false =
       λ none. any-message c.message_id q.inflight.chunks ∙ fresh none (list_any (is_of c.message_id) q.inflight.chunks) refl in
       subst (λ ms. StandSideBySide (ms ++ number_of_half (partially_sent (rest_after c.beginning_fragment c.unordered p))))
       (sym (ap messages_of at-end ∙ messages-append q.inflight.chunks (t ∷ [])))
-      (behind-half (messages_of q.inflight.chunks) (partially_sent p)
-      (partially_sent (rest_after c.beginning_fragment c.unordered p)) c.message_id half new then' s)
+      (behind-partial (messages_of q.inflight.chunks) (partially_sent p)
+      (partially_sent (rest_after c.beginning_fragment c.unordered p)) c.message_id partial new then' s)
     where
       fresh : partially_sent q.pending ≡ None → (b : Bool) → list_any (is_of c.message_id) q.inflight.chunks ≡ b → b ≡ false
       fresh none false h = refl
@@ -257,8 +251,8 @@ module _ (q : Outbound) (first : ℕ) (small : first < 2 ^ 32) (few : length q.i
 
   pub abandoned-in-line : (o : Option ℕ) (tsn : ℕ) → tsn ≡ (first + length q.inflight.chunks) % 2 ^ 32
       → ((m : ℕ) → o ≡ Some m → waits m q.pending ≡ true → partially_sent q.pending ≡ Some m) → (r : Outbound) → r ≡ abandoned_of o tsn q → IsInLine r
-  abandoned-in-line None tsn is half r e = subst IsInLine (sym e) s
-  abandoned-in-line (Some m) tsn is half r e = subst IsInLine (sym e) (by (last_removed m q.pending) refl)
+  abandoned-in-line None tsn is partial r e = subst IsInLine (sym e) s
+  abandoned-in-line (Some m) tsn is partial r e = subst IsInLine (sym e) (by (last_removed m q.pending) refl)
     where
       xs : List ChunkPayloadData
       xs = change_where (is_of m) as_abandoned q.inflight.chunks
@@ -269,7 +263,7 @@ module _ (q : Outbound) (first : ℕ) (small : first < 2 ^ 32) (few : length q.i
       by : (o : Option ChunkPayloadData) → last_removed m q.pending ≡ o
           → IsInLine (record q { pending = without m q.pending; inflight = with_terminal_chunk o tsn (payload.with_chunks q.inflight xs) })
       by None none = less-in-line q (record q { pending = without m q.pending; inflight = payload.with_chunks q.inflight xs }) same
-          (λ j. half_before m j q.pending.selected) s
+          (λ j. partial_before m j q.pending.selected) s
       by (Some c) some = tail (waits m q.pending) refl
         where
           tail : (b : Bool) → waits m q.pending ≡ b
@@ -277,14 +271,14 @@ module _ (q : Outbound) (first : ℕ) (small : first < 2 ^ 32) (few : length q.i
           tail false w = let none = last_removed_none m q.pending w in absurd (cc)
           tail true w =
               let t = terminal_chunk tsn c in
-              let is-half : partially_sent q.pending ≡ Some m = half m refl w in
+              let is-partial : partially_sent q.pending ≡ Some m = partial m refl w in
               let is-of : c.message_id ≡ m = last_is_of m q.pending c some in
               let at-end = put-behind t xs first small (omega (arith, few, n)) xs-run (omega (arith, is, n)) in
-              let gone : partially_sent (without m q.pending) ≡ None = half_gone m q.pending.selected is-half in
+              let gone : partially_sent (without m q.pending) ≡ None = partial_gone m q.pending.selected is-partial in
               subst (λ ms. StandSideBySide (ms ++ number_of_half (partially_sent (without m q.pending))))
               (sym (ap messages_of at-end ∙ messages-append xs (t ∷ []) ∙ ap (λ ms. ms ++ c.message_id ∷ []) same))
-              (behind-half (messages_of q.inflight.chunks) (partially_sent q.pending) (partially_sent (without m q.pending)) c.message_id (λ j h. is-of
-              ∙ (let u : Some m ≡ Some j = sym is-half ∙ h in cc)) (λ none. absurd (none-some m (sym none ∙ is-half)))
+              (behind-partial (messages_of q.inflight.chunks) (partially_sent q.pending) (partially_sent (without m q.pending)) c.message_id (λ j h. is-of
+              ∙ (let u : Some m ≡ Some j = sym is-partial ∙ h in cc)) (λ none. absurd (none-some m (sym none ∙ is-partial)))
               (λ j h. absurd (none-some j (sym gone ∙ h))) s)
             where
               n : length xs ≡ length q.inflight.chunks
@@ -306,10 +300,10 @@ sent-in-line q first small few run k s now tsn is r e =
     (started-in-line now q (all_started now q) refl s) now tsn (next_pending (all_started now q).pending) refl (omega (arith, is, n)))
 
 -- the message of a chunk in flight waits only where it is partially sent
-pub found-half : (q : Outbound) → IsSendable q.pending q.inflight.chunks q.next_message_id → (tsn : ℕ) (o : Option ChunkPayloadData)
+pub found-partial : (q : Outbound) → IsSendable q.pending q.inflight.chunks q.next_message_id → (tsn : ℕ) (o : Option ChunkPayloadData)
     → find (has_tsn tsn) q.inflight.chunks ≡ o → (m : ℕ) → to_abandon o ≡ Some m → waits m q.pending ≡ true → partially_sent q.pending ≡ Some m
-found-half q k tsn None e m h w = absurd (none-some m h)
-found-half q k tsn (Some c) e m h w = step c.abandoned h
+found-partial q k tsn None e m h w = absurd (none-some m h)
+found-partial q k tsn (Some c) e m h w = step c.abandoned h
   where
     there : c.message_id ≡ m → list_any (is_of m) q.inflight.chunks ≡ true
     there same = subst (λ j. list_any (is_of j) q.inflight.chunks ≡ true) same (found_in tsn q.inflight.chunks c e)
@@ -323,11 +317,11 @@ not-first true b h = absurd (false≢true h)
 not-first false b h = refl
 
 -- a message whose rest is in front is partially sent
-pub tail-half : (q : Outbound) → IsSendable q.pending q.inflight.chunks q.next_message_id → (now : ℕ) (o : Option ChunkPayloadData) → next_pending q.pending ≡ o
-    → (m : ℕ) → message_of (passing (is_expired_tail now) o) ≡ Some m → partially_sent q.pending ≡ Some m
-tail-half q k now None e m h = absurd (none-some m h)
-tail-half q k now (Some c) e m h = step (is_expired_tail now c) refl h
+pub tail-partial : (q : Outbound) → IsSendable q.pending q.inflight.chunks q.next_message_id → (now : ℕ) (o : Option ChunkPayloadData)
+    → next_pending q.pending ≡ o → (m : ℕ) → message_of (passing (is_expired_tail now) o) ≡ Some m → partially_sent q.pending ≡ Some m
+tail-partial q k now None e m h = absurd (none-some m h)
+tail-partial q k now (Some c) e m h = step (is_expired_tail now c) refl h
   where
     step : (b : Bool) → is_expired_tail now c ≡ b → message_of (if b then Some c else None) ≡ Some m → partially_sent q.pending ≡ Some m
-    step true t h = half_in_front q.pending q.inflight.chunks q.next_message_id c k e (not-first c.beginning_fragment _ t) ∙ h
+    step true t h = partial_in_front q.pending q.inflight.chunks q.next_message_id c k e (not-first c.beginning_fragment _ t) ∙ h
     step false t h = absurd (none-some m h)

@@ -18,7 +18,8 @@ use Rattle.sctp_sender.specs.declared.sender.flight.keeping.TakenBack.{TakenBack
 use Rattle.sctp_sender.specs.declared.sender.refusal.SenderRefusal.{SenderRefusal}
 use Rattle.sctp_sender.specs.declared.sender.refusal.SenderRefusal.TheVariants.{InflightQueueTsnPop, TsnRequestNotExist}
 use Rattle.sctp_sender.specs.Flight.{Flight, IsContiguous, count_acked, is_outdated, is_within, reports, sack_refusal, tsns_from}
-use Rattle.sctp_sender.specs.Keeping.{back_each, back_of, bytes_back, keep, keep_each, kept_after, kept_from, restored, restored_with, told_back, told_of}
+use Rattle.sctp_sender.specs.Keeping.{back_each, back_of, bytes_back, keep, keep_each, kept_after, kept_from, restored, restored_with, answered_back}
+use Rattle.sctp_sender.specs.Keeping.{answered_of}
 use Rattle.sctp_sender.specs.Keeping.{trimmed, with_restored}
 use Rattle.sctp_sender.specs.Reporting.{after_blocks}
 use Rattle.sctp_sender.specs.SideBySide.{StandSideBySide, number_of_half}
@@ -100,11 +101,6 @@ module _ (s : Sack) where
 
   -- ## What comes back of each
 
-  pub length-back_each : (cs : List ChunkPayloadData) (ks : List (Option (List ℕ))) → length (back_each s cs ks) ≤ length cs
-  length-back_each cs [] = omega arith
-  length-back_each [] (k ∷ ks) = omega arith
-  length-back_each (c ∷ cs) (k ∷ ks) = let h = length-back_each cs ks in omega arith
-
   pub back-more : (cs : List ChunkPayloadData) (ks : List (Option (List ℕ))) (i : ℕ) (c : ChunkPayloadData) (b : Option (List ℕ)) → i < length cs
       → i < length ks → c ≡ get_or cs i c → b ≡ back_of s c (get_or ks i None) → back_each s cs (take (i + 1) ks) ≡ back_each s cs (take i ks) ++ b ∷ []
   back-more cs [] i c b lt less here is = absurd (omega (arith, less))
@@ -131,19 +127,20 @@ reported-open reported acked abandoned e f = ap (λ b. (b && not abandoned) && n
 
 -- ## What is told
 
-pub told-more : (bs : List (Option (List ℕ))) (cs : List ChunkPayloadData) (i : ℕ) (c : ChunkPayloadData) (b : Option (List ℕ)) → i < length bs → i < length cs
-    → c ≡ get_or cs i c → b ≡ get_or bs i None → told_back (take (i + 1) bs) cs ≡ told_back (take i bs) cs ++ told_of b c
-told-more [] cs i c b less lt here is = absurd (omega (arith, less))
-told-more (x ∷ bs) [] i c b less lt here is = absurd (omega (arith, lt))
-told-more (x ∷ bs) (y ∷ cs) zero c b less lt here is = ap (λ z. told_of z y ++ []) (sym is) ∙ ap (λ z. told_of b z ++ []) (sym here) ∙ nil (told_of b c)
+pub answered-more : (bs : List (Option (List ℕ))) (cs : List ChunkPayloadData) (i : ℕ) (c : ChunkPayloadData) (b : Option (List ℕ)) → i < length bs
+    → i < length cs → c ≡ get_or cs i c → b ≡ get_or bs i None → answered_back (take (i + 1) bs) cs ≡ answered_back (take i bs) cs ++ answered_of b c
+answered-more [] cs i c b less lt here is = absurd (omega (arith, less))
+answered-more (x ∷ bs) [] i c b less lt here is = absurd (omega (arith, lt))
+answered-more (x ∷ bs) (y ∷ cs) zero c b less lt here is = ap (λ z. answered_of z y ++ []) (sym is) ∙ ap (λ z. answered_of b z ++ []) (sym here)
+    ∙ nil (answered_of b c)
   where
     nil : (ts : List TakenBack) → ts ++ [] ≡ ts
     nil [] = refl
     nil (t ∷ ts) = ap (λ us. t ∷ us) (nil ts)
-told-more (x ∷ bs) (y ∷ cs) (suc i) c b less lt here is =
+answered-more (x ∷ bs) (y ∷ cs) (suc i) c b less lt here is =
     let next : suc i + 1 ≡ suc (i + 1) = omega arith in
-    ap (λ n. told_back (take n (x ∷ bs)) (y ∷ cs)) next ∙ ap (λ ts. told_of x y ++ ts) (told-more bs cs i c b (omega (arith, less)) (omega (arith, lt)) here is)
-    ∙ rw append_assoc refl
+    ap (λ n. answered_back (take n (x ∷ bs)) (y ∷ cs)) next
+    ∙ ap (λ ts. answered_of x y ++ ts) (answered-more bs cs i c b (omega (arith, less)) (omega (arith, lt)) here is) ∙ rw append_assoc refl
 
 -- ## Restored
 
@@ -155,17 +152,17 @@ size (Some bytes) = length bytes
 abbrev pub weight : List (Option (List ℕ)) → ℕ
 weight bs = sum_by size bs
 
-pub told-weight : (bs : List (Option (List ℕ))) (cs : List ChunkPayloadData) → length bs ≤ length cs → bytes_back (told_back bs cs) ≡ weight bs
-told-weight [] cs le = refl
-told-weight (b ∷ bs) [] le = absurd (omega (arith, le))
-told-weight (b ∷ bs) (c ∷ cs) le = by b (told-weight bs cs (omega (arith, le)))
+pub answered-weight : (bs : List (Option (List ℕ))) (cs : List ChunkPayloadData) → length bs ≤ length cs → bytes_back (answered_back bs cs) ≡ weight bs
+answered-weight [] cs le = refl
+answered-weight (b ∷ bs) [] le = absurd (omega (arith, le))
+answered-weight (b ∷ bs) (c ∷ cs) le = by b (answered-weight bs cs (omega (arith, le)))
   where
-    by : (x : Option (List ℕ)) → bytes_back (told_back bs cs) ≡ weight bs → bytes_back (told_of x c ++ told_back bs cs) ≡ weight (x ∷ bs)
+    by : (x : Option (List ℕ)) → bytes_back (answered_back bs cs) ≡ weight bs → bytes_back (answered_of x c ++ answered_back bs cs) ≡ weight (x ∷ bs)
     by None h = let e = sum_by-cons size None bs in omega (arith, e, h)
     by (Some bytes) h =
         let r : TakenBack = record { tsn = c.tsn; stream = c.stream_identifier; bytes = length bytes; message = c.message_id } in
         let e = sum_by-cons size (Some bytes) bs in
-        let f = sum_by-cons (λ (t : TakenBack). t.bytes) r (told_back bs cs) in
+        let f = sum_by-cons (λ (t : TakenBack). t.bytes) r (answered_back bs cs) in
         omega (arith, e, f, h)
 
 pub weight-last : (bs : List (Option (List ℕ))) (b : Option (List ℕ)) → weight (bs ++ b ∷ []) ≡ weight bs + size b

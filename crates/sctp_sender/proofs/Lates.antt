@@ -18,7 +18,7 @@ use Rattle.sctp_outbound.proofs.lemmas.outbound_queue.Abandoned.{last_removed_no
 use Rattle.sctp_serial.specs.DataChunks.{has_tsn}
 use Rattle.sctp_sender.specs.Flight.{Flight, has_tail_at, message_to_abandon}
 use Rattle.sctp_sender.specs.Late.{abandoned_at, with_tail}
-use Rattle.sctp_outbound.proofs.lemmas.outbound_queue.Sendable.{half_gone}
+use Rattle.sctp_outbound.proofs.lemmas.outbound_queue.Sendable.{partial_gone}
 
 -- ## Lists
 
@@ -127,9 +127,9 @@ none-waits q s none t = by (find (has_tsn t) q.inflight.chunks) refl
             ∙ s.sent c.message_id (found-any (has_tsn t) (is_of c.message_id) q.inflight.chunks c e (same-yes c.message_id)) w))
 
 -- once the message with a tail is abandoned, none is partially sent
-pub none-half : (f : Flight) (t : ℕ) → IsSendable f.queue.pending f.queue.inflight.chunks f.queue.next_message_id → has_tail_at f t ≡ true
+pub none-partial : (f : Flight) (t : ℕ) → IsSendable f.queue.pending f.queue.inflight.chunks f.queue.next_message_id → has_tail_at f t ≡ true
     → partially_sent (abandoned_at t f).queue.pending ≡ None
-none-half f t s h = by (find (has_tsn t) f.queue.inflight.chunks) refl h
+none-partial f t s h = by (find (has_tsn t) f.queue.inflight.chunks) refl h
   where
     by : (o : Option ChunkPayloadData) → find (has_tsn t) f.queue.inflight.chunks ≡ o → has_tail (to_abandon o) f.queue ≡ true
         → partially_sent (abandoned_of (to_abandon o) f.next_tsn f.queue).pending ≡ None
@@ -139,7 +139,7 @@ none-half f t s h = by (find (has_tsn t) f.queue.inflight.chunks) refl h
         open-one : (b : Bool) → has_tail (if b then None else Some c.message_id) f.queue ≡ true
             → partially_sent (abandoned_of (if b then None else Some c.message_id) f.next_tsn f.queue).pending ≡ None
         open-one true v = absurd (not_both v)
-        open-one false v = half_gone c.message_id f.queue.pending.selected
+        open-one false v = partial_gone c.message_id f.queue.pending.selected
             (s.sent c.message_id (found-any (has_tsn t) (is_of c.message_id) f.queue.inflight.chunks c e (same-yes c.message_id)) v)
 
 -- ## One TSN more
@@ -167,5 +167,5 @@ pub none-left : (f g : Flight) (t : ℕ) (ts : List ℕ) → IsSendable f.queue.
     → IsSendable g.queue.pending g.queue.inflight.chunks g.queue.next_message_id → Some t ≡ with_tail ts f → g ≡ abandoned_at t f
     → list_all (λ x. not (has_tail_at g x)) ts ≡ true
 none-left f g t ts before after first is =
-    let half = ap (λ (h : Flight). partially_sent h.queue.pending) is ∙ none-half f t before (found-passes (has_tail_at f) ts t (sym first)) in
-    all-each (λ x. not (has_tail_at g x)) ts (λ x. ap not (none-waits g.queue after half x))
+    let partial = ap (λ (h : Flight). partially_sent h.queue.pending) is ∙ none-partial f t before (found-passes (has_tail_at f) ts t (sym first)) in
+    all-each (λ x. not (has_tail_at g x)) ts (λ x. ap not (none-waits g.queue after partial x))

@@ -17,7 +17,7 @@ pub mod Points
 pub mod Skips
 pub mod Lates
 pub mod Places
-pub mod Told
+pub mod Answered
 pub mod Opened
 pub mod Known
 pub mod Ends

@@ -103,8 +103,8 @@ module _ (s : ℕ) where
   none true = refl
   none false = refl
 
-  told : (t n : ℕ) (ls : List StreamState) → one_if (t == s && falls_on t n ls) ≡ one_if (above ls && not (above (one_less t n ls)))
-  told t n ls = by (t == s) refl
+  answered : (t n : ℕ) (ls : List StreamState) → one_if (t == s && falls_on t n ls) ≡ one_if (above ls && not (above (one_less t n ls)))
+  answered t n ls = by (t == s) refl
     where
       by : (b : Bool) → (t == s) ≡ b → one_if (b && falls_on t n ls) ≡ one_if (above ls && not (above (one_less t n ls)))
       by true e =
@@ -132,7 +132,7 @@ module _ (s : ℕ) where
   count-lows (r ∷ rs) ls =
       let more = one_less r.stream r.bytes ls in
       sum_by-cons (λ x. one_if (tells_low s x)) (record r { is_low = falls_on r.stream r.bytes ls }) (with_lows rs more)
-      ∙ ap (λ n. n + count_by (tells_low s) (with_lows rs more)) (told r.stream r.bytes ls)
+      ∙ ap (λ n. n + count_by (tells_low s) (with_lows rs more)) (answered r.stream r.bytes ls)
       ∙ ap (λ n. one_if (above ls && not (above more)) + n) (count-lows rs more)
       ∙ joined (above ls) (above more) (above (after_releases rs more)) (still-above r.stream r.bytes ls) (releases-above rs more)
 
@@ -148,7 +148,7 @@ module _ (s : ℕ) where
   count-message-lows (g ∷ gs) ls =
       let more = one_less g.stream g.bytes ls in
       sum_by-cons (λ x. one_if (tells_message_low s x)) (record g { is_low = falls_on g.stream g.bytes ls }) (with_message_lows gs more)
-      ∙ ap (λ n. n + count_by (tells_message_low s) (with_message_lows gs more)) (told g.stream g.bytes ls)
+      ∙ ap (λ n. n + count_by (tells_message_low s) (with_message_lows gs more)) (answered g.stream g.bytes ls)
       ∙ ap (λ n. one_if (above ls && not (above more)) + n) (count-message-lows gs more)
       ∙ joined (above ls) (above more) (above (after_leaving gs more)) (still-above g.stream g.bytes ls) (leaving-above gs more)
 
@@ -183,11 +183,11 @@ module _ (s : ℕ) (ls ms : List StreamState) where
   abbrev fallen : Bool
   fallen = above s ls && not (above s ms)
 
-  pub release-told : (n : ℕ) (b : Bool) → b ≡ falls_on s n ls → ms ≡ change_where (has_number s) (less_by n) ls → b ≡ fallen
-  release-told n b low less = low ∙ release-falls s n ls ∙ ap (λ ks. above s ls && not (above s ks)) (sym less)
+  pub release-answered : (n : ℕ) (b : Bool) → b ≡ falls_on s n ls → ms ≡ change_where (has_number s) (less_by n) ls → b ≡ fallen
+  release-answered n b low less = low ∙ release-falls s n ls ∙ ap (λ ks. above s ls && not (above s ks)) (sym less)
 
-  pub expiry-told : (u : Bool) (n : ℕ) (b : Bool) → b ≡ falls_on s n ls → ms ≡ change_where (has_number s) (after_expiry u n) ls → b ≡ fallen
-  expiry-told u n b low less = low ∙ expiry-falls s u n ls ∙ ap (λ ks. above s ls && not (above s ks)) (sym less)
+  pub expiry-answered : (u : Bool) (n : ℕ) (b : Bool) → b ≡ falls_on s n ls → ms ≡ change_where (has_number s) (after_expiry u n) ls → b ≡ fallen
+  expiry-answered u n b low less = low ∙ expiry-falls s u n ls ∙ ap (λ ks. above s ls && not (above s ks)) (sym less)
 
   module _ (rs xs : List Released) (lows : xs ≡ with_lows rs ls) (less : ms ≡ after_releases rs ls) where
     counted : count_by (tells_low s) xs ≡ one_if fallen

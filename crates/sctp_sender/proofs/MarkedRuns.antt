@@ -63,9 +63,6 @@ module _ (p : ChunkPayloadData → Bool) (f : ChunkPayloadData → ChunkPayloadD
         change_where-only (has_tsn ((first + i) % 2 ^ 32)) g ys i x (only-at ys first i small its-run (omega (arith, few, count)) (omega (arith, lt, count)))
         ∙ ap (λ c. set ys i (g c)) (sym read) ∙ ap (set ys i) e ∙ changed_step p f cs ys i x lt so_far read h
 
-    pub its-tsn : x.tsn ≡ (first + i) % 2 ^ 32
-    its-tsn = ap (λ (c : ChunkPayloadData). c.tsn) read ∙ tsn-at ys first i x small its-run (omega (arith, lt, count))
-
     -- the walk has not come to it
     old : x ≡ get_or cs i x
     old =
@@ -74,12 +71,12 @@ module _ (p : ChunkPayloadData → Bool) (f : ChunkPayloadData → ChunkPayloadD
         read ∙ ap (λ zs. get_or zs i x) so_far ∙ get_or-append_right (change_where p f (take i cs)) (drop i cs) i i x short (omega arith)
         ∙ get_or-drop i cs (i - i) x ∙ ap (λ k. get_or cs k x) none
 
-    pub told-of : (r : ChunkPayloadData → Bool) → filter r (take (i + 1) cs) ≡ filter r (take i cs) ++ (if r x then x ∷ [] else [])
-    told-of r = those-more r cs i x lt ∙ ap (λ y. filter r (take i cs) ++ (if r y then y ∷ [] else [])) (sym old)
+    pub answered-of : (r : ChunkPayloadData → Bool) → filter r (take (i + 1) cs) ≡ filter r (take i cs) ++ (if r x then x ∷ [] else [])
+    answered-of r = those-more r cs i x lt ∙ ap (λ y. filter r (take i cs) ++ (if r y then y ∷ [] else [])) (sym old)
 
     pub counted-of : (r : ChunkPayloadData → Bool) (b : Bool) → r x ≡ b
         → length (filter r (take (i + 1) cs)) ≡ length (filter r (take i cs)) + (if b then 1 else 0)
-    counted-of r b e = ap length (told-of r ∙ ap (λ k. filter r (take i cs) ++ (if k then x ∷ [] else [])) e) ∙ by b
+    counted-of r b e = ap length (answered-of r ∙ ap (λ k. filter r (take i cs) ++ (if k then x ∷ [] else [])) e) ∙ by b
       where
         by : (k : Bool) → length (filter r (take i cs) ++ (if k then x ∷ [] else [])) ≡ length (filter r (take i cs)) + (if k then 1 else 0)
         by true = length-append (filter r (take i cs)) (x ∷ [])

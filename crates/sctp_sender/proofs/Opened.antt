@@ -121,7 +121,3 @@ module _ (cs : List ChunkPayloadData) (m : ℕ) where
 
 pub both-sides : (q : ChunkPayloadData → Bool) (cs : List ChunkPayloadData) (n : ℕ) → list_any q cs ≡ (list_any q (take n cs) || list_any q (drop n cs))
 both-sides q cs n = ap (list_any q) (sym (take-append-drop n cs)) ∙ list_any-append q (take n cs) (drop n cs)
-
-pub neither : (a b : Bool) → not (a || b) ≡ (not a && not b)
-neither true b = refl
-neither false b = refl

@@ -29,7 +29,7 @@ use Rattle.sctp_sender.proofs.Anew.{all-at, any-place, both}
 use Rattle.sctp_sender.proofs.Keepings.{taken-within}
 use Rattle.sctp_sender.proofs.Runs.{any_chunk, back, later, tsn-at}
 use Rattle.sctp_sender.proofs.Sacks.{apart, cum-is}
-use Rattle.sctp_sender.proofs.Told.{open-is}
+use Rattle.sctp_sender.proofs.Answered.{open-is}
 
 before : (acked cum count k : ℕ) → acked < 2 ^ 32 → count < 2 ^ 31 → k < count → cum ≡ (acked + count) % 2 ^ 32
     → distance ((acked + k) % 2 ^ 32) cum ≡ count - k
@@ -161,19 +161,19 @@ module _ (f : Flight) (inv : IsContiguous f) (s : Sack) (fits : s.cumulative_tsn
 
 -- ## What is told in the end
 
-pub told-judged : (s : Sack) (f : Flight) (half : Option ℕ) → half ≡ partially_sent f.queue.pending → (cs ds : List ChunkPayloadData)
+pub answered-judged : (s : Sack) (f : Flight) (partial : Option ℕ) → partial ≡ partially_sent f.queue.pending → (cs ds : List ChunkPayloadData)
     → cs ≡ f.queue.inflight.chunks → ds ≡ change_where (reports_anew s) as_acknowledged cs
-    → map (judged half ds) (map (released_of no_message) (filter (reports_anew s) cs)) ≡ map (released_of (is_whole s f)) (filter (reports_anew s) cs)
-told-judged s f half is-half cs ds is are = each (filter (reports_anew s) cs)
+    → map (judged partial ds) (map (released_of no_message) (filter (reports_anew s) cs)) ≡ map (released_of (is_whole s f)) (filter (reports_anew s) cs)
+answered-judged s f partial is-partial cs ds is are = each (filter (reports_anew s) cs)
   where
-    closed : (m : ℕ) → is_closed half ds m ≡ is_whole s f m
-    closed m = ap (λ h. not (is_half h m) && not (list_any (is_open_of m) ds)) is-half
+    closed : (m : ℕ) → is_closed partial ds m ≡ is_whole s f m
+    closed m = ap (λ h. not (is_half h m) && not (list_any (is_open_of m) ds)) is-partial
         ∙ ap (λ b. not (is_half (partially_sent f.queue.pending) m) && not b) (ap (list_any (is_open_of m)) (are
         ∙ ap (change_where (reports_anew s) as_acknowledged) is) ∙ open-is s m f.queue.inflight.chunks)
 
-    each : (xs : List ChunkPayloadData) → map (judged half ds) (map (released_of no_message) xs) ≡ map (released_of (is_whole s f)) xs
+    each : (xs : List ChunkPayloadData) → map (judged partial ds) (map (released_of no_message) xs) ≡ map (released_of (is_whole s f)) xs
     each [] = refl
     each (x ∷ xs) =
         ap (λ (k : Bool). let r : Released = record (released_of no_message x) { is_message_acked = k } in
-        r ∷ map (judged half ds) (map (released_of no_message) xs)) (closed x.message_id)
+        r ∷ map (judged partial ds) (map (released_of no_message) xs)) (closed x.message_id)
         ∙ ap (λ (rs : List Released). released_of (is_whole s f) x ∷ rs) (each xs)

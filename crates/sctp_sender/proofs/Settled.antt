@@ -266,8 +266,8 @@ sack-settled s f a = by (is_outdated s f)
 abbrev size : ChunkPayloadData → ℕ
 size c = length c.user_data
 
-abbrev told : Released → ℕ
-told r = r.bytes
+abbrev answered : Released → ℕ
+answered r = r.bytes
 
 -- a chunk that is reported cumulatively, and not anew, was acknowledged
 was-acked : (a b d : Bool) → (not a && (b || d)) ≡ false → b ≡ true → a ≡ true
@@ -302,7 +302,7 @@ module _ (s : Sack) where
           + bytes_in (map (released_of w) (if b then c ∷ filter (reports_anew s) cs else filter (reports_anew s) cs)) ≡ bytes_of (c ∷ cs)
       by true e ih =
           let a = anew (at_or_before c.tsn s.cumulative_tsn_ack) in
-          let r = sum_by-cons told (released_of w c) (gone w cs) in
+          let r = sum_by-cons answered (released_of w c) (gone w cs) in
           omega (arith, a, r, ih, all)
       by false e ih =
           let o = other (at_or_before c.tsn s.cumulative_tsn_ack) (λ h.
@@ -319,8 +319,8 @@ module _ (s : Sack) where
 
   pub after-bytes : (f g : Flight) (items : List Released) → is_outdated s f ≡ false → g ≡ after_sack s f → items ≡ gone (is_whole s f) f.queue.inflight.chunks
       → AreSettled f.queue.inflight.chunks → total_bytes g.queue + bytes_in items ≡ total_bytes f.queue
-  after-bytes f g items current is told-is t =
+  after-bytes f g items current is answered-is t =
       let q = ap (λ (h : Flight). total_bytes h.queue) is in
-      let r = ap bytes_in told-is ∙ ap (λ b. bytes_in (if b then [] else gone (is_whole s f) f.queue.inflight.chunks)) (sym current) in
+      let r = ap bytes_in answered-is ∙ ap (λ b. bytes_in (if b then [] else gone (is_whole s f) f.queue.inflight.chunks)) (sym current) in
       let w = sack-bytes f t in
       omega (arith, q, r, w)

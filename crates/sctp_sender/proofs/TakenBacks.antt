@@ -10,21 +10,22 @@ use Rattle.sctp_outbound.specs.Marks.{as_taken_back}
 use Rattle.sctp_serial.specs.DataChunks.{following_tsn, has_tsn}
 use Rattle.sctp_sender.specs.declared.sender.flight.keeping.TakenBack.{TakenBack}
 use Rattle.sctp_sender.specs.Flight.{Flight, IsContiguous, can_resend, is_outstanding_in, reports}
-use Rattle.sctp_sender.specs.Keeping.{back_each, restored, restored_with, takes_back, told_back, with_restored}
+use Rattle.sctp_sender.specs.Keeping.{back_each, restored, restored_with, takes_back, answered_back, with_restored}
 use Rattle.sctp_sender.proofs.Keepings.{length-restored, restored-contiguous}
 use Rattle.sctp_sender.proofs.Runs.{found-at, tsn-at}
 
-abbrev told_at : ChunkPayloadData → List ℕ → TakenBack
-told_at c bytes = record { tsn = c.tsn; stream = c.stream_identifier; bytes = length bytes; message = c.message_id }
+abbrev answered_at : ChunkPayloadData → List ℕ → TakenBack
+answered_at c bytes = record { tsn = c.tsn; stream = c.stream_identifier; bytes = length bytes; message = c.message_id }
 
 -- what holds of each place with which something comes back holds of all that is told
-told-all : (P : TakenBack → Type 0) (bs : List (Option (List ℕ))) (cs : List ChunkPayloadData) → ((i : ℕ) (d : ChunkPayloadData) (bytes : List ℕ)
-    → i < length cs → get_or bs i None ≡ Some bytes → P (told_at (get_or cs i d) bytes)) → All P (told_back bs cs)
-told-all P [] cs h k d lt = absurd (omega (arith, lt))
-told-all P (b ∷ bs) [] h k d lt = absurd (omega (arith, lt))
-told-all P (None ∷ bs) (c ∷ cs) h k d lt = told-all P bs cs (λ i x bytes less e. h (suc i) x bytes (omega (arith, less)) e) k d lt
-told-all P (Some bytes ∷ bs) (c ∷ cs) h zero d lt = h 0 c bytes (omega arith) refl
-told-all P (Some bytes ∷ bs) (c ∷ cs) h (suc k) d lt = told-all P bs cs (λ i x more less e. h (suc i) x more (omega (arith, less)) e) k d (omega (arith, lt))
+answered-all : (P : TakenBack → Type 0) (bs : List (Option (List ℕ))) (cs : List ChunkPayloadData) → ((i : ℕ) (d : ChunkPayloadData) (bytes : List ℕ)
+    → i < length cs → get_or bs i None ≡ Some bytes → P (answered_at (get_or cs i d) bytes)) → All P (answered_back bs cs)
+answered-all P [] cs h k d lt = absurd (omega (arith, lt))
+answered-all P (b ∷ bs) [] h k d lt = absurd (omega (arith, lt))
+answered-all P (None ∷ bs) (c ∷ cs) h k d lt = answered-all P bs cs (λ i x bytes less e. h (suc i) x bytes (omega (arith, less)) e) k d lt
+answered-all P (Some bytes ∷ bs) (c ∷ cs) h zero d lt = h 0 c bytes (omega arith) refl
+answered-all P (Some bytes ∷ bs) (c ∷ cs) h (suc k) d lt =
+    answered-all P bs cs (λ i x more less e. h (suc i) x more (omega (arith, less)) e) k d (omega (arith, lt))
 
 restored-at : (bs : List (Option (List ℕ))) (cs : List ChunkPayloadData) (i : ℕ) (d : ChunkPayloadData) (bytes : List ℕ) → i < length cs
     → get_or bs i None ≡ Some bytes → get_or (restored bs cs) i d ≡ as_taken_back bytes (get_or cs i d)
@@ -51,8 +52,8 @@ module _ (s : Sack) where
   open' false abandoned reported e = absurd (false≢true e)
 
   pub outstanding : (f : Flight) → IsContiguous f → (ks bs : List (Option (List ℕ))) → bs ≡ back_each s f.queue.inflight.chunks ks
-      → All (λ r. can_resend r.tsn (with_restored bs f) ≡ true) (told_back bs f.queue.inflight.chunks)
-  outstanding f inv ks bs is = told-all (λ r. can_resend r.tsn (with_restored bs f) ≡ true) bs cs here
+      → All (λ r. can_resend r.tsn (with_restored bs f) ≡ true) (answered_back bs f.queue.inflight.chunks)
+  outstanding f inv ks bs is = answered-all (λ r. can_resend r.tsn (with_restored bs f) ≡ true) bs cs here
     where
       cs : List ChunkPayloadData
       cs = f.queue.inflight.chunks

@@ -113,8 +113,9 @@ listed-after f inv t us h = by (find (has_tsn t) cs) refl
     cs : List ChunkPayloadData
     cs = f.queue.inflight.chunks
 
-    told : (y : ChunkPayloadData) (r : ChunkPayloadData → Bool) → find (has_tsn t) cs ≡ Some y → r y ≡ true → list_all (λ c. not (has_tsn t c) || r c) cs ≡ true
-    told y r e ry = same-tsn cs (following_tsn f.acked_tsn) t y r (omega arith) inv.run inv.few e ry
+    answered : (y : ChunkPayloadData) (r : ChunkPayloadData → Bool) → find (has_tsn t) cs ≡ Some y → r y ≡ true
+        → list_all (λ c. not (has_tsn t c) || r c) cs ≡ true
+    answered y r e ry = same-tsn cs (following_tsn f.acked_tsn) t y r (omega arith) inv.run inv.few e ry
 
     marked : (m : ℕ) → list_all (λ c. not (has_tsn t c) || is_of m c) cs ≡ true → list_all (is_listed us) (change_where (is_of m) as_abandoned cs) ≡ true
     marked m of =
@@ -136,9 +137,9 @@ listed-after f inv t us h = by (find (has_tsn t) cs) refl
     open-one y e true a =
         pair-all (is_listed (t ∷ us)) (λ c. not (has_tsn t c) || c.abandoned) (is_listed us) cs
         (λ c l r. less (is_worn c) (has_tsn t c) (list_any (λ u. has_tsn u c) us) l (λ has. not-worn c (implied (has_tsn t c) c.abandoned r has))) h
-        (told y (λ c. c.abandoned) e a)
+        (answered y (λ c. c.abandoned) e a)
     open-one y e false a =
-        ended y.message_id (last_removed y.message_id f.queue.pending) (marked y.message_id (told y (is_of y.message_id) e (same-yes y.message_id)))
+        ended y.message_id (last_removed y.message_id f.queue.pending) (marked y.message_id (answered y (is_of y.message_id) e (same-yes y.message_id)))
 
     by : (o : Option ChunkPayloadData) → find (has_tsn t) cs ≡ o → are_listed us (after_abandonment (to_abandon o) f) ≡ true
     by None e =

@@ -77,9 +77,9 @@ with_restored bs f =
 
 -- ## What is told of it
 
-abbrev pub told_of : Option (List ℕ) → ChunkPayloadData → List TakenBack
-told_of None c = []
-told_of (Some bytes) c =
+abbrev pub answered_of : Option (List ℕ) → ChunkPayloadData → List TakenBack
+answered_of None c = []
+answered_of (Some bytes) c =
     record {
       tsn = c.tsn;
       stream = c.stream_identifier;
@@ -87,10 +87,10 @@ told_of (Some bytes) c =
       message = c.message_id;
     } ∷ []
 
-abbrev pub told_back : List (Option (List ℕ)) → List ChunkPayloadData → List TakenBack
-told_back [] cs = []
-told_back (b ∷ bs) [] = []
-told_back (b ∷ bs) (c ∷ cs) = told_of b c ++ told_back bs cs
+abbrev pub answered_back : List (Option (List ℕ)) → List ChunkPayloadData → List TakenBack
+answered_back [] cs = []
+answered_back (b ∷ bs) [] = []
+answered_back (b ∷ bs) (c ∷ cs) = answered_of b c ++ answered_back bs cs
 
 -- the bytes of all
 abbrev pub bytes_back : List TakenBack → ℕ

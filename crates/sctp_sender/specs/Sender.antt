@@ -14,7 +14,7 @@ use Rattle.sctp_sender.specs.declared.sender.flight.keeping.TakenBack.{TakenBack
 use Rattle.sctp_sender.specs.declared.sender.refusal.SenderRefusal.{SenderRefusal}
 use Rattle.sctp_sender.specs.declared.sender.refusal.SenderRefusal.TheVariants.{StreamUnknown, MessageTooLarge, QueueFull}
 use Rattle.sctp_sender.specs.Flight.{Flight, with_queue, at_first, after_sack, released_by, is_outdated, sack_refusal, after_abandonment}
-use Rattle.sctp_sender.specs.Keeping.{after_returns, bytes_back, coming_back, kept_after, told_back, with_restored}
+use Rattle.sctp_sender.specs.Keeping.{after_returns, bytes_back, coming_back, kept_after, answered_back, with_restored}
 use Rattle.sctp_sender.specs.Outgoing.{has_number, with_mode, fragments_with_mode, wrote, after_releases, less_by, after_expiry}
 use Rattle.sctp_stream.specs.Stream.{new_stream}
 
@@ -110,7 +110,7 @@ back_by s f (Some ks) = coming_back s f ks
 
 -- the chunks that the SACK takes back, in order of TSNs
 abbrev pub taken_back_by : Sack → Transmission → List TakenBack
-taken_back_by s t = told_back (back_by s t.flight t.kept) t.flight.queue.inflight.chunks
+taken_back_by s t = answered_back (back_by s t.flight t.kept) t.flight.queue.inflight.chunks
 
 -- they are outstanding again, and each stream has so much more
 abbrev pub after_take_back : Sack → Transmission → Transmission

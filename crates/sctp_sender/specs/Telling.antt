@@ -33,11 +33,11 @@ PicksAnew p count blocks chunks =
     ≡ (not (slice_index_or chunks k d).acked && is_reached count blocks k)
 
 -- it was told of the chunk
-abbrev pub is_told_as : ChunkPayloadData → Released → Bool
-is_told_as c r = has_tsn r.tsn c
+abbrev pub is_answered_as : ChunkPayloadData → Released → Bool
+is_answered_as c r = has_tsn r.tsn c
 
-abbrev pub is_told : List Released → ChunkPayloadData → Bool
-is_told rs c = list_any (is_told_as c) rs
+abbrev pub is_answered : List Released → ChunkPayloadData → Bool
+is_answered rs c = list_any (is_answered_as c) rs
 
 -- it is told of the chunk, as of its message
 abbrev pub is_of_chunk : Released → ChunkPayloadData → Bool
@@ -59,8 +59,8 @@ is_open_of m c = nat_eq m c.message_id && is_open c
 
 -- the message is not the one that is partially sent, and no chunk in flight of it is open
 abbrev pub is_closed : Option ℕ → List ChunkPayloadData → ℕ → Bool
-is_closed half chunks m = not (is_half half m) && not (list_any (is_open_of m) chunks)
+is_closed partial chunks m = not (is_half partial m) && not (list_any (is_open_of m) chunks)
 
 -- what is told says whether the message is
 abbrev pub judged : Option ℕ → List ChunkPayloadData → Released → Released
-judged half chunks r = record r { is_message_acked = is_closed half chunks r.message }
+judged partial chunks r = record r { is_message_acked = is_closed partial chunks r.message }

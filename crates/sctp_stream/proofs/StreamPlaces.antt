@@ -64,9 +64,6 @@ module _ {X : Type 0} (num : X → ℕ) where
         elsewhere = λ j d less ne. ne_eqb _ _ (λ z. ne (p.only j (ap (λ ms. slice_get ms j) is ∙ number-at ls j d less ∙ ap Some z)));
       }
 
-      pub number-is : (x : X) → x ≡ slice_index_or ls k x → num x ≡ s
-      number-is x e = ap num e ∙ some-same (sym (number-at ls k x inside) ∙ ap (λ ms. slice_get ms k) (sym is) ∙ p.here)
-
       pub found : (x : X) → x ≡ slice_index_or ls k x → find (λ l. num l == s) ls ≡ Some x
       found x e = find-first (λ l. num l == s) ls k x inside (λ j d lt. only.elsewhere j d (omega (arith, lt, inside)) (λ z. omega (arith, lt, z)))
           (only.here x) ∙ ap Some (sym e)

@@ -33,6 +33,6 @@ pub fn is_settled<C: Checksum + Drop>(link: &Link<C>) -> bool
 {
     link.stands();
     bytes_balance();
-    let told = link.ledger();
-    told.pending == 0 && told.in_flight == 0
+    let answered = link.ledger();
+    answered.pending == 0 && answered.in_flight == 0
 }

@@ -55,12 +55,12 @@ fn abandoned_row(one: &AbandonedMessage) -> SctpAbandoned
 }
 
 // A row for each.
-fn fill_abandoned(rows: &mut [SctpAbandoned], told: &[AbandonedMessage])
-    requires { length told.now ≤ length rows.old }
-    ensures { rows.new ≡ at_front (map abandoned_row told.now) rows.old }
+fn fill_abandoned(rows: &mut [SctpAbandoned], answered: &[AbandonedMessage])
+    requires { length answered.now ≤ length rows.old }
+    ensures { rows.new ≡ at_front (map abandoned_row answered.now) rows.old }
 {
-    for place in 0..told.len() {
-        rows[place] = abandoned_row(&told[place]);
+    for place in 0..answered.len() {
+        rows[place] = abandoned_row(&answered[place]);
     }
 }
 

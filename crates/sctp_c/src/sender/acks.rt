@@ -115,12 +115,12 @@ fn taken_back_row(one: &TakenBack) -> SctpTakenBack
 }
 
 // A row for each.
-fn fill_taken_back(rows: &mut [SctpTakenBack], told: &[TakenBack])
-    requires { length told.now ≤ length rows.old }
-    ensures { rows.new ≡ at_front (map taken_back_row told.now) rows.old }
+fn fill_taken_back(rows: &mut [SctpTakenBack], answered: &[TakenBack])
+    requires { length answered.now ≤ length rows.old }
+    ensures { rows.new ≡ at_front (map taken_back_row answered.now) rows.old }
 {
-    for place in 0..told.len() {
-        rows[place] = taken_back_row(&told[place]);
+    for place in 0..answered.len() {
+        rows[place] = taken_back_row(&answered[place]);
     }
 }
 
@@ -290,9 +290,9 @@ pub extern "C" fn sctp_sender_take_back(
         return SCTP_STALE;
     }
     match own.take_back(&sack) {
-        Ok(told) => {
-            fill_taken_back(rows, &told);
-            *count = told.len();
+        Ok(answered) => {
+            fill_taken_back(rows, &answered);
+            *count = answered.len();
             SCTP_OK
         }
         Err(e) => of_sender(e),

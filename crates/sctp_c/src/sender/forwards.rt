@@ -57,7 +57,7 @@ pub extern "C" fn sctp_sender_forward_tsn(
     ensures reason { 16 ≤ result → (result ≡ 16) ⊎ (result ≡ 17) }
     ensures same { sender.new.value ≡ sender.old.value }
     ensures kept { result ≢ 0 → out.new ≡ out.old }
-    ensures untold { result ≢ 0 → result ≢ 17 → written.new ≡ written.old }
+    ensures unanswered { result ≢ 0 → result ≢ 17 → written.new ≡ written.old }
 {
     let own = sender.get_mut();
     let room = out.len().min(MAX_FORWARD_TSN_SIZE);
@@ -97,7 +97,7 @@ pub extern "C" fn sctp_sender_forward_tsn_to(
     ensures reason { 16 ≤ result → (result ≡ 16) ⊎ ((result ≡ 17) ⊎ (result ≡ 19)) }
     ensures same { sender.new.value ≡ sender.old.value }
     ensures kept { result ≢ 0 → out.new ≡ out.old }
-    ensures untold { result ≢ 0 → result ≢ 17 → written.new ≡ written.old }
+    ensures unanswered { result ≢ 0 → result ≢ 17 → written.new ≡ written.old }
 {
     let chunk = match sender.get_mut().forward_tsn_to(tsn) {
         Ok(Some(chunk)) => chunk,

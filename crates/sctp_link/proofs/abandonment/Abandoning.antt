@@ -28,14 +28,14 @@ use Rattle.sctp_refinement.specs.Indexes.{begun_on}
 use Rattle.sctp_refinement.proofs.sending.Begun.{Indexed}
 use Rattle.sctp_refinement.proofs.sending.BegunRun.{SendsNone}
 use Rattle.sctp_refinement.proofs.abandonment.AbandonedLate.{sent-then}
-use Rattle.sctp_refinement.proofs.abandonment.AbandonedLink.{mark_of, abandoned-is, count-then, before-then}
+use Rattle.sctp_refinement.proofs.abandonment.AbandonedLink.{terminal_of, abandoned-is, count-then, before-then}
 use Rattle.sctp_refinement.proofs.reading.ReadOne.{KeepsNext}
 use Rattle.sctp_refinement.proofs.abandonment.NothingHeld.{amount-abandoned}
 use Rattle.sctp_refinement.proofs.amounts.StreamCounters.{counters-same}
 use Rattle.sctp_link.specs.Streams.{OpenStream, has_number, less_by}
 use Rattle.sctp_link.specs.declared.record.Message.{Message}
 use Rattle.sctp_link.specs.declared.record.Slot.{Slot}
-use Rattle.sctp_link.specs.OpenStreams.{marks}
+use Rattle.sctp_link.specs.OpenStreams.{terminals}
 use Rattle.sctp_link.specs.Linked.{State, IsOpenStream, IsLinked, stats_of}
 use Rattle.sctp_link.specs.Records.{message_record, progress_of, slot_record, stream_record}
 use Rattle.sctp_link.proofs.abandonment.QueueAnswers.{Gives}
@@ -62,7 +62,7 @@ module _ (sum : List ℕ → ℕ) (x : State) (l : IsLinked sum x) (e : Event) (
   v = after_abandon x.recorded n
 
   quiet : Quiet x.recorded (after x.recorded e)
-  quiet = subst (Quiet x.recorded) (sym r.is) (Moves.quiet-abandoned x.recorded.setup x.recorded n (facts sum x l).sane)
+  quiet = subst (Quiet x.recorded) (sym r.is) (Moves.quiet-abandoned x.recorded.setup x.recorded n (facts sum x l).consistent)
 
   setup-same : v.setup ≡ w.setup
   setup-same = ap (λ u. u.setup) (abandoned-is w n)
@@ -82,7 +82,7 @@ module _ (sum : List ℕ → ℕ) (x : State) (l : IsLinked sum x) (e : Event) (
         begun = i.begun ∙ sym (ap (λ u. begun_on u t) (sym r.is) ∙ begun-kept sum x l e ok none t);
         next = i.next ∙ sym (ap (λ u. next_of u t) (sym r.is) ∙ next-kept sum x l e ok keeps t);
         amount = omega (arith, i.amount, less);
-        stats = i.stats ∙ ap stats_of (sym (ap (λ u. counters_on u t) (sym r.is) ∙ counters-same w.setup w e t (facts sum x l).sane no-write no-read));
+        stats = i.stats ∙ ap stats_of (sym (ap (λ u. counters_on u t) (sym r.is) ∙ counters-same w.setup w e t (facts sum x l).consistent no-write no-read));
       }
 
   stream-given : (y : OpenStream) → IsOpenStream w y
@@ -140,10 +140,10 @@ module _ (sum : List ℕ → ℕ) (x : State) (l : IsLinked sum x) (e : Event) (
   }
 
   -- with the lists that a link then has
-  module _ (ms : List Message) (m m' : Message) (ss ss' : List Slot) (half : Bool) (streams : x.recorded.streams ≡ map stream_record x.open_streams)
+  module _ (ms : List Message) (m m' : Message) (ss ss' : List Slot) (partial : Bool) (streams : x.recorded.streams ≡ map stream_record x.open_streams)
       (em : x.recorded.messages ≡ map message_record ms) (ep : x.progress ≡ map progress_of ms) (es : x.recorded.slots ≡ map slot_record ss)
-      (here : m ≡ slice_index_or ms n m) (took : m' ≡ record m { abandoned = true }) (half_is : half ≡ is_partially_sent x.recorded n)
-      (more : ss' ≡ ss ++ marks half n m.sent) where
+      (here : m ≡ slice_index_or ms n m) (took : m' ≡ record m { abandoned = true }) (partial_is : partial ≡ is_partially_sent x.recorded n)
+      (more : ss' ≡ ss ++ terminals partial n m.sent) where
     lt : n < length ms
     lt = omega (arith, r.made, ap length em, length-mapped message_record ms)
 
@@ -151,14 +151,13 @@ module _ (sum : List ℕ → ℕ) (x : State) (l : IsLinked sum x) (e : Event) (
     sent-is = ap (λ (t : Message). t.sent) here ∙ sym (ap (λ (p : ℕ × ℕ). p.0) (raw-at progress_of ms n (0, 0) m lt))
         ∙ ap (λ (ps : List (ℕ × ℕ)). (slice_index_or ps n (0, 0)).0) (sym ep) ∙ l.sents n r.made
 
-    slots-given : map slot_record ss' ≡ w.slots ++ mark_of w n
+    slots-given : map slot_record ss' ≡ w.slots ++ terminal_of w n
     slots-given =
-        ap (map slot_record) more ∙ map-append slot_record ss (marks half n m.sent) ∙ ap (λ a. a ++ map slot_record (marks half n m.sent)) (sym es)
-        ∙ ap (λ k. w.slots ++ map slot_record (marks half n k)) sent-is
-        ∙ ap (λ b. w.slots ++ map slot_record (marks b n (sent_of w n))) half_is
-        ∙ ap (λ a. w.slots ++ a) (by (is_partially_sent w n))
+        ap (map slot_record) more ∙ map-append slot_record ss (terminals partial n m.sent)
+        ∙ ap (λ a. a ++ map slot_record (terminals partial n m.sent)) (sym es) ∙ ap (λ k. w.slots ++ map slot_record (terminals partial n k)) sent-is
+        ∙ ap (λ b. w.slots ++ map slot_record (terminals b n (sent_of w n))) partial_is ∙ ap (λ a. w.slots ++ a) (by (is_partially_sent w n))
       where
-        by : (b : Bool) → map slot_record (marks b n (sent_of w n)) ≡ (if b then (let y : W.Slot =
+        by : (b : Bool) → map slot_record (terminals b n (sent_of w n)) ≡ (if b then (let y : W.Slot =
             record { message = n; fragment = sent_of w n; is_terminal_chunk = true; arrived = false; acknowledged = false } in y) ∷ [] else [])
         by true = refl
         by false = refl

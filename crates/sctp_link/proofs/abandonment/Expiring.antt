@@ -61,10 +61,10 @@ module _ (sum : List ℕ → ℕ) (x : State) (l : IsLinked sum x) (now : ℕ) w
   v = after x.recorded (E.Expire now)
 
   quiet : Quiet x.recorded (after x.recorded (E.Expire now))
-  quiet = Moves.quiet-expire x.recorded.setup x.recorded now (front x.recorded) (facts sum x l).sane
+  quiet = Moves.quiet-expire x.recorded.setup x.recorded now (front x.recorded) (facts sum x l).consistent
 
   size : 0 < x.recorded.setup.size
-  size = size-some x.recorded.setup x.recorded l.setup (facts sum x l).sane
+  size = size-some x.recorded.setup x.recorded l.setup (facts sum x l).consistent
 
   -- ## The outbound queue
 
@@ -107,7 +107,7 @@ module _ (sum : List ℕ → ℕ) (x : State) (l : IsLinked sum x) (now : ℕ) w
           next = next ∙ i.next ∙ ap (next_of x.recorded) id ∙ sym (next-kept sum x l (E.Expire now) refl tt s) ∙ sym (ap (next_of v) id');
           amount = bytes ∙ sym (ap (amount v) id');
           stats = stats ∙ i.stats ∙ ap (λ t. stats_of (counters_on x.recorded t)) id
-              ∙ ap stats_of (sym (counters-same x.recorded.setup x.recorded (E.Expire now) s f.sane refl refl))
+              ∙ ap stats_of (sym (counters-same x.recorded.setup x.recorded (E.Expire now) s f.consistent refl refl))
               ∙ sym (ap (λ t. stats_of (counters_on v t)) id');
         }
 
@@ -123,7 +123,7 @@ module _ (sum : List ℕ → ℕ) (x : State) (l : IsLinked sum x) (now : ℕ) w
 
         bytes : amount v y.state.stream_identifier + (if (message_at x.recorded n).stream == y.state.stream_identifier then held_bytes x.recorded n else 0)
             ≡ y.state.buffered_amount
-        bytes = amount-expire x.recorded.setup x.recorded now n (facts sum x l).sane e y.state.stream_identifier ∙ sym i.amount
+        bytes = amount-expire x.recorded.setup x.recorded now n (facts sum x l).consistent e y.state.stream_identifier ∙ sym i.amount
 
         by : (a o : Bool) → left + (if a && o then 1 else 0) ≡ y.ordered → amount v y.state.stream_identifier + (if a then held_bytes x.recorded n else 0)
             ≡ y.state.buffered_amount → IsOpenStream v (if a then expired_on (not o) (held_bytes x.recorded n) y else y)
@@ -245,8 +245,8 @@ module _ (sum : List ℕ → ℕ) (x : State) (l : IsLinked sum x) (now : ℕ) w
     pub held : bytes ≡ held_bytes x.recorded c.message_id
     pub right : R.Expired c.stream_identifier bytes ≡ reply_to x.recorded (E.Expire now)
 
-  abbrev told : Option (ℕ × Bool × ℕ) → Option (ℕ × Bool)
-  told = option_map {U = ℕ × Bool} (λ a. (a.0, a.1))
+  abbrev answered : Option (ℕ × Bool × ℕ) → Option (ℕ × Bool)
+  answered = option_map {U = ℕ × Bool} (λ a. (a.0, a.1))
 
   abbrev kinds : Option ChunkPayloadData → Option (ℕ × Bool)
   kinds = option_map {U = ℕ × Bool} (λ c. (c.stream_identifier, c.unordered))
@@ -270,7 +270,7 @@ module _ (sum : List ℕ → ℕ) (x : State) (l : IsLinked sum x) (now : ℕ) w
       let f = facts sum x l in
       let a : ℕ × Bool × ℕ = (c.stream_identifier, c.unordered, bytes) in
       let past_deadline : outbound.expiring now x.outbound ≡ Some c = shown-past_deadline now c (next_pending x.outbound.pending) front some in
-      let answer : told (Some a) ≡ kinds (outbound.expiring now x.outbound) = sym (ap kinds past_deadline) in
+      let answer : answered (Some a) ≡ kinds (outbound.expiring now x.outbound) = sym (ap kinds past_deadline) in
       let moves : q ≡ expired_of (outbound.expiring now x.outbound) x.outbound = takes ∙ ap (λ o. expired_of o x.outbound) (sym past_deadline) in
       let t : Tells x.recorded now a.0 a.1 = tells x.recorded.setup x.recorded now x.outbound (Some a) size f.going l.outbound answer in
       let own : t.number ≡ c.message_id = ap (λ (d : ChunkPayloadData). d.message_id)
@@ -279,7 +279,7 @@ module _ (sum : List ℕ → ℕ) (x : State) (l : IsLinked sum x) (now : ℕ) w
       record {
         shown = past_deadline;
         is = is;
-        made = (front-takes (shape x.recorded) c.message_id f.sane.sender (expiring-front x.recorded now c.message_id is).0).made;
+        made = (front-takes (shape x.recorded) c.message_id f.consistent.sender (expiring-front x.recorded now c.message_id is).0).made;
         stream = peeked-stream x.recorded.setup x.recorded x.outbound c f.going l.outbound front;
         kind = sym t.kind ∙ ap (λ k. not (message_at x.recorded k).ordered) own;
         held =
@@ -289,7 +289,7 @@ module _ (sum : List ℕ → ℕ) (x : State) (l : IsLinked sum x) (now : ℕ) w
             x.outbound q l.outbound moves left is;
         right =
             over sum x (λ u. (q r : Outbound) → RefinesOutbound u q → r ≡ expired_of (outbound.expiring now q) q
-            → told (Some a) ≡ kinds (outbound.expiring now q) → total_bytes r + a.2 ≡ total_bytes q → R.Expired a.0 a.2 ≡ reply_to u (E.Expire now)) l
+            → answered (Some a) ≡ kinds (outbound.expiring now q) → total_bytes r + a.2 ≡ total_bytes q → R.Expired a.0 a.2 ≡ reply_to u (E.Expire now)) l
             (λ q r t m b i. reply-expire x.recorded.setup l.history l.setup l.stands.run now q r (Some a) t m b i)
             x.outbound q l.outbound moves answer left;
       }

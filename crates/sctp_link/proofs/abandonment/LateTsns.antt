@@ -42,17 +42,17 @@ place-made w t e = let a = (both (nat_le w.taken (place_of w t)) (nat_lt (place_
 pub turn-few : (w v : LinkRecord) → IsTurn w v → growth w v < 2 ^ 47
 turn-few w v t =
     let is : IsSetup v.setup = subst IsSetup (sym t.abandoning.first) t.setup in
-    omega (arith, turn-written w v t, written-few w.setup v is t.abandoning.sane)
+    omega (arith, turn-written w v t, written-few w.setup v is t.abandoning.consistent)
 
 module _ (sum : List ℕ → ℕ) (x : State) (l : IsLinked sum x) (now : ℕ) (ts : List ℕ) (listed : ts ≡ late_tsns now x.outbound) where
   abbrev w : LinkRecord
   w = x.recorded
 
   pub fly : list_all (λ t. is_in_flight w (place_of w t)) ts ≡ true
-  fly = late-fly w now x.outbound ts l.setup (facts sum x l).sane (facts sum x l).taken l.outbound listed
+  fly = late-fly w now x.outbound ts l.setup (facts sum x l).consistent (facts sum x l).taken l.outbound listed
 
   pub takes : 0 < length ts → takes_memory w (E.Late now) ≡ true
-  takes = late-takes w now x.outbound ts l.setup (facts sum x l).sane (facts sum x l).taken l.outbound listed
+  takes = late-takes w now x.outbound ts l.setup (facts sum x l).consistent (facts sum x l).taken l.outbound listed
 
   pub takes-unless : (late_tsns now x.outbound ≡ [] → false ≡ true) → takes_memory w (E.Late now) ≡ true
   takes-unless none = takes (some ts (λ e. none (sym listed ∙ e)))
@@ -63,8 +63,8 @@ module _ (sum : List ℕ → ℕ) (x : State) (l : IsLinked sum x) (now : ℕ) (
 
   pub begun : (o : Option ℕ) (bytes : ℕ) → o ≡ find (λ t. is_partially_sent w (message_of_tsn w t)) ts → bytes ≡ growth w (abandoned_tsn w o)
       → GivesInTurn w (abandoned_tsn w o) o ts 0 bytes
-  begun o bytes e b = begins w ts o fly bytes l.setup (facts sum x l).sane e b
+  begun o bytes e b = begins w ts o fly bytes l.setup (facts sum x l).consistent e b
 
   pub done : (v : LinkRecord) (o : Option ℕ) (bytes : ℕ) → o ≡ find (λ t. is_partially_sent w (message_of_tsn w t)) ts → GivesInTurn w v o ts (length ts) bytes
       → IsRight w (E.Late now) (R.Late (length ts) bytes) v
-  done v o bytes e i = late-done w now x.outbound ts l.setup (facts sum x l).sane (facts sum x l).taken l.outbound listed v o bytes e i
+  done v o bytes e i = late-done w now x.outbound ts l.setup (facts sum x l).consistent (facts sum x l).taken l.outbound listed v o bytes e i

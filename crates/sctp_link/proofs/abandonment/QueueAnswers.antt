@@ -22,14 +22,14 @@ use Rattle.sctp_model.specs.Amounts.{growth}
 use Rattle.sctp_model.specs.Changes.{after_abandon, tailing, after_tail, front_if}
 use Rattle.sctp_model.specs.Reply as R
 use Rattle.sctp_model.specs.Steps.{IsRight, refusal_of, reply_to, tail_reply, after, record_of}
-use Rattle.sctp_model.proofs.sender.SenderRun.{unless-holds, sane-run}
+use Rattle.sctp_model.proofs.sender.SenderRun.{unless-holds, consistent-run}
 use Rattle.sctp_model.proofs.sender.Few
-use Rattle.sctp_model.proofs.sender.SenderSteps.{is-half}
+use Rattle.sctp_model.proofs.sender.SenderSteps.{is-partial}
 use Rattle.sctp_model.proofs.sender.Fronts.{front-takes}
 use Rattle.sctp_model.proofs.sender.Shape.{shape}
 use Rattle.sctp_refinement.specs.Amount.{held_bytes}
 use Rattle.sctp_refinement.specs.Refines.{RefinesOutbound}
-use Rattle.sctp_refinement.proofs.abandonment.AbandonedLink.{mark_of, abandoned-is}
+use Rattle.sctp_refinement.proofs.abandonment.AbandonedLink.{terminal_of, abandoned-is}
 use Rattle.sctp_refinement.proofs.abandonment.AbandonedBytes.{bytes-abandon, bytes-tail}
 use Rattle.sctp_refinement.proofs.abandonment.AbandonedEvents.{refines-abandon, next-abandon, refines-tail, next-tail, tail-is, tail-tsn}
 use Rattle.sctp_refinement.proofs.abandonment.ChunkStreams.{flying-answer, tail-stream}
@@ -59,16 +59,16 @@ inner : {A : Type 0} {a b : A} → Some a ≡ Some b → a ≡ b
 inner e = cc
 
 -- where the message is partially sent its terminal chunk takes a slot, so a further TSN may be given out
-half-fits : (sum : List ℕ → ℕ) (x : State) (l : IsLinked sum x) (e : Event) (n : ℕ) → refusal_of x.recorded e ≡ None
+partial-fits : (sum : List ℕ → ℕ) (x : State) (l : IsLinked sum x) (e : Event) (n : ℕ) → refusal_of x.recorded e ≡ None
     → after x.recorded e ≡ after_abandon x.recorded n → is_partially_sent x.recorded n ≡ true → nat_lt (length x.outbound.inflight.chunks + 1) (2 ^ 31) ≡ true
-half-fits sum x l e n ok is half =
+partial-fits sum x l e n ok is partial =
     let s = stands-then x.recorded.setup x.recorded l.history e ok l.stands in
     let few = Few.few x.recorded.setup (record_of x.recorded.setup ((e, reply_to x.recorded e) ∷ l.history))
-    (sane-run x.recorded.setup ((e, reply_to x.recorded e) ∷ l.history) s.run) in
+    (consistent-run x.recorded.setup ((e, reply_to x.recorded e) ∷ l.history) s.run) in
     let count : length (record_of x.recorded.setup ((e, reply_to x.recorded e) ∷ l.history)).slots ≡ length x.recorded.slots + 1 =
-    ap (λ u. length u.slots) (sym s.is ∙ is ∙ abandoned-is x.recorded n) ∙ length-append x.recorded.slots (mark_of x.recorded n)
+    ap (λ u. length u.slots) (sym s.is ∙ is ∙ abandoned-is x.recorded n) ∙ length-append x.recorded.slots (terminal_of x.recorded n)
     ∙ ap (λ b. length x.recorded.slots + length {A = Slot} (if b
-    then record { message = n; fragment = sent_of x.recorded n; is_terminal_chunk = true; arrived = false; acknowledged = false } ∷ [] else [])) half in
+    then record { message = n; fragment = sent_of x.recorded n; is_terminal_chunk = true; arrived = false; acknowledged = false } ∷ [] else [])) partial in
     lt-ltb _ _ (omega (arith, few, count, flying x.recorded x.outbound l.outbound))
 
 -- ## The message of a TSN in flight
@@ -93,16 +93,16 @@ module _ (sum : List ℕ → ℕ) (x : State) (l : IsLinked sum x) (tsn : ℕ) (
   high = let a = (both (nat_le w.taken p) (nat_lt p (length w.slots)) flies).1 in grind (arith, nat_tests)
 
   pub made : n < length w.messages
-  made = (facts sum x l).sane.sender.made p high
+  made = (facts sum x l).consistent.sender.made p high
 
   back : tsn_of w p ≡ tsn
   back = let f = l.setup.first in omega (arith, f, fits)
 
-  pub half-tail : has_tail (to_abandon (find (has_tsn tsn) x.outbound.inflight.chunks)) x.outbound ≡ is_partially_sent w n
-  half-tail =
+  pub partial-tail : has_tail (to_abandon (find (has_tsn tsn) x.outbound.inflight.chunks)) x.outbound ≡ is_partially_sent w n
+  partial-tail =
       let f = facts sum x l in
       subst (λ t. has_tail (to_abandon (find (has_tsn t) x.outbound.inflight.chunks)) x.outbound ≡ is_partially_sent w n) back
-      (tail-tsn w.setup w p x.outbound f.sane low high l.outbound)
+      (tail-tsn w.setup w p x.outbound f.consistent low high l.outbound)
 
   found : Found w p x.outbound.inflight.chunks
   found =
@@ -116,12 +116,12 @@ module _ (sum : List ℕ → ℕ) (x : State) (l : IsLinked sum x) (tsn : ℕ) (
 
   pub tail-fits : has_tail (to_abandon (find (has_tsn tsn) x.outbound.inflight.chunks)) x.outbound ≡ true
       → nat_lt (length x.outbound.inflight.chunks + 1) (2 ^ 31) ≡ true
-  tail-fits tail = half-fits sum x l (E.Abandon tsn) n ok refl (sym half-tail ∙ tail)
+  tail-fits tail = partial-fits sum x l (E.Abandon tsn) n ok refl (sym partial-tail ∙ tail)
 
   -- the stream that the queue answers is the message's
   pub stream-is : (s : ℕ) → Some s ≡ option_map (λ (c : ChunkPayloadData). c.stream_identifier) (find (has_tsn tsn) x.outbound.inflight.chunks)
       → s ≡ (message_at x.recorded (message_of x.recorded (place_of x.recorded tsn))).stream
-  stream-is s e = inner (e ∙ flying-answer w.setup w tsn x.outbound (facts sum x l).sane l.setup.first fits flies l.outbound)
+  stream-is s e = inner (e ∙ flying-answer w.setup w tsn x.outbound (facts sum x l).consistent l.setup.first fits flies l.outbound)
 
   pub gives : (s bytes : ℕ) (q : Outbound) (next : ℕ) → Some s ≡ option_map (λ (c : ChunkPayloadData). c.stream_identifier)
       (find (has_tsn tsn) x.outbound.inflight.chunks) → q ≡ abandoned_of (to_abandon (find (has_tsn tsn) x.outbound.inflight.chunks)) x.next_tsn x.outbound
@@ -129,7 +129,7 @@ module _ (sum : List ℕ → ℕ) (x : State) (l : IsLinked sum x) (tsn : ℕ) (
       → Gives x (E.Abandon tsn) n s bytes q next
   gives s bytes q next es eq en eb =
       let f = facts sum x l in
-      let g = f.sane in
+      let g = f.consistent in
       let o = to_abandon (find (has_tsn tsn) x.outbound.inflight.chunks) in
       let here : q ≡ abandoned_of o (tsn_of w (length w.slots)) x.outbound = eq ∙ ap (λ t. abandoned_of o t x.outbound) l.next in
       let left = over sum x (λ u. (r : Outbound) → refusal_of u (E.Abandon tsn) ≡ None → RefinesOutbound u r → growth u (after u (E.Abandon tsn))
@@ -164,16 +164,16 @@ module _ (sum : List ℕ → ℕ) (x : State) (l : IsLinked sum x) (now : ℕ) w
     begins-is : c.beginning_fragment ≡ (sent_of x.recorded k == 0)
     begins-is = ap (λ (d : ChunkPayloadData). d.beginning_fragment) next.is
 
-    half-is : not c.beginning_fragment ≡ is_partially_sent x.recorded k
-    half-is = ap not begins-is ∙ by (sent_of x.recorded k == 0) refl
+    partial-is : not c.beginning_fragment ≡ is_partially_sent x.recorded k
+    partial-is = ap not begins-is ∙ by (sent_of x.recorded k == 0) refl
       where
         by : (b : Bool) → (sent_of x.recorded k == 0) ≡ b → not b ≡ is_partially_sent x.recorded k
         by true z = let y : nat_lt 0 (sent_of x.recorded k) ≡ false = grind (arith, nat_tests) in
             ap (λ b. b && (nat_lt (sent_of x.recorded k) (fragment_count x.recorded k) && not (message_at x.recorded k).abandoned)) (sym y)
         by false z =
-            let t = front-takes (shape x.recorded) k (facts sum x l).sane.sender next.front in
+            let t = front-takes (shape x.recorded) k (facts sum x l).consistent.sender next.front in
             let some : 0 < sent_of x.recorded k = grind (arith, nat_tests) in
-            sym (is-half (shape x.recorded) k some t.more t.alive)
+            sym (is-partial (shape x.recorded) k some t.more t.alive)
 
     deadline-is : c.deadline ≡ deadline_of x.recorded k
     deadline-is = ap (λ (d : ChunkPayloadData). d.deadline) next.is
@@ -181,11 +181,11 @@ module _ (sum : List ℕ → ℕ) (x : State) (l : IsLinked sum x) (now : ℕ) w
     tailing-is : tailing x.recorded now ≡ (if not c.beginning_fragment && is_past now c.deadline then Some k else None)
     tailing-is =
         ap (front_if x.recorded (λ n. is_partially_sent x.recorded n && is_past_deadline x.recorded now n)) next.front
-        ∙ ap (λ b. if b && is_past_deadline x.recorded now k then Some k else None) (sym half-is)
+        ∙ ap (λ b. if b && is_past_deadline x.recorded now k then Some k else None) (sym partial-is)
         ∙ ap (λ d. if not c.beginning_fragment && is_past now d then Some k else None) (sym deadline-is)
 
-    pub half-front : c.beginning_fragment ≡ false → true ≡ is_partially_sent x.recorded k
-    half-front e = sym (ap not e) ∙ half-is
+    pub partial-front : c.beginning_fragment ≡ false → true ≡ is_partially_sent x.recorded k
+    partial-front e = sym (ap not e) ∙ partial-is
 
     pub complete-idle : c.beginning_fragment ≡ true → tailing x.recorded now ≡ None
     complete-idle e = tailing-is ∙ ap (λ b. if not b && is_past now c.deadline then Some k else None) e
@@ -210,26 +210,26 @@ module _ (sum : List ℕ → ℕ) (x : State) (l : IsLinked sum x) (now : ℕ) w
 
   -- where it is partially sent and late the queue abandons it
   module _ (n : ℕ) (e : tailing x.recorded now ≡ Some n) where
-    told : queue.message_of (expiring_tail now x.outbound) ≡ Some n
-    told = tail-is x.recorded.setup x.recorded now x.outbound (facts sum x l).going l.outbound ∙ e
+    answered : queue.message_of (expiring_tail now x.outbound) ≡ Some n
+    answered = tail-is x.recorded.setup x.recorded now x.outbound (facts sum x l).going l.outbound ∙ e
 
     pub past_deadline : is_some (expiring_tail now x.outbound) ≡ true
-    past_deadline = by (expiring_tail now x.outbound) told
+    past_deadline = by (expiring_tail now x.outbound) answered
       where
         by : (o : Option ChunkPayloadData) → queue.message_of o ≡ Some n → is_some o ≡ true
         by None t = cc
         by (Some c) t = refl
 
     pub number-is : (a : ℕ) → queue.message_of (expiring_tail now x.outbound) ≡ Some a → a ≡ n
-    number-is a h = inner (sym h ∙ told)
+    number-is a h = inner (sym h ∙ answered)
 
     pub rest-fits : is_partially_sent x.recorded n ≡ true → nat_lt (length x.outbound.inflight.chunks + 1) (2 ^ 31) ≡ true
-    rest-fits half = half-fits sum x l (E.Tail now) n refl (ap (after_tail x.recorded) e) half
+    rest-fits partial = partial-fits sum x l (E.Tail now) n refl (ap (after_tail x.recorded) e) partial
 
     -- the stream that the queue answers is the message's
     stream-tail : (s : ℕ) → Some s ≡ option_map (λ (c : ChunkPayloadData). c.stream_identifier) (expiring_tail now x.outbound)
         → s ≡ (message_at x.recorded n).stream
-    stream-tail s = by (expiring_tail now x.outbound) refl told
+    stream-tail s = by (expiring_tail now x.outbound) refl answered
       where
         by : (o : Option ChunkPayloadData) → expiring_tail now x.outbound ≡ o → queue.message_of o ≡ Some n
             → Some s ≡ option_map (λ (c : ChunkPayloadData). c.stream_identifier) o → s ≡ (message_at x.recorded n).stream
@@ -245,7 +245,7 @@ module _ (sum : List ℕ → ℕ) (x : State) (l : IsLinked sum x) (now : ℕ) w
         → Gives x (E.Tail now) n s bytes q next
     gives-tail s bytes q next made es eq en eb =
         let f = facts sum x l in
-        let g = f.sane in
+        let g = f.consistent in
         let w = x.recorded in
         let o = queue.message_of (expiring_tail now x.outbound) in
         let is : after w (E.Tail now) ≡ after_abandon w n = ap (after_tail w) e in

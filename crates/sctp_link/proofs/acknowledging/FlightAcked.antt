@@ -72,11 +72,11 @@ either : (l a b : Bool) → l ≡ true → (l || a) ≡ (l || b)
 either l a b e = rw e refl
 
 -- the slots that it reports
-abbrev pub told : ℕ → List GapAckBlock → ℕ → Bool
-told top bs k = nat_lt k top || list_any (in_block top k) bs
+abbrev pub answered : ℕ → List GapAckBlock → ℕ → Bool
+answered top bs k = nat_lt k top || list_any (in_block top k) bs
 
 reports-at : (w : LinkRecord) (s : Sack) (top k : ℕ) (x : ChunkPayloadData) → w.setup.first < 2 ^ 32 → top < 2 ^ 31 → k < 2 ^ 31
-    → s.cumulative_tsn_ack ≡ cumulative_tsn w top → x.tsn ≡ tsn_of w k → reports s x ≡ told top s.gap_ack_blocks k
+    → s.cumulative_tsn_ack ≡ cumulative_tsn w top → x.tsn ≡ tsn_of w k → reports s x ≡ answered top s.gap_ack_blocks k
 reports-at w s top k x first short near cum tsn =
     ap (λ t. at_or_before t s.cumulative_tsn_ack || is_in_blocks s.gap_ack_blocks (distance s.cumulative_tsn_ack t)) tsn
     ∙ ap (λ c. at_or_before (tsn_of w k) c || is_in_blocks s.gap_ack_blocks (distance c (tsn_of w k))) cum
@@ -94,7 +94,7 @@ gone s = record { chunk = record s.chunk { payload = []; acknowledged = true }; 
 module _ (w : LinkRecord) (s : Sack) (top : ℕ) (first : w.setup.first < 2 ^ 32) (short : top < 2 ^ 31) (cum : s.cumulative_tsn_ack ≡ cumulative_tsn w top) where
   -- what it reports anew is acknowledged then
   pub marked-all : (acked : ℕ → Bool) (cs : List ChunkPayloadData) (from count : ℕ) → from + count ≤ 2 ^ 31 → IsInFlight w acked from count cs
-      → IsInFlight w (λ k. acked k || told top s.gap_ack_blocks k) from count (change_where (reports_anew s) as_acknowledged cs)
+      → IsInFlight w (λ k. acked k || answered top s.gap_ack_blocks k) from count (change_where (reports_anew s) as_acknowledged cs)
   marked-all acked [] from zero le e = refl
   marked-all acked [] from (suc count) le e = cc
   marked-all acked (c ∷ cs) from zero le e = cc
@@ -102,12 +102,12 @@ module _ (w : LinkRecord) (s : Sack) (top : ℕ) (first : w.setup.first < 2 ^ 32
       let head : sending_of c ≡ sending_by w (acked from) from = ap (λ l. head_of l (sending_of c)) e in
       let tail = ap tail_of e in
       let near : from < 2 ^ 31 = omega (arith, le) in
-      let test : reports_anew s c ≡ (not (acked from) && told top s.gap_ack_blocks from) =
+      let test : reports_anew s c ≡ (not (acked from) && answered top s.gap_ack_blocks from) =
       ap (λ x. not x.chunk.acknowledged && reports s c) head
       ∙ ap (λ b. not (acked from) && b) (reports-at w s top from c first short near cum (ap (λ x. x.chunk.tsn) head)) in
       ap (λ b. sending_of (if b then as_acknowledged c else c) ∷ map sending_of (change_where (reports_anew s) as_acknowledged cs)) test
-      ∙ ap (λ x. x ∷ map sending_of (change_where (reports_anew s) as_acknowledged cs)) (one (acked from) (told top s.gap_ack_blocks from) head)
-      ∙ ap (λ l. sending_by w (acked from || told top s.gap_ack_blocks from) from ∷ l) (marked-all acked cs (from + 1) count (omega (arith, le)) tail)
+      ∙ ap (λ x. x ∷ map sending_of (change_where (reports_anew s) as_acknowledged cs)) (one (acked from) (answered top s.gap_ack_blocks from) head)
+      ∙ ap (λ l. sending_by w (acked from || answered top s.gap_ack_blocks from) from ∷ l) (marked-all acked cs (from + 1) count (omega (arith, le)) tail)
     where
       one : (a r : Bool) → sending_of c ≡ sending_by w a from → sending_of (if not a && r then as_acknowledged c else c) ≡ sending_by w (a || r) from
       one true true h = h

@@ -23,7 +23,7 @@ use Rattle.sctp_model.specs.Changes.{after_ack}
 use Rattle.sctp_model.specs.Steps.{reply_to}
 use Rattle.sctp_refinement.proofs.acknowledging.SackMade.{blocks-are, reported-outbound}
 use Rattle.sctp_receiver.specs.Receiver.{Reception, filter_of, sack}
-use Rattle.sctp_receiver.specs.TsnFilter.{Filter, gap_ack_blocks, mark}
+use Rattle.sctp_receiver.specs.TsnFilter.{Filter, gap_ack_blocks, placeholder}
 use Rattle.sctp_link.specs.Encodings.{IsDatagram, packet_with, block_of}
 use Rattle.sctp_link.specs.Linked.{State, IsLinked}
 use Rattle.sctp_link.proofs.receiver.Came.{blocks-ends, tsns-beyond}
@@ -88,47 +88,48 @@ module _ (sum : List ℕ → ℕ) (x : State) (l : IsLinked sum x) (credit : ℕ
     pub cut-is : s.gap_ack_blocks ≡ take 16379 (gap_ack_blocks x.filter)
     cut-is = ap (λ (t : Sack). t.gap_ack_blocks) is ∙ ap (λ f. take 16379 (gap_ack_blocks f)) (sym same)
 
-    told-most : s.duplicate_tsn ≡ take (16379 - length s.gap_ack_blocks) x.filter.duplicates
-    told-most =
+    answered-most : s.duplicate_tsn ≡ take (16379 - length s.gap_ack_blocks) x.filter.duplicates
+    answered-most =
         ap (λ (t : Sack). t.duplicate_tsn) is ∙ ap (λ f. take (16379 - length (take 16379 (gap_ack_blocks (filter_of r)))) f.duplicates) (sym same)
         ∙ ap (λ bs. take (16379 - length bs) x.filter.duplicates) (sym (ap (λ (t : Sack). t.gap_ack_blocks) is))
 
-    told-length : length s.duplicate_tsn ≡ min (16379 - length s.gap_ack_blocks) (length x.filter.duplicates)
-    told-length = ap length told-most ∙ length-take (16379 - length s.gap_ack_blocks) x.filter.duplicates
+    answered-length : length s.duplicate_tsn ≡ min (16379 - length s.gap_ack_blocks) (length x.filter.duplicates)
+    answered-length = ap length answered-most ∙ length-take (16379 - length s.gap_ack_blocks) x.filter.duplicates
 
-    pub told-count : length s.duplicate_tsn ≡ min (16379 - length s.gap_ack_blocks) (length w.duplicates)
-    told-count = told-length ∙ ap (min (16379 - length s.gap_ack_blocks)) repeats-count
+    pub answered-count : length s.duplicate_tsn ≡ min (16379 - length s.gap_ack_blocks) (length w.duplicates)
+    answered-count = answered-length ∙ ap (min (16379 - length s.gap_ack_blocks)) repeats-count
 
-    pub told-is : s.duplicate_tsn ≡ take (length s.duplicate_tsn) x.filter.duplicates
-    told-is = told-most ∙ sym (take-min (16379 - length s.gap_ack_blocks) (length s.duplicate_tsn) x.filter.duplicates told-length)
+    pub answered-is : s.duplicate_tsn ≡ take (length s.duplicate_tsn) x.filter.duplicates
+    answered-is = answered-most ∙ sym (take-min (16379 - length s.gap_ack_blocks) (length s.duplicate_tsn) x.filter.duplicates answered-length)
 
     pub fits-encoding : 4 + length (sack_value s) < 2 ^ 16
-    fits-encoding = sack-short s (taken-short (gap_ack_blocks x.filter) s.gap_ack_blocks cut-is) (omega (arith, told-count))
+    fits-encoding = sack-short s (taken-short (gap_ack_blocks x.filter) s.gap_ack_blocks cut-is) (omega (arith, answered-count))
 
   module _ (all bs : List GapAckBlock) (runs : all ≡ gap_ack_blocks x.filter) (cut : bs ≡ take 16379 all) where
     pub blocks-made : map ends_of bs ≡ gap_blocks w
     blocks-made =
         let f = facts sum x l in
         ap (map ends_of) cut ∙ sym (take-map ends_of 16379 all) ∙ ap (take 16379) (ap (map ends_of) runs ∙ blocks-ends x.filter)
-        ∙ ap (λ t. take 16379 (runs_of (gap_offsets t (map mark x.filter.beyond)))) cumulative-is
-        ∙ sym (blocks-are w credit (map mark x.filter.beyond) f.valid.valid.skipped_made f.few (tsns-beyond w x.filter l.filter))
+        ∙ ap (λ t. take 16379 (runs_of (gap_offsets t (map placeholder x.filter.beyond)))) cumulative-is
+        ∙ sym (blocks-are w credit (map placeholder x.filter.beyond) f.valid.valid.skipped_made f.few (tsns-beyond w x.filter l.filter))
 
     blocks-count : length bs ≡ length (gap_blocks w)
     blocks-count = sym (length-mapped ends_of bs) ∙ ap length blocks-made
 
     module _ (count : ℕ) (counted : count ≡ min (16379 - length bs) (length w.duplicates)) where
-      pub repeats-told : take count w.duplicates ≡ (report_of w credit).duplicates
-      repeats-told = take-min (16379 - length bs) count w.duplicates counted ∙ ap (λ k. take (16379 - k) w.duplicates) blocks-count
+      pub repeats-answered : take count w.duplicates ≡ (report_of w credit).duplicates
+      repeats-answered = take-min (16379 - length bs) count w.duplicates counted ∙ ap (λ k. take (16379 - k) w.duplicates) blocks-count
 
-      tsns-told : take count x.filter.duplicates ≡ map (tsn_of w) (report_of w credit).duplicates
-      tsns-told = ap (take count) repeats-are ∙ take-map (tsn_of w) count w.duplicates ∙ ap (map (tsn_of w)) repeats-told
+      tsns-answered : take count x.filter.duplicates ≡ map (tsn_of w) (report_of w credit).duplicates
+      tsns-answered = ap (take count) repeats-are ∙ take-map (tsn_of w) count w.duplicates ∙ ap (map (tsn_of w)) repeats-answered
 
       pub report-is : (cum : ℕ) (blocks : List (ℕ × ℕ)) (repeats : List ℕ) → cum ≡ cumulative w → blocks ≡ map ends_of bs → repeats ≡ take count w.duplicates
           → (let r : W.Report = record { cumulative = cum; credit = credit; blocks = blocks; duplicates = repeats } in r) ≡ report_of w credit
       report-is cum blocks repeats a b c =
           ap (λ k. let r : W.Report = record { cumulative = k; credit = credit; blocks = blocks; duplicates = repeats } in r) a
           ∙ ap (λ k. let r : W.Report = record { cumulative = cumulative w; credit = credit; blocks = k; duplicates = repeats } in r) (b ∙ blocks-made)
-          ∙ ap (λ k. let r : W.Report = record { cumulative = cumulative w; credit = credit; blocks = gap_blocks w; duplicates = k } in r) (c ∙ repeats-told)
+          ∙ ap (λ k. let r : W.Report = record { cumulative = cumulative w; credit = credit; blocks = gap_blocks w; duplicates = k } in r)
+          (c ∙ repeats-answered)
 
       says : (s : Sack) → s.cumulative_tsn_ack ≡ x.filter.cumulative_tsn → s.advertised_receiver_window_credit ≡ credit → s.gap_ack_blocks ≡ bs
           → s.duplicate_tsn ≡ take count x.filter.duplicates → s ≡ (let t : Sack = record {
@@ -158,7 +159,7 @@ module _ (sum : List ℕ → ℕ) (x : State) (l : IsLinked sum x) (credit : ℕ
             advertised_receiver_window_credit = credit;
             gap_ack_blocks = map block_of (gap_blocks w);
             duplicate_tsn = k;
-          } in t) (d ∙ tsns-told)
+          } in t) (d ∙ tsns-answered)
 
       pub linked-ack : (s : Sack) (bytes : List ℕ) (filter : Filter) → s.cumulative_tsn_ack ≡ x.filter.cumulative_tsn → s.advertised_receiver_window_credit
           ≡ credit → s.gap_ack_blocks ≡ bs → s.duplicate_tsn ≡ take count x.filter.duplicates → bytes ≡ packet_encoding sum (packet_with (sack_chunk s ∷ []))

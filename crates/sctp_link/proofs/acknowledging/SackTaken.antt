@@ -55,8 +55,8 @@ use Rattle.sctp_link.specs.Encodings.{IsDatagram, block_of, packet_with}
 use Rattle.sctp_link.specs.Acking.{Acks, IsMarking, amount_with, and_run, and_blocks, in_block}
 use Rattle.sctp_link.proofs.upkeep.Facts.{facts, over, stands-then, says-still}
 use Rattle.sctp_link.proofs.acknowledging.AckLoops.{marking-same, any-at}
-use Rattle.sctp_link.proofs.acknowledging.FlightAcked.{told, covered-at, between, up-to-date, marked-all, front-leaves}
-use Rattle.sctp_link.proofs.acknowledging.StreamsLess.{with_amount, released_on, chunks_on, length-released, released-at, told-on, on-unacked}
+use Rattle.sctp_link.proofs.acknowledging.FlightAcked.{answered, covered-at, between, up-to-date, marked-all, front-leaves}
+use Rattle.sctp_link.proofs.acknowledging.StreamsLess.{with_amount, released_on, chunks_on, length-released, released-at, answered-on, on-unacked}
 use Rattle.sctp_link.proofs.sender.Flying.{flying}
 use Rattle.sctp_link.proofs.sender.Beginning.{index_kept, indexed-of}
 use Rattle.sctp_link.specs.OpenStreams.{fragment_slot}
@@ -107,7 +107,7 @@ abbrev pub Reported : LinkRecord → Type 0
 Reported w = (k : ℕ) (r : Report) → slice_get w.network k ≡ Some (Sack r) → (p : ℕ) → reports r p ≡ true → p < length w.slots
 
 reported-run : (setup : Setup) (h : History) → IsSetup setup → IsRun setup h → Reported (record_of setup h)
-reported-run setup h is run = λ k r e p t. Acknowledged.seen-made (record_of setup h) (log_of setup h) p (received-run setup h is run).known.heard
+reported-run setup h is run = λ k r e p t. Acknowledged.seen-made (record_of setup h) (log_of setup h) p (received-run setup h is run).known.arrivals
     (Acknowledged.sack-at (log_of setup h) (record_of setup h).network k (Sack r) (Acknowledged.sacks-run setup h is run) e p t)
 
 pub reported : (sum : List ℕ → ℕ) (x : State) (l : IsLinked sum x) → Reported x.recorded
@@ -160,7 +160,7 @@ acks sum x l =
       few = f.few;
       taken = f.taken;
       short = λ p lt. bytes-short x.recorded p l.setup.size;
-      shares = λ p t b c lt says. chunk-on x.recorded b p t c f.sane.sender lt says;
+      shares = λ p t b c lt says. chunk-on x.recorded b p t c f.consistent.sender lt says;
     }
 
 pub marking-first : (sum : List ℕ → ℕ) (x : State) (xs : List Slot) → IsLinked sum x → x.recorded.slots ≡ map slot_record xs
@@ -257,7 +257,7 @@ linked-taken sum x k r cs acked l acked_is none there e =
       low = l.low;
       open_streams = λ j d lt. let here : j < length x.open_streams = omega (arith, lt, length-mapped (as_left x.recorded r) x.open_streams) in
           subst (IsOpenStream (after_acked x.recorded (Some (Sack r)))) (sym (map-at (as_left x.recorded r) j x.open_streams d here))
-          (stream-left x.recorded r (slice_index_or x.open_streams j d) f.sane.sender (l.open_streams j d here));
+          (stream-left x.recorded r (slice_index_or x.open_streams j d) f.consistent.sender (l.open_streams j d here));
       apart = subst IsApart (sym (numbers-left x.recorded r x.open_streams)) l.apart;
       encodings = λ j d g there'.
           let says =
@@ -323,8 +323,8 @@ module _ (sum : List ℕ → ℕ) (x : State) (k : ℕ) (r : Report) (l : IsLink
         ∙ ap (is_in_blocks (map block_of r.blocks)) (let z : j + 1 - top + (top - r.cumulative) ≡ j + 1 - r.cumulative = omega (arith, le, top_is) in z)
         ∙ covered-at r.cumulative j (map block_of r.blocks) (omega (arith, le, top_is))
 
-    told-is : (j : ℕ) → (acknowledged_at x.recorded j || told top s.gap_ack_blocks j) ≡ acknowledged_then x.recorded r j
-    told-is j = elim (cases_lt j x.recorded.taken) [
+    answered-is : (j : ℕ) → (acknowledged_at x.recorded j || answered top s.gap_ack_blocks j) ≡ acknowledged_then x.recorded r j
+    answered-is j = elim (cases_lt j x.recorded.taken) [
       | inl old ↦ known (acknowledged_at x.recorded j) _ _ (below-first j old)
       | inr new ↦ elim (cases_lt j top) [
         | inl low ↦
@@ -344,8 +344,8 @@ module _ (sum : List ℕ → ℕ) (x : State) (k : ℕ) (r : Report) (l : IsLink
         front a b c d e f g = rw (f, g) refl
 
     -- what both loops acknowledge
-    loops-told : (j : ℕ) → and_blocks (and_run (acknowledged_at x.recorded) x.recorded.taken top) top s.gap_ack_blocks j ≡ acknowledged_then x.recorded r j
-    loops-told j = by ∙ told-is j
+    loops-answered : (j : ℕ) → and_blocks (and_run (acknowledged_at x.recorded) x.recorded.taken top) top s.gap_ack_blocks j ≡ acknowledged_then x.recorded r j
+    loops-answered j = by ∙ answered-is j
       where
         old : (a b c d : Bool) → a ≡ true → ((a || (b && c)) || d) ≡ (a || (c || d))
         old a b c d e = rw e refl
@@ -356,7 +356,7 @@ module _ (sum : List ℕ → ℕ) (x : State) (k : ℕ) (r : Report) (l : IsLink
         new false false c d e = cc
 
         by : and_blocks (and_run (acknowledged_at x.recorded) x.recorded.taken top) top s.gap_ack_blocks j
-            ≡ (acknowledged_at x.recorded j || told top s.gap_ack_blocks j)
+            ≡ (acknowledged_at x.recorded j || answered top s.gap_ack_blocks j)
         by = elim (cases_lt j x.recorded.taken) [
           | inl low ↦ old (acknowledged_at x.recorded j) (nat_le x.recorded.taken j) (nat_lt j top) _ (below-first j low)
           | inr high ↦ new (acknowledged_at x.recorded j) (nat_le x.recorded.taken j) (nat_lt j top) _ (le-leb x.recorded.taken j high)
@@ -438,16 +438,16 @@ module _ (sum : List ℕ → ℕ) (x : State) (k : ℕ) (r : Report) (l : IsLink
     after-is : after_sack s (flight_in x) ≡ take_sack s (flight_in x)
     after-is = ap (λ b. if b then flight_in x else take_sack s (flight_in x)) current
 
-    told-those : released_by s (flight_in x) ≡ map (released_of (is_whole s (flight_in x))) (filter (reports_anew s) x.outbound.inflight.chunks)
-    told-those = ap (λ b. if b then [] else map (released_of (is_whole s (flight_in x))) (filter (reports_anew s) x.outbound.inflight.chunks)) current
+    answered-those : released_by s (flight_in x) ≡ map (released_of (is_whole s (flight_in x))) (filter (reports_anew s) x.outbound.inflight.chunks)
+    answered-those = ap (λ b. if b then [] else map (released_of (is_whole s (flight_in x))) (filter (reports_anew s) x.outbound.inflight.chunks)) current
 
     marked : IsInFlight x.recorded (acknowledged_then x.recorded r) x.recorded.taken (length x.recorded.slots - x.recorded.taken)
         (change_where (reports_anew s) as_acknowledged x.outbound.inflight.chunks)
     marked =
         let f = facts sum x l in
         let few = f.few in
-        in-flight-same x.recorded (λ j. acknowledged_at x.recorded j || told top s.gap_ack_blocks j) (acknowledged_then x.recorded r) x.recorded.taken
-        (length x.recorded.slots - x.recorded.taken) (change_where (reports_anew s) as_acknowledged x.outbound.inflight.chunks) (λ j a b. told-is j)
+        in-flight-same x.recorded (λ j. acknowledged_at x.recorded j || answered top s.gap_ack_blocks j) (acknowledged_then x.recorded r) x.recorded.taken
+        (length x.recorded.slots - x.recorded.taken) (change_where (reports_anew s) as_acknowledged x.outbound.inflight.chunks) (λ j a b. answered-is j)
         (marked-all x.recorded s top first-fits top-short cum (acknowledged_at x.recorded) x.outbound.inflight.chunks x.recorded.taken
         (length x.recorded.slots - x.recorded.taken) (let t = f.taken in omega (arith, few, t)) (in-flight-first x.recorded x.outbound l.outbound))
 
@@ -480,8 +480,8 @@ module _ (sum : List ℕ → ℕ) (x : State) (k : ℕ) (r : Report) (l : IsLink
         (in-flight-first x.recorded x.outbound l.outbound) in
         let new = on-unacked x.recorded.setup.first x.recorded a (acknowledged_then x.recorded r) t (change_where (reports_anew s) as_acknowledged
         x.outbound.inflight.chunks) x.recorded.taken le (λ p lt. then-below x.recorded r p below-first (omega (arith, lt))) marked in
-        let less = told-on (is_whole s (flight_in x)) (reports_anew s) t x.outbound.inflight.chunks in
-        let had = (l.open_streams j d lt).amount ∙ amount-is x.recorded t f.sane.sender in
+        let less = answered-on (is_whole s (flight_in x)) (reports_anew s) t x.outbound.inflight.chunks in
+        let had = (l.open_streams j d lt).amount ∙ amount-is x.recorded t f.consistent.sender in
         released-at (map (released_of (is_whole s (flight_in x))) (filter (reports_anew s) x.outbound.inflight.chunks)) x.open_streams j d lt
         ∙ ap (λ m. with_amount m (slice_index_or x.open_streams j d)) (fewer (slice_index_or x.open_streams j d).state.buffered_amount
         (released_on t (map (released_of (is_whole s (flight_in x))) (filter (reports_anew s) x.outbound.inflight.chunks))) (on_stream x.recorded t
@@ -494,7 +494,7 @@ module _ (sum : List ℕ → ℕ) (x : State) (k : ℕ) (r : Report) (l : IsLink
     bytes-left : bytes_of x.outbound.inflight.chunks - bytes_of left-chunks ≡ growth x.recorded (after_acked x.recorded (Some (Sack r)))
     bytes-left =
         let f = facts sum x l in
-        let sender = f.sane.sender in
+        let sender = f.consistent.sender in
         let first = bytes-unacked x.recorded (acknowledged_at x.recorded) x.outbound.inflight.chunks x.recorded.taken sender f.taken below-first
         (in-flight-first x.recorded x.outbound l.outbound) in
         let last = bytes-unacked x.recorded (acknowledged_then x.recorded r) left-chunks (max x.recorded.taken r.cumulative) sender
@@ -511,13 +511,13 @@ module _ (sum : List ℕ → ℕ) (x : State) (k : ℕ) (r : Report) (l : IsLink
         → IsMarking x.recorded (and_blocks (and_run (acknowledged_at x.recorded) x.recorded.taken top) top s.gap_ack_blocks) xs → Taken sum x k now xs g top
     taken-all now xs g streams items moved marks =
         let items' : now ≡ after_releases (map (released_of (is_whole s (flight_in x))) (filter (reports_anew s) x.outbound.inflight.chunks)) x.open_streams =
-        items ∙ ap (λ t. after_releases t x.open_streams) told-those in
+        items ∙ ap (λ t. after_releases t x.open_streams) answered-those in
         let ls : now ≡ map (as_left x.recorded r) x.open_streams =
         items' ∙ streams-then x.recorded r x.open_streams
         (after_releases (map (released_of (is_whole s (flight_in x))) (filter (reports_anew s) x.outbound.inflight.chunks)) x.open_streams)
         (length-released (map (released_of (is_whole s (flight_in x))) (filter (reports_anew s) x.outbound.inflight.chunks)) x.open_streams) amounts in
         let slots = slots-then x.recorded r xs (marking-same x.recorded (and_blocks
-        (and_run (acknowledged_at x.recorded) x.recorded.taken top) top s.gap_ack_blocks) (acknowledged_then x.recorded r) xs loops-told marks) in
+        (and_run (acknowledged_at x.recorded) x.recorded.taken top) top s.gap_ack_blocks) (acknowledged_then x.recorded r) xs loops-answered marks) in
         let recorded : record_taken x.recorded now xs top ≡ after_acked x.recorded (Some (Sack r)) =
         ap (λ ys. record_taken x.recorded ys xs top) ls
         ∙ ap (λ rs. let v : LinkRecord = record x.recorded { streams = rs; slots = map slot_record xs; taken = top } in v)

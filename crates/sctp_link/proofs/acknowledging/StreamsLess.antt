@@ -81,10 +81,10 @@ none-on true = refl
 none-on false = refl
 
 -- what is acknowledged leaves
-pub told-on : (whole : ℕ → Bool) (p : ChunkPayloadData → Bool) (t : ℕ) (cs : List ChunkPayloadData)
+pub answered-on : (whole : ℕ → Bool) (p : ChunkPayloadData → Bool) (t : ℕ) (cs : List ChunkPayloadData)
     → released_on t (map (released_of whole) (filter p cs)) + chunks_on t (change_where p as_acknowledged cs) ≡ chunks_on t cs
-told-on whole p t [] = refl
-told-on whole p t (c ∷ cs) = step (p c) (told-on whole p t cs)
+answered-on whole p t [] = refl
+answered-on whole p t (c ∷ cs) = step (p c) (answered-on whole p t cs)
   where
     step : (b : Bool) → released_on t (map (released_of whole) (filter p cs)) + chunks_on t (change_where p as_acknowledged cs) ≡ chunks_on t cs
         → released_on t (map (released_of whole) (if b then c ∷ filter p cs else filter p cs))

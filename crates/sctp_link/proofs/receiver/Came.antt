@@ -20,9 +20,9 @@ use Rattle.sctp_refinement.specs.Holds.{seen_of}
 use Rattle.sctp_refinement.proofs.arriving.Filter.{tsn_before}
 use Rattle.sctp_refinement.proofs.arriving.FilterQueue.{new-is}
 use Rattle.sctp_refinement.proofs.arriving.SlotArrives
-use Rattle.sctp_receiver.specs.TsnFilter.{Filter, has_come, is_opposite, with_tsn, with_duplicate, skipped_to, offsets, gap_ack_blocks, block_of, mark}
-use Rattle.sctp_receiver.proofs.Marks as Marks
-use Rattle.sctp_receiver.proofs.Marks.{tsns-mark}
+use Rattle.sctp_receiver.specs.TsnFilter.{Filter, has_come, is_opposite, with_tsn, with_duplicate, skipped_to, offsets, gap_ack_blocks, block_of, placeholder}
+use Rattle.sctp_receiver.proofs.Placeholders as Placeholders
+use Rattle.sctp_receiver.proofs.Placeholders.{tsns-placeholder}
 use Rattle.sctp_link.specs.Linked.{filter_shown}
 use Rattle.sctp_model.proofs.receiver.Arrivals.{cumulative-le}
 use Rattle.sctp_serial.specs.DataChunks.{tsns}
@@ -57,9 +57,9 @@ past-front w p e = step (nat_le (cumulative w) p) (arrived_at w p) refl e
     step true b h e = grind (arith, nat_tests)
     step false b h e = cc
 
--- the TSNs beyond, as the marks that a queue keeps
-pub tsns-beyond : (w : LinkRecord) (f : Filter) → filter_shown f ≡ filter_of w → tsns (map mark f.beyond) ≡ (seen_of w).held
-tsns-beyond w f is = tsns-mark f.beyond ∙ ap (λ (r : FilterRecord). r.held) is
+-- the TSNs beyond, as the placeholders that a queue keeps
+pub tsns-beyond : (w : LinkRecord) (f : Filter) → filter_shown f ≡ filter_of w → tsns (map placeholder f.beyond) ≡ (seen_of w).held
+tsns-beyond w f is = tsns-placeholder f.beyond ∙ ap (λ (r : FilterRecord). r.held) is
 
 module _ (w : LinkRecord) (f : Filter) (made : w.skipped ≤ length w.slots) (few : length w.slots < 2 ^ 31) (is : filter_shown f ≡ filter_of w) where
   cumulative-is : f.cumulative_tsn ≡ tsn_before w.setup.first (cumulative w)
@@ -69,11 +69,11 @@ module _ (w : LinkRecord) (f : Filter) (made : w.skipped ≤ length w.slots) (fe
   pub come-is : (p : ℕ) → p < length w.slots → has_come (tsn_of w p) f ≡ not (is_new w p)
   come-is p lt =
       let t = tsn_of w p in
-      let queue : Window.is_new (map mark f.beyond) t f.cumulative_tsn ≡ not (has_come t f) =
-      Marks.new-is (map mark f.beyond) t f.cumulative_tsn
-      ∙ ap (λ ts. not (at_or_before t f.cumulative_tsn || list_any (λ u. u == t) ts)) (tsns-mark f.beyond) in
+      let queue : Window.is_new (map placeholder f.beyond) t f.cumulative_tsn ≡ not (has_come t f) =
+      Placeholders.new-is (map placeholder f.beyond) t f.cumulative_tsn
+      ∙ ap (λ ts. not (at_or_before t f.cumulative_tsn || list_any (λ u. u == t) ts)) (tsns-placeholder f.beyond) in
       turned (has_come t f) (is_new w p)
-      (sym queue ∙ ap (Window.is_new (map mark f.beyond) t) cumulative-is ∙ new-is w (map mark f.beyond) made few (tsns-beyond w f is) p lt)
+      (sym queue ∙ ap (Window.is_new (map placeholder f.beyond) t) cumulative-is ∙ new-is w (map placeholder f.beyond) made few (tsns-beyond w f is) p lt)
 
   far : (p : ℕ) → p < length w.slots → cumulative w ≤ p → distance f.cumulative_tsn (tsn_of w p) ≡ p + 1 - cumulative w
   far p lt le = ap (λ c. distance c (tsn_of w p)) cumulative-is ∙ ahead w.setup.first (cumulative w) p le (omega (arith, lt, few))
@@ -165,14 +165,14 @@ filter-gone w v tsn f then' is e seen same =
 
 -- ## What a SACK says of it
 
-distances-marks : (c : ℕ) (ts : List ℕ) → map (λ x. distance c x.tsn) (map mark ts) ≡ map (distance c) ts
-distances-marks c [] = refl
-distances-marks c (t ∷ ts) = ap (λ ds. distance c t ∷ ds) (distances-marks c ts)
+distances-placeholders : (c : ℕ) (ts : List ℕ) → map (λ x. distance c x.tsn) (map placeholder ts) ≡ map (distance c) ts
+distances-placeholders c [] = refl
+distances-placeholders c (t ∷ ts) = ap (λ ds. distance c t ∷ ds) (distances-placeholders c ts)
 
 ends-of-blocks : (rs : List (ℕ × ℕ)) → map ends_of (map block_of rs) ≡ rs
 ends-of-blocks [] = refl
 ends-of-blocks (r ∷ rs) = ap (λ l. r ∷ l) (ends-of-blocks rs)
 
--- its blocks are those of the queue of marks
-pub blocks-ends : (f : Filter) → map ends_of (gap_ack_blocks f) ≡ runs_of (gap_offsets f.cumulative_tsn (map mark f.beyond))
-blocks-ends f = ends-of-blocks (runs_of (offsets f)) ∙ ap (λ ds. runs_of (filter is_offset ds)) (sym (distances-marks f.cumulative_tsn f.beyond))
+-- its blocks are those of the queue of placeholders
+pub blocks-ends : (f : Filter) → map ends_of (gap_ack_blocks f) ≡ runs_of (gap_offsets f.cumulative_tsn (map placeholder f.beyond))
+blocks-ends f = ends-of-blocks (runs_of (offsets f)) ∙ ap (λ ds. runs_of (filter is_offset ds)) (sym (distances-placeholders f.cumulative_tsn f.beyond))

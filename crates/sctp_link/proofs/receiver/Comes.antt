@@ -52,17 +52,17 @@ says-data sum x k ps ds y l network same e is =
     (subst (λ ws. ReadsPacket sum (slice_index_or x.datagrams k y.bytes) (packet_with ws)) (said-wire x.recorded ps) t.reads)
 
 -- the places that a link keeps of a datagram
-pub places-kept : (ds : List Datagram) (k : ℕ) (y : Datagram) (told places : List ℕ) → slice_get (map datagram_record ds) k ≡ Some (W.Data places)
-    → y ≡ slice_index_or ds k y → kind_record y.kind ≡ W.Data told → told ≡ places
-places-kept [] k y told places e is kind = cc
-places-kept (d ∷ ds) zero y told places e is kind = inner (sym kind ∙ ap datagram_record is ∙ found (datagram_record d) e)
+pub places-kept : (ds : List Datagram) (k : ℕ) (y : Datagram) (answered places : List ℕ) → slice_get (map datagram_record ds) k ≡ Some (W.Data places)
+    → y ≡ slice_index_or ds k y → kind_record y.kind ≡ W.Data answered → answered ≡ places
+places-kept [] k y answered places e is kind = cc
+places-kept (d ∷ ds) zero y answered places e is kind = inner (sym kind ∙ ap datagram_record is ∙ found (datagram_record d) e)
   where
     found : (g : W.Datagram) → Some g ≡ Some (W.Data places) → g ≡ W.Data places
     found g h = cc
 
-    inner : W.Data told ≡ W.Data places → told ≡ places
+    inner : W.Data answered ≡ W.Data places → answered ≡ places
     inner h = cc
-places-kept (d ∷ ds) (suc k) y told places e is kind = places-kept ds k y told places e is kind
+places-kept (d ∷ ds) (suc k) y answered places e is kind = places-kept ds k y answered places e is kind
 
 -- a kind whose record is of slots is of slots
 pub kind-data : (ds : List Datagram) (k : ℕ) (y : Datagram) (places : List ℕ) → slice_get (map datagram_record ds) k ≡ Some (W.Data places)
@@ -75,8 +75,8 @@ kind-data (d ∷ ds) zero y places e is = ap datagram_record is ∙ found (datag
 kind-data (d ∷ ds) (suc k) y places e is = kind-data ds k y places e is
 
 -- no other kind has a record of slots
-pub never-other : (kind : Kind) (places : List ℕ) → ((told : Vec ℕ Global) → kind ≡ K.Data told → ⊥) → kind_record kind ≡ W.Data places → ⊥
-never-other (K.Data told) places other e = other told refl
+pub never-other : (kind : Kind) (places : List ℕ) → ((answered : Vec ℕ Global) → kind ≡ K.Data answered → ⊥) → kind_record kind ≡ W.Data places → ⊥
+never-other (K.Data answered) places other e = other answered refl
 never-other (K.Forward upto messages) places other e = cc
 never-other (K.Sack cumulative credit blocks duplicates) places other e = cc
 

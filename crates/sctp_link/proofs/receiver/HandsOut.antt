@@ -313,7 +313,7 @@ module _ (sum : List ℕ → ℕ) (x : State) (l : IsLinked sum x) (s at : ℕ) 
 
     -- it has its index, as some of it was sent
     sent-some : 0 < sent_of w read-is.0
-    sent-some = subst (λ n. 0 < sent_of w n) hands-begins.of (slot-sent (shape w) hands-begins.place (facts sum x l).sane.sender hands-begins.made)
+    sent-some = subst (λ n. 0 < sent_of w n) hands-begins.of (slot-sent (shape w) hands-begins.place (facts sum x l).consistent.sender hands-begins.made)
 
     pub reply-read : R.Message s (message_at w read-is.0).ppi set ≡ reply_to w (E.Read s)
     reply-read = ap (λ c. R.Message s (message_at w read-is.0).ppi c) read-is.2
@@ -471,7 +471,7 @@ marked m = record m { read = true }
 pub record IsHanded {C : Type 0} (a : Inside C) (n : ℕ) (y : Slot) (m : Message) : Type 0 where
   pub message : message_at (record_in a) n ≡ message_record m
   pub index : m.index ≡ index_kept (state_in a).progress n
-  pub marks : map message_record (slice_set a.messages.items y.message (marked m)) ≡ change_at mark_read n (record_in a).messages
+  pub reads : map message_record (slice_set a.messages.items y.message (marked m)) ≡ change_at mark_read n (record_in a).messages
   pub progress : map progress_of (slice_set a.messages.items y.message (marked m)) ≡ map progress_of a.messages.items
 
 module _ {C : Type 0} (sum : List ℕ → ℕ) (a : Inside C) (l : IsLinked sum (state_in a)) (s : ℕ) where
@@ -491,11 +491,11 @@ module _ {C : Type 0} (sum : List ℕ → ℕ) (a : Inside C) (l : IsLinked sum 
   module _ (p : IsPlaced s (sides_in a).streams) where
     pub none-handed : None ≡ option_map at_start (message_read p.d.inbound.queue.held)
         → message_read (slice_index_or (sides_in a).streams p.at p.d).inbound.queue.held ≡ None
-    none-handed told = ap (λ (y : OpenStream). message_read y.inbound.queue.held) p.here ∙ none-mapped (message_read p.d.inbound.queue.held) told
+    none-handed answered = ap (λ (y : OpenStream). message_read y.inbound.queue.held) p.here ∙ none-mapped (message_read p.d.inbound.queue.held) answered
 
     pub some-handed : (r : Chunks) → Some r ≡ option_map at_start (message_read p.d.inbound.queue.held)
         → message_read (slice_index_or (sides_in a).streams p.at p.d).inbound.queue.held ≡ Some r.set
-    some-handed r told = ap (λ (y : OpenStream). message_read y.inbound.queue.held) p.here ∙ some-mapped (message_read p.d.inbound.queue.held) r told
+    some-handed r answered = ap (λ (y : OpenStream). message_read y.inbound.queue.held) p.here ∙ some-mapped (message_read p.d.inbound.queue.held) r answered
 
     module _ (r : Chunks) (e : message_read (slice_index_or (sides_in a).streams p.at p.d).inbound.queue.held ≡ Some r.set) where
       abbrev pub handed : ℕ
@@ -529,7 +529,7 @@ module _ {C : Type 0} (sum : List ℕ → ℕ) (a : Inside C) (l : IsLinked sum 
             record {
               message = message-raw sum (state_in a) l a.slots.items a.messages.items refl refl handed m handed-made ∙ ap message_record (sym here);
               index = ap (λ (t : Message). t.index) here ∙ sym (kept-raw sum (state_in a) l a.slots.items a.messages.items refl refl refl handed m handed-made);
-              marks = ap (λ i. map message_record (slice_set a.messages.items i (marked m))) number-handed
+              reads = ap (λ i. map message_record (slice_set a.messages.items i (marked m))) number-handed
                   ∙ map-set message_record mark_read a.messages.items handed (marked m) m handed-made (ap (λ (t : Message). message_record (marked t)) here);
               progress = map-set_same progress_of a.messages.items y.message (marked m) m (ap progress_of is);
             }

@@ -103,25 +103,25 @@ module _ (sum : List ℕ → ℕ) (x : State) (l : IsLinked sum x) (slots : List
         ap (λ (t : Message). t.index) (t ∙ ap (λ k. slice_index_or messages k m) (lead-number y z))
         ∙ sym (kept-raw kept n m (omega (arith, made, messages-made)))
         ∙ l.indexes n (subst (λ k. 0 < sent_of x.recorded k) led.of
-        (slot-sent (shape x.recorded) (place_of x.recorded (slice_index_or chunks 0 d).tsn) (facts sum x l).sane.sender led.made)) o
+        (slot-sent (shape x.recorded) (place_of x.recorded (slice_index_or chunks 0 d).tsn) (facts sum x l).consistent.sender led.made)) o
 
 -- ## What is told of an open stream
 
-pub none-told : (o : Option OpenStream) → None ≡ option_map (λ l. l.next) o → o ≡ None
-none-told None e = refl
-none-told (Some l) e = cc
+pub none-answered : (o : Option OpenStream) → None ≡ option_map (λ l. l.next) o → o ≡ None
+none-answered None e = refl
+none-answered (Some l) e = cc
 
-pub told-next : (o : Option OpenStream) (n : ℕ) → Some n ≡ option_map (λ l. l.next) o → (l : OpenStream) × ((o ≡ Some l) × (n ≡ l.next))
-told-next None n e = cc
-told-next (Some l) n e = (l, (refl, inner e))
+pub answered-next : (o : Option OpenStream) (n : ℕ) → Some n ≡ option_map (λ l. l.next) o → (l : OpenStream) × ((o ≡ Some l) × (n ≡ l.next))
+answered-next None n e = cc
+answered-next (Some l) n e = (l, (refl, inner e))
   where
     inner : Some n ≡ Some l.next → n ≡ l.next
     inner h = cc
 
-pub told-queue : (o : Option OpenStream) (l : OpenStream) (q : ReassemblyState) → o ≡ Some l → Some q ≡ option_map (λ l. l.inbound.queue) o
+pub answered-queue : (o : Option OpenStream) (l : OpenStream) (q : ReassemblyState) → o ≡ Some l → Some q ≡ option_map (λ l. l.inbound.queue) o
     → q ≡ l.inbound.queue
-told-queue None l q f e = cc
-told-queue (Some k) l q f e = inner e ∙ ap (λ (t : OpenStream). t.inbound.queue) (same f)
+answered-queue None l q f e = cc
+answered-queue (Some k) l q f e = inner e ∙ ap (λ (t : OpenStream). t.inbound.queue) (same f)
   where
     inner : Some q ≡ Some k.inbound.queue → q ≡ k.inbound.queue
     inner h = cc
@@ -192,7 +192,7 @@ module _ (sum : List ℕ → ℕ) (x : State) (l : IsLinked sum x) (p : ℕ) (c 
   come-message = (facts sum x l).valid.valid.made n p (Arrival.has-fragment x.recorded p c.fragment)
 
   pub come-index : (message_at x.recorded n).ordered ≡ true → index_kept x.progress n ≡ index_of x.recorded n
-  come-index o = l.indexes n (slot-sent (shape x.recorded) p (facts sum x l).sane.sender c.made) o
+  come-index o = l.indexes n (slot-sent (shape x.recorded) p (facts sum x l).consistent.sender c.made) o
 
 pub none-there : (n : ℕ) → (0 < n → false ≡ true) → n ≡ 0
 none-there zero h = refl

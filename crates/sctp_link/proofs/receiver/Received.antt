@@ -21,7 +21,7 @@ use Rattle.sctp_model.specs.Steps.{History, IsRun, record_of, refusal_of, after,
 use Rattle.sctp_model.specs.Laws.{IsSetup}
 use Rattle.sctp_model.specs.Valid.{ComesValid, AllFragments}
 use Rattle.sctp_model.proofs.sender.Shape.{Shape, shape, index, parts}
-use Rattle.sctp_model.proofs.sender.SenderRun.{Sane, sane-run, sane-received}
+use Rattle.sctp_model.proofs.sender.SenderRun.{Consistent, consistent-run, consistent-received}
 use Rattle.sctp_model.proofs.sender.Network
 use Rattle.sctp_model.proofs.receiver.ValidRun.{slots_come_valid}
 use Rattle.sctp_model.proofs.acknowledgement.Bytes.{size-some}
@@ -76,7 +76,7 @@ module _ (setup : Setup) (h : History) (is : IsSetup setup) (run : IsRun setup h
   abbrev w : LinkRecord
   w = record_of setup h
 
-  comes-one : (v : LinkRecord) (front : List ℕ) (p : ℕ) (qs : List ℕ) → v ≡ fold receive_slot w front → Sane setup v
+  comes-one : (v : LinkRecord) (front : List ℕ) (p : ℕ) (qs : List ℕ) → v ≡ fold receive_slot w front → Consistent setup v
       → slice_get w.network k ≡ Some (Data (front ++ p ∷ qs)) → Comes v p (chunk_at w p)
   comes-one v front p qs eq g e =
       let valid : ComesValid v p = subst (λ u. ComesValid u p) (sym eq) (slots_come_valid setup h is run k front p qs none e) in
@@ -98,13 +98,13 @@ module _ (setup : Setup) (h : History) (is : IsSetup setup) (run : IsRun setup h
             (λ o. valid.near (message_at v n).stream (SlotArrives.ordered-on v (message_at v n).stream p (enters v p c new) o) new) short held limit;
       }
 
-  comes-from : (v : LinkRecord) (front rest : List ℕ) → v ≡ fold receive_slot w front → Sane setup v → slice_get w.network k ≡ Some (Data (front ++ rest))
+  comes-from : (v : LinkRecord) (front rest : List ℕ) → v ≡ fold receive_slot w front → Consistent setup v → slice_get w.network k ≡ Some (Data (front ++ rest))
       → AllCome v rest (map (chunk_at w) rest)
   comes-from v front [] eq g e = tt
   comes-from v front (p ∷ qs) eq g e = (
     comes-one v front p qs eq g e,
     comes-from (receive_slot v p) (front ++ p ∷ []) qs (ap (λ u. receive_slot u p) eq ∙ sym (fold-append receive_slot w front (p ∷ [])))
-        (sane-received setup v p g) (e ∙ ap (λ ps. Some (Data ps)) (sym (assoc front p qs))),
+        (consistent-received setup v p g) (e ∙ ap (λ ps. Some (Data ps)) (sym (assoc front p qs))),
   )
     where
       assoc : (xs : List ℕ) (y : ℕ) (ys : List ℕ) → (xs ++ y ∷ []) ++ ys ≡ xs ++ y ∷ ys
@@ -112,7 +112,7 @@ module _ (setup : Setup) (h : History) (is : IsSetup setup) (run : IsRun setup h
       assoc (x ∷ xs) y ys = ap (λ zs. x ∷ zs) (assoc xs y ys)
 
   comes-run : (ps : List ℕ) → slice_get w.network k ≡ Some (Data ps) → AllCome w ps (map (chunk_at w) ps)
-  comes-run ps e = comes-from w [] ps refl (sane-run setup h run) e
+  comes-run ps e = comes-from w [] ps refl (consistent-run setup h run) e
 
 -- so do those of a datagram of a link
 pub all-come : (sum : List ℕ → ℕ) (x : State) (l : IsLinked sum x) (k : ℕ) (ps : List ℕ) → refusal_of x.recorded (E.Arrive k) ≡ None
@@ -194,7 +194,7 @@ module _ (sum : List ℕ → ℕ) (x : State) (l : IsLinked sum x) (k : ℕ) (ps
       (λ i. next-arrive x.recorded.setup l.history k t ps i) e
 
   counters-stay : (t : ℕ) → counters_on then' t ≡ counters_on here t
-  counters-stay t = let f = facts sum x l in counters-same here.setup here (E.Arrive k) t f.sane refl refl
+  counters-stay t = let f = facts sum x l in counters-same here.setup here (E.Arrive k) t f.consistent refl refl
 
   module _ (y : Sides) (slots : List Slot) (dups : List ℕ) (r : IsReceiver (fold receive_slot x.recorded ps) y)
       (cores : map core y.streams ≡ map core x.open_streams) (slots_are : (fold receive_slot x.recorded ps).slots ≡ map slot_record slots)
@@ -273,4 +273,4 @@ module _ (sum : List ℕ → ℕ) (x : State) (l : IsLinked sum x) (k : ℕ) (ps
   all-inside i lt = (fragment-at ps i all-fragments lt).0
 
   pub all-carried : (i : ℕ) → i < length ps → Carried x.recorded (slice_index_or ps i 0)
-  all-carried i lt = let f = fragment-at ps i all-fragments lt in carried x.recorded.setup x.recorded (slice_index_or ps i 0) (facts sum x l).sane f.0 f.1
+  all-carried i lt = let f = fragment-at ps i all-fragments lt in carried x.recorded.setup x.recorded (slice_index_or ps i 0) (facts sum x l).consistent f.0 f.1

@@ -13,7 +13,7 @@ use Rattle.sctp_model.proofs.sender.Network
 use Rattle.sctp_refinement.proofs.arriving.SlotArrives
 use Rattle.sctp_receiver.specs.declared.receiver.arrival.Arrival.{Arrival}
 use Rattle.sctp_receiver.specs.declared.receiver.arrival.Arrival.TheVariants.{New, Repeat}
-use Rattle.sctp_receiver.specs.Receiver.{arrival_of, is_told_complete}
+use Rattle.sctp_receiver.specs.Receiver.{arrival_of, is_answered_complete}
 use Rattle.sctp_link.specs.Sides.{Sides, reception_of, CanTake, TakesEach}
 use Rattle.sctp_link.specs.declared.record.Slot.{Slot}
 use Rattle.sctp_link.specs.Records.{slot_record}
@@ -109,5 +109,5 @@ came f [] (c ∷ cs) bs w x y num r m t = absurd m
 came f (p ∷ ps) [] bs w x y num r m t = absurd m
 came f (p ∷ ps) (c ∷ cs) [] w x y num r m t = absurd t
 came f (p ∷ ps) (c ∷ cs) (a ∷ bs) w x y num r m t =
-    let o = one w x r p c m.0 (f p) (is_told_complete a) a t.0 (num p) t.1.0.answer t.1.0.taken in
+    let o = one w x r p c m.0 (f p) (is_answered_complete a) a t.0 (num p) t.1.0.answer t.1.0.taken in
     came-more w x t.0 y p ps a bs o (came f ps cs bs (receive_slot w p) t.0 y (λ q. num q ∙ sym (numbers-stay w p q)) o.receiver m.1 t.1.1)

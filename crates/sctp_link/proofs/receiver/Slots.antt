@@ -104,8 +104,8 @@ module _ (w : LinkRecord) (x : Sides) (r : IsReceiver w x) (p : ℕ) (c : ChunkP
   id-is = ap (λ (y : ChunkPayloadData). y.stream_identifier) m.chunk
 
   -- whether its TSN came, as the record says
-  told : has_come c.tsn f ≡ not (is_new w p)
-  told = ap (λ t. has_come t f) tsn-is ∙ come-is w f m.valid.valid.skipped_made m.valid.valid.few r.filter_is p m.valid.made
+  answered : has_come c.tsn f ≡ not (is_new w p)
+  answered = ap (λ t. has_come t f) tsn-is ∙ come-is w f m.valid.valid.skipped_made m.valid.valid.few r.filter_is p m.valid.made
 
   -- its stream is open
   there : (l : OpenStream) × (find (has_number c.stream_identifier) x.streams ≡ Some l)
@@ -165,7 +165,7 @@ module _ (w : LinkRecord) (x : Sides) (r : IsReceiver w x) (p : ℕ) (c : ChunkP
     noted-is = ap (λ b. if b then note_completion (with_arrived w p) n else record w { duplicates = w.duplicates ++ p ∷ [] }) new
 
     fresh : has_come c.tsn f ≡ false
-    fresh = told ∙ ap not new
+    fresh = answered ∙ ap not new
 
     near : is_opposite c.tsn f ≡ false
     near = ap (λ t. is_opposite t f) tsn-is ∙ near-is w f m.valid.valid.skipped_made m.valid.valid.few r.filter_is p m.valid.made new
@@ -338,7 +338,7 @@ module _ (w : LinkRecord) (x : Sides) (r : IsReceiver w x) (p : ℕ) (c : ChunkP
       rest-refusal = stream_refusal c (inbound_of c.stream_identifier (reception_of x))
 
       by : (b : Bool) → is_new w p ≡ b → data_refusal c (reception_of x) ≡ None
-      by false old = ap (λ b. if b then None else (if is_opposite c.tsn f then Some TsnOpposite else rest-refusal)) (told ∙ ap not old)
+      by false old = ap (λ b. if b then None else (if is_opposite c.tsn f then Some TsnOpposite else rest-refusal)) (answered ∙ ap not old)
       by true new =
           ap (λ b. if b then None else (if is_opposite c.tsn f then Some TsnOpposite else rest-refusal)) (fresh new)
           ∙ ap (λ b. if b then Some TsnOpposite else rest-refusal) (near new)
@@ -350,11 +350,11 @@ module _ (w : LinkRecord) (x : Sides) (r : IsReceiver w x) (p : ℕ) (c : ChunkP
       → Takes c number a x u → One w x p a u
   one number complete a u number_is e t = by a e t (is_new w p) refl
     where
-      told-is : (b : Bool) → is_new w p ≡ b → arrival_of c.tsn complete (reception_of x) ≡ (if not b then Repeat else New complete)
-      told-is b h = ap (λ b. if b then Repeat else New complete) (told ∙ ap not h)
+      answered-is : (b : Bool) → is_new w p ≡ b → arrival_of c.tsn complete (reception_of x) ≡ (if not b then Repeat else New complete)
+      answered-is b h = ap (λ b. if b then Repeat else New complete) (answered ∙ ap not h)
 
       by : (a : Arrival) → a ≡ arrival_of c.tsn complete (reception_of x) → Takes c number a x u → (b : Bool) → is_new w p ≡ b → One w x p a u
       by (New said) e t true h = one-new h said number u number_is t
-      by (New said) e t false h = let z : New said ≡ Repeat = e ∙ told-is false h in cc
-      by Repeat e t true h = let z : Repeat ≡ New complete = e ∙ told-is true h in cc
+      by (New said) e t false h = let z : New said ≡ Repeat = e ∙ answered-is false h in cc
+      by Repeat e t true h = let z : Repeat ≡ New complete = e ∙ answered-is true h in cc
       by Repeat e t false h = one-again h u t

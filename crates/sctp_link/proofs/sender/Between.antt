@@ -133,7 +133,7 @@ next-unstarted q tsn now (Some c) = refl
 module _ (states : List StreamState) (inbounds : List InboundStream) (x : State) (now : ℕ) (v : LinkRecord) (s : Outgoing)
     (b : Between states inbounds x now v s) where
   few : length v.slots < 2 ^ 31
-  few = Few.few x.recorded.setup v b.going.sane
+  few = Few.few x.recorded.setup v b.going.consistent
 
   count-same : length v.messages ≡ length x.recorded.messages
   count-same = ap (λ (z : LinkRecord). length z.messages) b.only ∙ length-mapped (start_lifetime now) x.recorded.messages
@@ -183,14 +183,14 @@ module _ (states : List StreamState) (inbounds : List InboundStream) (x : State)
         arith,
         found-begun t y e,
         length-kept-le (is_begun_on v y.state.stream_identifier) 0 (length v.messages),
-        messages-few x.recorded.setup v b.going.sane,
+        messages-few x.recorded.setup v b.going.consistent,
       )
 
   -- ## It can leave
 
   module _ (n : ℕ) (fr : front v ≡ Some n) where
     takes : Takes (shape v) n
-    takes = front-takes (shape v) n b.going.sane.sender fr
+    takes = front-takes (shape v) n b.going.consistent.sender fr
 
     made-of : n < length x.recorded.messages
     made-of = let t = takes.made in omega (arith, t, count-same)
@@ -274,7 +274,7 @@ module _ (states : List StreamState) (inbounds : List InboundStream) (x : State)
 
       -- the stream of the message is open, and its count is the record's
       opened : M.is_open v f.message.stream ≡ true
-      opened = ap (M.is_open v) (stream-is n made-of f.message at) ∙ b.going.sane.known n takes.made
+      opened = ap (M.is_open v) (stream-is n made-of f.message at) ∙ b.going.consistent.known n takes.made
 
       begun-is : begun_of f.message.stream s.progress ≡ begun_on v f.message.stream
       begun-is = begun-joined states inbounds s.progress b.alike f.message.stream
@@ -292,7 +292,7 @@ module _ (states : List StreamState) (inbounds : List InboundStream) (x : State)
           let g = took (begins f.message) (begun_of f.message.stream s.progress) in
           let ps = map progress_of s.messages in
           subst (λ y. Indexed y (index_kept (change_at g n ps))) (sym shape-then)
-          (indexed-taken (shape v) n (index_kept ps) (index_kept (change_at g n ps)) b.going.sane.sender takes
+          (indexed-taken (shape v) n (index_kept ps) (index_kept (change_at g n ps)) b.going.consistent.sender takes
           (λ k ne. ap (λ p. p.1) (changed-other g n k ps (0, 0) ne))
           (ap (λ p. p.1) (changed-same g n ps (0, 0) (omega (arith, made-of, long)))
           ∙ ap (λ b. if b then begun_of f.message.stream s.progress else index_kept ps n) (begins-is n made-of f.message at)

@@ -18,4 +18,4 @@ flying w q t =
 -- where the record may have one slot more, a further TSN may be given out
 pub one-more-fits : (setup : Setup) (w v : LinkRecord) (q : Outbound) → Going setup v → length v.slots ≡ length w.slots + 1 → RefinesOutbound w q
     → length q.inflight.chunks + 1 < 2 ^ 31
-one-more-fits setup w v q g more t = omega (arith, Few.few setup v g.sane, more, flying w q t)
+one-more-fits setup w v q g more t = omega (arith, Few.few setup v g.consistent, more, flying w q t)

@@ -75,21 +75,21 @@ module _ (sum : List ℕ → ℕ) (x : State) (l : IsLinked sum x) (s : ℕ) (ok
   stream-new : IsOpenStream (after_open x.recorded s) (new_open_stream s x.recorded.setup.size x.recorded.setup.largest)
   stream-new =
       let a : reassembly_of (after_open x.recorded s) s ≡ (let q : Reassembly = record { next_ssn = 0; ordered = []; unordered = []; unassembled = [] } in q) =
-      Opened.opened-same x.recorded s s closed ∙ Opened.closed-empty x.recorded.setup x.recorded s f.sane closed in
+      Opened.opened-same x.recorded s s closed ∙ Opened.closed-empty x.recorded.setup x.recorded s f.consistent closed in
       let n : next_of (after_open x.recorded s) s ≡ 0 = subst (λ u. next_of (after_open u s) s ≡ next_of u s) (sym l.stands.is)
       (next-same x.recorded.setup l.history (E.Open s) s l.setup l.stands.run (ap (λ u. refusal_of u (E.Open s)) (sym l.stands.is) ∙ ok) tt)
-      ∙ Opened.next x.recorded.setup x.recorded s f.sane closed in
+      ∙ Opened.next x.recorded.setup x.recorded s f.consistent closed in
       record {
         held = sym a;
         si = refl;
         largest = refl;
         size = refl;
-        ordered = sym (ap length (Opened.line x.recorded.setup x.recorded s f.sane closed));
+        ordered = sym (ap length (Opened.line x.recorded.setup x.recorded s f.consistent closed));
         number = refl;
-        begun = sym (begun-closed x.recorded.setup x.recorded s f.sane closed);
+        begun = sym (begun-closed x.recorded.setup x.recorded s f.consistent closed);
         next = sym n;
-        amount = sym (amount-none x.recorded.setup x.recorded s f.sane closed);
-        stats = sym (ap stats_of (counters-none x.recorded.setup x.recorded s f.sane closed));
+        amount = sym (amount-none x.recorded.setup x.recorded s f.consistent closed);
+        stats = sym (ap stats_of (counters-none x.recorded.setup x.recorded s f.consistent closed));
       }
 
   -- and no open stream has its number

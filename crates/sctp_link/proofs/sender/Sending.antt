@@ -75,7 +75,7 @@ module _ (sum : List ℕ → ℕ) (x : State) (l : IsLinked sum x) where
           record {
             front = fr ∙ ap Some own;
             is = same ∙ ap (λ k. waiting_at x.recorded k (M.sent_of x.recorded k)) own;
-            made = let t = (front-takes (shape x.recorded) n (facts sum x l).sane.sender fr).made in omega (arith, t, own);
+            made = let t = (front-takes (shape x.recorded) n (facts sum x l).consistent.sender fr).made in omega (arith, t, own);
           }
 
       by : (o : Option ℕ) → front x.recorded ≡ o → Next x.recorded c
@@ -204,7 +204,7 @@ module _ (sum : List ℕ → ℕ) (x : State) (l : IsLinked sum x) (now n : ℕ)
       record { encoding = encoding ∙ ap (λ ws. packet_encoding sum (packet_with ws)) e; reads = subst (λ ws. ReadsPacket sum bytes (packet_with ws)) e reads }
 
   quiet : Quiet w (after_send w now)
-  quiet = Moves.quiet-sent w.setup w now (front w) (facts sum x l).sane
+  quiet = Moves.quiet-sent w.setup w now (front w) (facts sum x l).consistent
 
   before : (t : ℕ) → ordered_before (after_send w now) t (length (after_send w now).messages) ≡ ordered_before w t (length w.messages)
   before t = ap (λ y. ordered_before y t (length y.messages)) sent-moves ∙ ap (ordered_before u t) (length-mapped (start_lifetime now) w.messages)

@@ -24,7 +24,7 @@ use Rattle.sctp_model.specs.Amounts.{in_all, written_bytes}
 use Rattle.sctp_model.specs.Changes.{after_write, message_on}
 use Rattle.sctp_model.specs.Steps.{refusal_of, reply_to, fragments_accepted, fragments_in}
 use Rattle.sctp_model.proofs.sender.Shape.{shape}
-use Rattle.sctp_model.proofs.sender.SenderRun.{Sane, sane-after}
+use Rattle.sctp_model.proofs.sender.SenderRun.{Consistent, consistent-after}
 use Rattle.sctp_refinement.proofs.sending.Begun.{Indexed}
 use Rattle.sctp_model.proofs.sender.Moves
 use Rattle.sctp_refinement.specs.Refines.{RefinesOutbound}
@@ -92,11 +92,11 @@ module _ (sum : List ℕ → ℕ) (x : State) (l : IsLinked sum x) (s : ℕ) (pp
   f : Facts x.recorded
   f = facts sum x l
 
-  sane-new : Sane x.recorded.setup v
-  sane-new = sane-after x.recorded.setup x.recorded (E.Write s ppi bytes) ok f.sane
+  consistent-new : Consistent x.recorded.setup v
+  consistent-new = consistent-after x.recorded.setup x.recorded (E.Write s ppi bytes) ok f.consistent
 
   pub few : in_all w (written_bytes w) + length bytes < 2 ^ 47
-  few = omega (arith, written-few x.recorded.setup v l.setup sane-new, written-wrote w s ppi bytes)
+  few = omega (arith, written-few x.recorded.setup v l.setup consistent-new, written-wrote w s ppi bytes)
 
   module _ (m : OpenStream) (here : find (has_number s) x.open_streams ≡ Some m) where
     i : IsOpenStream w m
@@ -150,11 +150,12 @@ module _ (sum : List ℕ → ℕ) (x : State) (l : IsLinked sum x) (s : ℕ) (pp
         stream-same w v t
         (record {
           setup = refl;
-          held = held-quiet sum x l (E.Write s ppi bytes) ok (Moves.quiet-written w.setup w s ppi bytes f.sane) n;
+          held = held-quiet sum x l (E.Write s ppi bytes) ok (Moves.quiet-written w.setup w s ppi bytes f.consistent) n;
           ordered = before-wrote n ∙ ap (λ c. ordered_before w n (length w.messages) + (if c && is_ordered m.state.unordered ppi then 1 else 0)) off'
               ∙ plus-none (ordered_before w n (length w.messages));
           next = next-same n;
-          amount = amount-wrote w.setup w s n ppi bytes l.setup f.sane ok ∙ ap (λ c. amount w n + (if c then length bytes else 0)) off ∙ plus-none (amount w n);
+          amount = amount-wrote w.setup w s n ppi bytes l.setup f.consistent ok ∙ ap (λ c. amount w n + (if c then length bytes else 0)) off
+              ∙ plus-none (amount w n);
           counters = counters-wrote w s n ppi bytes ok
               ∙ ap (λ c. if c && not (length bytes == 0) then sent_more (counted_as ppi (length bytes)) (counters_on w n) else counters_on w n) off;
         }) (begun-kept sum x l (E.Write s ppi bytes) ok tt n) j
@@ -170,11 +171,11 @@ module _ (sum : List ℕ → ℕ) (x : State) (l : IsLinked sum x) (s : ℕ) (pp
         let n = m.state.stream_identifier in
         let on : (s == n) ≡ true = ap (λ k. s == k) own ∙ same-yes s in
         let on' : (n == s) ≡ true = ap (λ k. k == s) own ∙ same-yes s in
-        let grown : amount v n ≡ amount w n + length bytes = amount-wrote w.setup w s n ppi bytes l.setup f.sane ok
+        let grown : amount v n ≡ amount w n + length bytes = amount-wrote w.setup w s n ppi bytes l.setup f.consistent ok
         ∙ ap (λ c. amount w n + (if c then length bytes else 0)) on' in
         let short = amount-few sum x n l in
         record {
-          held = i.held ∙ sym (held-quiet sum x l (E.Write s ppi bytes) ok (Moves.quiet-written w.setup w s ppi bytes f.sane) n);
+          held = i.held ∙ sym (held-quiet sum x l (E.Write s ppi bytes) ok (Moves.quiet-written w.setup w s ppi bytes f.consistent) n);
           si = i.si;
           largest = i.largest;
           size = i.size;
@@ -209,7 +210,7 @@ module _ (sum : List ℕ → ℕ) (x : State) (l : IsLinked sum x) (s : ℕ) (pp
     outbound-wrote : (q : Outbound) → RefinesOutbound w q → RefinesOutbound v (with_message frags q)
     outbound-wrote q t =
         let mode : ChunkPayloadData → ChunkPayloadData = with_reliability m.state.reliability_type m.state.reliability_value in
-        let known = f.sane.sender.made in
+        let known = f.consistent.sender.made in
         let r = stream_of w s in
         let waits = all-wait w m.state r ppi bytes (ap (λ (r : StreamRecord). r.stream) stream-is) (ap (λ (r : StreamRecord). r.unordered) stream-is)
         (ap (λ (r : StreamRecord). r.reliability) stream-is) (ap (λ (r : StreamRecord). r.value) stream-is) i.size
@@ -227,7 +228,7 @@ module _ (sum : List ℕ → ℕ) (x : State) (l : IsLinked sum x) (s : ℕ) (pp
         ∙ by_last {P = (slice_index_or x.progress k (0, 0)).0 ≡ sent_of v k} k (length w.messages) (omega (arith, less, length-append w.messages (msg ∷ [])))
         (λ old. l.sents k old ∙ sym (sent-kept k))
         (λ z. ap (λ j. (slice_index_or x.progress j (0, 0)).0) (z ∙ sym count) ∙ ap (λ (p : ℕ × ℕ). p.0) (past-last x.progress)
-        ∙ sym (ap (sent_of v) z ∙ Written.unsent w msg f.sane.sender.made))
+        ∙ sym (ap (sent_of v) z ∙ Written.unsent w msg f.consistent.sender.made))
       where
         sent-kept : (k : ℕ) → sent_of v k ≡ sent_of w k
         sent-kept k = refl

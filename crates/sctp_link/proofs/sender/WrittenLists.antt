@@ -91,14 +91,14 @@ module _ (sum : List ℕ → ℕ) (x : State) (l : IsLinked sum x) (s : ℕ) (pp
           arith,
           i.ordered,
           length-kept-le (M.is_ordered_on x.recorded m.state.stream_identifier) 0 (length x.recorded.messages),
-          messages-few x.recorded.setup x.recorded (facts sum x l).sane,
+          messages-few x.recorded.setup x.recorded (facts sum x l).consistent,
         )
 
     -- the sender takes it
     not-full : is_full_of (length bytes) x.outbound ≡ false
     not-full =
         let queued = queued-few sum x l in
-        let few = messages-few x.recorded.setup x.recorded (facts sum x l).sane in
+        let few = messages-few x.recorded.setup x.recorded (facts sum x l).consistent in
         let a : nat_lt (x.outbound.next_message_id + 1)
         (2 ^ 64) ≡ true = (let lt : x.outbound.next_message_id + 1 < 2 ^ 64 = omega (arith, l.outbound.next, few) in grind (arith, nat_tests)) in
         let b : nat_lt (total_bytes x.outbound + length bytes) (2 ^ 64) ≡ true =

@@ -94,14 +94,14 @@ of-inbound g None = refl
 of-inbound g (Some l) = refl
 
 -- none is told of none
-pub told-none : {A B C : Type 0} (g : A → B) (h : A → C) (o : Option A) (x : Option B) → x ≡ option_map g o → x ≡ None → None ≡ option_map h o
-told-none g h None x e none = refl
-told-none g h (Some y) x e none = cc
+pub answered-none : {A B C : Type 0} (g : A → B) (h : A → C) (o : Option A) (x : Option B) → x ≡ option_map g o → x ≡ None → None ≡ option_map h o
+answered-none g h None x e none = refl
+answered-none g h (Some y) x e none = cc
 
-pub both-told : (o : Option OpenStream) (x y : Option DataChannelStats) (sent read : DataChannelStats) → x ≡ option_map (λ l. l.state.stats) o
+pub both-answered : (o : Option OpenStream) (x y : Option DataChannelStats) (sent read : DataChannelStats) → x ≡ option_map (λ l. l.state.stats) o
     → y ≡ option_map (λ l. l.inbound.stats) o → x ≡ Some sent → y ≡ Some read → Some (both_ways sent read) ≡ option_map stats_in o
-both-told None x y sent read e f sends reads = cc
-both-told (Some l) x y sent read e f sends reads =
+both-answered None x y sent read e f sends reads = cc
+both-answered (Some l) x y sent read e f sends reads =
     let s : sent ≡ l.state.stats = cc in
     let r : read ≡ l.inbound.stats = cc in
     ap (λ z. Some (both_ways z read)) s ∙ ap (λ z. Some (both_ways l.state.stats z)) r
@@ -202,20 +202,21 @@ module _ (t : Transmission) (r : Reception) (ps : List Standing) (a : IsAligned 
 
   -- ## A stream by its number
 
-  pub state-told : {B : Type 0} (g : StreamState → B) (s : ℕ) (o : Option B) → o ≡ option_map g (S.stream_of s t)
+  pub state-answered : {B : Type 0} (g : StreamState → B) (s : ℕ) (o : Option B) → o ≡ option_map g (S.stream_of s t)
       → o ≡ option_map (λ l. g l.state) (stream_in s (sides t r ps))
-  state-told g s o e = e ∙ ap (option_map g) (sym (state-in t r ps a s)) ∙ of-state g (stream_in s (sides t r ps))
+  state-answered g s o e = e ∙ ap (option_map g) (sym (state-in t r ps a s)) ∙ of-state g (stream_in s (sides t r ps))
 
-  pub inbound-told : {B : Type 0} (g : InboundStream → B) (s : ℕ) (o : Option B) → o ≡ option_map g (R.stream_of s r)
+  pub inbound-answered : {B : Type 0} (g : InboundStream → B) (s : ℕ) (o : Option B) → o ≡ option_map g (R.stream_of s r)
       → o ≡ option_map (λ l. g l.inbound) (stream_in s (sides t r ps))
-  inbound-told g s o e = e ∙ ap (option_map g) (sym (inbound-in t r ps a s)) ∙ of-inbound g (stream_in s (sides t r ps))
+  inbound-answered g s o e = e ∙ ap (option_map g) (sym (inbound-in t r ps a s)) ∙ of-inbound g (stream_in s (sides t r ps))
 
-  pub next-told : (s : ℕ) (o : Option ℕ) → o ≡ option_map (λ p. p.next) (find (Progress.has_number s) ps)
+  pub next-answered : (s : ℕ) (o : Option ℕ) → o ≡ option_map (λ p. p.next) (find (Progress.has_number s) ps)
       → o ≡ option_map (λ l. l.next) (stream_in s (sides t r ps))
-  next-told s o e = e ∙ sym (found-progress (λ (l : OpenStream). l.next) (λ (p : Standing). p.next) (λ s i p. refl) s t.streams r.streams ps (alike t r ps a))
+  next-answered s o e = e
+      ∙ sym (found-progress (λ (l : OpenStream). l.next) (λ (p : Standing). p.next) (λ s i p. refl) s t.streams r.streams ps (alike t r ps a))
 
-  pub ordered-told : (s : ℕ) (l : OpenStream) → stream_in s (sides t r ps) ≡ Some l → Progress.ordered_in (find (Progress.has_number s) ps) ≡ l.ordered
-  ordered-told s l e = by (find (Progress.has_number s) ps)
+  pub ordered-answered : (s : ℕ) (l : OpenStream) → stream_in s (sides t r ps) ≡ Some l → Progress.ordered_in (find (Progress.has_number s) ps) ≡ l.ordered
+  ordered-answered s l e = by (find (Progress.has_number s) ps)
       (sym (found-progress (λ (l : OpenStream). l.ordered) (λ (p : Standing). p.ordered) (λ s i p. refl) s t.streams r.streams ps (alike t r ps a))
       ∙ ap (option_map (λ (l : OpenStream). l.ordered)) e)
     where
@@ -223,8 +224,8 @@ module _ (t : Transmission) (r : Reception) (ps : List Standing) (a : IsAligned 
       by None h = cc
       by (Some p) h = some-same h
 
-  pub open-told : (s : ℕ) → is_some (find (Progress.has_number s) ps) ≡ is_some (stream_in s (sides t r ps))
-  open-told s = mapped (λ (p : Standing). p.next) (find (Progress.has_number s) ps)
+  pub open-answered : (s : ℕ) → is_some (find (Progress.has_number s) ps) ≡ is_some (stream_in s (sides t r ps))
+  open-answered s = mapped (λ (p : Standing). p.next) (find (Progress.has_number s) ps)
       ∙ ap is_some (sym (found-progress (λ (l : OpenStream). l.next) (λ (p : Standing). p.next) (λ s i p. refl) s t.streams r.streams ps (alike t r ps a)))
       ∙ sym (mapped (λ (l : OpenStream). l.next) (stream_in s (sides t r ps)))
     where
@@ -232,9 +233,9 @@ module _ (t : Transmission) (r : Reception) (ps : List Standing) (a : IsAligned 
       mapped g None = refl
       mapped g (Some x) = refl
 
-  pub number-told : (k : ℕ) (d : Standing) (e : OpenStream) → k < length ps
+  pub number-answered : (k : ℕ) (d : Standing) (e : OpenStream) → k < length ps
       → (slice_index_or ps k d).number ≡ (slice_index_or (join_each t.streams r.streams ps) k e).state.stream_identifier
-  number-told k d e lt = same-at Progress.number number ps (join_each t.streams r.streams ps) k d e (sym a.progresses ∙ sym (numbers-are t r ps a)) lt
+  number-answered k d e lt = same-at Progress.number number ps (join_each t.streams r.streams ps) k d e (sym a.progresses ∙ sym (numbers-are t r ps a)) lt
 
   -- ## A write
 

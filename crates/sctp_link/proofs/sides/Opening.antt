@@ -18,7 +18,7 @@ use Rattle.sctp_link.specs.Streams.{OpenStream, join_each, has_number, new_open_
 use Rattle.sctp_link.specs.Sides.{Sides, IsAligned, stream_in, opened_on, sides}
 use Rattle.sctp_link.proofs.sides.Joined.{joined-more}
 use Rattle.sctp_link.proofs.sides.Aligned.{alike, state-in, inbound-in}
-use Rattle.sctp_link.proofs.sides.Changes.{open-told}
+use Rattle.sctp_link.proofs.sides.Changes.{open-answered}
 
 pub on-error : {T E P : Type 0} (r : Result T E) (b : Bool) → b ≡ is_err r → b ≡ true → OnErr r P → P
 on-error (Ok x) b e t p = cc
@@ -38,7 +38,7 @@ none-of (Some x) e = cc
 
 module _ (t : Transmission) (r : Reception) (ps : List Standing) (a : IsAligned t r ps) (s : ℕ) (none : stream_in s (sides t r ps) ≡ None) where
   pub no-progress : find (Progress.has_number s) ps ≡ None
-  no-progress = none-of (find (Progress.has_number s) ps) (open-told t r ps a s ∙ ap is_some none)
+  no-progress = none-of (find (Progress.has_number s) ps) (open-answered t r ps a s ∙ ap is_some none)
 
   no-state : find (Outgoing.has_number s) t.streams ≡ None
   no-state = sym (state-in t r ps a s) ∙ ap (λ o. option_map (λ (l : OpenStream). l.state) o) none

@@ -12,7 +12,7 @@ use Rattle.sctp_receiver.specs.declared.receiver.inbound_streams.InboundStream.{
 use Rattle.sctp_receiver.specs.declared.receiver.refusal.ReceiverRefusal.{ReceiverRefusal}
 use Rattle.sctp_receiver.specs.Inbound.{Pushes, PushesAs, with_queue}
 use Rattle.sctp_receiver.specs.Receiver as R
-use Rattle.sctp_receiver.specs.Receiver.{Reception, is_told_complete, data_refusal}
+use Rattle.sctp_receiver.specs.Receiver.{Reception, is_answered_complete, data_refusal}
 use Rattle.sctp_receiver.proofs.DataEach.{takes-keeps}
 use Rattle.sctp_sender.specs.Outgoing as Outgoing
 use Rattle.sctp_sender.specs.Sender.{Transmission}
@@ -29,14 +29,14 @@ use Rattle.sctp_link.proofs.sides.Changes.{twice, same-found}
 -- ## Whether a message became complete
 
 -- a push, and whether a message became complete by it
-record Told (c : ChunkPayloadData) (complete : Bool) (old new : ReassemblyState) : Type 0 where
+record Answered (c : ChunkPayloadData) (complete : Bool) (old new : ReassemblyState) : Type 0 where
   ordered : c.unordered ≡ false → new ≡ after_ordered_push c old
   unordered : c.unordered ≡ true → PushesUnordered c old new complete
 
-told : (c : ChunkPayloadData) (complete : Bool) (old new : ReassemblyState) → Pushes c complete old new → Told c complete old new
-told c complete old new p = by c.unordered refl p
+answered : (c : ChunkPayloadData) (complete : Bool) (old new : ReassemblyState) → Pushes c complete old new → Answered c complete old new
+answered c complete old new p = by c.unordered refl p
   where
-    by : (u : Bool) → c.unordered ≡ u → PushesAs u c complete old new → Told c complete old new
+    by : (u : Bool) → c.unordered ≡ u → PushesAs u c complete old new → Answered c complete old new
     by false e q = record {
       ordered = λ _. q.0;
       unordered = λ z. let no : false ≡ true = sym e ∙ z in absurd (cc);
@@ -102,7 +102,7 @@ takes-one t r ps a apart c n (New b) x h =
     let kept : OpenStream = record l { inbound = with_queue h.queue l.inbound; complete = if gone then l.complete ++ n ∷ [] else l.complete } in
     let k = takes-keeps c (New b) r x h in
     let mid = with-receiver t r ps a x k.0 k.1 (takes-limits c (New b) r x h) in
-    let pushed = told c b l.inbound.queue h.queue (subst (λ (i : InboundStream). Pushes c b i.queue h.queue) (sym there.1.1) h.pushed) in
+    let pushed = answered c b l.inbound.queue h.queue (subst (λ (i : InboundStream). Pushes c b i.queue h.queue) (sym there.1.1) h.pushed) in
     let streams : join_each t.streams x.streams (after_one c n (New b) ps) ≡ change_where (has_number s) (λ _. kept) old =
     after-joined t x ps mid apart s n gone
     ∙ ap (change_where (has_number s) (completed gone n)) (ap (λ (z : Reception). join_each t.streams z.streams ps) h.after
@@ -145,7 +145,7 @@ each-taken t r s ps (c ∷ cs) (n ∷ ns) (b ∷ bs) a apart le h = (
   sides t h.0 (after_one c n b ps),
   (
     record {
-      answer = h.1.0.answer ∙ ap (R.arrival_of c.tsn (is_told_complete b)) (sym (reception-is t r ps a));
+      answer = h.1.0.answer ∙ ap (R.arrival_of c.tsn (is_answered_complete b)) (sym (reception-is t r ps a));
       taken = takes-one t r ps a apart c n b h.0 h.1.0.taken;
     },
     each-taken t h.0 s (after_one c n b ps) cs ns bs (taken-aligned t r ps a c n b h.0 h.1.0.taken) apart (omega (arith, le)) h.1.1,
@@ -166,7 +166,7 @@ never-stops t r ps (d ∷ cs) (n ∷ ns) a apart can zero [] mid c e h at why =
 never-stops t r ps (d ∷ cs) (n ∷ ns) a apart can zero (b ∷ bs) mid c e h at why = h
 never-stops t r ps (d ∷ cs) (n ∷ ns) a apart can (suc count) [] mid c e h at why = h
 never-stops t r ps (d ∷ cs) (n ∷ ns) a apart can (suc count) (b ∷ bs) mid c e h at why =
-    let told = h.1.0.answer ∙ ap (R.arrival_of d.tsn (is_told_complete b)) (sym (reception-is t r ps a)) in
-    let next = subst (λ z. Takes d n z (sides t r ps) (sides t h.0 (after_one d n b ps))) told (takes-one t r ps a apart d n b h.0 h.1.0.taken) in
+    let answered = h.1.0.answer ∙ ap (R.arrival_of d.tsn (is_answered_complete b)) (sym (reception-is t r ps a)) in
+    let next = subst (λ z. Takes d n z (sides t r ps) (sides t h.0 (after_one d n b ps))) answered (takes-one t r ps a apart d n b h.0 h.1.0.taken) in
     never-stops t h.0 (after_one d n b ps) cs ns (taken-aligned t r ps a d n b h.0 h.1.0.taken) apart
-    (can.2 (is_told_complete b) (sides t h.0 (after_one d n b ps)) next) count bs mid c e h.1.1 at why
+    (can.2 (is_answered_complete b) (sides t h.0 (after_one d n b ps)) next) count bs mid c e h.1.1 at why

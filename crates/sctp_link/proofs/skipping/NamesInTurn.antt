@@ -102,7 +102,7 @@ module _ (sum : List ℕ → ℕ) (x : State) (l : IsLinked sum x) (k upto : ℕ
       let f = facts sum x l in
       let skips = skips-in sum x l k upto names e in
       let sp = spans sum x l k upto names none e counts s (ap is_some o) in
-      let ssns = names-in-turn w upto s names f.sane.sender skips.fit in
+      let ssns = names-in-turn w upto s names f.consistent.sender skips.fit in
       held-each (ssns_of s (pairs_of w names)) q
       ∙ ap (λ is. held_after_ordered_skips is q.held) ssns
       ∙ ap (held_after_ordered_skips (map (λ n. index_of w n % 2 ^ 16) (on_stream w s names))) held

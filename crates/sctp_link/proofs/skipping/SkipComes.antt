@@ -162,7 +162,7 @@ first-over w s a = by (held_on w s)
 pub lowest-short : (sum : List ℕ → ℕ) (x : State) → IsLinked sum x → (s : ℕ) → lowest_held x.recorded s < 2 ^ 31
 lowest-short sum x l s =
     let f = facts sum x l in
-    omega (arith, next-short x.recorded s f.valid.valid, least-start x.recorded s, messages-few x.recorded.setup x.recorded f.sane)
+    omega (arith, next-short x.recorded s f.valid.valid, least-start x.recorded s, messages-few x.recorded.setup x.recorded f.consistent)
 
 -- the code's test against the one of the record
 pub record Judged (w : LinkRecord) (s : ℕ) (names : List ℕ) (lo hi : ℕ) (nm : Named) : Type 0 where
@@ -251,7 +251,7 @@ pub stream-fits : (sum : List ℕ → ℕ) (x : State) (l : IsLinked sum x) (s u
     && fits (with_skip x.recorded upto names) (map (index_of x.recorded) (on_stream x.recorded s names)) s) ≡ names_fit x.recorded s names
 stream-fits sum x l s upto names r e =
     let f = facts sum x l in
-    fits-both x.recorded s upto names r f.valid.valid e (messages-few x.recorded.setup x.recorded f.sane)
+    fits-both x.recorded s upto names r f.valid.valid e (messages-few x.recorded.setup x.recorded f.consistent)
 
 -- all of them
 pub all-fit : (sum : List ℕ → ℕ) (x : State) (l : IsLinked sum x) (upto : ℕ) (names : List ℕ) → cumulative x.recorded ≤ upto
@@ -281,17 +281,17 @@ kept-kind (d ∷ ds) zero y lt is = ap (λ (z : Datagram). Some (kind_record z.k
 kept-kind (d ∷ ds) (suc k) y lt is = kept-kind ds k y (omega arith) is
 
 -- the names that a link keeps of a datagram
-pub names-kept : (ds : List Datagram) (k : ℕ) (y : Datagram) (u upto : ℕ) (told names : List ℕ)
-    → slice_get (map datagram_record ds) k ≡ Some (Forward upto names) → y ≡ slice_index_or ds k y → kind_record y.kind ≡ Forward u told → told ≡ names
-names-kept [] k y u upto told names e is kind = cc
-names-kept (d ∷ ds) zero y u upto told names e is kind = inner (sym kind ∙ ap datagram_record is ∙ found (datagram_record d) e)
+pub names-kept : (ds : List Datagram) (k : ℕ) (y : Datagram) (u upto : ℕ) (answered names : List ℕ)
+    → slice_get (map datagram_record ds) k ≡ Some (Forward upto names) → y ≡ slice_index_or ds k y → kind_record y.kind ≡ Forward u answered → answered ≡ names
+names-kept [] k y u upto answered names e is kind = cc
+names-kept (d ∷ ds) zero y u upto answered names e is kind = inner (sym kind ∙ ap datagram_record is ∙ found (datagram_record d) e)
   where
     found : (g : W.Datagram) → Some g ≡ Some (Forward upto names) → g ≡ Forward upto names
     found g h = cc
 
-    inner : Forward u told ≡ Forward upto names → told ≡ names
+    inner : Forward u answered ≡ Forward upto names → answered ≡ names
     inner h = cc
-names-kept (d ∷ ds) (suc k) y u upto told names e is kind = names-kept ds k y u upto told names e is kind
+names-kept (d ∷ ds) (suc k) y u upto answered names e is kind = names-kept ds k y u upto answered names e is kind
 
 pub same-names : (w : LinkRecord) (k upto : ℕ) (names others : List ℕ) → slice_get w.network k ≡ Some (Forward upto names)
     → slice_get w.network k ≡ Some (Forward upto others) → names ≡ others

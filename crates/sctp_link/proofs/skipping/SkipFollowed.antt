@@ -76,7 +76,7 @@ module _ (sum : List ℕ → ℕ) (x : State) (l : IsLinked sum x) (k upto : ℕ
   quiet = subst (QuietSender.SameToSender w) (sym (ap (after_arrive w) e)) (QuietSender.same-skip w upto names)
 
   counters-stay : (t : ℕ) → counters_on v t ≡ counters_on w t
-  counters-stay t = counters-same w.setup w (E.Arrive k) t (facts sum x l).sane refl refl
+  counters-stay t = counters-same w.setup w (E.Arrive k) t (facts sum x l).consistent refl refl
 
   skips : Skips w upto names
   skips = skips-in sum x l k upto names e

@@ -87,7 +87,7 @@ module _ (sum : List ℕ → ℕ) (x : State) (l : IsLinked sum x) (upto : ℕ) 
   v = with_datagram x.recorded (Forward upto names)
 
   fit : NamesFit (shape w) upto names
-  fit = names-fit w upto names (facts sum x l).sane.sender (accepted w upto names ok).can
+  fit = names-fit w upto names (facts sum x l).consistent.sender (accepted w upto names ok).can
 
   module _ (ms : List Message) (messages_are : x.recorded.messages ≡ map message_record ms) (progress_are : x.progress ≡ map progress_of ms) where
     pub skip-says : (f : ForwardTsn) → f.new_cumulative_tsn ≡ tsn_of w upto → f.streams ≡ map (pair_in ms) names → f ≡ wire_skip w upto names

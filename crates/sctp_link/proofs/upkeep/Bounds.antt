@@ -12,7 +12,7 @@ use Rattle.sctp_model.specs.Messages.{message_at, fragment_count}
 use Rattle.sctp_model.specs.Amounts.{in_all, on_stream, written_bytes, pending_bytes, in_flight_bytes, released_bytes}
 use Rattle.sctp_model.specs.Steps.{fragments_accepted}
 use Rattle.sctp_model.specs.Laws.{IsSetup}
-use Rattle.sctp_model.proofs.sender.SenderRun.{Sane}
+use Rattle.sctp_model.proofs.sender.SenderRun.{Consistent}
 use Rattle.sctp_model.proofs.acknowledgement.Bytes.{balances}
 use Rattle.sctp_refinement.specs.Amount.{amount}
 use Rattle.sctp_refinement.specs.Refines.{RefinesOutbound}
@@ -37,7 +37,7 @@ total-times f g [] le = omega arith
 total-times f g (n ∷ ns) le = omega (arith, le n, total-times f g ns le)
 
 -- the bytes written, by the fragments that are accepted
-pub written-few : (setup : Setup) (w : LinkRecord) → IsSetup w.setup → Sane setup w → in_all w (written_bytes w) < 2 ^ 47
+pub written-few : (setup : Setup) (w : LinkRecord) → IsSetup w.setup → Consistent setup w → in_all w (written_bytes w) < 2 ^ 47
 written-few setup w is g =
     let each : (n : ℕ) → written_bytes w n ≤ 65519 * fragment_count w n =
     λ n. pieces-many (length (message_at w n).bytes) w.setup.size (message_at w n).bytes is.some is.size (omega arith) in
@@ -50,7 +50,7 @@ ones from zero = refl
 ones from (suc count) = omega (arith, ones (from + 1) count)
 
 -- each message has a fragment
-pub messages-few : (setup : Setup) (w : LinkRecord) → Sane setup w → length w.messages < 2 ^ 31
+pub messages-few : (setup : Setup) (w : LinkRecord) → Consistent setup w → length w.messages < 2 ^ 31
 messages-few setup w g =
     let all = total-le (λ n. 1) (fragment_count w) 0 (length w.messages) (λ k a b. let some = g.sender.some k (omega (arith, b)) in omega (arith, some)) in
     let few : fragments_accepted w < 2 ^ 31 = g.accepted in

@@ -13,7 +13,7 @@ use Rattle.sctp_model.specs.Steps.{History, StandsFor, IsRun, record_of, refusal
 use Rattle.sctp_model.specs.Laws.{IsSetup}
 use Rattle.sctp_model.specs.Valid.{IsValid}
 use Rattle.sctp_model.proofs.sender.Shape.{shape}
-use Rattle.sctp_model.proofs.sender.SenderRun.{Sane, sane-run}
+use Rattle.sctp_model.proofs.sender.SenderRun.{Consistent, consistent-run}
 use Rattle.sctp_model.proofs.sender.Few
 use Rattle.sctp_model.proofs.sender.Network.{AllFit, fit-run, datagrams_stay}
 use Rattle.sctp_model.proofs.receiver.Spans.{spans_fit_always}
@@ -26,7 +26,7 @@ use Rattle.sctp_link.specs.Linked.{State, IsLinked}
 -- what every record that a history leads to keeps
 pub record Facts (w : LinkRecord) : Type 0 where
   pub setup : IsSetup w.setup
-  pub sane : Sane w.setup w
+  pub consistent : Consistent w.setup w
   pub going : Going w.setup w
   pub valid : IsValid w
   pub spans : spans_fit w [] ≡ true
@@ -41,14 +41,14 @@ pub record Facts (w : LinkRecord) : Type 0 where
 of-run : (setup : Setup) (h : History) → IsSetup setup → IsRun setup h → (record_of setup h).setup ≡ setup → Facts (record_of setup h)
 of-run setup h is run same =
     let w = record_of setup h in
-    let sane : Sane w.setup w = subst (λ s. Sane s w) (sym same) (sane-run setup h run) in
+    let consistent : Consistent w.setup w = subst (λ s. Consistent s w) (sym same) (consistent-run setup h run) in
     record {
       setup = subst IsSetup (sym same) is;
-      sane = sane;
+      consistent = consistent;
       going = subst (λ s. Going s w) (sym same) (going-run setup h run);
       valid = record_is_valid setup h is run;
       spans = spans_fit_always setup h is run;
-      few = Few.few w.setup w sane;
+      few = Few.few w.setup w consistent;
       taken = taken-run setup h is run;
       fit = fit-run setup h run;
       largest = λ n lt. let le = no-larger setup h n is run lt in subst (λ s. length (message_at w n).bytes ≤ s.largest) (sym same) le;

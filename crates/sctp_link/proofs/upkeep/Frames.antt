@@ -16,7 +16,7 @@ use Rattle.sctp_model.specs.Steps.{refusal_of, after, fragments_accepted, record
 use Rattle.sctp_model.specs.Amounts.{in_all, written_bytes}
 use Rattle.sctp_model.specs.Log.{log_of}
 use Rattle.sctp_model.specs.Queues.{filter_of}
-use Rattle.sctp_model.proofs.sender.SenderRun.{sane-run, sane-after}
+use Rattle.sctp_model.proofs.sender.SenderRun.{consistent-run, consistent-after}
 use Rattle.sctp_model.proofs.sender.Moves.{Quiet}
 use Rattle.sctp_model.proofs.sender.Shape.{shape}
 use Rattle.sctp_model.proofs.receiver.Received.{received-run}
@@ -27,7 +27,7 @@ use Rattle.sctp_refinement.specs.Indexes.{begun_on}
 use Rattle.sctp_refinement.proofs.sending.Begun.{Indexed}
 use Rattle.sctp_refinement.proofs.sending.BegunRun.{SendsNone, none-after, counted-after}
 use Rattle.sctp_refinement.proofs.amounts.MessageSums.{sum-same}
-use Rattle.sctp_refinement.proofs.amounts.ToldSums.{told-after}
+use Rattle.sctp_refinement.proofs.amounts.AnsweredSums.{answered-after}
 use Rattle.sctp_refinement.proofs.amounts.StreamCounters.{written-same, counters-same}
 use Rattle.sctp_refinement.proofs.amounts.StreamAmounts.{amount-same}
 use Rattle.sctp_model.proofs.receiver.ValidRun.{record_is_valid}
@@ -79,7 +79,7 @@ module _ (sum : List ℕ → ℕ) (x : State) (l : IsLinked sum x) (e : Event) (
   v = after x.recorded e
 
   pub setup-same : v.setup ≡ w.setup
-  setup-same = (sane-after w.setup w e ok (facts sum x l).sane).setup_is
+  setup-same = (consistent-after w.setup w e ok (facts sum x l).consistent).setup_is
 
   -- a datagram that was there
   pub encoding-old : (k : ℕ) (d : List ℕ) (g : W.Datagram) → slice_get w.network k ≡ Some g → slice_get v.network k ≡ Some g
@@ -119,25 +119,26 @@ module _ (sum : List ℕ → ℕ) (x : State) (l : IsLinked sum x) (e : Event) (
   pub held-quiet : Quiet w v → (t : ℕ) → reassembly_of v t ≡ reassembly_of w t
   held-quiet q t =
       subst (λ u. refusal_of u e ≡ None → Quiet u (after u e) → reassembly_of (after u e) t ≡ reassembly_of u t) (sym l.stands.is)
-      (λ ok' q'. let g = sane-run w.setup l.history l.stands.run in reassembly-quiet w.setup (record_of w.setup l.history)
-      (after (record_of w.setup l.history) e) (log_of w.setup l.history) g (sane-after w.setup (record_of w.setup l.history) e ok' g) q'
+      (λ ok' q'. let g = consistent-run w.setup l.history l.stands.run in reassembly-quiet w.setup (record_of w.setup l.history)
+      (after (record_of w.setup l.history) e) (log_of w.setup l.history) g (consistent-after w.setup (record_of w.setup l.history) e ok' g) q'
       (received-run w.setup l.history l.setup l.stands.run) (record_is_valid w.setup l.history l.setup l.stands.run) t)
       ok q
 
   pub filter-kept : Quiet w v → filter_of v ≡ filter_of w
   filter-kept q =
       subst (λ u. refusal_of u e ≡ None → Quiet u (after u e) → filter_of (after u e) ≡ filter_of u) (sym l.stands.is)
-      (λ ok' q'. let g = sane-run w.setup l.history l.stands.run in filter-quiet w.setup (record_of w.setup l.history) (after (record_of w.setup l.history) e)
-      (log_of w.setup l.history) g (sane-after w.setup (record_of w.setup l.history) e ok' g) q' (received-run w.setup l.history l.setup l.stands.run)
+      (λ ok' q'. let g = consistent-run w.setup l.history l.stands.run in
+      filter-quiet w.setup (record_of w.setup l.history) (after (record_of w.setup l.history) e)
+      (log_of w.setup l.history) g (consistent-after w.setup (record_of w.setup l.history) e ok' g) q' (received-run w.setup l.history l.setup l.stands.run)
       (record_is_valid w.setup l.history l.setup l.stands.run))
       ok q
 
   -- indexes, where no fragment is sent
   pub begun-kept : SendsNone e → (t : ℕ) → begun_on v t ≡ begun_on w t
-  begun-kept none t = (none-after w.setup w e (facts sum x l).sane none).begun t
+  begun-kept none t = (none-after w.setup w e (facts sum x l).consistent none).begun t
 
   pub indexed-kept : SendsNone e → Indexed (shape v) (index_kept x.progress)
-  indexed-kept none = (counted-after w.setup w e (index_kept x.progress) (begun_on w) ok (facts sum x l).sane none
+  indexed-kept none = (counted-after w.setup w e (index_kept x.progress) (begun_on w) ok (facts sum x l).consistent none
       (record { indexed = indexed-of sum x l; begun = λ s. refl })).indexed
 
   -- so a stream is as it was, where nothing is written
@@ -148,20 +149,20 @@ module _ (sum : List ℕ → ℕ) (x : State) (l : IsLinked sum x) (e : Event) (
     held = held-quiet q s;
     ordered = before s;
     next = next-kept keeps s;
-    amount = amount-same w.setup w e s l.setup (facts sum x l).sane amounts;
-    counters = counters-same w.setup w e s (facts sum x l).sane no-write no-read;
+    amount = amount-same w.setup w e s l.setup (facts sum x l).consistent amounts;
+    counters = counters-same w.setup w e s (facts sum x l).consistent no-write no-read;
   }
 
   -- what was accepted and what was written
   pub fragments-same : is_write e ≡ false → fragments_accepted v ≡ fragments_accepted w
   fragments-same no-write =
-      let t = told-after w.setup w e (facts sum x l).sane no-write in
+      let t = answered-after w.setup w e (facts sum x l).consistent no-write in
       ap (λ s. in_all v (λ n. length (pieces (length (message_at v n).bytes) s.size (message_at v n).bytes))) setup-same
       ∙ sum-same w v (λ m. true) (λ m. length (pieces (length m.bytes) w.setup.size m.bytes)) t.count (λ n lt. refl)
       (λ n lt. ap (λ b. length (pieces (length b) w.setup.size b)) (t.bytes n lt))
 
   pub written-kept : is_write e ≡ false → in_all v (written_bytes v) ≡ in_all w (written_bytes w)
-  written-kept no-write = written-same w.setup w e (facts sum x l).sane no-write
+  written-kept no-write = written-same w.setup w e (facts sum x l).consistent no-write
 
 -- another name for the record
 pub moved : (sum : List ℕ → ℕ) (y : State) (v : LinkRecord) → y.recorded ≡ v → IsLinked sum (record y { recorded = v }) → IsLinked sum y

@@ -36,7 +36,7 @@ says-bytes sum x ds k d l network bytes lt is =
 
 -- fewer fragments than TSNs were accepted
 pub few-fragments : (sum : List ℕ → ℕ) (x : State) → IsLinked sum x → x.fragments < 2 ^ 31
-few-fragments sum x l = omega (arith, l.fragments, (facts sum x l).sane.accepted)
+few-fragments sum x l = omega (arith, l.fragments, (facts sum x l).consistent.accepted)
 
 all-right : (a b c d : Bool) → a ≡ true → b ≡ true → ((a && b) && (not c && not d)) ≡ not (c || d)
 all-right true true true d h i = refl
@@ -51,7 +51,7 @@ slot-message sum x xs p s l slots lt is =
     let within : p < length xs = omega (arith, lt, ap length slots, length-mapped slot_record xs) in
     let same : slot_at x.recorded p ≡ slot_record s = ap (λ ys. slice_index_or ys p no_slot) slots ∙ get_or-map slot_record xs p s no_slot within
     ∙ ap slot_record (sym is) in
-    let made = (facts sum x l).sane.sender.made p lt in
+    let made = (facts sum x l).consistent.sender.made p lt in
     (same, omega (arith, made, ap (λ t. t.message) same))
 
 -- one that is neither, among those in flight, can be sent again

@@ -64,7 +64,7 @@ module _ (sum : List ℕ → ℕ) (x : State) (l : IsLinked sum x) (e : Event) (
       let f = facts sum x l in
       let before : ordered_before v t (length v.messages) ≡ ordered_before w t (length w.messages) =
       ap (λ (b : Shape). length (numbers_where (on b t) 0 b.count)) s.shape_is in
-      let same = amount-same w.setup w e t f.setup f.sane keeps in
+      let same = amount-same w.setup w e t f.setup f.consistent keeps in
       record {
         held = held ∙ ap (reassembly_of v) (sym id);
         si = si ∙ i.si ∙ sym id;

@@ -3,7 +3,7 @@
 ghost use Rattle.std.specs.Prelude.{◌≡◌, ◌<◌, ◌++◌, Bool, true, None, OnOk, OnErr, IfOk, IsOkUnless, length, vec_len, vec_capacity};
 ghost use Rattle.sctp_data.specs.Reliability.{is_past};
 ghost use Rattle.sctp_base.specs.declared.error.Error.TheVariants.{ErrOutOfMemory};
-ghost use Rattle.sctp_link.specs.OpenStreams.{marks};
+ghost use Rattle.sctp_link.specs.OpenStreams.{terminals};
 
 use super::streams::fragments_in;
 use super::{Link, memory, put};
@@ -70,14 +70,14 @@ impl<C: Checksum + Drop> Link<C> {
     {
         let place = tsn.wrapping_sub(self.first_tsn) as usize;
         let number = self.slots[place].message;
-        let half = self.is_partially_sent(number as usize);
-        make_room(&mut self.slots, half)?;
+        let partial = self.is_partially_sent(number as usize);
+        make_room(&mut self.slots, partial)?;
         let gone = match self.sender.abandon(tsn) {
             Ok(gone) => gone,
             Err(refusal) => return Err(memory(refusal)),
         };
         let message = &mut self.messages[number as usize];
-        settle(message, &mut self.slots, number, half);
+        settle(message, &mut self.slots, number, partial);
         Ok((gone.stream, gone.bytes as u64))
     }
 
@@ -126,26 +126,26 @@ fn is_past(deadline: Option<u64>, now: u64) -> bool
 }
 
 // Makes room for the slot of a terminal chunk, where there is to be one.
-fn make_room(slots: &mut Vec<Slot>, half: bool) -> Result<()>
+fn make_room(slots: &mut Vec<Slot>, partial: bool) -> Result<()>
     ensures items { slots.new.items ≡ slots.old.items }
-    ensures room { OnOk result (half ≡ true → vec_len slots.new < vec_capacity slots.new) }
+    ensures room { OnOk result (partial ≡ true → vec_len slots.new < vec_capacity slots.new) }
     ensures memory { IsOkUnless result ErrOutOfMemory }
-    ensures wants { OnErr result (half ≡ true) }
+    ensures wants { OnErr result (partial ≡ true) }
 {
-    if half {
+    if partial {
         slots.reserve(1)?;
     }
     Ok(())
 }
 
 /// Records that a message was abandoned: a partially sent one takes a slot for its terminal chunk.
-fn settle(message: &mut Message, slots: &mut Vec<Slot>, number: u64, half: bool)
-    requires { half ≡ true → vec_len slots.old < vec_capacity slots.old }
+fn settle(message: &mut Message, slots: &mut Vec<Slot>, number: u64, partial: bool)
+    requires { partial ≡ true → vec_len slots.old < vec_capacity slots.old }
     ensures message { message.new ≡ record message.old { abandoned = true } }
-    ensures slots { slots.new.items ≡ slots.old.items ++ marks half number message.old.sent }
+    ensures slots { slots.new.items ≡ slots.old.items ++ terminals partial number message.old.sent }
 {
     message.abandoned = true;
-    if half {
+    if partial {
         put(
             slots,
             Slot {

@@ -24,8 +24,8 @@ use Rattle.sctp_model.specs.Log.{Made, MadeData, MadeForward, MadeSack, is_ackno
 use Rattle.sctp_model.specs.Steps.{History, record_of, IsRun, after}
 use Rattle.sctp_model.specs.Contents.{SackContents, cumulative_tsn, contents_in}
 use Rattle.sctp_model.specs.Laws.{IsSetup, OnEveryRun, AcknowledgedArrived, AcknowledgedIsReported, SacksSay, blocks_by}
-use Rattle.sctp_model.proofs.receiver.Arrivals.{Heard, heard-run, seen_by, seen-below, arrived-beyond, cumulative_is_seen}
-use Rattle.sctp_model.proofs.sender.SenderRun.{sane-run, fold-keeps}
+use Rattle.sctp_model.proofs.receiver.Arrivals.{Arrivals, arrivals-run, seen_by, seen-below, arrived-beyond, cumulative_is_seen}
+use Rattle.sctp_model.proofs.sender.SenderRun.{consistent-run, fold-keeps}
 use Rattle.sctp_model.proofs.sender.Moves
 use Rattle.sctp_model.proofs.sender.Network
 use Rattle.sctp_list_lemmas.proofs.Cases.{or-split}
@@ -243,7 +243,7 @@ sacks-after setup older (E.Read s) log h f =
 pub sacks-run : (setup : Setup) (h : History) → IsSetup setup → IsRun setup h → SacksFit (log_of setup h) (record_of setup h).network
 sacks-run setup [] is run = tt
 sacks-run setup (entry ∷ older) is run =
-    let g = heard-run setup older is run.1.1 in
+    let g = arrivals-run setup older is run.1.1 in
     sacks-after setup older entry.0 (log_of setup (entry ∷ older)) (λ p e. seen-stays setup older entry.0 entry.1 p (g.seen p ∙ e))
     (sacks-more (log_of setup older) (log_of setup (entry ∷ older)) (λ p e. seen-stays setup older entry.0 entry.1 p e) (record_of setup older).network
     (sacks-run setup older is run.1.1))
@@ -283,7 +283,7 @@ seen-acknowledged setup ((E.Ack x, r) ∷ older) p is run e = seen-acknowledged 
 seen-acknowledged setup ((E.Read x, r) ∷ older) p is run e = seen-acknowledged setup older p is run.1.1 e
 
 -- what was seen was made
-pub seen-made : (w : LinkRecord) (log : List LogEntry) (p : ℕ) → Heard w log → is_seen log p ≡ true → p < length w.slots
+pub seen-made : (w : LinkRecord) (log : List LogEntry) (p : ℕ) → Arrivals w log → is_seen log p ≡ true → p < length w.slots
 seen-made w log p g e = step (or-split (nat_lt p w.skipped) (arrived_at w p) (sym (g.seen p) ∙ e)) (cases_lt p (length w.slots))
   where
     step : (nat_lt p w.skipped ≡ true) ⊎ (arrived_at w p ≡ true) → (p < length w.slots) ⊎ (length w.slots ≤ p) → p < length w.slots
@@ -293,7 +293,7 @@ seen-made w log p g e = step (or-split (nat_lt p w.skipped) (arrived_at w p) (sy
 
 pub acknowledged_arrived : OnEveryRun AcknowledgedArrived
 acknowledged_arrived setup h is run p e =
-    let g = heard-run setup h is run in
+    let g = arrivals-run setup h is run in
     let s = seen-acknowledged setup h p is run e in (
       seen-made (record_of setup h) (log_of setup h) p g s,
       ap (λ b. b || is_skipped (log_of setup h) p) (sym (g.arrived p)) ∙ ap (λ b. arrived_at (record_of setup h) p || b) (g.covered p)
@@ -405,7 +405,7 @@ acks-step : (setup : Setup) (older : History) (e : Event) (r : Reply) → IsSetu
 acks-step setup older e r is run a = by_event e
   where
     made : (p : ℕ) → is_acknowledged_in setup older p ≡ true → p < length (record_of setup older).slots
-    made p h = seen-made (record_of setup older) (log_of setup older) p (heard-run setup older is run) (seen-acknowledged setup older p is run h)
+    made p h = seen-made (record_of setup older) (log_of setup older) p (arrivals-run setup older is run) (seen-acknowledged setup older p is run h)
 
     quiet : (v : LinkRecord) → Moves.Quiet (record_of setup older) v → Acks setup older v
     quiet v q = acks-quiet setup older (record_of setup older) v q made a
@@ -417,23 +417,23 @@ acks-step setup older e r is run a = by_event e
     by_event (E.Open s) = record { slots = a.slots; taken = a.taken }
     by_event (E.Mode s u v x) = record { slots = a.slots; taken = a.taken }
     by_event (E.Write s x y) = let b = quiet (after (record_of setup older) (E.Write s x y))
-        (Moves.quiet-written setup (record_of setup older) s x y (sane-run setup older run)) in record { slots = b.slots; taken = b.taken }
+        (Moves.quiet-written setup (record_of setup older) s x y (consistent-run setup older run)) in record { slots = b.slots; taken = b.taken }
     by_event (E.Start now) = let b = quiet (after (record_of setup older) (E.Start now)) (Moves.quiet-started (record_of setup older) now) in
         record { slots = b.slots; taken = b.taken }
     by_event (E.Send now) = let b = quiet (after (record_of setup older) (E.Send now))
-        (Moves.quiet-sent setup (record_of setup older) now (Messages.front (record_of setup older)) (sane-run setup older run)) in
+        (Moves.quiet-sent setup (record_of setup older) now (Messages.front (record_of setup older)) (consistent-run setup older run)) in
         record { slots = b.slots; taken = b.taken }
     by_event (E.Resend x) = record { slots = a.slots; taken = a.taken }
     by_event (E.Expire now) = let b = quiet (after (record_of setup older) (E.Expire now))
-        (Moves.quiet-expire setup (record_of setup older) now (Messages.front (record_of setup older)) (sane-run setup older run)) in
+        (Moves.quiet-expire setup (record_of setup older) now (Messages.front (record_of setup older)) (consistent-run setup older run)) in
         record { slots = b.slots; taken = b.taken }
     by_event (E.Tail now) = let b = quiet (after (record_of setup older) (E.Tail now))
-        (Moves.quiet-tail setup (record_of setup older) (Changes.tailing (record_of setup older) now) (sane-run setup older run)) in
+        (Moves.quiet-tail setup (record_of setup older) (Changes.tailing (record_of setup older) now) (consistent-run setup older run)) in
         record { slots = b.slots; taken = b.taken }
     by_event (E.Late now) = let b = quiet (after (record_of setup older) (E.Late now))
-        (Moves.quiet-lates setup (record_of setup older) now (sane-run setup older run)) in record { slots = b.slots; taken = b.taken }
+        (Moves.quiet-lates setup (record_of setup older) now (consistent-run setup older run)) in record { slots = b.slots; taken = b.taken }
     by_event (E.Abandon tsn) = let b = quiet (after (record_of setup older) (E.Abandon tsn)) (Moves.quiet-abandoned setup (record_of setup older)
-        (Messages.message_of (record_of setup older) (Messages.place_of (record_of setup older) tsn)) (sane-run setup older run)) in
+        (Messages.message_of (record_of setup older) (Messages.place_of (record_of setup older) tsn)) (consistent-run setup older run)) in
         record { slots = b.slots; taken = b.taken }
     by_event (E.Skip upto names) = record { slots = a.slots; taken = a.taken }
     by_event (E.Ack credit) = record { slots = a.slots; taken = a.taken }
@@ -457,7 +457,7 @@ pub blocks-are : (setup : Setup) (h : History) → IsSetup setup → IsRun setup
 blocks-are setup h is run =
     let w = record_of setup h in
     let log = log_of setup h in
-    let g = heard-run setup h is run in
+    let g = arrivals-run setup h is run in
     let c : cumulative w ≡ seen_count log (length w.slots) = cumulative_is_seen setup h is run in
     ap (λ q. take 16379 (runs_of (numbers_where (λ d. arrived_at w (q + d - 1)) 1 (min 65535 (length w.slots - q))))) c
     ∙ ap (λ l. take 16379 (runs_of l))
@@ -468,7 +468,7 @@ pub sacks_say : OnEveryRun SacksSay
 sacks_say setup h is run credit =
     let w = record_of setup h in
     let log = log_of setup h in
-    let g = heard-run setup h is run in
+    let g = arrivals-run setup h is run in
     let c : cumulative w ≡ seen_count log (length w.slots) = cumulative_is_seen setup h is run in
     ap (contents_in (after w (E.Ack credit))) (get-last w.network (Sack (report_of w credit)))
     ∙ ap (λ q. Some (SackContents (cumulative_tsn w q) credit (gap_blocks w) (map (Messages.tsn_of w) (take (16379 - length (gap_blocks w)) w.duplicates)))) c

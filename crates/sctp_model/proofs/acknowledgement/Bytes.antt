@@ -9,7 +9,7 @@ use Rattle.sctp_model.specs.Laws.{IsSetup, OnEveryRun, Balances}
 use Rattle.sctp_model.proofs.sender.Shape.{shape, has}
 use Rattle.sctp_model.proofs.sender.Sender.{Sender}
 use Rattle.sctp_model.proofs.sender.SenderSteps.{of-has}
-use Rattle.sctp_model.proofs.sender.SenderRun.{Sane, sane-run}
+use Rattle.sctp_model.proofs.sender.SenderRun.{Consistent, consistent-run}
 use Rattle.sctp_list_lemmas.proofs.Pieces.{lengths-pieces, total-lengths}
 use Rattle.sctp_list_lemmas.proofs.Rows.{numbered}
 use Rattle.sctp_list_lemmas.proofs.Totals.{total-plus, total-append, total-split, total-map, numbers-append}
@@ -54,7 +54,7 @@ balance w n s pos lt = step (Amounts.is_expired_or_abandoned w n)
 
 -- ## The law
 
-pub size-some : (setup : Rattle.sctp_model.specs.LinkRecord.Setup) (w : LinkRecord) → IsSetup setup → Sane setup w → 0 < w.setup.size
+pub size-some : (setup : Rattle.sctp_model.specs.LinkRecord.Setup) (w : LinkRecord) → IsSetup setup → Consistent setup w → 0 < w.setup.size
 size-some setup w is g = omega (arith, is.some, ap (λ t. t.size) g.setup_is)
 
 sums : (w : LinkRecord) (p : ℕ → Bool) → Sender (shape w) → 0 < w.setup.size → total_over (Amounts.written_bytes w) (numbers_where p 0 (length w.messages))
@@ -69,5 +69,5 @@ sums w p s pos =
 pub balances : OnEveryRun Balances
 balances setup h is run =
     let w = record_of setup h in
-    let g = sane-run setup h run in
+    let g = consistent-run setup h run in
     (sums w always g.sender (size-some setup w is g), λ r. sums w (λ n. (Messages.message_at w n).stream == r) g.sender (size-some setup w is g))

@@ -104,7 +104,7 @@ any-none q from (suc count) none = ap (λ b. b || list_any q (numbers_where alwa
 
 -- ## By what came
 
-pub record Heard (w : LinkRecord) (log : List LogEntry) : Type 0 where
+pub record Arrivals (w : LinkRecord) (log : List LogEntry) : Type 0 where
   pub arrived : (p : ℕ) → arrived_at w p ≡ Log.arrived_new log p
   pub seen : (p : ℕ) → Log.is_seen log p ≡ seen_by w p
   pub covered : (p : ℕ) → Log.is_skipped log p ≡ nat_lt p w.skipped
@@ -112,8 +112,8 @@ pub record Heard (w : LinkRecord) (log : List LogEntry) : Type 0 where
   pub duplicates : w.duplicates ≡ Log.duplicates_in log
 
 -- a skip counts exactly where some slot up to it was not seen
-pub counts-heard : (w : LinkRecord) (log : List LogEntry) (upto : ℕ) → Heard w log → Log.counts log upto ≡ Changes.skip_counts w upto
-counts-heard w log upto h = step (cases_lt upto (cumulative w))
+pub counts-arrivals : (w : LinkRecord) (log : List LogEntry) (upto : ℕ) → Arrivals w log → Log.counts log upto ≡ Changes.skip_counts w upto
+counts-arrivals w log upto h = step (cases_lt upto (cumulative w))
   where
     step : (upto < cumulative w) ⊎ (cumulative w ≤ upto) → list_any (λ p. not (Log.is_seen log p)) (numbers_from 0 (upto + 1)) ≡ nat_le (cumulative w) upto
     step (inl l) = let e : nat_le (cumulative w) upto ≡ false = grind (arith, nat_tests) in
@@ -124,9 +124,9 @@ counts-heard w log upto h = step (cases_lt upto (cumulative w))
 
 -- ## Each change
 
-heard-as : (w v : LinkRecord) (log : List LogEntry) → ((p : ℕ) → arrived_at v p ≡ arrived_at w p) → v.skipped ≡ w.skipped → v.duplicates ≡ w.duplicates
-    → length w.slots ≤ length v.slots → Heard w log → Heard v log
-heard-as w v log a s d l h = record {
+arrivals-as : (w v : LinkRecord) (log : List LogEntry) → ((p : ℕ) → arrived_at v p ≡ arrived_at w p) → v.skipped ≡ w.skipped → v.duplicates ≡ w.duplicates
+    → length w.slots ≤ length v.slots → Arrivals w log → Arrivals v log
+arrivals-as w v log a s d l h = record {
   arrived = λ p. a p ∙ h.arrived p;
   seen = λ p. h.seen p ∙ ap (λ k. nat_lt p k || arrived_at w p) (sym s) ∙ ap (λ b. nat_lt p v.skipped || b) (sym (a p));
   covered = λ p. h.covered p ∙ ap (nat_lt p) (sym s);
@@ -134,16 +134,16 @@ heard-as w v log a s d l h = record {
   duplicates = d ∙ h.duplicates;
 }
 
-pub heard-noted : (v : LinkRecord) (n : ℕ) (log : List LogEntry) → Heard v log → Heard (Changes.note_completion v n) log
-heard-noted v n log h = step (Changes.becomes_complete v n)
+pub arrivals-noted : (v : LinkRecord) (n : ℕ) (log : List LogEntry) → Arrivals v log → Arrivals (Changes.note_completion v n) log
+arrivals-noted v n log h = step (Changes.becomes_complete v n)
   where
-    step : (b : Bool) → Heard (if b then Changes.stream_changed v (Messages.message_at v n).stream (Changes.with_complete n) else v) log
-    step true = heard-as v (Changes.stream_changed v (Messages.message_at v n).stream (Changes.with_complete n)) log (λ p. refl) refl refl (omega arith) h
+    step : (b : Bool) → Arrivals (if b then Changes.stream_changed v (Messages.message_at v n).stream (Changes.with_complete n) else v) log
+    step true = arrivals-as v (Changes.stream_changed v (Messages.message_at v n).stream (Changes.with_complete n)) log (λ p. refl) refl refl (omega arith) h
     step false = h
 
-pub heard-new : (w : LinkRecord) (log : List LogEntry) (p : ℕ) → p < length w.slots → is_new w p ≡ true → Heard w log
-    → Heard (with_arrived w p) (SlotReceived p ∷ log)
-heard-new w log p lt new h = record {
+pub arrivals-new : (w : LinkRecord) (log : List LogEntry) (p : ℕ) → p < length w.slots → is_new w p ≡ true → Arrivals w log
+    → Arrivals (with_arrived w p) (SlotReceived p ∷ log)
+arrivals-new w log p lt new h = record {
   arrived = λ k. by_same {P = arrived_at (with_arrived w p) k ≡ (Log.arrived_new log k || ((p == k) && not (Log.is_seen log k)))} p k
       (λ e. ap (arrived_at (with_arrived w p)) (sym e) ∙ here ∙ sym (ap (λ j. Log.arrived_new log j || ((p == j) && not (Log.is_seen log j))) (sym e)
       ∙ or-right (Log.arrived_new log p) ((p == p) && not (Log.is_seen log p)) (ap (λ b. b && not (Log.is_seen log p)) (same-yes p) ∙ ap not unseen)))
@@ -170,9 +170,9 @@ heard-new w log p lt new h = record {
     unseen : Log.is_seen log p ≡ false
     unseen = h.seen p ∙ negated (seen_by w p) (sym (new-unseen w p) ∙ new)
 
-heard-again : (w : LinkRecord) (log : List LogEntry) (p : ℕ) → is_new w p ≡ false → Heard w log
-    → Heard (record w { duplicates = w.duplicates ++ p ∷ [] }) (SlotReceived p ∷ log)
-heard-again w log p old h = record {
+arrivals-again : (w : LinkRecord) (log : List LogEntry) (p : ℕ) → is_new w p ≡ false → Arrivals w log
+    → Arrivals (record w { duplicates = w.duplicates ++ p ∷ [] }) (SlotReceived p ∷ log)
+arrivals-again w log p old h = record {
   arrived = λ k. h.arrived k ∙ by_same {P = Log.arrived_new log k ≡ (Log.arrived_new log k || ((p == k) && not (Log.is_seen log k)))} p k
       (λ e. sym (ap (λ b. Log.arrived_new log k || ((p == k) && not b)) (ap (Log.is_seen log) (sym e) ∙ seen)
       ∙ ap (λ b. Log.arrived_new log k || b) (ands (p == k)) ∙ or-none (Log.arrived_new log k)))
@@ -196,26 +196,27 @@ heard-again w log p old h = record {
     seen : Log.is_seen log p ≡ true
     seen = h.seen p ∙ denied (seen_by w p) (sym (new-unseen w p) ∙ old)
 
-heard-slot : (w : LinkRecord) (log : List LogEntry) (p : ℕ) → p < length w.slots → Heard w log → Heard (Changes.receive_slot w p) (SlotReceived p ∷ log)
-heard-slot w log p lt h = step (is_new w p) refl
+arrivals-slot : (w : LinkRecord) (log : List LogEntry) (p : ℕ) → p < length w.slots → Arrivals w log
+    → Arrivals (Changes.receive_slot w p) (SlotReceived p ∷ log)
+arrivals-slot w log p lt h = step (is_new w p) refl
   where
-    step : (b : Bool) → is_new w p ≡ b → Heard (if b then Changes.note_completion (with_arrived w p) (Messages.message_of w p)
+    step : (b : Bool) → is_new w p ≡ b → Arrivals (if b then Changes.note_completion (with_arrived w p) (Messages.message_of w p)
         else record w { duplicates = w.duplicates ++ p ∷ [] }) (SlotReceived p ∷ log)
-    step true e = heard-noted (with_arrived w p) (Messages.message_of w p) (SlotReceived p ∷ log) (heard-new w log p lt e h)
-    step false e = heard-again w log p e h
+    step true e = arrivals-noted (with_arrived w p) (Messages.message_of w p) (SlotReceived p ∷ log) (arrivals-new w log p lt e h)
+    step false e = arrivals-again w log p e h
 
-heard-skip : (w : LinkRecord) (log : List LogEntry) (upto : ℕ) (names : List ℕ) → upto < length w.slots → Heard w log
-    → Heard (Changes.receive_skip w upto names) (SkipReceived upto names ∷ log)
-heard-skip w log upto names lt h = step (Changes.skip_counts w upto) refl
+arrivals-skip : (w : LinkRecord) (log : List LogEntry) (upto : ℕ) (names : List ℕ) → upto < length w.slots → Arrivals w log
+    → Arrivals (Changes.receive_skip w upto names) (SkipReceived upto names ∷ log)
+arrivals-skip w log upto names lt h = step (Changes.skip_counts w upto) refl
   where
     step : (b : Bool) → Changes.skip_counts w upto ≡ b
-        → Heard (if b then record w { skipped = upto + 1; streams = map (Changes.named_by w names) w.streams } else w) (SkipReceived upto names ∷ log)
+        → Arrivals (if b then record w { skipped = upto + 1; streams = map (Changes.named_by w names) w.streams } else w) (SkipReceived upto names ∷ log)
     step true e =
         let c : cumulative w ≤ upto = grind (arith, nat_tests) in
         record {
           arrived = h.arrived;
           seen = λ k. by k c (cases_lt upto k);
-          covered = λ k. ap (λ b. Log.is_skipped log k || (b && nat_le k upto)) (counts-heard w log upto h ∙ e) ∙ ap (λ b. b || nat_le k upto) (h.covered k)
+          covered = λ k. ap (λ b. Log.is_skipped log k || (b && nat_le k upto)) (counts-arrivals w log upto h ∙ e) ∙ ap (λ b. b || nat_le k upto) (h.covered k)
               ∙ under k c (cases_lt upto k);
           short = omega arith;
           duplicates = h.duplicates;
@@ -247,7 +248,8 @@ heard-skip w log upto names lt h = step (Changes.skip_counts w upto) refl
         record {
           arrived = h.arrived;
           seen = λ k. by k c (cases_lt upto k);
-          covered = λ k. ap (λ b. Log.is_skipped log k || (b && nat_le k upto)) (counts-heard w log upto h ∙ e) ∙ or-none (Log.is_skipped log k) ∙ h.covered k;
+          covered = λ k. ap (λ b. Log.is_skipped log k || (b && nat_le k upto)) (counts-arrivals w log upto h ∙ e) ∙ or-none (Log.is_skipped log k)
+              ∙ h.covered k;
           short = h.short;
           duplicates = h.duplicates;
         }
@@ -256,18 +258,18 @@ heard-skip w log upto names lt h = step (Changes.skip_counts w upto) refl
         by k c (inl l) = let x : nat_le k upto ≡ false = grind (arith, nat_tests) in ap (λ b. b || Log.is_seen log k) x ∙ h.seen k
         by k c (inr g) = let x : nat_le k upto ≡ true = grind (arith, nat_tests) in ap (λ b. b || Log.is_seen log k) x ∙ sym (seen-below w k (omega arith))
 
-pub heard-keeps : (setup : Setup) → Keeps setup Heard
-heard-keeps setup = record {
+pub arrivals-keeps : (setup : Setup) → Keeps setup Arrivals
+arrivals-keeps setup = record {
   begins = record { arrived = λ p. refl; seen = λ p. empty p; covered = λ p. none p; short = omega arith; duplicates = refl };
-  quiet = λ w v log g a q h. heard-as w v log q.arrived q.skipped q.duplicates q.grows.slots h;
-  opened = λ w log s g o h. heard-as w (Changes.after_open w s) log (λ p. refl) refl refl (omega arith) h;
-  moded = λ w log s u r n g h. heard-as w (Changes.after_mode w s u r n) log (λ p. refl) refl refl (omega arith) h;
-  slot = λ w log p g lt m h. heard-slot w log p lt h;
-  skip = λ w log upto names g lt f h. heard-skip w log upto names lt h;
+  quiet = λ w v log g a q h. arrivals-as w v log q.arrived q.skipped q.duplicates q.grows.slots h;
+  opened = λ w log s g o h. arrivals-as w (Changes.after_open w s) log (λ p. refl) refl refl (omega arith) h;
+  moded = λ w log s u r n g h. arrivals-as w (Changes.after_mode w s u r n) log (λ p. refl) refl refl (omega arith) h;
+  slot = λ w log p g lt m h. arrivals-slot w log p lt h;
+  skip = λ w log upto names g lt f h. arrivals-skip w log upto names lt h;
   reported = λ w log credit g h. record { arrived = h.arrived; seen = h.seen; covered = h.covered; short = h.short; duplicates = refl };
-  taken = λ w log r g h. heard-as w (Changes.after_acked w (Some (Sack r))) log (λ p. get-numbered (Changes.acknowledged_by r) (λ x. x.arrived)
+  taken = λ w log r g h. arrivals-as w (Changes.after_acked w (Some (Sack r))) log (λ p. get-numbered (Changes.acknowledged_by r) (λ x. x.arrived)
       (λ i x. refl) 0 p w.slots Messages.no_slot) refl refl (omega (arith, length-numbered (Changes.acknowledged_by r) 0 w.slots)) h;
-  read = λ w log s n g o e h. heard-as w (Changes.read_of w s (Some n)) log (λ p. refl) refl refl (omega arith) h;
+  read = λ w log s n g o e h. arrivals-as w (Changes.read_of w s (Some n)) log (λ p. refl) refl refl (omega arith) h;
 }
   where
     none : (p : ℕ) → false ≡ nat_lt p 0
@@ -276,17 +278,17 @@ heard-keeps setup = record {
     empty : (p : ℕ) → false ≡ (nat_lt p 0 || false)
     empty p = ap (λ b. b || false) (none p)
 
-pub heard-run : (setup : Setup) (h : History) → IsSetup setup → IsRun setup h → Heard (record_of setup h) (Log.log_of setup h)
-heard-run setup h is run = run-keeps setup Heard (heard-keeps setup) h is run
+pub arrivals-run : (setup : Setup) (h : History) → IsSetup setup → IsRun setup h → Arrivals (record_of setup h) (Log.log_of setup h)
+arrivals-run setup h is run = run-keeps setup Arrivals (arrivals-keeps setup) h is run
 
 -- ## The laws
 
 pub arrived_is_new : OnEveryRun ArrivedIsNew
-arrived_is_new setup h is run place lt = (heard-run setup h is run).arrived place
+arrived_is_new setup h is run place lt = (arrivals-run setup h is run).arrived place
 
 pub cumulative_is_seen : OnEveryRun CumulativeIsSeen
 cumulative_is_seen setup h is run =
-    let g = heard-run setup h is run in
+    let g = arrivals-run setup h is run in
     cumulative-seen (record_of setup h) g.short
     ∙ unbroken-same (seen_by (record_of setup h)) (Log.is_seen (Log.log_of setup h)) 0 (length (record_of setup h).slots) (λ k a b. sym (g.seen k))
 
@@ -296,10 +298,10 @@ any-same p q (x ∷ xs) same = rw (same x, any-same p q xs same) refl
 
 pub arrivals_answered : OnEveryRun ArrivalsAnswered
 arrivals_answered setup h is run =
-    let g = heard-run setup h is run in
+    let g = arrivals-run setup h is run in
     let w = record_of setup h in
     let log = Log.log_of setup h in (
       λ k slots e. ap (arrive_reply w) e
           ∙ ap (λ b. if b then R.New else R.Repeat) (any-same (is_new w) (λ p. not (Log.is_seen log p)) slots (λ p. new-unseen w p ∙ ap not (sym (g.seen p)))),
-      λ k upto names e. ap (arrive_reply w) e ∙ ap (λ b. if b then R.Skipped else R.Stale) (sym (counts-heard w log upto g)),
+      λ k upto names e. ap (arrive_reply w) e ∙ ap (λ b. if b then R.Skipped else R.Stale) (sym (counts-arrivals w log upto g)),
     )

@@ -22,11 +22,11 @@ use Rattle.sctp_model.specs.Changes
 use Rattle.sctp_model.specs.Log.{Shown, total_shown, shown_on, counted_shown, counted_length, writes_in, reads_in, numbers_read, number_read}
 use Rattle.sctp_model.specs.Steps.{History, record_of, IsRun, refusal_of, reply_to, after, read_reply}
 use Rattle.sctp_model.specs.Laws.{IsSetup, OnEveryRun, AllDifferent, ReadsShowMessages, ReadsDiffer, CountersAreSums, shown_of}
-use Rattle.sctp_model.proofs.sender.SenderRun.{sane-run}
+use Rattle.sctp_model.proofs.sender.SenderRun.{consistent-run}
 use Rattle.sctp_model.proofs.sender.Moves
 use Rattle.sctp_model.proofs.sender.Lifetimes.{messages-received, messages-taken}
 use Rattle.sctp_model.proofs.sender.Written.{messages_are_writes}
-use Rattle.sctp_model.proofs.acknowledgement.BytesTold.{total-told}
+use Rattle.sctp_model.proofs.acknowledgement.BytesAnswered.{total-answered}
 use Rattle.sctp_list_lemmas.proofs.Cases.{by_same, same-yes, same-is}
 use Rattle.sctp_list_lemmas.proofs.Tests.{any-append}
 use Rattle.sctp_list_lemmas.proofs.Totals.{total-none, total-one, total-kept_same, total-where}
@@ -236,23 +236,23 @@ marked-run show setup ((event, r) ∷ older) is run =
     by_event (E.Open s) r ok f all m = record { is = m.is; made = m.made }
     by_event (E.Mode s a b c) r ok f all m = record { is = m.is; made = m.made }
     by_event (E.Write s a b) r ok f all m = let q = quiet (after (record_of setup older) (E.Write s a b))
-        (Moves.quiet-written setup (record_of setup older) s a b (sane-run setup older run.1.1)) m in record { is = q.is; made = q.made }
+        (Moves.quiet-written setup (record_of setup older) s a b (consistent-run setup older run.1.1)) m in record { is = q.is; made = q.made }
     by_event (E.Start now) r ok f all m = let q = quiet (after (record_of setup older) (E.Start now)) (Moves.quiet-started (record_of setup older) now) m in
         record { is = q.is; made = q.made }
     by_event (E.Send now) r ok f all m = let q = quiet (after (record_of setup older) (E.Send now))
-        (Moves.quiet-sent setup (record_of setup older) now (Messages.front (record_of setup older)) (sane-run setup older run.1.1)) m in
+        (Moves.quiet-sent setup (record_of setup older) now (Messages.front (record_of setup older)) (consistent-run setup older run.1.1)) m in
         record { is = q.is; made = q.made }
     by_event (E.Resend a) r ok f all m = record { is = m.is; made = m.made }
     by_event (E.Expire now) r ok f all m = let q = quiet (after (record_of setup older) (E.Expire now))
-        (Moves.quiet-expire setup (record_of setup older) now (Messages.front (record_of setup older)) (sane-run setup older run.1.1)) m in
+        (Moves.quiet-expire setup (record_of setup older) now (Messages.front (record_of setup older)) (consistent-run setup older run.1.1)) m in
         record { is = q.is; made = q.made }
     by_event (E.Tail now) r ok f all m = let q = quiet (after (record_of setup older) (E.Tail now))
-        (Moves.quiet-tail setup (record_of setup older) (Changes.tailing (record_of setup older) now) (sane-run setup older run.1.1)) m in
+        (Moves.quiet-tail setup (record_of setup older) (Changes.tailing (record_of setup older) now) (consistent-run setup older run.1.1)) m in
         record { is = q.is; made = q.made }
     by_event (E.Late now) r ok f all m = let q = quiet (after (record_of setup older) (E.Late now))
-        (Moves.quiet-lates setup (record_of setup older) now (sane-run setup older run.1.1)) m in record { is = q.is; made = q.made }
+        (Moves.quiet-lates setup (record_of setup older) now (consistent-run setup older run.1.1)) m in record { is = q.is; made = q.made }
     by_event (E.Abandon tsn) r ok f all m = let q = quiet (after (record_of setup older) (E.Abandon tsn)) (Moves.quiet-abandoned setup (record_of setup older)
-        (Messages.message_of (record_of setup older) (Messages.place_of (record_of setup older) tsn)) (sane-run setup older run.1.1)) m in
+        (Messages.message_of (record_of setup older) (Messages.place_of (record_of setup older) tsn)) (consistent-run setup older run.1.1)) m in
         record { is = q.is; made = q.made }
     by_event (E.Skip a b) r ok f all m = record { is = m.is; made = m.made }
     by_event (E.Ack a) r ok f all m = record { is = m.is; made = m.made }
@@ -287,7 +287,7 @@ received show differ setup h is run s f =
     (λ n. if among xs n then g n else 0) always 0 (length w.messages)
     (λ k a b. two ((Messages.message_at w k).stream == s) (Messages.message_at w k).read (g k) ∙ ap (λ b. if b then g k else 0) (sym (m.is s k (omega arith))))
     ∙ sym (total-where g (among xs) 0 (length w.messages)) ∙ sym sum
-    ∙ total-told f (shown_of w) xs ∙ ap (total_shown f) (sym (show setup h is run s).0)
+    ∙ total-answered f (shown_of w) xs ∙ ap (total_shown f) (sym (show setup h is run s).0)
   where
     two : (a b : Bool) (c : ℕ) → (if a then (if b then c else 0) else 0) ≡ (if a && b then c else 0)
     two true b c = refl

@@ -16,7 +16,7 @@ use Rattle.sctp_model.specs.Steps.{History, record_of, IsRun, refusal_of, after}
 use Rattle.sctp_model.specs.Log.{LogEntry, SlotReceived, SkipReceived, SackMade, Made, made_in, datagram_comes, slots_come, log_of}
 use Rattle.sctp_model.specs.Laws.{IsSetup, kind_of}
 use Rattle.sctp_model.proofs.sender.Shape.{shape}
-use Rattle.sctp_model.proofs.sender.SenderRun.{Sane, sane-run, sane-after, sane-received, unless-holds}
+use Rattle.sctp_model.proofs.sender.SenderRun.{Consistent, consistent-run, consistent-after, consistent-received, unless-holds}
 use Rattle.sctp_model.proofs.sender.Moves.{Quiet, quiet-none, quiet-datagram, quiet-written, quiet-started, quiet-sent, quiet-expire, quiet-tail, quiet-lates}
 use Rattle.sctp_model.proofs.sender.Moves.{quiet-abandoned}
 use Rattle.sctp_model.proofs.sender.Network.{SlotsFit, NamesFit, Fits, fit-at, fit-run, same-slot}
@@ -26,45 +26,45 @@ use Rattle.sctp_list_lemmas.proofs.Cases.{negated}
 -- each change keeps P, which speaks of the record and of what came
 pub record Keeps (setup : Setup) (P : LinkRecord → List LogEntry → Type 0) : Type 0 where
   pub begins : P (start setup) []
-  pub quiet : (w v : LinkRecord) (log : List LogEntry) → Sane setup w → Sane setup v → Quiet w v → P w log → P v log
-  pub opened : (w : LinkRecord) (log : List LogEntry) (s : ℕ) → Sane setup w → Messages.is_open w s ≡ false → P w log → P (Changes.after_open w s) log
-  pub moded : (w : LinkRecord) (log : List LogEntry) (s : ℕ) (unordered : Bool) (reliability : ReliabilityType) (value : ℕ) → Sane setup w → P w log
+  pub quiet : (w v : LinkRecord) (log : List LogEntry) → Consistent setup w → Consistent setup v → Quiet w v → P w log → P v log
+  pub opened : (w : LinkRecord) (log : List LogEntry) (s : ℕ) → Consistent setup w → Messages.is_open w s ≡ false → P w log → P (Changes.after_open w s) log
+  pub moded : (w : LinkRecord) (log : List LogEntry) (s : ℕ) (unordered : Bool) (reliability : ReliabilityType) (value : ℕ) → Consistent setup w → P w log
       → P (Changes.after_mode w s unordered reliability value) log
-  pub slot : (w : LinkRecord) (log : List LogEntry) (p : ℕ) → Sane setup w → p < length w.slots → (Messages.slot_at w p).is_terminal_chunk ≡ false → P w log
-      → P (Changes.receive_slot w p) (SlotReceived p ∷ log)
-  pub skip : (w : LinkRecord) (log : List LogEntry) (upto : ℕ) (names : List ℕ) → Sane setup w → upto < length w.slots → NamesFit (shape w) upto names → P w log
-      → P (Changes.receive_skip w upto names) (SkipReceived upto names ∷ log)
-  pub reported : (w : LinkRecord) (log : List LogEntry) (credit : ℕ) → Sane setup w → P w log → P (Changes.after_ack w credit) (SackMade ∷ log)
-  pub taken : (w : LinkRecord) (log : List LogEntry) (r : Report) → Sane setup w → P w log → P (Changes.after_acked w (Some (Sack r))) log
-  pub read : (w : LinkRecord) (log : List LogEntry) (s n : ℕ) → Sane setup w → Messages.is_open w s ≡ true → Receiver.next_read w s ≡ Some n → P w log
+  pub slot : (w : LinkRecord) (log : List LogEntry) (p : ℕ) → Consistent setup w → p < length w.slots → (Messages.slot_at w p).is_terminal_chunk ≡ false
+      → P w log → P (Changes.receive_slot w p) (SlotReceived p ∷ log)
+  pub skip : (w : LinkRecord) (log : List LogEntry) (upto : ℕ) (names : List ℕ) → Consistent setup w → upto < length w.slots → NamesFit (shape w) upto names
+      → P w log → P (Changes.receive_skip w upto names) (SkipReceived upto names ∷ log)
+  pub reported : (w : LinkRecord) (log : List LogEntry) (credit : ℕ) → Consistent setup w → P w log → P (Changes.after_ack w credit) (SackMade ∷ log)
+  pub taken : (w : LinkRecord) (log : List LogEntry) (r : Report) → Consistent setup w → P w log → P (Changes.after_acked w (Some (Sack r))) log
+  pub read : (w : LinkRecord) (log : List LogEntry) (s n : ℕ) → Consistent setup w → Messages.is_open w s ≡ true → Receiver.next_read w s ≡ Some n → P w log
       → P (Changes.read_of w s (Some n)) log
 
 -- what each change but a read keeps
 pub record Moving (setup : Setup) (P : LinkRecord → List LogEntry → Type 0) : Type 0 where
-  pub quiet : (w v : LinkRecord) (log : List LogEntry) → Sane setup w → Sane setup v → Quiet w v → P w log → P v log
-  pub opened : (w : LinkRecord) (log : List LogEntry) (s : ℕ) → Sane setup w → Messages.is_open w s ≡ false → P w log → P (Changes.after_open w s) log
-  pub moded : (w : LinkRecord) (log : List LogEntry) (s : ℕ) (unordered : Bool) (reliability : ReliabilityType) (value : ℕ) → Sane setup w → P w log
+  pub quiet : (w v : LinkRecord) (log : List LogEntry) → Consistent setup w → Consistent setup v → Quiet w v → P w log → P v log
+  pub opened : (w : LinkRecord) (log : List LogEntry) (s : ℕ) → Consistent setup w → Messages.is_open w s ≡ false → P w log → P (Changes.after_open w s) log
+  pub moded : (w : LinkRecord) (log : List LogEntry) (s : ℕ) (unordered : Bool) (reliability : ReliabilityType) (value : ℕ) → Consistent setup w → P w log
       → P (Changes.after_mode w s unordered reliability value) log
-  pub slot : (w : LinkRecord) (log : List LogEntry) (p : ℕ) → Sane setup w → p < length w.slots → (Messages.slot_at w p).is_terminal_chunk ≡ false → P w log
-      → P (Changes.receive_slot w p) (SlotReceived p ∷ log)
-  pub skip : (w : LinkRecord) (log : List LogEntry) (upto : ℕ) (names : List ℕ) → Sane setup w → upto < length w.slots → NamesFit (shape w) upto names → P w log
-      → P (Changes.receive_skip w upto names) (SkipReceived upto names ∷ log)
-  pub reported : (w : LinkRecord) (log : List LogEntry) (credit : ℕ) → Sane setup w → P w log → P (Changes.after_ack w credit) (SackMade ∷ log)
-  pub taken : (w : LinkRecord) (log : List LogEntry) (r : Report) → Sane setup w → P w log → P (Changes.after_acked w (Some (Sack r))) log
+  pub slot : (w : LinkRecord) (log : List LogEntry) (p : ℕ) → Consistent setup w → p < length w.slots → (Messages.slot_at w p).is_terminal_chunk ≡ false
+      → P w log → P (Changes.receive_slot w p) (SlotReceived p ∷ log)
+  pub skip : (w : LinkRecord) (log : List LogEntry) (upto : ℕ) (names : List ℕ) → Consistent setup w → upto < length w.slots → NamesFit (shape w) upto names
+      → P w log → P (Changes.receive_skip w upto names) (SkipReceived upto names ∷ log)
+  pub reported : (w : LinkRecord) (log : List LogEntry) (credit : ℕ) → Consistent setup w → P w log → P (Changes.after_ack w credit) (SackMade ∷ log)
+  pub taken : (w : LinkRecord) (log : List LogEntry) (r : Report) → Consistent setup w → P w log → P (Changes.after_acked w (Some (Sack r))) log
 
 pub moving-of : (setup : Setup) (P : LinkRecord → List LogEntry → Type 0) → Keeps setup P → Moving setup P
 moving-of setup P k = record { quiet = k.quiet; opened = k.opened; moded = k.moded; slot = k.slot; skip = k.skip; reported = k.reported; taken = k.taken }
 
 module _ (setup : Setup) (P : LinkRecord → List LogEntry → Type 0) (keeps : Moving setup P) where
-  slots-keep : (ps : List ℕ) (w : LinkRecord) (log : List LogEntry) → Sane setup w → SlotsFit (shape w) ps → P w log
+  slots-keep : (ps : List ℕ) (w : LinkRecord) (log : List LogEntry) → Consistent setup w → SlotsFit (shape w) ps → P w log
       → P (fold Changes.receive_slot w ps) (slots_come ps log)
   slots-keep [] w log g f p = p
   slots-keep (q ∷ ps) w log g f p =
-      slots-keep ps (Changes.receive_slot w q) (SlotReceived q ∷ log) (sane-received setup w q g)
+      slots-keep ps (Changes.receive_slot w q) (SlotReceived q ∷ log) (consistent-received setup w q g)
       (subst (λ x. SlotsFit x ps) (sym (same-slot w q).shape_is) f.2)
       (keeps.slot w log q g f.0 f.1 p)
 
-  arrive-keeps : (w : LinkRecord) (log : List LogEntry) (o : Option Datagram) (m : Option Made) → Sane setup w → ((d : Datagram) → o ≡ Some d
+  arrive-keeps : (w : LinkRecord) (log : List LogEntry) (o : Option Datagram) (m : Option Made) → Consistent setup w → ((d : Datagram) → o ≡ Some d
       → (Fits (shape w) d) × (m ≡ Some (kind_of d))) → (o ≡ None → m ≡ None) → P w log → P (Changes.after_arrive w o) (datagram_comes m log)
   arrive-keeps w log None m g f none p = subst (λ x. P w (datagram_comes x log)) (sym (none refl)) p
   arrive-keeps w log (Some (W.Data ps)) m g f none p = let a = f (W.Data ps) refl in
@@ -73,7 +73,7 @@ module _ (setup : Setup) (P : LinkRecord → List LogEntry → Type 0) (keeps : 
       subst (λ x. P (Changes.receive_skip w upto names) (datagram_comes x log)) (sym a.1) (keeps.skip w log upto names g a.0.0 a.0.1 p)
   arrive-keeps w log (Some (Sack r)) m g f none p = let a = f (Sack r) refl in subst (λ x. P w (datagram_comes x log)) (sym a.1) p
 
-  taken-keeps : (w : LinkRecord) (log : List LogEntry) (o : Option Datagram) → Sane setup w → P w log → P (Changes.after_acked w o) log
+  taken-keeps : (w : LinkRecord) (log : List LogEntry) (o : Option Datagram) → Consistent setup w → P w log → P (Changes.after_acked w o) log
   taken-keeps w log None g p = p
   taken-keeps w log (Some (W.Data ps)) g p = p
   taken-keeps w log (Some (Forward upto names)) g p = p
@@ -99,10 +99,10 @@ pub step-moves : (setup : Setup) (P : LinkRecord → List LogEntry → Type 0) �
     → (e : Event) (r : Reply) → is_read e ≡ false → refusal_of (record_of setup older) e ≡ None → P (record_of setup older) (log_of setup older)
     → P (after (record_of setup older) e) (log_of setup ((e, r) ∷ older))
 step-moves setup P keeps older is run e r no' ok p =
-    by e r no' (sane-run setup older run) ok (sane-after setup (record_of setup older) e ok (sane-run setup older run)) p
+    by e r no' (consistent-run setup older run) ok (consistent-after setup (record_of setup older) e ok (consistent-run setup older run)) p
   where
-    by : (e : Event) (r : Reply) → is_read e ≡ false → Sane setup (record_of setup older) → refusal_of (record_of setup older) e ≡ None
-        → Sane setup (after (record_of setup older) e) → P (record_of setup older) (log_of setup older)
+    by : (e : Event) (r : Reply) → is_read e ≡ false → Consistent setup (record_of setup older) → refusal_of (record_of setup older) e ≡ None
+        → Consistent setup (after (record_of setup older) e) → P (record_of setup older) (log_of setup older)
         → P (after (record_of setup older) e) (log_of setup ((e, r) ∷ older))
     by (E.Open s) r no' g ok a p = keeps.opened (record_of setup older) (log_of setup older) s g
         (negated (Messages.is_open (record_of setup older) s) (unless-holds (not (Messages.is_open (record_of setup older) s)) StreamOpen None ok).0) p
@@ -150,7 +150,7 @@ run-keeps setup P keeps ((E.Read s, r) ∷ older) is run =
     reads : (o : Option ℕ) → Receiver.next_read (record_of setup older) s ≡ o → P (record_of setup older) (log_of setup older)
         → P (Changes.read_of (record_of setup older) s o) (log_of setup older)
     reads None e p = p
-    reads (Some n) e p = keeps.read (record_of setup older) (log_of setup older) s n (sane-run setup older run.1.1)
+    reads (Some n) e p = keeps.read (record_of setup older) (log_of setup older) s n (consistent-run setup older run.1.1)
         (unless-holds (Messages.is_open (record_of setup older) s) StreamUnknown None run.0).0 e p
 run-keeps setup P keeps ((E.Open s, r) ∷ older) is run =
     step-moves setup P (moving-of setup P keeps) older is run.1.1 (E.Open s) r refl run.0 (run-keeps setup P keeps older is run.1.1)

@@ -20,10 +20,10 @@ use Rattle.sctp_model.proofs.sender.Shape.{has, on, sent, parts}
 use Rattle.sctp_model.proofs.sender.Sender.{Sender}
 use Rattle.sctp_model.proofs.sender.SenderSteps.{of-has}
 use Rattle.sctp_model.proofs.sender.SenderEnds.{sent-none}
-use Rattle.sctp_model.proofs.sender.SenderRun.{Sane}
+use Rattle.sctp_model.proofs.sender.SenderRun.{Consistent}
 use Rattle.sctp_model.proofs.sender.Grows.{Grows, parts-grown}
 use Rattle.sctp_model.proofs.sender.Moves.{Quiet}
-use Rattle.sctp_model.proofs.receiver.Arrivals.{Heard, with_arrived, arrived-beyond}
+use Rattle.sctp_model.proofs.receiver.Arrivals.{Arrivals, with_arrived, arrived-beyond}
 use Rattle.sctp_model.proofs.receiver.View
 use Rattle.sctp_model.proofs.receiver.View.{View, view, has_come, come_count, all_come, complete_at, arrived_in, noted_in, skipped_in, read_in, run, line}
 use Rattle.sctp_model.proofs.receiver.View.{next_read}
@@ -48,7 +48,7 @@ pub record Still (u v : View) : Type 0 where
   pub complete : (s : ℕ) → v.complete s ≡ u.complete s
   pub skipped : v.skipped ≡ u.skipped
 
-pub still-of : (setup : Setup) (w v : LinkRecord) → Sane setup w → Sane setup v → Quiet w v → Still (view w) (view v)
+pub still-of : (setup : Setup) (w v : LinkRecord) → Consistent setup w → Consistent setup v → Quiet w v → Still (view w) (view v)
 still-of setup w v g a q = record {
   grows = q.grows;
   sender = g.sender;
@@ -110,10 +110,10 @@ pub record Complete (v : View) (log : List LogEntry) : Type 0 where
   pub agrees : (n : ℕ) → n < v.x.count → complete_at v n ≡ CompleteMessages.complete_in v.x log n
 
 pub record Known (w : LinkRecord) (log : List LogEntry) : Type 0 where
-  pub heard : Heard w log
+  pub arrivals : Arrivals w log
   pub complete : Complete (view w) log
 
-pub hears : (w : LinkRecord) (log : List LogEntry) → Heard w log → CompleteMessages.Hears (view w) log
+pub hears : (w : LinkRecord) (log : List LogEntry) → Arrivals w log → CompleteMessages.Hears (view w) log
 hears w log h = record { arrived = h.arrived; covered = h.covered }
 
 pub complete-as : (u v : View) (log : List LogEntry) → v ≡ u → Complete u log → Complete v log
@@ -125,7 +125,7 @@ different-same : (xs ys : List ℕ) → ys ≡ xs → AllDifferent xs → AllDif
 different-same xs ys e a = subst AllDifferent (sym e) a
 
 pub complete-quiet : (u v : View) (log : List LogEntry) → ((p : ℕ) → u.arrived p ≡ Log.arrived_new log p) → Still u v → Complete u log → Complete v log
-complete-quiet u v log heard s h = record {
+complete-quiet u v log arrivals s h = record {
   datagram_received = CompleteMessages.received-later u.x v.x s.grows.slots log h.datagram_received;
   ready = λ t n e. let r = h.ready t n (ap (list_any (λ k. k == n)) (sym (s.complete t)) ∙ e) in
       record {
@@ -154,7 +154,7 @@ complete-quiet u v log heard s h = record {
 
     new-in : (n : ℕ) → n < v.x.count → u.x.count ≤ n → CompleteMessages.complete_in v.x log n ≡ false
     new-in n lt ge = fails (CompleteMessages.complete_in v.x log n)
-        (λ e. let y = CompleteMessages.complete-come v log n (λ p. s.arrived p ∙ heard p) (s.sender'.within n lt) e in
+        (λ e. let y = CompleteMessages.complete-come v log n (λ p. s.arrived p ∙ arrivals p) (s.sender'.within n lt) e in
         let z = same-is (come_count v n) (parts v.x n) y in
         absurd (omega (arith, z, come-still u v s n, come-sent u n, sent-none u.x n s.sender ge, s.sender'.some n lt)))
 
@@ -168,7 +168,7 @@ complete-quiet u v log heard s h = record {
 abbrev pub noting : View → ℕ → View
 noting v n = if not (v.x.message n).ordered && CompleteMessages.due v n then noted_in v (v.x.message n).stream n else v
 
-pub view-received : (setup : Setup) (w : LinkRecord) (p : ℕ) → Sane setup w → p < length w.slots → is_new w p ≡ true
+pub view-received : (setup : Setup) (w : LinkRecord) (p : ℕ) → Consistent setup w → p < length w.slots → is_new w p ≡ true
     → view (Changes.receive_slot w p) ≡ noting (arrived_in (view w) p) (Messages.message_of w p)
 view-received setup w p g lt new =
     ap (λ b. view (if b then Changes.note_completion (with_arrived w p) (Messages.message_of w p) else record w { duplicates = w.duplicates ++ p ∷ [] })) new
@@ -212,8 +212,8 @@ come-other v p n ne =
     (λ e. let off : has v.x n k ≡ false = fails (has v.x n k) (λ i. ne (sym (ap (λ q. (v.x.slot q).message) e) ∙ (of-has v.x n k i).0)) in rw off refl)
     (λ nk f. ap (λ b. has v.x n k && (if b then true else v.arrived k)) f)))
 
-module _ (v : View) (log : List LogEntry) (p : ℕ) (s : Sender v.x) (h : Complete v log) (heard : CompleteMessages.Hears v log)
-    (heard' : CompleteMessages.Hears (arrived_in v p) (SlotReceived p ∷ log)) (lt : p < v.x.slots) (mark : (v.x.slot p).is_terminal_chunk ≡ false)
+module _ (v : View) (log : List LogEntry) (p : ℕ) (s : Sender v.x) (h : Complete v log) (arrivals : CompleteMessages.Hears v log)
+    (arrivals' : CompleteMessages.Hears (arrived_in v p) (SlotReceived p ∷ log)) (lt : p < v.x.slots) (terminal : (v.x.slot p).is_terminal_chunk ≡ false)
     (new : v.arrived p ≡ false) where
   abbrev m : ℕ
   m = (v.x.slot p).message
@@ -228,12 +228,12 @@ module _ (v : View) (log : List LogEntry) (p : ℕ) (s : Sender v.x) (h : Comple
   made = s.made p lt
 
   here : has v.x m p ≡ true
-  here = and ((v.x.slot p).message == m) (not (v.x.slot p).is_terminal_chunk) (same-yes m) (ap not mark)
+  here = and ((v.x.slot p).message == m) (not (v.x.slot p).is_terminal_chunk) (same-yes m) (ap not terminal)
 
   -- it was not complete before
   pub not-complete : (v.x.message m).ordered ≡ false → complete_at v m ≡ false
   not-complete o = fails (complete_at v m) (λ e. not_both (sym (not-all v m p (s.within m made) lt here new)
-      ∙ CompleteMessages.complete-come v log m heard.arrived (s.within m made) (sym (h.agrees m made) ∙ e)))
+      ∙ CompleteMessages.complete-come v log m arrivals.arrived (s.within m made) (sym (h.agrees m made) ∙ e)))
 
   pub due-other : (n : ℕ) → (m ≡ n → ⊥) → CompleteMessages.due v1 n ≡ CompleteMessages.due v n
   due-other n ne = ap (λ c. (c == parts v.x n) && list_all (λ q. nat_le v.skipped q) (CompleteMessages.slots_in v.x n)) (come-other v p n ne)
@@ -290,7 +290,7 @@ module _ (v : View) (log : List LogEntry) (p : ℕ) (s : Sender v.x) (h : Comple
         where
           by : (b : Bool) → CompleteMessages.due v n ≡ b → (complete_at v n || CompleteMessages.due v1 n) ≡ (complete_at v n || false)
           by false e = ap (λ b. complete_at v n || b) (due-other n ne ∙ e)
-          by true e = let y : complete_at v n ≡ true = h.agrees n l ∙ CompleteMessages.due-complete v log n heard (s.within n l) (s.some n l) o e in
+          by true e = let y : complete_at v n ≡ true = h.agrees n l ∙ CompleteMessages.due-complete v log n arrivals (s.within n l) (s.some n l) o e in
               ap (λ b. b || CompleteMessages.due v1 n) y ∙ sym (ap (λ b. b || false) y)
 
   agrees-then : (n : ℕ) → n < v.x.count → complete_at v2 n ≡ CompleteMessages.complete_in v.x (SlotReceived p ∷ log) n
@@ -304,9 +304,9 @@ module _ (v : View) (log : List LogEntry) (p : ℕ) (s : Sender v.x) (h : Comple
 
       by : (b : Bool) → (v.x.message n).ordered ≡ b → complete_at v2 n ≡ CompleteMessages.complete_in v.x (SlotReceived p ∷ log) n
       by true o = kind (not (v.x.message m).ordered && CompleteMessages.due v1 m) o
-          ∙ CompleteMessages.ordered-complete v1 (SlotReceived p ∷ log) n heard'.arrived (s.within n l) o
+          ∙ CompleteMessages.ordered-complete v1 (SlotReceived p ∷ log) n arrivals'.arrived (s.within n l) o
       by false o = complete-then n l o ∙ ap (λ b. b || CompleteMessages.due v1 n) (h.agrees n l)
-          ∙ sym (CompleteMessages.one-more v1 (SlotReceived p) log n heard' (s.within n l) o)
+          ∙ sym (CompleteMessages.one-more v1 (SlotReceived p) log n arrivals' (s.within n l) o)
 
   pub complete-slot : Complete v2 (SlotReceived p ∷ log)
   complete-slot = by (not (v.x.message m).ordered && CompleteMessages.due v1 m) refl
@@ -367,7 +367,7 @@ module _ (v : View) (log : List LogEntry) (p : ℕ) (s : Sender v.x) (h : Comple
 agrees-still : (u v : View) (coming : LogEntry) (log : List LogEntry) → CompleteMessages.Hears u log → CompleteMessages.Hears v (coming ∷ log) → v.x ≡ u.x
     → Sender u.x → Complete u log → ((n : ℕ) → n < u.x.count → complete_at v n ≡ complete_at u n) → ((n : ℕ) → CompleteMessages.due v n ≡ true
     → CompleteMessages.due u n ≡ true) → (n : ℕ) → n < u.x.count → complete_at v n ≡ CompleteMessages.complete_in u.x (coming ∷ log) n
-agrees-still u v coming log heard heard' e s h same less n lt = by (u.x.message n).ordered refl
+agrees-still u v coming log arrivals arrivals' e s h same less n lt = by (u.x.message n).ordered refl
   where
     le : sent v.x n ≤ parts v.x n
     le = subst (λ y. sent y n ≤ parts y n) (sym e) (s.within n lt)
@@ -376,37 +376,37 @@ agrees-still u v coming log heard heard' e s h same less n lt = by (u.x.message 
     kind = ap (λ y. (y.message n).ordered) (sym e)
 
     by : (b : Bool) → (u.x.message n).ordered ≡ b → complete_at v n ≡ CompleteMessages.complete_in u.x (coming ∷ log) n
-    by true o = CompleteMessages.ordered-complete v (coming ∷ log) n heard'.arrived le (sym kind ∙ o)
+    by true o = CompleteMessages.ordered-complete v (coming ∷ log) n arrivals'.arrived le (sym kind ∙ o)
         ∙ ap (λ y. CompleteMessages.complete_in y (coming ∷ log) n) e
     by false o =
         same n lt ∙ h.agrees n lt
-        ∙ sym (ap (λ y. CompleteMessages.complete_in y (coming ∷ log) n) (sym e) ∙ CompleteMessages.one-more v coming log n heard' le (sym kind ∙ o)
+        ∙ sym (ap (λ y. CompleteMessages.complete_in y (coming ∷ log) n) (sym e) ∙ CompleteMessages.one-more v coming log n arrivals' le (sym kind ∙ o)
         ∙ ap (λ y. CompleteMessages.complete_in y log n || CompleteMessages.due v n) e ∙ gone (CompleteMessages.due v n) refl)
       where
         gone : (b : Bool) → CompleteMessages.due v n ≡ b
             → (CompleteMessages.complete_in u.x log n || CompleteMessages.due v n) ≡ CompleteMessages.complete_in u.x log n
-        gone true f = let y = CompleteMessages.due-complete u log n heard (s.within n lt) (s.some n lt) o (less n f) in
+        gone true f = let y = CompleteMessages.due-complete u log n arrivals (s.within n lt) (s.some n lt) o (less n f) in
             ap (λ b. b || CompleteMessages.due v n) y ∙ sym y
         gone false f = ap (λ b. CompleteMessages.complete_in u.x log n || b) f ∙ or-none (CompleteMessages.complete_in u.x log n)
 
 -- a slot comes again, or a SACK is made
 pub complete-again : (v : View) (coming : LogEntry) (log : List LogEntry) → CompleteMessages.Hears v log → CompleteMessages.Hears v (coming ∷ log) → Sender v.x
     → CompleteMessages.SlotsReceived v.x (coming ∷ log) → Complete v log → Complete v (coming ∷ log)
-complete-again v coming log heard heard' s datagram_received h = record {
+complete-again v coming log arrivals arrivals' s datagram_received h = record {
   datagram_received = datagram_received;
   ready = h.ready;
   differ = h.differ;
-  agrees = agrees-still v v coming log heard heard' refl s h (λ n lt. refl) (λ n e. e);
+  agrees = agrees-still v v coming log arrivals arrivals' refl s h (λ n lt. refl) (λ n e. e);
 }
 
 pub complete-skip : (v : View) (log : List LogEntry) (upto : ℕ) (names : List ℕ) → CompleteMessages.Hears v log
     → CompleteMessages.Hears (skipped_in v upto names) (SkipReceived upto names ∷ log) → Sender v.x → v.skipped ≤ upto → Complete v log
     → Complete (skipped_in v upto names) (SkipReceived upto names ∷ log)
-complete-skip v log upto names heard heard' s le h = record {
+complete-skip v log upto names arrivals arrivals' s le h = record {
   datagram_received = h.datagram_received;
   ready = λ t n i. let r = h.ready t n i in record { made = r.made; stream = r.stream; kind = r.kind; unread = r.unread };
   differ = h.differ;
-  agrees = agrees-still v (skipped_in v upto names) (SkipReceived upto names) log heard heard' refl s h (λ n lt. refl) (λ n e. less n e);
+  agrees = agrees-still v (skipped_in v upto names) (SkipReceived upto names) log arrivals arrivals' refl s h (λ n lt. refl) (λ n e. less n e);
 }
   where
     less : (n : ℕ) → CompleteMessages.due (skipped_in v upto names) n ≡ true → CompleteMessages.due v n ≡ true

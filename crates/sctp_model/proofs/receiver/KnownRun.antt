@@ -12,10 +12,10 @@ use Rattle.sctp_model.specs.Log
 use Rattle.sctp_model.specs.Log.{LogEntry, SlotReceived, SkipReceived, SackMade}
 use Rattle.sctp_model.specs.Laws.{IsSetup, OnEveryRun, CompletenessAgrees}
 use Rattle.sctp_model.proofs.sender.Shape.{shape}
-use Rattle.sctp_model.proofs.sender.SenderRun.{Sane}
+use Rattle.sctp_model.proofs.sender.SenderRun.{Consistent}
 use Rattle.sctp_model.proofs.sender.Network.{NamesFit}
 use Rattle.sctp_model.proofs.receiver.Events.{Keeps, run-keeps}
-use Rattle.sctp_model.proofs.receiver.Arrivals.{Heard, heard-keeps, heard-new, with_arrived, skipped-le, new-unseen}
+use Rattle.sctp_model.proofs.receiver.Arrivals.{Arrivals, arrivals-keeps, arrivals-new, with_arrived, skipped-le, new-unseen}
 use Rattle.sctp_model.proofs.receiver.View
 use Rattle.sctp_model.proofs.receiver.View.{View, view, arrived_in, skipped_in, read_in}
 use Rattle.sctp_model.proofs.receiver.Names.{view-skip}
@@ -43,31 +43,31 @@ new-past w p e = let z : nat_lt p w.skipped ≡ false = by (nat_lt p w.skipped) 
 pub hears-as : (u v : View) (log : List LogEntry) → v ≡ u → CompleteMessages.Hears u log → CompleteMessages.Hears v log
 hears-as u v log e h = subst (λ y. CompleteMessages.Hears y log) (sym e) h
 
-pub hears-new : (w : LinkRecord) (log : List LogEntry) (p : ℕ) → p < length w.slots → is_new w p ≡ true → Heard w log
+pub hears-new : (w : LinkRecord) (log : List LogEntry) (p : ℕ) → p < length w.slots → is_new w p ≡ true → Arrivals w log
     → CompleteMessages.Hears (arrived_in (view w) p) (SlotReceived p ∷ log)
 hears-new w log p lt new h = hears-as (view (with_arrived w p)) (arrived_in (view w) p) (SlotReceived p ∷ log) (sym (View.view-arrived w p lt))
-    (hears (with_arrived w p) (SlotReceived p ∷ log) (heard-new w log p lt new h))
+    (hears (with_arrived w p) (SlotReceived p ∷ log) (arrivals-new w log p lt new h))
 
-complete-received : (setup : Setup) (w : LinkRecord) (log : List LogEntry) (p : ℕ) → Sane setup w → p < length w.slots
-    → (Messages.slot_at w p).is_terminal_chunk ≡ false → Heard w log → Heard (Changes.receive_slot w p) (SlotReceived p ∷ log) → Complete (view w) log
+complete-received : (setup : Setup) (w : LinkRecord) (log : List LogEntry) (p : ℕ) → Consistent setup w → p < length w.slots
+    → (Messages.slot_at w p).is_terminal_chunk ≡ false → Arrivals w log → Arrivals (Changes.receive_slot w p) (SlotReceived p ∷ log) → Complete (view w) log
     → Complete (view (Changes.receive_slot w p)) (SlotReceived p ∷ log)
-complete-received setup w log p g lt mark heard heard' h = by (is_new w p) refl
+complete-received setup w log p g lt terminal arrivals arrivals' h = by (is_new w p) refl
   where
     by : (b : Bool) → is_new w p ≡ b → Complete (view (Changes.receive_slot w p)) (SlotReceived p ∷ log)
     by true e = complete-as (Known.noting (arrived_in (view w) p) (Messages.message_of w p)) (view (Changes.receive_slot w p)) (SlotReceived p ∷ log)
         (Known.view-received setup w p g lt e)
-        (Known.complete-slot (view w) log p g.sender h (hears w log heard) (hears-new w log p lt e heard) lt mark (new-not w p e))
+        (Known.complete-slot (view w) log p g.sender h (hears w log arrivals) (hears-new w log p lt e arrivals) lt terminal (new-not w p e))
     by false e =
         let same : view (Changes.receive_slot w p) ≡ view w = ap (λ b.
         view (if b then Changes.note_completion (with_arrived w p) (Messages.message_of w p) else record w { duplicates = w.duplicates ++ p ∷ [] })) e in
         complete-as (view w) (view (Changes.receive_slot w p)) (SlotReceived p ∷ log) same
-        (Known.complete-again (view w) (SlotReceived p) log (hears w log heard) (hears-as (view (Changes.receive_slot w p)) (view w) (SlotReceived p ∷ log)
-        (sym same) (hears (Changes.receive_slot w p) (SlotReceived p ∷ log) heard')) g.sender (lt, h.datagram_received) h)
+        (Known.complete-again (view w) (SlotReceived p) log (hears w log arrivals) (hears-as (view (Changes.receive_slot w p)) (view w) (SlotReceived p ∷ log)
+        (sym same) (hears (Changes.receive_slot w p) (SlotReceived p ∷ log) arrivals')) g.sender (lt, h.datagram_received) h)
 
-complete-skipped : (setup : Setup) (w : LinkRecord) (log : List LogEntry) (upto : ℕ) (names : List ℕ) → Sane setup w → NamesFit (shape w) upto names
-    → Heard w log → Heard (Changes.receive_skip w upto names) (SkipReceived upto names ∷ log) → Complete (view w) log
+complete-skipped : (setup : Setup) (w : LinkRecord) (log : List LogEntry) (upto : ℕ) (names : List ℕ) → Consistent setup w → NamesFit (shape w) upto names
+    → Arrivals w log → Arrivals (Changes.receive_skip w upto names) (SkipReceived upto names ∷ log) → Complete (view w) log
     → Complete (view (Changes.receive_skip w upto names)) (SkipReceived upto names ∷ log)
-complete-skipped setup w log upto names g f heard heard' h = by (Changes.skip_counts w upto) refl
+complete-skipped setup w log upto names g f arrivals arrivals' h = by (Changes.skip_counts w upto) refl
   where
     by : (b : Bool) → Changes.skip_counts w upto ≡ b → Complete (view (Changes.receive_skip w upto names)) (SkipReceived upto names ∷ log)
     by true e =
@@ -75,52 +75,53 @@ complete-skipped setup w log upto names g f heard heard' h = by (Changes.skip_co
         view (if b then record w { skipped = upto + 1; streams = map (Changes.named_by w names) w.streams } else w)) e ∙ view-skip setup w upto names g f in
         let c : cumulative w ≤ upto = grind (arith, nat_tests) in
         complete-as (skipped_in (view w) upto names) (view (Changes.receive_skip w upto names)) (SkipReceived upto names ∷ log) same
-        (Known.complete-skip (view w) log upto names (hears w log heard) (hears-as (view (Changes.receive_skip w upto names)) (skipped_in (view w) upto names)
-        (SkipReceived upto names ∷ log) (sym same) (hears (Changes.receive_skip w upto names) (SkipReceived upto names ∷ log) heard')) g.sender
+        (Known.complete-skip (view w) log upto names (hears w log arrivals)
+        (hears-as (view (Changes.receive_skip w upto names)) (skipped_in (view w) upto names)
+        (SkipReceived upto names ∷ log) (sym same) (hears (Changes.receive_skip w upto names) (SkipReceived upto names ∷ log) arrivals')) g.sender
         (omega (arith, c, skipped-le w)) h)
     by false e =
         let same : view (Changes.receive_skip w upto names) ≡ view w =
         ap (λ b. view (if b then record w { skipped = upto + 1; streams = map (Changes.named_by w names) w.streams } else w)) e in
         complete-as (view w) (view (Changes.receive_skip w upto names)) (SkipReceived upto names ∷ log) same
-        (Known.complete-again (view w) (SkipReceived upto names) log (hears w log heard)
+        (Known.complete-again (view w) (SkipReceived upto names) log (hears w log arrivals)
         (hears-as (view (Changes.receive_skip w upto names)) (view w) (SkipReceived upto names ∷ log) (sym same)
-        (hears (Changes.receive_skip w upto names) (SkipReceived upto names ∷ log) heard')) g.sender h.datagram_received h)
+        (hears (Changes.receive_skip w upto names) (SkipReceived upto names ∷ log) arrivals')) g.sender h.datagram_received h)
 
 pub known-keeps : (setup : Setup) → Keeps setup Known
 known-keeps setup =
-    let k = heard-keeps setup in
+    let k = arrivals-keeps setup in
     record {
       begins = record {
-        heard = k.begins;
+        arrivals = k.begins;
         complete = record { datagram_received = tt; ready = λ s n e. cc; differ = λ s. tt; agrees = λ n lt. absurd (omega arith) };
       };
       quiet = λ w v log g a q b. record {
-        heard = k.quiet w v log g a q b.heard;
-        complete = Known.complete-quiet (view w) (view v) log b.heard.arrived (still-of setup w v g a q) b.complete;
+        arrivals = k.quiet w v log g a q b.arrivals;
+        complete = Known.complete-quiet (view w) (view v) log b.arrivals.arrived (still-of setup w v g a q) b.complete;
       };
       opened = λ w log s g o b. record {
-        heard = k.opened w log s g o b.heard;
+        arrivals = k.opened w log s g o b.arrivals;
         complete = complete-as (view w) (view (Changes.after_open w s)) log (View.view-opened w s o) b.complete;
       };
       moded = λ w log s u r n g b. record {
-        heard = k.moded w log s u r n g b.heard;
+        arrivals = k.moded w log s u r n g b.arrivals;
         complete = complete-as (view w) (view (Changes.after_mode w s u r n)) log (View.view-moded w s u r n) b.complete;
       };
-      slot = λ w log p g lt m b. let h = k.slot w log p g lt m b.heard in
-          record { heard = h; complete = complete-received setup w log p g lt m b.heard h b.complete };
-      skip = λ w log upto names g lt f b. let h = k.skip w log upto names g lt f b.heard in
-          record { heard = h; complete = complete-skipped setup w log upto names g f b.heard h b.complete };
-      reported = λ w log credit g b. let h = k.reported w log credit g b.heard in record {
-        heard = h;
-        complete = Known.complete-again (view w) SackMade log (hears w log b.heard)
+      slot = λ w log p g lt m b. let h = k.slot w log p g lt m b.arrivals in
+          record { arrivals = h; complete = complete-received setup w log p g lt m b.arrivals h b.complete };
+      skip = λ w log upto names g lt f b. let h = k.skip w log upto names g lt f b.arrivals in
+          record { arrivals = h; complete = complete-skipped setup w log upto names g f b.arrivals h b.complete };
+      reported = λ w log credit g b. let h = k.reported w log credit g b.arrivals in record {
+        arrivals = h;
+        complete = Known.complete-again (view w) SackMade log (hears w log b.arrivals)
             (record { arrived = h.arrived; covered = h.covered }) g.sender b.complete.datagram_received b.complete;
       };
       taken = λ w log r g b. record {
-        heard = k.taken w log r g b.heard;
+        arrivals = k.taken w log r g b.arrivals;
         complete = complete-as (view w) (view (Changes.after_acked w (Some (Sack r)))) log (View.view-taken w r) b.complete;
       };
       read = λ w log s n g o e b. record {
-        heard = k.read w log s n g o e b.heard;
+        arrivals = k.read w log s n g o e b.arrivals;
         complete = complete-as (read_in (view w) s n) (view (Changes.read_of w s (Some n))) log (View.view-read w s n o)
             (Known.complete-reading (view w) log s n b.complete (Known.reads (view w) s n e));
       };

@@ -14,11 +14,11 @@ use Rattle.sctp_model.specs.Laws.{IsSetup, OnEveryRun, NamedIsNamed}
 use Rattle.sctp_model.proofs.sender.Shape.{Shape, shape, on, index, sent}
 use Rattle.sctp_model.proofs.sender.Sender.{Sender}
 use Rattle.sctp_model.proofs.sender.Slots.{sent-made, sent-alive}
-use Rattle.sctp_model.proofs.sender.SenderRun.{Sane}
+use Rattle.sctp_model.proofs.sender.SenderRun.{Consistent}
 use Rattle.sctp_model.proofs.sender.Grows.{Grows}
 use Rattle.sctp_model.proofs.sender.Network.{NamesFit, names-grown, same-slot}
 use Rattle.sctp_model.proofs.receiver.Events.{Keeps, run-keeps}
-use Rattle.sctp_model.proofs.receiver.Arrivals.{Heard, heard-keeps, counts-heard, with_arrived}
+use Rattle.sctp_model.proofs.receiver.Arrivals.{Arrivals, arrivals-keeps, counts-arrivals, with_arrived}
 use Rattle.sctp_model.proofs.receiver.View
 use Rattle.sctp_model.proofs.receiver.View.{View, view}
 use Rattle.sctp_model.proofs.receiver.Indexes.{on-stream}
@@ -91,23 +91,23 @@ named-as : (u v : View) (log : List LogEntry) → v ≡ u → Named u log → Na
 named-as u v log e h = subst (λ y. Named y log) (sym e) h
 
 -- the messages that a skip names are of open streams
-pub closed-none : (setup : Setup) (w : LinkRecord) (upto t : ℕ) (names : List ℕ) → Sane setup w → NamesFit (shape w) upto names → Messages.is_open w t ≡ false
-    → filter (on (shape w) t) names ≡ []
+pub closed-none : (setup : Setup) (w : LinkRecord) (upto t : ℕ) (names : List ℕ) → Consistent setup w → NamesFit (shape w) upto names
+    → Messages.is_open w t ≡ false → filter (on (shape w) t) names ≡ []
 closed-none setup w upto t [] g f e = refl
 closed-none setup w upto t (n ∷ ns) g f e =
     ap (λ c. if c then n ∷ filter (on (shape w) t) ns else filter (on (shape w) t) ns)
     (fails (on (shape w) t n) (λ h. not_both (sym e ∙ ap (Messages.is_open w) (sym (on-stream (shape w) t n h))
     ∙ g.known n (sent-made (shape w) n g.sender f.0.some)))) ∙ closed-none setup w upto t ns g f.1 e
 
-pub view-skip : (setup : Setup) (w : LinkRecord) (upto : ℕ) (names : List ℕ) → Sane setup w → NamesFit (shape w) upto names
+pub view-skip : (setup : Setup) (w : LinkRecord) (upto : ℕ) (names : List ℕ) → Consistent setup w → NamesFit (shape w) upto names
     → view (record w { skipped = upto + 1; streams = map (Changes.named_by w names) w.streams }) ≡ View.skipped_in (view w) upto names
 view-skip setup w upto names g f = View.view-skipped w upto names (λ t e. closed-none setup w upto t names g f e)
 
 record Both (w : LinkRecord) (log : List LogEntry) : Type 0 where
-  heard : Heard w log
+  arrivals : Arrivals w log
   named : Named (view w) log
 
-named-slot : (setup : Setup) (w : LinkRecord) (log : List LogEntry) (p : ℕ) → Sane setup w → Named (view w) log
+named-slot : (setup : Setup) (w : LinkRecord) (log : List LogEntry) (p : ℕ) → Consistent setup w → Named (view w) log
     → Named (view (Changes.receive_slot w p)) (SlotReceived p ∷ log)
 named-slot setup w log p g h = record {
   fit = subst (λ x. NamesReceived x log) (sym (same-slot w p).shape_is) h.fit;
@@ -134,9 +134,9 @@ named-slot setup w log p g h = record {
     same s true = noted s (Messages.message_of w p) (with_arrived w p) (Changes.becomes_complete (with_arrived w p) (Messages.message_of w p))
     same s false = refl
 
-named-skip : (setup : Setup) (w : LinkRecord) (log : List LogEntry) (upto : ℕ) (names : List ℕ) → Sane setup w → NamesFit (shape w) upto names → Heard w log
-    → Named (view w) log → Named (view (Changes.receive_skip w upto names)) (SkipReceived upto names ∷ log)
-named-skip setup w log upto names g f heard h = step (Changes.skip_counts w upto) refl
+named-skip : (setup : Setup) (w : LinkRecord) (log : List LogEntry) (upto : ℕ) (names : List ℕ) → Consistent setup w → NamesFit (shape w) upto names
+    → Arrivals w log → Named (view w) log → Named (view (Changes.receive_skip w upto names)) (SkipReceived upto names ∷ log)
+named-skip setup w log upto names g f arrivals h = step (Changes.skip_counts w upto) refl
   where
     step : (b : Bool) → Changes.skip_counts w upto ≡ b
         → Named (view (if b then record w { skipped = upto + 1; streams = map (Changes.named_by w names) w.streams } else w)) (SkipReceived upto names ∷ log)
@@ -146,21 +146,21 @@ named-skip setup w log upto names g f heard h = step (Changes.skip_counts w upto
           fit = (f, h.fit);
           is = λ s. ap (λ k. greatest k (map (λ n. index (shape w) n + 1) (filter (on (shape w) s) names))) (h.is s)
               ∙ ap (λ b. if b then greatest (named_in (shape w) s log) (map (λ n. index (shape w) n + 1) (filter (on (shape w) s) names))
-              else named_in (shape w) s log) (sym (counts-heard w log upto heard ∙ e));
+              else named_in (shape w) s log) (sym (counts-arrivals w log upto arrivals ∙ e));
         })
     step false e = record {
       fit = (f, h.fit);
       is = λ s. h.is s ∙ ap (λ b. if b then greatest (named_in (shape w) s log) (map (λ n. index (shape w) n + 1) (filter (on (shape w) s) names))
-          else named_in (shape w) s log) (sym (counts-heard w log upto heard ∙ e));
+          else named_in (shape w) s log) (sym (counts-arrivals w log upto arrivals ∙ e));
     }
 
 named-keeps : (setup : Setup) → Keeps setup Both
 named-keeps setup =
-    let k = heard-keeps setup in
+    let k = arrivals-keeps setup in
     record {
-      begins = record { heard = k.begins; named = record { fit = tt; is = λ s. refl } };
+      begins = record { arrivals = k.begins; named = record { fit = tt; is = λ s. refl } };
       quiet = λ w v log g a q b. record {
-        heard = k.quiet w v log g a q b.heard;
+        arrivals = k.quiet w v log g a q b.arrivals;
         named = record {
           fit = names-received-later (shape w) (shape v) g.sender q.grows log b.named.fit;
           is = λ s. ap (λ rs. (Messages.stream_of (record v { streams = rs }) s).named) q.streams ∙ b.named.is s
@@ -168,21 +168,22 @@ named-keeps setup =
         };
       };
       opened = λ w log s g o b.
-          record { heard = k.opened w log s g o b.heard; named = named-as (view w) (view (Changes.after_open w s)) log (View.view-opened w s o) b.named };
+          record { arrivals = k.opened w log s g o b.arrivals; named = named-as (view w) (view (Changes.after_open w s)) log (View.view-opened w s o) b.named };
       moded = λ w log s u r n g b. record {
-        heard = k.moded w log s u r n g b.heard;
+        arrivals = k.moded w log s u r n g b.arrivals;
         named = named-as (view w) (view (Changes.after_mode w s u r n)) log (View.view-moded w s u r n) b.named;
       };
-      slot = λ w log p g lt m b. record { heard = k.slot w log p g lt m b.heard; named = named-slot setup w log p g b.named };
+      slot = λ w log p g lt m b. record { arrivals = k.slot w log p g lt m b.arrivals; named = named-slot setup w log p g b.named };
       skip =
-          λ w log upto names g lt f b. record { heard = k.skip w log upto names g lt f b.heard; named = named-skip setup w log upto names g f b.heard b.named };
-      reported = λ w log credit g b. record { heard = k.reported w log credit g b.heard; named = record { fit = b.named.fit; is = b.named.is } };
+          λ w log upto names g lt f b.
+          record { arrivals = k.skip w log upto names g lt f b.arrivals; named = named-skip setup w log upto names g f b.arrivals b.named };
+      reported = λ w log credit g b. record { arrivals = k.reported w log credit g b.arrivals; named = record { fit = b.named.fit; is = b.named.is } };
       taken = λ w log r g b. record {
-        heard = k.taken w log r g b.heard;
+        arrivals = k.taken w log r g b.arrivals;
         named = named-as (view w) (view (Changes.after_acked w (Some (Sack r)))) log (View.view-taken w r) b.named;
       };
       read = λ w log s n g o e b. record {
-        heard = k.read w log s n g o e b.heard;
+        arrivals = k.read w log s n g o e b.arrivals;
         named = named-as (View.read_in (view w) s n) (view (Changes.read_of w s (Some n))) log (View.view-read w s n o)
             (record { fit = b.named.fit; is = b.named.is });
       };

@@ -39,7 +39,7 @@ NamedIs v s k = (k ≡ 0) ⊎ NamedAt v s k
 
 pub record Ordered (v : View) : Type 0 where
   -- what arrived is no terminal chunk
-  pub marks : (p : ℕ) → v.arrived p ≡ true → (v.x.slot p).is_terminal_chunk ≡ false
+  pub terminals : (p : ℕ) → v.arrived p ≡ true → (v.x.slot p).is_terminal_chunk ≡ false
   -- an ordered message that was read had arrived, and comes before the next expected one
   pub read_complete : (n : ℕ) → n < v.x.count → (v.x.message n).ordered ≡ true → v.read n ≡ true → all_come v n ≡ true
   pub read_past : (s n : ℕ) → n < v.x.count → on v.x s n ≡ true → v.read n ≡ true → index v.x n < next v s
@@ -157,7 +157,7 @@ module _ (u v : View) (t : Still u v) (o : Ordered u) where
 
   pub ordered-still : ((p : ℕ) → u.arrived p ≡ true → p < u.x.slots) → Ordered v
   ordered-still inside = record {
-    marks = λ p e. let f : u.arrived p ≡ true = sym (t.arrived p) ∙ e in ap (λ y. y.is_terminal_chunk) (t.grows.slot p (inside p f)) ∙ o.marks p f;
+    terminals = λ p e. let f : u.arrived p ≡ true = sym (t.arrived p) ∙ e in ap (λ y. y.is_terminal_chunk) (t.grows.slot p (inside p f)) ∙ o.terminals p f;
     read_complete = λ n lt h r. let l = was-made n lt r in
         all-still u v t n l ∙ o.read_complete n l (sym (ap (λ m. m.ordered) (t.grows.message n l)) ∙ h) (was-read n lt r);
     read_past = λ s n lt h r. let d = read-old s n lt h r in omega (arith, d.same, next-still s, o.read_past s n d.made d.on_it (was-read n lt r));
@@ -185,9 +185,9 @@ module _ (u v : View) (t : Still u v) (o : Ordered u) where
 
 pub ordered-arrived : (v : View) (p : ℕ) → Sender v.x → p < v.x.slots → (v.x.slot p).is_terminal_chunk ≡ false → v.arrived p ≡ false → v.skipped ≤ p → Ordered v
     → Ordered (arrived_in v p)
-ordered-arrived v p a lt mark new past o = record {
-  marks = λ k e. by_same {P = (v.x.slot k).is_terminal_chunk ≡ false} k p (λ z. ap (λ j. (v.x.slot j).is_terminal_chunk) z ∙ mark)
-      (λ ne f. o.marks k (ap (λ b. if b then true else v.arrived k) (sym f) ∙ e));
+ordered-arrived v p a lt terminal new past o = record {
+  terminals = λ k e. by_same {P = (v.x.slot k).is_terminal_chunk ≡ false} k p (λ z. ap (λ j. (v.x.slot j).is_terminal_chunk) z ∙ terminal)
+      (λ ne f. o.terminals k (ap (λ b. if b then true else v.arrived k) (sym f) ∙ e));
   read_complete = λ n l h r.
       let all = o.read_complete n l h r in
       ap (λ c. c == parts v.x n) (come-other v p n (λ e. not_both (sym (not-all v n p (a.within n l) lt (slot-of n e) new) ∙ all))) ∙ all;
@@ -200,7 +200,7 @@ ordered-arrived v p a lt mark new past o = record {
 }
   where
     slot-of : (n : ℕ) → (v.x.slot p).message ≡ n → has v.x n p ≡ true
-    slot-of n e = and ((v.x.slot p).message == n) (not (v.x.slot p).is_terminal_chunk) (ap (λ k. k == n) e ∙ same-yes n) (ap not mark)
+    slot-of n e = and ((v.x.slot p).message == n) (not (v.x.slot p).is_terminal_chunk) (ap (λ k. k == n) e ∙ same-yes n) (ap not terminal)
 
     above : (s m : ℕ) → on v.x s m ≡ true → (v.x.slot p).message ≡ m → (index v.x m < v.named s) ⊎ (v.named s ≤ index v.x m) → v.named s ≤ index v.x m
     above s m h e (inr g) = g
@@ -218,7 +218,8 @@ ordered-noting v n o = step (not (v.x.message n).ordered && _)
     by s (inr d) = inr (record { n = d.n; on_it = d.on_it; upto = d.upto; namable = d.namable; covered = d.covered; is = d.is })
 
     step : (b : Bool) → Ordered (if b then noted_in v (v.x.message n).stream n else v)
-    step true = record { marks = o.marks; read_complete = o.read_complete; read_past = o.read_past; downward = o.downward; named_is = λ s. by s (o.named_is s) }
+    step true =
+        record { terminals = o.terminals; read_complete = o.read_complete; read_past = o.read_past; downward = o.downward; named_is = λ s. by s (o.named_is s) }
     step false = o
 
 -- ## A skip
@@ -226,7 +227,7 @@ ordered-noting v n o = step (not (v.x.message n).ordered && _)
 pub ordered-skipped : (v : View) (upto : ℕ) (names : List ℕ) → Sender v.x → NamesFit v.x upto names → v.skipped ≤ upto → Ordered v
     → Ordered (skipped_in v upto names)
 ordered-skipped v upto names a f le o = record {
-  marks = o.marks;
+  terminals = o.terminals;
   read_complete = o.read_complete;
   read_past = λ s n lt h r. past s n lt h r (cases_lt (index v.x n) (named_more v names s));
   downward = o.downward;
@@ -303,7 +304,7 @@ next-read_other v s n t a o off = next_by (read_in v s n) t (next v t) (omega ar
 
 pub ordered-read_unordered : (v : View) (s n : ℕ) → Sender v.x → (v.x.message n).ordered ≡ false → Ordered v → Ordered (read_in v s n)
 ordered-read_unordered v s n a kind o = record {
-  marks = o.marks;
+  terminals = o.terminals;
   read_complete = λ k lt h r. o.read_complete k lt h (sym (read-other v s n k (λ e. not_both (sym kind ∙ ap (λ j. (v.x.message j).ordered) (sym e) ∙ h))) ∙ r);
   read_past = λ t k lt h r. omega (arith, next-read_other v s n t a o (off t), o.read_past t k lt h (sym (read-other v s n k (off t k h)) ∙ r));
   downward = λ t j k jk lt hj hk r c. stays-read v s n j (o.downward t j k jk lt hj hk (sym (read-other v s n k (off t k hk)) ∙ r) c);
@@ -371,7 +372,7 @@ module _ (v : View) (s n : ℕ) (a : Sender v.x) (o : Ordered v) (d : IsDue v s 
 
   pub ordered-read : Ordered (read_in v s n)
   ordered-read = record {
-    marks = o.marks;
+    terminals = o.terminals;
     read_complete =
         λ k lt h r. by_same {P = all_come v k ≡ true} k n (λ e. ap (all_come v) e ∙ all-of) (λ ne f. o.read_complete k lt h (sym (read-other v s n k ne) ∙ r));
     read_past = λ t k lt h r. by_same {P = index v.x k < next (read_in v s n) t} k n

@@ -24,7 +24,7 @@ use Rattle.sctp_model.specs.Steps.{History, record_of, IsRun, read_reply}
 use Rattle.sctp_model.specs.Laws.{IsSetup, OnEveryRun, ordered_reads, unordered_reads, ReadsBeginRun, ReadsBeginCompleteRun, ReadsBeginComplete, UnorderedFirst}
 use Rattle.sctp_model.specs.Laws.{NothingWhereRead}
 use Rattle.sctp_model.proofs.sender.Shape.{shape, on, index}
-use Rattle.sctp_model.proofs.sender.SenderRun.{Sane, sane-run, unless-holds}
+use Rattle.sctp_model.proofs.sender.SenderRun.{Consistent, consistent-run, unless-holds}
 use Rattle.sctp_model.proofs.receiver.Events.{step-moves}
 use Rattle.sctp_model.proofs.receiver.View
 use Rattle.sctp_model.proofs.receiver.View.{View, view, all_come, complete_at, read_in, line, run, next, next_read}
@@ -40,20 +40,21 @@ use Rattle.sctp_model.proofs.Lossless.{no-skips, none-named}
 use Rattle.sctp_model.proofs.receiver.Received.{received-run}
 use Rattle.sctp_model.proofs.receiver.SoFar
 use Rattle.sctp_model.proofs.receiver.SoFar.{SoFar, so_far-as, read_on, was_read, complete_list-is, passing-append}
-use Rattle.sctp_model.proofs.receiver.SoFarSteps.{Told, told-moving, so_far-elsewhere, so_far-unordered, so_far-ordered}
+use Rattle.sctp_model.proofs.receiver.SoFarSteps.{Answered, answered-moving, so_far-elsewhere, so_far-unordered, so_far-ordered}
 
 -- ## What was read, in every history
 
-told-read : (setup : Setup) (older : History) (t s : ℕ) (o : Option ℕ) → Sane setup (record_of setup older) → Messages.is_open (record_of setup older) t ≡ true
-    → Receiver.next_read (record_of setup older) t ≡ o → Told s (numbers_read setup older s) (record_of setup older) (Log.log_of setup older)
+answered-read : (setup : Setup) (older : History) (t s : ℕ) (o : Option ℕ) → Consistent setup (record_of setup older)
+    → Messages.is_open (record_of setup older) t ≡ true → Receiver.next_read (record_of setup older) t ≡ o
+    → Answered s (numbers_read setup older s) (record_of setup older) (Log.log_of setup older)
     → SoFar s (numbers_read setup older s ++ (if t == s then number_read (record_of setup older) s (read_reply (record_of setup older) o) else []))
     (view (Changes.read_of (record_of setup older) t o)) (Log.log_of setup older)
-told-read setup older t s None g a e b = subst (λ l. SoFar s l (view (record_of setup older)) (Log.log_of setup older)) (sym (either (t == s))) b.so_far
+answered-read setup older t s None g a e b = subst (λ l. SoFar s l (view (record_of setup older)) (Log.log_of setup older)) (sym (either (t == s))) b.so_far
   where
     either : (c : Bool) → numbers_read setup older s ++ (if c then [] else []) ≡ numbers_read setup older s
     either true = append-nil (numbers_read setup older s)
     either false = append-nil (numbers_read setup older s)
-told-read setup older t s (Some n) g a e b =
+answered-read setup older t s (Some n) g a e b =
     so_far-as s list' (read_in (view w) t n) (view (Changes.read_of w t (Some n))) log (View.view-read w t n a) (by (t == s) refl)
   where
     w : LinkRecord
@@ -94,42 +95,56 @@ pub so_far-run : (setup : Setup) (h : History) → IsSetup setup → IsRun setup
     → SoFar s (numbers_read setup h s) (view (record_of setup h)) (Log.log_of setup h)
 so_far-run setup [] is run s = record { all = refl; ordered = refl; unordered = refl }
 so_far-run setup ((E.Read t, r) ∷ older) is run s =
-    let b : Told s (numbers_read setup older s) (record_of setup older)
+    let b : Answered s (numbers_read setup older s) (record_of setup older)
     (Log.log_of setup older) = record { received = received-run setup older is run.1.1; so_far = so_far-run setup older is run.1.1 s } in
     subst (λ y. SoFar s (numbers_read setup older s ++ (if t == s then number_read (record_of setup older) s y else []))
     (view (Changes.after_reading (record_of setup older) t)) (Log.log_of setup older)) (sym run.1.0)
-    (told-read setup older t s (Receiver.next_read (record_of setup older) t) (sane-run setup older run.1.1)
+    (answered-read setup older t s (Receiver.next_read (record_of setup older) t) (consistent-run setup older run.1.1)
     (unless-holds (Messages.is_open (record_of setup older) t) StreamUnknown None run.0).0 refl b)
-so_far-run setup ((E.Open a, r) ∷ older) is run s = (step-moves setup (Told s (numbers_read setup older s)) (told-moving setup s (numbers_read setup older s))
+so_far-run setup ((E.Open a, r) ∷ older) is run s =
+    (step-moves setup (Answered s (numbers_read setup older s)) (answered-moving setup s (numbers_read setup older s))
     older is run.1.1 (E.Open a) r refl run.0 (record { received = received-run setup older is run.1.1; so_far = so_far-run setup older is run.1.1 s })).so_far
 so_far-run setup ((E.Mode a b c d, r) ∷ older) is run s =
-    (step-moves setup (Told s (numbers_read setup older s)) (told-moving setup s (numbers_read setup older s)) older is run.1.1 (E.Mode a b c d) r refl run.0
+    (step-moves setup (Answered s (numbers_read setup older s)) (answered-moving setup s (numbers_read setup older s)) older is run.1.1
+    (E.Mode a b c d) r refl run.0
     (record { received = received-run setup older is run.1.1; so_far = so_far-run setup older is run.1.1 s })).so_far
 so_far-run setup ((E.Write a b c, r) ∷ older) is run s =
-    (step-moves setup (Told s (numbers_read setup older s)) (told-moving setup s (numbers_read setup older s)) older is run.1.1 (E.Write a b c) r refl run.0
+    (step-moves setup (Answered s (numbers_read setup older s)) (answered-moving setup s (numbers_read setup older s)) older is run.1.1
+    (E.Write a b c) r refl run.0
     (record { received = received-run setup older is run.1.1; so_far = so_far-run setup older is run.1.1 s })).so_far
-so_far-run setup ((E.Start a, r) ∷ older) is run s = (step-moves setup (Told s (numbers_read setup older s)) (told-moving setup s (numbers_read setup older s))
+so_far-run setup ((E.Start a, r) ∷ older) is run s =
+    (step-moves setup (Answered s (numbers_read setup older s)) (answered-moving setup s (numbers_read setup older s))
     older is run.1.1 (E.Start a) r refl run.0 (record { received = received-run setup older is run.1.1; so_far = so_far-run setup older is run.1.1 s })).so_far
-so_far-run setup ((E.Send a, r) ∷ older) is run s = (step-moves setup (Told s (numbers_read setup older s)) (told-moving setup s (numbers_read setup older s))
+so_far-run setup ((E.Send a, r) ∷ older) is run s =
+    (step-moves setup (Answered s (numbers_read setup older s)) (answered-moving setup s (numbers_read setup older s))
     older is run.1.1 (E.Send a) r refl run.0 (record { received = received-run setup older is run.1.1; so_far = so_far-run setup older is run.1.1 s })).so_far
-so_far-run setup ((E.Resend a, r) ∷ older) is run s = (step-moves setup (Told s (numbers_read setup older s)) (told-moving setup s (numbers_read setup older s))
+so_far-run setup ((E.Resend a, r) ∷ older) is run s =
+    (step-moves setup (Answered s (numbers_read setup older s)) (answered-moving setup s (numbers_read setup older s))
     older is run.1.1 (E.Resend a) r refl run.0 (record { received = received-run setup older is run.1.1; so_far = so_far-run setup older is run.1.1 s })).so_far
-so_far-run setup ((E.Expire a, r) ∷ older) is run s = (step-moves setup (Told s (numbers_read setup older s)) (told-moving setup s (numbers_read setup older s))
+so_far-run setup ((E.Expire a, r) ∷ older) is run s =
+    (step-moves setup (Answered s (numbers_read setup older s)) (answered-moving setup s (numbers_read setup older s))
     older is run.1.1 (E.Expire a) r refl run.0 (record { received = received-run setup older is run.1.1; so_far = so_far-run setup older is run.1.1 s })).so_far
-so_far-run setup ((E.Tail a, r) ∷ older) is run s = (step-moves setup (Told s (numbers_read setup older s)) (told-moving setup s (numbers_read setup older s))
+so_far-run setup ((E.Tail a, r) ∷ older) is run s =
+    (step-moves setup (Answered s (numbers_read setup older s)) (answered-moving setup s (numbers_read setup older s))
     older is run.1.1 (E.Tail a) r refl run.0 (record { received = received-run setup older is run.1.1; so_far = so_far-run setup older is run.1.1 s })).so_far
-so_far-run setup ((E.Late a, r) ∷ older) is run s = (step-moves setup (Told s (numbers_read setup older s)) (told-moving setup s (numbers_read setup older s))
+so_far-run setup ((E.Late a, r) ∷ older) is run s =
+    (step-moves setup (Answered s (numbers_read setup older s)) (answered-moving setup s (numbers_read setup older s))
     older is run.1.1 (E.Late a) r refl run.0 (record { received = received-run setup older is run.1.1; so_far = so_far-run setup older is run.1.1 s })).so_far
 so_far-run setup ((E.Abandon a, r) ∷ older) is run s =
-    (step-moves setup (Told s (numbers_read setup older s)) (told-moving setup s (numbers_read setup older s)) older is run.1.1 (E.Abandon a) r refl run.0
+    (step-moves setup (Answered s (numbers_read setup older s)) (answered-moving setup s (numbers_read setup older s)) older is run.1.1
+    (E.Abandon a) r refl run.0
     (record { received = received-run setup older is run.1.1; so_far = so_far-run setup older is run.1.1 s })).so_far
-so_far-run setup ((E.Skip a b, r) ∷ older) is run s = (step-moves setup (Told s (numbers_read setup older s)) (told-moving setup s (numbers_read setup older s))
+so_far-run setup ((E.Skip a b, r) ∷ older) is run s =
+    (step-moves setup (Answered s (numbers_read setup older s)) (answered-moving setup s (numbers_read setup older s))
     older is run.1.1 (E.Skip a b) r refl run.0 (record { received = received-run setup older is run.1.1; so_far = so_far-run setup older is run.1.1 s })).so_far
-so_far-run setup ((E.Ack a, r) ∷ older) is run s = (step-moves setup (Told s (numbers_read setup older s)) (told-moving setup s (numbers_read setup older s))
+so_far-run setup ((E.Ack a, r) ∷ older) is run s =
+    (step-moves setup (Answered s (numbers_read setup older s)) (answered-moving setup s (numbers_read setup older s))
     older is run.1.1 (E.Ack a) r refl run.0 (record { received = received-run setup older is run.1.1; so_far = so_far-run setup older is run.1.1 s })).so_far
-so_far-run setup ((E.Arrive a, r) ∷ older) is run s = (step-moves setup (Told s (numbers_read setup older s)) (told-moving setup s (numbers_read setup older s))
+so_far-run setup ((E.Arrive a, r) ∷ older) is run s =
+    (step-moves setup (Answered s (numbers_read setup older s)) (answered-moving setup s (numbers_read setup older s))
     older is run.1.1 (E.Arrive a) r refl run.0 (record { received = received-run setup older is run.1.1; so_far = so_far-run setup older is run.1.1 s })).so_far
-so_far-run setup ((E.Acked a, r) ∷ older) is run s = (step-moves setup (Told s (numbers_read setup older s)) (told-moving setup s (numbers_read setup older s))
+so_far-run setup ((E.Acked a, r) ∷ older) is run s =
+    (step-moves setup (Answered s (numbers_read setup older s)) (answered-moving setup s (numbers_read setup older s))
     older is run.1.1 (E.Acked a) r refl run.0 (record { received = received-run setup older is run.1.1; so_far = so_far-run setup older is run.1.1 s })).so_far
 
 -- ## The run: what was read, then what was not

@@ -14,7 +14,7 @@ use Rattle.sctp_model.specs.Log
 use Rattle.sctp_model.specs.Log.{LogEntry}
 use Rattle.sctp_model.specs.Laws.{IsSetup}
 use Rattle.sctp_model.proofs.sender.Shape.{shape}
-use Rattle.sctp_model.proofs.sender.SenderRun.{Sane}
+use Rattle.sctp_model.proofs.sender.SenderRun.{Consistent}
 use Rattle.sctp_model.proofs.sender.Network.{NamesFit}
 use Rattle.sctp_model.proofs.receiver.Events.{Keeps, run-keeps}
 use Rattle.sctp_model.proofs.receiver.Arrivals.{with_arrived, arrived-beyond, skipped-le}
@@ -34,19 +34,19 @@ pub record Received (w : LinkRecord) (log : List LogEntry) : Type 0 where
 pub ordered-as : (u v : View) → v ≡ u → Ordered u → Ordered v
 ordered-as u v e o = subst Ordered (sym e) o
 
-ordered-received : (setup : Setup) (w : LinkRecord) (p : ℕ) → Sane setup w → p < length w.slots → (Messages.slot_at w p).is_terminal_chunk ≡ false
+ordered-received : (setup : Setup) (w : LinkRecord) (p : ℕ) → Consistent setup w → p < length w.slots → (Messages.slot_at w p).is_terminal_chunk ≡ false
     → Ordered (view w) → Ordered (view (Changes.receive_slot w p))
-ordered-received setup w p g lt mark o = by (is_new w p) refl
+ordered-received setup w p g lt terminal o = by (is_new w p) refl
   where
     by : (b : Bool) → is_new w p ≡ b → Ordered (view (Changes.receive_slot w p))
     by true e =
         ordered-as (Known.noting (arrived_in (view w) p) (Messages.message_of w p)) (view (Changes.receive_slot w p)) (Known.view-received setup w p g lt e)
         (Ordered.ordered-noting (arrived_in (view w) p) (Messages.message_of w p)
-        (Ordered.ordered-arrived (view w) p g.sender lt mark (new-not w p e) (new-past w p e) o))
+        (Ordered.ordered-arrived (view w) p g.sender lt terminal (new-not w p e) (new-past w p e) o))
     by false e = ordered-as (view w) (view (Changes.receive_slot w p)) (ap
         (λ b. view (if b then Changes.note_completion (with_arrived w p) (Messages.message_of w p) else record w { duplicates = w.duplicates ++ p ∷ [] })) e) o
 
-ordered-skip : (setup : Setup) (w : LinkRecord) (upto : ℕ) (names : List ℕ) → Sane setup w → NamesFit (shape w) upto names → Ordered (view w)
+ordered-skip : (setup : Setup) (w : LinkRecord) (upto : ℕ) (names : List ℕ) → Consistent setup w → NamesFit (shape w) upto names → Ordered (view w)
     → Ordered (view (Changes.receive_skip w upto names))
 ordered-skip setup w upto names g f o = by (Changes.skip_counts w upto) refl
   where
@@ -60,7 +60,7 @@ ordered-skip setup w upto names g f o = by (Changes.skip_counts w upto) refl
     by false e = ordered-as (view w) (view (Changes.receive_skip w upto names))
         (ap (λ b. view (if b then record w { skipped = upto + 1; streams = map (Changes.named_by w names) w.streams } else w)) e) o
 
-ordered-reading : (setup : Setup) (w : LinkRecord) (log : List LogEntry) (s n : ℕ) → Sane setup w → Messages.is_open w s ≡ true
+ordered-reading : (setup : Setup) (w : LinkRecord) (log : List LogEntry) (s n : ℕ) → Consistent setup w → Messages.is_open w s ≡ true
     → ReadsComplete (view w) s n ⊎ ReadsRun (view w) s n → Complete (view w) log → Ordered (view w) → Ordered (view (Changes.read_of w s (Some n)))
 ordered-reading setup w log s n g a (inl r) h o = ordered-as (read_in (view w) s n) (view (Changes.read_of w s (Some n))) (View.view-read w s n a)
     (Ordered.ordered-read_unordered (view w) s n g.sender (Known.ready-first (view w) log s n h r).kind o)
@@ -74,7 +74,7 @@ received-keeps setup =
       begins = record {
         known = k.begins;
         ordered = record {
-          marks = λ p e. cc;
+          terminals = λ p e. cc;
           read_complete = λ n lt. absurd (omega arith);
           read_past = λ s n lt. absurd (omega arith);
           downward = λ s m n mn lt. absurd (omega arith);

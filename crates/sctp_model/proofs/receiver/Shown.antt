@@ -28,10 +28,10 @@ use Rattle.sctp_model.specs.Laws.{IsSetup, OnEveryRun, ReadsShowMessages, shown_
 use Rattle.sctp_model.proofs.sender.Shape.{shape, has, sent, parts}
 use Rattle.sctp_model.proofs.sender.Sender.{Sender}
 use Rattle.sctp_model.proofs.sender.SenderSteps.{of-has}
-use Rattle.sctp_model.proofs.sender.SenderRun.{sane-run}
+use Rattle.sctp_model.proofs.sender.SenderRun.{consistent-run}
 use Rattle.sctp_model.proofs.acknowledgement.Bytes.{size-some}
 use Rattle.sctp_model.proofs.sender.Network.{Extends, extends-after}
-use Rattle.sctp_model.proofs.receiver.Arrivals.{heard-run}
+use Rattle.sctp_model.proofs.receiver.Arrivals.{arrivals-run}
 use Rattle.sctp_model.proofs.receiver.View.{view}
 use Rattle.sctp_model.proofs.receiver.Known.{HasRead, ReadsComplete, ReadsRun, reads, run-is, ready-first, ready-complete}
 use Rattle.sctp_model.proofs.receiver.KnownRun.{known-run, completeness_agrees}
@@ -147,13 +147,13 @@ pub read-joined : (setup : Setup) (h : History) → IsSetup setup → IsRun setu
     → joined_bytes (handed_out (record_of setup h) n).chunks ≡ (Messages.message_at (record_of setup h) n).bytes
 read-joined setup h is run s n e =
     let w = record_of setup h in
-    let g = sane-run setup h run in
+    let g = consistent-run setup h run in
     let r = has-read setup h is run s n e in
     let complete = sym (completeness_agrees setup h is run n r.made) ∙ r.complete_now in
     let a = both (Messages.sent_of w n == Messages.fragment_count w n) (if (Messages.message_at w n).ordered
     then list_all (Log.arrived_new (log_of setup h)) (Messages.slots_of w n) else Log.were_complete (Messages.slots_of w n) (log_of setup h)) complete in
     handed-joined w n g.sender (size-some setup w is g) (same-is (Messages.sent_of w n) (Messages.fragment_count w n) a.0)
-    (λ o. all-more (Log.arrived_new (log_of setup h)) (Receiver.arrived_at w) (Messages.slots_of w n) (λ k f. (heard-run setup h is run).arrived k ∙ f)
+    (λ o. all-more (Log.arrived_new (log_of setup h)) (Receiver.arrived_at w) (Messages.slots_of w n) (λ k f. (arrivals-run setup h is run).arrived k ∙ f)
     (ap (λ b. if b then list_all (Log.arrived_new (log_of setup h)) (Messages.slots_of w n)
     else Log.were_complete (Messages.slots_of w n) (log_of setup h)) (sym o) ∙ a.1))
 
@@ -249,7 +249,8 @@ says-read setup older t s r v is run x (Some n) e f a = by (t == s) refl
 pub reads_show_messages : OnEveryRun ReadsShowMessages
 reads_show_messages setup [] is run s = (refl, refl)
 reads_show_messages setup ((event, r) ∷ older) is run s =
-    by event r run.1.0 (extends-after setup (record_of setup older) event run.0 (sane-run setup older run.1.1)) (reads_show_messages setup older is run.1.1 s)
+    by event r run.1.0 (extends-after setup (record_of setup older) event run.0 (consistent-run setup older run.1.1))
+    (reads_show_messages setup older is run.1.1 s)
   where
     by : (event : Event) (r : Reply) → r ≡ reply_to (record_of setup older) event → Extends (record_of setup older) (after (record_of setup older) event)
         → Says setup older (record_of setup older) s → Says setup ((event, r) ∷ older) (after (record_of setup older) event) s

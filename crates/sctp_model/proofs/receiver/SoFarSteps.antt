@@ -15,7 +15,7 @@ use Rattle.sctp_model.specs.Changes
 use Rattle.sctp_model.specs.Log.{LogEntry, SlotReceived, SkipReceived, SackMade}
 use Rattle.sctp_model.proofs.sender.Shape.{shape, on}
 use Rattle.sctp_model.proofs.sender.Sender.{Sender}
-use Rattle.sctp_model.proofs.sender.SenderRun.{Sane}
+use Rattle.sctp_model.proofs.sender.SenderRun.{Consistent}
 use Rattle.sctp_model.proofs.sender.Network.{NamesFit}
 use Rattle.sctp_model.proofs.receiver.Events.{Moving}
 use Rattle.sctp_model.proofs.receiver.Arrivals.{with_arrived}
@@ -40,8 +40,8 @@ use Rattle.sctp_list_lemmas.proofs.Tests.{all-more}
 
 -- ## A slot comes new
 
-module _ (v : View) (log : List LogEntry) (p : ℕ) (a : Sender v.x) (h : Complete v log) (heard : Hears v log)
-    (heard' : Hears (arrived_in v p) (SlotReceived p ∷ log)) (lt : p < v.x.slots) (mark : (v.x.slot p).is_terminal_chunk ≡ false)
+module _ (v : View) (log : List LogEntry) (p : ℕ) (a : Sender v.x) (h : Complete v log) (arrivals : Hears v log)
+    (arrivals' : Hears (arrived_in v p) (SlotReceived p ∷ log)) (lt : p < v.x.slots) (terminal : (v.x.slot p).is_terminal_chunk ≡ false)
     (new : v.arrived p ≡ false) where
   abbrev m : ℕ
   m = (v.x.slot p).message
@@ -50,15 +50,16 @@ module _ (v : View) (log : List LogEntry) (p : ℕ) (a : Sender v.x) (h : Comple
   v1 = arrived_in v p
 
   complete-now : (n : ℕ) → n < v.x.count → (v.x.message n).ordered ≡ false → complete_in v.x (SlotReceived p ∷ log) n ≡ (complete_in v.x log n || due v1 n)
-  complete-now n l o = CompleteMessages.one-more v1 (SlotReceived p) log n heard' (a.within n l) o
+  complete-now n l o = CompleteMessages.one-more v1 (SlotReceived p) log n arrivals' (a.within n l) o
 
   -- what became complete
   became-is : (s n : ℕ) → n < v.x.count → (m ≡ n → ⊥) → became v.x (SlotReceived p) log s n ≡ false
   became-is s n l ne = kind (v.x.message n).ordered refl
     where
       old : (v.x.message n).ordered ≡ false → (b : Bool) → due v n ≡ b → (complete_in v.x log n || due v1 n) ≡ complete_in v.x log n
-      old o true e = let y = CompleteMessages.due-complete v log n heard (a.within n l) (a.some n l) o e in ap (λ b. b || due v1 n) y ∙ sym y
-      old o false e = ap (λ b. complete_in v.x log n || b) (Known.due-other v log p a h heard heard' lt mark new n ne ∙ e) ∙ or-none (complete_in v.x log n)
+      old o true e = let y = CompleteMessages.due-complete v log n arrivals (a.within n l) (a.some n l) o e in ap (λ b. b || due v1 n) y ∙ sym y
+      old o false e = ap (λ b. complete_in v.x log n || b) (Known.due-other v log p a h arrivals arrivals' lt terminal new n ne ∙ e)
+          ∙ or-none (complete_in v.x log n)
 
       none : (b c : Bool) → (b && (c && not c)) ≡ false
       none true true = refl
@@ -78,7 +79,7 @@ module _ (v : View) (log : List LogEntry) (p : ℕ) (a : Sender v.x) (h : Comple
       made = a.made p lt
 
       not-then : (v.x.message m).ordered ≡ false → complete_in v.x log m ≡ false
-      not-then o = sym (h.agrees m made) ∙ Known.not-complete v log p a h heard heard' lt mark new o
+      not-then o = sym (h.agrees m made) ∙ Known.not-complete v log p a h arrivals arrivals' lt terminal new o
 
       flat : (b : Bool) → (b && not false) ≡ b
       flat true = refl
@@ -154,19 +155,19 @@ so_far-skip v upto names log h h' s list f = record {
 
 -- ## A step that is no read
 
-pub record Told (s : ℕ) (list : List ℕ) (w : LinkRecord) (log : List LogEntry) : Type 0 where
+pub record Answered (s : ℕ) (list : List ℕ) (w : LinkRecord) (log : List LogEntry) : Type 0 where
   pub received : Received w log
   pub so_far : SoFar s list (view w) log
 
-so_far-slot : (setup : Setup) (w : LinkRecord) (log : List LogEntry) (p s : ℕ) (list : List ℕ) → Sane setup w → p < length w.slots
+so_far-slot : (setup : Setup) (w : LinkRecord) (log : List LogEntry) (p s : ℕ) (list : List ℕ) → Consistent setup w → p < length w.slots
     → (Messages.slot_at w p).is_terminal_chunk ≡ false → Known w log → Known (Changes.receive_slot w p) (SlotReceived p ∷ log) → SoFar s list (view w) log
     → SoFar s list (view (Changes.receive_slot w p)) (SlotReceived p ∷ log)
-so_far-slot setup w log p s list g lt mark k k' f = by (is_new w p) refl
+so_far-slot setup w log p s list g lt terminal k k' f = by (is_new w p) refl
   where
     by : (b : Bool) → is_new w p ≡ b → SoFar s list (view (Changes.receive_slot w p)) (SlotReceived p ∷ log)
     by true e = so_far-as s list (noting (arrived_in (view w) p) (Messages.message_of w p)) (view (Changes.receive_slot w p)) (SlotReceived p ∷ log)
         (Known.view-received setup w p g lt e)
-        (so_far-new (view w) log p g.sender k.complete (hears w log k.heard) (hears-new w log p lt e k.heard) lt mark (new-not w p e) s list f)
+        (so_far-new (view w) log p g.sender k.complete (hears w log k.arrivals) (hears-new w log p lt e k.arrivals) lt terminal (new-not w p e) s list f)
     by false e =
         let same : view (Changes.receive_slot w p) ≡ view w = ap (λ b.
         view (if b then Changes.note_completion (with_arrived w p) (Messages.message_of w p) else record w { duplicates = w.duplicates ++ p ∷ [] })) e in
@@ -174,7 +175,7 @@ so_far-slot setup w log p s list g lt mark k k' f = by (is_new w p) refl
         (so_far-again (view w) (SlotReceived p) log k.complete
         (Known.complete-as (view (Changes.receive_slot w p)) (view w) (SlotReceived p ∷ log) (sym same) k'.complete) s list f)
 
-so_far-skipped : (setup : Setup) (w : LinkRecord) (log : List LogEntry) (upto : ℕ) (names : List ℕ) (s : ℕ) (list : List ℕ) → Sane setup w
+so_far-skipped : (setup : Setup) (w : LinkRecord) (log : List LogEntry) (upto : ℕ) (names : List ℕ) (s : ℕ) (list : List ℕ) → Consistent setup w
     → NamesFit (shape w) upto names → Known w log → Known (Changes.receive_skip w upto names) (SkipReceived upto names ∷ log) → SoFar s list (view w) log
     → SoFar s list (view (Changes.receive_skip w upto names)) (SkipReceived upto names ∷ log)
 so_far-skipped setup w log upto names s list g fit k k' f = by (Changes.skip_counts w upto) refl
@@ -194,8 +195,8 @@ so_far-skipped setup w log upto names s list g fit k k' f = by (Changes.skip_cou
         (so_far-again (view w) (SkipReceived upto names) log k.complete
         (Known.complete-as (view (Changes.receive_skip w upto names)) (view w) (SkipReceived upto names ∷ log) (sym same) k'.complete) s list f)
 
-pub told-moving : (setup : Setup) (s : ℕ) (list : List ℕ) → Moving setup (Told s list)
-told-moving setup s list =
+pub answered-moving : (setup : Setup) (s : ℕ) (list : List ℕ) → Moving setup (Answered s list)
+answered-moving setup s list =
     let k = received-keeps setup in
     record {
       quiet = λ w v log g a q b. record {

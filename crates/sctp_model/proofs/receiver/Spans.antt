@@ -27,7 +27,7 @@ use Rattle.sctp_model.specs.Laws.{IsSetup, OnEveryRun, SpansFit}
 use Rattle.sctp_model.proofs.sender.Shape.{shape, on, index, sent}
 use Rattle.sctp_model.proofs.sender.Sender.{Sender}
 use Rattle.sctp_list_lemmas.proofs.Cases.{by_same, negated}
-use Rattle.sctp_model.proofs.sender.SenderRun.{Sane, sane-run, sane-after, unless-holds, found}
+use Rattle.sctp_model.proofs.sender.SenderRun.{Consistent, consistent-run, consistent-after, unless-holds, found}
 use Rattle.sctp_model.proofs.sender.Moves.{Quiet, quiet-written, quiet-started, quiet-sent, quiet-expire, quiet-tail, quiet-lates, quiet-abandoned}
 use Rattle.sctp_model.proofs.receiver.View
 use Rattle.sctp_model.proofs.receiver.View.{View, view, come_count, all_come, complete_at, held, line, next, read_in}
@@ -315,7 +315,7 @@ near-reading v log s n a h o (inr r) near t =
 -- ## An arrival
 
 -- on a stream that is not open nothing is
-near-closed : (setup : Setup) (w : LinkRecord) (s : ℕ) → Sane setup w → Messages.is_open w s ≡ false → IsNear (view w) s
+near-closed : (setup : Setup) (w : LinkRecord) (s : ℕ) → Consistent setup w → Messages.is_open w s ≡ false → IsNear (view w) s
 near-closed setup w s g e = record {
   low = 0;
   high = 0;
@@ -356,7 +356,7 @@ all-streams t (q ∷ rs) s r a e = let c = both (t q.stream) (list_all (λ r. t 
     step true h x ih = let z : q ≡ r = cc in ap (λ y. t y.stream) (sym z) ∙ x
     step false h x ih = ih h
 
-pub near-spans : (setup : Setup) (w : LinkRecord) (messages : List ℕ) → Sane setup w → spans_fit w messages ≡ true → AllNear (view w)
+pub near-spans : (setup : Setup) (w : LinkRecord) (messages : List ℕ) → Consistent setup w → spans_fit w messages ≡ true → AllNear (view w)
 near-spans setup w messages g e s = by (Messages.stream_at w s) refl
   where
     by : (o : Option StreamRecord) → Messages.stream_at w s ≡ o → IsNear (view w) s
@@ -369,7 +369,7 @@ near-spans setup w messages g e s = by (Messages.stream_at w s) refl
 pub near-as : (u v : View) → v ≡ u → AllNear u → AllNear v
 near-as u v e n = subst AllNear (sym e) n
 
-near-quiet : (setup : Setup) (w v : LinkRecord) (log : List LogEntry) → Sane setup w → Sane setup v → Quiet w v → Received w log → AllNear (view w)
+near-quiet : (setup : Setup) (w v : LinkRecord) (log : List LogEntry) → Consistent setup w → Consistent setup v → Quiet w v → Received w log → AllNear (view w)
     → AllNear (view v)
 near-quiet setup w v log g a q r n = near-still (view w) (view v) (still-of setup w v g a q) r.ordered n
 
@@ -379,14 +379,14 @@ near-taken w (Some (W.Data ps)) n = n
 near-taken w (Some (Forward upto names)) n = n
 near-taken w (Some (Sack r)) n = near-as (view w) (view (Changes.after_acked w (Some (Sack r)))) (View.view-taken w r) n
 
-near-reads : (setup : Setup) (w : LinkRecord) (log : List LogEntry) (s : ℕ) (o : Option ℕ) → Sane setup w → Messages.is_open w s ≡ true
+near-reads : (setup : Setup) (w : LinkRecord) (log : List LogEntry) (s : ℕ) (o : Option ℕ) → Consistent setup w → Messages.is_open w s ≡ true
     → Receiver.next_read w s ≡ o → Received w log → AllNear (view w) → AllNear (view (Changes.read_of w s o))
 near-reads setup w log s None g a e r n = n
 near-reads setup w log s (Some k) g a e r n = near-as (read_in (view w) s k) (view (Changes.read_of w s (Some k))) (View.view-read w s k a)
     (near-reading (view w) log s k g.sender r.known.complete r.ordered (reads (view w) s k e) n)
 
-near-after : (setup : Setup) (w : LinkRecord) (log : List LogEntry) (e : Event) → Sane setup w → refusal_of w e ≡ None → Sane setup (after w e) → Received w log
-    → AllNear (view w) → AllNear (view (after w e))
+near-after : (setup : Setup) (w : LinkRecord) (log : List LogEntry) (e : Event) → Consistent setup w → refusal_of w e ≡ None → Consistent setup (after w e)
+    → Received w log → AllNear (view w) → AllNear (view (after w e))
 near-after setup w log (E.Open s) g ok a r n = near-as (view w) (view (Changes.after_open w s))
     (View.view-opened w s (negated (Messages.is_open w s) (unless-holds (not (Messages.is_open w s)) StreamOpen None ok).0)) n
 near-after setup w log (E.Mode s u y v) g ok a r n = near-as (view w) (view (Changes.after_mode w s u y v)) (View.view-moded w s u y v) n
@@ -422,8 +422,8 @@ near-run setup [] is run = λ s. record {
   held_below = λ k lt. absurd (omega arith);
 }
 near-run setup (entry ∷ older) is run =
-    let g = sane-run setup older run.1.1 in
-    near-after setup (record_of setup older) (Log.log_of setup older) entry.0 g run.0 (sane-after setup (record_of setup older) entry.0 run.0 g)
+    let g = consistent-run setup older run.1.1 in
+    near-after setup (record_of setup older) (Log.log_of setup older) entry.0 g run.0 (consistent-after setup (record_of setup older) entry.0 run.0 g)
     (received-run setup older is run.1.1) (near-run setup older is run.1.1)
 
 pub spans_fit_always : OnEveryRun SpansFit

@@ -33,7 +33,7 @@ use Rattle.sctp_model.proofs.sender.Sender.{Sender}
 use Rattle.sctp_model.proofs.sender.SenderSteps.{of-has}
 use Rattle.sctp_model.proofs.sender.Slots.{slots-row, beyond-slots}
 use Rattle.sctp_model.proofs.sender.Few.{few}
-use Rattle.sctp_model.proofs.sender.SenderRun.{Sane, sane-run, sane-received, unless-holds, found, open-mapped}
+use Rattle.sctp_model.proofs.sender.SenderRun.{Consistent, consistent-run, consistent-received, unless-holds, found, open-mapped}
 use Rattle.sctp_model.proofs.sender.Network
 use Rattle.sctp_model.proofs.sender.Network.{SlotsFit, NamesFit, fit-at, fit-run}
 use Rattle.sctp_model.proofs.receiver.View
@@ -98,7 +98,7 @@ laid-of w n s =
 
 -- ## The record that a history leads to, and those between
 
-pub valid-of : (setup : Setup) (w : LinkRecord) (log : List LogEntry) → Sane setup w → Received w log → Valid w
+pub valid-of : (setup : Setup) (w : LinkRecord) (log : List LogEntry) → Consistent setup w → Received w log → Valid w
 valid-of setup w log g r =
     let s = g.sender in
     let o = r.ordered in
@@ -112,17 +112,17 @@ valid-of setup w log g r =
       read_past = λ t n on' red. o.read_past t n (message-made w n (on-ordered (shape w) t n on')) on' red;
       named_skipped = λ t n p on' lt h. Ordered.named-skipped (view w) s o t n p on' lt (slot-made w n p h) h;
       named_made = λ t. Ordered.named-made (view w) s o t;
-      skipped_made = r.known.heard.short;
+      skipped_made = r.known.arrivals.short;
     }
 
-pub unassembled-of : (setup : Setup) (w : LinkRecord) (log : List LogEntry) → Sane setup w → Received w log → ValidUnassembled w
+pub unassembled-of : (setup : Setup) (w : LinkRecord) (log : List LogEntry) → Consistent setup w → Received w log → ValidUnassembled w
 unassembled-of setup w log g r =
     let s = g.sender in
     let h = r.known.complete in
     record {
       prefix = λ n p j f e. let o = of-has (shape w) n p f in let b = s.beside p (slot-made w n p f) o.1 (omega (arith, e)) in
           let q : b.0 ≡ p - 1 = omega (arith, b.1) in ap (Messages.has_fragment w n) (sym q) ∙ ap (λ m. Messages.has_fragment w m b.0) (sym o.0) ∙ b.2;
-      marks = r.ordered.marks;
+      terminals = r.ordered.terminals;
       complete_arrived = λ n kind e. complete n kind e (cases_lt n (length w.messages));
       arrived_complete = λ n e. arrived n e (cases_lt n (length w.messages));
       waits = λ t n e. let i = h.ready t n e in record { made = i.made; stream = i.stream; unordered = i.kind; unread = i.unread };
@@ -137,19 +137,19 @@ unassembled-of setup w log g r =
     complete : (n : ℕ) → (Messages.message_at w n).ordered ≡ false → Receiver.is_complete_message w n ≡ true → (n < length w.messages) ⊎ (length w.messages ≤ n)
         → Receiver.has_arrived w n ≡ true
     complete n kind e (inl lt) =
-        CompleteMessages.complete-come (view w) log n r.known.heard.arrived (g.sender.within n lt) (sym (r.known.complete.agrees n lt) ∙ e)
+        CompleteMessages.complete-come (view w) log n r.known.arrivals.arrived (g.sender.within n lt) (sym (r.known.complete.agrees n lt) ∙ e)
     complete n kind e (inr ge) = ap (λ c. c == Messages.fragment_count w n) (none n ge)
         ∙ ap (λ m. 0 == length (pieces (length m.bytes) w.setup.size m.bytes)) (beyond n ge)
 
     arrived : (n : ℕ) → Changes.becomes_complete w n ≡ true → (n < length w.messages) ⊎ (length w.messages ≤ n) → Receiver.is_complete_message w n ≡ true
     arrived n e (inl lt) =
         let a = both (not (Messages.message_at w n).ordered) (CompleteMessages.due (view w) n) e in
-        r.known.complete.agrees n lt ∙ CompleteMessages.due-complete (view w) log n (Known.hears w log r.known.heard) (g.sender.within n lt)
+        r.known.complete.agrees n lt ∙ CompleteMessages.due-complete (view w) log n (Known.hears w log r.known.arrivals) (g.sender.within n lt)
         (g.sender.some n lt) (negated (Messages.message_at w n).ordered a.0) a.1
     arrived n e (inr ge) =
         ap (λ m. if m.ordered then Receiver.has_arrived w n else m.read || list_any (λ k. k == n) (Messages.stream_of w m.stream).complete) (beyond n ge)
 
-pub order-of : (setup : Setup) (w : LinkRecord) → Sane setup w → InOrder w
+pub order-of : (setup : Setup) (w : LinkRecord) → Consistent setup w → InOrder w
 order-of setup w g = record {
   ascend = λ s j k p q a b lt hp hq. g.sender.ascend s j k p q lt a b (slot-made w j p hp) (slot-made w k q hq) hp hq;
   known = λ n lt. at n (find (λ r. r.stream == (Messages.message_at w n).stream) w.streams) refl (g.known n lt);
@@ -185,7 +185,7 @@ near-span w near s =
 pub record_is_valid : OnEveryRun RecordIsValid
 record_is_valid setup h is run =
     let w = record_of setup h in
-    let g = sane-run setup h run in
+    let g = consistent-run setup h run in
     let r = received-run setup h is run in
     let fits = fit-run setup h run in
     record {
@@ -281,7 +281,7 @@ kept-more p q from (suc count) h = step (p from) (q from) refl refl (kept-more p
     step false true e f ih = omega (arith, ih)
     step false false e f ih = ih
 
-later-slot : (setup : Setup) (w : LinkRecord) (p : ℕ) → Sane setup w → p < length w.slots → Later (view w) (view (Changes.receive_slot w p))
+later-slot : (setup : Setup) (w : LinkRecord) (p : ℕ) → Consistent setup w → p < length w.slots → Later (view w) (view (Changes.receive_slot w p))
 later-slot setup w p g lt = by (Receiver.is_new w p) refl
   where
     arrives : (k : ℕ) (b : Bool) → Receiver.arrived_at w k ≡ true → (if b then true else Receiver.arrived_at w k) ≡ true
@@ -316,16 +316,16 @@ later-slot setup w p g lt = by (Receiver.is_new w p) refl
 
 -- a state on the way
 record Between (setup : Setup) (w : LinkRecord) : Type 0 where
-  sane : Sane setup w
+  consistent : Consistent setup w
   log : List LogEntry
   received : Received w log
 
 between-slot : (setup : Setup) (w : LinkRecord) (p : ℕ) → p < length w.slots → (Messages.slot_at w p).is_terminal_chunk ≡ false → Between setup w
     → Between setup (Changes.receive_slot w p)
-between-slot setup w p lt mark b = record {
-  sane = sane-received setup w p b.sane;
+between-slot setup w p lt terminal b = record {
+  consistent = consistent-received setup w p b.consistent;
   log = Log.SlotReceived p ∷ b.log;
-  received = (received-keeps setup).slot w b.log p b.sane lt mark b.received;
+  received = (received-keeps setup).slot w b.log p b.consistent lt terminal b.received;
 }
 
 -- after these slots
@@ -337,7 +337,7 @@ between-slots setup (p ∷ ps) w f b =
     (between-slot setup w p f.0 f.1 b) in (
       r.0,
       later-then (view w) (view (Changes.receive_slot w p)) (view (fold Changes.receive_slot (Changes.receive_slot w p) ps))
-          (later-slot setup w p b.sane f.0) r.1,
+          (later-slot setup w p b.consistent f.0) r.1,
     )
 
 fold-append : {A B : Type 0} (f : B → A → B) (x : B) (xs ys : List A) → fold f x (xs ++ ys) ≡ fold f (fold f x xs) ys
@@ -438,9 +438,9 @@ slots_come_valid setup h is run k ps p qs ok e =
     record {
       made = there.0;
       fragment = there.1;
-      valid = valid-of setup v b.log b.sane b.received;
-      unassembled = unassembled-of setup v b.log b.sane b.received;
-      order = order-of setup v b.sane;
+      valid = valid-of setup v b.log b.consistent b.received;
+      unassembled = unassembled-of setup v b.log b.consistent b.received;
+      order = order-of setup v b.consistent;
       near = λ s on' new. near s on' new;
     }
   where
@@ -460,7 +460,7 @@ slots_come_valid setup h is run k ps p qs ok e =
     parts' = fits-front (shape w) ps (p ∷ qs) fit
 
     start' : Between setup w
-    start' = record { sane = sane-run setup h run; log = Log.log_of setup h; received = received-run setup h is run }
+    start' = record { consistent = consistent-run setup h run; log = Log.log_of setup h; received = received-run setup h is run }
 
     first : Between setup v × Later (view w) (view v)
     first = between-slots setup ps w parts'.0 start'
@@ -491,12 +491,13 @@ slots_come_valid setup h is run k ps p qs ok e =
         let opens : Messages.is_open z s ≡ true = subst (λ y. Messages.is_open y s ≡ true) (sym complete-fold)
         (ap (Messages.is_open (fold Changes.receive_slot v (p ∷ qs))) (sym (on-stream (shape w) s m on-w)
         ∙ ap (λ x. (x.message m).stream) (sym (second.1.shapes ∙ first.1.shapes)))
-        ∙ second.0.sane.known m (subst (λ x. m < x.count) (sym (second.1.shapes ∙ first.1.shapes)) ((sane-run setup h run).sender.made p parts'.1.0))) in
+        ∙ second.0.consistent.known m
+        (subst (λ x. m < x.count) (sym (second.1.shapes ∙ first.1.shapes)) ((consistent-run setup h run).sender.made p parts'.1.0))) in
         let span = span-open z s (adds_to_span w (Some (W.Data (ps ++ p ∷ qs)))) after' opens in
         span-among v z s (map (Messages.index_of z) (filter (Messages.is_ordered_on z s) (adds_to_span w (Some (W.Data (ps ++ p ∷ qs))))))
         (Messages.index_of v (Messages.message_of v p) ∷ [])
         (omega (arith, ap (λ x. x.count) l.shapes)) (sym (next-later (view v) (view z) l s)) (λ k. index-v k ∙ sym (index-z k))
-        (λ k lt g. held-later (view v) (view z) b.sane.sender l s k lt g)
+        (λ k lt g. held-later (view v) (view z) b.consistent.sender l s k lt g)
         (λ y g. one y m same index-v index-z all.shapes (adds-it w (Messages.is_ordered_on w s) ps p qs (new-later w v p first.1 new) on-w) g) span
       where
         or-none : (a : Bool) → (a || false) ≡ a

@@ -79,9 +79,9 @@ played w (e ∷ es) = played (next w e) es
 -- ## Histories
 
 -- these events, with the right replies, after a history
-abbrev pub told : Setup → List Event → History → History
-told setup [] h = h
-told setup (e ∷ es) h = told setup es ((e, Steps.reply_to (Steps.record_of setup h) e) ∷ h)
+abbrev pub answered : Setup → List Event → History → History
+answered setup [] h = h
+answered setup (e ∷ es) h = answered setup es ((e, Steps.reply_to (Steps.record_of setup h) e) ∷ h)
 
 -- none of them is refused
 abbrev pub accepted : Setup → List Event → History → Bool
@@ -93,12 +93,12 @@ none-is : (o : Option LinkRefusal) → is_none o ≡ true → o ≡ None
 none-is None e = refl
 none-is (Some refusal) e = cc
 
-pub told-run : (setup : Setup) (es : List Event) (h : History) → accepted setup es h ≡ true → IsRun setup h → IsRun setup (told setup es h)
-told-run setup [] h e run = run
-told-run setup (x ∷ xs) h e run =
+pub answered-run : (setup : Setup) (es : List Event) (h : History) → accepted setup es h ≡ true → IsRun setup h → IsRun setup (answered setup es h)
+answered-run setup [] h e run = run
+answered-run setup (x ∷ xs) h e run =
     let now = (x, Steps.reply_to (Steps.record_of setup h) x) ∷ h in
     let a = both (is_none (Steps.refusal_of (Steps.record_of setup h) x)) (accepted setup xs now) e in
-    told-run setup xs now a.1 (none-is (Steps.refusal_of (Steps.record_of setup h) x) a.0, (refl, run))
+    answered-run setup xs now a.1 (none-is (Steps.refusal_of (Steps.record_of setup h) x) a.0, (refl, run))
 
 -- ## What is shown of the record in the end
 

@@ -10,7 +10,7 @@ use Rattle.sctp_model.specs.Log.{LogEntry, SlotReceived, SkipReceived, Shown, mo
 use Rattle.sctp_model.specs.Steps.{History, record_of}
 use Rattle.sctp_model.specs.Laws.{IsReadWholly, arrivals_on, fragment_arrived, was_lost, has_loss_on, loses_nothing, ordered_run, complete_unordered}
 use Rattle.sctp_model.specs.Laws.{ordered_shown, unordered_shown}
-use Rattle.sctp_model.proofs.scripts.Play.{told, told-run}
+use Rattle.sctp_model.proofs.scripts.Play.{answered, answered-run}
 use Rattle.sctp_model.proofs.Composed.{reads_are_settled}
 
 -- ## A history
@@ -49,7 +49,7 @@ base_events =
     []
 
 abbrev base : History
-base = told setup base_events []
+base = answered setup base_events []
 
 abbrev writes_1 : List (Shown × Bool)
 writes_1 =
@@ -68,7 +68,7 @@ base_arrivals = refl
 base_is_read : IsReadWholly setup base 1
 base_is_read = record {
   is = record { first = omega arith; some = omega arith; size = omega arith };
-  run = told-run setup base_events [] refl tt;
+  run = answered-run setup base_events [] refl tt;
   unlost = refl;
   exhausted = refl;
 }
@@ -122,12 +122,12 @@ timed_events =
     []
 
 abbrev timed : History
-timed = told setup timed_events []
+timed = answered setup timed_events []
 
 timed_is_read : IsReadWholly setup timed 1
 timed_is_read = record {
   is = base_is_read.is;
-  run = told-run setup timed_events [] refl tt;
+  run = answered-run setup timed_events [] refl tt;
   unlost = refl;
   exhausted = refl;
 }
@@ -192,12 +192,12 @@ link_events =
     []
 
 abbrev link : History
-link = told other link_events []
+link = answered other link_events []
 
 link_is_read : IsReadWholly other link 1
 link_is_read = record {
   is = record { first = omega arith; some = omega arith; size = omega arith };
-  run = told-run other link_events [] refl tt;
+  run = answered-run other link_events [] refl tt;
   unlost = refl;
   exhausted = refl;
 }
@@ -244,10 +244,10 @@ waiting_events =
     []
 
 abbrev expired : History
-expired = told setup expired_events []
+expired = answered setup expired_events []
 
 abbrev waiting : History
-waiting = told setup waiting_events []
+waiting = answered setup waiting_events []
 
 abbrev writes_2 : List (Shown × Bool)
 writes_2 = ((1, P.Binary, 97 ∷ []), false) ∷ ((1, P.Binary, 98 ∷ []), false) ∷ []
@@ -269,7 +269,7 @@ expiry_is_loss = refl
 abbrev sent : LinkRecord
 sent =
     record_of setup (
-    told setup (
+    answered setup (
     E.Open 1 ∷
     E.Open 2 ∷
     E.Write 2 P.Binary (120 ∷ []) ∷

@@ -10,7 +10,7 @@ use Rattle.sctp_model.specs.Contents.{Contents, DataContents, datagram}
 use Rattle.sctp_model.specs.Log.{is_past_deadline_by_events}
 use Rattle.sctp_model.specs.Steps.{History, record_of, may_want_memory}
 use Rattle.sctp_model.specs.Laws.{data_length, packet_length, next_fragment, unsent_past_deadline, partially_sent_past_deadline, late_slots_by_events}
-use Rattle.sctp_model.proofs.scripts.Play.{told}
+use Rattle.sctp_model.proofs.scripts.Play.{answered}
 
 abbrev setup_of : ℕ → Setup
 setup_of limit = record { first = 10; size = 3; largest = 100; limit = limit }
@@ -20,7 +20,7 @@ setup_of limit = record { first = 10; size = 3; largest = 100; limit = limit }
 -- in turn: timed, DCEP, limited by retransmissions, reliable, and timed past the greatest moment
 abbrev five_messages : History
 five_messages =
-    told (setup_of 0) (
+    answered (setup_of 0) (
     E.Open 1 ∷
     E.Mode 1 false T.Timed 1 ∷
     E.Write 1 P.Binary (97 ∷ []) ∷
@@ -59,7 +59,7 @@ no_tail_is_left = refl
 -- two of three fragments are sent, and the second is acknowledged by a gap block
 abbrev partially_sent : History
 partially_sent =
-    told (setup_of 0) (
+    answered (setup_of 0) (
     E.Open 1 ∷
     E.Mode 1 false T.Timed 1 ∷
     E.Write 1 P.Binary (97 ∷ 98 ∷ 99 ∷ 100 ∷ 101 ∷ 102 ∷ 103 ∷ []) ∷
@@ -75,7 +75,7 @@ late_with_all_slots : late_slots_by_events (setup_of 0) partially_sent (record_o
 late_with_all_slots = refl
 
 abbrev wholly_sent : History
-wholly_sent = told (setup_of 0) (E.Send 0 ∷ []) partially_sent
+wholly_sent = answered (setup_of 0) (E.Send 0 ∷ []) partially_sent
 
 late_where_not_acknowledged : late_slots_by_events (setup_of 0) wholly_sent (record_of (setup_of 0) wholly_sent) 1000000 ≡ 0 ∷ 2 ∷ []
 late_where_not_acknowledged = refl
@@ -90,7 +90,7 @@ lengths = refl
 
 -- a message of two fragments, 3 bytes and 1 byte, is sent with this limit
 abbrev sent_with : ℕ → History
-sent_with limit = told (setup_of limit) (E.Open 1 ∷ E.Write 1 P.Binary (97 ∷ 98 ∷ 99 ∷ 100 ∷ []) ∷ E.Send 0 ∷ []) []
+sent_with limit = answered (setup_of limit) (E.Open 1 ∷ E.Write 1 P.Binary (97 ∷ 98 ∷ 99 ∷ 100 ∷ []) ∷ E.Send 0 ∷ []) []
 
 abbrev length_in : Contents → ℕ
 length_in (DataContents chunks) = packet_length chunks
@@ -108,7 +108,7 @@ the_next_would_not_fit = refl
 -- ## Want of memory
 
 abbrev wants : List Event → List Event → List Bool
-wants before events = map (may_want_memory (record_of (setup_of 0) (told (setup_of 0) before []))) events
+wants before events = map (may_want_memory (record_of (setup_of 0) (answered (setup_of 0) before []))) events
 
 -- nothing is pending, nothing is past its deadline, a message wholly sent is abandoned, and there is no second datagram
 idle_wants_none :

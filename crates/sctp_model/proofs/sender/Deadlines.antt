@@ -23,12 +23,12 @@ use Rattle.sctp_model.specs.Changes
 use Rattle.sctp_model.specs.Log.{has_lifetime, is_over, is_write_past_deadline, is_past_deadline_by_events, writes_in, modes_in, started_in, taken_in}
 use Rattle.sctp_model.specs.Log.{is_acknowledged_in}
 use Rattle.sctp_model.specs.Steps.{History, record_of, IsRun, after, expired_reply, tail_reply}
-use Rattle.sctp_model.specs.Laws.{OnEveryRun, DeadlinesByEvents, ExpiresPastDeadline, TailAbandonsPastDeadline, LateListsPastDeadline, told_of, is_this}
+use Rattle.sctp_model.specs.Laws.{OnEveryRun, DeadlinesByEvents, ExpiresPastDeadline, TailAbandonsPastDeadline, LateListsPastDeadline, answered_of, is_this}
 use Rattle.sctp_model.specs.Laws.{unsent_past_deadline, partially_sent_past_deadline, is_late_in, late_slots_by_events, shown_of, mode_of}
 use Rattle.sctp_model.proofs.sender.Shape.{shape, sent}
 use Rattle.sctp_model.proofs.sender.Shapes
 use Rattle.sctp_model.proofs.sender.Fronts.{front-takes, slot-sent}
-use Rattle.sctp_model.proofs.sender.SenderRun.{sane-run}
+use Rattle.sctp_model.proofs.sender.SenderRun.{consistent-run}
 use Rattle.sctp_model.proofs.sender.Written.{messages_are_writes}
 use Rattle.sctp_model.proofs.sender.Modes.{modes_are_kept}
 use Rattle.sctp_model.proofs.acknowledgement.Acknowledged.{acknowledged_is_reported}
@@ -129,7 +129,7 @@ expiring-is setup h is run now = front-where w (λ n. Messages.is_unsent w n && 
     same : (n : ℕ) → Messages.front w ≡ Some n
         → (Messages.is_unsent w n && Messages.is_past_deadline w now n) ≡ (is_past_deadline_by_events h now n && (Messages.sent_of w n == 0))
     same n e = mixed (Messages.sent_of w n == 0) (Messages.message_at w n).expired (Messages.is_past_deadline w now n) (is_past_deadline_by_events h now n)
-        (front-takes (shape w) n (sane-run setup h run).sender e).kept (deadlines_by_events setup h is run now n)
+        (front-takes (shape w) n (consistent-run setup h run).sender e).kept (deadlines_by_events setup h is run now n)
 
 tailing-is : (setup : Setup) (h : History) → Rattle.sctp_model.specs.Laws.IsSetup setup → IsRun setup h → (now : ℕ)
     → Changes.tailing (record_of setup h) now ≡ partially_sent_past_deadline h (record_of setup h) now
@@ -148,7 +148,7 @@ tailing-is setup h is run now = front-where w (λ n. Messages.is_partially_sent 
     same : (n : ℕ) → Messages.front w ≡ Some n
         → (Messages.is_partially_sent w n && Messages.is_past_deadline w now n) ≡ (is_past_deadline_by_events h now n && nat_lt 0 (Messages.sent_of w n))
     same n e =
-        let t = front-takes (shape w) n (sane-run setup h run).sender e in
+        let t = front-takes (shape w) n (consistent-run setup h run).sender e in
         let some = t.more in
         let more : nat_lt (Messages.sent_of w n) (Messages.fragment_count w n) ≡ true = grind (arith, nat_tests) in
         mixed (nat_lt 0 (Messages.sent_of w n)) (nat_lt (Messages.sent_of w n) (Messages.fragment_count w n)) (Messages.message_at w n).abandoned
@@ -166,17 +166,17 @@ marked n m b = ap (λ c. c || b) (swap m n) ∙ step (m == n) b
 
 pub expires_past_deadline : OnEveryRun ExpiresPastDeadline
 expires_past_deadline setup h is run now = (
-  ap (λ o. expired_reply w (after w (E.Expire now)) o) (expiring-is setup h is run now) ∙ told (unsent_past_deadline h w now),
+  ap (λ o. expired_reply w (after w (E.Expire now)) o) (expiring-is setup h is run now) ∙ answered (unsent_past_deadline h w now),
   λ n lt. ap (λ o. (Messages.message_at (Changes.after_expire w o) n).expired) (expiring-is setup h is run now) ∙ gone n (unsent_past_deadline h w now),
 )
   where
     w : LinkRecord
     w = record_of setup h
 
-    told : (o : Option ℕ)
-        → expired_reply w (after w (E.Expire now)) o ≡ told_of (λ n. R.Expired (Messages.message_at w n).stream (growth w (after w (E.Expire now)))) o
-    told None = refl
-    told (Some n) = refl
+    answered : (o : Option ℕ)
+        → expired_reply w (after w (E.Expire now)) o ≡ answered_of (λ n. R.Expired (Messages.message_at w n).stream (growth w (after w (E.Expire now)))) o
+    answered None = refl
+    answered (Some n) = refl
 
     gone : (n : ℕ) (o : Option ℕ) → (Messages.message_at (Changes.after_expire w o) n).expired ≡ ((Messages.message_at w n).expired || is_this o n)
     gone n None = sym (or-none (Messages.message_at w n).expired)
@@ -184,17 +184,17 @@ expires_past_deadline setup h is run now = (
 
 pub tail_abandons_past_deadline : OnEveryRun TailAbandonsPastDeadline
 tail_abandons_past_deadline setup h is run now = (
-  ap (λ o. tail_reply w (after w (E.Tail now)) o) (tailing-is setup h is run now) ∙ told (partially_sent_past_deadline h w now),
+  ap (λ o. tail_reply w (after w (E.Tail now)) o) (tailing-is setup h is run now) ∙ answered (partially_sent_past_deadline h w now),
   λ n lt. ap (λ o. (Messages.message_at (Changes.after_tail w o) n).abandoned) (tailing-is setup h is run now) ∙ gone n (partially_sent_past_deadline h w now),
 )
   where
     w : LinkRecord
     w = record_of setup h
 
-    told : (o : Option ℕ)
-        → tail_reply w (after w (E.Tail now)) o ≡ told_of (λ n. R.Released (Messages.message_at w n).stream (growth w (after w (E.Tail now)))) o
-    told None = refl
-    told (Some n) = refl
+    answered : (o : Option ℕ)
+        → tail_reply w (after w (E.Tail now)) o ≡ answered_of (λ n. R.Released (Messages.message_at w n).stream (growth w (after w (E.Tail now)))) o
+    answered None = refl
+    answered (Some n) = refl
 
     gone : (n : ℕ) (o : Option ℕ) → (Messages.message_at (Changes.after_tail w o) n).abandoned ≡ ((Messages.message_at w n).abandoned || is_this o n)
     gone n None = sym (or-none (Messages.message_at w n).abandoned)
@@ -228,7 +228,7 @@ slots-are setup h is run now =
     same p lt =
         let n = Messages.message_of w p in
         let r = acknowledged_is_reported setup h is run in
-        let some : 0 < sent (shape w) n = slot-sent (shape w) p (sane-run setup h run).sender lt in
+        let some : 0 < sent (shape w) n = slot-sent (shape w) p (consistent-run setup h run).sender lt in
         let there : nat_lt p (length w.slots) ≡ true = grind (arith, nat_tests) in
         let begun : nat_lt 0 (Messages.sent_of w n) ≡ true = grind (arith, nat_tests) in
         mixed (nat_le w.taken p) (nat_le (taken_in setup h) p) (nat_lt p (length w.slots)) (Messages.is_past_deadline w now n)

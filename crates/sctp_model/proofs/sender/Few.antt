@@ -7,7 +7,7 @@ use Rattle.sctp_list_lemmas.proofs.Passing.{kept-snoc}
 use Rattle.sctp_model.specs.LinkRecord.{Setup, LinkRecord}
 use Rattle.sctp_model.proofs.sender.Shape.{Shape, shape, sent, parts}
 use Rattle.sctp_model.proofs.sender.Sender.{Sender}
-use Rattle.sctp_model.proofs.sender.SenderRun.{Sane, accepted_of}
+use Rattle.sctp_model.proofs.sender.SenderRun.{Consistent, accepted_of}
 use Rattle.sctp_list_lemmas.proofs.Cases.{by_same, same-yes}
 use Rattle.sctp_list_lemmas.proofs.Totals.{total-none, total-one, total-le}
 
@@ -67,9 +67,9 @@ few-slots x s = omega (
     each n lt = omega (
       arith,
       length-split (λ p. (x.slot p).message == n) (λ p. (x.slot p).is_terminal_chunk) 0 x.slots,
-      s.marks n lt,
+      s.terminals n lt,
       one (x.message n).abandoned (nat_lt (sent x n) (parts x n)) (sent x n) (parts x n) (s.within n lt) refl,
     )
 
-pub few : (setup : Setup) (w : LinkRecord) → Sane setup w → length w.slots < 2 ^ 31
+pub few : (setup : Setup) (w : LinkRecord) → Consistent setup w → length w.slots < 2 ^ 31
 few setup w g = omega (arith, few-slots (shape w) g.sender, g.accepted)

@@ -179,8 +179,8 @@ grows-written x m s = record {
 }
 
 -- a terminal chunk alone
-pub grows-marks : (x : Shape) (n : ℕ) → Grows x (slotted x n true)
-grows-marks x n = record {
+pub grows-terminals : (x : Shape) (n : ℕ) → Grows x (slotted x n true)
+grows-terminals x n = record {
   size = refl;
   slots = omega arith;
   slot = λ p lt. slot-old x n p true lt;

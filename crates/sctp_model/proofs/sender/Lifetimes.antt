@@ -18,10 +18,10 @@ use Rattle.sctp_model.specs.Log.{writes_in, started_in, moment_of}
 use Rattle.sctp_model.specs.Steps.{History, record_of, IsRun, refusal_of, after}
 use Rattle.sctp_model.specs.Laws.{IsSetup, OnEveryRun, StartsOnce, LateAbandonsListed, shown_of}
 use Rattle.sctp_model.proofs.sender.Shapes
-use Rattle.sctp_model.proofs.sender.SenderRun.{fold-keeps, sane-run, written_as}
+use Rattle.sctp_model.proofs.sender.SenderRun.{fold-keeps, consistent-run, written_as}
 use Rattle.sctp_model.proofs.sender.Network.{extends-after}
 use Rattle.sctp_model.proofs.sender.Written.{messages_are_writes}
-use Rattle.sctp_model.proofs.acknowledgement.BytesTold.{messages-sent, count-abandoned, count-late}
+use Rattle.sctp_model.proofs.acknowledgement.BytesAnswered.{messages-sent, count-abandoned, count-late}
 use Rattle.sctp_list_lemmas.proofs.Getting.{get-snoc_old, get-snoc_new, length-mapped, map-at}
 use Rattle.sctp_list_lemmas.proofs.Tests.{any-append}
 use Rattle.sctp_list_lemmas.proofs.Totals.{length-numbers}
@@ -181,7 +181,7 @@ begins-step : (setup : Setup) (older : History) (e : Event) (r : Reply) → IsSe
     → Begins setup older (record_of setup older) → Begins setup ((e, r) ∷ older) (after (record_of setup older) e)
 begins-step setup older e r is run ok b = record {
   each = λ n lt. at n lt (cases_lt n (length (record_of setup older).messages));
-  past = λ n le. beyond n (omega (arith, le, (extends-after setup (record_of setup older) e ok (sane-run setup older run)).grows.count));
+  past = λ n le. beyond n (omega (arith, le, (extends-after setup (record_of setup older) e ok (consistent-run setup older run)).grows.count));
 }
   where
     beyond : (n : ℕ) → length (record_of setup older).messages ≤ n

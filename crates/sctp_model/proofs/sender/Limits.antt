@@ -18,7 +18,7 @@ use Rattle.sctp_model.specs.Steps.{History, record_of, IsRun, reply_to, after, s
 use Rattle.sctp_model.specs.Laws.{IsSetup, OnEveryRun, WithinLimit, FilledToLimit, data_length, packet_length, next_fragment}
 use Rattle.sctp_model.proofs.sender.Shape.{Shape, shape, sent, slotted, front_of}
 use Rattle.sctp_model.proofs.sender.Sender.{slot-old, slot-new}
-use Rattle.sctp_model.proofs.sender.SenderRun.{sane-run}
+use Rattle.sctp_model.proofs.sender.SenderRun.{consistent-run}
 use Rattle.sctp_model.proofs.sender.Shapes
 use Rattle.sctp_model.proofs.sender.Sends.{takes_pending}
 
@@ -205,7 +205,7 @@ send-made setup h is run now d tsn ssn count chunks e m = step (Messages.front w
         let all : length v.slots - length w.slots ≡ count = omega (arith, c, long) in
         let same : shape (after w (E.Send now)) ≡ shape v = ap shape made in
         record {
-          filled = send-fills setup w now n (sane-run setup h run).setup_is f;
+          filled = send-fills setup w now n (consistent-run setup h run).setup_is f;
           many = sym (ap length listed) ∙ length-mapped (chunk_at (after w (E.Send now))) (numbers_from (length w.slots) count)
               ∙ length-numbers (length w.slots) count;
           is = sym (ap packet_length listed) ∙ packet-is (after w (E.Send now)) (length w.slots) count

@@ -13,7 +13,7 @@ use Rattle.sctp_model.specs.Changes
 use Rattle.sctp_model.specs.Steps.{History, record_of, IsRun, reply_to, after, sent_reply}
 use Rattle.sctp_model.specs.Log.{MadeData, MadeForward, made_by, made_in, place_in}
 use Rattle.sctp_model.specs.Laws.{IsSetup, OnEveryRun, NetworkIsMade, kind_of}
-use Rattle.sctp_model.proofs.sender.SenderRun.{Sane, sane-run}
+use Rattle.sctp_model.proofs.sender.SenderRun.{Consistent, consistent-run}
 use Rattle.sctp_model.proofs.sender.Few.{few}
 use Rattle.sctp_model.proofs.sender.Network.{same-network, network-written, network-expired, network-tail, network-late, network-abandoned, same-received}
 use Rattle.sctp_model.proofs.sender.Network.{same-taken, same-read}
@@ -28,7 +28,7 @@ kinds-more w v d e = ap (map kind_of) e ∙ map-append kind_of w.network (d ∷ 
 kinds-same : (w v : LinkRecord) → v.network ≡ w.network → map kind_of v.network ≡ map kind_of w.network ++ []
 kinds-same w v e = ap (map kind_of) e ∙ sym (append-nil (map kind_of w.network))
 
-made-sent : (setup : Setup) (w : LinkRecord) (now : ℕ) (o : Option ℕ) → IsSetup setup → Sane setup w
+made-sent : (setup : Setup) (w : LinkRecord) (now : ℕ) (o : Option ℕ) → IsSetup setup → Consistent setup w
     → map kind_of (Changes.send_from (Changes.after_start w now) o).network ≡ map kind_of w.network ++ made_by setup (E.Send now)
     (sent_reply w (Changes.send_from (Changes.after_start w now) o) o)
 made-sent setup w now None is g = kinds-same w (Changes.after_start w now) refl
@@ -43,10 +43,10 @@ made-sent setup w now (Some n) is g =
     (ap (λ l. l ++ W.Data (numbers_from (length u.slots) (length v.slots - length u.slots)) ∷ []) (same-network u))
     ∙ ap (λ i. map kind_of w.network ++ MadeData (numbers_from i (length v.slots - length w.slots)) ∷ []) (sym place)
 
-place-same : (setup : Setup) (w : LinkRecord) (tsn : ℕ) → Sane setup w → Messages.place_of w tsn ≡ place_in setup tsn
+place-same : (setup : Setup) (w : LinkRecord) (tsn : ℕ) → Consistent setup w → Messages.place_of w tsn ≡ place_in setup tsn
 place-same setup w tsn g = ap (λ s. place_in s tsn) g.setup_is
 
-made-step : (setup : Setup) (w : LinkRecord) (e : Event) → IsSetup setup → Sane setup w
+made-step : (setup : Setup) (w : LinkRecord) (e : Event) → IsSetup setup → Consistent setup w
     → map kind_of (after w e).network ≡ map kind_of w.network ++ made_by setup e (reply_to w e)
 made-step setup w (E.Open s) is g = kinds-same w (Changes.after_open w s) refl
 made-step setup w (E.Mode s unordered reliability value) is g = kinds-same w (Changes.after_mode w s unordered reliability value) refl
@@ -70,7 +70,7 @@ made-step setup w (E.Read s) is g = kinds-same w (Changes.after_reading w s) (sa
 pub made-run : (setup : Setup) (h : History) → IsSetup setup → IsRun setup h → map kind_of (record_of setup h).network ≡ made_in setup h
 made-run setup [] is run = refl
 made-run setup (entry ∷ older) is run =
-    made-step setup (record_of setup older) entry.0 is (sane-run setup older run.1.1)
+    made-step setup (record_of setup older) entry.0 is (consistent-run setup older run.1.1)
     ∙ ap (λ l. l ++ made_by setup entry.0 (reply_to (record_of setup older) entry.0)) (made-run setup older is run.1.1)
     ∙ ap (λ r. made_in setup older ++ made_by setup entry.0 r) (sym run.1.0)
 

@@ -17,10 +17,10 @@ use Rattle.sctp_model.specs.Changes
 use Rattle.sctp_model.specs.Log.{Mode, mode_in, mode_for, modes_in}
 use Rattle.sctp_model.specs.Steps.{History, record_of, IsRun, refusal_of, after}
 use Rattle.sctp_model.specs.Laws.{OnEveryRun, ModesAreKept, mode_of}
-use Rattle.sctp_model.proofs.sender.SenderRun.{sane-run, fold-keeps, unless-holds, written_as}
+use Rattle.sctp_model.proofs.sender.SenderRun.{consistent-run, fold-keeps, unless-holds, written_as}
 use Rattle.sctp_model.proofs.sender.Moves
 use Rattle.sctp_model.proofs.receiver.View.{field-kept, field-changed, find-more, either-keeps}
-use Rattle.sctp_model.proofs.acknowledgement.BytesTold.{messages-sent}
+use Rattle.sctp_model.proofs.acknowledgement.BytesAnswered.{messages-sent}
 use Rattle.sctp_model.proofs.sender.Lifetimes.{messages-received, messages-taken}
 
 -- Each message has the mode that its stream had when it was written.
@@ -156,28 +156,28 @@ moded-step setup older e r ok run m = by e ok
     by (E.Start now) ok = record { streams = m.streams; messages = kept-sent (record_of setup older) now None ∙ m.messages }
     by (E.Send now) ok = record {
       streams = quiet (after (record_of setup older) (E.Send now))
-          (Moves.quiet-sent setup (record_of setup older) now (Messages.front (record_of setup older)) (sane-run setup older run));
+          (Moves.quiet-sent setup (record_of setup older) now (Messages.front (record_of setup older)) (consistent-run setup older run));
       messages = kept-sent (record_of setup older) now (Messages.front (record_of setup older)) ∙ m.messages;
     }
     by (E.Resend a) ok = record { streams = m.streams; messages = m.messages }
     by (E.Expire now) ok = record {
       streams = quiet (after (record_of setup older) (E.Expire now))
-          (Moves.quiet-expire setup (record_of setup older) now (Messages.front (record_of setup older)) (sane-run setup older run));
+          (Moves.quiet-expire setup (record_of setup older) now (Messages.front (record_of setup older)) (consistent-run setup older run));
       messages = kept-expired (record_of setup older) (Changes.expiring (record_of setup older) now) ∙ m.messages;
     }
     by (E.Tail now) ok = record {
       streams = quiet (after (record_of setup older) (E.Tail now))
-          (Moves.quiet-tail setup (record_of setup older) (Changes.tailing (record_of setup older) now) (sane-run setup older run));
+          (Moves.quiet-tail setup (record_of setup older) (Changes.tailing (record_of setup older) now) (consistent-run setup older run));
       messages = kept-tail (record_of setup older) (Changes.tailing (record_of setup older) now) ∙ m.messages;
     }
     by (E.Late now) ok = record {
-      streams = quiet (after (record_of setup older) (E.Late now)) (Moves.quiet-lates setup (record_of setup older) now (sane-run setup older run));
+      streams = quiet (after (record_of setup older) (E.Late now)) (Moves.quiet-lates setup (record_of setup older) now (consistent-run setup older run));
       messages = fold-keeps (λ v. kept_modes v ≡ kept_modes (record_of setup older)) Changes.after_abandon (λ v n e. kept-abandoned v n ∙ e)
           (Changes.late_messages (record_of setup older) now) (record_of setup older) refl ∙ m.messages;
     }
     by (E.Abandon tsn) ok = record {
       streams = quiet (after (record_of setup older) (E.Abandon tsn)) (Moves.quiet-abandoned setup (record_of setup older)
-          (Messages.message_of (record_of setup older) (Messages.place_of (record_of setup older) tsn)) (sane-run setup older run));
+          (Messages.message_of (record_of setup older) (Messages.place_of (record_of setup older) tsn)) (consistent-run setup older run));
       messages = kept-abandoned (record_of setup older) (Messages.message_of (record_of setup older) (Messages.place_of (record_of setup older) tsn))
           ∙ m.messages;
     }

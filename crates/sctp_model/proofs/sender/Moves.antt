@@ -13,9 +13,10 @@ use Rattle.sctp_model.specs.Changes
 use Rattle.sctp_model.proofs.sender.Shape.{shape, message_part, slotted, abandoned_at, expired_at, written}
 use Rattle.sctp_model.proofs.sender.Shapes
 use Rattle.sctp_model.proofs.sender.Fronts.{front-takes, of-unsent}
-use Rattle.sctp_model.proofs.sender.SenderRun.{Sane, sane-takes, sane-abandoned, sane-started, filled-keeps, written_as, AllSent, sent-all, late-sent}
+use Rattle.sctp_model.proofs.sender.SenderRun.{Consistent, consistent-takes, consistent-abandoned, consistent-started, filled-keeps, written_as, AllSent}
+use Rattle.sctp_model.proofs.sender.SenderRun.{sent-all, late-sent}
 use Rattle.sctp_list_lemmas.specs.Kept.{numbers_from}
-use Rattle.sctp_model.proofs.sender.Grows.{Grows, grows-same, grows-by, grows-then, grows-takes, grows-abandoned, grows-marked, grows-marks, grows-expired}
+use Rattle.sctp_model.proofs.sender.Grows.{Grows, grows-same, grows-by, grows-then, grows-takes, grows-abandoned, grows-marked, grows-terminals, grows-expired}
 use Rattle.sctp_model.proofs.sender.Grows.{grows-written}
 use Rattle.sctp_list_lemmas.proofs.Cases.{by_same}
 use Rattle.sctp_list_lemmas.proofs.Getting.{get-beyond, get-snoc_old, get-snoc_new, get-snoc, get-map, length-mapped}
@@ -51,7 +52,7 @@ quiet-none w = record {
   grows = grows-same (shape w) (shape w) refl;
 }
 
-pub quiet-then : (setup : Setup) (w v u : LinkRecord) → Sane setup w → Quiet w v → Quiet v u → Quiet w u
+pub quiet-then : (setup : Setup) (w v u : LinkRecord) → Consistent setup w → Quiet w v → Quiet v u → Quiet w u
 quiet-then setup w v u g f h = record {
   setup = h.setup ∙ f.setup;
   streams = h.streams ∙ f.streams;
@@ -105,8 +106,8 @@ quiet-flagged : (w : LinkRecord) (n : ℕ) (f : Message → Message) → ((m : M
 quiet-flagged w n f keeps g =
     quiet-messages w (change_at f n w.messages) (length-changed f n w.messages) (λ k. changed-keeps f (λ m. m.read) keeps n k w.messages Messages.no_message) g
 
-quiet-slot : (w : LinkRecord) (n : ℕ) (mark : Bool) → Grows (shape w) (shape (Changes.with_slot w n mark)) → Quiet w (Changes.with_slot w n mark)
-quiet-slot w n mark g = record {
+quiet-slot : (w : LinkRecord) (n : ℕ) (terminal : Bool) → Grows (shape w) (shape (Changes.with_slot w n terminal)) → Quiet w (Changes.with_slot w n terminal)
+quiet-slot w n terminal g = record {
   setup = refl;
   streams = refl;
   skipped = refl;
@@ -119,20 +120,20 @@ quiet-slot w n mark g = record {
       (λ ne f. ap (λ b. if b then false else arrived_at w p) f);
   acknowledged = λ p lt. ap (λ x. x.acknowledged) (get-snoc_old w.slots new p Messages.no_slot (λ e. absurd (omega arith)));
   fresh = λ p a b. let e : p ≡ length w.slots = omega (arith, length-append w.slots (new ∷ [])) in
-      ap (λ q. (Messages.slot_at (Changes.with_slot w n mark) q).acknowledged) e ∙ ap (λ x. x.acknowledged) (get-snoc_new w.slots new Messages.no_slot);
+      ap (λ q. (Messages.slot_at (Changes.with_slot w n terminal) q).acknowledged) e ∙ ap (λ x. x.acknowledged) (get-snoc_new w.slots new Messages.no_slot);
   read = λ n lt. refl;
   unread = λ n a b. absurd (omega arith);
   grows = g;
 }
   where
     new : Slot
-    new = record { message = n; fragment = Messages.sent_of w n; is_terminal_chunk = mark; arrived = false; acknowledged = false }
+    new = record { message = n; fragment = Messages.sent_of w n; is_terminal_chunk = terminal; arrived = false; acknowledged = false }
 
     same : (b c : Bool) → c ≡ false → (if b then false else c) ≡ c
     same true c e = sym e
     same false c e = refl
 
-pub quiet-takes : (setup : Setup) (w : LinkRecord) → Sane setup w → Quiet w (Changes.send_fragment w)
+pub quiet-takes : (setup : Setup) (w : LinkRecord) → Consistent setup w → Quiet w (Changes.send_fragment w)
 quiet-takes setup w g = step (Messages.front w) refl
   where
     step : (o : Option ℕ) → Messages.front w ≡ o → Quiet w (Changes.send_fragment_of w o)
@@ -140,7 +141,7 @@ quiet-takes setup w g = step (Messages.front w) refl
     step (Some n) e = quiet-slot w n false (grows-by (shape w) (shape (Changes.with_slot w n false)) (slotted (shape w) n false) (Shapes.shape-slot w n false)
         (grows-takes (shape w) n (front-takes (shape w) n g.sender e)))
 
-pub quiet-abandoned : (setup : Setup) (w : LinkRecord) (n : ℕ) → Sane setup w → Quiet w (Changes.after_abandon w n)
+pub quiet-abandoned : (setup : Setup) (w : LinkRecord) (n : ℕ) → Consistent setup w → Quiet w (Changes.after_abandon w n)
 quiet-abandoned setup w n g = step (Messages.is_partially_sent w n) refl
   where
     joined : (v : LinkRecord) → Quiet w v → Grows (shape w) (shape (Changes.message_changed v n Changes.mark_abandoned))
@@ -162,7 +163,7 @@ quiet-abandoned setup w n g = step (Messages.is_partially_sent w n) refl
     }
 
     slot-grows : Grows (shape w) (shape (Changes.with_slot w n true))
-    slot-grows = grows-by (shape w) (shape (Changes.with_slot w n true)) (slotted (shape w) n true) (Shapes.shape-slot w n true) (grows-marks (shape w) n)
+    slot-grows = grows-by (shape w) (shape (Changes.with_slot w n true)) (slotted (shape w) n true) (Shapes.shape-slot w n true) (grows-terminals (shape w) n)
 
     step : (b : Bool) → Messages.is_partially_sent w n ≡ b
         → Quiet w (Changes.message_changed (if b then Changes.with_slot w n true else w) n Changes.mark_abandoned)
@@ -172,12 +173,12 @@ quiet-abandoned setup w n g = step (Messages.is_partially_sent w n) refl
     step false e = joined w (quiet-none w) (grows-by (shape w) (shape (Changes.message_changed w n Changes.mark_abandoned)) (abandoned_at (shape w) n)
         (Shapes.shape-abandoned w n) (grows-abandoned (shape w) n))
 
-pub quiet-expired : (setup : Setup) (w : LinkRecord) (n : ℕ) → Sane setup w → Messages.is_unsent w n ≡ true
+pub quiet-expired : (setup : Setup) (w : LinkRecord) (n : ℕ) → Consistent setup w → Messages.is_unsent w n ≡ true
     → Quiet w (Changes.message_changed w n Changes.mark_expired)
 quiet-expired setup w n g e = let u = of-unsent (shape w) n e in quiet-flagged w n Changes.mark_expired (λ m. refl) (grows-by (shape w) (shape
     (Changes.message_changed w n Changes.mark_expired)) (expired_at (shape w) n) (Shapes.shape-expired w n) (grows-expired (shape w) n g.sender u.none u.alive))
 
-pub quiet-written : (setup : Setup) (w : LinkRecord) (s : ℕ) (ppi : PayloadProtocolIdentifier) (bytes : List ℕ) → Sane setup w
+pub quiet-written : (setup : Setup) (w : LinkRecord) (s : ℕ) (ppi : PayloadProtocolIdentifier) (bytes : List ℕ) → Consistent setup w
     → Quiet w (Changes.after_write w s ppi bytes)
 quiet-written setup w s ppi [] g = quiet-none w
 quiet-written setup w s ppi (b ∷ bs) g = record {
@@ -219,33 +220,36 @@ quiet-datagram w v d q = record {
 -- ## Sends and late messages
 
 pub record Reached (setup : Setup) (w v : LinkRecord) : Type 0 where
-  pub sane : Sane setup v
+  pub consistent : Consistent setup v
   pub quiet : Quiet w v
 
-pub reached-more : (setup : Setup) (w : LinkRecord) → Sane setup w → (v : LinkRecord) → Reached setup w v → Reached setup w (Changes.send_fragment v)
+pub reached-more : (setup : Setup) (w : LinkRecord) → Consistent setup w → (v : LinkRecord) → Reached setup w v → Reached setup w (Changes.send_fragment v)
 reached-more setup w g v r =
-    record { sane = sane-takes setup v r.sane; quiet = quiet-then setup w v (Changes.send_fragment v) g r.quiet (quiet-takes setup v r.sane) }
+    record {
+      consistent = consistent-takes setup v r.consistent;
+      quiet = quiet-then setup w v (Changes.send_fragment v) g r.quiet (quiet-takes setup v r.consistent);
+    }
 
-pub quiet-sent : (setup : Setup) (w : LinkRecord) (now : ℕ) (o : Option ℕ) → Sane setup w → Quiet w (Changes.send_from (Changes.after_start w now) o)
+pub quiet-sent : (setup : Setup) (w : LinkRecord) (now : ℕ) (o : Option ℕ) → Consistent setup w → Quiet w (Changes.send_from (Changes.after_start w now) o)
 quiet-sent setup w now None g = quiet-started w now
 quiet-sent setup w now (Some n) g =
     let u = Changes.after_start w now in
     let first : Reached setup w (Changes.send_fragment u) =
-    reached-more setup w g u (record { sane = sane-started setup w now g; quiet = quiet-started w now }) in
+    reached-more setup w g u (record { consistent = consistent-started setup w now g; quiet = quiet-started w now }) in
     let all : Reached setup w (Changes.send_fragments u) = filled-keeps (Reached setup w)
     (reached-more setup w g) u.setup.limit (Changes.plus 12 (Changes.next_length u)) (Changes.send_fragment u) first in
     quiet-datagram w (Changes.send_fragments u) (Data (numbers_from (length u.slots) (length (Changes.send_fragments u).slots - length u.slots))) all.quiet
 
-quiet-late : (setup : Setup) (ns : List ℕ) (w : LinkRecord) → Sane setup w → AllSent w ns → Quiet w (fold Changes.after_abandon w ns)
+quiet-late : (setup : Setup) (ns : List ℕ) (w : LinkRecord) → Consistent setup w → AllSent w ns → Quiet w (fold Changes.after_abandon w ns)
 quiet-late setup [] w g a = quiet-none w
 quiet-late setup (n ∷ ns) w g a =
-    let h = sane-abandoned setup w n g a.0 in
+    let h = consistent-abandoned setup w n g a.0 in
     quiet-then setup w (Changes.after_abandon w n) (fold Changes.after_abandon (Changes.after_abandon w n) ns) g (quiet-abandoned setup w n g)
     (quiet-late setup ns (Changes.after_abandon w n) h (sent-all w n ns a.1))
 
 -- ## The sender's events
 
-pub quiet-expire : (setup : Setup) (w : LinkRecord) (now : ℕ) (o : Option ℕ) → Sane setup w
+pub quiet-expire : (setup : Setup) (w : LinkRecord) (now : ℕ) (o : Option ℕ) → Consistent setup w
     → Quiet w (Changes.after_expire w (Changes.front_if w (λ n. Messages.is_unsent w n && Messages.is_past_deadline w now n) o))
 quiet-expire setup w now None g = quiet-none w
 quiet-expire setup w now (Some n) g = step (Messages.is_unsent w n) (Messages.is_past_deadline w now n) refl
@@ -255,9 +259,9 @@ quiet-expire setup w now (Some n) g = step (Messages.is_unsent w n) (Messages.is
     step true false e = quiet-none w
     step false c e = quiet-none w
 
-pub quiet-tail : (setup : Setup) (w : LinkRecord) (o : Option ℕ) → Sane setup w → Quiet w (Changes.after_tail w o)
+pub quiet-tail : (setup : Setup) (w : LinkRecord) (o : Option ℕ) → Consistent setup w → Quiet w (Changes.after_tail w o)
 quiet-tail setup w None g = quiet-none w
 quiet-tail setup w (Some n) g = quiet-abandoned setup w n g
 
-pub quiet-lates : (setup : Setup) (w : LinkRecord) (now : ℕ) → Sane setup w → Quiet w (Changes.after_late w now)
+pub quiet-lates : (setup : Setup) (w : LinkRecord) (now : ℕ) → Consistent setup w → Quiet w (Changes.after_late w now)
 quiet-lates setup w now g = quiet-late setup (Changes.late_messages w now) w g (late-sent setup w now g)

@@ -27,7 +27,7 @@ use Rattle.sctp_model.proofs.sender.Shape.{Shape, MessagePart, shape, has, sent,
 use Rattle.sctp_model.proofs.sender.Sender.{Sender, slot-old, slot-new}
 use Rattle.sctp_model.proofs.sender.Slots.{sent-made}
 use Rattle.sctp_model.proofs.sender.Shapes
-use Rattle.sctp_model.proofs.sender.SenderRun.{Sane, sane-run, sane-started, filled-keeps, fold-keeps, unless-holds}
+use Rattle.sctp_model.proofs.sender.SenderRun.{Consistent, consistent-run, consistent-started, filled-keeps, fold-keeps, unless-holds}
 use Rattle.sctp_model.proofs.sender.Grows.{Grows, IsEnded, as_written, grows-same, parts-grown}
 use Rattle.sctp_model.proofs.sender.Moves
 use Rattle.sctp_model.proofs.sender.Fronts.{slot-sent, mark-abandoned}
@@ -105,7 +105,7 @@ same-read w s (Some n) = record { setup = refl; network = refl; shape_is = Shape
 one-datagram : (w v : LinkRecord) (d : Datagram) → v.setup ≡ w.setup → v.network ≡ w.network ++ d ∷ [] → shape v ≡ shape w → Extends w v
 one-datagram w v d a b c = record { setup = a; network = (d ∷ [], b); grows = grows-same (shape w) (shape v) c }
 
-pub extends-after : (setup : Setup) (w : LinkRecord) (e : Event) → refusal_of w e ≡ None → Sane setup w → Extends w (after w e)
+pub extends-after : (setup : Setup) (w : LinkRecord) (e : Event) → refusal_of w e ≡ None → Consistent setup w → Extends w (after w e)
 extends-after setup w (E.Open s) ok g = extends-same w (Changes.after_open w s) (record { setup = refl; network = refl; shape_is = refl })
 extends-after setup w (E.Mode s unordered reliability value) ok g =
     extends-same w (Changes.after_mode w s unordered reliability value) (record { setup = refl; network = refl; shape_is = refl })
@@ -214,7 +214,7 @@ record Adds (setup : Setup) (w v : LinkRecord) : Type 0 where
   reached : Moves.Reached setup w v
   fragments : (p : ℕ) → length w.slots ≤ p → p < length v.slots → (Messages.slot_at v p).is_terminal_chunk ≡ false
 
-adds-more : (setup : Setup) (w : LinkRecord) → Sane setup w → (v : LinkRecord) → Adds setup w v → Adds setup w (Changes.send_fragment v)
+adds-more : (setup : Setup) (w : LinkRecord) → Consistent setup w → (v : LinkRecord) → Adds setup w v → Adds setup w (Changes.send_fragment v)
 adds-more setup w g v a = record { reached = Moves.reached-more setup w g v a.reached; fragments = step (Messages.front v) }
   where
     step : (o : Option ℕ) → (p : ℕ) → length w.slots ≤ p → p < length (Changes.send_fragment_of v o).slots
@@ -227,11 +227,14 @@ adds-more setup w g v a = record { reached = Moves.reached-more setup w g v a.re
         (λ e. ap (λ y. (y.slot p).is_terminal_chunk) (Shapes.shape-slot v n false) ∙ ap (λ q. ((slotted (shape v) n false).slot q).is_terminal_chunk) e
         ∙ ap (λ y. y.is_terminal_chunk) (slot-new (shape v) n false))
 
-adds-sent : (setup : Setup) (w : LinkRecord) (now : ℕ) → Sane setup w → Adds setup w (Changes.send_fragments (Changes.after_start w now))
+adds-sent : (setup : Setup) (w : LinkRecord) (now : ℕ) → Consistent setup w → Adds setup w (Changes.send_fragments (Changes.after_start w now))
 adds-sent setup w now g =
     let u = Changes.after_start w now in
     let base : Adds setup w u =
-    record { reached = record { sane = sane-started setup w now g; quiet = Moves.quiet-started w now }; fragments = λ p a b. absurd (omega arith) } in
+    record {
+      reached = record { consistent = consistent-started setup w now g; quiet = Moves.quiet-started w now };
+      fragments = λ p a b. absurd (omega arith);
+    } in
     filled-keeps (Adds setup w) (adds-more setup w g) u.setup.limit (Changes.plus 12 (Changes.next_length u)) (Changes.send_fragment u)
     (adds-more setup w g u base)
 
@@ -252,7 +255,7 @@ pub same-network : (u : LinkRecord) → (Changes.send_fragments u).network ≡ u
 same-network u = filled-keeps (λ v. v.network ≡ u.network) (λ v e. network-more v ∙ e) u.setup.limit (Changes.plus 12 (Changes.next_length u))
     (Changes.send_fragment u) (network-more u)
 
-fit-sent : (setup : Setup) (w : LinkRecord) (now : ℕ) (o : Option ℕ) → Sane setup w → AllFit (shape w) w.network
+fit-sent : (setup : Setup) (w : LinkRecord) (now : ℕ) (o : Option ℕ) → Consistent setup w → AllFit (shape w) w.network
     → AllFit (shape (Changes.send_from (Changes.after_start w now) o)) (Changes.send_from (Changes.after_start w now) o).network
 fit-sent setup w now None g a = fit-kept w (Changes.after_start w now) g.sender (Moves.quiet-started w now).grows refl a
 fit-sent setup w now (Some n) g a =
@@ -354,7 +357,7 @@ resend-ok w p s e =
       tt,
     )
 
-pub fit-after : (setup : Setup) (w : LinkRecord) (e : Event) → refusal_of w e ≡ None → Sane setup w → AllFit (shape w) w.network
+pub fit-after : (setup : Setup) (w : LinkRecord) (e : Event) → refusal_of w e ≡ None → Consistent setup w → AllFit (shape w) w.network
     → AllFit (shape (after w e)) (after w e).network
 fit-after setup w (E.Open s) ok g a = a
 fit-after setup w (E.Mode s unordered reliability value) ok g a = a
@@ -384,7 +387,7 @@ fit-after setup w (E.Read s) ok g a = fit-same w (Changes.after_reading w s) g.s
 
 pub fit-run : (setup : Setup) (h : History) → IsRun setup h → AllFit (shape (record_of setup h)) (record_of setup h).network
 fit-run setup [] run = tt
-fit-run setup (entry ∷ older) run = fit-after setup (record_of setup older) entry.0 run.0 (sane-run setup older run.1.1) (fit-run setup older run.1.1)
+fit-run setup (entry ∷ older) run = fit-after setup (record_of setup older) entry.0 run.0 (consistent-run setup older run.1.1) (fit-run setup older run.1.1)
 
 -- ## The laws
 
@@ -468,7 +471,7 @@ contents-stay w v (Sack r) s x f =
 pub datagrams_stay : OnEveryRun DatagramsStay
 datagrams_stay setup h is run event k ok lt =
     let w = record_of setup h in
-    let g = sane-run setup h run in
+    let g = consistent-run setup h run in
     let x = extends-after setup w event ok g in
     ap (λ ds. contents_in (after w event) (slice_get ds k)) x.network.1
     ∙ ap (contents_in (after w event)) (slice-front w.network x.network.0 k lt)

@@ -4,10 +4,10 @@ use Rattle.std.specs.Prelude.{if◌then◌else◌, ◌==◌, ◌&&◌, not, nat_
 use Rattle.std.proofs.lemmas.Bool.Decides.{nat_tests}
 use Rattle.sctp_list_lemmas.specs.Kept.{numbers_where}
 use Rattle.sctp_list_lemmas.proofs.Passing.{kept-same, kept-snoc}
-use Rattle.sctp_model.proofs.sender.Shape.{Shape, SlotPart, has, sent, parts, half, on, slotted}
+use Rattle.sctp_model.proofs.sender.Shape.{Shape, SlotPart, has, sent, parts, partial, on, slotted}
 
-abbrev pub is_mark : Shape → ℕ → ℕ → Bool
-is_mark x n p = ((x.slot p).message == n) && (x.slot p).is_terminal_chunk
+abbrev pub is_terminal : Shape → ℕ → ℕ → Bool
+is_terminal x n p = ((x.slot p).message == n) && (x.slot p).is_terminal_chunk
 
 pub record Sender (x : Shape) : Type 0 where
   -- each message has a fragment
@@ -20,11 +20,11 @@ pub record Sender (x : Shape) : Type 0 where
   pub beside : (p : ℕ) → p < x.slots → (x.slot p).is_terminal_chunk ≡ false → 0 < (x.slot p).fragment
       → (q : ℕ) × (p ≡ q + 1) × (has x (x.slot p).message q ≡ true)
   -- the slots of a partially sent message are the last ones
-  pub last : (n : ℕ) → half x n ≡ true → (q : ℕ) × (x.slots ≡ q + 1) × (has x n q ≡ true)
+  pub last : (n : ℕ) → partial x n ≡ true → (q : ℕ) × (x.slots ≡ q + 1) × (has x n q ≡ true)
   pub within : (n : ℕ) → n < x.count → sent x n ≤ parts x n
   -- an abandoned message that was not wholly sent has one terminal chunk
-  pub marks : (n : ℕ) → n < x.count
-      → length (numbers_where (is_mark x n) 0 x.slots) ≡ (if (x.message n).abandoned && nat_lt (sent x n) (parts x n) then 1 else 0)
+  pub terminals : (n : ℕ) → n < x.count
+      → length (numbers_where (is_terminal x n) 0 x.slots) ≡ (if (x.message n).abandoned && nat_lt (sent x n) (parts x n) then 1 else 0)
   pub expired_unsent : (n : ℕ) → n < x.count → (x.message n).expired ≡ true → sent x n ≡ 0
   pub abandoned_sent : (n : ℕ) → n < x.count → (x.message n).abandoned ≡ true → 0 < sent x n
   -- the ordered messages of a stream are sent in turn
@@ -57,7 +57,8 @@ pub sent-slotted : (x : Shape) (n k : ℕ) (m : Bool) → sent (slotted x n m) k
 sent-slotted x n k m = ap length (kept-slots x n m (λ y. (y.message == k) && not y.is_terminal_chunk))
     ∙ one-more (numbers_where (has x k) 0 x.slots) x.slots ((n == k) && not m)
 
-pub marks-slotted : (x : Shape) (n k : ℕ) (m : Bool)
-    → length (numbers_where (is_mark (slotted x n m) k) 0 (x.slots + 1)) ≡ length (numbers_where (is_mark x k) 0 x.slots) + (if (n == k) && m then 1 else 0)
-marks-slotted x n k m = ap length (kept-slots x n m (λ y. (y.message == k) && y.is_terminal_chunk))
-    ∙ one-more (numbers_where (is_mark x k) 0 x.slots) x.slots ((n == k) && m)
+pub terminals-slotted : (x : Shape) (n k : ℕ) (m : Bool)
+    → length (numbers_where (is_terminal (slotted x n m) k) 0 (x.slots + 1))
+    ≡ length (numbers_where (is_terminal x k) 0 x.slots) + (if (n == k) && m then 1 else 0)
+terminals-slotted x n k m = ap length (kept-slots x n m (λ y. (y.message == k) && y.is_terminal_chunk))
+    ∙ one-more (numbers_where (is_terminal x k) 0 x.slots) x.slots ((n == k) && m)

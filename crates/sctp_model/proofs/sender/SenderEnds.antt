@@ -6,16 +6,17 @@ use Rattle.std.proofs.lemmas.Bool.Decides.{nat_tests}
 use Rattle.sctp_list_lemmas.specs.Kept.{numbers_where}
 use Rattle.sctp_list_lemmas.proofs.Passing.{kept-none}
 use Rattle.sctp_list_lemmas.proofs.More.{fails, not_both, both, and}
-use Rattle.sctp_model.proofs.sender.Shape.{Shape, MessagePart, has, sent, parts, half, on, slotted, written, abandoned_at, expired_at}
-use Rattle.sctp_model.proofs.sender.Sender.{Sender, is_mark, sent-slotted, marks-slotted, slot-old, slot-new}
-use Rattle.sctp_model.proofs.sender.SenderSteps.{of-has, sent-some, of-half, is-half, half-one, has-old, has-new, number-slotted, made-slotted, Next, Last}
-use Rattle.sctp_model.proofs.sender.SenderSteps.{marks_due}
+use Rattle.sctp_model.proofs.sender.Shape.{Shape, MessagePart, has, sent, parts, partial, on, slotted, written, abandoned_at, expired_at}
+use Rattle.sctp_model.proofs.sender.Sender.{Sender, is_terminal, sent-slotted, terminals-slotted, slot-old, slot-new}
+use Rattle.sctp_model.proofs.sender.SenderSteps.{of-has, sent-some, of-partial, is-partial, partial-one, has-old, has-new, number-slotted, made-slotted, Next}
+use Rattle.sctp_model.proofs.sender.SenderSteps.{Last}
+use Rattle.sctp_model.proofs.sender.SenderSteps.{terminals_due}
 use Rattle.sctp_list_lemmas.proofs.Cases.{by_last, by_same, same-yes, same-is}
 
 -- ## Abandonment
 
 -- with a terminal chunk, where the message is partially sent
-module _ (x : Shape) (n : ℕ) (s : Sender x) (h : half x n ≡ true) where
+module _ (x : Shape) (n : ℕ) (s : Sender x) (h : partial x n ≡ true) where
   abbrev y : Shape
   y = abandoned_at (slotted x n true) n
 
@@ -41,19 +42,19 @@ module _ (x : Shape) (n : ℕ) (s : Sender x) (h : half x n ≡ true) where
     some = s.some;
     made = made-slotted x n true s made-n;
     number = number-slotted x n true s;
-    beside = λ p lt mark pos. by_last {P = Next y p} p x.slots lt (λ o. old p o mark pos)
-        (λ e. absurd (not_both (sym mark ∙ (ap (λ r. (y.slot r).is_terminal_chunk) e ∙ ap (λ z. z.is_terminal_chunk) (slot-new x n true)))));
+    beside = λ p lt terminal pos. by_last {P = Next y p} p x.slots lt (λ o. old p o terminal pos)
+        (λ e. absurd (not_both (sym terminal ∙ (ap (λ r. (y.slot r).is_terminal_chunk) e ∙ ap (λ z. z.is_terminal_chunk) (slot-new x n true)))));
     last = λ k g. by_same {P = Last y k} k n
-        (λ e. absurd (not_both (sym (of-half y k g).alive ∙ (let z : (k == n) ≡ true = ap (λ j. k == j) (sym e) ∙ same-yes k in rw z refl))))
-        (λ ne f. absurd (ne (half-one x k n s (was k f g) h)));
+        (λ e. absurd (not_both (sym (of-partial y k g).alive ∙ (let z : (k == n) ≡ true = ap (λ j. k == j) (sym e) ∙ same-yes k in rw z refl))))
+        (λ ne f. absurd (ne (partial-one x k n s (was k f g) h)));
     within = λ k lt. omega (arith, sent-same k, s.within k lt);
-    marks = λ k lt. marks-slotted x n k true
-        ∙ by_same {P = length (numbers_where (is_mark x k) 0 x.slots) + (if (n == k) && true then 1 else 0) ≡ marks_due y k} n k
+    terminals = λ k lt. terminals-slotted x n k true
+        ∙ by_same {P = length (numbers_where (is_terminal x k) 0 x.slots) + (if (n == k) && true then 1 else 0) ≡ terminals_due y k} n k
         (λ e. ended k e)
         (λ ne f. other k ne f lt);
     expired_unsent = λ k lt e. sent-same k ∙ s.expired_unsent k lt e;
     abandoned_sent = λ k lt e. by_same {P = 0 < sent y k} n k
-        (λ z. omega (arith, (of-half x n h).some, ap (sent x) z, sent-same k))
+        (λ z. omega (arith, (of-partial x n h).some, ap (sent x) z, sent-same k))
         (λ ne f. omega (arith, sent-same k, s.abandoned_sent k lt (before k ne e)));
     turn = λ r j k jk lt a b pos. omega (arith, sent-same j, s.turn r j k jk lt a b (omega (arith, pos, sent-same k)));
     ascend = λ r j k p q jk a b lp lq hp hq. by_last {P = p < q} p x.slots lp
@@ -63,9 +64,9 @@ module _ (x : Shape) (n : ℕ) (s : Sender x) (h : half x n ≡ true) where
   }
     where
       old : (p : ℕ) → p < x.slots → (y.slot p).is_terminal_chunk ≡ false → 0 < (y.slot p).fragment → Next y p
-      old p o mark pos =
+      old p o terminal pos =
           let z = slot-old x n p true o in
-          let r = s.beside p o (ap (λ v. v.is_terminal_chunk) (sym z) ∙ mark) (rw z at pos) in
+          let r = s.beside p o (ap (λ v. v.is_terminal_chunk) (sym z) ∙ terminal) (rw z at pos) in
           (r.0, r.1, ap (λ v. has y v.message r.0) z ∙ has-old x n true (x.slot p).message r.0 (omega (arith, r.1)) ∙ r.2)
 
       off : (k : ℕ) → (n ≡ k → ⊥) → (k == n) ≡ false
@@ -74,42 +75,42 @@ module _ (x : Shape) (n : ℕ) (s : Sender x) (h : half x n ≡ true) where
       before : (k : ℕ) → (n ≡ k → ⊥) → (y.message k).abandoned ≡ true → (x.message k).abandoned ≡ true
       before k ne e = ap (λ b. b || (x.message k).abandoned) (sym (off k ne)) ∙ e
 
-      was : (k : ℕ) → (k == n) ≡ false → half y k ≡ true → half x k ≡ true
+      was : (k : ℕ) → (k == n) ≡ false → partial y k ≡ true → partial x k ≡ true
       was k f g =
-          let i = of-half y k g in
-          is-half x k (omega (arith, i.some, sent-same k)) (omega (arith, i.more, sent-same k)) (ap (λ b. b || (x.message k).abandoned) (sym f) ∙ i.alive)
+          let i = of-partial y k g in
+          is-partial x k (omega (arith, i.some, sent-same k)) (omega (arith, i.more, sent-same k)) (ap (λ b. b || (x.message k).abandoned) (sym f) ∙ i.alive)
 
-      ended : (k : ℕ) → n ≡ k → length (numbers_where (is_mark x k) 0 x.slots) + (if (n == k) && true then 1 else 0) ≡ marks_due y k
+      ended : (k : ℕ) → n ≡ k → length (numbers_where (is_terminal x k) 0 x.slots) + (if (n == k) && true then 1 else 0) ≡ terminals_due y k
       ended k e =
-          let i = of-half x n h in
+          let i = of-partial x n h in
           let hit : (n == k) ≡ true = ap (λ j. n == j) (sym e) ∙ same-yes n in
           let hit' : (k == n) ≡ true = ap (λ j. j == n) (sym e) ∙ same-yes n in
-          let few : length (numbers_where (is_mark x k) 0 x.slots) ≡ 0 = ap (λ j. length (numbers_where (is_mark x j) 0 x.slots)) (sym e) ∙ s.marks n made-n
-          ∙ ap (λ b. if b && nat_lt (sent x n) (parts x n) then 1 else 0) i.alive in
+          let few : length (numbers_where (is_terminal x k) 0 x.slots) ≡ 0 = ap (λ j. length (numbers_where (is_terminal x j) 0 x.slots)) (sym e)
+          ∙ s.terminals n made-n ∙ ap (λ b. if b && nat_lt (sent x n) (parts x n) then 1 else 0) i.alive in
           let more : nat_lt (sent y k) (parts x k) ≡ true =
           (let l : sent y k < parts x k = omega (arith, sent-same k, ap (sent x) e, ap (parts x) e, i.more) in grind (arith, nat_tests)) in
-          ap (λ b. length (numbers_where (is_mark x k) 0 x.slots) + (if b && true then 1 else 0)) hit
+          ap (λ b. length (numbers_where (is_terminal x k) 0 x.slots) + (if b && true then 1 else 0)) hit
           ∙ ap (λ c. c + 1) few
           ∙ sym (ap (λ b. if (b || (x.message k).abandoned) && nat_lt (sent y k) (parts x k) then 1 else 0) hit' ∙ ap (λ b. if true && b then 1 else 0) more)
 
       other : (k : ℕ) → (n ≡ k → ⊥) → (n == k) ≡ false → k < x.count
-          → length (numbers_where (is_mark x k) 0 x.slots) + (if (n == k) && true then 1 else 0) ≡ marks_due y k
+          → length (numbers_where (is_terminal x k) 0 x.slots) + (if (n == k) && true then 1 else 0) ≡ terminals_due y k
       other k ne f lt =
-          let z : length (numbers_where (is_mark x k) 0 x.slots) + 0 ≡ length (numbers_where (is_mark x k) 0 x.slots) = omega arith in
-          ap (λ b. length (numbers_where (is_mark x k) 0 x.slots) + (if b && true then 1 else 0)) f ∙ z ∙ s.marks k lt
+          let z : length (numbers_where (is_terminal x k) 0 x.slots) + 0 ≡ length (numbers_where (is_terminal x k) 0 x.slots) = omega arith in
+          ap (λ b. length (numbers_where (is_terminal x k) 0 x.slots) + (if b && true then 1 else 0)) f ∙ z ∙ s.terminals k lt
           ∙ ap (λ c. if (x.message k).abandoned && nat_lt c (parts x k) then 1 else 0) (sym (sent-same k))
           ∙ ap (λ b. if (b || (x.message k).abandoned) && nat_lt (sent y k) (parts x k) then 1 else 0) (sym (off k ne))
 
 -- without one, where it was sent or abandoned before
-pub sender-abandoned : (x : Shape) (n : ℕ) → Sender x → half x n ≡ false → 0 < sent x n → Sender (abandoned_at x n)
+pub sender-abandoned : (x : Shape) (n : ℕ) → Sender x → partial x n ≡ false → 0 < sent x n → Sender (abandoned_at x n)
 sender-abandoned x n s no' pos = record {
   some = s.some;
   made = s.made;
   number = s.number;
   beside = s.beside;
-  last = λ k g. let i = of-half (abandoned_at x n) k g in s.last k (is-half x k i.some i.more (alive (k == n) (x.message k).abandoned i.alive));
+  last = λ k g. let i = of-partial (abandoned_at x n) k g in s.last k (is-partial x k i.some i.more (alive (k == n) (x.message k).abandoned i.alive));
   within = s.within;
-  marks = λ k lt. s.marks k lt ∙ by_same {P = marks_due x k ≡ marks_due (abandoned_at x n) k} k n
+  terminals = λ k lt. s.terminals k lt ∙ by_same {P = terminals_due x k ≡ terminals_due (abandoned_at x n) k} k n
       (λ e. by_flag k e (x.message k).abandoned refl (cases_lt (sent x k) (parts x k)))
       (λ ne f. ap (λ b. if (b || (x.message k).abandoned) && nat_lt (sent x k) (parts x k) then 1 else 0) (sym f));
   expired_unsent = s.expired_unsent;
@@ -125,9 +126,9 @@ sender-abandoned x n s no' pos = record {
     alive false c e = e
 
     by_flag : (k : ℕ) → k ≡ n → (b : Bool) → (x.message k).abandoned ≡ b → (sent x k < parts x k) ⊎ (parts x k ≤ sent x k)
-        → marks_due x k ≡ marks_due (abandoned_at x n) k
+        → terminals_due x k ≡ terminals_due (abandoned_at x n) k
     by_flag k e true f side = let hit : (k == n) ≡ true = ap (λ j. k == j) (sym e) ∙ same-yes k in rw (f, hit) refl
-    by_flag k e false f (inl l) = absurd (not_both (sym no' ∙ ap (half x) (sym e) ∙ is-half x k (omega (arith, ap (sent x) e)) l f))
+    by_flag k e false f (inl l) = absurd (not_both (sym no' ∙ ap (partial x) (sym e) ∙ is-partial x k (omega (arith, ap (sent x) e)) l f))
     by_flag k e false f (inr g) =
         let z : nat_lt (sent x k) (parts x k) ≡ false = grind (arith, nat_tests) in
         ap (λ b. if (x.message k).abandoned && b then 1 else 0) z ∙ none (x.message k).abandoned
@@ -147,7 +148,7 @@ sender-expired x n s z = record {
   beside = s.beside;
   last = s.last;
   within = s.within;
-  marks = s.marks;
+  terminals = s.terminals;
   expired_unsent = λ k lt e. by_same {P = sent x k ≡ 0} k n
       (λ i. ap (sent x) i ∙ z)
       (λ ne f. s.expired_unsent k lt (ap (λ b. b || (x.message k).expired) (sym f) ∙ e));
@@ -195,13 +196,13 @@ module _ (x : Shape) (m : MessagePart) where
     made = λ p lt. omega (arith, s.made p lt);
     number = s.number;
     beside = s.beside;
-    last = λ k h. let i = of-half z k h in by_made {P = Last z k} k i.some
-        (λ o. s.last k (is-half x k i.some (omega (arith, i.more, parts-old k o)) (ap (λ v. v.abandoned) (sym (message-old k o)) ∙ i.alive)));
+    last = λ k h. let i = of-partial z k h in by_made {P = Last z k} k i.some
+        (λ o. s.last k (is-partial x k i.some (omega (arith, i.more, parts-old k o)) (ap (λ v. v.abandoned) (sym (message-old k o)) ∙ i.alive)));
     within = λ k lt. by_last {P = sent x k ≤ parts z k} k x.count lt (λ o. omega (arith, parts-old k o, s.within k o)) (λ e. omega (arith, none k e));
-    marks = λ k lt. by_last {P = length (numbers_where (is_mark x k) 0 x.slots) ≡ marks_due z k} k x.count lt
-        (λ o. s.marks k o ∙ ap (λ b. if b && nat_lt (sent x k) (parts x k) then 1 else 0) (ap (λ v. v.abandoned) (sym (message-old k o)))
+    terminals = λ k lt. by_last {P = length (numbers_where (is_terminal x k) 0 x.slots) ≡ terminals_due z k} k x.count lt
+        (λ o. s.terminals k o ∙ ap (λ b. if b && nat_lt (sent x k) (parts x k) then 1 else 0) (ap (λ v. v.abandoned) (sym (message-old k o)))
         ∙ ap (λ c. if (z.message k).abandoned && nat_lt (sent x k) c then 1 else 0) (sym (parts-old k o)))
-        (λ e. ap length (kept-none (is_mark x k) 0 x.slots (λ p a b. fails (is_mark x k p) (λ h. absurd
+        (λ e. ap length (kept-none (is_terminal x k) 0 x.slots (λ p a b. fails (is_terminal x k p) (λ h. absurd
         (omega (arith, same-is (x.slot p).message k (both ((x.slot p).message == k) (x.slot p).is_terminal_chunk h).0, s.made p (omega arith)))))) ∙ sym
         (ap (λ b. if b && nat_lt (sent x k) (parts z k) then 1 else 0) (ap (λ j. (z.message j).abandoned) e ∙ ap (λ v. v.abandoned) message-new ∙ kept')));
     expired_unsent =

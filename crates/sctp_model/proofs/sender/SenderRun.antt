@@ -21,7 +21,7 @@ use Rattle.sctp_model.specs.Changes
 use Rattle.sctp_model.specs.Steps.{History, record_of, IsRun, refusal_of, after, unless, fragments_accepted, fragments_in}
 use Rattle.sctp_model.proofs.sender.Shape.{Shape, MessagePart, shape, message_part, sent, parts, slotted, written, abandoned_at, expired_at}
 use Rattle.sctp_model.proofs.sender.Sender.{Sender}
-use Rattle.sctp_model.proofs.sender.SenderSteps.{sender-takes, of-half, sent-grows}
+use Rattle.sctp_model.proofs.sender.SenderSteps.{sender-takes, of-partial, sent-grows}
 use Rattle.sctp_model.proofs.sender.SenderEnds.{sender-marked, sender-abandoned, sender-expired, sender-written, message-old, message-new, parts-old}
 use Rattle.sctp_model.proofs.sender.Shapes
 use Rattle.sctp_model.proofs.sender.Fronts.{front-takes, slot-sent, of-unsent}
@@ -36,18 +36,18 @@ accepted_of x = total_over (parts x) (numbers_from 0 x.count)
 abbrev pub open_in : List StreamRecord → ℕ → Bool
 open_in rs s = is_some (find (λ r. r.stream == s) rs)
 
-pub record SaneIn (setup own : Setup) (x : Shape) (rs : List StreamRecord) : Type 0 where
+pub record ConsistentIn (setup own : Setup) (x : Shape) (rs : List StreamRecord) : Type 0 where
   pub setup_is : own ≡ setup
   pub sender : Sender x
   pub accepted : accepted_of x < 2 ^ 31
   -- each message's stream is open
   pub known : (n : ℕ) → n < x.count → open_in rs (x.message n).stream ≡ true
 
-abbrev pub Sane : Setup → LinkRecord → Type 0
-Sane setup w = SaneIn setup w.setup (shape w) w.streams
+abbrev pub Consistent : Setup → LinkRecord → Type 0
+Consistent setup w = ConsistentIn setup w.setup (shape w) w.streams
 
-pub sane-shape : (setup own : Setup) (x y : Shape) (rs : List StreamRecord) → y ≡ x → SaneIn setup own x rs → SaneIn setup own y rs
-sane-shape setup own x y rs e g = subst (λ z. SaneIn setup own z rs) (sym e) g
+pub consistent-shape : (setup own : Setup) (x y : Shape) (rs : List StreamRecord) → y ≡ x → ConsistentIn setup own x rs → ConsistentIn setup own y rs
+consistent-shape setup own x y rs e g = subst (λ z. ConsistentIn setup own z rs) (sym e) g
 
 -- ## Streams
 
@@ -72,14 +72,14 @@ open-more r s (q ∷ rs) e = step (q.stream == s) e (λ h. open-more r s rs h)
     step true e ih = refl
     step false e ih = ih e
 
-pub sane-streams : (setup own : Setup) (x : Shape) (rs ss : List StreamRecord) → ((s : ℕ) → open_in rs s ≡ true → open_in ss s ≡ true) → SaneIn setup own x rs
-    → SaneIn setup own x ss
-sane-streams setup own x rs ss more g =
+pub consistent-streams : (setup own : Setup) (x : Shape) (rs ss : List StreamRecord) → ((s : ℕ) → open_in rs s ≡ true → open_in ss s ≡ true)
+    → ConsistentIn setup own x rs → ConsistentIn setup own x ss
+consistent-streams setup own x rs ss more g =
     record { setup_is = g.setup_is; sender = g.sender; accepted = g.accepted; known = λ n lt. more (x.message n).stream (g.known n lt) }
 
-pub sane-mapped : (setup own : Setup) (x : Shape) (rs : List StreamRecord) (f : StreamRecord → StreamRecord) → ((r : StreamRecord) → (f r).stream ≡ r.stream)
-    → SaneIn setup own x rs → SaneIn setup own x (map f rs)
-sane-mapped setup own x rs f keeps g = sane-streams setup own x rs (map f rs) (λ s e. open-mapped f s rs keeps ∙ e) g
+pub consistent-mapped : (setup own : Setup) (x : Shape) (rs : List StreamRecord) (f : StreamRecord → StreamRecord)
+    → ((r : StreamRecord) → (f r).stream ≡ r.stream) → ConsistentIn setup own x rs → ConsistentIn setup own x (map f rs)
+consistent-mapped setup own x rs f keeps g = consistent-streams setup own x rs (map f rs) (λ s e. open-mapped f s rs keeps ∙ e) g
 
 pub stream-where : (s : ℕ) (f : StreamRecord → StreamRecord) → ((r : StreamRecord) → (f r).stream ≡ r.stream) → (r : StreamRecord)
     → (if r.stream == s then f r else r).stream ≡ r.stream
@@ -89,9 +89,9 @@ stream-where s f keeps r = step (r.stream == s)
     step true = keeps r
     step false = refl
 
-pub sane-changed : (setup : Setup) (w : LinkRecord) (s : ℕ) (f : StreamRecord → StreamRecord) → ((r : StreamRecord) → (f r).stream ≡ r.stream) → Sane setup w
-    → Sane setup (Changes.stream_changed w s f)
-sane-changed setup w s f keeps g = sane-mapped setup w.setup (shape w) w.streams (λ r. if r.stream == s then f r else r) (stream-where s f keeps) g
+pub consistent-changed : (setup : Setup) (w : LinkRecord) (s : ℕ) (f : StreamRecord → StreamRecord) → ((r : StreamRecord) → (f r).stream ≡ r.stream)
+    → Consistent setup w → Consistent setup (Changes.stream_changed w s f)
+consistent-changed setup w s f keeps g = consistent-mapped setup w.setup (shape w) w.streams (λ r. if r.stream == s then f r else r) (stream-where s f keeps) g
 
 -- ## Folds
 
@@ -116,12 +116,12 @@ sends-keep P keeps w p = filled-keeps P keeps w.setup.limit (Changes.plus 12 (Ch
 
 -- ## Each change keeps it
 
-pub sane-takes : (setup : Setup) (w : LinkRecord) → Sane setup w → Sane setup (Changes.send_fragment w)
-sane-takes setup w g = step (Messages.front w) refl
+pub consistent-takes : (setup : Setup) (w : LinkRecord) → Consistent setup w → Consistent setup (Changes.send_fragment w)
+consistent-takes setup w g = step (Messages.front w) refl
   where
-    step : (o : Option ℕ) → Messages.front w ≡ o → Sane setup (Changes.send_fragment_of w o)
+    step : (o : Option ℕ) → Messages.front w ≡ o → Consistent setup (Changes.send_fragment_of w o)
     step None e = g
-    step (Some n) e = sane-shape setup w.setup (slotted (shape w) n false) (shape (Changes.with_slot w n false)) w.streams (Shapes.shape-slot w n false)
+    step (Some n) e = consistent-shape setup w.setup (slotted (shape w) n false) (shape (Changes.with_slot w n false)) w.streams (Shapes.shape-slot w n false)
         (record {
           setup_is = g.setup_is;
           sender = sender-takes (shape w) n g.sender (front-takes (shape w) n g.sender e);
@@ -129,18 +129,19 @@ sane-takes setup w g = step (Messages.front w) refl
           known = g.known;
         })
 
-pub sane-abandoned : (setup : Setup) (w : LinkRecord) (n : ℕ) → Sane setup w → 0 < sent (shape w) n → Sane setup (Changes.after_abandon w n)
-sane-abandoned setup w n g pos = step (Messages.is_partially_sent w n) refl
+pub consistent-abandoned : (setup : Setup) (w : LinkRecord) (n : ℕ) → Consistent setup w → 0 < sent (shape w) n → Consistent setup (Changes.after_abandon w n)
+consistent-abandoned setup w n g pos = step (Messages.is_partially_sent w n) refl
   where
     step : (b : Bool) → Messages.is_partially_sent w n ≡ b
-        → Sane setup (Changes.message_changed (if b then Changes.with_slot w n true else w) n Changes.mark_abandoned)
+        → Consistent setup (Changes.message_changed (if b then Changes.with_slot w n true else w) n Changes.mark_abandoned)
     step true e =
-        sane-shape setup w.setup (abandoned_at (slotted (shape w) n true) n)
+        consistent-shape setup w.setup (abandoned_at (slotted (shape w) n true) n)
         (shape (Changes.message_changed (Changes.with_slot w n true) n Changes.mark_abandoned)) w.streams
         (Shapes.shape-abandoned (Changes.with_slot w n true) n ∙ ap (λ y. abandoned_at y n) (Shapes.shape-slot w n true))
         (record { setup_is = g.setup_is; sender = sender-marked (shape w) n g.sender e; accepted = g.accepted; known = g.known })
     step false e =
-        sane-shape setup w.setup (abandoned_at (shape w) n) (shape (Changes.message_changed w n Changes.mark_abandoned)) w.streams (Shapes.shape-abandoned w n)
+        consistent-shape setup w.setup (abandoned_at (shape w) n)
+        (shape (Changes.message_changed w n Changes.mark_abandoned)) w.streams (Shapes.shape-abandoned w n)
         (record { setup_is = g.setup_is; sender = sender-abandoned (shape w) n g.sender e pos; accepted = g.accepted; known = g.known })
 
 -- what was sent stays sent
@@ -159,9 +160,9 @@ pub sent-all : (w : LinkRecord) (n : ℕ) (ns : List ℕ) → AllSent w ns → A
 sent-all w n [] a = tt
 sent-all w n (k ∷ ns) a = (sent-abandoned w n k a.0, sent-all w n ns a.1)
 
-sane-late : (setup : Setup) (ns : List ℕ) (w : LinkRecord) → Sane setup w → AllSent w ns → Sane setup (fold Changes.after_abandon w ns)
-sane-late setup [] w g a = g
-sane-late setup (n ∷ ns) w g a = sane-late setup ns (Changes.after_abandon w n) (sane-abandoned setup w n g a.0) (sent-all w n ns a.1)
+consistent-late : (setup : Setup) (ns : List ℕ) (w : LinkRecord) → Consistent setup w → AllSent w ns → Consistent setup (fold Changes.after_abandon w ns)
+consistent-late setup [] w g a = g
+consistent-late setup (n ∷ ns) w g a = consistent-late setup ns (Changes.after_abandon w n) (consistent-abandoned setup w n g a.0) (sent-all w n ns a.1)
 
 all-kept : (w : LinkRecord) (p : ℕ → Bool) (from count : ℕ) → ((k : ℕ) → p k ≡ true → 0 < sent (shape w) (Messages.message_of w k))
     → AllSent w (map (Messages.message_of w) (numbers_where p from count))
@@ -185,10 +186,11 @@ all-append : (w : LinkRecord) (ms ns : List ℕ) → AllSent w ms → AllSent w 
 all-append w [] ns a b = b
 all-append w (m ∷ ms) ns a b = (a.0, all-append w ms ns a.1 b)
 
-pub in-flight-sent : (setup : Setup) (w : LinkRecord) (p : ℕ) → Sane setup w → Messages.is_in_flight w p ≡ true → 0 < sent (shape w) (Messages.message_of w p)
+pub in-flight-sent : (setup : Setup) (w : LinkRecord) (p : ℕ) → Consistent setup w → Messages.is_in_flight w p ≡ true
+    → 0 < sent (shape w) (Messages.message_of w p)
 in-flight-sent setup w p g h = let lt = (both _ (nat_lt p (length w.slots)) h).1 in slot-sent (shape w) p g.sender (grind (arith, nat_tests))
 
-pub late-sent : (setup : Setup) (w : LinkRecord) (now : ℕ) → Sane setup w → AllSent w (Changes.late_messages w now)
+pub late-sent : (setup : Setup) (w : LinkRecord) (now : ℕ) → Consistent setup w → AllSent w (Changes.late_messages w now)
 late-sent setup w now g =
     let all = all-kept w (Changes.is_late w now) 0 (length w.slots) (λ k e. in-flight-sent setup w k g (both (Messages.is_in_flight w k) _ e).0) in
     all-append w (filter (Messages.is_partially_sent w) (map (Messages.message_of w) (Changes.late_slots w now)))
@@ -196,43 +198,46 @@ late-sent setup w now g =
     (all-passing w (Messages.is_partially_sent w) (map (Messages.message_of w) (Changes.late_slots w now)) all) all
 
 -- a slot comes
-sane-noted : (setup : Setup) (v : LinkRecord) (n : ℕ) → Sane setup v → Sane setup (Changes.note_completion v n)
-sane-noted setup v n g = step (Changes.becomes_complete v n)
+consistent-noted : (setup : Setup) (v : LinkRecord) (n : ℕ) → Consistent setup v → Consistent setup (Changes.note_completion v n)
+consistent-noted setup v n g = step (Changes.becomes_complete v n)
   where
-    step : (b : Bool) → Sane setup (if b then Changes.stream_changed v (Messages.message_at v n).stream (Changes.with_complete n) else v)
-    step true = sane-changed setup v (Messages.message_at v n).stream (Changes.with_complete n) (λ r. refl) g
+    step : (b : Bool) → Consistent setup (if b then Changes.stream_changed v (Messages.message_at v n).stream (Changes.with_complete n) else v)
+    step true = consistent-changed setup v (Messages.message_at v n).stream (Changes.with_complete n) (λ r. refl) g
     step false = g
 
-pub sane-received : (setup : Setup) (w : LinkRecord) (p : ℕ) → Sane setup w → Sane setup (Changes.receive_slot w p)
-sane-received setup w p g = step (Receiver.is_new w p)
+pub consistent-received : (setup : Setup) (w : LinkRecord) (p : ℕ) → Consistent setup w → Consistent setup (Changes.receive_slot w p)
+consistent-received setup w p g = step (Receiver.is_new w p)
   where
-    step : (b : Bool) → Sane setup (if b then Changes.note_completion (record w { slots = change_at Changes.mark_arrived p w.slots }) (Messages.message_of w p)
+    step : (b : Bool)
+        → Consistent setup (if b then Changes.note_completion (record w { slots = change_at Changes.mark_arrived p w.slots }) (Messages.message_of w p)
         else record w { duplicates = w.duplicates ++ p ∷ [] })
-    step true = sane-noted setup (record w { slots = change_at Changes.mark_arrived p w.slots }) (Messages.message_of w p)
-        (sane-shape setup w.setup (shape w) (shape (record w { slots = change_at Changes.mark_arrived p w.slots })) w.streams (Shapes.shape-arrived w p) g)
+    step true = consistent-noted setup (record w { slots = change_at Changes.mark_arrived p w.slots }) (Messages.message_of w p)
+        (consistent-shape setup w.setup (shape w) (shape (record w { slots = change_at Changes.mark_arrived p w.slots })) w.streams
+        (Shapes.shape-arrived w p) g)
     step false = g
 
-sane-datagram : (setup : Setup) (w : LinkRecord) (o : Option Datagram) → Sane setup w → Sane setup (Changes.after_arrive w o)
-sane-datagram setup w None g = g
-sane-datagram setup w (Some (Data slots)) g = fold-keeps (Sane setup) Changes.receive_slot (sane-received setup) slots w g
-sane-datagram setup w (Some (Forward upto names)) g = step (Changes.skip_counts w upto)
+consistent-datagram : (setup : Setup) (w : LinkRecord) (o : Option Datagram) → Consistent setup w → Consistent setup (Changes.after_arrive w o)
+consistent-datagram setup w None g = g
+consistent-datagram setup w (Some (Data slots)) g = fold-keeps (Consistent setup) Changes.receive_slot (consistent-received setup) slots w g
+consistent-datagram setup w (Some (Forward upto names)) g = step (Changes.skip_counts w upto)
   where
-    step : (b : Bool) → Sane setup (if b then record w { skipped = upto + 1; streams = map (Changes.named_by w names) w.streams } else w)
-    step true = sane-mapped setup w.setup (shape w) w.streams (Changes.named_by w names) (λ r. refl) g
+    step : (b : Bool) → Consistent setup (if b then record w { skipped = upto + 1; streams = map (Changes.named_by w names) w.streams } else w)
+    step true = consistent-mapped setup w.setup (shape w) w.streams (Changes.named_by w names) (λ r. refl) g
     step false = g
-sane-datagram setup w (Some (Sack r)) g = g
+consistent-datagram setup w (Some (Sack r)) g = g
 
-sane-taken : (setup : Setup) (w : LinkRecord) (o : Option Datagram) → Sane setup w → Sane setup (Changes.after_acked w o)
-sane-taken setup w (Some (Sack r)) g =
-    sane-shape setup w.setup (shape w) (shape (Changes.after_acked w (Some (Sack r)))) w.streams (Shapes.shape-acknowledged w r (max w.taken r.cumulative)) g
-sane-taken setup w (Some (Data slots)) g = g
-sane-taken setup w (Some (Forward upto names)) g = g
-sane-taken setup w None g = g
+consistent-taken : (setup : Setup) (w : LinkRecord) (o : Option Datagram) → Consistent setup w → Consistent setup (Changes.after_acked w o)
+consistent-taken setup w (Some (Sack r)) g =
+    consistent-shape setup w.setup (shape w)
+    (shape (Changes.after_acked w (Some (Sack r)))) w.streams (Shapes.shape-acknowledged w r (max w.taken r.cumulative)) g
+consistent-taken setup w (Some (Data slots)) g = g
+consistent-taken setup w (Some (Forward upto names)) g = g
+consistent-taken setup w None g = g
 
-sane-read : (setup : Setup) (w : LinkRecord) (s : ℕ) (o : Option ℕ) → Sane setup w → Sane setup (Changes.read_of w s o)
-sane-read setup w s None g = g
-sane-read setup w s (Some n) g = sane-changed setup (Changes.message_changed w n Changes.mark_read) s Changes.without_first (λ r. refl)
-    (sane-shape setup w.setup (shape w) (shape (Changes.message_changed w n Changes.mark_read)) w.streams (Shapes.shape-read w n) g)
+consistent-read : (setup : Setup) (w : LinkRecord) (s : ℕ) (o : Option ℕ) → Consistent setup w → Consistent setup (Changes.read_of w s o)
+consistent-read setup w s None g = g
+consistent-read setup w s (Some n) g = consistent-changed setup (Changes.message_changed w n Changes.mark_read) s Changes.without_first (λ r. refl)
+    (consistent-shape setup w.setup (shape w) (shape (Changes.message_changed w n Changes.mark_read)) w.streams (Shapes.shape-read w n) g)
 
 -- ## Writes
 
@@ -259,14 +264,14 @@ unless-holds false r others e = cc
 abbrev pub written_as : LinkRecord → ℕ → PayloadProtocolIdentifier → List ℕ → Message
 written_as w s ppi bytes = Changes.message_on w (Messages.stream_of w s) ppi bytes
 
-sane-written : (setup : Setup) (w : LinkRecord) (s : ℕ) (ppi : PayloadProtocolIdentifier) (bytes : List ℕ) → Messages.is_open w s ≡ true
-    → fragments_accepted w + fragments_in w bytes < 2 ^ 31 → Sane setup w → Sane setup (Changes.after_write w s ppi bytes)
-sane-written setup w s ppi [] open' fits g = g
-sane-written setup w s ppi (b ∷ bs) open' fits g =
+consistent-written : (setup : Setup) (w : LinkRecord) (s : ℕ) (ppi : PayloadProtocolIdentifier) (bytes : List ℕ) → Messages.is_open w s ≡ true
+    → fragments_accepted w + fragments_in w bytes < 2 ^ 31 → Consistent setup w → Consistent setup (Changes.after_write w s ppi bytes)
+consistent-written setup w s ppi [] open' fits g = g
+consistent-written setup w s ppi (b ∷ bs) open' fits g =
     let new : parts (written (shape w) (message_part (written_as w s ppi (b ∷ bs)))) (length w.messages) ≡ fragments_in w (b ∷ bs) =
     ap (λ y. length (pieces (length y.bytes) w.setup.size y.bytes)) (message-new (shape w) (message_part (written_as w s ppi (b ∷ bs)))) in
     let total = accepted-written (shape w) (message_part (written_as w s ppi (b ∷ bs))) in
-    sane-shape setup w.setup (written (shape w) (message_part (written_as w s ppi (b ∷ bs))))
+    consistent-shape setup w.setup (written (shape w) (message_part (written_as w s ppi (b ∷ bs))))
     (shape (Changes.after_write w s ppi (b ∷ bs))) w.streams (Shapes.shape-written w (written_as w s ppi (b ∷ bs)))
     (record {
       setup_is = g.setup_is;
@@ -287,63 +292,66 @@ sane-written setup w s ppi (b ∷ bs) open' fits g =
 
 -- ## Each accepted event keeps it
 
-sane-expired : (setup : Setup) (w : LinkRecord) (now : ℕ) (o : Option ℕ) → Sane setup w
-    → Sane setup (Changes.after_expire w (Changes.front_if w (λ n. Messages.is_unsent w n && Messages.is_past_deadline w now n) o))
-sane-expired setup w now None g = g
-sane-expired setup w now (Some n) g = step (Messages.is_unsent w n) (Messages.is_past_deadline w now n) refl
+consistent-expired : (setup : Setup) (w : LinkRecord) (now : ℕ) (o : Option ℕ) → Consistent setup w
+    → Consistent setup (Changes.after_expire w (Changes.front_if w (λ n. Messages.is_unsent w n && Messages.is_past_deadline w now n) o))
+consistent-expired setup w now None g = g
+consistent-expired setup w now (Some n) g = step (Messages.is_unsent w n) (Messages.is_past_deadline w now n) refl
   where
-    step : (b c : Bool) → Messages.is_unsent w n ≡ b → Sane setup (Changes.after_expire w (if b && c then Some n else None))
+    step : (b c : Bool) → Messages.is_unsent w n ≡ b → Consistent setup (Changes.after_expire w (if b && c then Some n else None))
     step true true e =
-        sane-shape setup w.setup (expired_at (shape w) n) (shape (Changes.message_changed w n Changes.mark_expired)) w.streams (Shapes.shape-expired w n)
+        consistent-shape setup w.setup (expired_at (shape w) n) (shape (Changes.message_changed w n Changes.mark_expired)) w.streams (Shapes.shape-expired w n)
         (record { setup_is = g.setup_is; sender = sender-expired (shape w) n g.sender (of-unsent (shape w) n e).none; accepted = g.accepted; known = g.known })
     step true false e = g
     step false c e = g
 
-sane-tail : (setup : Setup) (w : LinkRecord) (now : ℕ) (o : Option ℕ) → Sane setup w
-    → Sane setup (Changes.after_tail w (Changes.front_if w (λ n. Messages.is_partially_sent w n && Messages.is_past_deadline w now n) o))
-sane-tail setup w now None g = g
-sane-tail setup w now (Some n) g = step (Messages.is_partially_sent w n) (Messages.is_past_deadline w now n) refl
+consistent-tail : (setup : Setup) (w : LinkRecord) (now : ℕ) (o : Option ℕ) → Consistent setup w
+    → Consistent setup (Changes.after_tail w (Changes.front_if w (λ n. Messages.is_partially_sent w n && Messages.is_past_deadline w now n) o))
+consistent-tail setup w now None g = g
+consistent-tail setup w now (Some n) g = step (Messages.is_partially_sent w n) (Messages.is_past_deadline w now n) refl
   where
-    step : (b c : Bool) → Messages.is_partially_sent w n ≡ b → Sane setup (Changes.after_tail w (if b && c then Some n else None))
-    step true true e = sane-abandoned setup w n g (of-half (shape w) n e).some
+    step : (b c : Bool) → Messages.is_partially_sent w n ≡ b → Consistent setup (Changes.after_tail w (if b && c then Some n else None))
+    step true true e = consistent-abandoned setup w n g (of-partial (shape w) n e).some
     step true false e = g
     step false c e = g
 
-pub sane-started : (setup : Setup) (w : LinkRecord) (now : ℕ) → Sane setup w → Sane setup (Changes.after_start w now)
-sane-started setup w now g = sane-shape setup w.setup (shape w) (shape (Changes.after_start w now)) w.streams (Shapes.shape-started w now) g
+pub consistent-started : (setup : Setup) (w : LinkRecord) (now : ℕ) → Consistent setup w → Consistent setup (Changes.after_start w now)
+consistent-started setup w now g = consistent-shape setup w.setup (shape w) (shape (Changes.after_start w now)) w.streams (Shapes.shape-started w now) g
 
-sane-sent : (setup : Setup) (w : LinkRecord) (now : ℕ) (o : Option ℕ) → Sane setup w → Sane setup (Changes.send_from (Changes.after_start w now) o)
-sane-sent setup w now None g = sane-started setup w now g
-sane-sent setup w now (Some n) g = sends-keep (Sane setup) (λ v h. sane-takes setup v h) (Changes.after_start w now) (sane-started setup w now g)
+consistent-sent : (setup : Setup) (w : LinkRecord) (now : ℕ) (o : Option ℕ) → Consistent setup w
+    → Consistent setup (Changes.send_from (Changes.after_start w now) o)
+consistent-sent setup w now None g = consistent-started setup w now g
+consistent-sent setup w now (Some n) g =
+    sends-keep (Consistent setup) (λ v h. consistent-takes setup v h) (Changes.after_start w now) (consistent-started setup w now g)
 
-pub sane-after : (setup : Setup) (w : LinkRecord) (e : Event) → refusal_of w e ≡ None → Sane setup w → Sane setup (after w e)
-sane-after setup w (E.Open s) ok g =
-    sane-streams setup w.setup (shape w) w.streams (w.streams ++ Messages.no_stream s ∷ []) (λ t h. open-more (Messages.no_stream s) t w.streams h) g
-sane-after setup w (E.Mode s unordered reliability value) ok g = sane-changed setup w s (Changes.with_mode unordered reliability value) (λ r. refl) g
-sane-after setup w (E.Write s ppi bytes) ok g =
+pub consistent-after : (setup : Setup) (w : LinkRecord) (e : Event) → refusal_of w e ≡ None → Consistent setup w → Consistent setup (after w e)
+consistent-after setup w (E.Open s) ok g =
+    consistent-streams setup w.setup (shape w) w.streams (w.streams ++ Messages.no_stream s ∷ []) (λ t h. open-more (Messages.no_stream s) t w.streams h) g
+consistent-after setup w (E.Mode s unordered reliability value) ok g =
+    consistent-changed setup w s (Changes.with_mode unordered reliability value) (λ r. refl) g
+consistent-after setup w (E.Write s ppi bytes) ok g =
     let first = unless-holds (Messages.is_open w s) StreamUnknown (unless (nat_le (length bytes) w.setup.largest) MessageTooLarge
     (unless (nat_lt (fragments_accepted w + fragments_in w bytes) (2 ^ 31)) TsnsUsedUp None)) ok in
     let second = unless-holds (nat_le (length bytes) w.setup.largest) MessageTooLarge
     (unless (nat_lt (fragments_accepted w + fragments_in w bytes) (2 ^ 31)) TsnsUsedUp None) first.1 in
     let third = unless-holds (nat_lt (fragments_accepted w + fragments_in w bytes) (2 ^ 31)) TsnsUsedUp None second.1 in
     let t = third.0 in
-    sane-written setup w s ppi bytes first.0 (grind (arith, nat_tests)) g
-sane-after setup w (E.Start now) ok g = sane-started setup w now g
-sane-after setup w (E.Send now) ok g = sane-sent setup w now (Messages.front w) g
-sane-after setup w (E.Resend tsn) ok g = g
-sane-after setup w (E.Expire now) ok g = sane-expired setup w now (Messages.front w) g
-sane-after setup w (E.Tail now) ok g = sane-tail setup w now (Messages.front w) g
-sane-after setup w (E.Late now) ok g = sane-late setup (Changes.late_messages w now) w g (late-sent setup w now g)
-sane-after setup w (E.Abandon tsn) ok g = sane-abandoned setup w (Messages.message_of w (Messages.place_of w tsn)) g
+    consistent-written setup w s ppi bytes first.0 (grind (arith, nat_tests)) g
+consistent-after setup w (E.Start now) ok g = consistent-started setup w now g
+consistent-after setup w (E.Send now) ok g = consistent-sent setup w now (Messages.front w) g
+consistent-after setup w (E.Resend tsn) ok g = g
+consistent-after setup w (E.Expire now) ok g = consistent-expired setup w now (Messages.front w) g
+consistent-after setup w (E.Tail now) ok g = consistent-tail setup w now (Messages.front w) g
+consistent-after setup w (E.Late now) ok g = consistent-late setup (Changes.late_messages w now) w g (late-sent setup w now g)
+consistent-after setup w (E.Abandon tsn) ok g = consistent-abandoned setup w (Messages.message_of w (Messages.place_of w tsn)) g
     (in-flight-sent setup w (Messages.place_of w tsn) g (unless-holds (Messages.is_in_flight w (Messages.place_of w tsn)) NotInFlight None ok).0)
-sane-after setup w (E.Skip upto names) ok g = g
-sane-after setup w (E.Ack credit) ok g = g
-sane-after setup w (E.Arrive k) ok g = sane-datagram setup w (slice_get w.network k) g
-sane-after setup w (E.Acked k) ok g = sane-taken setup w (slice_get w.network k) g
-sane-after setup w (E.Read s) ok g = sane-read setup w s (Receiver.next_read w s) g
+consistent-after setup w (E.Skip upto names) ok g = g
+consistent-after setup w (E.Ack credit) ok g = g
+consistent-after setup w (E.Arrive k) ok g = consistent-datagram setup w (slice_get w.network k) g
+consistent-after setup w (E.Acked k) ok g = consistent-taken setup w (slice_get w.network k) g
+consistent-after setup w (E.Read s) ok g = consistent-read setup w s (Receiver.next_read w s) g
 
-sane-start : (setup : Setup) → Sane setup (start setup)
-sane-start setup = record {
+consistent-start : (setup : Setup) → Consistent setup (start setup)
+consistent-start setup = record {
   setup_is = refl;
   sender = record {
     some = λ n lt. absurd (omega arith);
@@ -352,7 +360,7 @@ sane-start setup = record {
     beside = λ p lt m f. absurd (omega arith);
     last = λ n h. cc;
     within = λ n lt. absurd (omega arith);
-    marks = λ n lt. absurd (omega arith);
+    terminals = λ n lt. absurd (omega arith);
     expired_unsent = λ n lt e. absurd (omega arith);
     abandoned_sent = λ n lt e. absurd (omega arith);
     turn = λ s m n a b c d e. absurd (omega arith);
@@ -363,6 +371,6 @@ sane-start setup = record {
 }
 
 -- in every history
-pub sane-run : (setup : Setup) (h : History) → IsRun setup h → Sane setup (record_of setup h)
-sane-run setup [] run = sane-start setup
-sane-run setup (entry ∷ older) run = sane-after setup (record_of setup older) entry.0 run.0 (sane-run setup older run.1.1)
+pub consistent-run : (setup : Setup) (h : History) → IsRun setup h → Consistent setup (record_of setup h)
+consistent-run setup [] run = consistent-start setup
+consistent-run setup (entry ∷ older) run = consistent-after setup (record_of setup older) entry.0 run.0 (consistent-run setup older run.1.1)

@@ -5,8 +5,8 @@ use Rattle.std.proofs.lemmas.Bool.Decides.{nat_tests}
 use Rattle.sctp_list_lemmas.specs.Kept.{numbers_where}
 use Rattle.sctp_list_lemmas.proofs.Passing.{kept-same}
 use Rattle.sctp_list_lemmas.proofs.More.{fails, not_both, both, and, length-kept-positive}
-use Rattle.sctp_model.proofs.sender.Shape.{Shape, has, sent, parts, half, on, slotted}
-use Rattle.sctp_model.proofs.sender.Sender.{Sender, is_mark, sent-slotted, marks-slotted, slot-old, slot-new}
+use Rattle.sctp_model.proofs.sender.Shape.{Shape, has, sent, parts, partial, on, slotted}
+use Rattle.sctp_model.proofs.sender.Sender.{Sender, is_terminal, sent-slotted, terminals-slotted, slot-old, slot-new}
 use Rattle.sctp_list_lemmas.proofs.Cases.{by_last, by_same, same-yes, same-is, negated}
 
 -- Each change of messages and slots keeps what the sender keeps.
@@ -21,26 +21,26 @@ of-has x n p h = let a = both ((x.slot p).message == n) (not (x.slot p).is_termi
 pub sent-some : (x : Shape) (n p : ℕ) → p < x.slots → has x n p ≡ true → 0 < sent x n
 sent-some x n p lt h = length-kept-positive (has x n) p 0 x.slots (omega arith) (omega arith) h
 
-pub record IsHalf (x : Shape) (n : ℕ) : Type 0 where
+pub record IsPartial (x : Shape) (n : ℕ) : Type 0 where
   pub some : 0 < sent x n
   pub more : sent x n < parts x n
   pub alive : (x.message n).abandoned ≡ false
 
-pub of-half : (x : Shape) (n : ℕ) → half x n ≡ true → IsHalf x n
-of-half x n h =
+pub of-partial : (x : Shape) (n : ℕ) → partial x n ≡ true → IsPartial x n
+of-partial x n h =
     let a = both (nat_lt 0 (sent x n)) (nat_lt (sent x n) (parts x n) && not (x.message n).abandoned) h in
     let b = both (nat_lt (sent x n) (parts x n)) (not (x.message n).abandoned) a.1 in
     let c = a.0 in
     let d = b.0 in
     record { some = grind (arith, nat_tests); more = grind (arith, nat_tests); alive = negated (x.message n).abandoned b.1 }
 
-pub is-half : (x : Shape) (n : ℕ) → 0 < sent x n → sent x n < parts x n → (x.message n).abandoned ≡ false → half x n ≡ true
-is-half x n a b c = and (nat_lt 0 (sent x n)) (nat_lt (sent x n) (parts x n) && not (x.message n).abandoned) (grind (arith, nat_tests))
+pub is-partial : (x : Shape) (n : ℕ) → 0 < sent x n → sent x n < parts x n → (x.message n).abandoned ≡ false → partial x n ≡ true
+is-partial x n a b c = and (nat_lt 0 (sent x n)) (nat_lt (sent x n) (parts x n) && not (x.message n).abandoned) (grind (arith, nat_tests))
     (and (nat_lt (sent x n) (parts x n)) (not (x.message n).abandoned) (grind (arith, nat_tests)) (ap not c))
 
 -- at most one message is partially sent
-pub half-one : (x : Shape) (j k : ℕ) → Sender x → half x j ≡ true → half x k ≡ true → j ≡ k
-half-one x j k s a b =
+pub partial-one : (x : Shape) (j k : ℕ) → Sender x → partial x j ≡ true → partial x k ≡ true → j ≡ k
+partial-one x j k s a b =
     let p = s.last j a in
     let q = s.last k b in
     let same : p.0 ≡ q.0 = omega (arith, p.1, q.1) in
@@ -54,7 +54,7 @@ pub record Takes (x : Shape) (n : ℕ) : Type 0 where
   pub more : sent x n < parts x n
   pub kept : (x.message n).expired ≡ false
   pub alive : (x.message n).abandoned ≡ false
-  pub alone : (k : ℕ) → half x k ≡ true → k ≡ n
+  pub alone : (k : ℕ) → partial x k ≡ true → k ≡ n
   pub turn : (x.message n).ordered ≡ true → sent x n ≡ 0 → (m : ℕ) → m < n → (x.message m).ordered ≡ true → (x.message m).expired ≡ false → 0 < sent x m
 
 module _ (x : Shape) (n : ℕ) (m : Bool) where
@@ -103,15 +103,15 @@ Next y p = (q : ℕ) × (p ≡ q + 1) × (has y (y.slot p).message q ≡ true)
 abbrev pub Last : Shape → ℕ → Type 0
 Last y k = (q : ℕ) × (y.slots ≡ q + 1) × (has y k q ≡ true)
 
-abbrev pub marks_due : Shape → ℕ → ℕ
-marks_due z k = if (z.message k).abandoned && nat_lt (sent z k) (parts z k) then 1 else 0
+abbrev pub terminals_due : Shape → ℕ → ℕ
+terminals_due z k = if (z.message k).abandoned && nat_lt (sent z k) (parts z k) then 1 else 0
 
 pub sender-takes : (x : Shape) (n : ℕ) → Sender x → Takes x n → Sender (slotted x n false)
 sender-takes x n s t = record {
   some = s.some;
   made = made-slotted x n false s t.made;
   number = number-slotted x n false s;
-  beside = λ p lt mark pos. by_last {P = Next (slotted x n false) p} p x.slots lt (λ o. old p o mark pos) (λ e. new p e pos);
+  beside = λ p lt terminal pos. by_last {P = Next (slotted x n false) p} p x.slots lt (λ o. old p o terminal pos) (λ e. new p e pos);
   last = λ k h. by_same {P = Last (slotted x n false) k} n k
       (λ e. (x.slots, refl, ap (λ j. has (slotted x n false) j x.slots) (sym e) ∙ here x n))
       (λ ne f.
@@ -120,8 +120,8 @@ sender-takes x n s t = record {
       (λ e. let z : sent (slotted x n false) k ≡ sent x n + 1 = ap (sent (slotted x n false)) (sym e) ∙ sent-here x n in
       let w : parts x n ≡ parts x k = ap (parts x) e in omega (arith, t.more, z, w))
       (λ ne f. omega (arith, sent-other x n false k ne, s.within k lt));
-  marks = λ k lt. marks-slotted x n k false ∙ none (n == k) (length (numbers_where (is_mark x k) 0 x.slots)) ∙ s.marks k lt
-      ∙ by_same {P = marks_due x k ≡ marks_due (slotted x n false) k} n k
+  terminals = λ k lt. terminals-slotted x n k false ∙ none (n == k) (length (numbers_where (is_terminal x k) 0 x.slots)) ∙ s.terminals k lt
+      ∙ by_same {P = terminals_due x k ≡ terminals_due (slotted x n false) k} n k
       (λ e. let dead : (x.message k).abandoned ≡ false = ap (λ j. (x.message j).abandoned) (sym e) ∙ t.alive in rw dead refl)
       (λ ne f. ap (λ c. if (x.message k).abandoned && nat_lt c (parts x k) then 1 else 0) (sym (sent-other x n false k ne)));
   expired_unsent = λ k lt e. sent-other x n false k (λ z. not_both (sym t.kept ∙ ap (λ j. (x.message j).expired) z ∙ e)) ∙ s.expired_unsent k lt e;
@@ -142,9 +142,9 @@ sender-takes x n s t = record {
 
     old : (p : ℕ) → p < x.slots → ((slotted x n false).slot p).is_terminal_chunk ≡ false → 0 < ((slotted x n false).slot p).fragment
         → Next (slotted x n false) p
-    old p o mark pos =
+    old p o terminal pos =
         let z = slot-old x n p false o in
-        let r = s.beside p o (ap (λ v. v.is_terminal_chunk) (sym z) ∙ mark) (rw z at pos) in
+        let r = s.beside p o (ap (λ v. v.is_terminal_chunk) (sym z) ∙ terminal) (rw z at pos) in
         (r.0, r.1, ap (λ v. has (slotted x n false) v.message r.0) z ∙ has-old x n false (x.slot p).message r.0 (omega (arith, r.1)) ∙ r.2)
 
     new : (p : ℕ) → p ≡ x.slots → 0 < ((slotted x n false).slot p).fragment → Next (slotted x n false) p
@@ -152,7 +152,7 @@ sender-takes x n s t = record {
         let z : (slotted x n false).slot p ≡ record { message = n; fragment = sent x n; is_terminal_chunk = false } = ap (slotted x n false).slot e
         ∙ slot-new x n false in
         let some : 0 < sent x n = omega (arith, pos, ap (λ v. v.fragment) z) in
-        let r = s.last n (is-half x n some t.more t.alive) in
+        let r = s.last n (is-partial x n some t.more t.alive) in
         (r.0, e ∙ r.1, ap (λ v. has (slotted x n false) v.message r.0) z ∙ has-old x n false n r.0 (omega (arith, r.1)) ∙ r.2)
 
     -- the new slot is of message n alone
@@ -181,6 +181,6 @@ sender-takes x n s t = record {
     early r j k q jk a b lq h e =
         let lt : k < x.count = rw (of-has x k q h).0 at (s.made q lq) in
         let some : 0 < sent x n = omega (arith, s.turn r j k jk lt a b (sent-some x k q lq h), ap (sent x) e) in
-        let l = s.last n (is-half x n some t.more t.alive) in
+        let l = s.last n (is-partial x n some t.more t.alive) in
         let less : l.0 < q = s.ascend r j k l.0 q jk a b (omega (arith, l.1)) lq (ap (λ i. has x i l.0) (sym e) ∙ l.2) h in
         absurd (omega (arith, l.1))

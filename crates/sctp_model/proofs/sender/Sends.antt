@@ -19,9 +19,9 @@ use Rattle.sctp_model.specs.Queues.{pending_fragments, pending_at}
 use Rattle.sctp_model.specs.Steps.{record_of, after, refusal_of, reply_to, sent_reply, Answers}
 use Rattle.sctp_model.specs.Laws.{OnEveryRun, pending_count, EmitsWherePending, TakesPending, IdleIsAnswered}
 use Rattle.sctp_model.proofs.sender.Shape.{Shape, shape, sent, parts, slotted, front_of}
-use Rattle.sctp_model.proofs.sender.SenderSteps.{Takes, is-half, sent-other, sent-here}
+use Rattle.sctp_model.proofs.sender.SenderSteps.{Takes, is-partial, sent-other, sent-here}
 use Rattle.sctp_model.proofs.sender.Fronts.{front-takes, front-none, is-unsent}
-use Rattle.sctp_model.proofs.sender.SenderRun.{Sane, sane-run, sane-takes, sane-started, filled-keeps}
+use Rattle.sctp_model.proofs.sender.SenderRun.{Consistent, consistent-run, consistent-takes, consistent-started, filled-keeps}
 use Rattle.sctp_model.proofs.sender.Shapes
 use Rattle.sctp_list_lemmas.proofs.Getting.{length-mapped, get-last}
 use Rattle.sctp_list_lemmas.proofs.Totals.{length-numbers, length-gathered, total-plus, total-none, total-at, total-one}
@@ -61,7 +61,7 @@ none-waits x e = total-none (waiting_of x) 0 x.count (λ n a b. each n (omega ar
     left : (n : ℕ) → n < x.count → (x.message n).expired ≡ false → (x.message n).abandoned ≡ false → (sent x n < parts x n) ⊎ (parts x n ≤ sent x n)
         → (0 < sent x n) ⊎ (sent x n ≤ 0) → parts x n - sent x n ≡ 0
     left n lt a b (inr g) s = omega arith
-    left n lt a b (inl l) (inl pos) = absurd (not_both (sym (front-none x e n lt).0 ∙ is-half x n pos l b))
+    left n lt a b (inl l) (inl pos) = absurd (not_both (sym (front-none x e n lt).0 ∙ is-partial x n pos l b))
     left n lt a b (inl l) (inr z) = absurd (not_both (sym (front-none x e n lt).1 ∙ is-unsent x n (omega arith) a))
 
     each : (n : ℕ) → n < x.count → (a : Bool) → (x.message n).expired ≡ a → (b : Bool) → (x.message n).abandoned ≡ b → waiting_of x n ≡ 0
@@ -100,26 +100,26 @@ emits_where_pending setup h is run now = step (Messages.front (record_of setup h
         arith,
         z,
         count-pending (record_of setup h),
-        some-waits (shape (record_of setup h)) n (front-takes (shape (record_of setup h)) n (sane-run setup h run).sender e),
+        some-waits (shape (record_of setup h)) n (front-takes (shape (record_of setup h)) n (consistent-run setup h run).sender e),
       )),
     )
 
 -- what a record of which some fragments took slots keeps
 record Sending (setup : Setup) (w v : LinkRecord) : Type 0 where
-  sane : Sane setup v
+  consistent : Consistent setup v
   more : length w.slots < length v.slots
   balance : waiting (shape v) + length v.slots ≡ waiting (shape w) + length w.slots
   network : v.network ≡ w.network
 
 sending-more : (setup : Setup) (w v : LinkRecord) → Sending setup w v → Sending setup w (Changes.send_fragment v)
-sending-more setup w v s = record { sane = sane-takes setup v s.sane; more = r.0; balance = r.1; network = r.2 }
+sending-more setup w v s = record { consistent = consistent-takes setup v s.consistent; more = r.0; balance = r.1; network = r.2 }
   where
     step : (o : Option ℕ) → Messages.front v ≡ o → (length w.slots < length (Changes.send_fragment_of v o).slots)
         × (waiting (shape (Changes.send_fragment_of v o)) + length (Changes.send_fragment_of v o).slots ≡ waiting (shape w) + length w.slots)
         × ((Changes.send_fragment_of v o).network ≡ w.network)
     step None e = (s.more, s.balance, s.network)
     step (Some n) e =
-        let t = front-takes (shape v) n s.sane.sender e in
+        let t = front-takes (shape v) n s.consistent.sender e in
         let i = Shapes.shape-slot v n false in
         let l = ap (λ y. y.slots) i in
         (omega (arith, l, s.more), omega (arith, l, ap waiting i, taken-waits (shape v) n t, s.balance), s.network)
@@ -129,10 +129,10 @@ sending-more setup w v s = record { sane = sane-takes setup v s.sane; more = r.0
         × ((Changes.send_fragment v).network ≡ w.network)
     r = step (Messages.front v) refl
 
-sending-first : (setup : Setup) (w : LinkRecord) (now n : ℕ) → Sane setup w → Messages.front w ≡ Some n
+sending-first : (setup : Setup) (w : LinkRecord) (now n : ℕ) → Consistent setup w → Messages.front w ≡ Some n
     → Sending setup w (Changes.send_fragment (Changes.after_start w now))
 sending-first setup w now n g e = rw f (record {
-  sane = rw f at (sane-takes setup (Changes.after_start w now) (sane-started setup w now g));
+  consistent = rw f at (consistent-takes setup (Changes.after_start w now) (consistent-started setup w now g));
   more = omega (arith, l, slots);
   balance = omega (arith, l, slots, ap waiting i, ap (λ y. waiting (slotted y n false)) same, taken-waits (shape w) n (front-takes (shape w) n g.sender e));
   network = refl;
@@ -167,7 +167,7 @@ takes_pending setup h is run now d tsn ssn count e = step (Messages.front (recor
         let v = Changes.send_fragments u in
         let s : Sending setup (record_of setup h) v = filled-keeps (Sending setup (record_of setup h))
         (λ v q. sending-more setup (record_of setup h) v q) u.setup.limit (Changes.plus 12 (Changes.next_length u)) (Changes.send_fragment u)
-        (sending-first setup (record_of setup h) now n (sane-run setup h run) f) in
+        (sending-first setup (record_of setup h) now n (consistent-run setup h run) f) in
         let c : length v.slots - length (record_of setup h).slots ≡ count = cc in
         let dd : length (record_of setup h).network ≡ d = cc in (
           omega (arith, s.more, c),
@@ -182,14 +182,14 @@ takes_pending setup h is run now d tsn ssn count e = step (Messages.front (recor
 
 -- an idle Send wants no memory
 pub idle_is_answered : OnEveryRun IdleIsAnswered
-idle_is_answered setup h is run now result new a = (told result a, λ z. idle result a ((emits_where_pending setup h is run now).1 z))
+idle_is_answered setup h is run now result new a = (answered result a, λ z. idle result a ((emits_where_pending setup h is run now).1 z))
   where
     w : LinkRecord
     w = record_of setup h
 
-    told : (result : Result Reply LinkRefusal) → Answers w (E.Send now) result new → result ≡ Ok R.Idle → pending_count w ≡ 0
-    told (Ok reply) a e = let z : reply ≡ R.Idle = cc in (emits_where_pending setup h is run now).0 (sym a.1.right ∙ z)
-    told (Err refusal) a e = cc
+    answered : (result : Result Reply LinkRefusal) → Answers w (E.Send now) result new → result ≡ Ok R.Idle → pending_count w ≡ 0
+    answered (Ok reply) a e = let z : reply ≡ R.Idle = cc in (emits_where_pending setup h is run now).0 (sym a.1.right ∙ z)
+    answered (Err refusal) a e = cc
 
     never : (r : LinkRefusal) → refusal_of w (E.Send now) ≡ Some r → ⊥
     never r e = cc

@@ -58,8 +58,8 @@ sent x n = length (numbers_where (has x n) 0 x.slots)
 abbrev pub parts : Shape → ℕ → ℕ
 parts x n = length (pieces (length (x.message n).bytes) x.size (x.message n).bytes)
 
-abbrev pub half : Shape → ℕ → Bool
-half x n = nat_lt 0 (sent x n) && (nat_lt (sent x n) (parts x n) && not (x.message n).abandoned)
+abbrev pub partial : Shape → ℕ → Bool
+partial x n = nat_lt 0 (sent x n) && (nat_lt (sent x n) (parts x n) && not (x.message n).abandoned)
 
 abbrev pub unsent : Shape → ℕ → Bool
 unsent x n = (sent x n == 0) && not (x.message n).expired
@@ -72,7 +72,7 @@ index x n = length (numbers_where (on x (x.message n).stream) 0 n)
 
 abbrev pub front_of : Shape → Option ℕ
 front_of x =
-    or_else (first_of (numbers_where (half x) 0 x.count))
+    or_else (first_of (numbers_where (partial x) 0 x.count))
     (or_else (first_of (numbers_where (λ n. unsent x n && not (x.message n).ordered) 0 x.count))
     (first_of (numbers_where (λ n. unsent x n && (x.message n).ordered) 0 x.count)))
 

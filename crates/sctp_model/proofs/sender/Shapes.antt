@@ -64,10 +64,10 @@ pub shape-written : (w : LinkRecord) (m : Message) → shape (record w { message
 shape-written w m = shape-messages w (w.messages ++ m ∷ []) (length w.messages + 1)
     (written (shape w) (message_part m)).message (length-append w.messages (m ∷ [])) (λ k. get-snoc message_part w.messages m k no_message)
 
-pub shape-slot : (w : LinkRecord) (n : ℕ) (mark : Bool) → shape (Changes.with_slot w n mark) ≡ slotted (shape w) n mark
-shape-slot w n mark =
-    let y : Slot = record { message = n; fragment = sent_of w n; is_terminal_chunk = mark; arrived = false; acknowledged = false } in
-    shape-slots w (w.slots ++ y ∷ []) (length w.slots + 1) (slotted (shape w) n mark).slot (length-append w.slots (y ∷ []))
+pub shape-slot : (w : LinkRecord) (n : ℕ) (terminal : Bool) → shape (Changes.with_slot w n terminal) ≡ slotted (shape w) n terminal
+shape-slot w n terminal =
+    let y : Slot = record { message = n; fragment = sent_of w n; is_terminal_chunk = terminal; arrived = false; acknowledged = false } in
+    shape-slots w (w.slots ++ y ∷ []) (length w.slots + 1) (slotted (shape w) n terminal).slot (length-append w.slots (y ∷ []))
     (λ p. get-snoc slot_part w.slots y p no_slot)
 
 pub shape-arrived : (w : LinkRecord) (p : ℕ) → shape (record w { slots = change_at Changes.mark_arrived p w.slots }) ≡ shape w

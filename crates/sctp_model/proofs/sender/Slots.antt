@@ -9,11 +9,11 @@ use Rattle.sctp_model.specs.LinkRecord.{LinkRecord}
 use Rattle.sctp_model.specs.Messages
 use Rattle.sctp_model.specs.Steps.{record_of}
 use Rattle.sctp_model.specs.Laws.{OnEveryRun, SlotsInOrder, SlotsFollow, OnePartiallySent, SentInTurn, IndexesLeaveNoGap}
-use Rattle.sctp_model.proofs.sender.Shape.{Shape, shape, has, sent, half, on}
+use Rattle.sctp_model.proofs.sender.Shape.{Shape, shape, has, sent, partial, on}
 use Rattle.sctp_model.proofs.sender.Sender.{Sender}
-use Rattle.sctp_model.proofs.sender.SenderSteps.{of-has, half-one}
+use Rattle.sctp_model.proofs.sender.SenderSteps.{of-has, partial-one}
 use Rattle.sctp_model.proofs.sender.SenderEnds.{sent-none}
-use Rattle.sctp_model.proofs.sender.SenderRun.{sane-run}
+use Rattle.sctp_model.proofs.sender.SenderRun.{consistent-run}
 use Rattle.sctp_list_lemmas.proofs.Cases.{same-yes}
 use Rattle.sctp_list_lemmas.proofs.Getting.{get-beyond}
 use Rattle.sctp_list_lemmas.proofs.Rows.{numbered, IsRow, row, at-most-one}
@@ -39,15 +39,15 @@ slots-row w n s = row (has (shape w) n) (length w.slots) (λ k lt e pos.
 
 pub slots_in_order : OnEveryRun SlotsInOrder
 slots_in_order setup h is run n lt =
-    let s = (sane-run setup h run).sender in (
+    let s = (consistent-run setup h run).sender in (
       numbered (λ p. (Messages.slot_at (record_of setup h) p).fragment) (has (shape (record_of setup h)) n) (length (record_of setup h).slots)
           (λ k l e. s.number k l ∙ ap (λ m. length (numbers_where (has (shape (record_of setup h)) m) 0 k)) (of-has (shape (record_of setup h)) n k e).0),
-      (s.within n lt, s.marks n lt),
+      (s.within n lt, s.terminals n lt),
     )
 
 pub slots_follow : OnEveryRun SlotsFollow
 slots_follow setup h is run n place e =
-    let r = slots-row (record_of setup h) n (sane-run setup h run).sender in
+    let r = slots-row (record_of setup h) n (consistent-run setup h run).sender in
     r.is ∙ ap (λ l. numbers_where always l r.many) (first r.from r.many (sym (ap first_of r.is) ∙ e))
     ∙ ap (numbers_where always place) (sym (length-numbers r.from r.many) ∙ ap length (sym r.is))
   where
@@ -56,8 +56,8 @@ slots_follow setup h is run n place e =
     first from (suc many) e = cc
 
 pub one_partially_sent : OnEveryRun OnePartiallySent
-one_partially_sent setup h is run = let s = (sane-run setup h run).sender in
-    at-most-one (half (shape (record_of setup h))) 0 (length (record_of setup h).messages) (λ j k a b. half-one (shape (record_of setup h)) j k s a b)
+one_partially_sent setup h is run = let s = (consistent-run setup h run).sender in
+    at-most-one (partial (shape (record_of setup h))) 0 (length (record_of setup h).messages) (λ j k a b. partial-one (shape (record_of setup h)) j k s a b)
 
 pub sent-made : (x : Shape) (n : ℕ) → Sender x → 0 < sent x n → n < x.count
 sent-made x n s pos = step (cases_lt n x.count)
@@ -67,7 +67,8 @@ sent-made x n s pos = step (cases_lt n x.count)
     step (inr g) = absurd (omega (arith, sent-none x n s g))
 
 pub sent_in_turn : OnEveryRun SentInTurn
-sent_in_turn setup h is run s m n lt a b pos = let g = (sane-run setup h run).sender in g.turn s m n lt (sent-made (shape (record_of setup h)) n g pos) a b pos
+sent_in_turn setup h is run s m n lt a b pos = let g = (consistent-run setup h run).sender in
+    g.turn s m n lt (sent-made (shape (record_of setup h)) n g pos) a b pos
 
 -- a message that was sent did not expire
 pub sent-alive : (x : Shape) (n : ℕ) → Sender x → 0 < sent x n → (x.message n).expired ≡ false
@@ -97,6 +98,6 @@ indexed x m n s lt ord pos = step ((x.message m).stream == (x.message n).stream)
 pub indexes_leave_no_gap : OnEveryRun IndexesLeaveNoGap
 indexes_leave_no_gap setup h is run n ord pos =
     let x = shape (record_of setup h) in
-    let s = (sane-run setup h run).sender in
+    let s = (consistent-run setup h run).sender in
     ap length (kept-same (on x (x.message n).stream) (λ m. ((x.message m).stream == (x.message n).stream) && ((x.message m).ordered && nat_lt 0 (sent x m))) 0 n
     (λ m a b. indexed x m n s (omega arith) ord pos))

@@ -26,44 +26,45 @@ abbrev pub shown_part : MessagePart → Shown
 shown_part m = (m.stream, m.ppi, m.bytes)
 
 -- the messages as they were written
-abbrev pub told : Shape → List Shown
-told x = map (λ n. shown_part (x.message n)) (numbers_where always 0 x.count)
+abbrev pub answered : Shape → List Shown
+answered x = map (λ n. shown_part (x.message n)) (numbers_where always 0 x.count)
 
-told-written : (x : Shape) (m : MessagePart) → told (written x m) ≡ told x ++ shown_part m ∷ []
-told-written x m =
+answered-written : (x : Shape) (m : MessagePart) → answered (written x m) ≡ answered x ++ shown_part m ∷ []
+answered-written x m =
     ap (λ c. map (λ n. shown_part ((written x m).message n)) (numbers_where always 0 c)) (add-one x.count)
     ∙ ap (map (λ n. shown_part ((written x m).message n))) (kept-snoc_in always 0 x.count x.count (omega arith) refl)
     ∙ map-append (λ n. shown_part ((written x m).message n)) (numbers_where always 0 x.count) (x.count ∷ [])
     ∙ ap (λ l. l ++ shown_part ((written x m).message x.count) ∷ []) (map-kept-same (λ n. shown_part ((written x m).message n))
     (λ n. shown_part (x.message n)) always always 0 x.count (λ k a b. refl) (λ k a b e. ap shown_part (message-old x m k (omega arith))))
-    ∙ ap (λ y. told x ++ shown_part y ∷ []) (message-new x m)
+    ∙ ap (λ y. answered x ++ shown_part y ∷ []) (message-new x m)
 
-told-sent : (w : LinkRecord) → told (shape (Changes.send_fragment w)) ≡ told (shape w)
-told-sent w = step (Messages.front w)
+answered-sent : (w : LinkRecord) → answered (shape (Changes.send_fragment w)) ≡ answered (shape w)
+answered-sent w = step (Messages.front w)
   where
-    step : (o : Option ℕ) → told (shape (Changes.send_fragment_of w o)) ≡ told (shape w)
+    step : (o : Option ℕ) → answered (shape (Changes.send_fragment_of w o)) ≡ answered (shape w)
     step None = refl
     step (Some n) = refl
 
-told-sends : (w : LinkRecord) (now : ℕ) (o : Option ℕ) → told (shape (Changes.send_from (Changes.after_start w now) o)) ≡ told (shape w)
-told-sends w now None = ap told (Shapes.shape-started w now)
-told-sends w now (Some n) =
-    sends-keep (λ v. told (shape v) ≡ told (shape w)) (λ v e. told-sent v ∙ e) (Changes.after_start w now) (ap told (Shapes.shape-started w now))
+answered-sends : (w : LinkRecord) (now : ℕ) (o : Option ℕ) → answered (shape (Changes.send_from (Changes.after_start w now) o)) ≡ answered (shape w)
+answered-sends w now None = ap answered (Shapes.shape-started w now)
+answered-sends w now (Some n) =
+    sends-keep (λ v. answered (shape v) ≡ answered (shape w)) (λ v e. answered-sent v ∙ e) (Changes.after_start w now)
+    (ap answered (Shapes.shape-started w now))
 
-told-abandoned : (w : LinkRecord) (n : ℕ) → told (shape (Changes.after_abandon w n)) ≡ told (shape w)
-told-abandoned w n = step (Messages.is_partially_sent w n)
+answered-abandoned : (w : LinkRecord) (n : ℕ) → answered (shape (Changes.after_abandon w n)) ≡ answered (shape w)
+answered-abandoned w n = step (Messages.is_partially_sent w n)
   where
-    step : (b : Bool) → told (shape (Changes.message_changed (if b then Changes.with_slot w n true else w) n Changes.mark_abandoned)) ≡ told (shape w)
-    step true = ap told (Shapes.shape-abandoned (Changes.with_slot w n true) n)
-    step false = ap told (Shapes.shape-abandoned w n)
+    step : (b : Bool) → answered (shape (Changes.message_changed (if b then Changes.with_slot w n true else w) n Changes.mark_abandoned)) ≡ answered (shape w)
+    step true = ap answered (Shapes.shape-abandoned (Changes.with_slot w n true) n)
+    step false = ap answered (Shapes.shape-abandoned w n)
 
-told-tail : (w : LinkRecord) (o : Option ℕ) → told (shape (Changes.after_tail w o)) ≡ told (shape w)
-told-tail w None = refl
-told-tail w (Some n) = told-abandoned w n
+answered-tail : (w : LinkRecord) (o : Option ℕ) → answered (shape (Changes.after_tail w o)) ≡ answered (shape w)
+answered-tail w None = refl
+answered-tail w (Some n) = answered-abandoned w n
 
-told-expired : (w : LinkRecord) (o : Option ℕ) → told (shape (Changes.after_expire w o)) ≡ told (shape w)
-told-expired w None = refl
-told-expired w (Some n) = ap told (Shapes.shape-expired w n)
+answered-expired : (w : LinkRecord) (o : Option ℕ) → answered (shape (Changes.after_expire w o)) ≡ answered (shape w)
+answered-expired w None = refl
+answered-expired w (Some n) = ap answered (Shapes.shape-expired w n)
 
 -- the stream of a write that was accepted
 pub stream-named : (w : LinkRecord) (s : ℕ) → Messages.is_open w s ≡ true → (Messages.stream_of w s).stream ≡ s
@@ -79,30 +80,31 @@ write-open w s ppi bytes ok = (unless-holds (Messages.is_open w s) StreamUnknown
     (unless (nat_lt (fragments_accepted w + fragments_in w bytes) (2 ^ 31)) TsnsUsedUp None)) ok).0
 
 written-step : (setup : Setup) (older : History) (e : Event) (r : Reply) → refusal_of (record_of setup older) e ≡ None
-    → told (shape (record_of setup older)) ≡ writes_in older → told (shape (after (record_of setup older) e)) ≡ writes_in ((e, r) ∷ older)
+    → answered (shape (record_of setup older)) ≡ writes_in older → answered (shape (after (record_of setup older) e)) ≡ writes_in ((e, r) ∷ older)
 written-step setup older (E.Open s) r ok t = t
 written-step setup older (E.Mode s u v x) r ok t = t
 written-step setup older (E.Write s ppi []) r ok t = t
 written-step setup older (E.Write s ppi (b ∷ bs)) r ok t =
     let w = record_of setup older in
-    ap told (Shapes.shape-written w (written_as w s ppi (b ∷ bs))) ∙ told-written (shape w) (message_part (written_as w s ppi (b ∷ bs)))
+    ap answered (Shapes.shape-written w (written_as w s ppi (b ∷ bs))) ∙ answered-written (shape w) (message_part (written_as w s ppi (b ∷ bs)))
     ∙ ap (λ l. l ++ shown_part (message_part (written_as w s ppi (b ∷ bs))) ∷ []) t
     ∙ (let pair : ℕ → Shown = λ k. (k, ppi, b ∷ bs) in ap (λ k. writes_in older ++ pair k ∷ []) (stream-named w s (write-open w s ppi (b ∷ bs) ok)))
-written-step setup older (E.Start now) r ok t = ap told (Shapes.shape-started (record_of setup older) now) ∙ t
-written-step setup older (E.Send now) r ok t = told-sends (record_of setup older) now (Messages.front (record_of setup older)) ∙ t
+written-step setup older (E.Start now) r ok t = ap answered (Shapes.shape-started (record_of setup older) now) ∙ t
+written-step setup older (E.Send now) r ok t = answered-sends (record_of setup older) now (Messages.front (record_of setup older)) ∙ t
 written-step setup older (E.Resend x) r ok t = t
-written-step setup older (E.Expire now) r ok t = told-expired (record_of setup older) (Changes.expiring (record_of setup older) now) ∙ t
-written-step setup older (E.Tail now) r ok t = told-tail (record_of setup older) (Changes.tailing (record_of setup older) now) ∙ t
-written-step setup older (E.Late now) r ok t = fold-keeps (λ v. told (shape v) ≡ told (shape (record_of setup older))) Changes.after_abandon
-    (λ v n e. told-abandoned v n ∙ e) (Changes.late_messages (record_of setup older) now) (record_of setup older) refl ∙ t
+written-step setup older (E.Expire now) r ok t = answered-expired (record_of setup older) (Changes.expiring (record_of setup older) now) ∙ t
+written-step setup older (E.Tail now) r ok t = answered-tail (record_of setup older) (Changes.tailing (record_of setup older) now) ∙ t
+written-step setup older (E.Late now) r ok t = fold-keeps (λ v. answered (shape v) ≡ answered (shape (record_of setup older))) Changes.after_abandon
+    (λ v n e. answered-abandoned v n ∙ e) (Changes.late_messages (record_of setup older) now) (record_of setup older) refl ∙ t
 written-step setup older (E.Abandon tsn) r ok t =
-    told-abandoned (record_of setup older) (Messages.message_of (record_of setup older) (Messages.place_of (record_of setup older) tsn)) ∙ t
+    answered-abandoned (record_of setup older) (Messages.message_of (record_of setup older) (Messages.place_of (record_of setup older) tsn)) ∙ t
 written-step setup older (E.Skip upto names) r ok t = t
 written-step setup older (E.Ack credit) r ok t = t
-written-step setup older (E.Arrive k) r ok t = ap told (Network.same-received (record_of setup older) (slice_get (record_of setup older).network k)).shape_is
+written-step setup older (E.Arrive k) r ok t =
+    ap answered (Network.same-received (record_of setup older) (slice_get (record_of setup older).network k)).shape_is ∙ t
+written-step setup older (E.Acked k) r ok t = ap answered (Network.same-taken (record_of setup older) (slice_get (record_of setup older).network k)).shape_is
     ∙ t
-written-step setup older (E.Acked k) r ok t = ap told (Network.same-taken (record_of setup older) (slice_get (record_of setup older).network k)).shape_is ∙ t
-written-step setup older (E.Read s) r ok t = ap told (Network.same-read (record_of setup older) s (next_read (record_of setup older) s)).shape_is ∙ t
+written-step setup older (E.Read s) r ok t = ap answered (Network.same-read (record_of setup older) s (next_read (record_of setup older) s)).shape_is ∙ t
 
 pub messages_are_writes : OnEveryRun MessagesAreWrites
 messages_are_writes setup [] is run = refl

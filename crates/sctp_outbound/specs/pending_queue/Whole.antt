@@ -41,13 +41,13 @@ NumbersAscend cs = AllPairs (λ c d. c.message_id ≤ d.message_id) cs
 abbrev pub waits : ℕ → Pending → Bool
 waits message q = list_any (is_of message) q.unordered || list_any (is_of message) q.ordered
 
-abbrev pub half_of : Option Selected → Option ℕ
-half_of None = None
-half_of (Some s) = Some s.message_id
+abbrev pub partial_of : Option Selected → Option ℕ
+partial_of None = None
+partial_of (Some s) = Some s.message_id
 
 -- the partially sent message
 abbrev pub partially_sent : Pending → Option ℕ
-partially_sent q = half_of q.selected
+partially_sent q = partial_of q.selected
 
 -- each message waits whole in the list of its kind, but for the partially sent one, which is in front;
 -- of what is in flight only that one waits too; and each number is below the next

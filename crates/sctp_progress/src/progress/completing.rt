@@ -3,7 +3,7 @@
 ghost use Rattle.std.specs.Prelude.{◌≡◌, ◌≤◌, ◌+◌, ◌&&◌, ℕ, OnOk, IsOkUnless, length, map};
 ghost use Rattle.sctp_base.specs.declared.error.Error.TheVariants.{ErrOutOfMemory};
 ghost use Rattle.sctp_stream.specs.Numbers.{IsOnlyPlace};
-ghost use Rattle.sctp_receiver.specs.Receiver.{is_told_complete};
+ghost use Rattle.sctp_receiver.specs.Receiver.{is_answered_complete};
 ghost use Rattle.sctp_progress.specs.Progress.{standing_of, after_one, after_each};
 ghost use Rattle.sctp_progress.specs.Rooms.{HasRoomAt, HasRoom};
 
@@ -97,7 +97,7 @@ fn record_one(
 
 // Whether an unordered message became complete with a chunk.
 fn completes(chunk: &ChunkPayloadData, arrival: Arrival) -> bool
-    ensures { result ≡ (is_told_complete arrival && chunk.now.unordered) }
+    ensures { result ≡ (is_answered_complete arrival && chunk.now.unordered) }
 {
     match arrival {
         Arrival::New { complete } => complete && chunk.unordered,

@@ -1,6 +1,6 @@
 -- Lemmas on a reassembly queue, and on the messages and unassembled fragments in it.
 pub mod Digits
-pub mod ExactMarks
+pub mod ExactFlags
 pub mod SetEnds
 pub mod AscendingSets
 pub mod ByteCounts

@@ -28,14 +28,14 @@ abbrev pub place_among : ℕ → List ChunkPayloadData → ℕ
 place_among tsn xs = position_or_len (λ e. comes_before tsn e.tsn) xs
 
 -- while the mark is on there is no run
-abbrev pub IsMark : Bool → List ChunkPayloadData → Type 0
-IsMark true xs = HasNoRun xs
-IsMark false xs = Unit {0}
+abbrev pub IsFlag : Bool → List ChunkPayloadData → Type 0
+IsFlag true xs = HasNoRun xs
+IsFlag false xs = Unit {0}
 
 -- the mark is on where they stand in serial order, and only there
-abbrev pub IsOrderMark : Bool → List ChunkPayloadData → Type 0
-IsOrderMark true xs = IsSerial xs
-IsOrderMark false xs = IsSerial xs → ⊥
+abbrev pub IsOrderFlag : Bool → List ChunkPayloadData → Type 0
+IsOrderFlag true xs = IsSerial xs
+IsOrderFlag false xs = IsSerial xs → ⊥
 
 -- the run that ends earliest is taken out of the list
 pub record IsRunTaken (xs left taken : List ChunkPayloadData) : Type 0 where

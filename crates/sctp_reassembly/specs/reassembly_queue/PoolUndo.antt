@@ -4,8 +4,8 @@ use Rattle.sctp_data.specs.declared.chunk.chunk_payload_data.ChunkPayloadData.{C
 use Rattle.sctp_serial.specs.DataChunks.{bytes_of}
 use Rattle.sctp_reassembly.specs.declared.reassembly_queue.pool.undo.PoolUndo.{PoolUndo}
 use Rattle.sctp_reassembly.specs.declared.reassembly_queue.unassembled.InsertionUndo.{InsertionUndo}
-use Rattle.sctp_reassembly.specs.declared.reassembly_queue.unassembled.Marks.{Marks}
-use Rattle.sctp_reassembly.specs.reassembly_queue.Loose.{Unassembled, IsMark, IsOrderMark}
+use Rattle.sctp_reassembly.specs.declared.reassembly_queue.unassembled.Flags.{Flags}
+use Rattle.sctp_reassembly.specs.reassembly_queue.Loose.{Unassembled, IsFlag, IsOrderFlag}
 
 -- neighbours put back at a place
 abbrev pub put_back : ℕ → List ChunkPayloadData → List ChunkPayloadData → List ChunkPayloadData
@@ -16,13 +16,13 @@ abbrev pub insertion_undone : InsertionUndo → List ChunkPayloadData → Unasse
 insertion_undone u kept p =
     record {
       chunks = remove (put_back u.first kept p.chunks) u.place;
-      places = u.marks.places;
+      places = u.flags.places;
     }
 
 -- what is noted of the fragments holds of them
-pub record IsNoted (m : Marks) (p : Unassembled) : Type 0 where
+pub record IsNoted (m : Flags) (p : Unassembled) : Type 0 where
   pub counted : m.n_bytes ≡ min (bytes_of p.chunks) (2 ^ 64 - 1)
-  pub order : IsOrderMark m.serial p.chunks
+  pub order : IsOrderFlag m.serial p.chunks
   pub places : m.places ≡ p.places
 
 -- both places are there, all fit without memory, and what was noted before will hold again
@@ -31,8 +31,8 @@ pub record CanUndoInsertion (u : InsertionUndo) (kept : List ChunkPayloadData) (
   pub first : u.first ≤ length p.chunks
   pub place : u.place < length p.chunks + length kept
   pub room : length p.chunks + length kept ≤ p.places
-  pub fewer : u.marks.places ≤ p.places
-  pub noted : IsNoted u.marks (insertion_undone u kept p)
+  pub fewer : u.flags.places ≤ p.places
+  pub noted : IsNoted u.flags (insertion_undone u kept p)
 
 -- ## With the mark of a search: no run was there, where it is on
 
@@ -41,4 +41,4 @@ pool_undone u run p = insertion_undone u.put run p
 
 pub record CanUndoPut (u : PoolUndo) (run : List ChunkPayloadData) (p : Unassembled) : Type 0 where
   pub put : CanUndoInsertion u.put run p
-  pub mark : IsMark u.searched (pool_undone u run p).chunks
+  pub flag : IsFlag u.searched (pool_undone u run p).chunks

@@ -3,7 +3,7 @@
 ghost use Rattle.std.specs.Prelude.{◌≡◌, ◌<◌, ◌≤◌, ◌&&◌, [], length, remove, IfSome, IfNone, drop, OnErr, IfOk, IfErr, MatchOption};
 ghost use Rattle.sctp_serial.specs.Runs.{HasNoRun, IsEarliestRun};
 ghost use Rattle.sctp_base.specs.declared.error.Error.TheVariants.{ErrOutOfMemory};
-ghost use Rattle.sctp_reassembly.specs.reassembly_queue.Loose.{IsRunTaken, IsMark, with_chunks};
+ghost use Rattle.sctp_reassembly.specs.reassembly_queue.Loose.{IsRunTaken, IsFlag, with_chunks};
 
 pub(crate) mod undo;
 
@@ -24,13 +24,13 @@ pub(crate) struct Pool {
 }
 
 impl Model for Pool {
-    ghost use Rattle.sctp_reassembly.specs.reassembly_queue.Loose.{IsMark, Unassembled};
+    ghost use Rattle.sctp_reassembly.specs.reassembly_queue.Loose.{IsFlag, Unassembled};
 
     ghost Value = { Unassembled };
 
     ghost view = { λ p. p.unassembled };
 
-    ghost invariant = { λ p. IsMark p.searched p.unassembled.chunks };
+    ghost invariant = { λ p. IsFlag p.searched p.unassembled.chunks };
 }
 
 impl Pool {
@@ -98,7 +98,7 @@ fn is_searched_after(searched: bool, serial: bool) -> bool
 // The run that ends earliest. Where none was there before the fragment at the place, only the runs that hold it are looked for.
 fn search(unassembled: &Loose, searched: bool, place: usize) -> Option<(usize, usize)>
     requires in_range { place < length unassembled.now.chunks }
-    requires mark { IsMark searched (remove unassembled.now.chunks place) }
+    requires flag { IsFlag searched (remove unassembled.now.chunks place) }
     ensures found { IfSome result (λ run. IsEarliestRun unassembled.now.chunks run.0 run.1) }
     ensures none { IfNone result (HasNoRun unassembled.now.chunks) }
 {

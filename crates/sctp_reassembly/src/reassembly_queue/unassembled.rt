@@ -8,7 +8,7 @@ ghost use Rattle.sctp_data.specs.declared.chunk.chunk_payload_data.ChunkPayloadD
 ghost use Rattle.sctp_list_lemmas.specs.Serial.{comes_before};
 ghost use Rattle.sctp_reassembly.specs.reassembly_queue.Around.{IsStart, HasNoStart, IsEnd, IsFirstEnding, HasNoEnd};
 ghost use Rattle.sctp_serial.specs.DataChunks.{bytes_of, following_tsn};
-ghost use Rattle.sctp_reassembly.specs.reassembly_queue.Loose.{IsOrderMark};
+ghost use Rattle.sctp_reassembly.specs.reassembly_queue.Loose.{IsOrderFlag};
 ghost use Rattle.sctp_reassembly.specs.reassembly_queue.PoolUndo.{put_back};
 ghost use Rattle.sctp_serial.specs.Window.{IsSerial};
 
@@ -37,7 +37,7 @@ impl Model for Loose {
     ghost use Rattle.std.specs.Prelude.{◌≡◌, ◌-◌, ◌^◌, ◌≤◌, min};
     ghost use Rattle.std.specs.VecDeque.{deque_capacity};
     ghost use Rattle.sctp_serial.specs.DataChunks.{bytes_of};
-    ghost use Rattle.sctp_reassembly.specs.reassembly_queue.Loose.{IsOrderMark, Unassembled};
+    ghost use Rattle.sctp_reassembly.specs.reassembly_queue.Loose.{IsOrderFlag, Unassembled};
 
     ghost Value = { Unassembled };
 
@@ -46,7 +46,7 @@ impl Model for Loose {
     ghost invariant = { λ l. record {
       counted : l.n_bytes
           ≡ min (bytes_of l.chunks.items) (2 ^ 64 - 1);
-      order : IsOrderMark l.serial l.chunks.items;
+      order : IsOrderFlag l.serial l.chunks.items;
       room : l.places ≤ deque_capacity l.chunks;
     } };
 }
@@ -54,7 +54,7 @@ impl Model for Loose {
 /// What is noted of unassembled fragments, beside themselves: their bytes, whether they stand in serial order, and how many at
 /// once take no memory.
 #[derive(Clone, Copy)]
-pub struct Marks {
+pub struct Flags {
     n_bytes: usize,
     serial: bool,
     places: usize,
@@ -68,19 +68,19 @@ pub struct InsertionUndo {
     // where the neighbours were taken out then
     first: usize,
     // what was noted before
-    marks: Marks,
+    flags: Flags,
 }
 
 impl InsertionUndo {
-    /// The undo of an insertion at `place`, after which neighbours were taken out from place `first` on. `marks` are from before
+    /// The undo of an insertion at `place`, after which neighbours were taken out from place `first` on. `flags` are from before
     /// the insertion.
-    pub fn new(place: usize, first: usize, marks: Marks) -> Self
-        ensures { result ≡ record { place = place; first = first; marks = marks } }
+    pub fn new(place: usize, first: usize, flags: Flags) -> Self
+        ensures { result ≡ record { place = place; first = first; flags = flags } }
     {
         InsertionUndo {
             place,
             first,
-            marks,
+            flags,
         }
     }
 }
@@ -109,10 +109,10 @@ impl Loose {
     }
 
     /// What is noted of them.
-    pub fn marks(&self) -> Marks
+    pub fn flags(&self) -> Flags
         ensures { IsNoted result self.now }
     {
-        Marks {
+        Flags {
             n_bytes: self.get_num_bytes(),
             serial: self.is_serial(),
             places: self.places,
@@ -128,7 +128,7 @@ impl Loose {
 
     /// Whether they stand in serial order: each before all that follow it.
     pub fn is_serial(&self) -> bool
-        ensures { IsOrderMark result self.now.chunks }
+        ensures { IsOrderFlag result self.now.chunks }
     {
         self.serial
     }
@@ -171,7 +171,7 @@ impl Loose {
     fn stays_serial(&self, place: usize, tsn: u32) -> bool
         requires { place ≤ length self.now.chunks }
         ensures { (x : ChunkPayloadData)
-            → x.tsn ≡ tsn → IsOrderMark result (insert self.now.chunks place x) }
+            → x.tsn ≡ tsn → IsOrderFlag result (insert self.now.chunks place x) }
     {
         if !self.serial {
             return false;
@@ -191,13 +191,13 @@ impl Loose {
         let InsertionUndo {
             place,
             first,
-            marks,
+            flags,
         } = undo;
         put_back(&mut self.chunks, first, kept);
         take_out(&mut self.chunks, place);
-        self.n_bytes = marks.n_bytes;
-        self.serial = marks.serial;
-        self.places = marks.places;
+        self.n_bytes = flags.n_bytes;
+        self.serial = flags.serial;
+        self.places = flags.places;
     }
 
     /// Takes out `count` neighbours from place `first` on.
@@ -306,7 +306,7 @@ fn is_ahead(chunks: &VecDeque<Fragment>, place: usize, tsn: u32) -> bool
 
 // Whether fragments stand in serial order: each after the one before it, and after the first.
 fn are_serial(chunks: &VecDeque<Fragment>) -> bool
-    ensures { IsOrderMark result chunks.now.items }
+    ensures { IsOrderFlag result chunks.now.items }
 {
     let len = chunks.len();
     if len == 0 {
@@ -330,7 +330,7 @@ fn are_serial(chunks: &VecDeque<Fragment>) -> bool
 // Whether what is left stands in serial order: a list that did not is looked through.
 fn is_still_serial(was_serial: bool, chunks: &VecDeque<Fragment>) -> bool
     requires { was_serial ≡ true → IsSerial chunks.now.items }
-    ensures { IsOrderMark result chunks.now.items }
+    ensures { IsOrderFlag result chunks.now.items }
 {
     if was_serial {
         return true;

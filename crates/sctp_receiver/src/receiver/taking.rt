@@ -2,7 +2,7 @@
 
 ghost use Rattle.std.specs.Prelude.{◌≡◌, true, false, None, OnOk, OnErr, IfOk, IfErr, IsOk};
 ghost use Rattle.sctp_receiver.specs.declared.receiver.refusal.ReceiverRefusal.TheVariants.{OutOfMemory};
-ghost use Rattle.sctp_receiver.specs.Receiver.{data_refusal, refusal_for, IsRefusedFor, takes_memory, arrival_of, is_told_complete, Takes, stream_of, is_full_by, noted_by};
+ghost use Rattle.sctp_receiver.specs.Receiver.{data_refusal, refusal_for, IsRefusedFor, takes_memory, arrival_of, is_answered_complete, Takes, stream_of, is_full_by, noted_by};
 ghost use Rattle.sctp_receiver.specs.Ssns.{is_kept_on};
 ghost use Rattle.sctp_receiver.specs.TsnFilter.{has_come};
 ghost use Rattle.sctp_receiver.specs.Undo.{parts, reception_of, chunk_undone, CanUndoChunk, chunks_undone, CanUndoChunks, repeat_undone};
@@ -53,7 +53,7 @@ pub(crate) fn take(
     chunk: &ChunkPayloadData,
 ) -> Result<(Arrival, ChunkUndo), ReceiverRefusal>
     ensures answer { IfOk result (λ taken. taken.0
-        ≡ arrival_of chunk.now.tsn (is_told_complete taken.0)
+        ≡ arrival_of chunk.now.tsn (is_answered_complete taken.0)
         (reception_of rules (parts streams.old filter.old))) }
     ensures ok { IfOk result (λ taken. Takes chunk.now taken.0
         (reception_of rules (parts streams.old filter.old))
@@ -87,7 +87,7 @@ fn take_any_ssn(
     chunk: &ChunkPayloadData,
 ) -> Result<(Arrival, ChunkUndo), ReceiverRefusal>
     ensures answer { IfOk result (λ taken. taken.0
-        ≡ arrival_of chunk.now.tsn (is_told_complete taken.0)
+        ≡ arrival_of chunk.now.tsn (is_answered_complete taken.0)
         (reception_of rules (parts streams.old filter.old))) }
     ensures ok { IfOk result (λ taken. Takes chunk.now taken.0
         (reception_of rules (parts streams.old filter.old))

@@ -5,7 +5,7 @@ ghost use Rattle.sctp_base.specs.declared.error.Error.TheVariants.{ErrOutOfMemor
 ghost use Rattle.sctp_list_lemmas.specs.Lists.{advance_over};
 ghost use Rattle.sctp_list_lemmas.specs.Serial.{comes_before};
 ghost use Rattle.sctp_receiver.specs.Costs.{IsWithinBlocks};
-ghost use Rattle.sctp_receiver.specs.TsnFilter.{mark};
+ghost use Rattle.sctp_receiver.specs.TsnFilter.{placeholder};
 ghost use Rattle.sctp_serial.specs.DataChunks.{following_tsn, preceding_tsn, tsns};
 ghost use Rattle.sctp_serial.specs.Turns.{IsWithinDigits};
 
@@ -34,7 +34,7 @@ pub struct TsnFilter {
 impl Model for TsnFilter {
     ghost use Rattle.std.specs.Prelude.{◌≡◌, ◌<◌, ◌^◌, true, map};
     ghost use Rattle.sctp_serial.specs.DataChunks.{tsns};
-    ghost use Rattle.sctp_receiver.specs.TsnFilter.{Filter, mark, rise_beyond};
+    ghost use Rattle.sctp_receiver.specs.TsnFilter.{Filter, placeholder, rise_beyond};
 
     ghost Value = { Filter };
 
@@ -47,8 +47,8 @@ impl Model for TsnFilter {
 
     ghost invariant = { λ f. record {
       in_range : f.cumulative_tsn < 2 ^ 32;
-      marks : f.queue.chunks
-          ≡ map mark (tsns f.queue.chunks);
+      placeholders : f.queue.chunks
+          ≡ map placeholder (tsns f.queue.chunks);
       rise : rise_beyond f.cumulative_tsn 1
           (tsns f.queue.chunks) ≡ true;
     } };
@@ -93,7 +93,7 @@ impl TsnFilter {
 
     /// The TSNs beyond, each as a chunk that says nothing else, and those that came again.
     pub fn queue(&self) -> &PayloadQueue
-        ensures beyond { result.now.chunks ≡ map mark self.now.beyond }
+        ensures beyond { result.now.chunks ≡ map placeholder self.now.beyond }
         ensures duplicates { result.now.duplicates ≡ self.now.duplicates }
     {
         &self.queue
@@ -169,7 +169,7 @@ impl TsnFilter {
             self.cumulative_tsn = advance(&mut self.queue, tsn, &mut Turns::new());
             return;
         }
-        let _ = self.queue.push(mark(tsn), self.cumulative_tsn);
+        let _ = self.queue.push(placeholder(tsn), self.cumulative_tsn);
     }
 
     /// A TSN comes again. Refuses only for memory, and the filter is as it was then.
@@ -180,7 +180,7 @@ impl TsnFilter {
         ensures err { OnErr result (self.new ≡ self.old) }
         ensures memory { IsOkUnless result ErrOutOfMemory }
     {
-        self.queue.push(mark(tsn), self.cumulative_tsn)?;
+        self.queue.push(placeholder(tsn), self.cumulative_tsn)?;
         Ok(())
     }
 
@@ -218,7 +218,8 @@ impl TsnFilter {
 
     /// The first `most` of these runs, or all where there are no more; it looks at those alone. Refuses only for memory.
     pub fn gap_ack_blocks_within(&self, alloc: Global, most: usize) -> Result<Vec<GapAckBlock>>
-        ensures blocks { IfOk result (λ blocks. blocks.items ≡ take most (gap_ack_blocks self.now)) }
+        ensures blocks { IfOk result (λ blocks.
+            blocks.items ≡ take most (gap_ack_blocks self.now)) }
         ensures memory { IsOkUnless result ErrOutOfMemory }
     {
         self.gap_ack_blocks_within_counted(alloc, most, &mut Turns::new())
@@ -232,7 +233,8 @@ impl TsnFilter {
         most: usize,
         turns: &mut Turns,
     ) -> Result<Vec<GapAckBlock>>
-        ensures blocks { IfOk result (λ blocks. blocks.items ≡ take most (gap_ack_blocks self.now)) }
+        ensures blocks { IfOk result (λ blocks.
+            blocks.items ≡ take most (gap_ack_blocks self.now)) }
         ensures memory { IsOkUnless result ErrOutOfMemory }
         ensures not_back { turns.old ≤ turns.new }
         ensures cost { IfOk result (λ blocks. IsWithinBlocks
@@ -264,8 +266,8 @@ impl TsnFilter {
 }
 
 // A chunk that says its TSN and nothing else.
-fn mark(tsn: u32) -> ChunkPayloadData
-    ensures { result ≡ mark tsn }
+fn placeholder(tsn: u32) -> ChunkPayloadData
+    ensures { result ≡ placeholder tsn }
 {
     ChunkPayloadData {
         unordered: false,
@@ -294,8 +296,8 @@ fn mark(tsn: u32) -> ChunkPayloadData
 fn advance(queue: &mut PayloadQueue, cumulative_tsn: u32, turns: &mut Turns) -> u32
     ensures moved { advance_over cumulative_tsn (tsns queue.old.chunks)
         ≡ record { cum = result; held = tsns queue.new.chunks } }
-    ensures marks { queue.old.chunks ≡ map mark (tsns queue.old.chunks)
-        → queue.new.chunks ≡ map mark (tsns queue.new.chunks) }
+    ensures placeholders { queue.old.chunks ≡ map placeholder (tsns queue.old.chunks)
+        → queue.new.chunks ≡ map placeholder (tsns queue.new.chunks) }
     ensures rest { queue.new
         ≡ record queue.old { chunks = queue.new.chunks; room = queue.new.room } }
     ensures places { length queue.new.chunks + queue.new.room

@@ -29,7 +29,7 @@ use Rattle.sctp_model.specs.Amounts.{is_expired_or_abandoned}
 use Rattle.sctp_model.specs.Changes.{after_abandon, with_slot, message_changed, mark_abandoned}
 use Rattle.sctp_model.proofs.sender.Shape.{shape}
 use Rattle.sctp_model.proofs.sender.Sender.{Sender}
-use Rattle.sctp_model.proofs.sender.SenderSteps.{of-has, half-one}
+use Rattle.sctp_model.proofs.sender.SenderSteps.{of-has, partial-one}
 use Rattle.sctp_model.proofs.sender.Shapes
 use Rattle.sctp_model.proofs.sender.Slots.{sent-made}
 use Rattle.sctp_refinement.specs.Refines.{waiting_at, waiting_of, waiting_where, waits_ordered, waits_unordered, selected_of, RefinesPending, RefinesOutbound}
@@ -126,8 +126,8 @@ module _ (w : LinkRecord) (n : ℕ) where
       turned true false false true = refl
       turned true false false false = refl
 
-  pub half-then : (k : ℕ) → is_partially_sent v k ≡ (is_partially_sent w k && not (k == n))
-  half-then k =
+  pub partial-then : (k : ℕ) → is_partially_sent v k ≡ (is_partially_sent w k && not (k == n))
+  partial-then k =
       ap (λ c. nat_lt 0 (sent_of w k) && (nat_lt (sent_of w k) c && not (message_at v k).abandoned)) (count-same k)
       ∙ ap (λ b. nat_lt 0 (sent_of w k) && (nat_lt (sent_of w k) (fragment_count w k) && not b)) (abandoned-then k)
       ∙ turned (nat_lt 0 (sent_of w k)) (nat_lt (sent_of w k) (fragment_count w k)) (k == n) (message_at w k).abandoned
@@ -148,14 +148,14 @@ module _ (w : LinkRecord) (n : ℕ) where
     where
       less : messages_where v (is_partially_sent v) ≡ numbers_where (λ k. is_partially_sent w k && not (k == n)) 0 (length w.messages)
       less = ap (numbers_where (is_partially_sent v) 0) count-messages
-          ∙ kept-same (is_partially_sent v) (λ k. is_partially_sent w k && not (k == n)) 0 (length w.messages) (λ k a b. half-then k)
+          ∙ kept-same (is_partially_sent v) (λ k. is_partially_sent w k && not (k == n)) 0 (length w.messages) (λ k a b. partial-then k)
 
       none : (j : ℕ) → is_partially_sent w j ≡ true → j ≡ n → numbers_where (λ k. is_partially_sent w k && not (k == n)) 0 (length w.messages) ≡ []
       none j h e = kept-none (λ k. is_partially_sent w k && not (k == n)) 0 (length w.messages) (λ k a b. one k (is_partially_sent w k) refl)
         where
           one : (k : ℕ) (b : Bool) → is_partially_sent w k ≡ b → (b && not (k == n)) ≡ false
           one k false f = refl
-          one k true f = ap (λ i. not (i == n)) (half-one (shape w) k j s f h ∙ e) ∙ ap not (same-yes n)
+          one k true f = ap (λ i. not (i == n)) (partial-one (shape w) k j s f h ∙ e) ∙ ap not (same-yes n)
 
       kind : (k : ℕ) → selected_of w (Some k) ≡ selected_of v (Some k)
       kind k = ap (λ m. Some (let x : Selected = record { message_id = k; unordered = not m.ordered } in x)) (sym (alive-same k))
@@ -163,7 +163,7 @@ module _ (w : LinkRecord) (n : ℕ) where
       first-is : (j : ℕ) → is_partially_sent w j ≡ true → j < length w.messages → (j == n) ≡ false → (l : List ℕ)
           → FrontOf (λ k. is_partially_sent w k && not (k == n)) 0 (length w.messages) l → first_of l ≡ Some j
       first-is j h lt ne [] f = absurd (not_both (sym (f j (omega arith) (omega (arith, lt))) ∙ ap (λ b. b && not (j == n)) h ∙ ap not ne))
-      first-is j h lt ne (k ∷ l) f = ap Some (half-one (shape w) k j s (left (is_partially_sent w k) (not (k == n)) f.passes) h)
+      first-is j h lt ne (k ∷ l) f = ap Some (partial-one (shape w) k j s (left (is_partially_sent w k) (not (k == n)) f.passes) h)
         where
           left : (a b : Bool) → (a && b) ≡ true → a ≡ true
           left true b e = refl
@@ -283,8 +283,8 @@ module _ (u : LinkRecord) (n : ℕ) (dead : (message_at u n).abandoned ≡ true)
   slot-old p lt = get-snoc_old u.slots new p no_slot (λ e. omega arith)
 
   -- whatever fragment of the message the mark is made from
-  mark-new : (i : ℕ) → sending_of (terminal_chunk (tsn_of u here) (waiting_at u n i)) ≡ sending_at z here
-  mark-new i = sym (rw (ap (λ x. x.message) slot-new, slot-new, dead) refl)
+  terminal-new : (i : ℕ) → sending_of (terminal_chunk (tsn_of u here) (waiting_at u n i)) ≡ sending_at z here
+  terminal-new i = sym (rw (ap (λ x. x.message) slot-new, slot-new, dead) refl)
 
   sendings-more : sendings_of z ≡ sendings_of u ++ sending_at z here ∷ []
   sendings-more =
@@ -299,22 +299,22 @@ module _ (u : LinkRecord) (n : ℕ) (dead : (message_at u n).abandoned ≡ true)
   where-same t = gathered-same (waiting_of z) (waiting_of u) t t 0 (length u.messages) (λ k a b. refl)
       (λ k a b e. waiting_of-alike u z k (record { setup = refl; message = refl; ssn = refl }) (sent-same u n k))
 
-  half-same : messages_where z (is_partially_sent z) ≡ messages_where u (is_partially_sent u)
-  half-same = kept-same (is_partially_sent z) (is_partially_sent u) 0 (length u.messages)
+  partial-same : messages_where z (is_partially_sent z) ≡ messages_where u (is_partially_sent u)
+  partial-same = kept-same (is_partially_sent z) (is_partially_sent u) 0 (length u.messages)
       (λ k a b. ap (λ s. nat_lt 0 s && (nat_lt s (fragment_count u k) && not (message_at u k).abandoned)) (sent-same u n k))
 
-  pub refines-mark : (i : ℕ) (q : Outbound) → n < q.next_unstarted → RefinesOutbound u q
+  pub refines-terminal : (i : ℕ) (q : Outbound) → n < q.next_unstarted → RefinesOutbound u q
       → RefinesOutbound z (record q { inflight = payload.push_chunk q.inflight (terminal_chunk (tsn_of u here) (waiting_at u n i)) })
-  refines-mark i q begun t = record {
+  refines-terminal i q begun t = record {
     pending = record {
       ordered = t.pending.ordered ∙ sym (where-same (waits_ordered u));
       unordered = t.pending.unordered ∙ sym (where-same (waits_unordered u));
-      selected = t.pending.selected ∙ sym (ap (λ l. selected_of z (first_of l)) half-same ∙ same (first_of (messages_where u (is_partially_sent u))));
+      selected = t.pending.selected ∙ sym (ap (λ l. selected_of z (first_of l)) partial-same ∙ same (first_of (messages_where u (is_partially_sent u))));
     };
     in_flight =
         ap (map sending_of) (put-last u (terminal_chunk (tsn_of u here) (waiting_at u n i)) here refl few q.inflight.chunks u.taken (length u.slots
         - u.taken) t.in_flight (omega (arith, made))) ∙ map-append sending_of q.inflight.chunks (terminal_chunk (tsn_of u here) (waiting_at u n i) ∷ [])
-        ∙ ap (λ l. l ++ sending_of (terminal_chunk (tsn_of u here) (waiting_at u n i)) ∷ []) t.in_flight ∙ ap (λ x. sendings_of u ++ x ∷ []) (mark-new i)
+        ∙ ap (λ l. l ++ sending_of (terminal_chunk (tsn_of u here) (waiting_at u n i)) ∷ []) t.in_flight ∙ ap (λ x. sendings_of u ++ x ∷ []) (terminal-new i)
         ∙ sym sendings-more;
     next = t.next;
     unstarted = t.unstarted;
@@ -347,8 +347,8 @@ module _ (w : LinkRecord) (n : ℕ) (s : Sender (shape w)) (pos : 0 < sent_of w 
       by false e true f false true = refl
       by false e true f false false = refl
 
-  pub waits-half : (q : Outbound) → RefinesOutbound w q → waits n q.pending ≡ is_partially_sent w n
-  waits-half q t = waits-is w n q.pending made-message t.pending ∙ rest-is
+  pub waits-partial : (q : Outbound) → RefinesOutbound w q → waits n q.pending ≡ is_partially_sent w n
+  waits-partial q t = waits-is w n q.pending made-message t.pending ∙ rest-is
 
   -- its lifetime has started
   begun-message : (q : Outbound) → RefinesOutbound w q → n < q.next_unstarted
@@ -382,13 +382,14 @@ module _ (w : LinkRecord) (n : ℕ) (s : Sender (shape w)) (pos : 0 < sent_of w 
           → RefinesOutbound (message_changed (if b then with_slot w n true else w) n mark_abandoned) (queue.abandon_chunks n (tsn_of w (length w.slots)) q)
       by true e = subst (λ o. RefinesOutbound (with_slot (marked w n) n true) (with o))
           (sym (last true e ∙ ap Some (sym (waiting_at-same w n n (fragment_count w n - 1)))))
-          (refines-mark (marked w n) n dead few made (fragment_count w n - 1) (given n q) (begun-message q t) (refines-given w n s q t))
+          (refines-terminal (marked w n) n dead few made (fragment_count w n - 1) (given n q) (begun-message q t) (refines-given w n s q t))
       by false e = subst (λ o. RefinesOutbound (marked w n) (with o)) (sym (last false e)) (refines-given w n s q t)
 
   -- and the next TSN is that of the next slot
   pub tsn-abandoned : (q : Outbound) → RefinesOutbound w q
       → tsn_after n (tsn_of w (length w.slots)) q ≡ tsn_of (after_abandon w n) (length (after_abandon w n).slots)
-  tsn-abandoned q t = ap (λ b. if b then following_tsn (tsn_of w (length w.slots)) else tsn_of w (length w.slots)) (waits-half q t) ∙ by (is_partially_sent w n)
+  tsn-abandoned q t = ap (λ b. if b then following_tsn (tsn_of w (length w.slots)) else tsn_of w (length w.slots)) (waits-partial q t)
+      ∙ by (is_partially_sent w n)
     where
       many : length (with_slot w n true).slots ≡ suc (length w.slots)
       many = ones w.slots

@@ -9,7 +9,7 @@ use Rattle.sctp_model.specs.Messages.{tsn_of}
 use Rattle.sctp_model.specs.Amounts.{growth}
 use Rattle.sctp_model.specs.Steps.{History, record_of, IsRun, refusal_of, after}
 use Rattle.sctp_model.specs.Laws.{IsSetup}
-use Rattle.sctp_model.proofs.sender.SenderRun.{sane-run}
+use Rattle.sctp_model.proofs.sender.SenderRun.{consistent-run}
 use Rattle.sctp_refinement.specs.Refines.{RefinesOutbound}
 use Rattle.sctp_refinement.proofs.sending.Fragments.{going-run}
 use Rattle.sctp_refinement.proofs.sending.KindsRun.{taken-run}
@@ -21,7 +21,7 @@ module _ (setup : Setup) (h : History) (is : IsSetup setup) (run : IsRun setup h
   w = record_of setup h
 
   first : w.setup.first < 2 ^ 32
-  first = let e = ap (λ (s : Setup). s.first) (sane-run setup h run).setup_is in omega (arith, e, is.first)
+  first = let e = ap (λ (s : Setup). s.first) (consistent-run setup h run).setup_is in omega (arith, e, is.first)
 
   -- an Abandon
   module _ (tsn : ℕ) (fits : tsn < 2 ^ 32) (ok : refusal_of w (E.Abandon tsn) ≡ None) where
@@ -29,7 +29,7 @@ module _ (setup : Setup) (h : History) (is : IsSetup setup) (run : IsRun setup h
     r = abandoned_of (to_abandon (find (has_tsn tsn) q.inflight.chunks)) (tsn_of w (length w.slots)) q
 
     pub bytes-abandon : growth w (after w (E.Abandon tsn)) ≡ total_bytes q - total_bytes r
-    bytes-abandon = growth-by_queues setup h is run (E.Abandon tsn) ok refl q r t (refines-abandon setup w tsn q (sane-run setup h run) first fits ok t)
+    bytes-abandon = growth-by_queues setup h is run (E.Abandon tsn) ok refl q r t (refines-abandon setup w tsn q (consistent-run setup h run) first fits ok t)
 
   -- a Tail
   module _ (now : ℕ) where

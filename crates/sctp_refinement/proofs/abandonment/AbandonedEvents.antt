@@ -27,8 +27,8 @@ use Rattle.sctp_model.specs.Changes.{after_abandon, with_slot, message_changed, 
 use Rattle.sctp_model.specs.Steps.{refusal_of, after}
 use Rattle.sctp_model.proofs.sender.Shape.{shape}
 use Rattle.sctp_model.proofs.sender.Sender.{Sender}
-use Rattle.sctp_model.proofs.sender.SenderSteps.{of-half, is-half}
-use Rattle.sctp_model.proofs.sender.SenderRun.{Sane, sane-abandoned, unless-holds}
+use Rattle.sctp_model.proofs.sender.SenderSteps.{of-partial, is-partial}
+use Rattle.sctp_model.proofs.sender.SenderRun.{Consistent, consistent-abandoned, unless-holds}
 use Rattle.sctp_model.proofs.sender.Fronts.{slot-sent}
 use Rattle.sctp_model.proofs.sender.Few.{few}
 use Rattle.sctp_refinement.specs.Refines.{waiting_at, RefinesOutbound, Sending, sending_of, sending_at}
@@ -36,7 +36,7 @@ use Rattle.sctp_refinement.proofs.sending.InFlight.{Found, found-in}
 use Rattle.sctp_refinement.proofs.sending.Sent.{FrontIs, front_is}
 use Rattle.sctp_refinement.proofs.sending.Fragments.{idle, shown}
 use Rattle.sctp_refinement.proofs.sending.KindsRun.{Going}
-use Rattle.sctp_refinement.proofs.abandonment.Abandoned.{refines-abandoned, tsn-abandoned, waits-half}
+use Rattle.sctp_refinement.proofs.abandonment.Abandoned.{refines-abandoned, tsn-abandoned, waits-partial}
 use Rattle.sctp_refinement.proofs.abandonment.AbandonedLate.{abandoned-again}
 
 -- ## A TSN in flight
@@ -51,7 +51,7 @@ to-abandon w p q short low high t =
     ∙ ap (λ s. if s.chunk.abandoned then None else Some s.chunk.message) f.says
 
 -- its message is abandoned where it was not; then the next TSN is that of the next slot
-module _ (setup : Setup) (w : LinkRecord) (p : ℕ) (q : Outbound) (g : Sane setup w) (low : w.taken ≤ p) (high : p < length w.slots)
+module _ (setup : Setup) (w : LinkRecord) (p : ℕ) (q : Outbound) (g : Consistent setup w) (low : w.taken ≤ p) (high : p < length w.slots)
     (t : RefinesOutbound w q) where
   abbrev owner : ℕ
   owner = message_of w p
@@ -98,11 +98,11 @@ module _ (setup : Setup) (w : LinkRecord) (p : ℕ) (q : Outbound) (g : Sane set
       by : (b : Bool) → (message_at w owner).abandoned ≡ b → has_tail chosen q ≡ is_partially_sent w owner
       by true e = ap (λ o. has_tail o q) (chosen-is true e)
           ∙ dead (nat_lt 0 (sent_of w owner)) (nat_lt (sent_of w owner) (fragment_count w owner)) (message_at w owner).abandoned e
-      by false e = ap (λ o. has_tail o q) (chosen-is false e) ∙ waits-half w owner g.sender pos q t
+      by false e = ap (λ o. has_tail o q) (chosen-is false e) ∙ waits-partial w owner g.sender pos q t
 
 -- ## Abandon
 
-module _ (setup : Setup) (w : LinkRecord) (tsn : ℕ) (q : Outbound) (g : Sane setup w) (first : w.setup.first < 2 ^ 32) (fits : tsn < 2 ^ 32)
+module _ (setup : Setup) (w : LinkRecord) (tsn : ℕ) (q : Outbound) (g : Consistent setup w) (first : w.setup.first < 2 ^ 32) (fits : tsn < 2 ^ 32)
     (ok : refusal_of w (E.Abandon tsn) ≡ None) (t : RefinesOutbound w q) where
   back : tsn_of w (place_of w tsn) ≡ tsn
   back = omega (arith, first, fits)
@@ -154,20 +154,21 @@ tail-is setup w now q g t = by (front w) refl
     by : (o : Option ℕ) → front w ≡ o → queue.message_of (expiring_tail now q) ≡ front_if w (λ n. is_partially_sent w n && is_past_deadline w now n) o
     by None e = ap (λ c. queue.message_of (queue.passing (is_expired_tail now) c)) (idle w q t e)
     by (Some n) e =
-        let f : FrontIs w n = front_is w g.sane.sender g.turns n e in
+        let f : FrontIs w n = front_is w g.consistent.sender g.turns n e in
         ap (λ c. queue.message_of (queue.passing (is_expired_tail now) c)) (shown setup w n q g e t)
         ∙ chosen (is_expired_tail now) (waiting_at w n (sent_of w n)) n refl
         ∙ ap (λ b. if not (sent_of w n == 0) && b then Some n else None) (past_deadline n)
-        ∙ ap (λ b. if b && is_past_deadline w now n then Some n else None) (half f (cases_lt 0 (sent_of w n)))
+        ∙ ap (λ b. if b && is_past_deadline w now n then Some n else None) (partial f (cases_lt 0 (sent_of w n)))
       where
-        half : FrontIs w n → (0 < sent_of w n) ⊎ (sent_of w n ≤ 0) → not (sent_of w n == 0) ≡ is_partially_sent w n
-        half f (inl l) = (let z : (sent_of w n == 0) ≡ false = grind (arith, nat_tests) in ap not z) ∙ sym (is-half (shape w) n l f.takes.more f.takes.alive)
-        half f (inr z) = (let y : (sent_of w n == 0) ≡ true = grind (arith, nat_tests) in ap not y) ∙ (let y : nat_lt 0 (sent_of w n) ≡ false =
+        partial : FrontIs w n → (0 < sent_of w n) ⊎ (sent_of w n ≤ 0) → not (sent_of w n == 0) ≡ is_partially_sent w n
+        partial f (inl l) = (let z : (sent_of w n == 0) ≡ false = grind (arith, nat_tests) in ap not z)
+            ∙ sym (is-partial (shape w) n l f.takes.more f.takes.alive)
+        partial f (inr z) = (let y : (sent_of w n == 0) ≡ true = grind (arith, nat_tests) in ap not y) ∙ (let y : nat_lt 0 (sent_of w n) ≡ false =
             grind (arith, nat_tests) in ap (λ b. b && (nat_lt (sent_of w n) (fragment_count w n) && not (message_at w n).abandoned)) (sym y))
 
 module _ (setup : Setup) (w : LinkRecord) (now : ℕ) (q : Outbound) (g : Going setup w) (made : w.taken ≤ length w.slots) (t : RefinesOutbound w q) where
-  half-tail : (n : ℕ) → tailing w now ≡ Some n → is_partially_sent w n ≡ true
-  half-tail n e = by (front w) e
+  partial-tail : (n : ℕ) → tailing w now ≡ Some n → is_partially_sent w n ≡ true
+  partial-tail n e = by (front w) e
     where
       by : (o : Option ℕ) → front_if w (λ n. is_partially_sent w n && is_past_deadline w now n) o ≡ Some n → is_partially_sent w n ≡ true
       by None e = cc
@@ -186,31 +187,31 @@ module _ (setup : Setup) (w : LinkRecord) (now : ℕ) (q : Outbound) (g : Going 
     where
       by : (o : Option ℕ) → tailing w now ≡ o → RefinesOutbound (after_tail w o) (abandoned_of o (tsn_of w (length w.slots)) q)
       by None e = t
-      by (Some n) e = refines-abandoned w n g.sane.sender (of-half (shape w) n (half-tail n e)).some (few setup w g.sane) made q t
+      by (Some n) e = refines-abandoned w n g.consistent.sender (of-partial (shape w) n (partial-tail n e)).some (few setup w g.consistent) made q t
 
   pub next-tail : tsn_after_of tail (tsn_of w (length w.slots)) q ≡ tsn_of (after w (E.Tail now)) (length (after w (E.Tail now)).slots)
   next-tail = ap (λ o. tsn_after_of o (tsn_of w (length w.slots)) q) (tail-is setup w now q g t) ∙ by (tailing w now) refl
     where
       by : (o : Option ℕ) → tailing w now ≡ o → tsn_after_of o (tsn_of w (length w.slots)) q ≡ tsn_of (after_tail w o) (length (after_tail w o).slots)
       by None e = refl
-      by (Some n) e = tsn-abandoned w n g.sane.sender (of-half (shape w) n (half-tail n e)).some q t
+      by (Some n) e = tsn-abandoned w n g.consistent.sender (of-partial (shape w) n (partial-tail n e)).some q t
 
 -- ## Late
 
 -- what stays while the messages of late slots are abandoned: the slots that were there, and what is in flight
 pub record IsAbandoning (setup : Setup) (w v : LinkRecord) : Type 0 where
-  pub sane : Sane setup v
+  pub consistent : Consistent setup v
   pub first : v.setup ≡ w.setup
   pub taken : v.taken ≡ w.taken
   pub more : length w.slots ≤ length v.slots
   pub slot : (p : ℕ) → p < length w.slots → slot_at v p ≡ slot_at w p
 
-pub abandoning-first : (setup : Setup) (w : LinkRecord) → Sane setup w → IsAbandoning setup w w
-abandoning-first setup w g = record { sane = g; first = refl; taken = refl; more = omega arith; slot = λ p lt. refl }
+pub abandoning-first : (setup : Setup) (w : LinkRecord) → Consistent setup w → IsAbandoning setup w w
+abandoning-first setup w g = record { consistent = g; first = refl; taken = refl; more = omega arith; slot = λ p lt. refl }
 
 pub abandoning-next : (setup : Setup) (w v : LinkRecord) (n : ℕ) → 0 < sent_of v n → IsAbandoning setup w v → IsAbandoning setup w (after_abandon v n)
 abandoning-next setup w v n pos g = record {
-  sane = sane-abandoned setup v n g.sane pos;
+  consistent = consistent-abandoned setup v n g.consistent pos;
   first = setup-same (is_partially_sent v n) ∙ g.first;
   taken = taken-same (is_partially_sent v n) ∙ g.taken;
   more = omega (arith, g.more, slots-more (is_partially_sent v n));
@@ -279,7 +280,7 @@ late-in w now q s t (c ∷ cs) from (suc count) low high e =
     test =
         ap (λ x. not x.chunk.abandoned && (is_past now x.chunk.deadline && (not x.chunk.acknowledged || waits x.chunk.message q.pending))) head
         ∙ ap (λ b. not (message_at w n).abandoned && (is_past_deadline w now n && (not (slot_at w from).acknowledged || b)))
-        (waits-half w n s (slot-sent (shape w) from s (omega (arith, high))) q t)
+        (waits-partial w n s (slot-sent (shape w) from s (omega (arith, high))) q t)
         ∙ swap (message_at w n).abandoned (is_past_deadline w now n) (not (slot_at w from).acknowledged || is_partially_sent w n)
         ∙ ap (λ b. b && (is_past_deadline w now n && (not (message_at w n).abandoned && (not (slot_at w from).acknowledged || is_partially_sent w n))))
         (sym in-flight)

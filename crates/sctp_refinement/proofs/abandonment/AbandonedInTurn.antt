@@ -23,14 +23,14 @@ use Rattle.sctp_model.specs.Reply as R
 use Rattle.sctp_model.specs.Laws.{IsSetup}
 use Rattle.sctp_model.proofs.sender.Shape.{shape}
 use Rattle.sctp_model.proofs.sender.Sender.{Sender}
-use Rattle.sctp_model.proofs.sender.SenderSteps.{half-one}
-use Rattle.sctp_model.proofs.sender.SenderRun.{Sane}
+use Rattle.sctp_model.proofs.sender.SenderSteps.{partial-one}
+use Rattle.sctp_model.proofs.sender.SenderRun.{Consistent}
 use Rattle.sctp_model.proofs.sender.Fronts.{slot-sent}
 use Rattle.sctp_model.proofs.sender.Few.{few}
 use Rattle.sctp_refinement.specs.InTurn.{message_of_tsn, abandoned_tsn}
 use Rattle.sctp_refinement.specs.Refines.{RefinesOutbound}
 use Rattle.sctp_refinement.proofs.abandonment.AbandonedEvents.{IsAbandoning, AllInFlight, abandoning-first, abandoning-next, late-tsns, late-in_flight}
-use Rattle.sctp_refinement.proofs.abandonment.AbandonedLate.{abandoned-again, dead-then, half-still}
+use Rattle.sctp_refinement.proofs.abandonment.AbandonedLate.{abandoned-again, dead-then, partial-still}
 use Rattle.sctp_refinement.proofs.abandonment.AbandonedLink.{place-back}
 use Rattle.sctp_refinement.proofs.abandonment.Released.{balance-in, released-abandoned}
 
@@ -49,7 +49,7 @@ again-all w n (k ∷ ns) s e = by (is_partially_sent w k) refl (again-all w n ns
         → fold after_abandon (after_abandon w n) (if b then k ∷ filter (is_partially_sent w) ns else filter (is_partially_sent w) ns) ≡ after_abandon w n
     by false f h = h
     by true f h =
-        let same : n ≡ k = half-one (shape w) n k s e f in
+        let same : n ≡ k = partial-one (shape w) n k s e f in
         ap (λ v. fold after_abandon v (filter (is_partially_sent w) ns)) (ap (after_abandon (after_abandon w n)) (sym same) ∙ twice) ∙ h
 
 pub first-is : (w : LinkRecord) (ts : List ℕ) → Sender (shape w) → abandoned_tsn w (find (λ t. is_partially_sent w (message_of_tsn w t)) ts)
@@ -103,10 +103,10 @@ each-of q (x ∷ ts) zero d a lt = (both (q x) (list_all q ts) a).0
 each-of q (x ∷ ts) (suc j) d a lt = each-of q ts j d (both (q x) (list_all q ts) a).1 (omega (arith, lt))
 
 -- none of them is partially sent then
-pub none-half : (w : LinkRecord) (ts : List ℕ) (o : Option ℕ) → Sender (shape w) → o ≡ find (λ t. is_partially_sent w (message_of_tsn w t)) ts → (j d : ℕ)
+pub none-partial : (w : LinkRecord) (ts : List ℕ) (o : Option ℕ) → Sender (shape w) → o ≡ find (λ t. is_partially_sent w (message_of_tsn w t)) ts → (j d : ℕ)
     → j < length ts → is_partially_sent (abandoned_tsn w o) (message_of_tsn w (get_or ts j d)) ≡ false
-none-half w ts None s e j d lt = find-none (λ t. is_partially_sent w (message_of_tsn w t)) ts (sym e) j d lt
-none-half w ts (Some t) s e j d lt = half-still w n k ∙ by (is_partially_sent w k) refl
+none-partial w ts None s e j d lt = find-none (λ t. is_partially_sent w (message_of_tsn w t)) ts (sym e) j d lt
+none-partial w ts (Some t) s e j d lt = partial-still w n k ∙ by (is_partially_sent w k) refl
   where
     n : ℕ
     n = message_of_tsn w t
@@ -116,7 +116,7 @@ none-half w ts (Some t) s e j d lt = half-still w n k ∙ by (is_partially_sent 
 
     by : (b : Bool) → is_partially_sent w k ≡ b → (b && not (k == n)) ≡ false
     by false f = refl
-    by true f = ap not (let z : k ≡ n = half-one (shape w) k n s f (find-yes (λ t. is_partially_sent w (message_of_tsn w t)) ts t (sym e)) in
+    by true f = ap not (let z : k ≡ n = partial-one (shape w) k n s f (find-yes (λ t. is_partially_sent w (message_of_tsn w t)) ts t (sym e)) in
         ap (λ i. k == i) (sym z) ∙ same-yes k)
 
 -- ## In turn
@@ -127,12 +127,12 @@ pub record IsTurn (w v : LinkRecord) : Type 0 where
   pub abandoning : IsAbandoning w.setup w v
   pub more : in_all w (released_bytes w) ≤ in_all v (released_bytes v)
 
-pub turn-first : (w : LinkRecord) → IsSetup w.setup → Sane w.setup w → IsTurn w w
+pub turn-first : (w : LinkRecord) → IsSetup w.setup → Consistent w.setup w → IsTurn w w
 turn-first w is g = record { setup = is; abandoning = abandoning-first w.setup w g; more = omega arith }
 
 -- no more is released than was written
 pub turn-written : (w v : LinkRecord) → IsTurn w v → in_all v (released_bytes v) ≤ in_all v (written_bytes v)
-turn-written w v t = omega (arith, balance-in w.setup v t.setup t.abandoning.sane)
+turn-written w v t = omega (arith, balance-in w.setup v t.setup t.abandoning.consistent)
 
 -- one more
 module _ (w v : LinkRecord) (t : ℕ) (turn : IsTurn w v) (flies : is_in_flight w (place_of w t) ≡ true) where
@@ -161,7 +161,7 @@ module _ (w v : LinkRecord) (t : ℕ) (turn : IsTurn w v) (flies : is_in_flight 
   high' = omega (arith, high, turn.abandoning.more)
 
   sent : 0 < sent_of v n
-  sent = subst (λ k. 0 < sent_of v k) message-here (slot-sent (shape v) p turn.abandoning.sane.sender high')
+  sent = subst (λ k. 0 < sent_of v k) message-here (slot-sent (shape v) p turn.abandoning.consistent.sender high')
 
   -- it is an Abandon that is accepted
   pub turn-accepted : refusal_of v (E.Abandon t) ≡ None
@@ -181,22 +181,22 @@ module _ (w v : LinkRecord) (t : ℕ) (turn : IsTurn w v) (flies : is_in_flight 
   turn-next = record {
     setup = turn.setup;
     abandoning = abandoning-next w.setup w v n sent turn.abandoning;
-    more = omega (arith, turn.more, released-abandoned w.setup v n turn.setup turn.abandoning.sane sent);
+    more = omega (arith, turn.more, released-abandoned w.setup v n turn.setup turn.abandoning.consistent sent);
   }
 
   -- the bytes add up
   pub turn-sum : growth w v + growth v (after_abandon v n) ≡ growth w (after_abandon v n)
-  turn-sum = omega (arith, turn.more, released-abandoned w.setup v n turn.setup turn.abandoning.sane sent)
+  turn-sum = omega (arith, turn.more, released-abandoned w.setup v n turn.setup turn.abandoning.consistent sent)
 
 -- after the partially sent one, if any
-pub turn-given : (w : LinkRecord) (ts : List ℕ) (o : Option ℕ) → IsSetup w.setup → Sane w.setup w → list_all (λ t. is_in_flight w (place_of w t)) ts ≡ true
-    → o ≡ find (λ t. is_partially_sent w (message_of_tsn w t)) ts → IsTurn w (abandoned_tsn w o)
+pub turn-given : (w : LinkRecord) (ts : List ℕ) (o : Option ℕ) → IsSetup w.setup → Consistent w.setup w
+    → list_all (λ t. is_in_flight w (place_of w t)) ts ≡ true → o ≡ find (λ t. is_partially_sent w (message_of_tsn w t)) ts → IsTurn w (abandoned_tsn w o)
 turn-given w ts None is g all e = turn-first w is g
 turn-given w ts (Some t) is g all e =
     turn-next w w t (turn-first w is g) (find-among (λ t. is_partially_sent w (message_of_tsn w t)) (λ t. is_in_flight w (place_of w t)) ts t all (sym e))
 
-pub half-next : (v : LinkRecord) (n k : ℕ) → is_partially_sent v k ≡ false → is_partially_sent (after_abandon v n) k ≡ false
-half-next v n k h = half-still v n k ∙ ap (λ b. b && not (k == n)) h
+pub partial-next : (v : LinkRecord) (n k : ℕ) → is_partially_sent v k ≡ false → is_partially_sent (after_abandon v n) k ≡ false
+partial-next v n k h = partial-still v n k ∙ ap (λ b. b && not (k == n)) h
 
 -- record v is record w after so many of these TSNs, and so many bytes have left
 pub record GivesInTurn (w v : LinkRecord) (o : Option ℕ) (ts : List ℕ) (count bytes : ℕ) : Type 0 where
@@ -206,9 +206,9 @@ pub record GivesInTurn (w v : LinkRecord) (o : Option ℕ) (ts : List ℕ) (coun
   pub complete : (j d : ℕ) → j < length ts → is_partially_sent v (message_of_tsn w (get_or ts j d)) ≡ false
 
 module _ (w : LinkRecord) (ts : List ℕ) (o : Option ℕ) (all : list_all (λ t. is_in_flight w (place_of w t)) ts ≡ true) where
-  pub begins : (bytes : ℕ) → IsSetup w.setup → Sane w.setup w → o ≡ find (λ t. is_partially_sent w (message_of_tsn w t)) ts
+  pub begins : (bytes : ℕ) → IsSetup w.setup → Consistent w.setup w → o ≡ find (λ t. is_partially_sent w (message_of_tsn w t)) ts
       → bytes ≡ growth w (abandoned_tsn w o) → GivesInTurn w (abandoned_tsn w o) o ts 0 bytes
-  begins bytes is g e b = record { turn = turn-given w ts o is g all e; is = refl; bytes_are = b; complete = none-half w ts o g.sender e }
+  begins bytes is g e b = record { turn = turn-given w ts o is g all e; is = refl; bytes_are = b; complete = none-partial w ts o g.sender e }
 
   module _ (v : LinkRecord) (count bytes t : ℕ) (i : GivesInTurn w v o ts count bytes) (lt : count < length ts) (t_is : t ≡ get_or ts count t) where
     flies : is_in_flight w (place_of w t) ≡ true
@@ -230,7 +230,7 @@ module _ (w : LinkRecord) (ts : List ℕ) (o : Option ℕ) (all : list_all (λ t
               ∙ sym (ap (fold after_abandon (abandoned_tsn w o)) (ap (map (message_of_tsn w)) (taken ∙ ap (λ k. take count ts ++ k ∷ []) (sym t_is))
               ∙ map-append (message_of_tsn w) (take count ts) (t ∷ [])));
           bytes_are = omega (arith, i.bytes_are, b, ap (growth v) here, turn-sum w v t i.turn flies);
-          complete = λ j d less. half-next v n (message_of_tsn w (get_or ts j d)) (i.complete j d less);
+          complete = λ j d less. partial-next v n (message_of_tsn w (get_or ts j d)) (i.complete j d less);
         } in
         subst (λ r. GivesInTurn w r o ts (count + 1) (bytes + more)) (sym here) next
       where
@@ -254,7 +254,7 @@ messages-back w [] first short a = refl
 messages-back w (p ∷ ps) first short a = ap (λ k. message_of w k ∷ map (message_of_tsn w) (map (tsn_of w) ps))
     (place-back w p first (omega (arith, a.1, short))) ∙ ap (λ l. message_of w p ∷ l) (messages-back w ps first short a.2)
 
-module _ (w : LinkRecord) (now : ℕ) (q : Outbound) (ts : List ℕ) (is : IsSetup w.setup) (g : Sane w.setup w) (made : w.taken ≤ length w.slots)
+module _ (w : LinkRecord) (now : ℕ) (q : Outbound) (ts : List ℕ) (is : IsSetup w.setup) (g : Consistent w.setup w) (made : w.taken ≤ length w.slots)
     (t : RefinesOutbound w q) (listed : ts ≡ late_tsns now q) where
   here : ts ≡ map (tsn_of w) (late_slots w now)
   here = listed ∙ late-tsns w now q g.sender made t

@@ -5,14 +5,14 @@ use Rattle.sctp_list_lemmas.specs.Lists.{change_at}
 use Rattle.sctp_model.specs.LinkRecord.{LinkRecord, Message}
 use Rattle.sctp_model.specs.Messages.{message_at, no_message, fragment_count, sent_of, is_partially_sent}
 use Rattle.sctp_model.specs.Changes.{after_abandon, with_slot, message_changed, mark_abandoned}
-use Rattle.sctp_refinement.proofs.abandonment.Abandoned.{marked, abandoned-then, half-then}
+use Rattle.sctp_refinement.proofs.abandonment.Abandoned.{marked, abandoned-then, partial-then}
 use Rattle.sctp_refinement.proofs.abandonment.NothingHeld.{sent-same}
 
 -- ## Once more
 
 -- a message that is abandoned is not partially sent
-pub dead-half : (w : LinkRecord) (n : ℕ) → (message_at w n).abandoned ≡ true → is_partially_sent w n ≡ false
-dead-half w n e = by (nat_lt 0 (sent_of w n)) (nat_lt (sent_of w n) (fragment_count w n)) (message_at w n).abandoned e
+pub dead-partial : (w : LinkRecord) (n : ℕ) → (message_at w n).abandoned ≡ true → is_partially_sent w n ≡ false
+dead-partial w n e = by (nat_lt 0 (sent_of w n)) (nat_lt (sent_of w n) (fragment_count w n)) (message_at w n).abandoned e
   where
     by : (a b c : Bool) → c ≡ true → (a && (b && not c)) ≡ false
     by a b false e = cc
@@ -28,7 +28,7 @@ marked-again (suc n) (m ∷ ms) e = ap (λ l. m ∷ l) (marked-again n ms e)
 -- abandoning it again does nothing
 pub abandoned-again : (w : LinkRecord) (n : ℕ) → (message_at w n).abandoned ≡ true → after_abandon w n ≡ w
 abandoned-again w n e =
-    ap (λ b. message_changed (if b then with_slot w n true else w) n mark_abandoned) (dead-half w n e)
+    ap (λ b. message_changed (if b then with_slot w n true else w) n mark_abandoned) (dead-partial w n e)
     ∙ ap (λ l. let v : LinkRecord = record w { messages = l } in v) (marked-again n w.messages e)
 
 -- ## What an abandonment leaves
@@ -50,10 +50,10 @@ messages-then w n = by (is_partially_sent w n)
 pub dead-then : (w : LinkRecord) (n k : ℕ) → (message_at (after_abandon w n) k).abandoned ≡ ((k == n) || (message_at w k).abandoned)
 dead-then w n k = ap (λ l. (get_or l k no_message).abandoned) (messages-then w n) ∙ abandoned-then w n k
 
-pub half-still : (w : LinkRecord) (n k : ℕ) → is_partially_sent (after_abandon w n) k ≡ (is_partially_sent w k && not (k == n))
-half-still w n k = by (is_partially_sent w n)
+pub partial-still : (w : LinkRecord) (n k : ℕ) → is_partially_sent (after_abandon w n) k ≡ (is_partially_sent w k && not (k == n))
+partial-still w n k = by (is_partially_sent w n)
   where
     by : (b : Bool) → is_partially_sent (message_changed (if b then with_slot w n true else w) n mark_abandoned) k ≡ (is_partially_sent w k && not (k == n))
     by true = ap (λ c. nat_lt 0 c && (nat_lt c (fragment_count (marked w n) k) && not (message_at (marked w n) k).abandoned)) (sent-same w n k)
-        ∙ half-then w n k
-    by false = half-then w n k
+        ∙ partial-then w n k
+    by false = partial-then w n k

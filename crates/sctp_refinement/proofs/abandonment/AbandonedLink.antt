@@ -12,11 +12,12 @@ use Rattle.sctp_refinement.proofs.abandonment.AbandonedLate.{messages-then}
 -- ## What the link writes
 
 -- the terminal chunk, where there is one
-abbrev pub mark_of : LinkRecord → ℕ → List Slot
-mark_of w n =
+abbrev pub terminal_of : LinkRecord → ℕ → List Slot
+terminal_of w n =
     if is_partially_sent w n then record { message = n; fragment = sent_of w n; is_terminal_chunk = true; arrived = false; acknowledged = false } ∷ [] else []
 
-pub abandoned-is : (w : LinkRecord) (n : ℕ) → after_abandon w n ≡ record w { messages = change_at mark_abandoned n w.messages; slots = w.slots ++ mark_of w n }
+pub abandoned-is : (w : LinkRecord) (n : ℕ)
+    → after_abandon w n ≡ record w { messages = change_at mark_abandoned n w.messages; slots = w.slots ++ terminal_of w n }
 abandoned-is w n = by (is_partially_sent w n)
   where
     by : (b : Bool) → message_changed (if b then with_slot w n true else w) n mark_abandoned ≡ record w {

@@ -10,7 +10,7 @@ use Rattle.sctp_outbound.specs.outbound_queue.OutboundQueue.{Outbound, passing, 
 use Rattle.sctp_outbound.specs.outbound_queue.OutboundQueue as queue
 use Rattle.sctp_model.specs.LinkRecord.{LinkRecord, Setup}
 use Rattle.sctp_model.specs.Messages.{message_at, message_of, front, sent_of, is_in_flight, tsn_of, place_of}
-use Rattle.sctp_model.proofs.sender.SenderRun.{Sane}
+use Rattle.sctp_model.proofs.sender.SenderRun.{Consistent}
 use Rattle.sctp_model.proofs.sender.Few.{few}
 use Rattle.sctp_refinement.specs.Refines.{waiting_at, RefinesOutbound}
 use Rattle.sctp_refinement.proofs.sending.InFlight.{Found, found-in}
@@ -20,7 +20,7 @@ use Rattle.sctp_list_lemmas.proofs.Cases.{some-same}
 
 -- ## The chunk of a TSN in flight
 
-module _ (setup : Setup) (w : LinkRecord) (tsn : ℕ) (q : Outbound) (g : Sane setup w) (first : w.setup.first < 2 ^ 32) (fits : tsn < 2 ^ 32)
+module _ (setup : Setup) (w : LinkRecord) (tsn : ℕ) (q : Outbound) (g : Consistent setup w) (first : w.setup.first < 2 ^ 32) (fits : tsn < 2 ^ 32)
     (flies : is_in_flight w (place_of w tsn) ≡ true) (t : RefinesOutbound w q) where
   abbrev p : ℕ
   p = place_of w tsn

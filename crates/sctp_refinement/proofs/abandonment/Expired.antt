@@ -82,7 +82,7 @@ module _ (setup : Setup) (w : LinkRecord) (n : ℕ) (g : Going setup w) (is : fr
   v = message_changed w n mark_expired
 
   f : FrontIs w n
-  f = front_is w g.sane.sender g.turns n is
+  f = front_is w g.consistent.sender g.turns n is
 
   none-sent : sent_of w n ≡ 0
   none-sent = same-is (sent_of w n) 0 (both (sent_of w n == 0) (not (message_at w n).expired) un).0
@@ -177,7 +177,7 @@ module _ (setup : Setup) (w : LinkRecord) (n : ℕ) (g : Going setup w) (is : fr
   -- what was sent keeps its index
   pub index-sent : (k : ℕ) → 0 < sent_of w k → (message_at w k).ordered ≡ true
       → ordered_before v (message_at w k).stream k ≡ ordered_before w (message_at w k).stream k
-  index-sent k pos o = ap (λ t. ordered_before v t k) (sym (stream-same k)) ∙ (quiet-expired setup w n g.sane un).grows.same_index k pos o
+  index-sent k pos o = ap (λ t. ordered_before v t k) (sym (stream-same k)) ∙ (quiet-expired setup w n g.consistent un).grows.same_index k pos o
 
   sent-differs : (k : ℕ) → 0 < sent_of w k → k ≡ n → ⊥
   sent-differs k pos e = omega (arith, pos, none-sent, ap (sent_of w) e)
@@ -312,25 +312,25 @@ module _ (setup : Setup) (w : LinkRecord) (n : ℕ) (g : Going setup w) (is : fr
       sym (waiting_of-alike w v k (alike-by k ne (λ o. absurd (not_both (sym (negated (message_at w k).ordered p.0) ∙ o)))) refl))
 
   -- nothing is partially sent before or after
-  half-none : (k : ℕ) → k < length w.messages → is_partially_sent w k ≡ false
-  half-none k lt = by f.selected
+  partial-none : (k : ℕ) → k < length w.messages → is_partially_sent w k ≡ false
+  partial-none k lt = by f.selected
     where
       by : (is_partially_sent w n ≡ true) ⊎ ((sent_of w n ≡ 0) × ((j : ℕ) → j < length w.messages → is_partially_sent w j ≡ false))
           → is_partially_sent w k ≡ false
       by (inl h) = absurd (not_both (sym (ap (λ c. nat_lt 0 c && (nat_lt c (fragment_count w n) && not (message_at w n).abandoned)) none-sent) ∙ h))
       by (inr r) = r.1 k lt
 
-  half-v : (k : ℕ) → is_partially_sent v k ≡ is_partially_sent w k
-  half-v k = changed-keeps mark_expired (λ x. nat_lt 0 (sent_of w k)
+  partial-v : (k : ℕ) → is_partially_sent v k ≡ is_partially_sent w k
+  partial-v k = changed-keeps mark_expired (λ x. nat_lt 0 (sent_of w k)
       && (nat_lt (sent_of w k) (length (pieces (length x.bytes) w.setup.size x.bytes)) && not x.abandoned)) (λ x. refl) n k w.messages no_message
 
   selected-v : selected_of v (first_of (messages_where v (is_partially_sent v))) ≡ None
   selected-v =
       ap (λ l. selected_of v (first_of l))
-      (kept-none (is_partially_sent v) 0 (length v.messages) (λ k a b. half-v k ∙ half-none k (omega (arith, b, len-same))))
+      (kept-none (is_partially_sent v) 0 (length v.messages) (λ k a b. partial-v k ∙ partial-none k (omega (arith, b, len-same))))
 
   selected-w : selected_of w (first_of (messages_where w (is_partially_sent w))) ≡ None
-  selected-w = ap (λ l. selected_of w (first_of l)) (kept-none (is_partially_sent w) 0 (length w.messages) (λ k a b. half-none k (omega (arith, b))))
+  selected-w = ap (λ l. selected_of w (first_of l)) (kept-none (is_partially_sent w) 0 (length w.messages) (λ k a b. partial-none k (omega (arith, b))))
 
   -- what the queue makes of its pending part
   abbrev pub pending_then : Bool → Pending → Pending
@@ -354,7 +354,7 @@ module _ (setup : Setup) (w : LinkRecord) (n : ℕ) (g : Going setup w) (is : fr
   pub refines-expired : (q : Outbound) → RefinesOutbound w q → RefinesOutbound v (record q { pending = pending_then (message_at w n).ordered q.pending })
   refines-expired q t = record {
     pending = pending-expired q.pending t.pending;
-    in_flight = t.in_flight ∙ sym (sendings-alike w v refl refl (λ p lt. (refl, alike-sent (message_of w p) (slot-sent (shape w) p g.sane.sender lt))));
+    in_flight = t.in_flight ∙ sym (sendings-alike w v refl refl (λ p lt. (refl, alike-sent (message_of w p) (slot-sent (shape w) p g.consistent.sender lt))));
     next = t.next ∙ sym len-same;
     unstarted = λ k lt. changed-keeps mark_expired (λ x. is_some x.started) (λ x. refl) n k w.messages no_message ∙ t.unstarted k (omega (arith, lt, len-same));
     started = omega (arith, t.started, len-same);
@@ -387,7 +387,7 @@ test-same : (setup : Setup) (w : LinkRecord) (n now : ℕ) → 0 < w.setup.size 
 test-same setup w n now size g is = by (sent_of w n == 0) refl
   where
     t : FrontIs w n
-    t = front_is w g.sane.sender g.turns n is
+    t = front_is w g.consistent.sender g.turns n is
 
     past_deadline : (not (is_dcep (message_at w n).ppi) && is_past now (deadline_of w n)) ≡ is_past_deadline w now n
     past_deadline = past_deadline-same now (message_at w n).ppi (is_timed (message_at w n).reliability)
@@ -395,7 +395,7 @@ test-same setup w n now size g is = by (sent_of w n == 0) refl
 
     some : sent_of w n ≡ 0 → (length (fragment_at w n (sent_of w n)) == 0) ≡ false
     some z = ap (λ i. length (fragment_at w n i) == 0) z
-        ∙ first-piece (length (message_at w n).bytes) w.setup.size (message_at w n).bytes size (g.sane.sender.some n t.takes.made)
+        ∙ first-piece (length (message_at w n).bytes) w.setup.size (message_at w n).bytes size (g.consistent.sender.some n t.takes.made)
 
     by : (b : Bool) → (sent_of w n == 0) ≡ b
         → (b && (not (length (fragment_at w n (sent_of w n)) == 0) && (not (is_dcep (message_at w n).ppi) && is_past now (deadline_of w n))))

@@ -75,7 +75,7 @@ reply-expire setup h is run now q r a t moved answer bytes = by a (tells setup w
     g = going-run setup h run
 
     size : 0 < (record_of setup h).setup.size
-    size = size-some setup (record_of setup h) is g.sane
+    size = size-some setup (record_of setup h) is g.consistent
 
     u : RefinesOutbound (after (record_of setup h) (E.Expire now)) r
     u = subst (RefinesOutbound (after (record_of setup h) (E.Expire now))) (sym moved) (refines-expire setup (record_of setup h) now q size g t)
@@ -120,5 +120,5 @@ bytes-expire setup h is run now n q r a t moved bytes e =
     let w = record_of setup h in
     let g = going-run setup h run in
     let u : RefinesOutbound (after w (E.Expire now)) r = subst (RefinesOutbound (after w (E.Expire now))) (sym moved)
-    (refines-expire setup w now q (size-some setup w is g.sane) g t) in
-    omega (arith, growth-by_queues setup h is run (E.Expire now) refl refl q r t u, bytes, growth-expire setup w now n g.sane is e)
+    (refines-expire setup w now q (size-some setup w is g.consistent) g t) in
+    omega (arith, growth-by_queues setup h is run (E.Expire now) refl refl q r t u, bytes, growth-expire setup w now n g.consistent is e)

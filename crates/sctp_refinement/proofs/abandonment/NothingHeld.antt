@@ -32,11 +32,11 @@ module _ (w : LinkRecord) (n : ℕ) where
   abbrev v : LinkRecord
   v = with_slot w n true
 
-  abbrev mark : Slot
-  mark = record { message = n; fragment = sent_of w n; is_terminal_chunk = true; arrived = false; acknowledged = false }
+  abbrev terminal : Slot
+  terminal = record { message = n; fragment = sent_of w n; is_terminal_chunk = true; arrived = false; acknowledged = false }
 
   slot-old : (p : ℕ) → p < length w.slots → slot_at v p ≡ slot_at w p
-  slot-old p lt = get-snoc_old w.slots mark p no_slot (λ e. absurd (omega arith))
+  slot-old p lt = get-snoc_old w.slots terminal p no_slot (λ e. absurd (omega arith))
 
   pub sent-same : (k : ℕ) → sent_of v k ≡ sent_of w k
   sent-same k = ap (λ x. sent x k) (Shapes.shape-slot w n true) ∙ sent-slotted (shape w) n k true ∙ none (n == k)
@@ -59,12 +59,12 @@ module _ (w : LinkRecord) (n : ℕ) where
       t u p = has_fragment u k p && not (slot_at u p).acknowledged
 
       last : t v (length w.slots) ≡ false
-      last = ap (λ x. ((x.message == k) && not x.is_terminal_chunk) && not x.acknowledged) (get-snoc_new w.slots mark no_slot)
+      last = ap (λ x. ((x.message == k) && not x.is_terminal_chunk) && not x.acknowledged) (get-snoc_new w.slots terminal no_slot)
           ∙ ap (λ b. b && true) (and-none (n == k))
 
       slots : total_over (f v) (numbers_where (t v) 0 (length v.slots)) ≡ total_over (f w) (numbers_where (t w) 0 (length w.slots))
       slots =
-          ap (λ c. total_over (f v) (numbers_where (t v) 0 c)) (length-append w.slots (mark ∷ []) ∙ add-one (length w.slots))
+          ap (λ c. total_over (f v) (numbers_where (t v) 0 c)) (length-append w.slots (terminal ∷ []) ∙ add-one (length w.slots))
           ∙ ap (total_over (f v)) (kept-snoc_out (t v) 0 (length w.slots) (length w.slots) (omega arith) last)
           ∙ total-kept_same (f v) (f w) (t v) 0 (length w.slots) (λ p a b. ap (λ x. length (Messages.fragment_at w k x.fragment)) (slot-old p (omega arith)))
           ∙ ap (total_over (f w)) (kept-same (t v) (t w) 0 (length w.slots)

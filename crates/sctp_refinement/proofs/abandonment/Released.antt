@@ -15,13 +15,13 @@ use Rattle.sctp_model.specs.Changes.{after_abandon, after_expire, expiring, fron
 use Rattle.sctp_model.specs.Steps.{History, record_of, IsRun, refusal_of, reply_to, after}
 use Rattle.sctp_model.specs.Laws.{IsSetup}
 use Rattle.sctp_model.proofs.sender.Shape.{shape, sent}
-use Rattle.sctp_model.proofs.sender.SenderSteps.{of-half}
-use Rattle.sctp_model.proofs.sender.SenderRun.{Sane, sane-run, sane-after, sane-abandoned, in-flight-sent, unless-holds}
+use Rattle.sctp_model.proofs.sender.SenderSteps.{of-partial}
+use Rattle.sctp_model.proofs.sender.SenderRun.{Consistent, consistent-run, consistent-after, consistent-abandoned, in-flight-sent, unless-holds}
 use Rattle.sctp_model.proofs.sender.Slots.{sent-made}
 use Rattle.sctp_model.proofs.sender.Fronts.{front-takes}
 use Rattle.sctp_model.proofs.sender.Moves
 use Rattle.sctp_model.proofs.acknowledgement.Bytes.{balance, balances, size-some}
-use Rattle.sctp_model.proofs.acknowledgement.BytesTold.{count-abandoned}
+use Rattle.sctp_model.proofs.acknowledgement.BytesAnswered.{count-abandoned}
 use Rattle.sctp_refinement.specs.Amount.{amount, held_bytes}
 use Rattle.sctp_refinement.specs.Counts.{is_write}
 use Rattle.sctp_refinement.specs.Refines.{RefinesOutbound}
@@ -30,7 +30,7 @@ use Rattle.sctp_refinement.proofs.amounts.InFlightBytes.{in-flight-bytes}
 use Rattle.sctp_refinement.proofs.amounts.MessageSums.{sum-same}
 use Rattle.sctp_refinement.proofs.amounts.PendingBytes.{pending-bytes}
 use Rattle.sctp_refinement.proofs.amounts.StreamCounters.{written-same}
-use Rattle.sctp_refinement.proofs.amounts.ToldSums.{AsTold, told-after, read-quiet}
+use Rattle.sctp_refinement.proofs.amounts.AnsweredSums.{AsAnswered, answered-after, read-quiet}
 
 -- ## By what the queues hold
 
@@ -46,7 +46,7 @@ growth-by_queues setup h is run e ok a q r t u =
       arith,
       (balances setup h is run).0,
       (balances setup longer is more).0,
-      written-same setup w e (sane-run setup h run) a,
+      written-same setup w e (consistent-run setup h run) a,
       pending-bytes w q.pending t.pending,
       in-flight-bytes setup h is run q t,
       pending-bytes (after w e) r.pending u.pending,
@@ -55,25 +55,25 @@ growth-by_queues setup h is run e ok a q r t u =
 
 -- ## By the record
 
-pub balance-in : (setup : Setup) (w : LinkRecord) → IsSetup setup → Sane setup w
+pub balance-in : (setup : Setup) (w : LinkRecord) → IsSetup setup → Consistent setup w
     → in_all w (held_bytes w) + in_all w (released_bytes w) ≡ in_all w (written_bytes w)
 balance-in setup w is g = total-plus (held_bytes w) (released_bytes w) (written_bytes w) always 0 (length w.messages)
     (λ n a b. balance w n g.sender (size-some setup w is g) (omega arith))
 
-written-as : (w v : LinkRecord) → AsTold w v → in_all v (written_bytes v) ≡ in_all w (written_bytes w)
+written-as : (w v : LinkRecord) → AsAnswered w v → in_all v (written_bytes v) ≡ in_all w (written_bytes w)
 written-as w v t = sum-same w v (λ m. true) (λ m. length m.bytes) t.count (λ n lt. refl) (λ n lt. ap length (t.bytes n lt))
 
 -- abandoning a message releases what it holds
-pub released-abandoned : (setup : Setup) (w : LinkRecord) (n : ℕ) → IsSetup setup → Sane setup w → 0 < sent (shape w) n
+pub released-abandoned : (setup : Setup) (w : LinkRecord) (n : ℕ) → IsSetup setup → Consistent setup w → 0 < sent (shape w) n
     → in_all (after_abandon w n) (released_bytes (after_abandon w n)) ≡ in_all w (released_bytes w) + held_bytes w n
 released-abandoned setup w n is g pos =
     let v = after_abandon w n in
-    let told = (read-quiet w v (count-abandoned w n) (Moves.quiet-abandoned setup w n g)).told in
+    let answered = (read-quiet w v (count-abandoned w n) (Moves.quiet-abandoned setup w n g)).answered in
     omega (
       arith,
       balance-in setup w is g,
-      balance-in setup v is (sane-abandoned setup w n g pos),
-      written-as w v told,
+      balance-in setup v is (consistent-abandoned setup w n g pos),
+      written-as w v answered,
       held-in-abandoned w n (sent-made (shape w) n g.sender pos),
     )
 
@@ -88,10 +88,10 @@ chosen w p (Some k) n e = by (p k) refl e
 
 -- ## Each event
 
-made-front : (setup : Setup) (w : LinkRecord) (p : ℕ → Bool) (n : ℕ) → Sane setup w → front_if w p (front w) ≡ Some n → n < length w.messages
+made-front : (setup : Setup) (w : LinkRecord) (p : ℕ → Bool) (n : ℕ) → Consistent setup w → front_if w p (front w) ≡ Some n → n < length w.messages
 made-front setup w p n g e = (front-takes (shape w) n g.sender (chosen w p (front w) n e).0).made
 
-module _ (setup : Setup) (w : LinkRecord) (now n : ℕ) (g : Sane setup w) where
+module _ (setup : Setup) (w : LinkRecord) (now n : ℕ) (g : Consistent setup w) where
   -- an Expire takes what the front holds from its stream
   pub amount-expire : expiring w now ≡ Some n → (t : ℕ)
       → amount (after w (E.Expire now)) t + (if (message_at w n).stream == t then held_bytes w n else 0) ≡ amount w t
@@ -107,21 +107,21 @@ module _ (setup : Setup) (w : LinkRecord) (now n : ℕ) (g : Sane setup w) where
       omega (
         arith,
         balance-in setup w is g,
-        balance-in setup v is (sane-after setup w (E.Expire now) refl g),
-        written-as w v (told-after setup w (E.Expire now) g refl),
+        balance-in setup v is (consistent-after setup w (E.Expire now) refl g),
+        written-as w v (answered-after setup w (E.Expire now) g refl),
         held,
       )
 
   pub growth-tail : IsSetup setup → tailing w now ≡ Some n → growth w (after w (E.Tail now)) ≡ held_bytes w n
   growth-tail is e =
       let c = (chosen w (λ n. is_partially_sent w n && is_past_deadline w now n) (front w) n e).1 in
-      let half = (both (is_partially_sent w n) (is_past_deadline w now n) c).0 in
-      let r = released-abandoned setup w n is g (of-half (shape w) n half).some in
+      let partial = (both (is_partially_sent w n) (is_past_deadline w now n) c).0 in
+      let r = released-abandoned setup w n is g (of-partial (shape w) n partial).some in
       let z : growth w (after_abandon w n) ≡ held_bytes w n = omega (arith, r) in
       ap (λ o. growth w (after_tail w o)) e ∙ z
 
 -- an Abandon takes what the message of the TSN holds
-module _ (setup : Setup) (w : LinkRecord) (tsn : ℕ) (g : Sane setup w) (ok : refusal_of w (E.Abandon tsn) ≡ None) where
+module _ (setup : Setup) (w : LinkRecord) (tsn : ℕ) (g : Consistent setup w) (ok : refusal_of w (E.Abandon tsn) ≡ None) where
   abbrev gone : ℕ
   gone = message_of w (place_of w tsn)
 

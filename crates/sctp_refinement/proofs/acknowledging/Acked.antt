@@ -48,8 +48,8 @@ module _ (w : LinkRecord) (r : Report) where
   where-same : (t : ℕ → Bool) → waiting_where v t ≡ waiting_where w t
   where-same t = gathered-same (waiting_of v) (waiting_of w) t t 0 (length w.messages) (λ k a b. refl) (λ k a b e. waiting-same k)
 
-  half-same : messages_where v (is_partially_sent v) ≡ messages_where w (is_partially_sent w)
-  half-same = kept-same (is_partially_sent v) (is_partially_sent w) 0 (length w.messages)
+  partial-same : messages_where v (is_partially_sent v) ≡ messages_where w (is_partially_sent w)
+  partial-same = kept-same (is_partially_sent v) (is_partially_sent w) 0 (length w.messages)
       (λ k a b. ap (λ s. nat_lt 0 s && (nat_lt s (fragment_count w k) && not (message_at w k).abandoned)) (sent-same k))
 
   message-same : (p : ℕ) → message_of v p ≡ message_of w p
@@ -62,7 +62,7 @@ module _ (w : LinkRecord) (r : Report) where
     pending = record {
       ordered = t.pending.ordered ∙ sym (where-same (waits_ordered w));
       unordered = t.pending.unordered ∙ sym (where-same (waits_unordered w));
-      selected = t.pending.selected ∙ sym (ap (λ l. selected_of v (first_of l)) half-same ∙ same (messages_where w (is_partially_sent w)));
+      selected = t.pending.selected ∙ sym (ap (λ l. selected_of v (first_of l)) partial-same ∙ same (messages_where w (is_partially_sent w)));
     };
     in_flight = e ∙ sym sendings-taken;
     next = t.next;

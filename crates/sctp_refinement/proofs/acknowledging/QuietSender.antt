@@ -119,8 +119,8 @@ module _ (w v : LinkRecord) (s : SameToSender w v) where
       ∙ gathered-same (waiting_of v) (waiting_of w) (λ n. t (unread (message_at v n))) (λ n. t (unread (message_at w n))) 0 (length w.messages)
       (λ k a b. ap t (s.message k)) (λ k a b e. waiting_of-same k)
 
-  half-same : messages_where v (is_partially_sent v) ≡ messages_where w (is_partially_sent w)
-  half-same =
+  partial-same : messages_where v (is_partially_sent v) ≡ messages_where w (is_partially_sent w)
+  partial-same =
       ap (numbers_where (is_partially_sent v) 0) s.count
       ∙ kept-same (is_partially_sent v) (is_partially_sent w) 0 (length w.messages) (λ k a b.
       ap (λ c. nat_lt 0 c && (nat_lt c (fragment_count v k) && not (message_at v k).abandoned)) (sent-same k)
@@ -137,7 +137,8 @@ module _ (w v : LinkRecord) (s : SameToSender w v) where
     pending = record {
       ordered = t.pending.ordered ∙ sym (where-same (λ m. m.ordered && not (m.expired || m.abandoned)));
       unordered = t.pending.unordered ∙ sym (where-same (λ m. not m.ordered && not (m.expired || m.abandoned)));
-      selected = t.pending.selected ∙ sym (ap (λ l. selected_of v (first_of l)) half-same ∙ selected-same (first_of (messages_where w (is_partially_sent w))));
+      selected = t.pending.selected
+          ∙ sym (ap (λ l. selected_of v (first_of l)) partial-same ∙ selected-same (first_of (messages_where w (is_partially_sent w))));
     };
     in_flight = t.in_flight ∙ sym (ap (λ c. map (sending_at v) (numbers_from c (length v.slots - c))) s.taken
         ∙ ap (λ c. map (sending_at v) (numbers_from w.taken (c - w.taken))) s.slots

@@ -24,7 +24,7 @@ use Rattle.sctp_model.specs.Steps.{History, record_of, IsRun}
 use Rattle.sctp_model.specs.Laws.{IsSetup}
 use Rattle.sctp_model.proofs.sender.Shape.{shape}
 use Rattle.sctp_model.proofs.sender.Sender.{Sender}
-use Rattle.sctp_model.proofs.sender.SenderRun.{sane-run}
+use Rattle.sctp_model.proofs.sender.SenderRun.{consistent-run}
 use Rattle.sctp_model.proofs.sender.Fronts.{mark-abandoned, slot-sent}
 use Rattle.sctp_model.proofs.acknowledgement.Acknowledged.{acknowledged_is_reported}
 use Rattle.sctp_model.proofs.acknowledgement.Bytes.{balances}
@@ -48,11 +48,11 @@ payload-bytes w false p s lt =
     (mark-abandoned (shape w) p s lt)
   where
     by : (m x a : Bool) (bytes : List ℕ) → x ≡ false → (m ≡ true → a ≡ true) → length (if a then [] else bytes) ≡ (if m || (x || a) then 0 else length bytes)
-    by m true a bytes e marks = cc
-    by true false true bytes e marks = refl
-    by true false false bytes e marks = absurd (not_both (marks refl))
-    by false false true bytes e marks = refl
-    by false false false bytes e marks = refl
+    by m true a bytes e terminals = cc
+    by true false true bytes e terminals = refl
+    by true false false bytes e terminals = absurd (not_both (terminals refl))
+    by false false true bytes e terminals = refl
+    by false false false bytes e terminals = refl
 
 pub chunk-bytes : (w : LinkRecord) (acked : Bool) (p : ℕ) (c : ChunkPayloadData) → Sender (shape w) → p < length w.slots → sending_of c ≡ sending_by w acked p
     → length c.user_data ≡ (if acked then 0 else bytes_at w p)
@@ -143,7 +143,7 @@ pub in-flight-bytes : (setup : Setup) (h : History) → IsSetup setup → IsRun 
     → bytes_of q.inflight.chunks ≡ in_all (record_of setup h) (in_flight_bytes (record_of setup h))
 in-flight-bytes setup h is run q t =
     let w = record_of setup h in
-    let s = (sane-run setup h run).sender in
+    let s = (consistent-run setup h run).sender in
     bytes-unacked w (acknowledged_at w) q.inflight.chunks w.taken s (taken-run setup h is run) (taken-acknowledged setup h is run) (in-flight-first w q t)
     ∙ sym (in-flight-in w s)
 

@@ -17,7 +17,7 @@ use Rattle.sctp_model.specs.Messages.{message_at}
 use Rattle.sctp_model.specs.Steps.{History, record_of, IsRun, refusal_of, unless, fragments_accepted, fragments_in}
 use Rattle.sctp_model.specs.Log.{Shown, writes_in}
 use Rattle.sctp_model.specs.Laws.{IsSetup, shown_of}
-use Rattle.sctp_model.proofs.sender.SenderRun.{sane-run, unless-holds}
+use Rattle.sctp_model.proofs.sender.SenderRun.{consistent-run, unless-holds}
 use Rattle.sctp_model.proofs.sender.Written.{messages_are_writes}
 
 -- no longer than this
@@ -57,7 +57,7 @@ writes-short setup (entry ∷ older) run = step entry.0 entry.1 run.0 (writes-sh
     step (E.Write s ppi []) r ok ih = ih
     step (E.Write s ppi (b ∷ bs)) r ok ih =
         let last : Shown = (s, ppi, b ∷ bs) in
-        let one : short setup.largest last ≡ true = ap (λ x. nat_le (length (b ∷ bs)) x.largest) (sym (sane-run setup older run.1.1).setup_is)
+        let one : short setup.largest last ≡ true = ap (λ x. nat_le (length (b ∷ bs)) x.largest) (sym (consistent-run setup older run.1.1).setup_is)
         ∙ fits-write (record_of setup older) s ppi (b ∷ bs) ok in
         all-both (short setup.largest) (writes_in older) (last ∷ []) ih (and (short setup.largest last) true one refl)
     step (E.Open s) r ok ih = ih

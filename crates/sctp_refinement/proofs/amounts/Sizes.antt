@@ -30,7 +30,7 @@ use Rattle.sctp_model.specs.Queues.{set_of, is_unassembled}
 use Rattle.sctp_model.specs.Amounts
 use Rattle.sctp_model.proofs.sender.Shape.{shape}
 use Rattle.sctp_model.proofs.sender.Sender.{Sender}
-use Rattle.sctp_model.proofs.sender.SenderRun.{Sane}
+use Rattle.sctp_model.proofs.sender.SenderRun.{Consistent}
 use Rattle.sctp_model.proofs.acknowledgement.Bytes.{slots-bytes, fragments-bytes}
 use Rattle.sctp_refinement.specs.Holds.{has_come, reassembly_of}
 use Rattle.sctp_model.specs.Valid.{IsSpan, Valid, ValidUnassembled}
@@ -193,9 +193,9 @@ module _ (w : LinkRecord) (valid : Valid w) (n : ℕ) where
             let tsn : tsn_of w q ≡ following_tsn (tsn_of w p) = ap (λ c. c.tsn) (sym a.0.is) ∙ same-is y.tsn (following_tsn (tsn_of w p)) t in
             let next : q ≡ p + 1 = behind p q lt a.0.made tsn in
             let of : message_of w p ≡ n = Arrival.of_message w n p h in
-            let mark : (slot_at w p).is_terminal_chunk ≡ false =
+            let terminal : (slot_at w p).is_terminal_chunk ≡ false =
             negated (slot_at w p).is_terminal_chunk (both (message_of w p == n) (not (slot_at w p).is_terminal_chunk) h).1 in
-            let on = goes p lt mark (omega (arith, e, short, ap (fragment_count w) of)) in
+            let on = goes p lt terminal (omega (arith, e, short, ap (fragment_count w) of)) in
             let of' : message_of w q ≡ n = ap (message_of w) next ∙ on.same (omega (arith, next, a.0.made)) ∙ of in
             let mine : has_fragment w n q ≡ true = ap (λ m. has_fragment w m q) (sym of') ∙ Arrival.has-fragment w q a.0.fragment in
             let l = valid.laid n in
@@ -302,7 +302,7 @@ module _ (w : LinkRecord) (valid : Valid w) (n : ℕ) where
 
 -- ## What the queue asks
 
-module _ (setup : Setup) (w : LinkRecord) (p : ℕ) (q : ReassemblyState) (g : Sane setup w) (valid : Valid w) (more : ValidUnassembled w)
+module _ (setup : Setup) (w : LinkRecord) (p : ℕ) (q : ReassemblyState) (g : Consistent setup w) (valid : Valid w) (more : ValidUnassembled w)
     (goes : AllGoOn (shape w)) (pos : 0 < w.setup.size) (c : Carried w p) (new : is_new w p ≡ true)
     (near : (message_at w (message_of w p)).ordered ≡ true → IsSpan w (message_at w (message_of w p)).stream (index_of w (message_of w p) ∷ []))
     (short : length (message_at w (message_of w p)).bytes ≤ w.setup.largest)
@@ -318,7 +318,7 @@ module _ (setup : Setup) (w : LinkRecord) (p : ℕ) (q : ReassemblyState) (g : S
 
   unassembled-slots : AllSlots w (map (chunk_at w) (numbers_where (is_unassembled w s) 0 (length w.slots)))
   unassembled-slots =
-      slots-kept w (is_unassembled w s) 0 (length w.slots) (λ k a b e. (omega arith, more.marks k (Unassembled.unassembled w s k e).datagram_received))
+      slots-kept w (is_unassembled w s) 0 (length w.slots) (λ k a b e. (omega arith, more.terminals k (Unassembled.unassembled w s k e).datagram_received))
 
   -- what the queue adds up, by whether the message is unordered
   sum-by : Bool → ℕ

@@ -24,14 +24,14 @@ use Rattle.sctp_model.specs.Steps.{refusal_of, after, unless, fragments_accepted
 use Rattle.sctp_model.specs.Laws.{IsSetup}
 use Rattle.sctp_model.proofs.sender.Shape.{Shape, shape, has}
 use Rattle.sctp_model.proofs.sender.Sender.{Sender}
-use Rattle.sctp_model.proofs.sender.SenderRun.{Sane, sane-after, unless-holds, found}
+use Rattle.sctp_model.proofs.sender.SenderRun.{Consistent, consistent-after, unless-holds, found}
 use Rattle.sctp_model.proofs.sender.Shapes
 use Rattle.sctp_model.proofs.sender.Moves
 use Rattle.sctp_model.proofs.sender.Moves.{Quiet}
 use Rattle.sctp_model.proofs.sender.Network
 use Rattle.sctp_model.proofs.acknowledgement.Acknowledged.{as-datagram, as-read}
 use Rattle.sctp_model.proofs.acknowledgement.Bytes.{balance, size-some}
-use Rattle.sctp_model.proofs.acknowledgement.BytesTold.{messages-sent}
+use Rattle.sctp_model.proofs.acknowledgement.BytesAnswered.{messages-sent}
 use Rattle.sctp_refinement.specs.Amount.{amount, keeps_amounts, stream_of_slot, bytes_at, acknowledged_at}
 use Rattle.sctp_refinement.proofs.amounts.MessageSums.{is_on, sum_where, sum-written, sum-same}
 use Rattle.sctp_refinement.proofs.acknowledging.Unacked.{bytes_where, bytes-by_slot, pending_on_by}
@@ -67,7 +67,7 @@ amount-rest w t s pos =
 
 -- what a slot holds, by its parts
 abbrev held_by : ℕ → Bool → Bool → List ℕ → ℕ → ℕ
-held_by size mark gone bytes fragment = if mark || gone then 0 else length (get_or (pieces (length bytes) size bytes) fragment [])
+held_by size terminal gone bytes fragment = if terminal || gone then 0 else length (get_or (pieces (length bytes) size bytes) fragment [])
 
 abbrev SameGone : LinkRecord → LinkRecord → Type 0
 SameGone w v = (n : ℕ) → n < length w.messages → is_expired_or_abandoned v n ≡ is_expired_or_abandoned w n
@@ -104,7 +104,7 @@ module _ (w v : LinkRecord) (s : Sender (shape w)) (q : Quiet w v) (gone : SameG
       ∙ ap (λ m. if is_expired_or_abandoned w n then 0 else length m.bytes) (q.grows.message n lt))
 
 -- where the sender gives nothing up and writes nothing, each stream has as much to send or to see acknowledged as before
-pub amount-quiet : (setup : Setup) (w v : LinkRecord) (t : ℕ) → IsSetup setup → Sane setup w → Sane setup v → Quiet w v → SameGone w v
+pub amount-quiet : (setup : Setup) (w v : LinkRecord) (t : ℕ) → IsSetup setup → Consistent setup w → Consistent setup v → Quiet w v → SameGone w v
     → length v.messages ≡ length w.messages → amount v t ≡ amount w t
 amount-quiet setup w v t is g h q gone count =
     let a = amount-rest w t g.sender (size-some setup w is g) in
@@ -149,11 +149,11 @@ alive-wrote w s t ppi (b ∷ bs) e =
     ∙ ap (λ c. sum_where w (is_on t) alive_bytes + (if c then length (b ∷ bs) else 0)) (same-turned s t)
 
 -- a write adds its bytes to its stream
-pub amount-wrote : (setup : Setup) (w : LinkRecord) (s t : ℕ) (ppi : PayloadProtocolIdentifier) (bytes : List ℕ) → IsSetup setup → Sane setup w
+pub amount-wrote : (setup : Setup) (w : LinkRecord) (s t : ℕ) (ppi : PayloadProtocolIdentifier) (bytes : List ℕ) → IsSetup setup → Consistent setup w
     → refusal_of w (E.Write s ppi bytes) ≡ None → amount (after_write w s ppi bytes) t ≡ amount w t + (if t == s then length bytes else 0)
 amount-wrote setup w s t ppi bytes is g ok =
     let v = after_write w s ppi bytes in
-    let h = sane-after setup w (E.Write s ppi bytes) ok g in
+    let h = consistent-after setup w (E.Write s ppi bytes) ok g in
     let a = amount-rest w t g.sender (size-some setup w is g) in
     let b = amount-rest v t h.sender (size-some setup v is h) in
     let c = acked-quiet w v g.sender (Moves.quiet-written setup w s ppi bytes g) (gone-wrote w s ppi bytes) t in
@@ -172,8 +172,8 @@ pub count-sent : (w : LinkRecord) (now : ℕ) (o : Option ℕ) → length (Chang
 count-sent w now None = length-mapped (Changes.start_lifetime now) w.messages
 count-sent w now (Some k) = ap length (messages-sent (Changes.after_start w now)) ∙ length-mapped (Changes.start_lifetime now) w.messages
 
-pub amount-sent : (setup : Setup) (w : LinkRecord) (now t : ℕ) → IsSetup setup → Sane setup w → amount (Changes.after_send w now) t ≡ amount w t
-amount-sent setup w now t is g = amount-quiet setup w (Changes.after_send w now) t is g (sane-after setup w (E.Send now) refl g)
+pub amount-sent : (setup : Setup) (w : LinkRecord) (now t : ℕ) → IsSetup setup → Consistent setup w → amount (Changes.after_send w now) t ≡ amount w t
+amount-sent setup w now t is g = amount-quiet setup w (Changes.after_send w now) t is g (consistent-after setup w (E.Send now) refl g)
     (Moves.quiet-sent setup w now (front w) g) (gone-sent w now (front w)) (count-sent w now (front w))
 
 -- the amount, over the shape of the record and what is acknowledged
@@ -189,7 +189,7 @@ pub amount-shape : (w v : LinkRecord) (t : ℕ) → shape v ≡ shape w → ((p 
 amount-shape w v t e a = ap (λ x. amount_by x (acknowledged_at v) t) e ∙ ap (λ f. amount_by (shape w) f t) (fun_ext a)
 
 -- what is no write, gives nothing up and acknowledges nothing leaves each stream as it was
-pub amount-same : (setup : Setup) (w : LinkRecord) (e : Event) (t : ℕ) → IsSetup setup → Sane setup w → keeps_amounts e ≡ true
+pub amount-same : (setup : Setup) (w : LinkRecord) (e : Event) (t : ℕ) → IsSetup setup → Consistent setup w → keeps_amounts e ≡ true
     → amount (after w e) t ≡ amount w t
 amount-same setup w (E.Open s) t is g k = refl
 amount-same setup w (E.Mode s a b c) t is g k = refl
@@ -211,9 +211,10 @@ amount-same setup w (E.Read s) t is g k =
 
 -- ## A stream that is not open
 
-pub none-written : (setup : Setup) (w : LinkRecord) (t : ℕ) → Sane setup w → is_open w t ≡ false → messages_where w (λ n. (message_at w n).stream == t) ≡ []
+pub none-written : (setup : Setup) (w : LinkRecord) (t : ℕ) → Consistent setup w → is_open w t ≡ false
+    → messages_where w (λ n. (message_at w n).stream == t) ≡ []
 none-written setup w t g e = kept-none (λ n. (message_at w n).stream == t) 0 (length w.messages) (λ n a b.
     fails ((message_at w n).stream == t) (λ h. not_both (sym e ∙ ap (is_open w) (sym (same-is (message_at w n).stream t h)) ∙ g.known n (omega arith))))
 
-pub amount-none : (setup : Setup) (w : LinkRecord) (t : ℕ) → Sane setup w → is_open w t ≡ false → amount w t ≡ 0
+pub amount-none : (setup : Setup) (w : LinkRecord) (t : ℕ) → Consistent setup w → is_open w t ≡ false → amount w t ≡ 0
 amount-none setup w t g e = ap (λ l. total_over (pending_bytes w) l + total_over (in_flight_bytes w) l) (none-written setup w t g e)

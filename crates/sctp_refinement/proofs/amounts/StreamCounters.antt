@@ -14,12 +14,13 @@ use Rattle.sctp_model.specs.Amounts.{Counters, in_all, on_stream, written_bytes,
 use Rattle.sctp_model.specs.Changes.{message_on, after_write, read_of, after_reading}
 use Rattle.sctp_model.specs.Steps.{History, record_of, IsRun, refusal_of, after}
 use Rattle.sctp_model.specs.Laws.{IsSetup}
-use Rattle.sctp_model.proofs.sender.SenderRun.{Sane}
+use Rattle.sctp_model.proofs.sender.SenderRun.{Consistent}
 use Rattle.sctp_refinement.specs.Counts.{is_write, is_read, counters_on, no_counters, count_more, sent_more, received_more}
 use Rattle.sctp_refinement.proofs.amounts.MessageSums.{sum-written, sum-same}
 use Rattle.sctp_refinement.proofs.amounts.StreamAmounts.{stream-open, write-open, none-written}
-use Rattle.sctp_refinement.proofs.amounts.ToldSums.{AsTold, read-after, told-after, told-read_of, told_on, read_on, told_on-same, read_on-same, told_on-wrote}
-use Rattle.sctp_refinement.proofs.amounts.ToldSums.{read_on-wrote, read_on-read}
+use Rattle.sctp_refinement.proofs.amounts.AnsweredSums.{AsAnswered, read-after, answered-after, answered-read_of, answered_on, read_on, answered_on-same}
+use Rattle.sctp_refinement.proofs.amounts.AnsweredSums.{read_on-same, answered_on-wrote}
+use Rattle.sctp_refinement.proofs.amounts.AnsweredSums.{read_on-wrote, read_on-read}
 
 -- ## The bytes written in all
 
@@ -28,9 +29,9 @@ pub written-wrote : (w : LinkRecord) (s : ℕ) (ppi : PayloadProtocolIdentifier)
 written-wrote w s ppi [] = omega arith
 written-wrote w s ppi (b ∷ bs) = sum-written w (message_on w (stream_of w s) ppi (b ∷ bs)) (λ m. true) (λ m. length m.bytes)
 
-pub written-same : (setup : Setup) (w : LinkRecord) (e : Event) → Sane setup w → is_write e ≡ false
+pub written-same : (setup : Setup) (w : LinkRecord) (e : Event) → Consistent setup w → is_write e ≡ false
     → in_all (after w e) (written_bytes (after w e)) ≡ in_all w (written_bytes w)
-written-same setup w e g a = let t = told-after setup w e g a in
+written-same setup w e g a = let t = answered-after setup w e g a in
     sum-same w (after w e) (λ m. true) (λ m. length m.bytes) t.count (λ n lt. refl) (λ n lt. ap length (t.bytes n lt))
 
 -- ## The four sums
@@ -45,13 +46,13 @@ size ppi bytes = if has_bytes ppi then length bytes else 0
 pub sent-wrote : (w : LinkRecord) (s t : ℕ) (ppi : PayloadProtocolIdentifier) (bytes : List ℕ) → refusal_of w (E.Write s ppi bytes) ≡ None
     → on_stream (after_write w s ppi bytes) t (message_count (after_write w s ppi bytes))
     ≡ on_stream w t (message_count w) + (if (t == s) && not (length bytes == 0) then one ppi bytes else 0)
-sent-wrote w s t ppi bytes ok = told_on-wrote w s t ppi bytes one (stream-open w s (write-open w s ppi bytes ok))
+sent-wrote w s t ppi bytes ok = answered_on-wrote w s t ppi bytes one (stream-open w s (write-open w s ppi bytes ok))
 
 -- and as many bytes
 pub bytes_sent-wrote : (w : LinkRecord) (s t : ℕ) (ppi : PayloadProtocolIdentifier) (bytes : List ℕ) → refusal_of w (E.Write s ppi bytes) ≡ None
     → on_stream (after_write w s ppi bytes) t (counted_bytes (after_write w s ppi bytes))
     ≡ on_stream w t (counted_bytes w) + (if (t == s) && not (length bytes == 0) then size ppi bytes else 0)
-bytes_sent-wrote w s t ppi bytes ok = told_on-wrote w s t ppi bytes size (stream-open w s (write-open w s ppi bytes ok))
+bytes_sent-wrote w s t ppi bytes ok = answered_on-wrote w s t ppi bytes size (stream-open w s (write-open w s ppi bytes ok))
 
 -- a read is one message received, where its kind counts
 pub received-read : (setup : Setup) (h : History) → IsSetup setup → IsRun setup h → (s t n : ℕ) → next_read (record_of setup h) s ≡ Some n
@@ -130,10 +131,10 @@ received-added s a b c d ppi bytes = by ppi
     by Dcep = none
     by Unknown = none
 
-counters-sums : (w v : LinkRecord) (t a b c d : ℕ) → told_on v t one ≡ a → told_on v t size ≡ b → read_on v t one ≡ c → read_on v t size ≡ d
+counters-sums : (w v : LinkRecord) (t a b c d : ℕ) → answered_on v t one ≡ a → answered_on v t size ≡ b → read_on v t one ≡ c → read_on v t size ≡ d
     → counters_on v t ≡ counters_by t a b c d
 counters-sums w v t a b c d e f g h =
-    ap (λ k. counters_by t k (told_on v t size) (read_on v t one) (read_on v t size)) e
+    ap (λ k. counters_by t k (answered_on v t size) (read_on v t one) (read_on v t size)) e
     ∙ ap (λ k. counters_by t a k (read_on v t one) (read_on v t size)) f
     ∙ ap (λ k. counters_by t a b k (read_on v t size)) g
     ∙ ap (counters_by t a b c) h
@@ -144,19 +145,20 @@ pub counters-wrote : (w : LinkRecord) (s t : ℕ) (ppi : PayloadProtocolIdentifi
     ≡ (if (t == s) && not (length bytes == 0) then sent_more (counted_as ppi (length bytes)) (counters_on w t) else counters_on w t)
 counters-wrote w s t ppi bytes ok =
     let c = (t == s) && not (length bytes == 0) in
-    counters-sums w (after_write w s ppi bytes) t (told_on w t one + (if c then one ppi bytes else 0)) (told_on w t size + (if c then size ppi bytes else 0))
+    counters-sums w (after_write w s ppi bytes) t (answered_on w t one + (if c then one ppi bytes else 0))
+    (answered_on w t size + (if c then size ppi bytes else 0))
     (read_on w t one) (read_on w t size)
     (sent-wrote w s t ppi bytes ok) (bytes_sent-wrote w s t ppi bytes ok) (read_on-wrote w s t ppi bytes one) (read_on-wrote w s t ppi bytes size)
     ∙ by c
   where
-    by : (c : Bool) → counters_by t (told_on w t one + (if c then one ppi bytes else 0)) (told_on w t size + (if c then size ppi bytes else 0))
+    by : (c : Bool) → counters_by t (answered_on w t one + (if c then one ppi bytes else 0)) (answered_on w t size + (if c then size ppi bytes else 0))
         (read_on w t one) (read_on w t size) ≡ (if c then sent_more (counted_as ppi (length bytes)) (counters_on w t) else counters_on w t)
-    by true = sent-added t (told_on w t one) (told_on w t size) (read_on w t one) (read_on w t size) ppi bytes
+    by true = sent-added t (answered_on w t one) (answered_on w t size) (read_on w t one) (read_on w t size) ppi bytes
     by false =
-        let x : told_on w t one + 0 ≡ told_on w t one = omega arith in
-        let y : told_on w t size + 0 ≡ told_on w t size = omega arith in
-        ap (λ k. counters_by t k (told_on w t size + 0) (read_on w t one) (read_on w t size)) x
-        ∙ ap (λ k. counters_by t (told_on w t one) k (read_on w t one) (read_on w t size)) y
+        let x : answered_on w t one + 0 ≡ answered_on w t one = omega arith in
+        let y : answered_on w t size + 0 ≡ answered_on w t size = omega arith in
+        ap (λ k. counters_by t k (answered_on w t size + 0) (read_on w t one) (read_on w t size)) x
+        ∙ ap (λ k. counters_by t (answered_on w t one) k (read_on w t one) (read_on w t size)) y
 
 -- a read is counted on its stream
 pub counters-read : (setup : Setup) (h : History) → IsSetup setup → IsRun setup h → (s t n : ℕ) → next_read (record_of setup h) s ≡ Some n
@@ -165,38 +167,38 @@ pub counters-read : (setup : Setup) (h : History) → IsSetup setup → IsRun se
 counters-read setup h is run s t n e =
     let w = record_of setup h in
     let v = after_reading w s in
-    let told : AsTold w v = told-read_of w s (next_read w s) in
+    let answered : AsAnswered w v = answered-read_of w s (next_read w s) in
     let m = message_at w n in
-    counters-sums w v t (told_on w t one) (told_on w t size) (read_on w t one + (if t == s then one m.ppi m.bytes else 0))
+    counters-sums w v t (answered_on w t one) (answered_on w t size) (read_on w t one + (if t == s then one m.ppi m.bytes else 0))
     (read_on w t size + (if t == s then size m.ppi m.bytes else 0))
-    (told_on-same w v t one told) (told_on-same w v t size told) (received-read setup h is run s t n e) (bytes_received-read setup h is run s t n e)
-    ∙ by w m.ppi m.bytes (t == s)
+    (answered_on-same w v t one answered) (answered_on-same w v t size answered) (received-read setup h is run s t n e)
+    (bytes_received-read setup h is run s t n e) ∙ by w m.ppi m.bytes (t == s)
   where
-    by : (w : LinkRecord) (ppi : PayloadProtocolIdentifier) (bytes : List ℕ) (c : Bool) → counters_by t (told_on w t one) (told_on w t size)
+    by : (w : LinkRecord) (ppi : PayloadProtocolIdentifier) (bytes : List ℕ) (c : Bool) → counters_by t (answered_on w t one) (answered_on w t size)
         (read_on w t one + (if c then one ppi bytes else 0)) (read_on w t size + (if c then size ppi bytes else 0))
         ≡ (if c then received_more (counted_as ppi (length bytes)) (counters_on w t) else counters_on w t)
-    by w ppi bytes true = received-added t (told_on w t one) (told_on w t size) (read_on w t one) (read_on w t size) ppi bytes
+    by w ppi bytes true = received-added t (answered_on w t one) (answered_on w t size) (read_on w t one) (read_on w t size) ppi bytes
     by w ppi bytes false =
         let x : read_on w t one + 0 ≡ read_on w t one = omega arith in
         let y : read_on w t size + 0 ≡ read_on w t size = omega arith in
-        ap (λ k. counters_by t (told_on w t one) (told_on w t size) k (read_on w t size + 0)) x
-        ∙ ap (counters_by t (told_on w t one) (told_on w t size) (read_on w t one)) y
+        ap (λ k. counters_by t (answered_on w t one) (answered_on w t size) k (read_on w t size + 0)) x
+        ∙ ap (counters_by t (answered_on w t one) (answered_on w t size) (read_on w t one)) y
 
 -- where nothing is left to read nothing is counted
 pub counters-nothing : (w : LinkRecord) (s t : ℕ) → next_read w s ≡ None → counters_on (after_reading w s) t ≡ counters_on w t
 counters-nothing w s t e = ap (λ o. counters_on (read_of w s o) t) e
 
 -- but for writes and reads, each event leaves the counters
-pub counters-same : (setup : Setup) (w : LinkRecord) (e : Event) (t : ℕ) → Sane setup w → is_write e ≡ false → is_read e ≡ false
+pub counters-same : (setup : Setup) (w : LinkRecord) (e : Event) (t : ℕ) → Consistent setup w → is_write e ≡ false → is_read e ≡ false
     → counters_on (after w e) t ≡ counters_on w t
 counters-same setup w e t g a b =
     let r = read-after setup w e g a b in
-    counters-sums w (after w e) t (told_on w t one) (told_on w t size) (read_on w t one) (read_on w t size)
-    (told_on-same w (after w e) t one r.told) (told_on-same w (after w e) t size r.told) (read_on-same w (after w e) t one r)
+    counters-sums w (after w e) t (answered_on w t one) (answered_on w t size) (read_on w t one) (read_on w t size)
+    (answered_on-same w (after w e) t one r.answered) (answered_on-same w (after w e) t size r.answered) (read_on-same w (after w e) t one r)
     (read_on-same w (after w e) t size r)
 
 -- a stream that is not open has counted nothing
-pub counters-none : (setup : Setup) (w : LinkRecord) (t : ℕ) → Sane setup w → is_open w t ≡ false → counters_on w t ≡ no_counters t
+pub counters-none : (setup : Setup) (w : LinkRecord) (t : ℕ) → Consistent setup w → is_open w t ≡ false → counters_on w t ≡ no_counters t
 counters-none setup w t g e =
     let l = none-written setup w t g e in
     counters-sums w w t 0 0 0 0

@@ -7,7 +7,7 @@ use Rattle.sctp_model.specs.Messages.{message_at, slot_at, message_of, stream_at
 use Rattle.sctp_model.specs.Receiver.{is_new}
 use Rattle.sctp_model.specs.Changes.{stream_changed, with_complete, becomes_complete, receive_slot}
 use Rattle.sctp_model.proofs.sender.Shape.{shape, sent}
-use Rattle.sctp_model.proofs.sender.SenderRun.{Sane}
+use Rattle.sctp_model.proofs.sender.SenderRun.{Consistent}
 use Rattle.sctp_refinement.proofs.arriving.Arrival
 use Rattle.sctp_refinement.proofs.arriving.Arrival.{with_arrived}
 use Rattle.sctp_refinement.proofs.arriving.SlotArrives.{Enters}
@@ -22,10 +22,10 @@ pub enters : (w : LinkRecord) (p : ℕ) → Carried w p → is_new w p ≡ true 
 enters w p c e = record { made = c.made; new = e; fragment = c.fragment; stream = refl; alive = c.alive }
 
 -- each slot that has a fragment is such a one
-pub carried : (setup : Setup) (w : LinkRecord) (p : ℕ) → Sane setup w → p < length w.slots → (slot_at w p).is_terminal_chunk ≡ false → Carried w p
-carried setup w p g lt mark = record {
+pub carried : (setup : Setup) (w : LinkRecord) (p : ℕ) → Consistent setup w → p < length w.slots → (slot_at w p).is_terminal_chunk ≡ false → Carried w p
+carried setup w p g lt terminal = record {
   made = lt;
-  fragment = mark;
+  fragment = terminal;
   alive = fails (message_at w (message_of w p)).expired (λ e. not_sent (g.sender.expired_unsent (message_of w p) (g.sender.made p lt) e));
   known = some-of (stream_at w (message_at w (message_of w p)).stream) refl (g.known (message_of w p) (g.sender.made p lt));
 }
@@ -34,7 +34,7 @@ carried setup w p g lt mark = record {
     not_sent z = omega (
       arith,
       z,
-      length-kept-positive (has_fragment w (message_of w p)) p 0 (length w.slots) (omega arith) (omega (arith, lt)) (Arrival.has-fragment w p mark),
+      length-kept-positive (has_fragment w (message_of w p)) p 0 (length w.slots) (omega arith) (omega (arith, lt)) (Arrival.has-fragment w p terminal),
     )
 
     some-of : (o : Option StreamRecord) → stream_at w (message_at w (message_of w p)).stream ≡ o → is_some o ≡ true

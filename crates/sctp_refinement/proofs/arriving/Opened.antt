@@ -12,7 +12,7 @@ use Rattle.sctp_model.specs.Receiver.{is_held, next_of}
 use Rattle.sctp_model.specs.Changes.{after_open, after_mode}
 use Rattle.sctp_model.specs.Contents.{chunk_at}
 use Rattle.sctp_model.specs.Queues.{set_of, complete_set_of, is_unassembled}
-use Rattle.sctp_model.proofs.sender.SenderRun.{Sane}
+use Rattle.sctp_model.proofs.sender.SenderRun.{Consistent}
 use Rattle.sctp_model.proofs.receiver.View
 use Rattle.sctp_refinement.specs.Holds.{ordered_sets, unassembled_chunks, reassembly_of}
 use Rattle.sctp_refinement.proofs.reading.Keeps
@@ -33,7 +33,7 @@ mode-same w s u r n t = Keeps.restreamed w (after_mode w s u r n).streams t (λ 
     (ap (λ y. y.complete t) (View.view-moded w s u r n))
 
 -- a stream that is not open has nothing
-module _ (setup : Setup) (w : LinkRecord) (s : ℕ) (g : Sane setup w) (closed : is_open w s ≡ false) where
+module _ (setup : Setup) (w : LinkRecord) (s : ℕ) (g : Consistent setup w) (closed : is_open w s ≡ false) where
   no-message : (n : ℕ) → n < length w.messages → (message_at w n).stream ≡ s → ⊥
   no-message n lt e = not_both (sym closed ∙ ap (is_open w) (sym e) ∙ g.known n lt)
 

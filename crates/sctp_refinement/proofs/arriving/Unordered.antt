@@ -124,7 +124,7 @@ module _ (w : LinkRecord) (s p : ℕ) (valid : Valid w) (more : ValidUnassembled
 
   pub fragments : (k : ℕ) → q k ≡ true → has_fragment w (message_of w k) k ≡ true
   fragments k e = Arrival.has-fragment w k (by_place {C = (slot_at w k).is_terminal_chunk ≡ false} k p
-      (λ ne. more.marks k (sym (Arrival.arrived-other w p k ne) ∙ (unassembled v s k e).datagram_received)) (λ z. rw z a.fragment))
+      (λ ne. more.terminals k (sym (Arrival.arrived-other w p k ne) ∙ (unassembled v s k e).datagram_received)) (λ z. rw z a.fragment))
 
   becomes : (first c : ℕ) → (r : IsCompleteRun w q first c) → becomes_complete v (message_of w r.base) ≡ true
   becomes first c r =

@@ -19,7 +19,7 @@ use Rattle.sctp_model.specs.Changes.{read_of, after_reading, stream_changed, rec
 use Rattle.sctp_model.specs.Queues.{set_of, complete_set_of, handed_out}
 use Rattle.sctp_model.specs.Steps.{History, record_of, IsRun, refusal_of, after}
 use Rattle.sctp_model.specs.Laws.{IsSetup}
-use Rattle.sctp_model.proofs.sender.SenderRun.{sane-run, sane-after, unless-holds}
+use Rattle.sctp_model.proofs.sender.SenderRun.{consistent-run, consistent-after, unless-holds}
 use Rattle.sctp_model.proofs.sender.Moves
 use Rattle.sctp_model.proofs.sender.Moves.{Quiet}
 use Rattle.sctp_model.proofs.receiver.Known.{still-of}
@@ -163,8 +163,8 @@ next-same setup h e t is run ok keeps = by e ok keeps
     quiet : (e : Event) → refusal_of (record_of setup h) e ≡ None → Quiet (record_of setup h) (after (record_of setup h) e)
         → next_of (after (record_of setup h) e) t ≡ next_of (record_of setup h) t
     quiet e ok q =
-        let g = sane-run setup h run in
-        let a = sane-after setup (record_of setup h) e ok g in
+        let g = consistent-run setup h run in
+        let a = consistent-after setup (record_of setup h) e ok g in
         Ordered.next-still (view (record_of setup h)) (view (after (record_of setup h) e))
         (still-of setup (record_of setup h) (after (record_of setup h) e) g a q) (received-run setup h is run).ordered t
 
@@ -174,18 +174,18 @@ next-same setup h e t is run ok keeps = by e ok keeps
         (negated (Messages.is_open (record_of setup h) s) (unless-holds (not (Messages.is_open (record_of setup h) s)) StreamOpen None ok).0))
     by (E.Mode s u y v) ok keeps =
         next-view (record_of setup h) (Changes.after_mode (record_of setup h) s u y v) t (View.view-moded (record_of setup h) s u y v)
-    by (E.Write s ppi bytes) ok keeps = quiet (E.Write s ppi bytes) ok (Moves.quiet-written setup (record_of setup h) s ppi bytes (sane-run setup h run))
+    by (E.Write s ppi bytes) ok keeps = quiet (E.Write s ppi bytes) ok (Moves.quiet-written setup (record_of setup h) s ppi bytes (consistent-run setup h run))
     by (E.Start now) ok keeps = quiet (E.Start now) ok (Moves.quiet-started (record_of setup h) now)
     by (E.Send now) ok keeps =
-        quiet (E.Send now) ok (Moves.quiet-sent setup (record_of setup h) now (Messages.front (record_of setup h)) (sane-run setup h run))
+        quiet (E.Send now) ok (Moves.quiet-sent setup (record_of setup h) now (Messages.front (record_of setup h)) (consistent-run setup h run))
     by (E.Resend tsn) ok keeps = refl
     by (E.Expire now) ok keeps =
-        quiet (E.Expire now) ok (Moves.quiet-expire setup (record_of setup h) now (Messages.front (record_of setup h)) (sane-run setup h run))
+        quiet (E.Expire now) ok (Moves.quiet-expire setup (record_of setup h) now (Messages.front (record_of setup h)) (consistent-run setup h run))
     by (E.Tail now) ok keeps =
-        quiet (E.Tail now) ok (Moves.quiet-tail setup (record_of setup h) (Changes.tailing (record_of setup h) now) (sane-run setup h run))
-    by (E.Late now) ok keeps = quiet (E.Late now) ok (Moves.quiet-lates setup (record_of setup h) now (sane-run setup h run))
+        quiet (E.Tail now) ok (Moves.quiet-tail setup (record_of setup h) (Changes.tailing (record_of setup h) now) (consistent-run setup h run))
+    by (E.Late now) ok keeps = quiet (E.Late now) ok (Moves.quiet-lates setup (record_of setup h) now (consistent-run setup h run))
     by (E.Abandon tsn) ok keeps = quiet (E.Abandon tsn) ok (Moves.quiet-abandoned setup (record_of setup h)
-        (Messages.message_of (record_of setup h) (Messages.place_of (record_of setup h) tsn)) (sane-run setup h run))
+        (Messages.message_of (record_of setup h) (Messages.place_of (record_of setup h) tsn)) (consistent-run setup h run))
     by (E.Skip upto names) ok keeps = refl
     by (E.Ack credit) ok keeps = refl
     by (E.Arrive k) ok keeps = absurd keeps

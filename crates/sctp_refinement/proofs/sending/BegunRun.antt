@@ -11,7 +11,7 @@ use Rattle.sctp_model.specs.Steps.{refusal_of, after}
 use Rattle.sctp_model.proofs.sender.Shape.{Shape, shape, message_part, sent, slotted, abandoned_at, expired_at, written}
 use Rattle.sctp_model.proofs.sender.Shapes
 use Rattle.sctp_model.proofs.sender.Sender.{sent-slotted}
-use Rattle.sctp_model.proofs.sender.SenderRun.{Sane}
+use Rattle.sctp_model.proofs.sender.SenderRun.{Consistent}
 use Rattle.sctp_model.proofs.sender.Network.{extends-after, same-received, same-taken, same-read}
 use Rattle.sctp_list_lemmas.proofs.Passing.{kept-none}
 use Rattle.sctp_list_lemmas.proofs.More.{fails, not_both, both}
@@ -67,7 +67,8 @@ none-tail : (w : LinkRecord) (o : Option ℕ) → NoneSent (shape w) (shape (Cha
 none-tail w None = none-same (shape w) (shape w) refl
 none-tail w (Some n) = none-gone w n
 
-none-wrote : (setup : Setup) (w : LinkRecord) (s : ℕ) (ppi : _) (bytes : List ℕ) → Sane setup w → NoneSent (shape w) (shape (Changes.after_write w s ppi bytes))
+none-wrote : (setup : Setup) (w : LinkRecord) (s : ℕ) (ppi : _) (bytes : List ℕ) → Consistent setup w
+    → NoneSent (shape w) (shape (Changes.after_write w s ppi bytes))
 none-wrote setup w s ppi [] g = none-same (shape w) (shape w) refl
 none-wrote setup w s ppi (b ∷ bs) g =
     let m = Changes.message_on w (Messages.stream_of w s) ppi (b ∷ bs) in
@@ -80,7 +81,7 @@ abbrev pub SendsNone : Event → Type 0
 SendsNone (E.Send now) = ⊥
 SendsNone e = Unit {0}
 
-pub none-after : (setup : Setup) (w : LinkRecord) (e : Event) → Sane setup w → SendsNone e → NoneSent (shape w) (shape (after w e))
+pub none-after : (setup : Setup) (w : LinkRecord) (e : Event) → Consistent setup w → SendsNone e → NoneSent (shape w) (shape (after w e))
 none-after setup w (E.Open s) g no' = none-same (shape w) (shape (after w (E.Open s))) refl
 none-after setup w (E.Mode s unordered reliability value) g no' = none-same (shape w) (shape (after w (E.Mode s unordered reliability value))) refl
 none-after setup w (E.Write s ppi bytes) g no' = none-wrote setup w s ppi bytes g
@@ -106,7 +107,7 @@ pub record Counted (w : LinkRecord) (f : ℕ → ℕ) (b : ℕ → ℕ) : Type 0
   pub begun : (s : ℕ) → b s ≡ begun (shape w) s
 
 -- every event but a Send keeps it, an Expire too
-pub counted-after : (setup : Setup) (w : LinkRecord) (e : Event) (f b : ℕ → ℕ) → refusal_of w e ≡ None → Sane setup w → SendsNone e → Counted w f b
+pub counted-after : (setup : Setup) (w : LinkRecord) (e : Event) (f b : ℕ → ℕ) → refusal_of w e ≡ None → Consistent setup w → SendsNone e → Counted w f b
     → Counted (after w e) f b
 counted-after setup w e f b ok g no' c =
     let k = none-after setup w e g no' in
@@ -118,7 +119,7 @@ counted-after setup w e f b ok g no' c =
 -- ## By stream
 
 -- a stream that is not open has begun nothing
-pub begun-closed : (setup : Setup) (w : LinkRecord) (s : ℕ) → Sane setup w → Messages.is_open w s ≡ false → begun (shape w) s ≡ 0
+pub begun-closed : (setup : Setup) (w : LinkRecord) (s : ℕ) → Consistent setup w → Messages.is_open w s ≡ false → begun (shape w) s ≡ 0
 begun-closed setup w s g e =
     ap length (kept-none (begins_on (shape w) s) 0 (length w.messages) (λ k a b. fails (begins_on (shape w) s k) (λ h.
     let z = same-is (Messages.message_at w k).stream s

@@ -154,7 +154,7 @@ fill-from setup (suc most) used tsn w q g t e = by (λ used' tsn' v r g' t' e'. 
         more = chunk_length (length (waiting_at w n (sent_of w n)).user_data)
 
         shows : (next_pending q ≡ Some c) × RefinesPending (with_slot w n false) (taken_of (Some c) q)
-        shows = pending-sent w n (front_is w g.sane.sender g.turns n fr) q t
+        shows = pending-sent w n (front_is w g.consistent.sender g.turns n fr) q t
 
         going : Going setup (with_slot w n false)
         going = subst (λ o. Going setup (send_fragment_of w o)) fr (going-takes setup w g)
@@ -178,7 +178,7 @@ pending-after setup (suc i) w q g t = pending-after setup i (send_fragment w) (t
     by None fr = subst (λ p. RefinesPending w (taken_of p q)) (sym (pending-idle w q t (λ k lt. front-none (shape w) fr k lt))) t
     by (Some n) fr =
         let shows : (next_pending q ≡ Some (waiting_at w n (sent_of w n))) × RefinesPending (with_slot w n false)
-        (taken_of (Some (waiting_at w n (sent_of w n))) q) = pending-sent w n (front_is w g.sane.sender g.turns n fr) q t in
+        (taken_of (Some (waiting_at w n (sent_of w n))) q) = pending-sent w n (front_is w g.consistent.sender g.turns n fr) q t in
         subst (λ p. RefinesPending (with_slot w n false) (taken_of p q)) (sym shows.0) shows.1
 
 -- what it shows then is a fragment of the record
@@ -196,7 +196,7 @@ shown-after setup i w q P g t each = by (front (after_fragments i w)) refl
     by None fr =
         subst (λ p. IfSome p P) (sym (pending-idle (after_fragments i w) (after_sends i q) r (λ k lt. front-none (shape (after_fragments i w)) fr k lt))) tt
     by (Some n) fr = subst (λ p. IfSome p P)
-        (sym (pending-sent (after_fragments i w) n (front_is (after_fragments i w) z.sane.sender z.turns n fr) (after_sends i q) r).0) (each n)
+        (sym (pending-sent (after_fragments i w) n (front_is (after_fragments i w) z.consistent.sender z.turns n fr) (after_sends i q) r).0) (each n)
 
 -- a Send takes what the queue shows
 pub fill-sent : (setup : Setup) (tsn n : ℕ) (w : LinkRecord) (q : Pending) → Going setup w → RefinesPending w q → front w ≡ Some n
@@ -207,7 +207,7 @@ fill-sent setup tsn n w q g t fr e = subst (λ o. Takes o (next_pending q)) (sym
     c = waiting_at w n (sent_of w n)
 
     shows : (next_pending q ≡ Some c) × RefinesPending (with_slot w n false) (taken_of (Some c) q)
-    shows = pending-sent w n (front_is w g.sane.sender g.turns n fr) q t
+    shows = pending-sent w n (front_is w g.consistent.sender g.turns n fr) q t
 
     more : ℕ
     more = chunk_length (length (waiting_at w n (sent_of w n)).user_data)

@@ -17,13 +17,13 @@ use Rattle.sctp_model.specs.Reports.{reports}
 use Rattle.sctp_model.specs.Steps.{History, record_of, IsRun, refusal_of, after}
 use Rattle.sctp_model.specs.Log.{log_of}
 use Rattle.sctp_model.specs.Laws.{IsSetup}
-use Rattle.sctp_model.proofs.sender.Shape.{Shape, MessagePart, shape, sent, half, unsent, slotted, written, abandoned_at, expired_at, message_part}
+use Rattle.sctp_model.proofs.sender.Shape.{Shape, MessagePart, shape, sent, partial, unsent, slotted, written, abandoned_at, expired_at, message_part}
 use Rattle.sctp_model.proofs.sender.Sender.{Sender, sent-slotted}
 use Rattle.sctp_list_lemmas.specs.Lists.{pieces}
 use Rattle.sctp_list_lemmas.proofs.Getting.{length-numbered}
-use Rattle.sctp_model.proofs.sender.SenderSteps.{of-half, is-half, sent-other}
+use Rattle.sctp_model.proofs.sender.SenderSteps.{of-partial, is-partial, sent-other}
 use Rattle.sctp_model.proofs.sender.SenderEnds.{sent-none}
-use Rattle.sctp_model.proofs.sender.SenderRun.{Sane, sane-run, sane-takes, sane-started, sends-keep, fold-keeps}
+use Rattle.sctp_model.proofs.sender.SenderRun.{Consistent, consistent-run, consistent-takes, consistent-started, sends-keep, fold-keeps}
 use Rattle.sctp_model.proofs.sender.Shapes
 use Rattle.sctp_model.proofs.sender.Moves
 use Rattle.sctp_model.proofs.sender.Network.{extends-after, same-received, same-taken, same-read}
@@ -34,7 +34,7 @@ use Rattle.sctp_refinement.proofs.sending.Sent.{KindsInTurn, FrontIs, front_is}
 -- ## Kinds in turn
 
 abbrev pub Turns : Shape → Type 0
-Turns x = (n k : ℕ) → half x n ≡ true → k < n → (x.message k).ordered ≡ (x.message n).ordered → unsent x k ≡ false
+Turns x = (n k : ℕ) → partial x n ≡ true → k < n → (x.message k).ordered ≡ (x.message n).ordered → unsent x k ≡ false
 
 pub turns-as : (x y : Shape) → y ≡ x → Turns x → Turns y
 turns-as x y e t = subst Turns (sym e) t
@@ -49,19 +49,19 @@ turns-written x m s t n k h lt ord = by (cases_lt n x.count)
     by (inl l) =
         let a = old n l in
         let b = old k (omega arith) in
-        let h' : half x n ≡ true = sym (ap (λ c. half_by (if c then m else x.message n)) a) ∙ h in
+        let h' : partial x n ≡ true = sym (ap (λ c. partial_by (if c then m else x.message n)) a) ∙ h in
         let o' : (x.message k).ordered ≡ (x.message n).ordered = sym (ap (λ c. (if c then m else x.message k).ordered) b) ∙ ord
         ∙ ap (λ c. (if c then m else x.message n).ordered) a in
         ap (λ c. (sent x k == 0) && not (if c then m else x.message k).expired) b ∙ t n k h' lt o'
       where
-        half_by : MessagePart → Bool
-        half_by p = nat_lt 0 (sent x n) && (nat_lt (sent x n) (length (pieces (length p.bytes) x.size p.bytes)) && not p.abandoned)
-    by (inr g) = absurd (omega (arith, (of-half (written x m) n h).some, sent-none x n s g))
+        partial_by : MessagePart → Bool
+        partial_by p = nat_lt 0 (sent x n) && (nat_lt (sent x n) (length (pieces (length p.bytes) x.size p.bytes)) && not p.abandoned)
+    by (inr g) = absurd (omega (arith, (of-partial (written x m) n h).some, sent-none x n s g))
 
 turns-abandoned : (x : Shape) (n' : ℕ) → Turns x → Turns (abandoned_at x n')
 turns-abandoned x n' t n k h lt ord =
-    let i = of-half (abandoned_at x n') n h in
-    t n k (is-half x n i.some i.more (no-or (n == n') (x.message n).abandoned i.alive)) lt ord
+    let i = of-partial (abandoned_at x n') n h in
+    t n k (is-partial x n i.some i.more (no-or (n == n') (x.message n).abandoned i.alive)) lt ord
   where
     no-or : (a b : Bool) → (a || b) ≡ false → b ≡ false
     no-or true b e = cc
@@ -78,10 +78,10 @@ turns-expired x n' t n k h lt ord = more (sent x k == 0) (k == n') (x.message k)
 -- a terminal chunk is no fragment
 turns-marked : (x : Shape) (n' : ℕ) → Turns x → Turns (slotted x n' true)
 turns-marked x n' t n k h lt ord =
-    let i = of-half (slotted x n' true) n h in
+    let i = of-partial (slotted x n' true) n h in
     let a = marked n in
     let b = marked k in
-    ap (λ c. (c == 0) && not (x.message k).expired) b ∙ t n k (is-half x n (omega (arith, i.some, a)) (omega (arith, i.more, a)) i.alive) lt ord
+    ap (λ c. (c == 0) && not (x.message k).expired) b ∙ t n k (is-partial x n (omega (arith, i.some, a)) (omega (arith, i.more, a)) i.alive) lt ord
   where
     marked : (j : ℕ) → sent (slotted x n' true) j ≡ sent x j
     marked j = sent-slotted x n' j true ∙ none (n' == j)
@@ -94,7 +94,7 @@ turns-takes : (w : LinkRecord) (n' : ℕ) → FrontIs w n' → Turns (shape w) �
 turns-takes w n' f t n k h lt ord =
     by_same {P = unsent (slotted (shape w) n' false) k ≡ false} n' n (λ e. here e) (λ ne x. absurd (ne (sym (f.takes.alone n (other ne)))))
   where
-    other : (n' ≡ n → ⊥) → half (shape w) n ≡ true
+    other : (n' ≡ n → ⊥) → partial (shape w) n ≡ true
     other ne = ap (λ c. nat_lt 0 c && (nat_lt c (Messages.fragment_count w n) && not (Messages.message_at w n).abandoned))
         (sym (sent-other (shape w) n' false n ne)) ∙ h
 
@@ -104,16 +104,16 @@ turns-takes w n' f t n k h lt ord =
         ∙ (f.before k (omega (arith, lt, e)) (ord ∙ ap (λ j. (Messages.message_at w j).ordered) (sym e))).1
 
 pub record Going (setup : Setup) (w : LinkRecord) : Type 0 where
-  pub sane : Sane setup w
+  pub consistent : Consistent setup w
   pub turns : Turns (shape w)
 
 pub going-takes : (setup : Setup) (w : LinkRecord) → Going setup w → Going setup (Changes.send_fragment w)
-going-takes setup w g = record { sane = sane-takes setup w g.sane; turns = by (front w) refl }
+going-takes setup w g = record { consistent = consistent-takes setup w g.consistent; turns = by (front w) refl }
   where
     by : (o : Option ℕ) → front w ≡ o → Turns (shape (Changes.send_fragment_of w o))
     by None e = g.turns
     by (Some n) e = turns-as (slotted (shape w) n false) (shape (Changes.with_slot w n false)) (Shapes.shape-slot w n false)
-        (turns-takes w n (front_is w g.sane.sender g.turns n e) g.turns)
+        (turns-takes w n (front_is w g.consistent.sender g.turns n e) g.turns)
 
 turns-gone : (w : LinkRecord) (n : ℕ) → Turns (shape w) → Turns (shape (Changes.after_abandon w n))
 turns-gone w n t = by (Messages.is_partially_sent w n)
@@ -142,7 +142,7 @@ turns-tail w p (Some n) t = by (p n)
     by true = turns-gone w n t
     by false = t
 
-turns-wrote : (setup : Setup) (w : LinkRecord) (s : ℕ) (ppi : _) (bytes : List ℕ) → Sane setup w → Turns (shape w)
+turns-wrote : (setup : Setup) (w : LinkRecord) (s : ℕ) (ppi : _) (bytes : List ℕ) → Consistent setup w → Turns (shape w)
     → Turns (shape (Changes.after_write w s ppi bytes))
 turns-wrote setup w s ppi [] g t = t
 turns-wrote setup w s ppi (b ∷ bs) g t =
@@ -150,14 +150,14 @@ turns-wrote setup w s ppi (b ∷ bs) g t =
     turns-as (written (shape w) (message_part m)) (shape (Changes.after_write w s ppi (b ∷ bs))) (Shapes.shape-written w m)
     (turns-written (shape w) (message_part m) g.sender t)
 
-turns-sent : (setup : Setup) (w : LinkRecord) (now : ℕ) (o : Option ℕ) → Sane setup w → Turns (shape w)
+turns-sent : (setup : Setup) (w : LinkRecord) (now : ℕ) (o : Option ℕ) → Consistent setup w → Turns (shape w)
     → Turns (shape (Changes.send_from (Changes.after_start w now) o))
 turns-sent setup w now None g t = turns-as (shape w) (shape (Changes.after_start w now)) (Shapes.shape-started w now) t
 turns-sent setup w now (Some n) g t =
     Going.turns (sends-keep (Going setup) (λ v h. going-takes setup v h) (Changes.after_start w now)
-    (record { sane = sane-started setup w now g; turns = turns-as (shape w) (shape (Changes.after_start w now)) (Shapes.shape-started w now) t }))
+    (record { consistent = consistent-started setup w now g; turns = turns-as (shape w) (shape (Changes.after_start w now)) (Shapes.shape-started w now) t }))
 
-turns-after : (setup : Setup) (w : LinkRecord) (e : Event) → Sane setup w → Turns (shape w) → Turns (shape (after w e))
+turns-after : (setup : Setup) (w : LinkRecord) (e : Event) → Consistent setup w → Turns (shape w) → Turns (shape (after w e))
 turns-after setup w (E.Open s) g t = t
 turns-after setup w (E.Mode s unordered reliability value) g t = t
 turns-after setup w (E.Write s ppi bytes) g t = turns-wrote setup w s ppi bytes g t
@@ -178,7 +178,7 @@ turns-after setup w (E.Read s) g t = turns-as (shape w) (shape (Changes.after_re
 
 pub turns-run : (setup : Setup) (h : History) → IsRun setup h → KindsInTurn (record_of setup h)
 turns-run setup [] run = λ n k h lt ord. cc
-turns-run setup (entry ∷ older) run = turns-after setup (record_of setup older) entry.0 (sane-run setup older run.1.1) (turns-run setup older run.1.1)
+turns-run setup (entry ∷ older) run = turns-after setup (record_of setup older) entry.0 (consistent-run setup older run.1.1) (turns-run setup older run.1.1)
 
 -- ## No more slots are acknowledged than there are
 
@@ -203,11 +203,11 @@ module _ (setup : Setup) (older : History) (is : IsSetup setup) (run : IsRun set
   w = record_of setup older
 
   seen-in : (r : W.Report) (k : ℕ) → slice_get w.network k ≡ Some (Sack r) → (p : ℕ) → reports r p ≡ true → p < length w.slots
-  seen-in r k e p h = Acknowledged.seen-made w (log_of setup older) p (received-run setup older is run).known.heard
+  seen-in r k e p h = Acknowledged.seen-made w (log_of setup older) p (received-run setup older is run).known.arrivals
       (Acknowledged.sack-at (log_of setup older) w.network k (Sack r) (Acknowledged.sacks-run setup older is run) e p h)
 
   taken-after : (e : Event) → refusal_of w e ≡ None → w.taken ≤ length w.slots → (after w e).taken ≤ length (after w e).slots
-  taken-after e ok le = by e (extends-after setup w e ok (sane-run setup older run)).grows.slots
+  taken-after e ok le = by e (extends-after setup w e ok (consistent-run setup older run)).grows.slots
     where
       same : (v : LinkRecord) → length w.slots ≤ length v.slots → v.taken ≡ w.taken → v.taken ≤ length v.slots
       same v g t = omega (arith, g, t, le)
@@ -228,13 +228,14 @@ module _ (setup : Setup) (older : History) (is : IsSetup setup) (run : IsRun set
       by (E.Mode s unordered reliability value) g = same (after w (E.Mode s unordered reliability value)) g refl
       by (E.Write s ppi bytes) g = same (after w (E.Write s ppi bytes)) g (wrote s ppi bytes)
       by (E.Start now) g = same (after w (E.Start now)) g refl
-      by (E.Send now) g = same (after w (E.Send now)) g (Moves.quiet-sent setup w now (front w) (sane-run setup older run)).taken
+      by (E.Send now) g = same (after w (E.Send now)) g (Moves.quiet-sent setup w now (front w) (consistent-run setup older run)).taken
       by (E.Resend tsn) g = same (after w (E.Resend tsn)) g refl
-      by (E.Expire now) g = same (after w (E.Expire now)) g (Moves.quiet-expire setup w now (front w) (sane-run setup older run)).taken
-      by (E.Tail now) g = same (after w (E.Tail now)) g (Moves.quiet-tail setup w (Changes.tailing w now) (sane-run setup older run)).taken
-      by (E.Late now) g = same (after w (E.Late now)) g (Moves.quiet-lates setup w now (sane-run setup older run)).taken
+      by (E.Expire now) g = same (after w (E.Expire now)) g (Moves.quiet-expire setup w now (front w) (consistent-run setup older run)).taken
+      by (E.Tail now) g = same (after w (E.Tail now)) g (Moves.quiet-tail setup w (Changes.tailing w now) (consistent-run setup older run)).taken
+      by (E.Late now) g = same (after w (E.Late now)) g (Moves.quiet-lates setup w now (consistent-run setup older run)).taken
       by (E.Abandon tsn) g =
-          same (after w (E.Abandon tsn)) g (Moves.quiet-abandoned setup w (Messages.message_of w (Messages.place_of w tsn)) (sane-run setup older run)).taken
+          same (after w (E.Abandon tsn)) g
+          (Moves.quiet-abandoned setup w (Messages.message_of w (Messages.place_of w tsn)) (consistent-run setup older run)).taken
       by (E.Skip upto names) g = same (after w (E.Skip upto names)) g refl
       by (E.Ack credit) g = same (after w (E.Ack credit)) g refl
       by (E.Arrive k) g = same (after w (E.Arrive k)) g (Acknowledged.as-datagram w (slice_get w.network k)).taken

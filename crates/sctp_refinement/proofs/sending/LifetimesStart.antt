@@ -147,8 +147,8 @@ module _ (w : LinkRecord) (now : ℕ) where
       (λ k a b p. waiting_of-now first k (omega arith) (e k (omega arith)))
       ∙ ap (λ c. flat_map (waiting_of v) (numbers_where (λ n. t (message_at v n)) 0 c)) (sym len-same)
 
-  half-same : messages_where v (is_partially_sent v) ≡ messages_where w (is_partially_sent w)
-  half-same =
+  partial-same : messages_where v (is_partially_sent v) ≡ messages_where w (is_partially_sent w)
+  partial-same =
       ap (numbers_where (is_partially_sent v) 0) len-same
       ∙ kept-same (is_partially_sent v) (is_partially_sent w) 0 len (λ k a b. ap (λ x. nat_lt 0 (sent_of w k)
       && (nat_lt (sent_of w k) (length (pieces (length x.bytes) w.setup.size x.bytes)) && not x.abandoned)) (message-now k (omega arith)))
@@ -188,7 +188,7 @@ module _ (w : LinkRecord) (now : ℕ) where
               ∙ where-now q.next_unstarted (λ x. x.ordered && not (x.expired || x.abandoned)) (λ m. refl) t.unstarted;
           unordered = ap (change_where (pending.is_to_start q.next_unstarted) (pending.with_deadline now)) t.pending.unordered
               ∙ where-now q.next_unstarted (λ x. not x.ordered && not (x.expired || x.abandoned)) (λ m. refl) t.unstarted;
-          selected = t.pending.selected ∙ sym (ap (λ l. selected_of v (first_of l)) half-same
+          selected = t.pending.selected ∙ sym (ap (λ l. selected_of v (first_of l)) partial-same
               ∙ selected-same (numbers_where (is_partially_sent w) 0 len) (front-kept (is_partially_sent w) 0 len));
         };
         in_flight = t.in_flight ∙ sym (sendings-alike w v refl refl

@@ -19,7 +19,7 @@ use Rattle.sctp_model.specs.Valid.{IsValid}
 use Rattle.sctp_model.specs.Contents.{chunk_at, cumulative_tsn}
 use Rattle.sctp_model.specs.Queues.{set_of, complete_set_of, is_unassembled, filter_of, FilterRecord}
 use Rattle.sctp_model.proofs.sender.Shape.{shape}
-use Rattle.sctp_model.proofs.sender.SenderRun.{Sane}
+use Rattle.sctp_model.proofs.sender.SenderRun.{Consistent}
 use Rattle.sctp_model.proofs.sender.Moves.{Quiet}
 use Rattle.sctp_model.proofs.sender.Network.{chunk-stays}
 use Rattle.sctp_model.proofs.receiver.Arrivals.{arrived-beyond, cumulative-le}
@@ -41,7 +41,7 @@ unbroken-short p from (suc count) zero le e = absurd (omega arith)
 unbroken-short p from (suc count) (suc total) le e = ap (λ k. if p from then k + 1 else 0)
     (unbroken-short p (from + 1) count total (omega arith) (ap p (let y : from + 1 + count ≡ from + suc count = omega arith in y) ∙ e))
 
-module _ (setup : Setup) (w v : LinkRecord) (log : List LogEntry) (g : Sane setup w) (g' : Sane setup v) (q : Quiet w v) (r : Received w log)
+module _ (setup : Setup) (w v : LinkRecord) (log : List LogEntry) (g : Consistent setup w) (g' : Consistent setup v) (q : Quiet w v) (r : Received w log)
     (valid : IsValid w) where
   still : Still (view w) (view v)
   still = still-of setup w v g g' q

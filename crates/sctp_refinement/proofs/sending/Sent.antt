@@ -22,7 +22,7 @@ use Rattle.sctp_model.specs.Amounts.{is_expired_or_abandoned}
 use Rattle.sctp_model.proofs.sender.Shape.{shape, sent}
 use Rattle.sctp_model.proofs.sender.Sender.{Sender}
 use Rattle.sctp_model.proofs.sender.SenderSteps
-use Rattle.sctp_model.proofs.sender.SenderSteps.{Takes, is-half, sent-other, sent-here}
+use Rattle.sctp_model.proofs.sender.SenderSteps.{Takes, is-partial, sent-other, sent-here}
 use Rattle.sctp_model.proofs.sender.Fronts.{front-takes, is-unsent}
 use Rattle.sctp_model.proofs.sender.Shapes
 use Rattle.sctp_refinement.specs.Refines.{waiting_at, waiting_of, waiting_where, waits_ordered, waits_unordered, selected_of, RefinesPending}
@@ -83,12 +83,12 @@ module _ (w : LinkRecord) (s : Sender (shape w)) (turns : KindsInTurn w) (n : �
   takes : Takes (shape w) n
   takes = front-takes (shape w) n s is
 
-  first-half : is_partially_sent w n ≡ true → FrontIs w n
-  first-half h = record {
+  first-partial : is_partially_sent w n ≡ true → FrontIs w n
+  first-partial h = record {
     takes = takes;
     before = λ k lt e. (fails (is_partially_sent w k) (λ g. absurd (omega (arith, lt, takes.alone k g))), turns n k h lt e);
     selected = inl h;
-    kinds = λ z. absurd (omega (arith, z, (SenderSteps.of-half (shape w) n h).some));
+    kinds = λ z. absurd (omega (arith, z, (SenderSteps.of-partial (shape w) n h).some));
   }
 
   neither : (a b : Bool) → (a && b) ≡ false → b ≡ true → a ≡ false
@@ -134,14 +134,14 @@ module _ (w : LinkRecord) (s : Sender (shape w)) (turns : KindsInTurn w) (n : �
       (first_of (messages_where w (λ k. is_unsent w k && (message_at w k).ordered)))) ≡ Some n → FrontIs w n
   first None f e = second (λ j lt. f j lt) (first_of (messages_where w (λ k. is_unsent w k && not (message_at w k).ordered)))
       (first-kept (λ k. is_unsent w k && not (message_at w k).ordered) (length w.messages)) e
-  first (Some k) f e = let same : k ≡ n = cc in first-half (ap (is_partially_sent w) (sym same) ∙ f.1)
+  first (Some k) f e = let same : k ≡ n = cc in first-partial (ap (is_partially_sent w) (sym same) ∙ f.1)
 
   pub front_is : FrontIs w n
   front_is = first (first_of (messages_where w (is_partially_sent w))) (first-kept (is_partially_sent w) (length w.messages)) is
 
 -- a message that is not expired or abandoned, neither partially sent nor unsent, was wholly sent
 pub all-sent : (w : LinkRecord) (k : ℕ) → is_expired_or_abandoned w k ≡ false → is_partially_sent w k ≡ false → is_unsent w k ≡ false → waiting_of w k ≡ []
-all-sent w k given half unsent = by (cases_lt 0 (sent_of w k)) (cases_lt (sent_of w k) (fragment_count w k))
+all-sent w k given partial unsent = by (cases_lt 0 (sent_of w k)) (cases_lt (sent_of w k) (fragment_count w k))
   where
     or-no : (a b : Bool) → (a || b) ≡ false → (a ≡ false) × (b ≡ false)
     or-no true b e = cc
@@ -149,7 +149,7 @@ all-sent w k given half unsent = by (cases_lt 0 (sent_of w k)) (cases_lt (sent_o
 
     by : (0 < sent_of w k) ⊎ (sent_of w k ≤ 0) → (sent_of w k < fragment_count w k) ⊎ (fragment_count w k ≤ sent_of w k) → waiting_of w k ≡ []
     by (inr z) t = absurd (not_both (sym unsent ∙ is-unsent (shape w) k (omega arith) (or-no (message_at w k).expired (message_at w k).abandoned given).0))
-    by (inl pos) (inl l) = absurd (not_both (sym half ∙ is-half (shape w) k pos l (or-no (message_at w k).expired (message_at w k).abandoned given).1))
+    by (inl pos) (inl l) = absurd (not_both (sym partial ∙ is-partial (shape w) k pos l (or-no (message_at w k).expired (message_at w k).abandoned given).1))
     by (inl pos) (inr g) = ap (λ c. map (waiting_at w k) (numbers_from (sent_of w k) c)) (let z : fragment_count w k - sent_of w k ≡ 0 = omega arith in z)
 
 -- ## The fragment leaves its list
@@ -247,13 +247,13 @@ module _ (w : LinkRecord) (n : ℕ) (f : FrontIs w n) where
   )
 
   -- the partially sent message then
-  half-elsewhere : (k : ℕ) → (n ≡ k → ⊥) → is_partially_sent v k ≡ false
-  half-elsewhere k ne =
+  partial-elsewhere : (k : ℕ) → (n ≡ k → ⊥) → is_partially_sent v k ≡ false
+  partial-elsewhere k ne =
       ap (λ s. nat_lt 0 s && (nat_lt s (fragment_count w k) && not (message_at w k).abandoned)) (sent-elsewhere k ne)
       ∙ fails (is_partially_sent w k) (λ h. ne (sym (f.takes.alone k h)))
 
-  half-here : is_partially_sent v n ≡ not (i + 1 == fragment_count w n)
-  half-here =
+  partial-here : is_partially_sent v n ≡ not (i + 1 == fragment_count w n)
+  partial-here =
       let more = f.takes.more in
       ap (λ s. nat_lt 0 s && (nat_lt s (fragment_count w n) && not (message_at w n).abandoned)) sent-now
       ∙ ap (λ b. nat_lt 0 (i + 1) && (nat_lt (i + 1) (fragment_count w n) && not b)) f.takes.alive
@@ -282,16 +282,16 @@ module _ (w : LinkRecord) (n : ℕ) (f : FrontIs w n) where
       found (k ∷ rest) g h =
           by_same {P = Some (let s : Selected = record { message_id = n; unordered = not (message_at w n).ordered } in s) ≡ selected_of v (Some k)} n k
           (λ e. ap (λ j. Some (let s : Selected = record { message_id = j; unordered = not (message_at w j).ordered } in s)) e)
-          (λ ne x. absurd (not_both (sym (half-elsewhere k ne) ∙ g.passes)))
+          (λ ne x. absurd (not_both (sym (partial-elsewhere k ne) ∙ g.passes)))
 
       none : is_partially_sent v n ≡ false → (k : ℕ) → is_partially_sent v k ≡ false
-      none h k = by_same {P = is_partially_sent v k ≡ false} n k (λ e. ap (is_partially_sent v) (sym e) ∙ h) (λ ne x. half-elsewhere k ne)
+      none h k = by_same {P = is_partially_sent v k ≡ false} n k (λ e. ap (is_partially_sent v) (sym e) ∙ h) (λ ne x. partial-elsewhere k ne)
 
       by : (b : Bool) → (i + 1 == fragment_count w n) ≡ b
           → (if b then None else Some (let s : Selected = record { message_id = n; unordered = not (message_at w n).ordered } in s))
           ≡ selected_of v (first_of (messages_where v (is_partially_sent v)))
-      by true e = sym (ap (λ l. selected_of v (first_of l)) (kept-none (is_partially_sent v) 0 (length w.messages) (λ k a b. none (half-here ∙ ap not e) k)))
-      by false e = found (messages_where v (is_partially_sent v)) (front-kept (is_partially_sent v) 0 (length w.messages)) (half-here ∙ ap not e)
+      by true e = sym (ap (λ l. selected_of v (first_of l)) (kept-none (is_partially_sent v) 0 (length w.messages) (λ k a b. none (partial-here ∙ ap not e) k)))
+      by false e = found (messages_where v (is_partially_sent v)) (front-kept (is_partially_sent v) 0 (length w.messages)) (partial-here ∙ ap not e)
 
   -- the queue shows this fragment, and without it holds what the record says
   pub pending-sent : (q : Pending) → RefinesPending w q → (next_pending q ≡ Some c) × RefinesPending v (rest_after c.beginning_fragment c.unordered q)
@@ -311,9 +311,9 @@ module _ (w : LinkRecord) (n : ℕ) (f : FrontIs w n) where
       own : Selected
       own = record { message_id = n; unordered = not (message_at w n).ordered }
 
-      half : (k : List ℕ) → FrontOf (is_partially_sent w) 0 (length w.messages) k → is_partially_sent w n ≡ true → selected_of w (first_of k) ≡ Some own
-      half [] g h = absurd (not_both (sym (g n (omega arith) (omega (arith, f.takes.made))) ∙ h))
-      half (k ∷ rest) g h = let e = f.takes.alone k g.passes in
+      partial : (k : List ℕ) → FrontOf (is_partially_sent w) 0 (length w.messages) k → is_partially_sent w n ≡ true → selected_of w (first_of k) ≡ Some own
+      partial [] g h = absurd (not_both (sym (g n (omega arith) (omega (arith, f.takes.made))) ∙ h))
+      partial (k ∷ rest) g h = let e = f.takes.alone k g.passes in
           ap (λ j. Some (let s : Selected = record { message_id = j; unordered = not (message_at w j).ordered } in s)) e
 
       ends : (b : Bool) → (if b && (n == n) then None else Some own) ≡ (if b then None else Some own)
@@ -334,7 +334,7 @@ module _ (w : LinkRecord) (n : ℕ) (f : FrontIs w n) where
           → (next_pending q ≡ Some c) × RefinesPending v (rest_after c.beginning_fragment c.unordered q)
       by (inl h) =
           let p = popped-some own q c (waiting_where v (kind_of u)) c.beginning_fragment (t.selected
-          ∙ half (messages_where w (is_partially_sent w)) (front-kept (is_partially_sent w) 0 (length w.messages)) h) l.0 in
+          ∙ partial (messages_where w (is_partially_sent w)) (front-kept (is_partially_sent w) 0 (length w.messages)) h) l.0 in
           (p.0, subst (RefinesPending v) (sym p.1) (l.1 (selected_after (Some own) u c) (ends (i + 1 == fragment_count w n) ∙ selected-then)))
       by (inr r) =
           let sel = t.selected ∙ ap (λ k. selected_of w (first_of k)) (kept-none (is_partially_sent w) 0 (length w.messages) (λ k a b. r.1 k (omega arith))) in

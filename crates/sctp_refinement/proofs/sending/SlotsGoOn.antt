@@ -13,12 +13,13 @@ use Rattle.sctp_model.specs.Messages
 use Rattle.sctp_model.specs.Receiver
 use Rattle.sctp_model.specs.Changes
 use Rattle.sctp_model.specs.Steps.{History, record_of, IsRun, after}
-use Rattle.sctp_model.proofs.sender.Shape.{Shape, MessagePart, shape, message_part, has, sent, parts, half, slotted, written, abandoned_at, expired_at}
+use Rattle.sctp_model.proofs.sender.Shape.{Shape, MessagePart, shape, message_part, has, sent, parts, partial, slotted, written, abandoned_at, expired_at}
 use Rattle.sctp_model.proofs.sender.Shapes
 use Rattle.sctp_model.proofs.sender.Sender.{Sender, slot-old, slot-new}
-use Rattle.sctp_model.proofs.sender.SenderSteps.{is-half, half-one}
+use Rattle.sctp_model.proofs.sender.SenderSteps.{is-partial, partial-one}
 use Rattle.sctp_model.proofs.sender.SenderEnds.{message-old, parts-old}
-use Rattle.sctp_model.proofs.sender.SenderRun.{Sane, sane-run, sane-takes, sane-started, sane-abandoned, sends-keep, written_as, AllSent, sent-all, late-sent}
+use Rattle.sctp_model.proofs.sender.SenderRun.{Consistent, consistent-run, consistent-takes, consistent-started, consistent-abandoned, sends-keep, written_as}
+use Rattle.sctp_model.proofs.sender.SenderRun.{AllSent, sent-all, late-sent}
 use Rattle.sctp_model.proofs.sender.Fronts.{front-takes}
 use Rattle.sctp_model.proofs.sender.Network.{same-received, same-taken, same-read}
 
@@ -31,28 +32,28 @@ abbrev pub AllGoOn : Shape → Type 0
 AllGoOn x = (p : ℕ) → p < x.slots → (x.slot p).is_terminal_chunk ≡ false → (x.slot p).fragment + 1 < parts x (x.slot p).message → GoesOn x p
 
 -- the message of the last slot is partially sent, where that does not end it
-half-last : (x : Shape) (p : ℕ) → Sender x → p + 1 ≡ x.slots → (x.slot p).is_terminal_chunk ≡ false → (x.slot p).fragment + 1 < parts x (x.slot p).message
-    → (x.message (x.slot p).message).abandoned ≡ false → half x (x.slot p).message ≡ true
-half-last x p s e mark lt alive =
+partial-last : (x : Shape) (p : ℕ) → Sender x → p + 1 ≡ x.slots → (x.slot p).is_terminal_chunk ≡ false → (x.slot p).fragment + 1 < parts x (x.slot p).message
+    → (x.message (x.slot p).message).abandoned ≡ false → partial x (x.slot p).message ≡ true
+partial-last x p s e terminal lt alive =
     let n = (x.slot p).message in
-    let has-it : has x n p ≡ true = and (n == n) (not (x.slot p).is_terminal_chunk) (same-yes n) (ap not mark) in
+    let has-it : has x n p ≡ true = and (n == n) (not (x.slot p).is_terminal_chunk) (same-yes n) (ap not terminal) in
     let all : sent x n ≡ length (numbers_where (has x n) 0 p) + 1 =
     ap (λ c. length (numbers_where (has x n) 0 c)) (sym e ∙ add-one p) ∙ ap length (kept-snoc_in (has x n) 0 p p (omega arith) has-it)
     ∙ length-append (numbers_where (has x n) 0 p) (p ∷ []) in
     let number = s.number p (omega (arith, e)) in
-    is-half x n (omega (arith, all)) (omega (arith, all, number, lt)) alive
+    is-partial x n (omega (arith, all)) (omega (arith, all, number, lt)) alive
 
 -- ## Each change keeps it
 
 -- one more slot, of the only message that may be partially sent
-goes-slotted : (x : Shape) (n : ℕ) (m : Bool) → Sender x → ((k : ℕ) → half x k ≡ true → k ≡ n) → (m ≡ false → (x.message n).abandoned ≡ false) → AllGoOn x
+goes-slotted : (x : Shape) (n : ℕ) (m : Bool) → Sender x → ((k : ℕ) → partial x k ≡ true → k ≡ n) → (m ≡ false → (x.message n).abandoned ≡ false) → AllGoOn x
     → AllGoOn (slotted x n m)
-goes-slotted x n m s alone alive g p lt mark short = by_last {P = GoesOn (slotted x n m) p} p x.slots lt old new
+goes-slotted x n m s alone alive g p lt terminal short = by_last {P = GoesOn (slotted x n m) p} p x.slots lt old new
   where
     old : p < x.slots → GoesOn (slotted x n m) p
     old l =
         let here = slot-old x n p m l in
-        let mark' : (x.slot p).is_terminal_chunk ≡ false = ap (λ z. z.is_terminal_chunk) (sym here) ∙ mark in
+        let mark' : (x.slot p).is_terminal_chunk ≡ false = ap (λ z. z.is_terminal_chunk) (sym here) ∙ terminal in
         let short' : (x.slot p).fragment + 1 < parts x (x.slot p).message = subst (λ z. z.fragment + 1 < parts x z.message) here short in
         let o = g p l mark' short' in
         let top : (slotted x n m).slots ≡ x.slots + 1 = refl in
@@ -60,7 +61,7 @@ goes-slotted x n m s alone alive g p lt mark short = by_last {P = GoesOn (slotte
           same = λ a. by_last {P = ((slotted x n m).slot (p + 1)).message ≡ ((slotted x n m).slot p).message} (p + 1) x.slots (omega (arith, a, top))
               (λ b. ap (λ z. z.message) (slot-old x n (p + 1) m b) ∙ o.same b ∙ ap (λ z. z.message) (sym here))
               (λ b. ap (λ r. ((slotted x n m).slot r).message) b ∙ ap (λ z. z.message) (slot-new x n m)
-              ∙ sym (alone (x.slot p).message (half-last x p s b mark' short' (o.alive b))) ∙ ap (λ z. z.message) (sym here));
+              ∙ sym (alone (x.slot p).message (partial-last x p s b mark' short' (o.alive b))) ∙ ap (λ z. z.message) (sym here));
           alive = λ a. absurd (omega (arith, a, top, l));
         }
 
@@ -71,29 +72,29 @@ goes-slotted x n m s alone alive g p lt mark short = by_last {P = GoesOn (slotte
         ∙ slot-new x n m in
         record {
           same = λ a. absurd (omega (arith, a, top, e));
-          alive = λ a. ap (λ z. (x.message z.message).abandoned) here ∙ alive (ap (λ z. z.is_terminal_chunk) (sym here) ∙ mark);
+          alive = λ a. ap (λ z. (x.message z.message).abandoned) here ∙ alive (ap (λ z. z.is_terminal_chunk) (sym here) ∙ terminal);
         }
 
 -- a message is abandoned, whose fragment does not stand last with more to come
 goes-abandoned : (x : Shape) (n : ℕ) → ((p : ℕ) → p + 1 ≡ x.slots → (x.slot p).is_terminal_chunk ≡ false → (x.slot p).fragment + 1 < parts x (x.slot p).message
     → (x.message (x.slot p).message).abandoned ≡ false → (x.slot p).message ≡ n → ⊥) → AllGoOn x → AllGoOn (abandoned_at x n)
-goes-abandoned x n last g p lt mark short =
-    let o = g p lt mark short in
+goes-abandoned x n last g p lt terminal short =
+    let o = g p lt terminal short in
     record {
       same = o.same;
       alive = λ e. by_same {P = (((x.slot p).message == n) || (x.message (x.slot p).message).abandoned) ≡ false} (x.slot p).message n
-          (λ z. absurd (last p e mark short (o.alive e) z))
+          (λ z. absurd (last p e terminal short (o.alive e) z))
           (λ ne f. ap (λ b. b || (x.message (x.slot p).message).abandoned) f ∙ o.alive e);
     }
 
 goes-written : (x : Shape) (m : MessagePart) → Sender x → AllGoOn x → AllGoOn (written x m)
-goes-written x m s g p lt mark short =
+goes-written x m s g p lt terminal short =
     let made = s.made p lt in
-    let o = g p lt mark (omega (arith, short, parts-old x m (x.slot p).message made)) in
+    let o = g p lt terminal (omega (arith, short, parts-old x m (x.slot p).message made)) in
     record { same = o.same; alive = λ e. ap (λ y. y.abandoned) (message-old x m (x.slot p).message made) ∙ o.alive e }
 
 goes-expired : (x : Shape) (n : ℕ) → AllGoOn x → AllGoOn (expired_at x n)
-goes-expired x n g p lt mark short = let o = g p lt mark short in record { same = o.same; alive = o.alive }
+goes-expired x n g p lt terminal short = let o = g p lt terminal short in record { same = o.same; alive = o.alive }
 
 -- ## Each event keeps it
 
@@ -102,52 +103,54 @@ goes-as x y e g = subst AllGoOn (sym e) g
 
 -- what a Send keeps
 record Sends (setup : Setup) (w : LinkRecord) : Type 0 where
-  sane : Sane setup w
+  consistent : Consistent setup w
   on : AllGoOn (shape w)
 
 goes-takes : (setup : Setup) (w : LinkRecord) → Sends setup w → Sends setup (Changes.send_fragment w)
-goes-takes setup w g = record { sane = sane-takes setup w g.sane; on = step (Messages.front w) refl }
+goes-takes setup w g = record { consistent = consistent-takes setup w g.consistent; on = step (Messages.front w) refl }
   where
     step : (o : Option ℕ) → Messages.front w ≡ o → AllGoOn (shape (Changes.send_fragment_of w o))
     step None e = g.on
     step (Some n) e =
-        let t = front-takes (shape w) n g.sane.sender e in
+        let t = front-takes (shape w) n g.consistent.sender e in
         goes-as (slotted (shape w) n false) (shape (Changes.with_slot w n false)) (Shapes.shape-slot w n false)
-        (goes-slotted (shape w) n false g.sane.sender t.alone (λ z. t.alive) g.on)
+        (goes-slotted (shape w) n false g.consistent.sender t.alone (λ z. t.alive) g.on)
 
-goes-sent : (setup : Setup) (w : LinkRecord) (now : ℕ) (o : Option ℕ) → Sane setup w → AllGoOn (shape w)
+goes-sent : (setup : Setup) (w : LinkRecord) (now : ℕ) (o : Option ℕ) → Consistent setup w → AllGoOn (shape w)
     → AllGoOn (shape (Changes.send_from (Changes.after_start w now) o))
 goes-sent setup w now None s g = goes-as (shape w) (shape (Changes.after_start w now)) (Shapes.shape-started w now) g
 goes-sent setup w now (Some n) s g =
     let r = sends-keep (Sends setup) (λ v h. goes-takes setup v h) (Changes.after_start w now)
-    (record { sane = sane-started setup w now s; on = goes-as (shape w) (shape (Changes.after_start w now)) (Shapes.shape-started w now) g }) in
+    (record { consistent = consistent-started setup w now s; on = goes-as (shape w) (shape (Changes.after_start w now)) (Shapes.shape-started w now) g }) in
     r.on
 
-goes-gone : (setup : Setup) (w : LinkRecord) (n : ℕ) → Sane setup w → AllGoOn (shape w) → AllGoOn (shape (Changes.after_abandon w n))
+goes-gone : (setup : Setup) (w : LinkRecord) (n : ℕ) → Consistent setup w → AllGoOn (shape w) → AllGoOn (shape (Changes.after_abandon w n))
 goes-gone setup w n s g = step (Messages.is_partially_sent w n) refl
   where
     last : (m : Bool) → m ≡ true → (p : ℕ) → p + 1 ≡ (slotted (shape w) n m).slots → ((slotted (shape w) n m).slot p).is_terminal_chunk ≡ false → ⊥
-    last m t p e mark =
+    last m t p e terminal =
         let at : p ≡ (shape w).slots = omega (arith, e) in
-        not_both (sym mark ∙ ap (λ r. ((slotted (shape w) n m).slot r).is_terminal_chunk) at ∙ ap (λ z. z.is_terminal_chunk) (slot-new (shape w) n m) ∙ t)
+        not_both (sym terminal ∙ ap (λ r. ((slotted (shape w) n m).slot r).is_terminal_chunk) at ∙ ap (λ z. z.is_terminal_chunk) (slot-new (shape w) n m) ∙ t)
 
     step : (b : Bool) → Messages.is_partially_sent w n ≡ b
         → AllGoOn (shape (Changes.message_changed (if b then Changes.with_slot w n true else w) n Changes.mark_abandoned))
     step true e =
         goes-as (abandoned_at (slotted (shape w) n true) n) (shape (Changes.message_changed (Changes.with_slot w n true) n Changes.mark_abandoned))
         (Shapes.shape-abandoned (Changes.with_slot w n true) n ∙ ap (λ y. abandoned_at y n) (Shapes.shape-slot w n true))
-        (goes-abandoned (slotted (shape w) n true) n (λ p a mark c d z. last true refl p a mark)
-        (goes-slotted (shape w) n true s.sender (λ k h. half-one (shape w) k n s.sender h e) (λ z. cc) g))
+        (goes-abandoned (slotted (shape w) n true) n (λ p a terminal c d z. last true refl p a terminal)
+        (goes-slotted (shape w) n true s.sender (λ k h. partial-one (shape w) k n s.sender h e) (λ z. cc) g))
     step false e =
         goes-as (abandoned_at (shape w) n) (shape (Changes.message_changed w n Changes.mark_abandoned)) (Shapes.shape-abandoned w n)
-        (goes-abandoned (shape w) n (λ p a mark c d z. not_both (sym e ∙ ap (half (shape w)) (sym z) ∙ half-last (shape w) p s.sender a mark c d)) g)
+        (goes-abandoned (shape w) n
+        (λ p a terminal c d z. not_both (sym e ∙ ap (partial (shape w)) (sym z) ∙ partial-last (shape w) p s.sender a terminal c d)) g)
 
-goes-late : (setup : Setup) (ns : List ℕ) (w : LinkRecord) → Sane setup w → AllSent w ns → AllGoOn (shape w) → AllGoOn (shape (fold Changes.after_abandon w ns))
+goes-late : (setup : Setup) (ns : List ℕ) (w : LinkRecord) → Consistent setup w → AllSent w ns → AllGoOn (shape w)
+    → AllGoOn (shape (fold Changes.after_abandon w ns))
 goes-late setup [] w s a g = g
 goes-late setup (n ∷ ns) w s a g =
-    goes-late setup ns (Changes.after_abandon w n) (sane-abandoned setup w n s a.0) (sent-all w n ns a.1) (goes-gone setup w n s g)
+    goes-late setup ns (Changes.after_abandon w n) (consistent-abandoned setup w n s a.0) (sent-all w n ns a.1) (goes-gone setup w n s g)
 
-goes-tail : (setup : Setup) (w : LinkRecord) (o : Option ℕ) → Sane setup w → AllGoOn (shape w) → AllGoOn (shape (Changes.after_tail w o))
+goes-tail : (setup : Setup) (w : LinkRecord) (o : Option ℕ) → Consistent setup w → AllGoOn (shape w) → AllGoOn (shape (Changes.after_tail w o))
 goes-tail setup w None s g = g
 goes-tail setup w (Some n) s g = goes-gone setup w n s g
 
@@ -156,7 +159,7 @@ goes-expiring w None g = g
 goes-expiring w (Some n) g =
     goes-as (expired_at (shape w) n) (shape (Changes.message_changed w n Changes.mark_expired)) (Shapes.shape-expired w n) (goes-expired (shape w) n g)
 
-goes-after : (setup : Setup) (w : LinkRecord) (e : Event) → Sane setup w → AllGoOn (shape w) → AllGoOn (shape (after w e))
+goes-after : (setup : Setup) (w : LinkRecord) (e : Event) → Consistent setup w → AllGoOn (shape w) → AllGoOn (shape (after w e))
 goes-after setup w (E.Open s) a g = g
 goes-after setup w (E.Mode s u r v) a g = g
 goes-after setup w (E.Write s ppi []) a g = g
@@ -179,5 +182,5 @@ goes-after setup w (E.Read s) a g = goes-as (shape w) (shape (after w (E.Read s)
 
 -- in every history
 pub goes-run : (setup : Setup) (h : History) → IsRun setup h → AllGoOn (shape (record_of setup h))
-goes-run setup [] run = λ p lt mark short. absurd (omega arith)
-goes-run setup (entry ∷ older) run = goes-after setup (record_of setup older) entry.0 (sane-run setup older run.1.1) (goes-run setup older run.1.1)
+goes-run setup [] run = λ p lt terminal short. absurd (omega arith)
+goes-run setup (entry ∷ older) run = goes-after setup (record_of setup older) entry.0 (consistent-run setup older run.1.1) (goes-run setup older run.1.1)

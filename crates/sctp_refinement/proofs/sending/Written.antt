@@ -68,8 +68,8 @@ module _ (w : LinkRecord) (m : Message) (made : (p : ℕ) → p < length w.slots
       same p e = let h : (message_of w p == length w.messages) ≡ true =
           (both (message_of w p == length w.messages) (not (slot_at w p).is_terminal_chunk) e).0 in grind (arith, nat_tests)
 
-  half-same : messages_where v (is_partially_sent v) ≡ messages_where w (is_partially_sent w)
-  half-same =
+  partial-same : messages_where v (is_partially_sent v) ≡ messages_where w (is_partially_sent w)
+  partial-same =
       ap (numbers_where (is_partially_sent v) 0) (Waiting.len-more w m)
       ∙ kept-snoc_out (is_partially_sent v) 0 len len (omega arith)
       (ap (λ c. nat_lt 0 c && (nat_lt c (fragment_count v len) && not (message_at v len).abandoned)) unsent)
@@ -77,7 +77,7 @@ module _ (w : LinkRecord) (m : Message) (made : (p : ℕ) → p < length w.slots
       && (nat_lt (sent_of w k) (length (pieces (length x.bytes) w.setup.size x.bytes)) && not x.abandoned)) (Waiting.message-old w m k (omega arith)))
 
   selected-written : selected_of v (first_of (messages_where v (is_partially_sent v))) ≡ selected_of w (first_of (messages_where w (is_partially_sent w)))
-  selected-written = ap (λ l. selected_of v (first_of l)) half-same ∙ selected-same w v (is_partially_sent w) len (λ n lt. Waiting.message-old w m n lt)
+  selected-written = ap (λ l. selected_of v (first_of l)) partial-same ∙ selected-same w v (is_partially_sent w) len (λ n lt. Waiting.message-old w m n lt)
 
   ordered-is : (b : Bool) → m.ordered ≡ b → (m.expired || m.abandoned) ≡ false → (q : Pending) (chunks : List ChunkPayloadData) → chunks ≡ waiting_of v len
       → RefinesPending w q → RefinesPending v (append_chunks (not b) chunks q)

@@ -269,8 +269,8 @@ module _ (w : LinkRecord) (s upto : ℕ) (names : List ℕ) (r : StreamRecord) (
     mine = map (index_of w) (on_stream w s names)
 
     -- the test after it tells of the end
-    told : fits v mine s ≡ true → nat_lt end (min_with first low + 2 ^ 15) ≡ true
-    told e = by (complete_first w (held_on w s)) refl
+    answered : fits v mine s ≡ true → nat_lt end (min_with first low + 2 ^ 15) ≡ true
+    answered e = by (complete_first w (held_on w s)) refl
       where
         sp : IsSpan v s mine
         sp = span-fits v s mine e
@@ -333,7 +333,7 @@ module _ (w : LinkRecord) (s upto : ℕ) (names : List ℕ) (r : StreamRecord) (
           one k (h, inr le) = (omega (arith, near', held-low w s k h, le), omega (arith, held-high w s k h))
 
       pub fits-after : fits v mine s ≡ nat_lt end (min_with first low + 2 ^ 15)
-      fits-after = same_test (fits v mine s) (nat_lt end (min_with first low + 2 ^ 15)) told tells
+      fits-after = same_test (fits v mine s) (nat_lt end (min_with first low + 2 ^ 15)) answered tells
 
     -- both tests
     pub fits-both : (fits w mine s && fits v mine s) ≡ names_fit w s names

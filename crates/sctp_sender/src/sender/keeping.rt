@@ -8,7 +8,7 @@ ghost use Rattle.sctp_sender.specs.Keeping.{after_returns, bytes_back, kept_afte
 ghost use Rattle.sctp_sender.specs.declared.sender.refusal.SenderRefusal.TheVariants.{ChunksInFlight, OutOfMemory};
 
 use super::Sender;
-use super::flight::keeping::{Kept, TakenBack, coming_back, told_back};
+use super::flight::keeping::{Kept, TakenBack, answered_back, coming_back};
 use super::outbound_streams::OutboundStreams;
 use crate::sender::refusal::SenderRefusal;
 use sctp_data::chunk::chunk_selective_ack::ChunkSelectiveAck;
@@ -66,13 +66,13 @@ impl Sender {
             return Ok(Vec::new(self.alloc));
         }
         let backs = coming_back(self.alloc, self.flight.queue(), sack, kept)?;
-        let told = told_back(self.alloc, self.flight.queue(), &backs)?;
-        if !is_room_for(self.flight.queue(), &told) {
+        let answered = answered_back(self.alloc, self.flight.queue(), &backs)?;
+        if !is_room_for(self.flight.queue(), &answered) {
             return Err(SenderRefusal::QueueFull);
         }
         self.flight.restore(backs);
-        return_each(&mut self.streams, &told);
-        Ok(told)
+        return_each(&mut self.streams, &answered);
+        Ok(answered)
     }
 
     // What is kept after a SACK; None where that is as before: nothing is kept, or the SACK is out of date. Refuses what `acked`
@@ -97,13 +97,13 @@ impl Sender {
 }
 
 // Whether all bytes, with those that come back, are at most the greatest usize.
-fn is_room_for(queue: &OutboundQueue, told: &[TakenBack]) -> bool
-    ensures { result ≡ nat_lt (total_bytes queue.now + bytes_back told.now) (2 ^ 64) }
+fn is_room_for(queue: &OutboundQueue, answered: &[TakenBack]) -> bool
+    ensures { result ≡ nat_lt (total_bytes queue.now + bytes_back answered.now) (2 ^ 64) }
 {
     let Some(mut all) = queue.pending_bytes().checked_add(queue.inflight_bytes()) else {
         return false;
     };
-    for one in told {
+    for one in answered {
         let Some(more) = all.checked_add(one.bytes) else {
             return false;
         };
@@ -113,10 +113,10 @@ fn is_room_for(queue: &OutboundQueue, told: &[TakenBack]) -> bool
 }
 
 // Adds to each stream what came back of it.
-fn return_each(streams: &mut OutboundStreams, told: &[TakenBack])
-    ensures { streams.new ≡ after_returns told.now streams.old }
+fn return_each(streams: &mut OutboundStreams, answered: &[TakenBack])
+    ensures { streams.new ≡ after_returns answered.now streams.old }
 {
-    for one in told {
+    for one in answered {
         streams.raise(one.stream, one.bytes);
     }
 }

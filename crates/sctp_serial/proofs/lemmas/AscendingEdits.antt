@@ -337,9 +337,6 @@ module _ {X : Type 0} (num : X → ℕ) (xs : List X) (s : Ascends num xs) (firs
 -- ## Edits that keep the order
 
 module _ {X : Type 0} (num : X → ℕ) where
-  pub ascends_none : Ascends num []
-  ascends_none = record { small = λ k d lt. absurd (omega arith); rises = λ i j d lt short. absurd (omega arith) }
-
   pub ascends_one : (x : X) → num x < 2 ^ 32 → Ascends num (x ∷ [])
   ascends_one x small = record { small = one_small; rises = λ i j d lt short. absurd (omega arith) }
     where
@@ -354,15 +351,6 @@ module _ {X : Type 0} (num : X → ℕ) where
         let len = length-drop n xs in
         subst (λ y. IsTrue (comes_before (num y) (num (get_or (drop n xs) j d)))) (sym (get_or-drop n xs i d)) (subst (λ y.
         IsTrue (comes_before (num (get_or xs (n + i) d)) (num y))) (sym (get_or-drop n xs j d)) (s.rises (n + i) (n + j) d (omega arith) (omega arith)));
-  }
-
-  pub ascends_take : (n : ℕ) (xs : List X) → Ascends num xs → Ascends num (take n xs)
-  ascends_take n xs s = record {
-    small = All-take (λ x. num x < 2 ^ 32) n xs s.small;
-    rises = λ i j d lt short.
-        let len = length-take n xs in
-        subst (λ y. IsTrue (comes_before (num y) (num (get_or (take n xs) j d)))) (sym (get_or-take n xs i d (omega arith)))
-        (subst (λ y. IsTrue (comes_before (num (get_or xs i d)) (num y))) (sym (get_or-take n xs j d (omega arith))) (s.rises i j d lt (omega arith)));
   }
 
   pub ascends_those : (p : X → Bool) (xs : List X) → Ascends num xs → Ascends num (filter p xs)
@@ -380,14 +368,9 @@ module _ {X : Type 0} (num : X → ℕ) where
     rises = all_pairs_remove (λ x y. IsTrue (comes_before (num x) (num y))) xs n lt s.rises;
   }
 
-  -- what keeps them ascending keeps what the mark says
-  pub order_kept : (mark : Bool) (xs ys : List X) → (Ascends num xs → Ascends num ys) → IsOrder mark (map num xs) → IsOrder mark (map num ys)
-  order_kept true xs ys f o = ascending num ys (f (ascends num xs o))
-  order_kept false xs ys f o = tt
-
   -- what the mark says where it is on
-  pub order_on : (mark : Bool) (xs : List X) → mark ≡ true → IsOrder mark (map num xs) → Ascends num xs
-  order_on mark xs on o = ascends num xs (subst (λ b. IsOrder b (map num xs)) on o)
+  pub order_on : (flag : Bool) (xs : List X) → flag ≡ true → IsOrder flag (map num xs) → Ascends num xs
+  order_on flag xs on o = ascends num xs (subst (λ b. IsOrder b (map num xs)) on o)
 
 -- ## A look at each
 
@@ -439,7 +422,7 @@ module _ {X : Type 0} (num : X → ℕ) (xs : List X) (first : ℕ) (small : fir
 -- ## Insertions
 
 -- the mark says no more than what holds
-pub order_if : (mark : Bool) (ns : List ℕ) → (mark ≡ true → IsAscending ns) → IsOrder mark ns
+pub order_if : (flag : Bool) (ns : List ℕ) → (flag ≡ true → IsAscending ns) → IsOrder flag ns
 order_if true ns f = f refl
 order_if false ns f = tt
 
@@ -479,15 +462,15 @@ module _ {X : Type 0} (has : X → Bool) (num : X → ℕ) (before : X → X →
         }
 
     -- before the first
-    pub insertion_in_front : (mark : Bool) (last : X) → last ≡ get_or xs (length xs - 1) last → comes_before n first ≡ true
-        → (mark ≡ true → distance n (num last) < 2 ^ 31) → IsInsertion has num before xs 0 mark
-    insertion_in_front mark last read front near =
+    pub insertion_in_front : (flag : Bool) (last : X) → last ≡ get_or xs (length xs - 1) last → comes_before n first ≡ true
+        → (flag ≡ true → distance n (num last) < 2 ^ 31) → IsInsertion has num before xs 0 flag
+    insertion_in_front flag last read front near =
         let absent = none_has_front num xs s first is_first some n small front in
         record {
           absent = none absent;
           in_range = omega arith;
           goes = λ x h. put x (number x h) 0 (front_place num xs s first is_first some n small front);
-          order = λ x h. order_if mark (map num (insert xs 0 x))
+          order = λ x h. order_if flag (map num (insert xs 0 x))
               (λ on. ascending num (insert xs 0 x) (keeps_front num xs s first is_first some n small front last read (near on) x (number x h)));
         }
 

@@ -15,7 +15,3 @@ halved p s t n h le = let e : p * (t + t) ≤ p * s = mul-le-mul_left p le in om
 
 pub digits_left : (p s n : ℕ) → p * s ≤ n → 0 < s → 2 * p ≤ 2 * n + 1
 digits_left p s n h pos = let e : p * 1 ≤ p * s = mul-le-mul_left p (omega arith) in omega arith
-
--- what stays within so many steps stays so with fewer
-pub fewer : (n a b : ℕ) → b ≤ a → IsWithinDigits n a → IsWithinDigits n b
-fewer n a b le h = let e : 2 ^ b ≤ 2 ^ a = pow_mono le in omega arith

@@ -84,13 +84,6 @@ remove_seam {X = X} front y zs n e = subst (λ i. remove (front ++ y ∷ zs) i �
     at [] = refl
     at (a ∷ front) = ap (λ ys. a ∷ ys) (at front)
 
-pub get_seam : {X : Type 0} (front : List X) (y : X) (zs : List X) (n : ℕ) (d : X) → length front ≡ n → get_or (front ++ y ∷ zs) n d ≡ y
-get_seam {X = X} front y zs n d e = subst (λ i. get_or (front ++ y ∷ zs) i d ≡ y) e (at front)
-  where
-    at : (front : List X) → get_or (front ++ y ∷ zs) (length front) d ≡ y
-    at [] = refl
-    at (a ∷ front) = at front
-
 -- putting an element back
 pub insert-remove : {X : Type 0} (xs : List X) (i : ℕ) (d : X) → i < length xs → insert (remove xs i) i (get_or xs i d) ≡ xs
 insert-remove [] i d lt = absurd (omega arith)

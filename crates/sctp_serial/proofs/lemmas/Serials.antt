@@ -17,7 +17,7 @@ use Rattle.std.proofs.lemmas.Option.{slice_get-get_or}
 use Rattle.sctp_data.specs.declared.chunk.chunk_payload_data.ChunkPayloadData.{ChunkPayloadData}
 use Rattle.sctp_list_lemmas.specs.Lists.{insert_before}
 use Rattle.sctp_list_lemmas.specs.Serial.{comes_before}
-use Rattle.sctp_list_lemmas.proofs.Edits.{OnlyAt, find-none, inserted-at, pairs_insert, pairs_tail}
+use Rattle.sctp_list_lemmas.proofs.Edits.{OnlyAt, find-none, inserted-at, pairs_insert}
 use Rattle.sctp_list_lemmas.proofs.Distances.{before_asym, before_irrefl}
 use Rattle.sctp_serial.specs.Window.{IsSerial, IsHeldAt, IsPlaceFor, SpansOneWindow, is_held}
 use Rattle.sctp_serial.specs.DataChunks.{has_tsn, chunk_before, tsns}
@@ -77,12 +77,6 @@ serial_same xs ys n same serial = record {
   in_range = λ k d lt. subst (λ t. t < 2 ^ 32) (sym (same k d (omega arith))) (serial.in_range k d (omega arith));
   ascending = λ i j d lt short. subst (λ t. IsTrue (comes_before t (get_or ys j d).tsn)) (sym (same i d (omega arith)))
       (subst (λ t. IsTrue (comes_before (get_or xs i d).tsn t)) (sym (same j d (omega arith))) (serial.ascending i j d lt (omega arith)));
-}
-
-pub serial_tail : (x : ChunkPayloadData) (xs : List ChunkPayloadData) → IsSerial (x ∷ xs) → IsSerial xs
-serial_tail x xs s = record {
-  in_range = All-tail (λ c. c.tsn < 2 ^ 32) x xs s.in_range;
-  ascending = pairs_tail (λ a b. IsTrue (comes_before a.tsn b.tsn)) x xs s.ascending;
 }
 
 module _ (xs : List ChunkPayloadData) (tsn place : ℕ) (chunk : ChunkPayloadData) (s : IsSerial xs) (held : IsHeldAt xs tsn place chunk) where

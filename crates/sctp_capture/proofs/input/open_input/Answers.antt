@@ -14,8 +14,8 @@ returns-then-begins_blocks g c = opened_blocks _ (g.R.Read.remaining c.fill.new.
 
 pub returns-in_default : goal.returns-in_default
 returns-in_default g c =
-    let told = rw c.held-in-None-2.ensures at c.other_kind.ensures.long in
-    let other : IsNoOther c.fill.new.self.held.items = λ long. sym (told long) ∙ c.in_default.is in
+    let answered = rw c.held-in-None-2.ensures at c.other_kind.ensures.long in
+    let other : IsNoOther c.fill.new.self.held.items = λ long. sym (answered long) ∙ c.in_default.is in
     opened_lines _ (g.R.Read.remaining c.fill.new.self.reader) c.fill.new.self.held.items c.in_ok-fill.ensures.keeps c.in_ok-fill.ensures.full
     (rw c.held.ensures at c.in-None.ensures.none)
     (rw c.held-in-None.ensures at (c.begins_blocks.ensures.no c.if-begins_blocks.false)) other

@@ -16,15 +16,15 @@ returns-then-is_dump g c =
 pub returns-in_ok-take_led-in-Some : goal.returns-in_ok-take_led-in-Some
 returns-in_ok-take_led-in-Some g c =
     let none : dumps.is_dump (line_in c.args.window.now.held.items) ≡ false = grind (arith, common_steps) in
-    let told : preamble_of (line_in c.args.window.now.held.items) ≡ Some c.in-Some.lead = grind (arith, common_steps) in
+    let answered : preamble_of (line_in c.args.window.now.held.items) ≡ Some c.in-Some.lead = grind (arith, common_steps) in
     text_led (g.R.Read.remaining c.args.window.now.reader) _ c.args.window.now.held.items c.in-Some.lead c.in_ok-take_led-in-Some.field-0 c.requires.1
-    c.requires.0 none told
+    c.requires.0 none answered
     c.in_ok-take_led-in-Some.ensures
 
 pub returns-in-None : goal.returns-in-None
 returns-in-None g c =
     let none : dumps.is_dump (line_in c.args.window.now.held.items) ≡ false = grind (arith, common_steps) in
-    let told : preamble_of (line_in c.args.window.now.held.items) ≡ None = grind (arith, common_steps) in
+    let answered : preamble_of (line_in c.args.window.now.held.items) ≡ None = grind (arith, common_steps) in
     IfOk-weaker c.take_single.result _ _
-    (λ found is. text_line (g.R.Read.remaining c.args.window.now.reader) _ c.args.window.now.held.items found c.requires.1 c.requires.0 none told is)
+    (λ found is. text_line (g.R.Read.remaining c.args.window.now.reader) _ c.args.window.now.held.items found c.requires.1 c.requires.0 none answered is)
     c.take_single.ensures

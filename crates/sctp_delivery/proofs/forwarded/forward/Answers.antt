@@ -13,9 +13,9 @@ goes-there : (t : Transmission) (r : Result (Option ChunkForwardTsn) SenderRefus
     → IfOk r (λ o. option_map (λ c. c.new_cumulative_tsn) o ≡ skip_end (advanced_ack_point t.flight) t.flight)
     → IfOk r (λ o. WhileFewTsns (λ s. s.sending.sender ≡ t → is_first_abandoned (in_flight s) ≡ true
     → option_map (λ c. c.new_cumulative_tsn) o ≡ Some (advanced_ack_point t.flight)))
-goes-there t (Err e) told = tt
-goes-there t (Ok o) told = λ first size max most limits cs s small some run few same gone.
-    told ∙ subst (λ (u : Transmission). skip_end (advanced_ack_point u.flight) u.flight ≡ Some (advanced_ack_point u.flight)) same
+goes-there t (Err e) answered = tt
+goes-there t (Ok o) answered = λ first size max most limits cs s small some run few same gone.
+    answered ∙ subst (λ (u : Transmission). skip_end (advanced_ack_point u.flight) u.flight ≡ Some (advanced_ack_point u.flight)) same
     (all-skip first size max most limits cs s small some run few gone)
 
 pub returns-clause-made : goal.returns-clause-made

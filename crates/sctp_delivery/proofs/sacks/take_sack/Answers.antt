@@ -27,8 +27,8 @@ all-taken : (t : Transmission) (k : Sack) (rs : List Released) → rs ≡ with_l
     (λ first count s. s.sending.sender ≡ t → Contains s.sacks k → All (λ r. 0 < r.bytes → was_taken r.tsn s ≡ true) rs)
 all-taken t k rs is first size max most limits cs s run small few same in' =
     let law = all-released-came first size max most limits cs s run small few in
-    let told = subst (λ x. All (IsTaken s) (released_by x s.sending.sender.flight)) in'.2 (law in'.0 k in'.1) in
-    let here = subst (λ (u : Transmission). All (IsTaken s) (released_by k u.flight)) same told in
+    let taken = subst (λ x. All (IsTaken s) (released_by x s.sending.sender.flight)) in'.2 (law in'.0 k in'.1) in
+    let here = subst (λ (u : Transmission). All (IsTaken s) (released_by k u.flight)) same taken in
     subst (All (IsTaken s)) (sym is)
     (all-of-every (IsTaken s) (with_lows (released_by k t.flight) t.streams)
     (lows-taken s (released_by k t.flight) t.streams (every-of-all (IsTaken s) (released_by k t.flight) here)))

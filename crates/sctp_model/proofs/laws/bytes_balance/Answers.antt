@@ -1,5 +1,5 @@
 use Rattle.sctp_model.proofs.acknowledgement.Bytes.{balances}
-use Rattle.sctp_model.proofs.acknowledgement.BytesTold.{sums_agree}
+use Rattle.sctp_model.proofs.acknowledgement.BytesAnswered.{sums_agree}
 use Rattle.sctp_model.proofs.laws.bytes_balance.Goals as goal
 
 pub returns-clause-balance : goal.returns-clause-balance

@@ -14,7 +14,7 @@ use Rattle.sctp_outbound.specs.outbound_queue.OutboundQueue.{Outbound, abandon_c
 use Rattle.sctp_serial.specs.DataChunks.{chunk_before, has_tsn}
 use Rattle.sctp_outbound.specs.payload_queue.PayloadQueue as payload
 use Rattle.sctp_outbound.specs.pending_queue.PendingQueue.{Pending, last_of, last_removed, selected_without, without}
-use Rattle.sctp_outbound.specs.pending_queue.Whole.{free, begun, stage_of, IsWhole, IsSendable, half_of, partially_sent, waits}
+use Rattle.sctp_outbound.specs.pending_queue.Whole.{free, begun, stage_of, IsWhole, IsSendable, partial_of, partially_sent, waits}
 use Rattle.sctp_serial.specs.Window.{IsWithinHalf, SpansOneWindow, is_held}
 use Rattle.sctp_outbound.proofs.lemmas.outbound_queue.Sendable.{made, or_false, sendable-marked, sendable-without}
 use Rattle.sctp_outbound.proofs.lemmas.pending_queue.CompleteMessages.{KeepsMessage, none_past, none_without}
@@ -108,10 +108,10 @@ those_empty p (x ∷ xs) h = step (p x) h (those_empty p xs)
     step false h ih = ih h
 
 -- the partially sent message waits
-pub half_waits : (os us : List ChunkPayloadData) (sel : Option Selected) (ro ru n m : ℕ) (xs : List ChunkPayloadData) → IsSendable (made os us sel ro ru) xs n
-    → half_of sel ≡ Some m → waits m (made os us sel ro ru) ≡ true
-half_waits os us None ro ru n m xs s h = absurd (none-some m h)
-half_waits os us (Some sel) ro ru n m xs s h = by sel.unordered s.ordered s.unordered
+pub partial_waits : (os us : List ChunkPayloadData) (sel : Option Selected) (ro ru n m : ℕ) (xs : List ChunkPayloadData)
+    → IsSendable (made os us sel ro ru) xs n → partial_of sel ≡ Some m → waits m (made os us sel ro ru) ≡ true
+partial_waits os us None ro ru n m xs s h = absurd (none-some m h)
+partial_waits os us (Some sel) ro ru n m xs s h = by sel.unordered s.ordered s.unordered
   where
     same : sel.message_id ≡ m
     same = cc
@@ -125,7 +125,7 @@ half_waits os us (Some sel) ro ru n m xs s h = by sel.unordered s.ordered s.unor
     by true w v = or-left _ _ (in_front true us v)
     by false w v = or-right _ _ (in_front false os w)
 
-selected_stays : (m : ℕ) (sel : Option Selected) → (half_of sel ≡ Some m → ⊥) → selected_without m sel ≡ sel
+selected_stays : (m : ℕ) (sel : Option Selected) → (partial_of sel ≡ Some m → ⊥) → selected_without m sel ≡ sel
 selected_stays m None h = refl
 selected_stays m (Some s) h = let other : (s.message_id == m) ≡ false = fails _ (λ e. h (ap Some (grind (arith, nat_tests)))) in rw other refl
 
@@ -136,7 +136,7 @@ without_none os us sel ro ru n m xs s h =
     let none = neither (list_any (is_of m) us) (list_any (is_of m) os) h in
     let ordered = those-none (is_of m) os (fails_all (is_of m) os none.1) in
     let unordered = those-none (is_of m) us (fails_all (is_of m) us none.0) in
-    let selected = selected_stays m sel (λ e. false≢true (sym h ∙ half_waits os us sel ro ru n m xs s e)) in
+    let selected = selected_stays m sel (λ e. false≢true (sym h ∙ partial_waits os us sel ro ru n m xs s e)) in
     ap₂ (λ cs ds. made cs ds (selected_without m sel) ro ru) ordered unordered ∙ ap (λ o. made os us o ro ru) selected
 
 pub last_removed_none : (m : ℕ) (q : Pending) → waits m q ≡ false → last_removed m q ≡ None
@@ -176,9 +176,6 @@ abandoned_room m tsn q h = step (last_removed m q.pending) refl
       inflight = record (payload.push_chunk (payload.with_chunks q.inflight (change_where (is_of m) as_abandoned q.inflight.chunks)) (terminal_chunk tsn c))
           { room = r };
     }) one
-
-pub waits_known : (m : ℕ) (q : Pending) (b : Bool) → (list_any (is_of m) q.unordered || list_any (is_of m) q.ordered) ≡ b → waits m q ≡ b
-waits_known m q b h = h
 
 -- ## The terminal chunk
 

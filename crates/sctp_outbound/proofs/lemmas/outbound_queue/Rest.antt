@@ -9,9 +9,9 @@ use Rattle.sctp_outbound.proofs.lemmas.outbound_queue.Sendable.{goes_on}
 use Rattle.sctp_outbound.proofs.lemmas.outbound_queue.SideBySide.{peeked_waits}
 use Rattle.sctp_list_lemmas.proofs.More.{fails}
 
-module _ (q : Pending) (xs : List ChunkPayloadData) (n m : ℕ) (s : IsSendable q xs n) (half : waits m q ≡ true → partially_sent q ≡ Some m) where
+module _ (q : Pending) (xs : List ChunkPayloadData) (n m : ℕ) (s : IsSendable q xs n) (partial : waits m q ≡ true → partially_sent q ≡ Some m) where
   front : waits m q ≡ true → GoesOn m (next_pending q)
-  front w = goes_on q xs n m s (half w)
+  front w = goes_on q xs n m s (partial w)
 
   pub none-in-front : next_pending q ≡ None → false ≡ waits m q
   none-in-front none = sym (fails (waits m q) (λ w. subst (GoesOn m) none (front w)))

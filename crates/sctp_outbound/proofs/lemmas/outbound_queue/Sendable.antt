@@ -17,7 +17,8 @@ use Rattle.sctp_serial.specs.DataChunks.{chunk_before, bytes_of, has_tsn, follow
 use Rattle.sctp_outbound.specs.pending_queue.PendingQueue.{Pending, front_of, list_of, next_pending, next_pending_of, chunk_to_pop, chunk_to_pop_from}
 use Rattle.sctp_outbound.specs.pending_queue.PendingQueue.{list_to_pop, rest_after, rest_from, selected_after, selected_without, without, without_message}
 use Rattle.sctp_outbound.specs.pending_queue.PendingQueue.{total_bytes}
-use Rattle.sctp_outbound.specs.pending_queue.Whole.{free, begun, GoesOn, stage_after, stage_of, IsWhole, IsMessage, IsMessageOrNone, IsSendable, ends, half_of}
+use Rattle.sctp_outbound.specs.pending_queue.Whole.{free, begun, GoesOn, stage_after, stage_of, IsWhole, IsMessage, IsMessageOrNone, IsSendable, ends}
+use Rattle.sctp_outbound.specs.pending_queue.Whole.{partial_of}
 use Rattle.sctp_outbound.specs.pending_queue.Whole.{partially_sent, has_end, in_order, order_of, rest_then, waits}
 use Rattle.sctp_outbound.proofs.lemmas.pending_queue.CompleteMessages.{IsWhole-append, IsWhole-message, IsWhole-without, IsWhole-change_where, KeepsMessage}
 use Rattle.sctp_outbound.proofs.lemmas.pending_queue.CompleteMessages.{list_any-change_where, list_any-message, none_before, none_past, none_without}
@@ -128,9 +129,9 @@ stage_of-without m false (Some s) below xs w = by s.unordered (s.message_id == m
         (omega arith) xs (subst (λ b. IsWhole false below (if b then free (s.message_id + 1) else begun s.message_id) xs) e w)
     by false false e w = subst (λ b. IsWhole false below (if b then free (s.message_id + 1) else begun s.message_id) xs) e w
 
-half-without : (m k : ℕ) (sel : Option Selected) → half_of sel ≡ Some k → (m ≡ k → ⊥) → half_of (selected_without m sel) ≡ Some k
-half-without m k None h differs = absurd (none-some k h)
-half-without m k (Some s) h differs =
+partial-without : (m k : ℕ) (sel : Option Selected) → partial_of sel ≡ Some k → (m ≡ k → ⊥) → partial_of (selected_without m sel) ≡ Some k
+partial-without m k None h differs = absurd (none-some k h)
+partial-without m k (Some s) h differs =
     let same : s.message_id ≡ k = cc in
     let other : (s.message_id == m) ≡ false = fails _ (λ e. differs (grind (arith, nat_tests))) in
     rw other h
@@ -142,7 +143,7 @@ sendable-without os us sel ro ru xs n m s = record {
   unordered = stage_of-without m true sel n (without_message m us) (IsWhole-without true n m (stage_of true sel) us s.unordered);
   apart = λ k h.
       fails _ (λ e. false≢true (sym (s.apart k (list_any-those (is_of k) (λ c. not (is_of m c)) os h)) ∙ list_any-those (is_of k) (λ c. not (is_of m c)) us e));
-  sent = λ k h w. half-without m k sel
+  sent = λ k h w. partial-without m k sel
       (s.sent k h (or_cases _ _ _ _ (list_any-those (is_of k) (λ c. not (is_of m c)) us) (list_any-those (is_of k) (λ c. not (is_of m c)) os) w))
       (λ e. false≢true (sym (subst (λ j. (list_any (is_of j) (without_message m us) || list_any (is_of j) (without_message m os)) ≡ false) e
       (or_false _ _ (none_without m us) (none_without m os))) ∙ w));
@@ -193,7 +194,7 @@ record Turn (kind : Bool) (n : ℕ) (sel : Option Selected) (c : ChunkPayloadDat
   tail : IsWhole kind n (stage_after c) cs
   number : c.message_id < n
   others : IsWhole (not kind) n (free 0) other
-  half : (m : ℕ) → half_of sel ≡ Some m → c.message_id ≡ m
+  partial : (m : ℕ) → partial_of sel ≡ Some m → c.message_id ≡ m
   after : selected_after sel kind c ≡ selected_by kind c
 
 turn_new : (kind : Bool) (n : ℕ) (c : ChunkPayloadData) (cs other : List ChunkPayloadData) → IsWhole kind n (free 0) (c ∷ cs)
@@ -203,7 +204,7 @@ turn_new kind n c cs other w v = record {
   tail = w.3;
   number = w.2;
   others = v;
-  half = λ m h. absurd (none-some m h);
+  partial = λ m h. absurd (none-some m h);
   after = refl;
 }
 
@@ -214,7 +215,7 @@ turn_on kind n s c cs other e w v = record {
   tail = w.3;
   number = w.2;
   others = v;
-  half = λ m h. let same : s.message_id ≡ m = cc in w.0.1 ∙ same;
+  partial = λ m h. let same : s.message_id ≡ m = cc in w.0.1 ∙ same;
   after = step c.ending_fragment;
 }
   where
@@ -230,7 +231,8 @@ turn_on kind n s c cs other e w v = record {
 front_sent : (kind : Bool) (m n : ℕ) (c : ChunkPayloadData) (cs other xs : List ChunkPayloadData) → IsWhole kind n (stage_after c) cs
     → ((c.message_id == m || list_any (is_of m) cs) ≡ true → list_any (is_of m) other ≡ false)
     → (list_any (is_of m) xs ≡ true → (list_any (is_of m) cs || list_any (is_of m) other) ≡ true → c.message_id ≡ m)
-    → (c.message_id == m || list_any (is_of m) xs) ≡ true → (list_any (is_of m) cs || list_any (is_of m) other) ≡ true → half_of (selected_by kind c) ≡ Some m
+    → (c.message_id == m || list_any (is_of m) xs) ≡ true → (list_any (is_of m) cs || list_any (is_of m) other) ≡ true
+    → partial_of (selected_by kind c) ≡ Some m
 front_sent kind m n c cs other xs w apart sent h k = step c.ending_fragment w
   where
     same : c.message_id ≡ m
@@ -240,7 +242,7 @@ front_sent kind m n c cs other xs w apart sent h k = step c.ending_fragment w
     it = grind (arith, nat_tests, same)
 
     step : (b : Bool) → IsWhole kind n (if b then free (c.message_id + 1) else begun c.message_id) cs
-        → half_of (if b then None else Some (record { message_id = c.message_id; unordered = kind })) ≡ Some m
+        → partial_of (if b then None else Some (record { message_id = c.message_id; unordered = kind })) ≡ Some m
     step true v =
         let gone : list_any (is_of m) cs ≡ false = none_before kind n m (free (c.message_id + 1)) cs (omega (arith, same)) v in
         absurd (false≢true (sym (or_false _ _ gone (apart (or-left _ _ it))) ∙ k))
@@ -287,7 +289,7 @@ module _ (sel : Option Selected) (ro ru n : ℕ) (xs : List ChunkPayloadData) (t
         let o = list_any (is_of m) os in
         let u = list_any (is_of m) us in
         front_sent false m n c os us xs turn.tail (s.apart m)
-        (λ e w. turn.half m (s.sent m e (or_cases u o u (it || o) (λ f. f) (λ f. or-right it o f) (or_comm u o ∙ w)))) (sym (number_of m t c xs same) ∙ h)
+        (λ e w. turn.partial m (s.sent m e (or_cases u o u (it || o) (λ f. f) (λ f. or-right it o f) (or_comm u o ∙ w)))) (sym (number_of m t c xs same) ∙ h)
         (or_comm o u ∙ k);
     below = still_below s.below turn.number;
   }
@@ -303,7 +305,7 @@ module _ (sel : Option Selected) (ro ru n : ℕ) (xs : List ChunkPayloadData) (t
         let o = list_any (is_of m) os in
         let u = list_any (is_of m) us in
         front_sent true m n c us os xs turn.tail (λ e. fails o (λ f. false≢true (sym (s.apart m f) ∙ e)))
-        (λ e w. turn.half m (s.sent m e (or_cases u o (it || u) o (λ f. or-right it u f) (λ f. f) w))) (sym (number_of m t c xs same) ∙ h) k;
+        (λ e w. turn.partial m (s.sent m e (or_cases u o (it || u) o (λ f. or-right it u f) (λ f. f) w))) (sym (number_of m t c xs same) ∙ h) k;
     below = still_below s.below turn.number;
   }
 
@@ -486,7 +488,7 @@ goes_on_in kind n j m (c ∷ cs) w e = (w.0.1 ∙ e, w.0.0)
 pub goes_on : (q : Pending) (xs : List ChunkPayloadData) (n m : ℕ) → IsSendable q xs n → partially_sent q ≡ Some m → GoesOn m (next_pending q)
 goes_on q xs n m s h = by q.selected s.ordered s.unordered h
   where
-    by : (sel : Option Selected) → IsWhole false n (stage_of false sel) q.ordered → IsWhole true n (stage_of true sel) q.unordered → half_of sel ≡ Some m
+    by : (sel : Option Selected) → IsWhole false n (stage_of false sel) q.ordered → IsWhole true n (stage_of true sel) q.unordered → partial_of sel ≡ Some m
         → GoesOn m (next_pending (made q.ordered q.unordered sel q.ordered_room q.unordered_room))
     by None w v h = absurd (none-some m h)
     by (Some t) w v h = kind t.unordered w v
@@ -509,9 +511,9 @@ begins_in kind n (x ∷ xs) c w h = subst (λ (y : ChunkPayloadData). y.beginnin
     some_is x c h = cc
 
 -- a fragment in front that does not begin is of the partially sent message
-pub half_in_front : (q : Pending) (xs : List ChunkPayloadData) (n : ℕ) (c : ChunkPayloadData) → IsSendable q xs n → next_pending q ≡ Some c
+pub partial_in_front : (q : Pending) (xs : List ChunkPayloadData) (n : ℕ) (c : ChunkPayloadData) → IsSendable q xs n → next_pending q ≡ Some c
     → c.beginning_fragment ≡ false → partially_sent q ≡ Some c.message_id
-half_in_front q xs n c s h e = by q.selected refl s.ordered s.unordered
+partial_in_front q xs n c s h e = by q.selected refl s.ordered s.unordered
   where
     same_of : (m : ℕ) (o : Option ChunkPayloadData) → o ≡ Some c → GoesOn m o → Some m ≡ Some c.message_id
     same_of m None h g = absurd g
@@ -522,21 +524,21 @@ half_in_front q xs n c s h e = by q.selected refl s.ordered s.unordered
     front os [] w v h = false≢true (sym e ∙ begins_in false n os c w h)
 
     by : (sel : Option Selected) → q.selected ≡ sel → IsWhole false n (stage_of false sel) q.ordered → IsWhole true n (stage_of true sel) q.unordered
-        → half_of sel ≡ Some c.message_id
+        → partial_of sel ≡ Some c.message_id
     by None e w v = absurd (front q.ordered q.unordered w v (subst (λ o. next_pending_of o q ≡ Some c) e h))
-    by (Some t) e w v = same_of t.message_id (next_pending q) h (goes_on q xs n t.message_id s (ap half_of e))
+    by (Some t) e w v = same_of t.message_id (next_pending q) h (goes_on q xs n t.message_id s (ap partial_of e))
 
-pub half_gone : (m : ℕ) (sel : Option Selected) → half_of sel ≡ Some m → half_of (selected_without m sel) ≡ None
-half_gone m None h = absurd (none-some m h)
-half_gone m (Some t) h = let same : t.message_id ≡ m = cc in let it : (t.message_id == m) ≡ true = grind (arith, nat_tests) in rw it refl
+pub partial_gone : (m : ℕ) (sel : Option Selected) → partial_of sel ≡ Some m → partial_of (selected_without m sel) ≡ None
+partial_gone m None h = absurd (none-some m h)
+partial_gone m (Some t) h = let same : t.message_id ≡ m = cc in let it : (t.message_id == m) ≡ true = grind (arith, nat_tests) in rw it refl
 
 -- the next TSN is taken only with the partially sent message
 pub kept_or_gone : (m tsn : ℕ) (q : Outbound) → (waits m q.pending ≡ true → partially_sent q.pending ≡ Some m)
     → (tsn_after m tsn q ≡ tsn) ⊎ (partially_sent (abandon_chunks m tsn q).pending ≡ None)
 kept_or_gone m tsn q f = step (waits m q.pending) refl
   where
-    step : (b : Bool) → waits m q.pending ≡ b → ((if b then following_tsn tsn else tsn) ≡ tsn) ⊎ (half_of (selected_without m q.pending.selected) ≡ None)
-    step true e = inr (half_gone m q.pending.selected (f e))
+    step : (b : Bool) → waits m q.pending ≡ b → ((if b then following_tsn tsn else tsn) ≡ tsn) ⊎ (partial_of (selected_without m q.pending.selected) ≡ None)
+    step true e = inr (partial_gone m q.pending.selected (f e))
     step false e = inl refl
 
 -- a chunk in flight is of a message in flight

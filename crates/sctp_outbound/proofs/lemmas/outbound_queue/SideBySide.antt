@@ -23,10 +23,10 @@ use Rattle.sctp_outbound.specs.payload_queue.PayloadQueue as payload
 use Rattle.sctp_outbound.specs.pending_queue.PendingQueue.{Pending, closed_up, is_to_start, last_removed, list_of, list_to_pop, one_lower, next_pending}
 use Rattle.sctp_outbound.specs.pending_queue.PendingQueue.{chunk_to_pop_from, with_room, rest_after, rest_from, selected_after, selected_without, start_pending}
 use Rattle.sctp_outbound.specs.pending_queue.PendingQueue.{with_deadline, without}
-use Rattle.sctp_outbound.specs.pending_queue.Whole.{GoesOn, IsMessageOrNone, IsSendable, half_of, partially_sent, waits}
+use Rattle.sctp_outbound.specs.pending_queue.Whole.{GoesOn, IsMessageOrNone, IsSendable, partial_of, partially_sent, waits}
 use Rattle.sctp_outbound.proofs.lemmas.outbound_queue.Abandoned.{last_is_of, last_removed_none, no_last, sendable-abandoned, those_empty}
 use Rattle.sctp_outbound.proofs.lemmas.outbound_queue.Outbounds.{peeked_all_started}
-use Rattle.sctp_outbound.proofs.lemmas.outbound_queue.Sendable.{found_in, goes_on, half_gone, half_in_front, made, sendable-changed, sendable-fewer}
+use Rattle.sctp_outbound.proofs.lemmas.outbound_queue.Sendable.{found_in, goes_on, partial_gone, partial_in_front, made, sendable-changed, sendable-fewer}
 use Rattle.sctp_outbound.proofs.lemmas.outbound_queue.Sendable.{sendable-ordered_changed, sendable-pushed, sendable-sent, sendable-without}
 use Rattle.sctp_outbound.proofs.lemmas.pending_queue.CompleteMessages.{KeepsMessage, list_any-change_where}
 use Rattle.sctp_list_lemmas.proofs.Cases.{or-left, or-right}
@@ -56,18 +56,18 @@ pub record IsKept (s : Stand) : Type 0 where
   pub covers : Covers s.put s.queue.inflight.chunks
   pub in_line : StandInLine s.put
   pub next : IsNextOf s.next s.put
-  pub half : (m : ℕ) → partially_sent s.queue.pending ≡ Some m → IsLast m s.put
+  pub partial : (m : ℕ) → partially_sent s.queue.pending ≡ Some m → IsLast m s.put
 
 -- nothing is put in flight
 quiet : (q r : Outbound) (next : ℕ) (put : List ChunkPayloadData) → IsKept (record { queue = q; next = next; put = put })
     → IsSendable r.pending put r.next_message_id → Covers put r.inflight.chunks
     → ((m : ℕ) → partially_sent r.pending ≡ Some m → partially_sent q.pending ≡ Some m) → IsKept (record { queue = r; next = next; put = put })
-quiet q r next put k s covers half = record {
+quiet q r next put k s covers partial = record {
   sendable = s;
   covers = covers;
   in_line = k.in_line;
   next = k.next;
-  half = λ m h. k.half m (half m h);
+  partial = λ m h. k.partial m (partial m h);
 }
 
 behind : (t : ChunkPayloadData) (next : ℕ) (put : List ChunkPayloadData) → t.tsn ≡ next → IsNextOf next put
@@ -79,12 +79,12 @@ behind t next (d ∷ ds) e n last = (e ∙ n, last)
 puts : (q r : Outbound) (next : ℕ) (put : List ChunkPayloadData) (t : ChunkPayloadData) → IsKept (record { queue = q; next = next; put = put }) → t.tsn ≡ next
     → IsSendable r.pending (t ∷ put) r.next_message_id → Covers (t ∷ put) r.inflight.chunks → ((m : ℕ) → partially_sent r.pending ≡ Some m → t.message_id ≡ m)
     → (list_any (is_of t.message_id) put ≡ true → IsLast t.message_id put) → IsKept (record { queue = r; next = following_tsn next; put = t ∷ put })
-puts q r next put t k e s covers half last = record {
+puts q r next put t k e s covers partial last = record {
   sendable = s;
   covers = covers;
   in_line = (behind t next put e k.next last, k.in_line);
   next = ap following_tsn (sym e);
-  half = half;
+  partial = partial;
 }
 
 -- ## What is in flight
@@ -176,30 +176,30 @@ peeked_waits os us (Some s) ro ru c h = by s.unordered h
     by false h = or-right _ _ (front_is_there os c h)
 
 -- after a send the partially sent message is that of the chunk, or the one before
-half_selected : (sel : Option Selected) (kind : Bool) (c : ChunkPayloadData) (m : ℕ) → half_of (selected_after sel kind c) ≡ Some m
-    → (half_of sel ≡ Some m) ⊎ (c.message_id ≡ m)
-half_selected None kind c m h = step c.ending_fragment h
+partial_selected : (sel : Option Selected) (kind : Bool) (c : ChunkPayloadData) (m : ℕ) → partial_of (selected_after sel kind c) ≡ Some m
+    → (partial_of sel ≡ Some m) ⊎ (c.message_id ≡ m)
+partial_selected None kind c m h = step c.ending_fragment h
   where
-    step : (b : Bool) → half_of (if b then None else Some (record { message_id = c.message_id; unordered = kind })) ≡ Some m
-        → (half_of None ≡ Some m) ⊎ (c.message_id ≡ m)
+    step : (b : Bool) → partial_of (if b then None else Some (record { message_id = c.message_id; unordered = kind })) ≡ Some m
+        → (partial_of None ≡ Some m) ⊎ (c.message_id ≡ m)
     step true h = absurd (none-some m h)
     step false h = let same : c.message_id ≡ m = cc in inr same
-half_selected (Some s) kind c m h = step (c.ending_fragment && (c.message_id == s.message_id)) h
+partial_selected (Some s) kind c m h = step (c.ending_fragment && (c.message_id == s.message_id)) h
   where
-    step : (b : Bool) → half_of (if b then None else Some s) ≡ Some m → (half_of (Some s) ≡ Some m) ⊎ (c.message_id ≡ m)
+    step : (b : Bool) → partial_of (if b then None else Some s) ≡ Some m → (partial_of (Some s) ≡ Some m) ⊎ (c.message_id ≡ m)
     step true h = absurd (none-some m h)
     step false h = inl h
 
-pub half_rest : (k : Option Bool) (os us : List ChunkPayloadData) (sel : Option Selected) (ro ru : ℕ) (c : ChunkPayloadData) (m : ℕ)
+pub partial_rest : (k : Option Bool) (os us : List ChunkPayloadData) (sel : Option Selected) (ro ru : ℕ) (c : ChunkPayloadData) (m : ℕ)
     → chunk_to_pop_from k (made os us sel ro ru) ≡ Some c → partially_sent (rest_from k (made os us sel ro ru)) ≡ Some m
-    → (half_of sel ≡ Some m) ⊎ (c.message_id ≡ m)
-half_rest None os us sel ro ru c m h e = inl e
-half_rest (Some true) os [] sel ro ru c m h e = inl e
-half_rest (Some true) os (u ∷ us) sel ro ru c m h e =
-    subst (λ (x : ChunkPayloadData). (half_of sel ≡ Some m) ⊎ (x.message_id ≡ m)) (some_is u c h) (half_selected sel true u m e)
-half_rest (Some false) [] us sel ro ru c m h e = inl e
-half_rest (Some false) (o ∷ os) us sel ro ru c m h e =
-    subst (λ (x : ChunkPayloadData). (half_of sel ≡ Some m) ⊎ (x.message_id ≡ m)) (some_is o c h) (half_selected sel false o m e)
+    → (partial_of sel ≡ Some m) ⊎ (c.message_id ≡ m)
+partial_rest None os us sel ro ru c m h e = inl e
+partial_rest (Some true) os [] sel ro ru c m h e = inl e
+partial_rest (Some true) os (u ∷ us) sel ro ru c m h e =
+    subst (λ (x : ChunkPayloadData). (partial_of sel ≡ Some m) ⊎ (x.message_id ≡ m)) (some_is u c h) (partial_selected sel true u m e)
+partial_rest (Some false) [] us sel ro ru c m h e = inl e
+partial_rest (Some false) (o ∷ os) us sel ro ru c m h e =
+    subst (λ (x : ChunkPayloadData). (partial_of sel ≡ Some m) ⊎ (x.message_id ≡ m)) (some_is o c h) (partial_selected sel false o m e)
 
 sent-kept : (now : ℕ) (s : Stand) → IsKept s → (o : Option ChunkPayloadData) → next_pending s.queue.pending ≡ o → IsKept (record {
   queue = sent_of o s.queue s.next now;
@@ -214,25 +214,25 @@ sent-kept now s k (Some c) h =
     puts s.queue (sent_of (Some c) s.queue s.next now) s.next s.put t k refl
     (in_front (rest_after c.beginning_fragment c.unordered q) t s.put s.put s.queue.next_message_id (λ m. refl) on.sendable)
     (covers-put s.put s.queue.inflight.chunks t k.covers)
-    (λ m e. half m
-    (half_rest (list_to_pop q.selected c.beginning_fragment c.unordered) q.ordered q.unordered q.selected q.ordered_room q.unordered_room c m on.taken e))
-    (λ e. k.half c.message_id (k.sendable.sent c.message_id e (peeked_waits q.ordered q.unordered q.selected q.ordered_room q.unordered_room c h)))
+    (λ m e. partial m
+    (partial_rest (list_to_pop q.selected c.beginning_fragment c.unordered) q.ordered q.unordered q.selected q.ordered_room q.unordered_room c m on.taken e))
+    (λ e. k.partial c.message_id (k.sendable.sent c.message_id e (peeked_waits q.ordered q.unordered q.selected q.ordered_room q.unordered_room c h)))
   where
     goes : (m : ℕ) (o : Option ChunkPayloadData) → o ≡ Some c → GoesOn m o → c.message_id ≡ m
     goes m None e g = absurd g
     goes m (Some d) e g = ap (λ (x : ChunkPayloadData). x.message_id) (sym (some_is d c e)) ∙ g.0
 
-    half : (m : ℕ) → (partially_sent s.queue.pending ≡ Some m) ⊎ (c.message_id ≡ m) → c.message_id ≡ m
-    half m (inl e) = goes m (next_pending s.queue.pending) h (goes_on s.queue.pending s.put s.queue.next_message_id m k.sendable e)
-    half m (inr e) = e
+    partial : (m : ℕ) → (partially_sent s.queue.pending ≡ Some m) ⊎ (c.message_id ≡ m) → c.message_id ≡ m
+    partial m (inl e) = goes m (next_pending s.queue.pending) h (goes_on s.queue.pending s.put s.queue.next_message_id m k.sendable e)
+    partial m (inr e) = e
 
 -- ## Messages that are abandoned
 
-pub half_before : (m j : ℕ) (sel : Option Selected) → half_of (selected_without m sel) ≡ Some j → half_of sel ≡ Some j
-half_before m j None h = h
-half_before m j (Some s) h = step (s.message_id == m) h
+pub partial_before : (m j : ℕ) (sel : Option Selected) → partial_of (selected_without m sel) ≡ Some j → partial_of sel ≡ Some j
+partial_before m j None h = h
+partial_before m j (Some s) h = step (s.message_id == m) h
   where
-    step : (b : Bool) → half_of (if b then None else Some s) ≡ Some j → half_of (Some s) ≡ Some j
+    step : (b : Bool) → partial_of (if b then None else Some s) ≡ Some j → partial_of (Some s) ≡ Some j
     step true h = absurd (none-some j h)
     step false h = h
 
@@ -257,7 +257,7 @@ abandoned-kept m s k f None e false h =
     (sendable-without s.queue.pending.ordered s.queue.pending.unordered s.queue.pending.selected s.queue.pending.ordered_room s.queue.pending.unordered_room
     s.put s.queue.next_message_id m k.sendable)
     (covers-changed s.put s.queue.inflight.chunks (is_of m) as_abandoned (λ _. refl) (λ _. refl) k.covers)
-    (λ j. half_before m j s.queue.pending.selected)
+    (λ j. partial_before m j s.queue.pending.selected)
 abandoned-kept m s k f (Some c) e true h =
     let t = terminal_chunk s.next c in
     let same : t.message_id ≡ m = last_is_of m s.queue.pending c e in
@@ -267,8 +267,8 @@ abandoned-kept m s k f (Some c) e true h =
     (in_front (without m s.queue.pending) t s.put (change_where (is_of m) as_abandoned s.put) s.queue.next_message_id (λ j. sym (list_any-change_where
     (is_of m) as_abandoned as_abandoned-keeps j s.put)) (sendable-abandoned s.queue.pending s.put s.queue.next_message_id m t same h k.sendable))
     (covers-put s.put xs t (covers-changed s.put s.queue.inflight.chunks (is_of m) as_abandoned (λ _. refl) (λ _. refl) k.covers))
-    (λ j g. absurd (none-some j (sym (half_gone m s.queue.pending.selected (f h)) ∙ g)))
-    (λ _. subst (λ j. IsLast j s.put) (sym same) (k.half m (f h)))
+    (λ j g. absurd (none-some j (sym (partial_gone m s.queue.pending.selected (f h)) ∙ g)))
+    (λ _. subst (λ j. IsLast j s.put) (sym same) (k.partial m (f h)))
 
 -- the message that is abandoned, if any
 abandoned_of-kept : (o : Option ℕ) (s : Stand) → IsKept s → ((m : ℕ) → o ≡ Some m → waits m s.queue.pending ≡ true → partially_sent s.queue.pending ≡ Some m)
@@ -302,7 +302,7 @@ tail_half s k now None e m h = absurd (none-some m h)
 tail_half s k now (Some c) e m h = step (is_expired_tail now c) refl h
   where
     step : (b : Bool) → is_expired_tail now c ≡ b → message_of (if b then Some c else None) ≡ Some m → partially_sent s.queue.pending ≡ Some m
-    step true t h = half_in_front s.queue.pending s.put s.queue.next_message_id c k.sendable e (not_first c.beginning_fragment _ t) ∙ h
+    step true t h = partial_in_front s.queue.pending s.put s.queue.next_message_id c k.sendable e (not_first c.beginning_fragment _ t) ∙ h
     step false t h = absurd (none-some m h)
 
 -- ## Expiry
@@ -323,17 +323,17 @@ expired-kept s k (Some c) = step c.unordered
           record s.queue { pending = if b then without c.message_id s.queue.pending else closed_up c.stream_identifier (without c.message_id s.queue.pending) };
     })
     step true = quiet s.queue (record s.queue { pending = without c.message_id s.queue.pending }) s.next s.put k gone k.covers
-        (λ j. half_before c.message_id j s.queue.pending.selected)
+        (λ j. partial_before c.message_id j s.queue.pending.selected)
     step false = quiet s.queue (record s.queue { pending = closed_up c.stream_identifier (without c.message_id s.queue.pending) }) s.next s.put k
         (let r = without c.message_id s.queue.pending in sendable-ordered_changed r.ordered r.unordered r.selected r.ordered_room r.unordered_room s.put
         s.queue.next_message_id (is_on c.stream_identifier) one_lower keeps gone)
-        k.covers (λ j. half_before c.message_id j s.queue.pending.selected)
+        k.covers (λ j. partial_before c.message_id j s.queue.pending.selected)
 
 -- ## Push
 
-pub half_appended : (b : Bool) (cs : List ChunkPayloadData) (q : Pending) → partially_sent (append_chunks b cs q) ≡ partially_sent q
-half_appended true cs q = refl
-half_appended false cs q = refl
+pub partial_appended : (b : Bool) (cs : List ChunkPayloadData) (q : Pending) → partially_sent (append_chunks b cs q) ≡ partially_sent q
+partial_appended true cs q = refl
+partial_appended false cs q = refl
 
 pushed-kept : (cs : List ChunkPayloadData) (s : Stand) → IsMessageOrNone cs → IsKept s → IsKept (after (push cs) s)
 pushed-kept [] s fit k = k
@@ -342,7 +342,7 @@ pushed-kept (c ∷ cs) s fit k =
     (sendable-pushed c.unordered s.queue.pending.ordered s.queue.pending.unordered s.queue.pending.selected s.queue.pending.ordered_room
     s.queue.pending.unordered_room s.put (c ∷ cs) s.queue.next_message_id fit k.sendable)
     k.covers
-    (λ m h. sym (half_appended c.unordered (map (with_message_id s.queue.next_message_id) (c ∷ cs)) s.queue.pending) ∙ h)
+    (λ m h. sym (partial_appended c.unordered (map (with_message_id s.queue.next_message_id) (c ∷ cs)) s.queue.pending) ∙ h)
 
 -- ## Marks
 
@@ -360,7 +360,7 @@ reserved-kept ordered unordered s k = record {
   covers = k.covers;
   in_line = k.in_line;
   next = k.next;
-  half = k.half;
+  partial = k.partial;
 }
 
 -- ## Runs
@@ -402,7 +402,7 @@ first-kept tsn = record {
   covers = λ p looks h. h;
   in_line = tt;
   next = tt;
-  half = λ m h. absurd (none-some m h);
+  partial = λ m h. absurd (none-some m h);
 }
 
 each_run : (tsn : ℕ) (calls : List Call) → AreFit calls → IsKept (after_all calls (at_first tsn))

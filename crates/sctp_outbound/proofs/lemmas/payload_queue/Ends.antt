@@ -62,7 +62,7 @@ before_one n = (n + (2 ^ 32 - 1)) % 2 ^ 32
 from_first : (base first n : ℕ) → base < 2 ^ 32 → first < 2 ^ 32 → n < 2 ^ 32 → 0 < distance base first → distance base first ≤ distance base n
     → distance base n ≤ 2 ^ 31 → IsWithinHalf (before_one first) n
 unfolding distance
-from_first base first n hb hf hn some le half = (omega arith, omega arith)
+from_first base first n hb hf hn some le partial = (omega arith, omega arith)
 
 module _ (tsn base : ℕ) (small : tsn < 2 ^ 32) where
   -- the first lies no farther after a base than the TSN and the chunks do

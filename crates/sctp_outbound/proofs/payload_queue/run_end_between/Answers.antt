@@ -7,18 +7,18 @@ pub loop-last-preserved-then-distance-middle : goal.loop-last-preserved-then-dis
 loop-last-preserved-then-distance-middle c =
     let xs = c.args.held.now.chunks in
     let last = c.loop-last.last in
-    let half = (c.loop-last.beyond - c.loop-last.last) / 2 in
+    let partial = (c.loop-last.beyond - c.loop-last.last) / 2 in
     let more = one_more c.args.turns.now c.loop-last.turns c.look.new.turns c.loop-last.invariant.not_back c.look.ensures.turn in
-    let short : last + half < length xs = omega (arith, c.requires.in_range, c.loop-last.invariant.in_range) in
-    let on = rises_ahead xs c.requires.serial last c.loop-last.tsn half c.look.result.now short c.loop-last.invariant.number c.look.ensures.value
+    let short : last + partial < length xs = omega (arith, c.requires.in_range, c.loop-last.invariant.in_range) in
+    let on = rises_ahead xs c.requires.serial last c.loop-last.tsn partial c.look.result.now short c.loop-last.invariant.number c.look.ensures.value
     (sym c.distance.ensures.value ∙ c.if-distance-middle.true ∙ omega arith) in
     record {
       from = omega arith;
       ordered = omega arith;
       in_range = c.loop-last.invariant.in_range;
-      number = number_ahead xs c.requires.serial last c.loop-last.tsn half c.look.result.now short c.loop-last.invariant.number c.look.ensures.value;
-      rising = rising_on xs c.args.place last (last + half) c.loop-last.invariant.rising on;
-      breaks = λ lt r. c.loop-last.invariant.breaks lt (rising_on xs last (last + half) c.loop-last.beyond on r);
+      number = number_ahead xs c.requires.serial last c.loop-last.tsn partial c.look.result.now short c.loop-last.invariant.number c.look.ensures.value;
+      rising = rising_on xs c.args.place last (last + partial) c.loop-last.invariant.rising on;
+      breaks = λ lt r. c.loop-last.invariant.breaks lt (rising_on xs last (last + partial) c.loop-last.beyond on r);
       seen = c.loop-last.invariant.seen;
       not_back = omega arith;
       cost_left = rw more (halved _ (c.loop-last.beyond - last - 1) _ _ c.loop-last.invariant.cost_left (omega arith));
@@ -29,18 +29,18 @@ pub loop-last-preserved : goal.loop-last-preserved
 loop-last-preserved c =
     let xs = c.args.held.now.chunks in
     let last = c.loop-last.last in
-    let half = (c.loop-last.beyond - c.loop-last.last) / 2 in
+    let partial = (c.loop-last.beyond - c.loop-last.last) / 2 in
     let more = one_more c.args.turns.now c.loop-last.turns c.look.new.turns c.loop-last.invariant.not_back c.look.ensures.turn in
-    let short : last + half < length xs = omega (arith, c.requires.in_range, c.loop-last.invariant.in_range) in
+    let short : last + partial < length xs = omega (arith, c.requires.in_range, c.loop-last.invariant.in_range) in
     record {
       from = c.loop-last.invariant.from;
       ordered = omega arith;
       in_range = omega (arith, c.loop-last.invariant.in_range);
       number = c.loop-last.invariant.number;
       rising = c.loop-last.invariant.rising;
-      breaks = λ lt. breaks_ahead xs c.requires.serial last c.loop-last.tsn half c.look.result.now short c.loop-last.invariant.number c.look.ensures.value
+      breaks = λ lt. breaks_ahead xs c.requires.serial last c.loop-last.tsn partial c.look.result.now short c.loop-last.invariant.number c.look.ensures.value
           (λ e. c.if-distance-middle.false (c.distance.ensures.value ∙ e ∙ omega arith));
-      seen = number_ahead xs c.requires.serial last c.loop-last.tsn half c.look.result.now short c.loop-last.invariant.number c.look.ensures.value;
+      seen = number_ahead xs c.requires.serial last c.loop-last.tsn partial c.look.result.now short c.loop-last.invariant.number c.look.ensures.value;
       not_back = omega arith;
       cost_left = rw more (halved _ (c.loop-last.beyond - last - 1) _ _ c.loop-last.invariant.cost_left (omega arith));
       cost = rw more (digits_left _ _ _ c.loop-last.invariant.cost_left (omega arith));

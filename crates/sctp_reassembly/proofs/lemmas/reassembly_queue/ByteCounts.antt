@@ -59,22 +59,6 @@ dropped t (x ∷ xs) = at_head (at_or_before x.tsn t) (dropped t xs)
     )
     at_head false rec = omega arith
 
--- a read takes out what it gives
-read_parts : (next : ℕ) (us os : List ChunkSet) (ls : List ChunkPayloadData) (bytes : ℕ) → bytes ≡ set_bytes os + set_bytes us + bytes_of ls
-    → (let q : Reassembly = record { next_ssn = next; ordered = os; unordered = us; unassembled = ls } in
-    bytes - bytes_read (message_read q) ≡ held_bytes (rest_read q))
-read_parts next (u ∷ us) os ls bytes h = omega (arith, h, sum_by-cons (λ (s : ChunkSet). bytes_of s.chunks) u us)
-read_parts next [] [] ls bytes h = omega (arith, h)
-read_parts next [] (o ∷ os) ls bytes h = at_head (is_readable next o)
-  where
-    at_head : (b : Bool) → bytes - bytes_read (if b then Some o else None)
-        ≡ held_bytes (after_read (if b then Some o else None) record { next_ssn = next; ordered = o ∷ os; unordered = []; unassembled = ls })
-    at_head true = omega (arith, h, sum_by-cons (λ (s : ChunkSet). bytes_of s.chunks) o os)
-    at_head false = omega (arith, h)
-
-pub read_counted : (q : ReassemblyState) → IsCounted q → IsCounted (state_read q)
-read_counted q h = read_parts q.held.next_ssn q.held.unordered q.held.ordered q.held.unassembled q.bytes h
-
 -- how much longer the sets are with a chunk
 bytes_changed : (x : ChunkPayloadData) (ssn : ℕ) (sets : List ChunkSet) → list_any (has_ssn ssn) sets ≡ true → set_bytes
     (change_first (has_ssn ssn) (with_chunk x) sets) ≡ set_bytes sets + (if list_any (has_tsn x.tsn) (chunks_of_ssn ssn sets) then 0 else length x.user_data)

@@ -41,10 +41,6 @@ upto_within (suc limit) (suc n) le =
 pub digits_within : (n : ℕ) → IsWithinDigits n (digits n)
 digits_within n = upto_within n n (omega arith)
 
--- a greater number has as many at least
-pub digits_mono : (m n : ℕ) → m ≤ n → digits m ≤ digits n
-digits_mono m n le = let h = digits_within m in within_digits n (digits m) (omega arith)
-
 -- and no number more than it says
 below_power : (s : ℕ) → s < 2 ^ s
 below_power zero = omega arith

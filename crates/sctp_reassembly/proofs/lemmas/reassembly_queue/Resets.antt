@@ -75,20 +75,6 @@ module _ (last : ℕ) where
   old_gone s h =
       ap (λ cs. let r : ChunkSet = record { ssn = s.ssn; ppi = s.ppi; chunks = cs } in filter (λ t. is_some_left t.chunks) (r ∷ [])) (old_leaves_none s h)
 
-  pub old_moved : (s : ChunkSet) → is_old_message last s ≡ true → filter (is_old_message last) (s ∷ []) ≡ s ∷ []
-  old_moved s h = ap (λ b. if b then s ∷ [] else []) h
-
-  pub other_stays : (s : ChunkSet) → is_old_message last s ≡ false → filter (is_old_message last) (s ∷ []) ≡ []
-  other_stays s h = ap (λ b. if b then s ∷ [] else []) h
-
-  pub old_drops : (s : ChunkSet) → is_old_message last s ≡ true → dropped_bytes last (s ∷ []) ≡ 0
-  old_drops s h = ap (λ b. sum_by (λ (t : ChunkSet). bytes_of (chunks_upto last t.chunks)) (if not b then s ∷ [] else [])) h
-
-  pub other_drops : (s : ChunkSet) → is_old_message last s ≡ false → dropped_bytes last (s ∷ []) ≡ bytes_of (chunks_upto last s.chunks)
-  other_drops s h =
-      let one = sum_by-cons (λ (t : ChunkSet). bytes_of (chunks_upto last t.chunks)) s [] in
-      ap (λ b. sum_by (λ (t : ChunkSet). bytes_of (chunks_upto last t.chunks)) (if not b then s ∷ [] else [])) h ∙ omega (arith, one)
-
   -- ## Bytes
 
   -- however chunks are weighed

@@ -15,7 +15,7 @@ use Rattle.sctp_list_lemmas.proofs.Edits.{pairs_insert}
 use Rattle.sctp_list_lemmas.proofs.More.{fails}
 use Rattle.sctp_list_lemmas.proofs.Distances.{distance_cases, before_is, comes_before_from, before_irrefl}
 use Rattle.sctp_serial.specs.DataChunks.{has_tsn, following_tsn, preceding_tsn}
-use Rattle.sctp_reassembly.specs.reassembly_queue.Loose.{IsOrderMark, place_among}
+use Rattle.sctp_reassembly.specs.reassembly_queue.Loose.{IsOrderFlag, place_among}
 use Rattle.sctp_serial.specs.Window.{IsSerial}
 use Rattle.sctp_serial.proofs.lemmas.AscendingEdits.{distance_self, distance_sum, distance_rest, distance_back, same_distance}
 use Rattle.sctp_serial.proofs.lemmas.ListEdits.{an_element, remove-insert, remove_seam}
@@ -284,19 +284,15 @@ module _ (xs : List ChunkPayloadData) (place : ℕ) (x : ChunkPayloadData) (le :
       (subst (λ (c : ChunkPayloadData). IsTrue (comes_before c.tsn (get_or (insert xs place x) (k + 1) d).tsn)) (get_or-insert_at xs place x d le)
       (s.ascending place (k + 1) d (omega arith) (omega arith)))
 
--- a mark that goes out
-pub mark_off : (mark : Bool) (xs : List ChunkPayloadData) → mark ≡ false → (IsSerial xs → ⊥) → IsOrderMark mark xs
-mark_off mark xs off h = subst (λ b. IsOrderMark b xs) (sym off) h
+pub flag_is_on : (flag : Bool) (xs : List ChunkPayloadData) → flag ≡ true → IsOrderFlag flag xs → IsSerial xs
+flag_is_on flag xs on h = subst (λ b. IsOrderFlag b xs) on h
 
-pub mark_is_on : (mark : Bool) (xs : List ChunkPayloadData) → mark ≡ true → IsOrderMark mark xs → IsSerial xs
-mark_is_on mark xs on h = subst (λ b. IsOrderMark b xs) on h
+pub flag_is_off : (flag : Bool) (xs : List ChunkPayloadData) → flag ≡ false → IsOrderFlag flag xs → IsSerial xs → ⊥
+flag_is_off flag xs off h = subst (λ b. IsOrderFlag b xs) off h
 
-pub mark_is_off : (mark : Bool) (xs : List ChunkPayloadData) → mark ≡ false → IsOrderMark mark xs → IsSerial xs → ⊥
-mark_is_off mark xs off h = subst (λ b. IsOrderMark b xs) off h
-
-pub mark_of : (mark : Bool) (xs : List ChunkPayloadData) → (mark ≡ true → IsSerial xs) → (mark ≡ false → IsSerial xs → ⊥) → IsOrderMark mark xs
-mark_of true xs on off = on refl
-mark_of false xs on off = off refl
+pub flag_of : (flag : Bool) (xs : List ChunkPayloadData) → (flag ≡ true → IsSerial xs) → (flag ≡ false → IsSerial xs → ⊥) → IsOrderFlag flag xs
+flag_of true xs on off = on refl
+flag_of false xs on off = off refl
 
 -- what stands in front of a number, seen from the first and the nearest
 pub all_behind : (xs : List ChunkPayloadData) → IsSerial xs → (n place : ℕ) (first nearest : ChunkPayloadData) → n < 2 ^ 32 → 0 < place → place ≤ length xs
@@ -373,19 +369,6 @@ serial_drop xs count le s = subst (λ i. IsSerial (drop i xs)) {x = 0 + count} (
 pub record SerialUpto (xs : List ChunkPayloadData) (place : ℕ) : Type 0 where
   pub in_range : (k : ℕ) (d : ChunkPayloadData) → k < place → (get_or xs k d).tsn < 2 ^ 32
   pub ascending : (i j : ℕ) (d : ChunkPayloadData) → i < j → j < place → IsTrue (comes_before (get_or xs i d).tsn (get_or xs j d).tsn)
-
-pub upto_one : (xs : List ChunkPayloadData) (first : ChunkPayloadData) → first.tsn < 2 ^ 32 → 0 < length xs → first ≡ get_or xs 0 first → SerialUpto xs 1
-upto_one xs first small some read = record {
-  in_range = λ k d lt. subst (λ i. (get_or xs i d).tsn < 2 ^ 32) {x = 0} (omega arith)
-      (subst (λ (c : ChunkPayloadData). c.tsn < 2 ^ 32) (read ∙ get_or_default xs 0 first d some) small);
-  ascending = λ i j d lt short. absurd (omega arith);
-}
-
-pub upto_all : (xs : List ChunkPayloadData) (place : ℕ) → length xs ≤ place → SerialUpto xs place → IsSerial xs
-upto_all xs place le s = record {
-  in_range = λ k d lt. s.in_range k d (omega arith);
-  ascending = λ i j d lt short. s.ascending i j d lt (omega arith);
-}
 
 module _ (xs : List ChunkPayloadData) (place f l n : ℕ) (some : 0 < place) (small : n < 2 ^ 32) (at_first : (d : ChunkPayloadData) → (get_or xs 0 d).tsn ≡ f)
     (at_last : (d : ChunkPayloadData) → (get_or xs (place - 1) d).tsn ≡ l) (here : (d : ChunkPayloadData) → (get_or xs place d).tsn ≡ n)

@@ -29,10 +29,6 @@ ends_apart x (y ∷ ys) d h lt =
     ∙ ap (λ n. n % 2 ^ 32) {x = x.tsn + 1 + length ys} {y = x.tsn + suc (length ys)} (omega arith)
 
 module _ (d : ChunkPayloadData) where
-  pub not_begun : (xs : List ChunkPayloadData) → (get_or xs 0 d).beginning_fragment ≡ false → is_complete xs ≡ false
-  not_begun [] h = refl
-  not_begun (x ∷ xs) h = ap (λ b. b && completes x xs) h
-
   pub not_ended : (xs : List ChunkPayloadData) → (get_or xs (length xs - 1) d).ending_fragment ≡ false → is_complete xs ≡ false
   not_ended [] h = refl
   not_ended (x ∷ xs) h = fails (is_complete (x ∷ xs)) (λ t.

@@ -32,7 +32,7 @@ pub record Undoes (u : InsertionUndo) (ks : List ChunkPayloadData) (old new : Un
   pub can : CanUndoInsertion u ks new
 
 undoes : (u : InsertionUndo) (ks : List ChunkPayloadData) (old new : Unassembled) (x : ChunkPayloadData)
-    → IsNoted u.marks old → u.place ≤ length old.chunks → u.first ≤ length new.chunks
+    → IsNoted u.flags old → u.place ≤ length old.chunks → u.first ≤ length new.chunks
     → put_back u.first ks new.chunks ≡ insert old.chunks u.place x
     → new.places ≡ max old.places (length old.chunks + 1) → Undoes u ks old new
 undoes u ks old new x noted within first back places =
@@ -47,13 +47,13 @@ undoes u ks old new x noted within first back places =
         place = omega (arith, whole, within);
         room = omega (arith, whole, places);
         fewer = omega (arith, noted.places, places);
-        noted = subst (IsNoted u.marks) (sym done) noted;
+        noted = subst (IsNoted u.flags) (sym done) noted;
       };
     }
 
 -- one was put in
 pub one_undone : (v u : InsertionUndo) (ks : List ChunkPayloadData) (old new : Unassembled) (x : ChunkPayloadData)
-    → v ≡ u → u.first ≡ 0 → ks ≡ [] → IsNoted u.marks old → u.place ≤ length old.chunks → new ≡ with_one u.place x old → Undoes v ks old new
+    → v ≡ u → u.first ≡ 0 → ks ≡ [] → IsNoted u.flags old → u.place ≤ length old.chunks → new ≡ with_one u.place x old → Undoes v ks old new
 one_undone v u ks old new x same front none noted within put =
     let back = ap₂ (λ f ls. put_back f ls new.chunks) front none ∙ same_list put in
     subst (λ w. Undoes w ks old new) (sym same) (undoes u ks old new x noted within (omega (arith, front)) back (same_places put))
@@ -61,7 +61,7 @@ one_undone v u ks old new x same front none noted within put =
 -- and a run was taken out then
 pub run_undone : (v u : InsertionUndo) (ks : List ChunkPayloadData) (old mid new : Unassembled) (x : ChunkPayloadData) (n : ℕ)
     → v ≡ u → ks ≡ take n (drop u.first mid.chunks) → u.first + n ≤ length mid.chunks
-    → IsNoted u.marks old → u.place ≤ length old.chunks → mid ≡ with_one u.place x old
+    → IsNoted u.flags old → u.place ≤ length old.chunks → mid ≡ with_one u.place x old
     → new ≡ with_chunks mid (take u.first mid.chunks ++ drop (u.first + n) mid.chunks) → Undoes v ks old new
 run_undone v u ks old mid new x n same kept in_range noted within put taken =
     let xs = mid.chunks in

@@ -7,7 +7,7 @@ use Rattle.std.proofs.Math.Seq.{get_or-append_right}
 use Rattle.sctp_data.specs.declared.chunk.chunk_payload_data.ChunkPayloadData.{ChunkPayloadData}
 use Rattle.sctp_list_lemmas.specs.Serial.{distance}
 use Rattle.sctp_list_lemmas.proofs.Distances.{before_is}
-use Rattle.sctp_reassembly.specs.reassembly_queue.Loose.{IsMark, IsOrderMark}
+use Rattle.sctp_reassembly.specs.reassembly_queue.Loose.{IsFlag, IsOrderFlag}
 use Rattle.sctp_serial.specs.Runs.{IsRun, HasNoRun}
 use Rattle.sctp_serial.specs.Window.{IsSerial}
 use Rattle.sctp_serial.proofs.lemmas.AscendingEdits.{distance_sum}
@@ -90,11 +90,11 @@ module _ (xs : List ChunkPayloadData) (first count : ℕ) (within : first + coun
     | inr short ↦ let around = all_around xs place d (omega arith) none f n (run_low f n r short) in omega (arith, around.2)
   ]
 
-pub mark_after_take : (searched serial : Bool) (xs : List ChunkPayloadData) (place first count : ℕ) → place < length xs → IsMark searched (remove xs place)
-    → IsOrderMark serial xs → IsRun xs first count → IsMark (searched && serial) (take first xs ++ drop (first + count) xs)
-mark_after_take true true xs place first count lt none order run =
+pub flag_after_take : (searched serial : Bool) (xs : List ChunkPayloadData) (place first count : ℕ) → place < length xs → IsFlag searched (remove xs place)
+    → IsOrderFlag serial xs → IsRun xs first count → IsFlag (searched && serial) (take first xs ++ drop (first + count) xs)
+flag_after_take true true xs place first count lt none order run =
     let d = an_element xs place lt in
     let around = all_around xs place d lt none first count run in
     none_left xs first count run.in_range order run.some place d around.1 around.2 none
-mark_after_take true false xs place first count lt none order run = tt
-mark_after_take false serial xs place first count lt none order run = tt
+flag_after_take true false xs place first count lt none order run = tt
+flag_after_take false serial xs place first count lt none order run = tt

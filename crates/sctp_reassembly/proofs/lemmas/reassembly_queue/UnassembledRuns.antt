@@ -5,7 +5,7 @@ use Rattle.std.proofs.lemmas.Bool.{cases_lt, cases_eq, false≢true}
 use Rattle.std.proofs.Common.{Option, Some, None, IfSome, IfNone}
 use Rattle.std.specs.List.{insert, remove}
 use Rattle.std.proofs.lemmas.List.Edits.{length-remove}
-use Rattle.sctp_reassembly.specs.reassembly_queue.Loose.{IsMark}
+use Rattle.sctp_reassembly.specs.reassembly_queue.Loose.{IsFlag}
 use Rattle.sctp_serial.proofs.lemmas.ListEdits.{insert-remove}
 use Rattle.std.proofs.lemmas.List.{get_or_default}
 use Rattle.std.proofs.lemmas.List.Edits.{length-insert, get_or-insert_below, get_or-insert_above}
@@ -213,20 +213,6 @@ shifted_down xs place x le f n r beyond =
           ∙ r.ends d;
     }
 
--- an insertion makes no run without the new fragment
-pub none_after_insert : (xs : List ChunkPayloadData) (place : ℕ) (x : ChunkPayloadData) → place ≤ length xs → HasNoRun xs
-    → HasNoRunAround (insert xs place x) place → HasNoRun (insert xs place x)
-none_after_insert xs place x le none around f n r =
-    let ys = insert xs place x in
-    let len = length-insert xs place x le in
-    elim (cases_lt place (f + n)) [
-      | inl reaches ↦ elim (cases_lt place f) [
-        | inl beyond ↦ none (f - 1) n (shifted_down xs place x le f n r beyond)
-        | inr upto ↦ around f n (r, upto, reaches)
-      ]
-      | inr short ↦ none f n (same_below xs place x le f n r short)
-    ]
-
 -- cutting off a front makes none
 pub none_after_drop : (xs : List ChunkPayloadData) (count : ℕ) → count ≤ length xs → HasNoRun xs → HasNoRun (drop count xs)
 none_after_drop xs count le none f n r =
@@ -270,9 +256,9 @@ pub none_of_around : (xs : List ChunkPayloadData) (place : ℕ) (d : ChunkPayloa
 none_of_around xs place d lt none None h = λ f n r. h f n (all_around xs place d lt none f n r)
 none_of_around xs place d lt none (Some r) h = tt
 
-pub mark_after_drop : (mark : Bool) (xs : List ChunkPayloadData) (count : ℕ) → count ≤ length xs → IsMark mark xs → IsMark mark (drop count xs)
-mark_after_drop true xs count le none = none_after_drop xs count le none
-mark_after_drop false xs count le none = tt
+pub flag_after_drop : (flag : Bool) (xs : List ChunkPayloadData) (count : ℕ) → count ≤ length xs → IsFlag flag xs → IsFlag flag (drop count xs)
+flag_after_drop true xs count le none = none_after_drop xs count le none
+flag_after_drop false xs count le none = tt
 
 -- where the fragment at this place begins nothing, and neither TSN nor flag joins it to the one before
 pub cut_before : (xs : List ChunkPayloadData) (place first : ℕ) (x : ChunkPayloadData) → x ≡ get_or xs first x → x.beginning_fragment ≡ false → first ≤ place

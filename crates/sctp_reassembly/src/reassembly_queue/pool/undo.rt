@@ -49,23 +49,23 @@ impl Pool {
         ensures err { OnErr result (self.new ≡ self.old) }
         ensures memory { IfErr result (λ e. e ≡ ErrOutOfMemory) }
     {
-        let marks = self.unassembled.marks();
+        let flags = self.unassembled.flags();
         let searched = self.searched;
         self.unassembled.insert(alloc, place, chunk)?;
         let serial = self.unassembled.is_serial();
         let Some((first, count)) = search(&self.unassembled, searched, place) else {
             self.searched = true;
-            let put = InsertionUndo::new(place, 0, marks);
+            let put = InsertionUndo::new(place, 0, flags);
             return Ok((None, PoolUndo { put, searched }));
         };
         match self.unassembled.take_range(alloc, first, count) {
             Ok(chunks) => {
                 self.searched = is_searched_after(searched, serial);
-                let put = InsertionUndo::new(place, first, marks);
+                let put = InsertionUndo::new(place, first, flags);
                 Ok((Some(chunks), PoolUndo { put, searched }))
             }
             Err(e) => {
-                let put = InsertionUndo::new(place, 0, marks);
+                let put = InsertionUndo::new(place, 0, flags);
                 self.unassembled.put_back(put, Vec::new(alloc));
                 Err(e.into())
             }

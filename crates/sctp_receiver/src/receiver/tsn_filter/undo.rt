@@ -2,11 +2,11 @@
 
 ghost use Rattle.std.specs.Prelude.{◌≡◌, ◌<◌, ◌≤◌, ◌+◌, ◌-◌, ◌^◌, ◌++◌, true, false, OnOk, OnErr, IfOk, IsOkUnless, length, map, take};
 ghost use Rattle.sctp_base.specs.declared.error.Error.TheVariants.{ErrOutOfMemory};
-ghost use Rattle.sctp_receiver.specs.TsnFilter.{mark, rise_beyond};
+ghost use Rattle.sctp_receiver.specs.TsnFilter.{placeholder, rise_beyond};
 ghost use Rattle.sctp_receiver.specs.Undo.{tsns_from, undo_of};
 ghost use Rattle.sctp_serial.specs.DataChunks.{following_tsn, tsns};
 
-use super::{TsnFilter, mark};
+use super::{TsnFilter, placeholder};
 use sctp_base::error::Result;
 use sctp_outbound::payload_queue::PayloadQueue;
 use sctp_serial::serial::distance;
@@ -98,12 +98,12 @@ impl TsnFilter {
 // Marks TSNs that the cumulative one moved over, from so many past it down to the second one past it.
 // Precondition: those that are held lie farther, and there is room.
 fn put_back(queue: &mut PayloadQueue, cumulative_tsn: u32, count: u32)
-    requires marks { queue.old.chunks ≡ map mark (tsns queue.old.chunks) }
+    requires placeholders { queue.old.chunks ≡ map placeholder (tsns queue.old.chunks) }
     requires rise { rise_beyond cumulative_tsn 1
         (tsns_from (following_tsn (following_tsn cumulative_tsn)) (count - 1)
         ++ tsns queue.old.chunks) ≡ true }
     requires room { count - 1 ≤ queue.old.room }
-    ensures marks { queue.new.chunks ≡ map mark
+    ensures placeholders { queue.new.chunks ≡ map placeholder
         (tsns_from (following_tsn (following_tsn cumulative_tsn)) (count - 1)
         ++ tsns queue.old.chunks) }
     ensures rest { queue.new
@@ -111,7 +111,10 @@ fn put_back(queue: &mut PayloadQueue, cumulative_tsn: u32, count: u32)
 {
     let mut left = count;
     while left > 1 {
-        let _ = queue.push(mark(cumulative_tsn.wrapping_add(left)), cumulative_tsn);
+        let _ = queue.push(
+            placeholder(cumulative_tsn.wrapping_add(left)),
+            cumulative_tsn,
+        );
         left -= 1;
     }
 }

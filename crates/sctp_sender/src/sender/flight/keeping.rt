@@ -6,7 +6,7 @@ ghost use Rattle.sctp_data.specs.SelectiveAck.{Sack, sack_of};
 ghost use Rattle.sctp_data.specs.declared.chunk.chunk_payload_data.ChunkPayloadData.{ChunkPayloadData};
 ghost use Rattle.sctp_outbound.specs.outbound_queue.OutboundQueue.{total_bytes, with_inflight};
 ghost use Rattle.sctp_sender.specs.declared.sender.refusal.SenderRefusal.TheVariants.{OutOfMemory};
-ghost use Rattle.sctp_sender.specs.Keeping.{back_each, back_of, bytes_back, keep, keep_each, kept_after, restored, takes_back, told_back, trimmed, with_restored};
+ghost use Rattle.sctp_sender.specs.Keeping.{back_each, back_of, bytes_back, keep, keep_each, kept_after, restored, takes_back, answered_back, trimmed, with_restored};
 ghost use Rattle.sctp_sender.specs.Reporting.{Marks};
 
 use super::InFlight;
@@ -69,13 +69,13 @@ impl InFlight {
     pub fn restore(&mut self, backs: Kept)
         requires within { length backs.items ≤ length self.old.queue.inflight.chunks }
         requires bytes { total_bytes self.old.queue
-            + bytes_back (told_back backs.items self.old.queue.inflight.chunks) < 2 ^ 64 }
+            + bytes_back (answered_back backs.items self.old.queue.inflight.chunks) < 2 ^ 64 }
         ensures restored { self.new ≡ with_restored backs.items self.old }
         // where they are what a SACK takes back, it can be sent again
         ensures outstanding { (s : Sack) (ks : List (Option (List ℕ)))
             → backs.items ≡ back_each s self.old.queue.inflight.chunks ks
             → All (λ b. can_resend b.tsn self.new ≡ true)
-            (told_back backs.items self.old.queue.inflight.chunks) }
+            (answered_back backs.items self.old.queue.inflight.chunks) }
     {
         if !restore_each(&mut self.queue, backs) {
             return;
@@ -115,17 +115,17 @@ pub fn coming_back(
 
 /// The chunks with which something comes back, in order of TSNs. Refuses only for memory.
 /// Precondition: there are as many chunks in flight.
-pub fn told_back(
+pub fn answered_back(
     alloc: Global,
     queue: &OutboundQueue,
     backs: &[Option<Bytes>],
 ) -> Result<Vec<TakenBack>, SenderRefusal>
     requires { length backs.now ≤ length queue.now.inflight.chunks }
-    ensures ok { IfOk result (λ told. told.items
-        ≡ told_back backs.now queue.now.inflight.chunks) }
+    ensures ok { IfOk result (λ answered. answered.items
+        ≡ answered_back backs.now queue.now.inflight.chunks) }
     ensures memory { IfErr result (λ e. e ≡ OutOfMemory) }
 {
-    let mut told = Vec::new(alloc);
+    let mut answered = Vec::new(alloc);
     for place in 0..backs.len() {
         let Some(chunk) = queue.inflight_at(place) else {
             unreachable!()
@@ -133,12 +133,12 @@ pub fn told_back(
         let Some(bytes) = kept_at(backs, place) else {
             continue;
         };
-        if told.reserve(1).is_err() {
+        if answered.reserve(1).is_err() {
             return Err(SenderRefusal::OutOfMemory);
         }
-        put(&mut told, taken_back(chunk, bytes));
+        put(&mut answered, taken_back(chunk, bytes));
     }
-    Ok(told)
+    Ok(answered)
 }
 
 // The user data that is kept at a place.
@@ -279,7 +279,7 @@ fn taken_back(chunk: &ChunkPayloadData, bytes: &Bytes) -> TakenBack
 fn restore_each(queue: &mut OutboundQueue, backs: Kept) -> bool
     requires within { length backs.items ≤ length queue.old.inflight.chunks }
     requires bytes { total_bytes queue.old
-        + bytes_back (told_back backs.items queue.old.inflight.chunks) < 2 ^ 64 }
+        + bytes_back (answered_back backs.items queue.old.inflight.chunks) < 2 ^ 64 }
     ensures restored { queue.new
         ≡ with_inflight queue.old (restored backs.items queue.old.inflight.chunks) }
     ensures none { result ≡ false → queue.new ≡ queue.old }

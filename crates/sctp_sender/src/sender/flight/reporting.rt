@@ -15,7 +15,7 @@ ghost use Rattle.sctp_sender.specs.Reporting.{after_block, after_blocks, goes_fr
 ghost use Rattle.sctp_sender.specs.SideBySide.{IsApartAt, StandSideBySide, messages_of};
 
 use super::sorting::sorted_blocks;
-use super::telling::{acknowledge_told, judge_each, tell_anew};
+use super::telling::{acknowledge_answered, judge_each, tell_anew};
 use super::{InFlight, Released};
 use crate::sender::refusal::SenderRefusal;
 use sctp_base::util::{sna32lt, sna32lte};
@@ -69,9 +69,9 @@ impl InFlight {
         let count = distance(self.acked_tsn, sack.cumulative_tsn_ack) as usize;
         let sorted = sorted_blocks(alloc, &sack.gap_ack_blocks)?;
         tell_anew(&self.queue, &self.known, count, &sorted, &mut released)?;
-        acknowledge_told(&mut self.queue, self.acked_tsn, &released);
-        let half = half_of(&self.queue);
-        judge_each(&self.queue, self.acked_tsn, half, &mut released);
+        acknowledge_answered(&mut self.queue, self.acked_tsn, &released);
+        let partial = partial_of(&self.queue);
+        judge_each(&self.queue, self.acked_tsn, partial, &mut released);
         pop_run(&mut self.queue, self.acked_tsn.wrapping_add(1), count);
         self.acked_tsn = sack.cumulative_tsn_ack;
         self.known = sorted;
@@ -246,7 +246,7 @@ pub(super) fn begins_another(queue: &OutboundQueue, place: usize) -> bool
 }
 
 // The message that is partially sent, if there is one.
-fn half_of(queue: &OutboundQueue) -> Option<u64>
+fn partial_of(queue: &OutboundQueue) -> Option<u64>
     ensures { result ≡ partially_sent queue.now.pending }
 {
     queue.are_whole();

@@ -12,7 +12,7 @@ ghost use Rattle.sctp_sender.specs.declared.sender.refusal.SenderRefusal.TheVari
 ghost use Rattle.sctp_sender.specs.Flight.{is_half, released_of, tsns_from};
 ghost use Rattle.sctp_sender.specs.Reporting.{AreKnown, ascends_from};
 ghost use Rattle.sctp_sender.specs.SideBySide.{StandSideBySide, messages_of};
-ghost use Rattle.sctp_sender.specs.Telling.{AreInFlight, PicksAnew, PicksOpen, is_closed, is_open, is_open_of, is_told, judged, no_message};
+ghost use Rattle.sctp_sender.specs.Telling.{AreInFlight, PicksAnew, PicksOpen, is_closed, is_open, is_open_of, is_answered, judged, no_message};
 
 use super::Released;
 use crate::sender::refusal::SenderRefusal;
@@ -38,7 +38,7 @@ pub(super) fn tell_anew(
     requires within { (n : ℕ) → is_in_blocks sorted.now n ≡ true
         → count + n ≤ length queue.now.inflight.chunks }
     requires empty { released.old.items ≡ [] }
-    ensures told { (p : ChunkPayloadData → Bool)
+    ensures answered { (p : ChunkPayloadData → Bool)
         → PicksAnew p count sorted.now queue.now.inflight.chunks
         → OnOk result (released.new.items
         ≡ map (released_of no_message) (filter p queue.now.inflight.chunks)) }
@@ -66,7 +66,7 @@ fn tell_between(
     requires known { AreKnown known.now queue.now.inflight.chunks }
     requires ordered { places.0 ≤ places.1 }
     requires within { places.1 ≤ length queue.now.inflight.chunks }
-    ensures told { (p : ChunkPayloadData → Bool)
+    ensures answered { (p : ChunkPayloadData → Bool)
         → PicksOpen p places.0 places.1 queue.now.inflight.chunks
         → released.old.items
         ≡ map (released_of no_message) (filter p (take places.0 queue.now.inflight.chunks))
@@ -100,7 +100,7 @@ fn tell_at(
     released: &mut Vec<Released>,
 ) -> Result<(), SenderRefusal>
     requires { place < length queue.now.inflight.chunks }
-    ensures told { (p : ChunkPayloadData → Bool)
+    ensures answered { (p : ChunkPayloadData → Bool)
         → PicksOpen p place (place + 1) queue.now.inflight.chunks
         → released.old.items
         ≡ map (released_of no_message) (filter p (take place queue.now.inflight.chunks))
@@ -138,13 +138,13 @@ fn released_of(chunk: &ChunkPayloadData) -> Released
 }
 
 /// Acknowledges each chunk in flight that was told of.
-pub(super) fn acknowledge_told(queue: &mut OutboundQueue, acked_tsn: u32, released: &[Released])
+pub(super) fn acknowledge_answered(queue: &mut OutboundQueue, acked_tsn: u32, released: &[Released])
     requires run { tsns queue.old.inflight.chunks
         ≡ tsns_from (following_tsn acked_tsn) (length queue.old.inflight.chunks) }
     requires few { length queue.old.inflight.chunks < 2 ^ 31 }
-    requires told { AreInFlight released.now queue.old.inflight.chunks }
+    requires answered { AreInFlight released.now queue.old.inflight.chunks }
     ensures { queue.new ≡ with_inflight queue.old
-        (change_where (is_told released.now) as_acknowledged queue.old.inflight.chunks) }
+        (change_where (is_answered released.now) as_acknowledged queue.old.inflight.chunks) }
 {
     for one in released {
         let place = distance(acked_tsn, one.tsn) as usize - 1;
@@ -157,21 +157,21 @@ pub(super) fn acknowledge_told(queue: &mut OutboundQueue, acked_tsn: u32, releas
 pub(super) fn judge_each(
     queue: &OutboundQueue,
     acked_tsn: u32,
-    half: Option<u64>,
+    partial: Option<u64>,
     released: &mut Vec<Released>,
 )
     requires run { tsns queue.now.inflight.chunks
         ≡ tsns_from (following_tsn acked_tsn) (length queue.now.inflight.chunks) }
     requires few { length queue.now.inflight.chunks < 2 ^ 31 }
     requires beside { StandSideBySide (messages_of queue.now.inflight.chunks) }
-    requires told { AreInFlight released.old.items queue.now.inflight.chunks }
+    requires answered { AreInFlight released.old.items queue.now.inflight.chunks }
     ensures { released.new.items
-        ≡ map (judged half queue.now.inflight.chunks) released.old.items }
+        ≡ map (judged partial queue.now.inflight.chunks) released.old.items }
 {
     let mut last = None;
     for one in released.iter_mut() {
         let place = distance(acked_tsn, one.tsn) as usize - 1;
-        let whole = whole_or_last(queue, half, place, one.message, last);
+        let whole = whole_or_last(queue, partial, place, one.message, last);
         one.is_message_acked = whole;
         last = Some((one.message, whole));
     }
@@ -180,7 +180,7 @@ pub(super) fn judge_each(
 // Whether all of the message of the chunk in flight at a place is acknowledged: as the last answer says, if that is of this message.
 fn whole_or_last(
     queue: &OutboundQueue,
-    half: Option<u64>,
+    partial: Option<u64>,
     place: usize,
     message: u64,
     last: Option<(u64, bool)>,
@@ -189,25 +189,25 @@ fn whole_or_last(
     requires own { (d : ChunkPayloadData)
         → (slice_index_or queue.now.inflight.chunks place d).message_id ≡ message }
     requires beside { StandSideBySide (messages_of queue.now.inflight.chunks) }
-    requires last { IfSome last (λ l. l.1 ≡ is_closed half queue.now.inflight.chunks l.0) }
-    ensures { result ≡ is_closed half queue.now.inflight.chunks message }
+    requires last { IfSome last (λ l. l.1 ≡ is_closed partial queue.now.inflight.chunks l.0) }
+    ensures { result ≡ is_closed partial queue.now.inflight.chunks message }
 {
     match last {
         Some((of, whole)) if of == message => whole,
-        _ => is_closed(queue, half, place, message),
+        _ => is_closed(queue, partial, place, message),
     }
 }
 
 // Whether nothing of the message of the chunk in flight at a place waits, and each chunk of it in flight is acknowledged, and not
 // abandoned.
-fn is_closed(queue: &OutboundQueue, half: Option<u64>, place: usize, message: u64) -> bool
+fn is_closed(queue: &OutboundQueue, partial: Option<u64>, place: usize, message: u64) -> bool
     requires place { place < length queue.now.inflight.chunks }
     requires own { (d : ChunkPayloadData)
         → (slice_index_or queue.now.inflight.chunks place d).message_id ≡ message }
     requires beside { StandSideBySide (messages_of queue.now.inflight.chunks) }
-    ensures { result ≡ is_closed half queue.now.inflight.chunks message }
+    ensures { result ≡ is_closed partial queue.now.inflight.chunks message }
 {
-    if half == Some(message) {
+    if partial == Some(message) {
         return false;
     }
     !is_open_before(queue, place, message) && !is_open_from(queue, place, message)

@@ -5,5 +5,5 @@ use Rattle.sctp_c.proofs.sender.abandoning.fill_abandoned.Given as goal
 
 abbrev pub invariant-loop-place : goal.invariant-loop-place
 invariant-loop-place l = record {
-  rows : l.rows ≡ filled_to abandoned_row l.place l.told l.initial.rows;
+  rows : l.rows ≡ filled_to abandoned_row l.place l.answered l.initial.rows;
 }

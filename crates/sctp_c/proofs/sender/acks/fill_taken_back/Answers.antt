@@ -9,11 +9,12 @@ loop-place-init c = record { rows = refl }
 pub loop-place-preserved : goal.loop-place-preserved
 loop-place-preserved c =
     record {
-      rows = fill-next taken_back_row c.args.told.now c.args.rows.now c.loop-place.rows c.loop-place.place c.taken_back_row.result _ c.loop-place-test.true
+      rows = fill-next taken_back_row c.args.answered.now c.args.rows.now c.loop-place.rows c.loop-place.place c.taken_back_row.result _ c.loop-place-test.true
           c.requires c.loop-place.invariant.rows c.taken_back_row.ensures;
     }
 
 pub returns : goal.returns
 returns c =
-    fill-done taken_back_row c.args.told.now c.args.rows.now c.loop-place.rows c.loop-place.place c.loop-place.auto.place-end c.loop-place-test.false c.requires
+    fill-done taken_back_row c.args.answered.now c.args.rows.now c.loop-place.rows c.loop-place.place c.loop-place.auto.place-end c.loop-place-test.false
+    c.requires
     c.loop-place.invariant.rows

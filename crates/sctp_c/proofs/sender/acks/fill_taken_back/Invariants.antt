@@ -5,5 +5,5 @@ use Rattle.sctp_c.proofs.sender.acks.fill_taken_back.Given as goal
 
 abbrev pub invariant-loop-place : goal.invariant-loop-place
 invariant-loop-place l = record {
-  rows : l.rows ≡ filled_to taken_back_row l.place l.told l.initial.rows;
+  rows : l.rows ≡ filled_to taken_back_row l.place l.answered l.initial.rows;
 }

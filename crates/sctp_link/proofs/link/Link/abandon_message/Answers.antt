@@ -14,10 +14,10 @@ use Rattle.sctp_model.specs.Messages.{message_of, place_of, is_partially_sent}
 use Rattle.sctp_model.specs.Steps.{refusal_of}
 use Rattle.sctp_model.specs.declared.event.Event.TheVariants as E
 use Rattle.sctp_link.specs.Fields.{state_in, record_in, state_from, record_from, sides_in}
-use Rattle.sctp_link.specs.OpenStreams.{marks}
+use Rattle.sctp_link.specs.OpenStreams.{terminals}
 use Rattle.sctp_link.specs.Records.{message_record, slot_record, progress_of}
 use Rattle.sctp_link.proofs.abandonment.Abandoning.{recorded-given, linked-given}
-use Rattle.sctp_link.proofs.abandonment.QueueAnswers.{Gives, gives, stream-is, high, held, half-tail, tail-fits}
+use Rattle.sctp_link.proofs.abandonment.QueueAnswers.{Gives, gives, stream-is, high, held, partial-tail, tail-fits}
 use Rattle.sctp_link.proofs.upkeep.Observed.{slot-message}
 use Rattle.sctp_link.proofs.link.Link.abandon_message.Goals as goal
 
@@ -32,8 +32,8 @@ no-refusal true true false h t = let no : false ≡ true = t refl in absurd (cc)
 no-refusal true false next h t = refl
 no-refusal false tail next h t = absurd (cc)
 
-pub is_partially_sent-half-requires : goal.is_partially_sent-half-requires
-is_partially_sent-half-requires g c =
+pub is_partially_sent-partial-requires : goal.is_partially_sent-partial-requires
+is_partially_sent-partial-requires g c =
     let ok : refusal_of (record_in c.self.inside) (E.Abandon c.args.tsn) ≡ None = rw (← c.self.view_is) at c.requires in
     let fits : c.args.tsn < 2 ^ 32 = search rules in
     let there = slot-message (g.C.Checksum.sum c.self.inside.checksum)
@@ -59,7 +59,7 @@ returns-in-Err-clause-wants g c =
     rw (← c.self.view_is)
     (must (is_partially_sent (record_in c.self.inside) (message_of (record_in c.self.inside) (place_of (record_in c.self.inside) c.args.tsn)))
     (λ none. c.in-Err.ensures.no_tail (held (g.C.Checksum.sum c.self.inside.checksum) (state_in c.self.inside) c.self.invariant.1 c.args.tsn fits ok)
-    (half-tail (g.C.Checksum.sum c.self.inside.checksum) (state_in c.self.inside) c.self.invariant.1 c.args.tsn fits ok ∙ none)))
+    (partial-tail (g.C.Checksum.sum c.self.inside.checksum) (state_in c.self.inside) c.self.invariant.1 c.args.tsn fits ok ∙ none)))
 
 pub index_mut-message-requires : goal.index_mut-message-requires
 index_mut-message-requires g c =
@@ -91,9 +91,10 @@ invariant_of-self-2 g c =
     (after_abandonment (message_to_abandon c.args.tsn c.self.inside.sender.flight) c.self.inside.sender.flight) c.abandon.new.self c.in-Ok.ensures.ok in
     let ms = slice_set c.self.inside.messages.items n c.settle.new.message in
     let ss = c.settle.new.slots.items in
-    let half : c.is_partially_sent-half.result ≡ is_partially_sent (record_in c.self.inside) n = rw (← c.self.view_is) at c.is_partially_sent-half.ensures in
-    let more : c.settle.new.slots.items ≡ c.self.inside.slots.items ++ marks c.is_partially_sent-half.result n c.index_mut-message.result.now.sent =
-    c.settle.ensures.slots ∙ ap (λ a. a ++ marks c.is_partially_sent-half.result n c.index_mut-message.result.now.sent) c.make_room.ensures.items in (
+    let partial : c.is_partially_sent-partial.result ≡ is_partially_sent (record_in c.self.inside) n =
+    rw (← c.self.view_is) at c.is_partially_sent-partial.ensures in
+    let more : c.settle.new.slots.items ≡ c.self.inside.slots.items ++ terminals c.is_partially_sent-partial.result n c.index_mut-message.result.now.sent =
+    c.settle.ensures.slots ∙ ap (λ a. a ++ terminals c.is_partially_sent-partial.result n c.index_mut-message.result.now.sent) c.make_room.ensures.items in (
       on-aligned c.self.inside.sender c.self.inside.receiver c.self.inside.progress c.self.invariant.0 s (less_by bytes) (after_abandonment
           (message_to_abandon c.args.tsn c.self.inside.sender.flight) c.self.inside.sender.flight) c.abandon.new.self c.in-Ok.ensures.ok (λ l. refl),
       subst (λ (y : Sides). IsLinked sum (record (state_from y c.self.inside)
@@ -101,7 +102,7 @@ invariant_of-self-2 g c =
           (sym both)
           (linked-given sum x l (E.Abandon c.args.tsn) ok n s bytes then'.flight.queue then'.flight.next_tsn r tt tt refl refl
           c.self.inside.messages.items c.index_mut-message.result.now c.settle.new.message c.self.inside.slots.items c.settle.new.slots.items
-          c.is_partially_sent-half.result refl refl refl refl c.index_mut-message.ensures.value c.settle.ensures.message half more),
+          c.is_partially_sent-partial.result refl refl refl refl c.index_mut-message.ensures.value c.settle.ensures.message partial more),
     )
 
 pub returns-clause-moves : goal.returns-clause-moves
@@ -125,14 +126,15 @@ returns-clause-moves g c =
     (after_abandonment (message_to_abandon c.args.tsn c.self.inside.sender.flight) c.self.inside.sender.flight) c.abandon.new.self c.in-Ok.ensures.ok in
     let ms = slice_set c.self.inside.messages.items n c.settle.new.message in
     let ss = c.settle.new.slots.items in
-    let half : c.is_partially_sent-half.result ≡ is_partially_sent (record_in c.self.inside) n = rw (← c.self.view_is) at c.is_partially_sent-half.ensures in
-    let more : c.settle.new.slots.items ≡ c.self.inside.slots.items ++ marks c.is_partially_sent-half.result n c.index_mut-message.result.now.sent =
-    c.settle.ensures.slots ∙ ap (λ a. a ++ marks c.is_partially_sent-half.result n c.index_mut-message.result.now.sent) c.make_room.ensures.items in
+    let partial : c.is_partially_sent-partial.result ≡ is_partially_sent (record_in c.self.inside) n =
+    rw (← c.self.view_is) at c.is_partially_sent-partial.ensures in
+    let more : c.settle.new.slots.items ≡ c.self.inside.slots.items ++ terminals c.is_partially_sent-partial.result n c.index_mut-message.result.now.sent =
+    c.settle.ensures.slots ∙ ap (λ a. a ++ terminals c.is_partially_sent-partial.result n c.index_mut-message.result.now.sent) c.make_room.ensures.items in
     rw (← c.self.view_is)
     (ap (λ (y : Sides). record (record_from y c.self.inside) { messages = map message_record ms; slots = map slot_record ss }) both
     ∙ recorded-given sum x l (E.Abandon c.args.tsn) ok n s bytes then'.flight.queue then'.flight.next_tsn r tt tt refl refl
     c.self.inside.messages.items c.index_mut-message.result.now c.settle.new.message c.self.inside.slots.items c.settle.new.slots.items
-    c.is_partially_sent-half.result refl refl refl refl c.index_mut-message.ensures.value c.settle.ensures.message half more ∙ sym r.is)
+    c.is_partially_sent-partial.result refl refl refl refl c.index_mut-message.ensures.value c.settle.ensures.message partial more ∙ sym r.is)
 
 pub returns-clause-stream : goal.returns-clause-stream
 returns-clause-stream g c =
@@ -161,12 +163,13 @@ returns-clause-bytes g c =
     (after_abandonment (message_to_abandon c.args.tsn c.self.inside.sender.flight) c.self.inside.sender.flight) c.abandon.new.self c.in-Ok.ensures.ok in
     let ms = slice_set c.self.inside.messages.items n c.settle.new.message in
     let ss = c.settle.new.slots.items in
-    let half : c.is_partially_sent-half.result ≡ is_partially_sent (record_in c.self.inside) n = rw (← c.self.view_is) at c.is_partially_sent-half.ensures in
-    let more : c.settle.new.slots.items ≡ c.self.inside.slots.items ++ marks c.is_partially_sent-half.result n c.index_mut-message.result.now.sent =
-    c.settle.ensures.slots ∙ ap (λ a. a ++ marks c.is_partially_sent-half.result n c.index_mut-message.result.now.sent) c.make_room.ensures.items in
+    let partial : c.is_partially_sent-partial.result ≡ is_partially_sent (record_in c.self.inside) n =
+    rw (← c.self.view_is) at c.is_partially_sent-partial.ensures in
+    let more : c.settle.new.slots.items ≡ c.self.inside.slots.items ++ terminals c.is_partially_sent-partial.result n c.index_mut-message.result.now.sent =
+    c.settle.ensures.slots ∙ ap (λ a. a ++ terminals c.is_partially_sent-partial.result n c.index_mut-message.result.now.sent) c.make_room.ensures.items in
     rw (← c.self.view_is)
     (r.grows ∙ ap (growth (record_in c.self.inside))
     (sym (ap (λ (y : Sides). record (record_from y c.self.inside) { messages = map message_record ms; slots = map slot_record ss }) both
     ∙ recorded-given sum x l (E.Abandon c.args.tsn) ok n s bytes then'.flight.queue then'.flight.next_tsn r tt tt refl refl
     c.self.inside.messages.items c.index_mut-message.result.now c.settle.new.message c.self.inside.slots.items c.settle.new.slots.items
-    c.is_partially_sent-half.result refl refl refl refl c.index_mut-message.ensures.value c.settle.ensures.message half more)))
+    c.is_partially_sent-partial.result refl refl refl refl c.index_mut-message.ensures.value c.settle.ensures.message partial more)))

@@ -16,7 +16,8 @@ use Rattle.sctp_link.specs.Fields.{state_in, record_in}
 use Rattle.sctp_link.specs.Linked.{IsLinked}
 use Rattle.sctp_link.proofs.upkeep.Frames.{moved}
 use Rattle.sctp_link.proofs.sender.Outgoing.{network-more, bytes-more}
-use Rattle.sctp_link.proofs.acknowledging.Reporting.{cut-is, told-count, told-is, fits-encoding, cumulative-place, report-is, linked-ack, recorded-acked}
+use Rattle.sctp_link.proofs.acknowledging.Reporting.{cut-is, answered-count, answered-is, fits-encoding, cumulative-place, report-is, linked-ack}
+use Rattle.sctp_link.proofs.acknowledging.Reporting.{recorded-acked}
 use Rattle.sctp_link.proofs.link.Link.ack.Goals as goal
 
 pub write_datagram-requires-clause-encoding : goal.write_datagram-requires-clause-encoding
@@ -34,7 +35,7 @@ invariant_of-self-2 g c =
     let s = sack_of c.in-Ok.sack in
     let is = c.in-Ok.ensures.sack in
     let cut = cut-is sum x c.self.invariant.1 c.args.credit r refl s is in
-    let counted = told-count sum x c.self.invariant.1 c.args.credit r refl s is in
+    let counted = answered-count sum x c.self.invariant.1 c.args.credit r refl s is in
     let kept : c.in_ok-blocks.blocks.items ≡ s.gap_ack_blocks = search rules in
     let noted : c.in_ok-duplicates.duplicates.items ≡ take (length s.duplicate_tsn) c.self.inside.duplicates.items = search rules in
     let kind : Kind = K.Sack c.from.result c.args.credit c.in_ok-blocks.blocks c.in_ok-duplicates.duplicates in
@@ -56,7 +57,7 @@ invariant_of-self-2 g c =
           (sym sent) (moved _ _ (after_ack (record_in c.self.inside) c.args.credit) moves
           (rw bytes (linked-ack sum x c.self.invariant.1 c.args.credit _ s.gap_ack_blocks refl cut (length s.duplicate_tsn) counted s c.in_ok-bytes.bytes
           (record (filter_of r) { duplicates = [] }) tsn (ap (λ (t : Sack). t.advertised_receiver_window_credit) is) refl
-          (told-is sum x c.self.invariant.1 c.args.credit r refl s is) (search rules) (search rules) len refl))),
+          (answered-is sum x c.self.invariant.1 c.args.credit r refl s is) (search rules) (search rules) len refl))),
     )
 
 pub returns-clause-ok : goal.returns-clause-ok
@@ -67,7 +68,7 @@ returns-clause-ok g c =
     let s = sack_of c.in-Ok.sack in
     let is = c.in-Ok.ensures.sack in
     let cut = cut-is sum x c.self.invariant.1 c.args.credit r refl s is in
-    let counted = told-count sum x c.self.invariant.1 c.args.credit r refl s is in
+    let counted = answered-count sum x c.self.invariant.1 c.args.credit r refl s is in
     let kept : c.in_ok-blocks.blocks.items ≡ s.gap_ack_blocks = search rules in
     let noted : c.in_ok-duplicates.duplicates.items ≡ take (length s.duplicate_tsn) c.self.inside.duplicates.items = search rules in
     let kind : Kind = K.Sack c.from.result c.args.credit c.in_ok-blocks.blocks c.in_ok-duplicates.duplicates in

@@ -67,7 +67,7 @@ counted g c =
     record { none = none; report = there.0; there = there.1; says = says; count = count; greater = top; short = omega (arith, top, made, few, before) }
 
 -- What holds of the SACK as it is told anew.
-record Told {C : Type 0} (sum : List ℕ → ℕ) (a : Inside C) (k : ℕ) (s : ChunkSelectiveAck) (top : ℕ) : Type 0 where
+record Answered {C : Type 0} (sum : List ℕ → ℕ) (a : Inside C) (k : ℕ) (s : ChunkSelectiveAck) (top : ℕ) : Type 0 where
   accepted : sack_refusal (sack_of s) a.sender.flight ≡ None
   run : a.taken < top → top ≤ length a.slots.items
   blocks : (p : ℕ) → list_any (in_block top p) s.gap_ack_blocks.items ≡ true → p < length a.slots.items
@@ -76,9 +76,9 @@ record Told {C : Type 0} (sum : List ℕ → ℕ) (a : Inside C) (k : ℕ) (s : 
       → Taken sum (state_in a) k (after_releases (released_by (sack_of s) a.sender.flight) (sides_in a).streams) xs
       (after_sack (sack_of s) a.sender.flight) top
 
-told : (g : Over) (c : After-rebase g) → Counted c.self.inside c.args.k c.in_ok-sack.sack c.max-taken.result
-    → Told (g.C.Checksum.sum c.self.inside.checksum) c.self.inside c.args.k c.rebase.new.sack c.max-taken.result
-told g c t =
+answered : (g : Over) (c : After-rebase g) → Counted c.self.inside c.args.k c.in_ok-sack.sack c.max-taken.result
+    → Answered (g.C.Checksum.sum c.self.inside.checksum) c.self.inside c.args.k c.rebase.new.sack c.max-taken.result
+answered g c t =
     let sum = g.C.Checksum.sum c.self.inside.checksum in
     let x = state_in c.self.inside in
     let l = c.self.invariant.1 in
@@ -104,7 +104,7 @@ told g c t =
     }
 
 taken : (g : Over) (c : After-acknowledge_blocks g)
-    → Told (g.C.Checksum.sum c.self.inside.checksum) c.self.inside c.args.k c.rebase.new.sack c.max-taken.result
+    → Answered (g.C.Checksum.sum c.self.inside.checksum) c.self.inside c.args.k c.rebase.new.sack c.max-taken.result
     → Taken (g.C.Checksum.sum c.self.inside.checksum) (state_in c.self.inside) c.args.k
     (after_releases (released_by (sack_of c.rebase.new.sack) c.self.inside.sender.flight) (sides_in c.self.inside).streams)
     (with_items (with_items c.self.inside.slots c.acknowledge_run.new.slots) c.acknowledge_blocks.new.slots).items
@@ -124,13 +124,13 @@ overflow_cast-upto g c = omega (arith, (counted g (goal.at.overflow_cast-upto g 
 
 pub memory-requires : goal.memory-requires
 memory-requires g c = only-memory c.in-Err.refusal _ (let p = goal.at.memory-requires g c in
-    told g p.After-rebase (counted g p.After-max-taken)).accepted c.in-Err.ensures.refused
+    answered g p.After-rebase (counted g p.After-max-taken)).accepted c.in-Err.ensures.refused
 
 pub acknowledge_run-requires : goal.acknowledge_run-requires
 acknowledge_run-requires g c = λ some.
     omega (
       arith,
-      (let p = goal.at.acknowledge_run-requires g c in told g p.After-rebase (counted g p.After-max-taken)).run some,
+      (let p = goal.at.acknowledge_run-requires g c in answered g p.After-rebase (counted g p.After-max-taken)).run some,
       ap length c.deref_mut.ensures.value,
     )
 
@@ -139,7 +139,7 @@ acknowledge_blocks-requires-clause-short g c = omega (arith, (counted g (goal.at
 
 pub acknowledge_blocks-requires-clause-within : goal.acknowledge_blocks-requires-clause-within
 acknowledge_blocks-requires-clause-within g c = λ p any.
-    let last = (let p = goal.at.acknowledge_blocks-requires-clause-within g c in told g p.After-rebase (counted g p.After-max-taken)).blocks p
+    let last = (let p = goal.at.acknowledge_blocks-requires-clause-within g c in answered g p.After-rebase (counted g p.After-max-taken)).blocks p
     (ap (list_any (in_block c.max-taken.result p)) (sym c.deref.ensures.value) ∙ any) in
     let slots1 = with_items_is c.self.inside.slots c.acknowledge_run.new.slots (omega (arith, c.acknowledge_run.auto.slots, c.deref_mut.ensures.len)) in
     omega (arith, last, ap length c.deref_mut.ensures.value, c.acknowledge_run.auto.slots, ap length (c.deref_mut-2.ensures.value ∙ slots1))
@@ -152,13 +152,13 @@ invariant_of-self-2 g c = (
       { slots = with_items (with_items c.self.inside.slots c.acknowledge_run.new.slots) c.acknowledge_blocks.new.slots; taken = c.max-taken.result })))
       (sym (acked-sides c.self.inside.sender c.self.inside.receiver c.self.inside.progress c.self.invariant.0
       (sack_of c.rebase.new.sack) c.acked.new.self c.in-Ok.ensures.ok))
-      (let p = goal.at.invariant_of-self-2 g c in taken g p.After-acknowledge_blocks (told g p.After-rebase (counted g p.After-max-taken))).linked,
+      (let p = goal.at.invariant_of-self-2 g c in taken g p.After-acknowledge_blocks (answered g p.After-rebase (counted g p.After-max-taken))).linked,
 )
 
 pub returns-clause-ok : goal.returns-clause-ok
 returns-clause-ok g c =
     let p = goal.at.returns-clause-ok g c in
-    let t = taken g p.After-acknowledge_blocks (told g p.After-rebase (counted g p.After-max-taken)) in
+    let t = taken g p.After-acknowledge_blocks (answered g p.After-rebase (counted g p.After-max-taken)) in
     rw (← c.self.view_is) (record {
       right = ap R.Acked (c.saturating_sub-bytes.ensures
           ∙ ap (λ n. n - c.inflight_bytes.result) (c.inflight_bytes-before.ensures ∙ ap (λ (q : Outbound). bytes_of q.inflight.chunks) c.outbound.ensures)

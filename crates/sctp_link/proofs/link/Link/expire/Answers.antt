@@ -41,9 +41,9 @@ index_mut-requires g c =
     let past_deadline : is_some (expiring now c.self.inside.sender.flight.queue) ≡ true = sym c.in-Some-expire.ensures.none in
     let is : expiring now c.self.inside.sender.flight.queue ≡ Some d =
     shown-past_deadline now d (next_pending c.self.inside.sender.flight.queue.pending) shown past_deadline in
-    let told = some-of _ _ d is c.in-Some-expire.ensures.some in
+    let answered = some-of _ _ d is c.in-Some-expire.ensures.some in
     let then' : Sides = expired_unsent d bytes (sides_in c.self.inside) in
-    let left = rw told.1 at c.in-Some-expire.ensures.released in
+    let left = rw answered.1 at c.in-Some-expire.ensures.released in
     let r = expires sum x l now d bytes then'.flight.queue shown past_deadline left refl in
     omega (arith, r.made, length-mapped message_record c.self.inside.messages.items, c.self.inside.messages.ok.0)
 
@@ -59,19 +59,19 @@ invariant_of-self-2 g c =
     let past_deadline : is_some (expiring now c.self.inside.sender.flight.queue) ≡ true = sym c.in-Some-expire.ensures.none in
     let is : expiring now c.self.inside.sender.flight.queue ≡ Some d =
     shown-past_deadline now d (next_pending c.self.inside.sender.flight.queue.pending) shown past_deadline in
-    let told = some-of _ _ d is c.in-Some-expire.ensures.some in
+    let answered = some-of _ _ d is c.in-Some-expire.ensures.some in
     let then' : Sides = expired_unsent d bytes (sides_in c.self.inside) in
-    let left = rw told.1 at c.in-Some-expire.ensures.released in
+    let left = rw answered.1 at c.in-Some-expire.ensures.released in
     let r = expires sum x l now d bytes then'.flight.queue shown past_deadline left refl in
     let gone : Message = record c.index_mut.result.now { expired = true } in
     let ms = slice_set c.self.inside.messages.items d.message_id gone in
     let both = ap (λ k. sides c.expire.new.self c.self.inside.receiver k)
-    (c.record_expiry.ensures ∙ ap (λ s. change_where (has_number s) (with_expiry d.unordered) c.self.inside.progress) told.0)
-    ∙ expired-sides c.self.inside.sender c.self.inside.receiver c.self.inside.progress c.self.invariant.0 d bytes now c.expire.new.self told.1 in
+    (c.record_expiry.ensures ∙ ap (λ s. change_where (has_number s) (with_expiry d.unordered) c.self.inside.progress) answered.0)
+    ∙ expired-sides c.self.inside.sender c.self.inside.receiver c.self.inside.progress c.self.invariant.0 d bytes now c.expire.new.self answered.1 in
     let lt : d.message_id < length c.self.inside.messages.items = omega (arith, r.made, length-mapped message_record c.self.inside.messages.items) in (
       subst (λ ps. IsAligned c.expire.new.self c.self.inside.receiver ps)
-          (sym (c.record_expiry.ensures ∙ ap (λ s. change_where (has_number s) (with_expiry d.unordered) c.self.inside.progress) told.0))
-          (expired-aligned c.self.inside.sender c.self.inside.receiver c.self.inside.progress c.self.invariant.0 d bytes now c.expire.new.self told.1),
+          (sym (c.record_expiry.ensures ∙ ap (λ s. change_where (has_number s) (with_expiry d.unordered) c.self.inside.progress) answered.0))
+          (expired-aligned c.self.inside.sender c.self.inside.receiver c.self.inside.progress c.self.invariant.0 d bytes now c.expire.new.self answered.1),
       subst (λ (y : Sides). IsLinked sum (record (state_from y c.self.inside)
           { recorded = record (record_from y c.self.inside) { messages = map message_record ms }; progress = map progress_of ms })) (sym both)
           (linked-expired sum x l now d.message_id r.is d.stream_identifier bytes d.unordered then'.streams then'.flight.queue r.stream r.kind r.held refl
@@ -92,17 +92,17 @@ returns-clause-right g c =
     let past_deadline : is_some (expiring now c.self.inside.sender.flight.queue) ≡ true = sym c.in-Some-expire.ensures.none in
     let is : expiring now c.self.inside.sender.flight.queue ≡ Some d =
     shown-past_deadline now d (next_pending c.self.inside.sender.flight.queue.pending) shown past_deadline in
-    let told = some-of _ _ d is c.in-Some-expire.ensures.some in
+    let answered = some-of _ _ d is c.in-Some-expire.ensures.some in
     let then' : Sides = expired_unsent d bytes (sides_in c.self.inside) in
-    let left = rw told.1 at c.in-Some-expire.ensures.released in
+    let left = rw answered.1 at c.in-Some-expire.ensures.released in
     let r = expires sum x l now d bytes then'.flight.queue shown past_deadline left refl in
     let gone : Message = record c.index_mut.result.now { expired = true } in
     let ms = slice_set c.self.inside.messages.items d.message_id gone in
     let both = ap (λ k. sides c.expire.new.self c.self.inside.receiver k)
-    (c.record_expiry.ensures ∙ ap (λ s. change_where (has_number s) (with_expiry d.unordered) c.self.inside.progress) told.0)
-    ∙ expired-sides c.self.inside.sender c.self.inside.receiver c.self.inside.progress c.self.invariant.0 d bytes now c.expire.new.self told.1 in
+    (c.record_expiry.ensures ∙ ap (λ s. change_where (has_number s) (with_expiry d.unordered) c.self.inside.progress) answered.0)
+    ∙ expired-sides c.self.inside.sender c.self.inside.receiver c.self.inside.progress c.self.invariant.0 d bytes now c.expire.new.self answered.1 in
     let lt : d.message_id < length c.self.inside.messages.items = omega (arith, r.made, length-mapped message_record c.self.inside.messages.items) in
-    rw (told.0, ← c.self.view_is) (record {
+    rw (answered.0, ← c.self.view_is) (record {
       right = r.right;
       moves = ap (λ (y : Sides). record (record_from y c.self.inside) { messages = map message_record ms }) both
           ∙ moves-expired sum x l now d.message_id r.is d.stream_identifier bytes d.unordered then'.streams then'.flight.queue r.stream r.kind r.held refl

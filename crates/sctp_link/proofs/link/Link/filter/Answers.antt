@@ -2,7 +2,7 @@ use Rattle.std.proofs.Common.{◌≡◌, ap, sym, ◌∙◌}
 use Rattle.sctp_model.specs.Queues.{FilterRecord}
 use Rattle.sctp_model.specs.Receiver.{cumulative}
 use Rattle.sctp_model.specs.Contents.{cumulative_tsn}
-use Rattle.sctp_receiver.proofs.Marks.{tsns-mark}
+use Rattle.sctp_receiver.proofs.Placeholders.{tsns-placeholder}
 use Rattle.sctp_link.specs.Fields.{record_in}
 use Rattle.sctp_link.proofs.link.Link.filter.Goals as goal
 use Rattle.sctp_serial.specs.DataChunks.{tsns}
@@ -11,7 +11,8 @@ pub returns : goal.returns
 returns g c =
     let w = record_in c.self.inside in
     let f = c.self.invariant.1.filter in
-    let held : tsns c.filter.result.now.chunks ≡ c.self.inside.receiver.beyond = ap tsns c.filter.ensures.beyond ∙ tsns-mark c.self.inside.receiver.beyond in
+    let held : tsns c.filter.result.now.chunks ≡ c.self.inside.receiver.beyond = ap tsns c.filter.ensures.beyond
+    ∙ tsns-placeholder c.self.inside.receiver.beyond in
     let base : cumulative_tsn w (cumulative w) ≡ c.self.inside.receiver.cumulative_tsn = sym (ap (λ (r : FilterRecord). r.cumulative) f) in
     rw (← c.self.view_is)
     (ap (λ t. let r : FilterRecord = record { cumulative = t; held = tsns c.filter.result.now.chunks; duplicates = c.filter.result.now.duplicates } in r) base

@@ -29,11 +29,12 @@ returns-then-is_partially_sent g c =
     let high = place-made w t (each-of (λ t. is_in_flight w (place_of w t)) ts c.loop-at.at 0 all c.loop-at-test.true) in
     let there = slot-message (g.C.Checksum.sum c.self.inside.checksum)
     (state_in c.self.inside) c.self.inside.slots.items (place_of w t) c.index.result.now c.self.invariant.1 refl high c.index.ensures in
-    let told : c.is_partially_sent.result ≡ is_partially_sent w c.index.result.now.message = rw (← c.self.view_is) at c.is_partially_sent.ensures in
+    let answered : c.is_partially_sent.result ≡ is_partially_sent w c.index.result.now.message = rw (← c.self.view_is) at c.is_partially_sent.ensures in
     let so-far : find (λ t. is_partially_sent w (message_of_tsn w t)) ts ≡ find (λ t. is_partially_sent w (message_of_tsn w t))
     (drop c.loop-at.at ts) = rw (← c.self.view_is) at c.loop-at.invariant in
-    let half : is_partially_sent w (message_of_tsn w t) ≡ true = ap (λ s. is_partially_sent w s.message) there.0 ∙ sym told ∙ c.if-is_partially_sent.true in
-    rw (← c.self.view_is) (sym (found-step (λ t. is_partially_sent w (message_of_tsn w t)) ts c.loop-at.at true c.loop-at-test.true half so-far))
+    let partial : is_partially_sent w (message_of_tsn w t) ≡ true = ap (λ s. is_partially_sent w s.message) there.0 ∙ sym answered
+    ∙ c.if-is_partially_sent.true in
+    rw (← c.self.view_is) (sym (found-step (λ t. is_partially_sent w (message_of_tsn w t)) ts c.loop-at.at true c.loop-at-test.true partial so-far))
 
 pub loop-at-preserved : goal.loop-at-preserved
 loop-at-preserved g c =
@@ -44,11 +45,12 @@ loop-at-preserved g c =
     let high = place-made w t (each-of (λ t. is_in_flight w (place_of w t)) ts c.loop-at.at 0 all c.loop-at-test.true) in
     let there = slot-message (g.C.Checksum.sum c.self.inside.checksum)
     (state_in c.self.inside) c.self.inside.slots.items (place_of w t) c.index.result.now c.self.invariant.1 refl high c.index.ensures in
-    let told : c.is_partially_sent.result ≡ is_partially_sent w c.index.result.now.message = rw (← c.self.view_is) at c.is_partially_sent.ensures in
+    let answered : c.is_partially_sent.result ≡ is_partially_sent w c.index.result.now.message = rw (← c.self.view_is) at c.is_partially_sent.ensures in
     let so-far : find (λ t. is_partially_sent w (message_of_tsn w t)) ts ≡ find (λ t. is_partially_sent w (message_of_tsn w t))
     (drop c.loop-at.at ts) = rw (← c.self.view_is) at c.loop-at.invariant in
-    let half : is_partially_sent w (message_of_tsn w t) ≡ false = ap (λ s. is_partially_sent w s.message) there.0 ∙ sym told ∙ c.if-is_partially_sent.false in
-    rw (← c.self.view_is) (found-step (λ t. is_partially_sent w (message_of_tsn w t)) ts c.loop-at.at false c.loop-at-test.true half so-far)
+    let partial : is_partially_sent w (message_of_tsn w t) ≡ false = ap (λ s. is_partially_sent w s.message) there.0 ∙ sym answered
+    ∙ c.if-is_partially_sent.false in
+    rw (← c.self.view_is) (found-step (λ t. is_partially_sent w (message_of_tsn w t)) ts c.loop-at.at false c.loop-at-test.true partial so-far)
 
 pub returns : goal.returns
 returns g c = found-none (λ t. is_partially_sent c.args.self.now.recorded (message_of_tsn c.args.self.now.recorded t)) c.args.tsns.now c.loop-at.at

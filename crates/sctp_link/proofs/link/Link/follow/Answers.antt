@@ -55,10 +55,10 @@ invariant_of-self g c =
     ∙ ap (λ qs. map (standing_named qs c.deref-2.result.now) c.self.inside.progress) c.deref.ensures.value
     ∙ ap (λ ns. map (standing_named ms ns) c.self.inside.progress) (c.deref-2.ensures.value ∙ names) in
     let last = sides c.self.inside.sender calls.new.self c.record_names.new.progress in
-    let told : last ≡ record mid { streams = map (with_names ms lies.0) mid.streams } = ap (sides c.self.inside.sender calls.new.self) standing
+    let answered : last ≡ record mid { streams = map (with_names ms lies.0) mid.streams } = ap (sides c.self.inside.sender calls.new.self) standing
     ∙ named-sides c.self.inside.sender calls.new.self c.self.inside.progress aligned ms lies.0 in
     let both = sides-then sum x c.self.invariant.1 k upto lies.0 none lies.1 counts (forward_tsn_of c.args.chunk.now) (sides_in c.self.inside)
-    (says lies.0 lies.1) refl ms mid last followed told in (
+    (says lies.0 lies.1) refl ms mid last followed answered in (
       subst (λ ps. IsAligned c.self.inside.sender calls.new.self ps) (sym standing)
           (named-aligned c.self.inside.sender calls.new.self c.self.inside.progress aligned ms lies.0),
       subst (λ (y : Sides). IsLinked sum (state_from y (record c.self.inside { skipped = upto + 1 }))) (sym both)
@@ -93,10 +93,10 @@ returns-clause-followed g c =
     ∙ ap (λ qs. map (standing_named qs c.deref-2.result.now) c.self.inside.progress) c.deref.ensures.value
     ∙ ap (λ ns. map (standing_named ms ns) c.self.inside.progress) (c.deref-2.ensures.value ∙ names) in
     let last = sides c.self.inside.sender calls.new.self c.record_names.new.progress in
-    let told : last ≡ record mid { streams = map (with_names ms lies.0) mid.streams } = ap (sides c.self.inside.sender calls.new.self) standing
+    let answered : last ≡ record mid { streams = map (with_names ms lies.0) mid.streams } = ap (sides c.self.inside.sender calls.new.self) standing
     ∙ named-sides c.self.inside.sender calls.new.self c.self.inside.progress aligned ms lies.0 in
     let both = sides-then sum x c.self.invariant.1 k upto lies.0 none lies.1 counts (forward_tsn_of c.args.chunk.now) (sides_in c.self.inside)
-    (says lies.0 lies.1) refl ms mid last followed told in
+    (says lies.0 lies.1) refl ms mid last followed answered in
     rw (← c.self.view_is) (λ others e. ap (λ (y : Sides). record_from y (record c.self.inside { skipped = upto + 1 })) both
     ∙ received-follow sum x c.self.invariant.1 k upto lies.0 none lies.1 counts ms refl refl refl (upto + 1) refl
     ∙ ap (receive_skip w upto) (same-names w k upto lies.0 others lies.1 e))

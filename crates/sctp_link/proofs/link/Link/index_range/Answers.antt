@@ -11,28 +11,28 @@ use Rattle.sctp_link.specs.Streams.{OpenStream, has_number}
 use Rattle.sctp_link.specs.Fields.{record_in, state_in, sides_in}
 use Rattle.sctp_link.specs.Linked.{State, IsLinked}
 use Rattle.sctp_receiver.specs.declared.receiver.inbound_streams.InboundStream.{InboundStream}
-use Rattle.sctp_link.proofs.sides.Changes.{inbound-told, next-told}
+use Rattle.sctp_link.proofs.sides.Changes.{inbound-answered, next-answered}
 use Rattle.sctp_link.proofs.upkeep.Lookups.{none-open, queue-none}
 use Rattle.sctp_link.proofs.upkeep.StreamPlaces.{placed}
-use Rattle.sctp_link.proofs.receiver.Hears.{none-told, told-next, told-queue, ends-empty, set-held, low-front, high-back, none-there}
+use Rattle.sctp_link.proofs.receiver.Hears.{none-answered, answered-next, answered-queue, ends-empty, set-held, low-front, high-back, none-there}
 use Rattle.sctp_link.proofs.link.Link.index_range.Goals as goal
 
 pub unreachable-requires : goal.unreachable-requires
 unreachable-requires g c =
     let o : is_open (record_in c.self.inside) c.args.stream ≡ true = rw (← c.self.view_is) at c.requires in
     not_both (sym (none-open (record_in c.self.inside) c.args.stream (sides_in c.self.inside).streams refl
-    (none-told (find (has_number c.args.stream) (sides_in c.self.inside).streams)
-    (next-told c.self.inside.sender c.self.inside.receiver c.self.inside.progress c.self.invariant.0 c.args.stream None c.in_default.ensures))) ∙ o)
+    (none-answered (find (has_number c.args.stream) (sides_in c.self.inside).streams)
+    (next-answered c.self.inside.sender c.self.inside.receiver c.self.inside.progress c.self.invariant.0 c.args.stream None c.in_default.ensures))) ∙ o)
 
 pub unreachable-requires-in_default-reassembly : goal.unreachable-requires-in_default-reassembly
 unreachable-requires-in_default-reassembly g c =
     let o : is_open (record_in c.self.inside) c.args.stream ≡ true = rw (← c.self.view_is) at c.requires in
-    let none = queue-none c.args.stream (sides_in c.self.inside).streams (inbound-told c.self.inside.sender c.self.inside.receiver c.self.inside.progress
+    let none = queue-none c.args.stream (sides_in c.self.inside).streams (inbound-answered c.self.inside.sender c.self.inside.receiver c.self.inside.progress
     c.self.invariant.0 (λ (l : InboundStream). l.queue) c.args.stream None c.in_default-reassembly.ensures) in
     not_both (sym (none-open (record_in c.self.inside) c.args.stream (sides_in c.self.inside).streams refl none) ∙ o)
 
 -- What a link tells of a stream: where it stands, which index is expected next, and the ordered sets that are held.
-record IsTold (x : State) (s next : ℕ) (sets : List ChunkSet) : Type 0 where
+record IsAnswered (x : State) (s next : ℕ) (sets : List ChunkSet) : Type 0 where
   at : ℕ
   d : OpenStream
   lt : at < length x.open_streams
@@ -40,36 +40,37 @@ record IsTold (x : State) (s next : ℕ) (sets : List ChunkSet) : Type 0 where
   next_is : next ≡ (slice_index_or x.open_streams at d).next
   held : sets ≡ (slice_index_or x.open_streams at d).inbound.queue.held.ordered
 
-told-at : (x : State) (s next : ℕ) (q : ReassemblyState) {sets : List ChunkSet} → Some next ≡ option_map (λ l. l.next) (find (has_number s) x.open_streams)
-    → Some q ≡ option_map (λ l. l.inbound.queue) (find (has_number s) x.open_streams) → sets ≡ q.held.ordered → IsTold x s next sets
-told-at x s next q next_told queue_told sets_are =
-    let told = told-next (find (has_number s) x.open_streams) next next_told in
-    let place = placed s x.open_streams told.0 told.1.0 in
-    let is : slice_index_or x.open_streams place.0 told.0 ≡ told.0 = place.1.1 told.0 in
+answered-at : (x : State) (s next : ℕ) (q : ReassemblyState) {sets : List ChunkSet} → Some next ≡ option_map (λ l. l.next) (find (has_number s) x.open_streams)
+    → Some q ≡ option_map (λ l. l.inbound.queue) (find (has_number s) x.open_streams) → sets ≡ q.held.ordered → IsAnswered x s next sets
+answered-at x s next q next_answered queue_answered sets_are =
+    let answered = answered-next (find (has_number s) x.open_streams) next next_answered in
+    let place = placed s x.open_streams answered.0 answered.1.0 in
+    let is : slice_index_or x.open_streams place.0 answered.0 ≡ answered.0 = place.1.1 answered.0 in
     record {
       at = place.0;
-      d = told.0;
+      d = answered.0;
       lt = place.1.0;
-      found = told.1.0 ∙ ap (λ l. Some l) (sym is);
-      next_is = told.1.1 ∙ ap (λ (l : OpenStream). l.next) (sym is);
-      held = sets_are ∙ ap (λ (r : ReassemblyState). r.held.ordered) (told-queue (find (has_number s) x.open_streams) told.0 q told.1.0 queue_told)
+      found = answered.1.0 ∙ ap (λ l. Some l) (sym is);
+      next_is = answered.1.1 ∙ ap (λ (l : OpenStream). l.next) (sym is);
+      held = sets_are
+          ∙ ap (λ (r : ReassemblyState). r.held.ordered) (answered-queue (find (has_number s) x.open_streams) answered.0 q answered.1.0 queue_answered)
           ∙ ap (λ (l : OpenStream). l.inbound.queue.held.ordered) (sym is);
     }
 
 -- The set at a place is of the message that is held there.
-set-told : (sum : List ℕ → ℕ) (x : State) (l : IsLinked sum x) (s next : ℕ) (sets : List ChunkSet) (t : IsTold x s next sets) (i : ℕ) (e : ChunkSet)
+set-answered : (sum : List ℕ → ℕ) (x : State) (l : IsLinked sum x) (s next : ℕ) (sets : List ChunkSet) (t : IsAnswered x s next sets) (i : ℕ) (e : ChunkSet)
     → i < length sets → e ≡ slice_index_or sets i e
     → (is_held x.recorded s (slice_index_or (held_on x.recorded s) i 0) ≡ true) × (e ≡ set_of x.recorded (slice_index_or (held_on x.recorded s) i 0))
-set-told sum x l s next sets t i e lt is =
+set-answered sum x l s next sets t i e lt is =
     let h = set-held sum x l t.at s t.d t.lt t.found i e (omega (arith, lt, ap length t.held)) in
     (h.0, is ∙ ap (λ ys. slice_index_or ys i e) t.held ∙ h.1)
 
 pub returns-in_default-front-clause-low : goal.returns-in_default-front-clause-low
 returns-in_default-front-clause-low g c =
     let x = state_in c.self.inside in
-    let t = told-at x c.args.stream c.in-Some.next c.in-Some-reassembly.queue.now
-    (next-told c.self.inside.sender c.self.inside.receiver c.self.inside.progress c.self.invariant.0 c.args.stream (Some c.in-Some.next) c.in-Some.ensures)
-    (inbound-told c.self.inside.sender c.self.inside.receiver c.self.inside.progress c.self.invariant.0 (λ (l : InboundStream). l.queue) c.args.stream
+    let t = answered-at x c.args.stream c.in-Some.next c.in-Some-reassembly.queue.now
+    (next-answered c.self.inside.sender c.self.inside.receiver c.self.inside.progress c.self.invariant.0 c.args.stream (Some c.in-Some.next) c.in-Some.ensures)
+    (inbound-answered c.self.inside.sender c.self.inside.receiver c.self.inside.progress c.self.invariant.0 (λ (l : InboundStream). l.queue) c.args.stream
     (Some c.in-Some-reassembly.queue.now) c.in-Some-reassembly.ensures) c.ordered-held.ensures in
     let empty : length (slice_index_or x.open_streams t.at t.d).inbound.queue.held.ordered ≡ 0 =
     omega (arith, ap length t.held, none-there (deque_len c.ordered-held.result.now) c.in_default-front.ensures.variant.1) in
@@ -78,9 +79,9 @@ returns-in_default-front-clause-low g c =
 pub returns-in_default-front-clause-high : goal.returns-in_default-front-clause-high
 returns-in_default-front-clause-high g c =
     let x = state_in c.self.inside in
-    let t = told-at x c.args.stream c.in-Some.next c.in-Some-reassembly.queue.now
-    (next-told c.self.inside.sender c.self.inside.receiver c.self.inside.progress c.self.invariant.0 c.args.stream (Some c.in-Some.next) c.in-Some.ensures)
-    (inbound-told c.self.inside.sender c.self.inside.receiver c.self.inside.progress c.self.invariant.0 (λ (l : InboundStream). l.queue) c.args.stream
+    let t = answered-at x c.args.stream c.in-Some.next c.in-Some-reassembly.queue.now
+    (next-answered c.self.inside.sender c.self.inside.receiver c.self.inside.progress c.self.invariant.0 c.args.stream (Some c.in-Some.next) c.in-Some.ensures)
+    (inbound-answered c.self.inside.sender c.self.inside.receiver c.self.inside.progress c.self.invariant.0 (λ (l : InboundStream). l.queue) c.args.stream
     (Some c.in-Some-reassembly.queue.now) c.in-Some-reassembly.ensures) c.ordered-held.ensures in
     let empty : length (slice_index_or x.open_streams t.at t.d).inbound.queue.held.ordered ≡ 0 =
     omega (arith, ap length t.held, none-there (deque_len c.ordered-held.result.now) c.in_default-front.ensures.variant.1) in
@@ -91,12 +92,12 @@ index_of-requires g c =
     let sum = g.C.Checksum.sum c.self.inside.checksum in
     let x = state_in c.self.inside in
     let sets = c.ordered-held.result.now.items in
-    let t = told-at x c.args.stream c.in-Some.next c.in-Some-reassembly.queue.now
-    (next-told c.self.inside.sender c.self.inside.receiver c.self.inside.progress c.self.invariant.0 c.args.stream (Some c.in-Some.next) c.in-Some.ensures)
-    (inbound-told c.self.inside.sender c.self.inside.receiver c.self.inside.progress c.self.invariant.0 (λ (l : InboundStream). l.queue) c.args.stream
+    let t = answered-at x c.args.stream c.in-Some.next c.in-Some-reassembly.queue.now
+    (next-answered c.self.inside.sender c.self.inside.receiver c.self.inside.progress c.self.invariant.0 c.args.stream (Some c.in-Some.next) c.in-Some.ensures)
+    (inbound-answered c.self.inside.sender c.self.inside.receiver c.self.inside.progress c.self.invariant.0 (λ (l : InboundStream). l.queue) c.args.stream
     (Some c.in-Some-reassembly.queue.now) c.in-Some-reassembly.ensures) c.ordered-held.ensures in
     let some : 0 < length sets = omega (arith, c.in-Some-front.ensures.variant.0 refl) in
-    let h = set-told sum x c.self.invariant.1 c.args.stream c.in-Some.next sets t 0 c.in-Some-front.first.now some c.in-Some-front.ensures.lookup in
+    let h = set-answered sum x c.self.invariant.1 c.args.stream c.in-Some.next sets t 0 c.in-Some-front.first.now some c.in-Some-front.ensures.lookup in
     rw (← c.self.view_is) (c.args.stream, slice_index_or (held_on x.recorded c.args.stream) 0 0, h.0, h.1)
 
 pub index_of-requires-2 : goal.index_of-requires-2
@@ -104,14 +105,14 @@ index_of-requires-2 g c =
     let sum = g.C.Checksum.sum c.self.inside.checksum in
     let x = state_in c.self.inside in
     let sets = c.ordered-held.result.now.items in
-    let t = told-at x c.args.stream c.in-Some.next c.in-Some-reassembly.queue.now
-    (next-told c.self.inside.sender c.self.inside.receiver c.self.inside.progress c.self.invariant.0 c.args.stream (Some c.in-Some.next) c.in-Some.ensures)
-    (inbound-told c.self.inside.sender c.self.inside.receiver c.self.inside.progress c.self.invariant.0 (λ (l : InboundStream). l.queue) c.args.stream
+    let t = answered-at x c.args.stream c.in-Some.next c.in-Some-reassembly.queue.now
+    (next-answered c.self.inside.sender c.self.inside.receiver c.self.inside.progress c.self.invariant.0 c.args.stream (Some c.in-Some.next) c.in-Some.ensures)
+    (inbound-answered c.self.inside.sender c.self.inside.receiver c.self.inside.progress c.self.invariant.0 (λ (l : InboundStream). l.queue) c.args.stream
     (Some c.in-Some-reassembly.queue.now) c.in-Some-reassembly.ensures) c.ordered-held.ensures in
     let some : 0 < length sets = omega (arith, c.in-Some-front.ensures.variant.0 refl) in
     let many : deque_len c.ordered-held.result.now ≡ length sets = omega arith in
     let last = c.in-Some-back.last.now in
-    let h = set-told sum x c.self.invariant.1 c.args.stream c.in-Some.next sets t (length sets - 1) last (omega (arith, some))
+    let h = set-answered sum x c.self.invariant.1 c.args.stream c.in-Some.next sets t (length sets - 1) last (omega (arith, some))
     (c.in-Some-back.ensures.lookup ∙ ap (λ k. slice_index_or sets (k - 1) last) many) in
     rw (← c.self.view_is) (c.args.stream, slice_index_or (held_on x.recorded c.args.stream) (length sets - 1) 0, h.0, h.1)
 
@@ -120,34 +121,34 @@ returns-clause-low g c =
     let sum = g.C.Checksum.sum c.self.inside.checksum in
     let x = state_in c.self.inside in
     let sets = c.ordered-held.result.now.items in
-    let t = told-at x c.args.stream c.in-Some.next c.in-Some-reassembly.queue.now
-    (next-told c.self.inside.sender c.self.inside.receiver c.self.inside.progress c.self.invariant.0 c.args.stream (Some c.in-Some.next) c.in-Some.ensures)
-    (inbound-told c.self.inside.sender c.self.inside.receiver c.self.inside.progress c.self.invariant.0 (λ (l : InboundStream). l.queue) c.args.stream
+    let t = answered-at x c.args.stream c.in-Some.next c.in-Some-reassembly.queue.now
+    (next-answered c.self.inside.sender c.self.inside.receiver c.self.inside.progress c.self.invariant.0 c.args.stream (Some c.in-Some.next) c.in-Some.ensures)
+    (inbound-answered c.self.inside.sender c.self.inside.receiver c.self.inside.progress c.self.invariant.0 (λ (l : InboundStream). l.queue) c.args.stream
     (Some c.in-Some-reassembly.queue.now) c.in-Some-reassembly.ensures) c.ordered-held.ensures in
     let some : 0 < length sets = omega (arith, c.in-Some-front.ensures.variant.0 refl) in
-    let h = set-told sum x c.self.invariant.1 c.args.stream c.in-Some.next sets t 0 c.in-Some-front.first.now some c.in-Some-front.ensures.lookup in
-    let told : (s n : ℕ) → is_held x.recorded s n ≡ true → c.in-Some-front.first.now ≡ set_of x.recorded n
+    let h = set-answered sum x c.self.invariant.1 c.args.stream c.in-Some.next sets t 0 c.in-Some-front.first.now some c.in-Some-front.ensures.lookup in
+    let answered : (s n : ℕ) → is_held x.recorded s n ≡ true → c.in-Some-front.first.now ≡ set_of x.recorded n
     → c.index_of.result ≡ index_of x.recorded n = rw (← c.self.view_is) at c.index_of.ensures in
     rw (← c.self.view_is) (c.min-low.ensures ∙ ap (λ n. min n c.index_of.result) t.next_is ∙ low-front sum x c.self.invariant.1 t.at c.args.stream t.d t.lt
-    t.found c.index_of.result (omega (arith, some, ap length t.held)) (told c.args.stream (slice_index_or (held_on x.recorded c.args.stream) 0 0) h.0 h.1))
+    t.found c.index_of.result (omega (arith, some, ap length t.held)) (answered c.args.stream (slice_index_or (held_on x.recorded c.args.stream) 0 0) h.0 h.1))
 
 pub returns-clause-high : goal.returns-clause-high
 returns-clause-high g c =
     let sum = g.C.Checksum.sum c.self.inside.checksum in
     let x = state_in c.self.inside in
     let sets = c.ordered-held.result.now.items in
-    let t = told-at x c.args.stream c.in-Some.next c.in-Some-reassembly.queue.now
-    (next-told c.self.inside.sender c.self.inside.receiver c.self.inside.progress c.self.invariant.0 c.args.stream (Some c.in-Some.next) c.in-Some.ensures)
-    (inbound-told c.self.inside.sender c.self.inside.receiver c.self.inside.progress c.self.invariant.0 (λ (l : InboundStream). l.queue) c.args.stream
+    let t = answered-at x c.args.stream c.in-Some.next c.in-Some-reassembly.queue.now
+    (next-answered c.self.inside.sender c.self.inside.receiver c.self.inside.progress c.self.invariant.0 c.args.stream (Some c.in-Some.next) c.in-Some.ensures)
+    (inbound-answered c.self.inside.sender c.self.inside.receiver c.self.inside.progress c.self.invariant.0 (λ (l : InboundStream). l.queue) c.args.stream
     (Some c.in-Some-reassembly.queue.now) c.in-Some-reassembly.ensures) c.ordered-held.ensures in
     let some : 0 < length sets = omega (arith, c.in-Some-front.ensures.variant.0 refl) in
     let many : deque_len c.ordered-held.result.now ≡ length sets = omega arith in
     let last = c.in-Some-back.last.now in
-    let h = set-told sum x c.self.invariant.1 c.args.stream c.in-Some.next sets t (length sets - 1) last (omega (arith, some))
+    let h = set-answered sum x c.self.invariant.1 c.args.stream c.in-Some.next sets t (length sets - 1) last (omega (arith, some))
     (c.in-Some-back.ensures.lookup ∙ ap (λ k. slice_index_or sets (k - 1) last) many) in
-    let told : (s n : ℕ) → is_held x.recorded s n ≡ true → last ≡ set_of x.recorded n
+    let answered : (s n : ℕ) → is_held x.recorded s n ≡ true → last ≡ set_of x.recorded n
     → c.index_of-2.result ≡ index_of x.recorded n = rw (← c.self.view_is) at c.index_of-2.ensures in
-    let is = told c.args.stream (slice_index_or (held_on x.recorded c.args.stream) (length sets - 1) 0) h.0 h.1 in
+    let is = answered c.args.stream (slice_index_or (held_on x.recorded c.args.stream) (length sets - 1) 0) h.0 h.1 in
     rw (← c.self.view_is) (c.max-high.ensures ∙ ap (λ n. max n c.index_of-2.result) t.next_is
     ∙ high-back sum x c.self.invariant.1 t.at c.args.stream t.d t.lt t.found c.index_of-2.result (omega (arith, some, ap length t.held)) (is
     ∙ ap (λ (ys : List ChunkSet). index_of x.recorded (slice_index_or (held_on x.recorded c.args.stream) (length ys - 1) 0)) t.held))

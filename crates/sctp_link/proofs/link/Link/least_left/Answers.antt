@@ -10,7 +10,7 @@ use Rattle.sctp_model.specs.Queues.{set_of}
 use Rattle.sctp_refinement.specs.Naming.{min_with}
 use Rattle.sctp_link.specs.Fields.{record_in, state_in, sides_in}
 use Rattle.sctp_receiver.specs.declared.receiver.inbound_streams.InboundStream.{InboundStream}
-use Rattle.sctp_link.proofs.sides.Changes.{inbound-told}
+use Rattle.sctp_link.proofs.sides.Changes.{inbound-answered}
 use Rattle.sctp_link.proofs.upkeep.Lookups.{none-open, queue-none, queue-at}
 use Rattle.sctp_link.proofs.receiver.Hears.{set-held, none-there}
 use Rattle.sctp_link.proofs.skipping.SkipComes.{complete-set, first-at, first-none, stream-some}
@@ -21,7 +21,8 @@ unreachable-requires g c =
     let w = record_in c.self.inside in
     let s = c.args.stream in
     let o : is_open w s ≡ true = rw (← c.self.view_is) at c.requires in
-    let none = queue-none s (sides_in c.self.inside).streams (ap option_copied (sym c.in_default.is) ∙ inbound-told c.self.inside.sender c.self.inside.receiver
+    let none =
+    queue-none s (sides_in c.self.inside).streams (ap option_copied (sym c.in_default.is) ∙ inbound-answered c.self.inside.sender c.self.inside.receiver
     c.self.inside.progress c.self.invariant.0 (λ (l : InboundStream). l.queue) s (option_copied c.reassembly.result) c.reassembly.ensures) in
     not_both (sym (none-open w s (sides_in c.self.inside).streams refl none) ∙ o)
 
@@ -32,7 +33,7 @@ returns-in_default-front g c =
     let x = state_in c.self.inside in
     let s = c.args.stream in
     let open_streams = (sides_in c.self.inside).streams in
-    let p = queue-at s open_streams c.in-Some.queue.now (ap option_copied (sym c.in-Some.is) ∙ inbound-told c.self.inside.sender c.self.inside.receiver
+    let p = queue-at s open_streams c.in-Some.queue.now (ap option_copied (sym c.in-Some.is) ∙ inbound-answered c.self.inside.sender c.self.inside.receiver
     c.self.inside.progress c.self.invariant.0 (λ (l : InboundStream). l.queue) s (option_copied c.reassembly.result) c.reassembly.ensures) in
     let held = c.ordered-held.ensures ∙ ap (λ (q : ReassemblyState). q.held.ordered) p.queue in
     let empty : length (slice_index_or open_streams p.at p.stream).inbound.queue.held.ordered ≡ 0 =
@@ -46,7 +47,7 @@ returns-then-not-is_complete g c =
     let x = state_in c.self.inside in
     let s = c.args.stream in
     let open_streams = (sides_in c.self.inside).streams in
-    let p = queue-at s open_streams c.in-Some.queue.now (ap option_copied (sym c.in-Some.is) ∙ inbound-told c.self.inside.sender c.self.inside.receiver
+    let p = queue-at s open_streams c.in-Some.queue.now (ap option_copied (sym c.in-Some.is) ∙ inbound-answered c.self.inside.sender c.self.inside.receiver
     c.self.inside.progress c.self.invariant.0 (λ (l : InboundStream). l.queue) s (option_copied c.reassembly.result) c.reassembly.ensures) in
     let held = c.ordered-held.ensures ∙ ap (λ (q : ReassemblyState). q.held.ordered) p.queue in
     let first = c.in-Some-front.first.now in
@@ -67,7 +68,7 @@ index_of-requires g c =
     let x = state_in c.self.inside in
     let s = c.args.stream in
     let open_streams = (sides_in c.self.inside).streams in
-    let p = queue-at s open_streams c.in-Some.queue.now (ap option_copied (sym c.in-Some.is) ∙ inbound-told c.self.inside.sender c.self.inside.receiver
+    let p = queue-at s open_streams c.in-Some.queue.now (ap option_copied (sym c.in-Some.is) ∙ inbound-answered c.self.inside.sender c.self.inside.receiver
     c.self.inside.progress c.self.invariant.0 (λ (l : InboundStream). l.queue) s (option_copied c.reassembly.result) c.reassembly.ensures) in
     let held = c.ordered-held.ensures ∙ ap (λ (q : ReassemblyState). q.held.ordered) p.queue in
     let first = c.in-Some-front.first.now in
@@ -84,7 +85,7 @@ returns g c =
     let x = state_in c.self.inside in
     let s = c.args.stream in
     let open_streams = (sides_in c.self.inside).streams in
-    let p = queue-at s open_streams c.in-Some.queue.now (ap option_copied (sym c.in-Some.is) ∙ inbound-told c.self.inside.sender c.self.inside.receiver
+    let p = queue-at s open_streams c.in-Some.queue.now (ap option_copied (sym c.in-Some.is) ∙ inbound-answered c.self.inside.sender c.self.inside.receiver
     c.self.inside.progress c.self.invariant.0 (λ (l : InboundStream). l.queue) s (option_copied c.reassembly.result) c.reassembly.ensures) in
     let held = c.ordered-held.ensures ∙ ap (λ (q : ReassemblyState). q.held.ordered) p.queue in
     let first = c.in-Some-front.first.now in
@@ -95,8 +96,8 @@ returns g c =
     let count = stream-some sum x c.self.invariant.1 p.at s p.stream p.inside p.found some in
     let set-complete = complete-set sum x c.self.invariant.1 s (slice_index_or (held_on w s) 0 0) first h.0 is in
     let complete : is_complete first.chunks ≡ true = sym c.is_complete.ensures ∙ c.if-not-is_complete.false in
-    let told : (s n : ℕ) → is_held w s n ≡ true → first ≡ set_of w n → c.index_of.result ≡ index_of w n = rw (← c.self.view_is) at c.index_of.ensures in
+    let answered : (s n : ℕ) → is_held w s n ≡ true → first ≡ set_of w n → c.index_of.result ≡ index_of w n = rw (← c.self.view_is) at c.index_of.ensures in
     rw (← c.self.view_is)
-    (c.min.ensures ∙ ap (min c.args.low) (told s (slice_index_or (held_on w s) 0 0) h.0 is)
+    (c.min.ensures ∙ ap (min c.args.low) (answered s (slice_index_or (held_on w s) 0 0) h.0 is)
     ∙ ap (λ o. min_with o c.args.low)
     (sym (first-at w s count ∙ ap (λ b. if b then Some (index_of w (slice_index_or (held_on w s) 0 0)) else None) (sym set-complete ∙ complete))))

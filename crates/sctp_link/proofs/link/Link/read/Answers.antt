@@ -145,7 +145,7 @@ invariant_of-self-2 g c =
       subst (λ (y : Sides). IsLinked sum
           (record (state_from y a) { recorded = record (record_from y a) { messages = map message_record messages }; progress = map progress_of messages }))
           (sym both)
-          (linked-recorded sum (state_in a) l s p.at p.d refl p.lt p.found r.set e m (map message_record messages) h.message h.marks h.index
+          (linked-recorded sum (state_in a) l s p.at p.d refl p.lt p.found r.set e m (map message_record messages) h.message h.reads h.index
           (map progress_of messages) h.progress),
     )
 
@@ -172,5 +172,5 @@ returns-clause-right g c =
     rw (← c.self.view_is) (record {
       right = ap (λ k. R.Message s k r.set) (kind ∙ sym (ap (λ t. t.ppi) h.message)) ∙ reply-read sum (state_in a) l s p.at p.d refl p.lt p.found r.set e;
       moves = ap (λ (y : Sides). record (record_from y a) { messages = map message_record messages }) both
-          ∙ recorded-recorded sum (state_in a) l s p.at p.d refl p.lt p.found r.set e m (map message_record messages) h.message h.marks h.index;
+          ∙ recorded-recorded sum (state_in a) l s p.at p.d refl p.lt p.found r.set e m (map message_record messages) h.message h.reads h.index;
     })

@@ -16,6 +16,6 @@ returns g c =
     let w = record_in c.self.inside in
     let p = (c.args.tsn + (2 ^ 32 - c.self.inside.first_tsn)) % 2 ^ 32 in
     let lt : p < length w.slots = omega (arith, c.if-place-len.false, c.len.ensures, length-mapped slot_record c.self.inside.slots.items) in
-    let told : c.is_cleared.result ≡ is_cleared w p = rw (← c.self.view_is) at c.is_cleared.ensures in
+    let answered : c.is_cleared.result ≡ is_cleared w p = rw (← c.self.view_is) at c.is_cleared.ensures in
     rw (← c.self.view_is)
-    (sym (ap (λ b. unless b NotInFlight None) (can-resend w p c.if-place-self.false lt ∙ ap not (sym told) ∙ ap not c.if-is_cleared.false)))
+    (sym (ap (λ b. unless b NotInFlight None) (can-resend w p c.if-place-self.false lt ∙ ap not (sym answered) ∙ ap not c.if-is_cleared.false)))

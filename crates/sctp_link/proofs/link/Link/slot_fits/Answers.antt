@@ -49,8 +49,8 @@ returns-then-not-is_new g c =
     let w = record_in c.self.inside in
     let n = message_of w c.args.place in
     let test = fits w (index_of w n ∷ []) (message_at w n).stream in
-    let told : c.is_new.result ≡ is_new w c.args.place = rw (← c.self.view_is) at c.is_new.ensures in
-    let old : is_new w c.args.place ≡ false = sym told ∙ c.if-not-is_new.true in
+    let answered : c.is_new.result ≡ is_new w c.args.place = rw (← c.self.view_is) at c.is_new.ensures in
+    let old : is_new w c.args.place ≡ false = sym answered ∙ c.if-not-is_new.true in
     rw (← c.self.view_is) (sym (ap (λ b. if b && (message_at w n).ordered then test else true) old))
 
 pub index_range-low-requires : goal.index_range-low-requires
@@ -73,8 +73,8 @@ returns g c =
     let m = c.index-message.result.now in
     let m_is = message g q.After-index-message k in
     let test = fits w (index_of w n ∷ []) (message_at w n).stream in
-    let told : c.is_new.result ≡ is_new w p = rw (← c.self.view_is) at c.is_new.ensures in
-    let new : is_new w p ≡ true = sym told ∙ c.if-not-is_new.false in
+    let answered : c.is_new.result ≡ is_new w p = rw (← c.self.view_is) at c.is_new.ensures in
+    let new : is_new w p ≡ true = sym answered ∙ c.if-not-is_new.false in
     let kind : (message_at w n).ordered ≡ true = ap (λ t. t.ordered) m_is ∙ c.if-not-message.false in
     let low : c.index_range-low.result.0 ≡ lowest_held w m.stream = rw (← c.self.view_is) at c.index_range-low.ensures.low in
     let high : c.index_range-low.result.1 ≡ highest_held w m.stream = rw (← c.self.view_is) at c.index_range-low.ensures.high in

@@ -8,7 +8,7 @@ use Rattle.sctp_progress.specs.Progress.{fresh}
 use Rattle.sctp_link.specs.Sides.{IsAligned}
 use Rattle.sctp_link.specs.Streams.{OpenStream, new_open_stream}
 use Rattle.sctp_link.proofs.sides.Aligned.{count-is}
-use Rattle.sctp_link.proofs.sides.Changes.{number-told}
+use Rattle.sctp_link.proofs.sides.Changes.{number-answered}
 use Rattle.sctp_link.specs.declared.link.Link.TheInside.{Inside}
 use Rattle.sctp_link.specs.declared.skipped.Named.{Named}
 use Rattle.sctp_link.specs.Fields.{record_in, state_in, sides_in}
@@ -55,7 +55,7 @@ index_range-low-requires g c =
     let a = c.self.inside in
     let inside : c.args.at < length (record_in a).streams = rw (← c.self.view_is) at c.requires.inside in
     rw (← c.self.view_is) (open-one a c.args.at c.number_at-stream.result inside (λ e. c.number_at-stream.ensures (fresh 0)
-    ∙ number-told a.sender a.receiver a.progress c.self.invariant.0 c.args.at (fresh 0) e (at-inside a c.self.invariant.0 c.args.at inside))).opened
+    ∙ number-answered a.sender a.receiver a.progress c.self.invariant.0 c.args.at (fresh 0) e (at-inside a c.self.invariant.0 c.args.at inside))).opened
 
 pub overflow_add-span : goal.overflow_add-span
 overflow_add-span g c =
@@ -73,7 +73,7 @@ returns-then-max-span g c =
     let s = c.number_at-stream.result in
     let inside : c.args.at < length w.streams = rw (← c.self.view_is) at c.requires.inside in
     let o = open-one a c.args.at s inside (λ e. c.number_at-stream.ensures (fresh 0)
-    ∙ number-told a.sender a.receiver a.progress c.self.invariant.0 c.args.at (fresh 0) e (at-inside a c.self.invariant.0 c.args.at inside)) in
+    ∙ number-answered a.sender a.receiver a.progress c.self.invariant.0 c.args.at (fresh 0) e (at-inside a c.self.invariant.0 c.args.at inside)) in
     let lies : (k : ℕ) × (slice_get w.network k ≡ Some (Forward c.args.upto c.args.names.now)) = rw (← c.self.view_is) at c.requires.lies in
     let low : c.index_range-low.result.0 ≡ least (next_of w s) (map (index_of w) (held_on w s)) = rw (← c.self.view_is) at c.index_range-low.ensures.low in
     let high : c.index_range-low.result.1 ≡ greatest (next_of w s) (map (index_of w) (held_on w s)) = rw (← c.self.view_is) at c.index_range-low.ensures.high in
@@ -87,7 +87,7 @@ least_left-requires g c =
     let a = c.self.inside in
     let inside : c.args.at < length (record_in a).streams = rw (← c.self.view_is) at c.requires.inside in
     rw (← c.self.view_is) (open-one a c.args.at c.number_at-stream.result inside (λ e. c.number_at-stream.ensures (fresh 0)
-    ∙ number-told a.sender a.receiver a.progress c.self.invariant.0 c.args.at (fresh 0) e (at-inside a c.self.invariant.0 c.args.at inside))).opened
+    ∙ number-answered a.sender a.receiver a.progress c.self.invariant.0 c.args.at (fresh 0) e (at-inside a c.self.invariant.0 c.args.at inside))).opened
 
 pub returns-then-named-span : goal.returns-then-named-span
 returns-then-named-span g c =
@@ -97,7 +97,7 @@ returns-then-named-span g c =
     let s = c.number_at-stream.result in
     let inside : c.args.at < length w.streams = rw (← c.self.view_is) at c.requires.inside in
     let o = open-one a c.args.at s inside (λ e. c.number_at-stream.ensures (fresh 0)
-    ∙ number-told a.sender a.receiver a.progress c.self.invariant.0 c.args.at (fresh 0) e (at-inside a c.self.invariant.0 c.args.at inside)) in
+    ∙ number-answered a.sender a.receiver a.progress c.self.invariant.0 c.args.at (fresh 0) e (at-inside a c.self.invariant.0 c.args.at inside)) in
     let lies : (k : ℕ) × (slice_get w.network k ≡ Some (Forward c.args.upto c.args.names.now)) = rw (← c.self.view_is) at c.requires.lies in
     let low : c.index_range-low.result.0 ≡ least (next_of w s) (map (index_of w) (held_on w s)) = rw (← c.self.view_is) at c.index_range-low.ensures.low in
     let high : c.index_range-low.result.1 ≡ greatest (next_of w s) (map (index_of w) (held_on w s)) = rw (← c.self.view_is) at c.index_range-low.ensures.high in
@@ -115,7 +115,7 @@ returns-else-named-span g c =
     let s = c.number_at-stream.result in
     let inside : c.args.at < length w.streams = rw (← c.self.view_is) at c.requires.inside in
     let o = open-one a c.args.at s inside (λ e. c.number_at-stream.ensures (fresh 0)
-    ∙ number-told a.sender a.receiver a.progress c.self.invariant.0 c.args.at (fresh 0) e (at-inside a c.self.invariant.0 c.args.at inside)) in
+    ∙ number-answered a.sender a.receiver a.progress c.self.invariant.0 c.args.at (fresh 0) e (at-inside a c.self.invariant.0 c.args.at inside)) in
     let lies : (k : ℕ) × (slice_get w.network k ≡ Some (Forward c.args.upto c.args.names.now)) = rw (← c.self.view_is) at c.requires.lies in
     let low : c.index_range-low.result.0 ≡ least (next_of w s) (map (index_of w) (held_on w s)) = rw (← c.self.view_is) at c.index_range-low.ensures.low in
     let high : c.index_range-low.result.1 ≡ greatest (next_of w s) (map (index_of w) (held_on w s)) = rw (← c.self.view_is) at c.index_range-low.ensures.high in

@@ -19,25 +19,26 @@ use Rattle.sctp_model.specs.declared.event.Event.TheVariants as E
 use Rattle.sctp_link.specs.Linked.{IsLinked}
 use Rattle.sctp_link.specs.Sides.{Sides, abandoned_on}
 use Rattle.sctp_link.specs.Fields.{state_in, record_in, state_from, record_from, sides_in}
-use Rattle.sctp_link.specs.OpenStreams.{marks}
+use Rattle.sctp_link.specs.OpenStreams.{terminals}
 use Rattle.sctp_link.specs.Records.{message_record, slot_record, progress_of}
 use Rattle.sctp_link.proofs.abandonment.Abandoning.{recorded-given, linked-given}
-use Rattle.sctp_link.proofs.abandonment.QueueAnswers.{none-tails, half-front, complete-idle, early-idle, tails, idle-tail, tail-right, past_deadline, number-is}
+use Rattle.sctp_link.proofs.abandonment.QueueAnswers.{none-tails, partial-front, complete-idle, early-idle, tails, idle-tail, tail-right, past_deadline}
+use Rattle.sctp_link.proofs.abandonment.QueueAnswers.{number-is}
 use Rattle.sctp_link.proofs.abandonment.QueueAnswers.{rest-fits, gives-tail}
 use Rattle.sctp_link.proofs.receiver.Keeping.{on-err}
 use Rattle.sctp_link.proofs.sender.Sending.{next-is}
 use Rattle.sctp_link.proofs.link.Link.tail.Goals as goal
 
 -- what is answered of the message that is abandoned
-record Told (a : AbandonedMessage) (e : Option ChunkPayloadData) : Type 0 where
+record Answered (a : AbandonedMessage) (e : Option ChunkPayloadData) : Type 0 where
   stream : Some a.stream ≡ option_map (λ c. c.stream_identifier) e
   number : message_of e ≡ Some a.number
 
-told-of : (o : Option AbandonedMessage) (a : AbandonedMessage) (e : Option ChunkPayloadData) → o ≡ Some a
-    → option_map {U = ℕ × ℕ} (λ a. (a.stream, a.number)) o ≡ option_map {U = ℕ × ℕ} (λ c. (c.stream_identifier, c.message_id)) e → Told a e
-told-of None a e is h = absurd (cc)
-told-of (Some b) a None is h = absurd (cc)
-told-of (Some b) a (Some c) is h =
+answered-of : (o : Option AbandonedMessage) (a : AbandonedMessage) (e : Option ChunkPayloadData) → o ≡ Some a
+    → option_map {U = ℕ × ℕ} (λ a. (a.stream, a.number)) o ≡ option_map {U = ℕ × ℕ} (λ c. (c.stream_identifier, c.message_id)) e → Answered a e
+answered-of None a e is h = absurd (cc)
+answered-of (Some b) a None is h = absurd (cc)
+answered-of (Some b) a (Some c) is h =
     let same : b ≡ a = some-same is in
     let pair : (b.stream, b.number) ≡ (c.stream_identifier, c.message_id) = some-same h in
     record {
@@ -89,7 +90,7 @@ memory-requires g c =
     let late : tailing (record_in c.self.inside) c.args.now ≡ Some c.in-Some.chunk.now.message_id = tails (g.C.Checksum.sum c.self.inside.checksum)
     (state_in c.self.inside) c.self.invariant.1 c.args.now c.in-Some.chunk.now shown c.if-chunk.false (sym c.is_past.ensures ∙ c.if-not-is_past.false) in
     let next = rest-fits (g.C.Checksum.sum c.self.inside.checksum)
-    (state_in c.self.inside) c.self.invariant.1 c.args.now c.in-Some.chunk.now.message_id late (sym (half-front (g.C.Checksum.sum c.self.inside.checksum)
+    (state_in c.self.inside) c.self.invariant.1 c.args.now c.in-Some.chunk.now.message_id late (sym (partial-front (g.C.Checksum.sum c.self.inside.checksum)
     (state_in c.self.inside) c.self.invariant.1 c.args.now c.in-Some.chunk.now shown c.if-chunk.false)) in
     c.in-Err.ensures.refused ∙ ap (λ b. if b then OutOfMemory else TsnsUsedUp) next
 
@@ -113,9 +114,10 @@ index_mut-message-requires g c =
     let shown : next_pending c.self.inside.sender.flight.queue.pending ≡ Some c.in-Some.chunk.now = search rules in
     let late : tailing (record_in c.self.inside) c.args.now ≡ Some c.in-Some.chunk.now.message_id = tails (g.C.Checksum.sum c.self.inside.checksum)
     (state_in c.self.inside) c.self.invariant.1 c.args.now c.in-Some.chunk.now shown c.if-chunk.false (sym c.is_past.ensures ∙ c.if-not-is_past.false) in
-    let told = told-of c.in-Ok.gone c.in-Some-gone.gone (expiring_tail c.args.now c.self.inside.sender.flight.queue) c.in-Some-gone.is c.in-Ok.ensures.answer in
+    let answered =
+    answered-of c.in-Ok.gone c.in-Some-gone.gone (expiring_tail c.args.now c.self.inside.sender.flight.queue) c.in-Some-gone.is c.in-Ok.ensures.answer in
     let number : c.in-Some-gone.gone.number ≡ c.in-Some.chunk.now.message_id = number-is (g.C.Checksum.sum c.self.inside.checksum)
-    (state_in c.self.inside) c.self.invariant.1 c.args.now c.in-Some.chunk.now.message_id late c.in-Some-gone.gone.number told.number in
+    (state_in c.self.inside) c.self.invariant.1 c.args.now c.in-Some.chunk.now.message_id late c.in-Some-gone.gone.number answered.number in
     let made : c.in-Some-gone.gone.number < length (record_in c.self.inside).messages = let m =
     (next-is (g.C.Checksum.sum c.self.inside.checksum) (state_in c.self.inside) c.self.invariant.1 c.in-Some.chunk.now shown).made in
     omega (arith, m, number) in
@@ -133,22 +135,23 @@ invariant_of-self-2 g c =
     let bytes = c.in-Some-gone.gone.bytes in
     let late : tailing (record_in c.self.inside) now ≡ Some c.in-Some.chunk.now.message_id =
     tails sum x l now c.in-Some.chunk.now shown c.if-chunk.false (sym c.is_past.ensures ∙ c.if-not-is_past.false) in
-    let told = told-of c.in-Ok.gone c.in-Some-gone.gone (expiring_tail c.args.now c.self.inside.sender.flight.queue) c.in-Some-gone.is c.in-Ok.ensures.answer in
-    let number : n ≡ c.in-Some.chunk.now.message_id = number-is sum x l now c.in-Some.chunk.now.message_id late n told.number in
+    let answered =
+    answered-of c.in-Ok.gone c.in-Some-gone.gone (expiring_tail c.args.now c.self.inside.sender.flight.queue) c.in-Some-gone.is c.in-Ok.ensures.answer in
+    let number : n ≡ c.in-Some.chunk.now.message_id = number-is sum x l now c.in-Some.chunk.now.message_id late n answered.number in
     let made : n < length (record_in c.self.inside).messages = let m = (next-is sum x l c.in-Some.chunk.now shown).made in omega (arith, m, number) in
     let due : tailing (record_in c.self.inside) now ≡ Some n = late ∙ ap Some (sym number) in
     let then' : Sides = abandoned_on (message_of (expiring_tail now c.self.inside.sender.flight.queue)) s bytes (sides_in c.self.inside) in
     let sent = some-of _ c.in-Ok.gone c.in-Some-gone.gone c.in-Some-gone.is c.in-Ok.ensures.some in
     let left = left-of c.expire_tail.new.self c.self.inside.sender c.in-Ok.gone c.in-Some-gone.gone c.in-Some-gone.is c.in-Ok.ensures.released _ sent in
-    let r = gives-tail sum x l now n due s bytes then'.flight.queue then'.flight.next_tsn made told.stream refl refl left in
+    let r = gives-tail sum x l now n due s bytes then'.flight.queue then'.flight.next_tsn made answered.stream refl refl left in
     let both = on-sides c.self.inside.sender c.self.inside.receiver c.self.inside.progress c.self.invariant.0 s (less_by bytes)
     (after_abandonment (message_of (expiring_tail now c.self.inside.sender.flight.queue)) c.self.inside.sender.flight) c.expire_tail.new.self sent in
     let ms = slice_set c.self.inside.messages.items n c.settle.new.message in
     let ss = c.settle.new.slots.items in
-    let half : true ≡ is_partially_sent (record_in c.self.inside) n = half-front sum x l now c.in-Some.chunk.now shown c.if-chunk.false
+    let partial : true ≡ is_partially_sent (record_in c.self.inside) n = partial-front sum x l now c.in-Some.chunk.now shown c.if-chunk.false
     ∙ ap (is_partially_sent (record_in c.self.inside)) (sym number) in
-    let more : c.settle.new.slots.items ≡ c.self.inside.slots.items ++ marks true n c.index_mut-message.result.now.sent = c.settle.ensures.slots
-    ∙ ap (λ a. a ++ marks true n c.index_mut-message.result.now.sent) c.make_room.ensures.items in (
+    let more : c.settle.new.slots.items ≡ c.self.inside.slots.items ++ terminals true n c.index_mut-message.result.now.sent = c.settle.ensures.slots
+    ∙ ap (λ a. a ++ terminals true n c.index_mut-message.result.now.sent) c.make_room.ensures.items in (
       on-aligned c.self.inside.sender c.self.inside.receiver c.self.inside.progress c.self.invariant.0 s (less_by bytes) (after_abandonment
           (message_of (expiring_tail now c.self.inside.sender.flight.queue)) c.self.inside.sender.flight) c.expire_tail.new.self sent (λ l. refl),
       subst (λ (y : Sides). IsLinked sum (record (state_from y c.self.inside)
@@ -156,7 +159,7 @@ invariant_of-self-2 g c =
           (sym both)
           (linked-given sum x l (E.Tail now) refl n s bytes then'.flight.queue then'.flight.next_tsn r tt tt refl refl
           c.self.inside.messages.items c.index_mut-message.result.now c.settle.new.message c.self.inside.slots.items c.settle.new.slots.items true refl refl
-          refl refl c.index_mut-message.ensures.value c.settle.ensures.message half more),
+          refl refl c.index_mut-message.ensures.value c.settle.ensures.message partial more),
     )
 
 pub returns-clause-ok : goal.returns-clause-ok
@@ -171,26 +174,27 @@ returns-clause-ok g c =
     let bytes = c.in-Some-gone.gone.bytes in
     let late : tailing (record_in c.self.inside) now ≡ Some c.in-Some.chunk.now.message_id =
     tails sum x l now c.in-Some.chunk.now shown c.if-chunk.false (sym c.is_past.ensures ∙ c.if-not-is_past.false) in
-    let told = told-of c.in-Ok.gone c.in-Some-gone.gone (expiring_tail c.args.now c.self.inside.sender.flight.queue) c.in-Some-gone.is c.in-Ok.ensures.answer in
-    let number : n ≡ c.in-Some.chunk.now.message_id = number-is sum x l now c.in-Some.chunk.now.message_id late n told.number in
+    let answered =
+    answered-of c.in-Ok.gone c.in-Some-gone.gone (expiring_tail c.args.now c.self.inside.sender.flight.queue) c.in-Some-gone.is c.in-Ok.ensures.answer in
+    let number : n ≡ c.in-Some.chunk.now.message_id = number-is sum x l now c.in-Some.chunk.now.message_id late n answered.number in
     let made : n < length (record_in c.self.inside).messages = let m = (next-is sum x l c.in-Some.chunk.now shown).made in omega (arith, m, number) in
     let due : tailing (record_in c.self.inside) now ≡ Some n = late ∙ ap Some (sym number) in
     let then' : Sides = abandoned_on (message_of (expiring_tail now c.self.inside.sender.flight.queue)) s bytes (sides_in c.self.inside) in
     let sent = some-of _ c.in-Ok.gone c.in-Some-gone.gone c.in-Some-gone.is c.in-Ok.ensures.some in
     let left = left-of c.expire_tail.new.self c.self.inside.sender c.in-Ok.gone c.in-Some-gone.gone c.in-Some-gone.is c.in-Ok.ensures.released _ sent in
-    let r = gives-tail sum x l now n due s bytes then'.flight.queue then'.flight.next_tsn made told.stream refl refl left in
+    let r = gives-tail sum x l now n due s bytes then'.flight.queue then'.flight.next_tsn made answered.stream refl refl left in
     let both = on-sides c.self.inside.sender c.self.inside.receiver c.self.inside.progress c.self.invariant.0 s (less_by bytes)
     (after_abandonment (message_of (expiring_tail now c.self.inside.sender.flight.queue)) c.self.inside.sender.flight) c.expire_tail.new.self sent in
     let ms = slice_set c.self.inside.messages.items n c.settle.new.message in
     let ss = c.settle.new.slots.items in
-    let half : true ≡ is_partially_sent (record_in c.self.inside) n = half-front sum x l now c.in-Some.chunk.now shown c.if-chunk.false
+    let partial : true ≡ is_partially_sent (record_in c.self.inside) n = partial-front sum x l now c.in-Some.chunk.now shown c.if-chunk.false
     ∙ ap (is_partially_sent (record_in c.self.inside)) (sym number) in
-    let more : c.settle.new.slots.items ≡ c.self.inside.slots.items ++ marks true n c.index_mut-message.result.now.sent = c.settle.ensures.slots
-    ∙ ap (λ a. a ++ marks true n c.index_mut-message.result.now.sent) c.make_room.ensures.items in
+    let more : c.settle.new.slots.items ≡ c.self.inside.slots.items ++ terminals true n c.index_mut-message.result.now.sent = c.settle.ensures.slots
+    ∙ ap (λ a. a ++ terminals true n c.index_mut-message.result.now.sent) c.make_room.ensures.items in
     rw (← c.self.view_is) (record {
       right = tail-right sum x l now n s bytes due r.stream (r.grows ∙ ap (growth (record_in c.self.inside)) (sym r.is));
       moves = ap (λ (y : Sides). record (record_from y c.self.inside) { messages = map message_record ms; slots = map slot_record ss }) both
           ∙ recorded-given sum x l (E.Tail now) refl n s bytes then'.flight.queue then'.flight.next_tsn r tt tt refl refl
           c.self.inside.messages.items c.index_mut-message.result.now c.settle.new.message c.self.inside.slots.items c.settle.new.slots.items true refl refl
-          refl refl c.index_mut-message.ensures.value c.settle.ensures.message half more ∙ sym r.is;
+          refl refl c.index_mut-message.ensures.value c.settle.ensures.message partial more ∙ sym r.is;
     })

@@ -10,7 +10,7 @@ use Rattle.sctp_link.specs.Sides.{Sides, IsAligned, sides, written_on}
 use Rattle.sctp_link.specs.Linked.{IsLinked}
 use Rattle.sctp_link.proofs.sides.Joined.{states-joined}
 use Rattle.sctp_link.proofs.sides.Aligned.{alike}
-use Rattle.sctp_link.proofs.sides.Changes.{only-memory, recorded, sender-has, state-is, ordered-told, written-aligned, written-sides}
+use Rattle.sctp_link.proofs.sides.Changes.{only-memory, recorded, sender-has, state-is, ordered-answered, written-aligned, written-sides}
 use Rattle.sctp_link.specs.Fields.{state_in, record_in, state_from, record_from, sides_in}
 use Rattle.sctp_link.proofs.sender.WrittenLists.{some-bytes, write-on, fits-64, next-short, sender-takes, write-right, linked-wrote}
 use Rattle.sctp_link.proofs.link.Link.write.Goals as goal
@@ -48,7 +48,7 @@ record_write-requires g c =
       arith,
       next-short (g.C.Checksum.sum c.self.inside.checksum)
           (state_in c.self.inside) c.self.invariant.1 c.args.stream c.args.ppi c.args.bytes some ok refl on.0 on.1,
-      ordered-told c.self.inside.sender c.self.inside.receiver c.self.inside.progress c.self.invariant.0 c.args.stream on.0 on.1,
+      ordered-answered c.self.inside.sender c.self.inside.receiver c.self.inside.progress c.self.invariant.0 c.args.stream on.0 on.1,
     )
 
 pub overflow_add-self-2 : goal.overflow_add-self-2
@@ -73,7 +73,7 @@ invariant_of-self-2 g c =
     c.written_of-written.ensures.ordered c.written_of-written.ensures.reliability c.written_of-written.ensures.value c.written_of-written.ensures.before
     (state-is c.self.inside.sender c.self.inside.receiver c.self.inside.progress c.self.invariant.0 c.args.stream on.0 on.1 c.in-Some.state.now
     c.in-Some.ensures)
-    (c.ordered.ensures ∙ ordered-told c.self.inside.sender c.self.inside.receiver c.self.inside.progress c.self.invariant.0 c.args.stream on.0 on.1) in
+    (c.ordered.ensures ∙ ordered-answered c.self.inside.sender c.self.inside.receiver c.self.inside.progress c.self.invariant.0 c.args.stream on.0 on.1) in
     let sent = c.in-Ok.ensures.ok some on.0.state
     (sender-has c.self.inside.sender c.self.inside.receiver c.self.inside.progress c.self.invariant.0 c.args.stream on.0 on.1) in
     let kind = c.written_of-written.result.ordered in
@@ -112,7 +112,7 @@ returns-clause-ok g c =
     c.written_of-written.ensures.ordered c.written_of-written.ensures.reliability c.written_of-written.ensures.value c.written_of-written.ensures.before
     (state-is c.self.inside.sender c.self.inside.receiver c.self.inside.progress c.self.invariant.0 c.args.stream on.0 on.1 c.in-Some.state.now
     c.in-Some.ensures)
-    (c.ordered.ensures ∙ ordered-told c.self.inside.sender c.self.inside.receiver c.self.inside.progress c.self.invariant.0 c.args.stream on.0 on.1) in
+    (c.ordered.ensures ∙ ordered-answered c.self.inside.sender c.self.inside.receiver c.self.inside.progress c.self.invariant.0 c.args.stream on.0 on.1) in
     let sent = c.in-Ok.ensures.ok some on.0.state
     (sender-has c.self.inside.sender c.self.inside.receiver c.self.inside.progress c.self.invariant.0 c.args.stream on.0 on.1) in
     let kind = c.written_of-written.result.ordered in

@@ -6,8 +6,8 @@ use Rattle.sctp_serial.specs.DataChunks.{has_tsn}
 use Rattle.sctp_outbound.proofs.lemmas.outbound_queue.Sendable.{found_in, kept_or_gone}
 use Rattle.sctp_outbound.proofs.outbound_queue.OutboundQueue.abandon_between.Goals as goal
 
-pub returns-clause-half : goal.returns-clause-half
-returns-clause-half c =
+pub returns-clause-partial : goal.returns-clause-partial
+returns-clause-partial c =
     let q = c.self.inside in
     let old : Outbound =
     record { pending = q.pending; inflight = q.inflight; next_message_id = q.next_message_id; next_unstarted = q.next_unstarted_message_id } in
@@ -21,8 +21,8 @@ abandon_message-requires-clause-between c =
     let x = c.in-Some.chunk.now in
     c.requires.between x (subst (λ (o : Outbound). find (has_tsn c.args.tsn) o.inflight.chunks ≡ Some x) c.self.view_is (sym c.in-Some.ensures))
 
-pub abandon_message-requires-clause-half : goal.abandon_message-requires-clause-half
-abandon_message-requires-clause-half c =
+pub abandon_message-requires-clause-partial : goal.abandon_message-requires-clause-partial
+abandon_message-requires-clause-partial c =
     let m = c.in-Some.chunk.now.message_id in
     let found = found_in c.args.tsn c.self.inside.inflight.chunks c.in-Some.chunk.now (sym c.in-Some.ensures) in
     subst (λ (o : Outbound). waits m o.pending ≡ true → partially_sent o.pending ≡ Some m) c.self.view_is (c.self.invariant.sendable.sent m found)

@@ -7,14 +7,15 @@ use Rattle.sctp_outbound.proofs.outbound_queue.OutboundQueue.rest_waits.Goals as
 pub returns-in-None : goal.returns-in-None
 returns-in-None c =
     let q = c.self.inside in
-    let half = subst (λ (o : Outbound). waits c.args.message_id o.pending ≡ true → partially_sent o.pending ≡ Some c.args.message_id)
+    let partial = subst (λ (o : Outbound). waits c.args.message_id o.pending ≡ true → partially_sent o.pending ≡ Some c.args.message_id)
     (sym c.self.view_is) c.requires in
-    rw (← c.self.view_is) (none-in-front q.pending q.inflight.chunks q.next_message_id c.args.message_id c.self.invariant.sendable half (sym c.in-None.ensures))
+    rw (← c.self.view_is)
+    (none-in-front q.pending q.inflight.chunks q.next_message_id c.args.message_id c.self.invariant.sendable partial (sym c.in-None.ensures))
 
 pub returns-in-Some : goal.returns-in-Some
 returns-in-Some c =
     let q = c.self.inside in
-    let half = subst (λ (o : Outbound). waits c.args.message_id o.pending ≡ true → partially_sent o.pending ≡ Some c.args.message_id)
+    let partial = subst (λ (o : Outbound). waits c.args.message_id o.pending ≡ true → partially_sent o.pending ≡ Some c.args.message_id)
     (sym c.self.view_is) c.requires in
     rw (← c.self.view_is)
-    (in-front q.pending q.inflight.chunks q.next_message_id c.args.message_id c.self.invariant.sendable half c.in-Some.chunk.now (sym c.in-Some.ensures))
+    (in-front q.pending q.inflight.chunks q.next_message_id c.args.message_id c.self.invariant.sendable partial c.in-Some.chunk.now (sym c.in-Some.ensures))

@@ -8,7 +8,7 @@ use Rattle.sctp_serial.specs.DataChunks.{has_tsn, chunk_before}
 use Rattle.sctp_serial.proofs.lemmas.AscendingEdits.{before_half, first_small, sorted, place_from_split, place_positive, order_on, insertion_between}
 use Rattle.sctp_serial.proofs.lemmas.AscendingEdits.{insertion_in_front}
 use Rattle.sctp_reassembly.proofs.lemmas.reassembly_queue.Digits.{digits_le}
-use Rattle.sctp_reassembly.proofs.lemmas.reassembly_queue.ExactMarks.{off_if, off_on, too_far_in_front, too_far_behind, insertion_opposite}
+use Rattle.sctp_reassembly.proofs.lemmas.reassembly_queue.ExactFlags.{off_if, off_on, too_far_in_front, too_far_behind, insertion_opposite}
 use Rattle.sctp_reassembly.proofs.reassembly_queue.fragment_places.insertion.Goals as goal
 
 pub returns-then-far-2-clause-free : goal.returns-then-far-2-clause-free

@@ -3,7 +3,7 @@ use Rattle.sctp_data.specs.ChunkSet.{ChunkSet}
 use Rattle.sctp_list_lemmas.specs.Serial.{distance}
 use Rattle.sctp_serial.specs.Ascending.{upper_half}
 use Rattle.sctp_serial.proofs.lemmas.AscendingEdits.{IsRising, ascending, rising_one, rising_more, rising_all, distance_self, number_read}
-use Rattle.sctp_reassembly.proofs.lemmas.reassembly_queue.ExactMarks.{step_out_of_order}
+use Rattle.sctp_reassembly.proofs.lemmas.reassembly_queue.ExactFlags.{step_out_of_order}
 use Rattle.sctp_reassembly.proofs.reassembly_queue.ordered_sets.are_ascending.Goals as goal
 use Rattle.sctp_reassembly.proofs.reassembly_queue.ordered_sets.are_ascending.Goals.{then-next-far-via-then-next-far, then-next-far-via-else-next-far+then-next}
 

@@ -11,7 +11,7 @@ use Rattle.sctp_serial.proofs.lemmas.AscendingEdits.{upper_half_is, upper_half_s
 use Rattle.sctp_serial.proofs.lemmas.AscendingEdits.{first_small, sorted, place_from_split, place_positive, order_on, insertion_first, insertion_between}
 use Rattle.sctp_serial.proofs.lemmas.AscendingEdits.{insertion_in_front, there}
 use Rattle.sctp_reassembly.proofs.lemmas.reassembly_queue.Digits.{digits_le}
-use Rattle.sctp_reassembly.proofs.lemmas.reassembly_queue.ExactMarks.{off_if, off_on, too_far_in_front, too_far_behind, insertion_opposite}
+use Rattle.sctp_reassembly.proofs.lemmas.reassembly_queue.ExactFlags.{off_if, off_on, too_far_in_front, too_far_behind, insertion_opposite}
 use Rattle.sctp_reassembly.proofs.reassembly_queue.ordered_sets.seek.Goals as goal
 
 pub returns-then-len-eq0-clause-free : goal.returns-then-len-eq0-clause-free

@@ -6,7 +6,7 @@ use Rattle.sctp_data.specs.ChunkSet.{ChunkSet}
 use Rattle.sctp_reassembly.specs.reassembly_queue.Fragments.{has_ssn, set_before}
 use Rattle.sctp_serial.proofs.lemmas.ListEdits.{none_at, inserted-position}
 use Rattle.sctp_serial.specs.Ascending.{upper_half}
-use Rattle.sctp_reassembly.proofs.lemmas.reassembly_queue.ExactMarks.{out_of_order_insert}
+use Rattle.sctp_reassembly.proofs.lemmas.reassembly_queue.ExactFlags.{out_of_order_insert}
 use Rattle.sctp_reassembly.proofs.reassembly_queue.ordered_sets.seek_by_walk.Goals as goal
 
 pub returns-in-None-clause-free : goal.returns-in-None-clause-free

@@ -1,13 +1,13 @@
 use Rattle.std.proofs.Common.{remove, subst}
-use Rattle.sctp_reassembly.specs.reassembly_queue.Loose.{IsMark}
+use Rattle.sctp_reassembly.specs.reassembly_queue.Loose.{IsFlag}
 use Rattle.sctp_serial.proofs.lemmas.ListEdits.{an_element}
 use Rattle.sctp_reassembly.proofs.lemmas.reassembly_queue.UnassembledRuns.{earliest_of_around, none_of_around}
 use Rattle.sctp_reassembly.proofs.reassembly_queue.pool.search.Goals as goal
 
 pub returns-then-searched-clause-found : goal.returns-then-searched-clause-found
 returns-then-searched-clause-found c = earliest_of_around _ c.args.place (an_element _ _ c.requires.in_range) c.requires.in_range (subst
-    (λ b. IsMark b (remove c.args.unassembled.now.chunks c.args.place)) c.if-searched.true c.requires.mark) c.run_outward.result c.run_outward.ensures.found
+    (λ b. IsFlag b (remove c.args.unassembled.now.chunks c.args.place)) c.if-searched.true c.requires.flag) c.run_outward.result c.run_outward.ensures.found
 
 pub returns-then-searched-clause-none : goal.returns-then-searched-clause-none
 returns-then-searched-clause-none c = none_of_around _ c.args.place (an_element _ _ c.requires.in_range) c.requires.in_range (subst
-    (λ b. IsMark b (remove c.args.unassembled.now.chunks c.args.place)) c.if-searched.true c.requires.mark) c.run_outward.result c.run_outward.ensures.none
+    (λ b. IsFlag b (remove c.args.unassembled.now.chunks c.args.place)) c.if-searched.true c.requires.flag) c.run_outward.result c.run_outward.ensures.none

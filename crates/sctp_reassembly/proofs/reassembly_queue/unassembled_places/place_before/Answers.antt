@@ -2,7 +2,7 @@ use Rattle.std.proofs.Common.{◌≡◌, ℕ, ◌-◌, ◌^◌, ◌<◌, length,
 use Rattle.std.proofs.lemmas.Bool.Decides.{nat_tests}
 use Rattle.sctp_data.specs.declared.chunk.chunk_payload_data.ChunkPayloadData.{ChunkPayloadData}
 use Rattle.sctp_reassembly.proofs.lemmas.reassembly_queue.LastFragments.{back_at, back_none}
-use Rattle.sctp_reassembly.proofs.lemmas.reassembly_queue.SerialPlaces.{mark_is_on, absent_before, absent_behind, before_one, other_at, place_upto}
+use Rattle.sctp_reassembly.proofs.lemmas.reassembly_queue.SerialPlaces.{flag_is_on, absent_before, absent_behind, before_one, other_at, place_upto}
 use Rattle.sctp_reassembly.proofs.reassembly_queue.unassembled_places.place_before.Goals as goal
 use Rattle.sctp_reassembly.proofs.reassembly_queue.unassembled_places.place_before.Goals.{then-near-tsn-via-then-near-tsn}
 use Rattle.sctp_reassembly.proofs.reassembly_queue.unassembled_places.place_before.Goals.{then-near-tsn-via-else-near-tsn+then-place-eq1}
@@ -15,7 +15,7 @@ pub returns-then-place-eq0-clause-none : goal.returns-then-place-eq0-clause-none
 returns-then-place-eq0-clause-none c =
     let xs = c.args.unassembled.now.chunks in
     let n = c.args.tsn in
-    let serial = mark_is_on _ xs c.if-not-is_serial.false c.is_serial.ensures in
+    let serial = flag_is_on _ xs c.if-not-is_serial.false c.is_serial.ensures in
     back_none (preceding_tsn n) xs (absent_before xs serial n c.ranges.tsn.fits c.args.place c.requires (preceding_tsn n) (small_previous n)
     (before_one n c.ranges.tsn.fits) (λ d some. absurd (omega arith)) (λ d more is. absurd (omega arith)))
 
@@ -29,7 +29,7 @@ pub returns-then-near-wanted-clause-back : goal.returns-then-near-wanted-clause-
 returns-then-near-wanted-clause-back c =
     let xs = c.args.unassembled.now.chunks in
     let n = c.args.tsn in
-    let serial = mark_is_on _ xs c.if-not-is_serial.false c.is_serial.ensures in
+    let serial = flag_is_on _ xs c.if-not-is_serial.false c.is_serial.ensures in
     let x = c.look.result.now in
     let k = c.args.place - 1 in
     let lt : k < length xs = omega (arith, place_upto n xs c.args.place c.requires) in
@@ -40,7 +40,7 @@ pub returns-then-near-tsn-clause-none : goal.returns-then-near-tsn-clause-none
 returns-then-near-tsn-clause-none c =
     let xs = c.args.unassembled.now.chunks in
     let n = c.args.tsn in
-    let serial = mark_is_on _ xs c.if-not-is_serial.false c.is_serial.ensures in
+    let serial = flag_is_on _ xs c.if-not-is_serial.false c.is_serial.ensures in
     let x = c.look.result.now in
     let k = c.args.place - 1 in
     let lt : k < length xs = omega (arith, place_upto n xs c.args.place c.requires) in
@@ -59,7 +59,7 @@ pub returns-then-look-wanted-clause-none : goal.returns-then-look-wanted-clause-
 returns-then-look-wanted-clause-none c =
     let xs = c.args.unassembled.now.chunks in
     let n = c.args.tsn in
-    let serial = mark_is_on _ xs c.if-not-is_serial.false c.is_serial.ensures in
+    let serial = flag_is_on _ xs c.if-not-is_serial.false c.is_serial.ensures in
     let within = place_upto n xs c.args.place c.requires in
     back_none (preceding_tsn n) xs
     (absent_before xs serial n c.ranges.tsn.fits c.args.place c.requires (preceding_tsn n) (small_previous n) (before_one n c.ranges.tsn.fits)
@@ -73,7 +73,7 @@ pub returns-clause-back : goal.returns-clause-back
 returns-clause-back c =
     let xs = c.args.unassembled.now.chunks in
     let n = c.args.tsn in
-    let serial = mark_is_on _ xs c.if-not-is_serial.false c.is_serial.ensures in
+    let serial = flag_is_on _ xs c.if-not-is_serial.false c.is_serial.ensures in
     let x = c.look-2.result.now in
     let k = c.args.place - 2 in
     let lt : k < length xs = omega (arith, place_upto n xs c.args.place c.requires) in

@@ -1,13 +1,13 @@
 use Rattle.std.proofs.Common.{◌≡◌, ◌+◌, ◌≤◌, length, map}
 use Rattle.sctp_list_lemmas.specs.Lists.{advance_over}
-use Rattle.sctp_receiver.specs.TsnFilter.{mark}
+use Rattle.sctp_receiver.specs.TsnFilter.{placeholder}
 use Rattle.sctp_receiver.proofs.receiver.tsn_filter.advance.Given as goal
 use Rattle.sctp_serial.specs.DataChunks.{tsns}
 
 abbrev pub invariant-loop-turns : goal.invariant-loop-turns
 invariant-loop-turns l = record {
   moved : advance_over l.initial.cumulative_tsn (tsns l.initial.queue.chunks) ≡ advance_over l.cumulative_tsn (tsns l.queue.chunks);
-  marks : l.initial.queue.chunks ≡ map mark (tsns l.initial.queue.chunks) → l.queue.chunks ≡ map mark (tsns l.queue.chunks);
+  placeholders : l.initial.queue.chunks ≡ map placeholder (tsns l.initial.queue.chunks) → l.queue.chunks ≡ map placeholder (tsns l.queue.chunks);
   rest : l.queue ≡ record l.initial.queue { chunks = l.queue.chunks; room = l.queue.room };
   cost : l.turns + length l.queue.chunks ≡ l.initial.turns + length l.initial.queue.chunks;
   not_back : l.initial.turns ≤ l.turns;

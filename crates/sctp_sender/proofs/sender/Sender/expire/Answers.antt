@@ -3,7 +3,7 @@ use Rattle.sctp_sender.specs.Flight.{Flight}
 use Rattle.sctp_outbound.specs.outbound_queue.OutboundQueue.{expiring}
 use Rattle.sctp_sender.specs.Totals.{IsAllSettled}
 use Rattle.sctp_sender.proofs.Settled.{expired-settled}
-use Rattle.sctp_sender.proofs.Lows.{expiry-told}
+use Rattle.sctp_sender.proofs.Lows.{expiry-answered}
 use Rattle.sctp_sender.proofs.sender.Sender.expire.Goals as goal
 
 pub invariant_of-self-2 : goal.invariant_of-self-2
@@ -15,4 +15,4 @@ invariant_of-self-2 c =
     )
 
 pub returns-clause-low : goal.returns-clause-low
-returns-clause-low c = rw (← c.self.view_is) (expiry-told _ _ _ _ _ _ c.expire-is_low.ensures.low c.expire-is_low.ensures.less)
+returns-clause-low c = rw (← c.self.view_is) (expiry-answered _ _ _ _ _ _ c.expire-is_low.ensures.low c.expire-is_low.ensures.less)

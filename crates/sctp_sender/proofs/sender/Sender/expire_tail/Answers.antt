@@ -3,7 +3,7 @@ use Rattle.sctp_outbound.specs.outbound_queue.OutboundQueue.{expiring_tail, mess
 use Rattle.sctp_sender.specs.Flight.{Flight}
 use Rattle.sctp_sender.specs.Totals.{IsAllSettled}
 use Rattle.sctp_sender.proofs.Settled.{abandoned-settled}
-use Rattle.sctp_sender.proofs.Lows.{release-told}
+use Rattle.sctp_sender.proofs.Lows.{release-answered}
 use Rattle.sctp_sender.proofs.sender.Sender.expire_tail.Goals as goal
 
 pub invariant_of-self-2 : goal.invariant_of-self-2
@@ -16,4 +16,4 @@ invariant_of-self-2 c =
     )
 
 pub returns-clause-low : goal.returns-clause-low
-returns-clause-low c = rw (← c.self.view_is) (release-told _ _ _ _ _ c.release-is_low.ensures.low c.release-is_low.ensures.less)
+returns-clause-low c = rw (← c.self.view_is) (release-answered _ _ _ _ _ c.release-is_low.ensures.low c.release-is_low.ensures.less)

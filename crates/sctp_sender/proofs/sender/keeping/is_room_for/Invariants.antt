@@ -5,6 +5,6 @@ use Rattle.sctp_sender.proofs.sender.keeping.is_room_for.Given as goal
 
 abbrev pub invariant-loop-one : goal.invariant-loop-one
 invariant-loop-one l = record {
-  sum : l.all ≡ total_bytes l.queue + bytes_back (take l.one-index l.told);
+  sum : l.all ≡ total_bytes l.queue + bytes_back (take l.one-index l.answered);
   fits : l.all < 2 ^ 64;
 }

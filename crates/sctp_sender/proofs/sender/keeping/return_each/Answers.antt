@@ -11,12 +11,12 @@ any_one = record { tsn = 0; stream = 0; bytes = 0; message = 0 }
 
 pub loop-one-preserved : goal.loop-one-preserved
 loop-one-preserved c =
-    let rs = c.args.told.now in
+    let rs = c.args.answered.now in
     let i = c.loop-one.one-index in
     c.loop-one.invariant ∙ at_drop_more (λ ts. after_returns ts c.loop-one.streams) rs i any_one c.loop-one-test.true
     ∙ ap (λ (ls : List StreamState). after_returns (drop (i + 1) rs) ls) (sym c.raise.ensures)
 
 pub returns : goal.returns
 returns c =
-    let none = drop_all c.loop-one.one-index c.args.told.now c.loop-one-test.false in
+    let none = drop_all c.loop-one.one-index c.args.answered.now c.loop-one-test.false in
     sym (c.loop-one.invariant ∙ ap (λ ts. after_returns ts c.loop-one.streams) none)

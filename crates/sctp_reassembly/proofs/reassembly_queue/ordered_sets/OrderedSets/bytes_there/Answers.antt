@@ -4,7 +4,7 @@ use Rattle.sctp_data.specs.ChunkSet.{ChunkSet}
 use Rattle.sctp_reassembly.specs.reassembly_queue.Fragments.{has_ssn}
 use Rattle.sctp_serial.specs.DataChunks.{bytes_of}
 use Rattle.sctp_reassembly.proofs.lemmas.reassembly_queue.ChunkSets.{chunks_at, chunks_none}
-use Rattle.sctp_reassembly.proofs.lemmas.reassembly_queue.ExactMarks.{mark_on}
+use Rattle.sctp_reassembly.proofs.lemmas.reassembly_queue.ExactFlags.{flag_on}
 use Rattle.sctp_reassembly.proofs.reassembly_queue.ordered_sets.OrderedSets.bytes_there.Goals as goal
 
 pub returns-in-Ok-clause-value : goal.returns-in-Ok-clause-value
@@ -27,7 +27,7 @@ returns-in-Err-clause-value c =
 pub returns-in-Ok-clause-few : goal.returns-in-Ok-clause-few
 returns-in-Ok-clause-few c =
     rw (← c.self.view_is) (λ up.
-    let on = mark_on c.self.inside.ascending _ c.self.invariant.exact up in
+    let on = flag_on c.self.inside.ascending _ c.self.invariant.exact up in
     let few = rw c.as_deque-sets.ensures at c.seek.ensures.few in
     let h = few on in
     omega (arith, h, c.tick.ensures))
@@ -35,7 +35,7 @@ returns-in-Ok-clause-few c =
 pub returns-in-Err-clause-few : goal.returns-in-Err-clause-few
 returns-in-Err-clause-few c =
     rw (← c.self.view_is) (λ up.
-    let on = mark_on c.self.inside.ascending _ c.self.invariant.exact up in
+    let on = flag_on c.self.inside.ascending _ c.self.invariant.exact up in
     let few = rw c.as_deque-sets.ensures at c.seek.ensures.few in
     let h = few on in
     omega (arith, h))

@@ -6,16 +6,16 @@ use Rattle.std.specs.List.{filter}
 use Rattle.sctp_reassembly.specs.reassembly_queue.Resets.{rest_past, is_some_left}
 use Rattle.sctp_reassembly.proofs.lemmas.reassembly_queue.Resets.{numbers_of_rests}
 use Rattle.sctp_serial.proofs.lemmas.AscendingEdits.{ascending, ascends, ascends_those}
-use Rattle.sctp_reassembly.proofs.lemmas.reassembly_queue.ExactMarks.{ascending_on}
+use Rattle.sctp_reassembly.proofs.lemmas.reassembly_queue.ExactFlags.{ascending_on}
 use Rattle.sctp_reassembly.proofs.reassembly_queue.ordered_sets.OrderedSets.end_use.Goals as goal
 
 pub invariant_of-self : goal.invariant_of-self
 invariant_of-self c =
     let num = (λ (s : ChunkSet). upper_half s.ssn) in
-    let mark = c.still_ascending-self-inside.result in
+    let flag = c.still_ascending-self-inside.result in
     record {
-      order = subst (λ ys. IsOrder mark (map num ys)) c.as_deque-sets.ensures c.still_ascending-self-inside.ensures.order;
-      exact = subst (λ ys. IsOffOnlyOutOfOrder mark (map num ys)) c.as_deque-sets.ensures c.still_ascending-self-inside.ensures.exact;
+      order = subst (λ ys. IsOrder flag (map num ys)) c.as_deque-sets.ensures c.still_ascending-self-inside.ensures.order;
+      exact = subst (λ ys. IsOffOnlyOutOfOrder flag (map num ys)) c.as_deque-sets.ensures c.still_ascending-self-inside.ensures.exact;
     }
 
 pub still_ascending-self-inside-requires : goal.still_ascending-self-inside-requires

@@ -10,7 +10,7 @@ use Rattle.sctp_reassembly.proofs.lemmas.reassembly_queue.ChunkSets.{chunks_at, 
 use Rattle.sctp_serial.specs.Ascending.{IsOrder, upper_half}
 use Rattle.sctp_reassembly.specs.reassembly_queue.Orders.{digits, IsInOrder, IsOrderly, IsOffOnlyOutOfOrder}
 use Rattle.std.proofs.Math.Seq.{map-set_same}
-use Rattle.sctp_reassembly.proofs.lemmas.reassembly_queue.ExactMarks.{mark_on}
+use Rattle.sctp_reassembly.proofs.lemmas.reassembly_queue.ExactFlags.{flag_on}
 use Rattle.sctp_reassembly.proofs.reassembly_queue.ordered_sets.OrderedSets.put.Goals as goal
 
 -- the place is that of the first set of the chunk's number
@@ -74,11 +74,11 @@ invariant_of-self-in-Ok c =
     let xs = c.self.inside.sets.items in
     let d = new_set c.args.chunk in
     let same = map-set_same num xs c.in-Ok.set (with_chunk c.args.chunk (get_or xs c.in-Ok.set d)) d refl in
-    let mark = c.self.inside.ascending in
+    let flag = c.self.inside.ascending in
     let put = sym (c.in_ok-put-in-Ok.ensures.ok d) in
     record {
-      order = subst (λ ys. IsOrder mark (map num ys)) put (subst (IsOrder mark) (sym same) c.self.invariant.order);
-      exact = subst (λ ys. IsOffOnlyOutOfOrder mark (map num ys)) put (subst (IsOffOnlyOutOfOrder mark) (sym same) c.self.invariant.exact);
+      order = subst (λ ys. IsOrder flag (map num ys)) put (subst (IsOrder flag) (sym same) c.self.invariant.order);
+      exact = subst (λ ys. IsOffOnlyOutOfOrder flag (map num ys)) put (subst (IsOffOnlyOutOfOrder flag) (sym same) c.self.invariant.exact);
     }
 
 pub returns-in-Some-clause-ok : goal.returns-in-Some-clause-ok
@@ -139,7 +139,7 @@ returns-in_err-put-in-Ok-clause-few c =
     let long : length c.put_into.new.self.items ≡ length xs = ap length c.in_err-put-in-Ok.ensures.err in
     rw (← c.self.view_is) (λ a b.
     few_there c.args.chunk xs i at c.args.turns.now c.seek.new.turns c.put_into.new.turns c.put_into.new.self.items long
-    (seek (mark_on c.self.inside.ascending _ c.self.invariant.exact a.numbers)) c.put_into.ensures.few a b)
+    (seek (flag_on c.self.inside.ascending _ c.self.invariant.exact a.numbers)) c.put_into.ensures.few a b)
 
 pub returns-in_default-clause-cost : goal.returns-in_default-clause-cost
 returns-in_default-clause-cost c =
@@ -159,7 +159,7 @@ returns-in_default-clause-few c =
     ∙ length-set xs i (with_chunk c.args.chunk (get_or xs i d)) in
     rw (← c.self.view_is) (λ a b.
     few_there c.args.chunk xs i at c.args.turns.now c.seek.new.turns c.put_into.new.turns c.put_into.new.self.items long
-    (seek (mark_on c.self.inside.ascending _ c.self.invariant.exact a.numbers)) c.put_into.ensures.few a b)
+    (seek (flag_on c.self.inside.ascending _ c.self.invariant.exact a.numbers)) c.put_into.ensures.few a b)
 
 pub returns-in-Some-clause-cost : goal.returns-in-Some-clause-cost
 returns-in-Some-clause-cost c =
@@ -179,4 +179,4 @@ returns-in-Some-clause-few c =
     ∙ length-set xs i (with_chunk c.args.chunk (get_or xs i d)) in
     rw (← c.self.view_is) (λ a b.
     few_there c.args.chunk xs i at c.args.turns.now c.seek.new.turns c.put_into.new.turns c.put_into.new.self.items long
-    (seek (mark_on c.self.inside.ascending _ c.self.invariant.exact a.numbers)) c.put_into.ensures.few a b)
+    (seek (flag_on c.self.inside.ascending _ c.self.invariant.exact a.numbers)) c.put_into.ensures.few a b)

@@ -6,17 +6,17 @@ use Rattle.std.specs.List.{remove}
 use Rattle.sctp_serial.proofs.lemmas.AscendingEdits.{ascending, ascends, ascends_remove}
 use Rattle.sctp_reassembly.specs.reassembly_queue.Fragments.{without_chunk}
 use Rattle.sctp_reassembly.proofs.lemmas.reassembly_queue.Undone.{same_numbers}
-use Rattle.sctp_reassembly.proofs.lemmas.reassembly_queue.ExactMarks.{ascending_on}
+use Rattle.sctp_reassembly.proofs.lemmas.reassembly_queue.ExactFlags.{ascending_on}
 use Rattle.sctp_reassembly.proofs.reassembly_queue.ordered_sets.OrderedSets.undo_put.Goals as goal
 use Rattle.sctp_reassembly.proofs.reassembly_queue.ordered_sets.OrderedSets.undo_put.Goals.{in-InSet, in-NewSet}
 
 pub invariant_of-self : goal.invariant_of-self
 invariant_of-self c =
     let num = (λ (s : ChunkSet). upper_half s.ssn) in
-    let mark = c.still_ascending-self-inside.result in
+    let flag = c.still_ascending-self-inside.result in
     record {
-      order = subst (λ ys. IsOrder mark (map num ys)) c.as_deque-sets.ensures c.still_ascending-self-inside.ensures.order;
-      exact = subst (λ ys. IsOffOnlyOutOfOrder mark (map num ys)) c.as_deque-sets.ensures c.still_ascending-self-inside.ensures.exact;
+      order = subst (λ ys. IsOrder flag (map num ys)) c.as_deque-sets.ensures c.still_ascending-self-inside.ensures.order;
+      exact = subst (λ ys. IsOffOnlyOutOfOrder flag (map num ys)) c.as_deque-sets.ensures c.still_ascending-self-inside.ensures.exact;
     }
 
 pub still_ascending-self-inside-requires : goal.still_ascending-self-inside-requires

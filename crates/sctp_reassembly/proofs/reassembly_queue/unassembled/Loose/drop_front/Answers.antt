@@ -3,7 +3,7 @@ use Rattle.std.proofs.lemmas.List.Sums.{sum_by-take-drop}
 use Rattle.sctp_data.specs.declared.chunk.chunk_payload_data.ChunkPayloadData.{ChunkPayloadData}
 use Rattle.sctp_serial.specs.DataChunks.{bytes_of}
 use Rattle.sctp_serial.specs.Window.{IsSerial}
-use Rattle.sctp_reassembly.proofs.lemmas.reassembly_queue.SerialPlaces.{mark_is_on, serial_drop}
+use Rattle.sctp_reassembly.proofs.lemmas.reassembly_queue.SerialPlaces.{flag_is_on, serial_drop}
 use Rattle.sctp_reassembly.proofs.lemmas.reassembly_queue.Unassembled.{same_list, same_long, same_places, same_parts}
 use Rattle.sctp_reassembly.proofs.reassembly_queue.unassembled.Loose.drop_front.Goals as goal
 
@@ -12,7 +12,7 @@ is_still_serial-self-inside-requires c on =
     let xs = c.self.inside.chunks.items in
     subst IsSerial (sym c.loop-gone.invariant.rest)
     (serial_drop xs c.loop-gone._gone (omega (arith, same_long c.self.view_is, c.requires, c.loop-gone.auto._gone-end))
-    (mark_is_on _ xs (sym c.loop-gone.invariant.serial ∙ on) c.self.invariant.order))
+    (flag_is_on _ xs (sym c.loop-gone.invariant.serial ∙ on) c.self.invariant.order))
 
 pub invariant_of-self : goal.invariant_of-self
 invariant_of-self c =

@@ -2,7 +2,7 @@ use Rattle.std.proofs.Common.{take, drop, sym, ap, subst, arith}
 use Rattle.sctp_serial.specs.Window.{IsSerial}
 use Rattle.sctp_serial.specs.DataChunks.{bytes_of}
 use Rattle.sctp_reassembly.proofs.lemmas.reassembly_queue.UnassembledBytes.{some_out}
-use Rattle.sctp_reassembly.proofs.lemmas.reassembly_queue.SerialPlaces.{mark_is_on, serial_cut}
+use Rattle.sctp_reassembly.proofs.lemmas.reassembly_queue.SerialPlaces.{flag_is_on, serial_cut}
 use Rattle.sctp_reassembly.proofs.lemmas.reassembly_queue.Unassembled.{same_long}
 use Rattle.sctp_reassembly.proofs.reassembly_queue.unassembled.Loose.take_range.Goals as goal
 
@@ -11,7 +11,7 @@ is_still_serial-self-inside-requires c on =
     let xs = c.self.inside.chunks.items in
     let all = same_long c.self.view_is in
     subst IsSerial (sym c.take_each.ensures.rest)
-    (serial_cut xs c.args.first c.args.count (omega (arith, c.requires)) (mark_is_on _ xs on c.self.invariant.order))
+    (serial_cut xs c.args.first c.args.count (omega (arith, c.requires)) (flag_is_on _ xs on c.self.invariant.order))
 
 pub invariant_of-self : goal.invariant_of-self
 invariant_of-self c =

@@ -4,7 +4,7 @@ use Rattle.std.proofs.lemmas.Bool.{ne_eqb}
 use Rattle.std.proofs.lemmas.Bool.Decides.{nat_tests}
 use Rattle.std.proofs.Common.{arith}
 use Rattle.sctp_outbound.specs.payload_queue.PayloadQueue.{push_chunk}
-use Rattle.sctp_receiver.specs.TsnFilter.{has_room, mark}
+use Rattle.sctp_receiver.specs.TsnFilter.{has_room, placeholder}
 use Rattle.sctp_receiver.proofs.FilterCalls.{after-next, put-window, put-new, after-put, few-bytes, within-room, filter_in}
 use Rattle.sctp_receiver.proofs.Retracts.{put-places, places-are}
 use Rattle.sctp_receiver.proofs.receiver.tsn_filter.TsnFilter.accept.Goals as goal
@@ -14,25 +14,25 @@ pub invariant_of-self : goal.invariant_of-self
 invariant_of-self c =
     let i = c.self.invariant in
     let a = after-next c.self.inside.cumulative_tsn c.self.inside.queue c.advance-self-inside.new.queue c.advance-self-inside.result c.args.self.now
-    c.self.view_is i.in_range i.marks i.rise c.args.tsn c.if-tsn-self.true c.advance-self-inside.ensures.moved
+    c.self.view_is i.in_range i.placeholders i.rise c.args.tsn c.if-tsn-self.true c.advance-self-inside.ensures.moved
     c.advance-self-inside.ensures.rest in
-    record { in_range = a.0.small; marks = c.advance-self-inside.ensures.marks i.marks; rise = a.0.rise }
+    record { in_range = a.0.small; placeholders = c.advance-self-inside.ensures.placeholders i.placeholders; rise = a.0.rise }
 
 pub returns-then-tsn-self-clause-value : goal.returns-then-tsn-self-clause-value
 returns-then-tsn-self-clause-value c =
     let i = c.self.invariant in
     (after-next c.self.inside.cumulative_tsn c.self.inside.queue c.advance-self-inside.new.queue c.advance-self-inside.result c.args.self.now
-    c.self.view_is i.in_range i.marks i.rise c.args.tsn c.if-tsn-self.true c.advance-self-inside.ensures.moved
+    c.self.view_is i.in_range i.placeholders i.rise c.args.tsn c.if-tsn-self.true c.advance-self-inside.ensures.moved
     c.advance-self-inside.ensures.rest).1
 
 pub push-requires-clause-window : goal.push-requires-clause-window
 push-requires-clause-window c =
     let i = c.self.invariant in
-    rw (c.mark.ensures) (λ new. put-window c.self.inside.cumulative_tsn c.args.tsn c.self.inside.queue c.self.inside.queue c.args.self.now
-    c.self.view_is i.in_range c.ranges.tsn.fits i.marks i.rise c.requires.new c.requires.near (ne_eqb _ _ c.if-tsn-self.false))
+    rw (c.placeholder.ensures) (λ new. put-window c.self.inside.cumulative_tsn c.args.tsn c.self.inside.queue c.self.inside.queue c.args.self.now
+    c.self.view_is i.in_range c.ranges.tsn.fits i.placeholders i.rise c.requires.new c.requires.near (ne_eqb _ _ c.if-tsn-self.false))
 
 pub push-requires-clause-bytes : goal.push-requires-clause-bytes
-push-requires-clause-bytes c = rw (c.mark.ensures) (λ new. few-bytes c.self.inside.queue.chunks c.self.invariant.marks)
+push-requires-clause-bytes c = rw (c.placeholder.ensures) (λ new. few-bytes c.self.inside.queue.chunks c.self.invariant.placeholders)
 
 has-place : (c : goal.After-push) → 0 < c.self.inside.queue.room
 has-place c =
@@ -41,27 +41,27 @@ has-place c =
     let some : nat_lt 0 c.self.inside.queue.room ≡ true = ap (λ b. b || nat_lt 0 c.self.inside.queue.room) (sym differs) ∙ room in
     grind (arith, nat_tests, some)
 
-is-pushed : (c : goal.After-push) → c.push.new.self ≡ push_chunk c.self.inside.queue (mark c.args.tsn)
+is-pushed : (c : goal.After-push) → c.push.new.self ≡ push_chunk c.self.inside.queue (placeholder c.args.tsn)
 is-pushed c =
     let i = c.self.invariant in
     let e = c.push.ensures in
-    let f = rw (c.mark.ensures) at e in
+    let f = rw (c.placeholder.ensures) at e in
     let new = put-new c.self.inside.cumulative_tsn c.args.tsn c.self.inside.queue c.self.inside.queue c.args.self.now c.self.view_is i.in_range
-    c.ranges.tsn.fits i.marks i.rise c.requires.new c.requires.near (ne_eqb _ _ c.if-tsn-self.false) in
-    within-room c.push.result c.self.inside.queue c.push.new.self (mark c.args.tsn) _ (f.succeeds (has-place c) new) f.answer f.ok new
+    c.ranges.tsn.fits i.placeholders i.rise c.requires.new c.requires.near (ne_eqb _ _ c.if-tsn-self.false) in
+    within-room c.push.result c.self.inside.queue c.push.new.self (placeholder c.args.tsn) _ (f.succeeds (has-place c) new) f.answer f.ok new
 
 pub invariant_of-self-2 : goal.invariant_of-self-2
 invariant_of-self-2 c =
     let i = c.self.invariant in
     let a = after-put c.self.inside.cumulative_tsn c.args.tsn c.self.inside.queue c.push.new.self c.args.self.now c.self.view_is i.in_range
-    c.ranges.tsn.fits i.marks i.rise c.requires.new c.requires.near (ne_eqb _ _ c.if-tsn-self.false) (is-pushed c) in
-    record { in_range = i.in_range; marks = a.marked; rise = a.rises }
+    c.ranges.tsn.fits i.placeholders i.rise c.requires.new c.requires.near (ne_eqb _ _ c.if-tsn-self.false) (is-pushed c) in
+    record { in_range = i.in_range; placeholders = a.as-placeholders; rise = a.rises }
 
 pub returns-clause-value : goal.returns-clause-value
 returns-clause-value c =
     let i = c.self.invariant in
     (after-put c.self.inside.cumulative_tsn c.args.tsn c.self.inside.queue c.push.new.self c.args.self.now c.self.view_is i.in_range c.ranges.tsn.fits
-    i.marks i.rise c.requires.new c.requires.near (ne_eqb _ _ c.if-tsn-self.false) (is-pushed c)).is
+    i.placeholders i.rise c.requires.new c.requires.near (ne_eqb _ _ c.if-tsn-self.false) (is-pushed c)).is
 
 pub returns-then-tsn-self-clause-places : goal.returns-then-tsn-self-clause-places
 returns-then-tsn-self-clause-places c =
@@ -72,4 +72,4 @@ pub returns-clause-places : goal.returns-clause-places
 returns-clause-places c =
     let q = c.self.inside.queue in
     places-are c.self.inside.cumulative_tsn q c.push.new.self c.args.self.now c.self.view_is
-    (put-places q c.push.new.self (mark c.args.tsn) (has-place c) (is-pushed c))
+    (put-places q c.push.new.self (placeholder c.args.tsn) (has-place c) (is-pushed c))

@@ -2,10 +2,10 @@ use Rattle.std.proofs.Common.{◌≡◌, ◌-◌, ◌++◌, ap, sym, subst, ◌�
 use Rattle.sctp_list_lemmas.specs.Serial.{distance}
 use Rattle.sctp_outbound.specs.payload_queue.PayloadQueue.{Payload}
 use Rattle.sctp_receiver.specs.declared.receiver.tsn_filter.undo.FilterUndo.TheVariants.{Beyond, Next}
-use Rattle.sctp_receiver.specs.TsnFilter.{mark}
+use Rattle.sctp_receiver.specs.TsnFilter.{placeholder}
 use Rattle.sctp_receiver.specs.Undo.{retracted, CanRetract, tsns_from, passed}
 use Rattle.sctp_serial.specs.DataChunks.{following_tsn, tsns}
-use Rattle.sctp_receiver.proofs.Retracts.{gone-is, gone-marks, gone-rise, back-room, next-is-back, next-marks, next-rise}
+use Rattle.sctp_receiver.proofs.Retracts.{gone-is, gone-placeholders, gone-rise, back-room, next-is-back, next-placeholders, next-rise}
 use Rattle.sctp_receiver.proofs.receiver.tsn_filter.TsnFilter.retract.Goals as goal
 
 pub invariant_of-self : goal.invariant_of-self
@@ -16,9 +16,10 @@ invariant_of-self c =
     let out = c.take_leaving_room in
     record {
       in_range = c.self.invariant.in_range;
-      marks = gone-marks n q c.args.self.now c.self.view_is c.self.invariant.marks c.in-Beyond.tsn c.in-Beyond.room out.new.self c.limit_room.new.self
+      placeholders =
+          gone-placeholders n q c.args.self.now c.self.view_is c.self.invariant.placeholders c.in-Beyond.tsn c.in-Beyond.room out.new.self c.limit_room.new.self
           out.ensures.rest out.ensures.places c.limit_room.ensures can;
-      rise = gone-rise n q c.args.self.now c.self.view_is c.self.invariant.marks c.in-Beyond.tsn c.in-Beyond.room out.new.self c.limit_room.new.self
+      rise = gone-rise n q c.args.self.now c.self.view_is c.self.invariant.placeholders c.in-Beyond.tsn c.in-Beyond.room out.new.self c.limit_room.new.self
           out.ensures.rest out.ensures.places c.limit_room.ensures can;
     }
 
@@ -28,20 +29,20 @@ returns-in-Beyond c =
     let q = c.self.inside.queue in
     let can : CanRetract (Beyond c.in-Beyond.tsn c.in-Beyond.room) c.args.self.now = subst (λ u. CanRetract u c.args.self.now) c.in-Beyond.is c.requires in
     let out = c.take_leaving_room in
-    gone-is n q c.args.self.now c.self.view_is c.self.invariant.marks c.in-Beyond.tsn c.in-Beyond.room out.new.self c.limit_room.new.self
+    gone-is n q c.args.self.now c.self.view_is c.self.invariant.placeholders c.in-Beyond.tsn c.in-Beyond.room out.new.self c.limit_room.new.self
     out.ensures.rest out.ensures.places c.limit_room.ensures can
     ∙ ap (λ u. retracted u c.args.self.now) (sym c.in-Beyond.is)
 
 pub put_back-requires-clause-room : goal.put_back-requires-clause-room
 put_back-requires-clause-room c =
     let can : CanRetract (Next c.in-Next.cumulative_tsn c.in-Next.room) c.args.self.now = subst (λ u. CanRetract u c.args.self.now) c.in-Next.is c.requires in
-    let le = back-room c.self.inside.cumulative_tsn c.self.inside.queue c.args.self.now c.self.view_is c.self.invariant.marks c.in-Next.cumulative_tsn
+    let le = back-room c.self.inside.cumulative_tsn c.self.inside.queue c.args.self.now c.self.view_is c.self.invariant.placeholders c.in-Next.cumulative_tsn
     c.in-Next.room can in
     omega (arith, le, c.distance-passed.ensures.value)
 
-back : (c : goal.After-limit_room-in-Next) → c.put_back.new.queue.chunks ≡ map mark
+back : (c : goal.After-limit_room-in-Next) → c.put_back.new.queue.chunks ≡ map placeholder
     (passed c.in-Next.cumulative_tsn c.self.inside.cumulative_tsn ++ tsns c.self.inside.queue.chunks)
-back c = c.put_back.ensures.marks ∙ ap (λ d. map mark (tsns_from (following_tsn (following_tsn c.in-Next.cumulative_tsn)) (d - 1) ++ tsns
+back c = c.put_back.ensures.placeholders ∙ ap (λ d. map placeholder (tsns_from (following_tsn (following_tsn c.in-Next.cumulative_tsn)) (d - 1) ++ tsns
     c.self.inside.queue.chunks)) c.distance-passed.ensures.value
 
 rest : (c : goal.After-limit_room-in-Next) → c.put_back.new.queue ≡ record c.self.inside.queue {
@@ -62,15 +63,16 @@ invariant_of-self-in-Next c =
     let can : CanRetract (Next c.in-Next.cumulative_tsn c.in-Next.room) c.args.self.now = subst (λ u. CanRetract u c.args.self.now) c.in-Next.is c.requires in
     record {
       in_range = can.in_range;
-      marks = next-marks n q c.args.self.now c.self.view_is c.self.invariant.marks c.in-Next.cumulative_tsn c.in-Next.room can c.put_back.new.queue
+      placeholders =
+          next-placeholders n q c.args.self.now c.self.view_is c.self.invariant.placeholders c.in-Next.cumulative_tsn c.in-Next.room can c.put_back.new.queue
           c.limit_room-in-Next.new.self (back c) (rest c) c.limit_room-in-Next.ensures;
-      rise = next-rise n q c.args.self.now c.self.view_is c.self.invariant.marks c.in-Next.cumulative_tsn c.in-Next.room can c.put_back.new.queue
+      rise = next-rise n q c.args.self.now c.self.view_is c.self.invariant.placeholders c.in-Next.cumulative_tsn c.in-Next.room can c.put_back.new.queue
           c.limit_room-in-Next.new.self (back c) (rest c) c.limit_room-in-Next.ensures;
     }
 
 pub returns-in-Next : goal.returns-in-Next
 returns-in-Next c =
     let can : CanRetract (Next c.in-Next.cumulative_tsn c.in-Next.room) c.args.self.now = subst (λ u. CanRetract u c.args.self.now) c.in-Next.is c.requires in
-    next-is-back c.self.inside.cumulative_tsn c.self.inside.queue c.args.self.now c.self.view_is c.self.invariant.marks c.in-Next.cumulative_tsn
+    next-is-back c.self.inside.cumulative_tsn c.self.inside.queue c.args.self.now c.self.view_is c.self.invariant.placeholders c.in-Next.cumulative_tsn
     c.in-Next.room can c.put_back.new.queue c.limit_room-in-Next.new.self (back c) (rest c) c.limit_room-in-Next.ensures
     ∙ ap (λ u. retracted u c.args.self.now) (sym c.in-Next.is)

@@ -2,8 +2,8 @@ use Rattle.std.proofs.Common.{◌≡◌, ap, sym, ◌∙◌, map, length, true, 
 use Rattle.sctp_list_lemmas.specs.Lists.{advance_over, Seen}
 use Rattle.sctp_list_lemmas.specs.Serial.{comes_before}
 use Rattle.sctp_outbound.specs.payload_queue.PayloadQueue.{Payload, with_chunks}
-use Rattle.sctp_receiver.specs.TsnFilter.{mark}
-use Rattle.sctp_receiver.proofs.FilterCalls.{after-skip, skip-marks}
+use Rattle.sctp_receiver.specs.TsnFilter.{placeholder}
+use Rattle.sctp_receiver.proofs.FilterCalls.{after-skip, skip-placeholders}
 use Rattle.sctp_receiver.proofs.FilterCosts.{held-count, front-first}
 use Rattle.sctp_receiver.proofs.Retracts.{room-kept}
 use Rattle.sctp_receiver.proofs.receiver.tsn_filter.TsnFilter.skip_to_counted.Goals as goal
@@ -25,14 +25,15 @@ pub invariant_of-self : goal.invariant_of-self
 invariant_of-self c =
     let i = c.self.invariant in
     let a = after-skip c.self.inside.cumulative_tsn c.self.inside.queue c.limit_room.new.self c.advance-self-inside.result c.args.self.now
-    c.self.view_is i.in_range i.marks i.rise c.args.tsn c.ranges.tsn.fits c.requires c.pop_up_to_counted.new.self c.pop_up_to_counted.ensures.kept (moved c)
+    c.self.view_is i.in_range i.placeholders i.rise c.args.tsn c.ranges.tsn.fits c.requires c.pop_up_to_counted.new.self c.pop_up_to_counted.ensures.kept
+    (moved c)
     (kept c).1 in
-    let marks = c.advance-self-inside.ensures.marks (skip-marks c.self.inside.cumulative_tsn c.self.inside.queue c.limit_room.new.self
-    c.advance-self-inside.result c.args.self.now c.self.view_is i.in_range i.marks i.rise c.args.tsn c.ranges.tsn.fits c.requires
+    let placeholders = c.advance-self-inside.ensures.placeholders (skip-placeholders c.self.inside.cumulative_tsn c.self.inside.queue c.limit_room.new.self
+    c.advance-self-inside.result c.args.self.now c.self.view_is i.in_range i.placeholders i.rise c.args.tsn c.ranges.tsn.fits c.requires
     c.pop_up_to_counted.new.self c.pop_up_to_counted.ensures.kept) in
     record {
       in_range = a.0.small;
-      marks = (kept c).0 ∙ marks ∙ ap (λ cs. map mark (tsns cs)) (sym (kept c).0);
+      placeholders = (kept c).0 ∙ placeholders ∙ ap (λ cs. map placeholder (tsns cs)) (sym (kept c).0);
       rise = a.0.rise;
     }
 
@@ -40,7 +41,8 @@ pub returns-clause-value : goal.returns-clause-value
 returns-clause-value c =
     let i = c.self.invariant in
     (after-skip c.self.inside.cumulative_tsn c.self.inside.queue c.limit_room.new.self c.advance-self-inside.result c.args.self.now c.self.view_is
-    i.in_range i.marks i.rise c.args.tsn c.ranges.tsn.fits c.requires c.pop_up_to_counted.new.self c.pop_up_to_counted.ensures.kept (moved c) (kept c).1).1
+    i.in_range i.placeholders i.rise c.args.tsn c.ranges.tsn.fits c.requires c.pop_up_to_counted.new.self c.pop_up_to_counted.ensures.kept (moved c)
+    (kept c).1).1
 
 pub returns-clause-cost : goal.returns-clause-cost
 returns-clause-cost c =

@@ -1,13 +1,13 @@
 use Rattle.std.proofs.Common.{◌≡◌, ◌-◌, ◌+◌, ◌≤◌, ◌++◌, map}
 use Rattle.std.specs.Prelude.{min}
-use Rattle.sctp_receiver.specs.TsnFilter.{mark}
+use Rattle.sctp_receiver.specs.TsnFilter.{placeholder}
 use Rattle.sctp_receiver.specs.Undo.{tsns_from}
 use Rattle.sctp_serial.specs.DataChunks.{following_tsn, tsns}
 use Rattle.sctp_receiver.proofs.receiver.tsn_filter.undo.put_back.Given as goal
 
 abbrev pub invariant-loop-left : goal.invariant-loop-left
 invariant-loop-left l = record {
-  marks : l.queue.chunks ≡ map mark (tsns l.queue.chunks);
+  placeholders : l.queue.chunks ≡ map placeholder (tsns l.queue.chunks);
   same : tsns_from (following_tsn (following_tsn l.cumulative_tsn)) (l.left - 1) ++ tsns l.queue.chunks ≡ tsns_from
       (following_tsn (following_tsn l.cumulative_tsn)) (l.count - 1) ++ tsns l.initial.queue.chunks;
   rest : l.queue ≡ record l.initial.queue { chunks = l.queue.chunks; room = l.queue.room };

@@ -5,7 +5,7 @@ use Rattle.sctp_outbound.specs.Marks.{IsBetween}
 use Rattle.sctp_serial.specs.DataChunks.{has_tsn, following_tsn}
 use Rattle.sctp_outbound.specs.outbound_queue.OutboundQueue.{has_tail, to_abandon}
 use Rattle.sctp_sender.specs.Flight.{Flight, may_send}
-use Rattle.sctp_sender.proofs.InLine.{abandoned-in-line, found-half}
+use Rattle.sctp_sender.proofs.InLine.{abandoned-in-line, found-partial}
 use Rattle.sctp_sender.proofs.Flights.{fresh, window, after-abandoning}
 use Rattle.sctp_sender.proofs.Known.{abandoned-known}
 use Rattle.sctp_sender.proofs.sender.flight.InFlight.abandon.Goals as goal
@@ -32,7 +32,7 @@ invariant_of-self-2 c =
           (omega arith) c.self.invariant.contiguous.few c.self.invariant.contiguous.run c.are_whole.ensures
           c.self.invariant.contiguous.side_by_side (to_abandon (find (has_tsn c.args.tsn) f.queue.inflight.chunks)) f.next_tsn (let next =
           c.self.invariant.contiguous.next in
-          omega (arith, next)) (found-half f.queue c.are_whole.ensures c.args.tsn (find (has_tsn c.args.tsn) f.queue.inflight.chunks) refl)
+          omega (arith, next)) (found-partial f.queue c.are_whole.ensures c.args.tsn (find (has_tsn c.args.tsn) f.queue.inflight.chunks) refl)
           c.abandon_between.new.self c.in_ok-abandoned.ensures.ok));
       ascend = c.self.invariant.ascend;
       known = abandoned-known c.self.inside.known.items f c.self.invariant.contiguous c.self.invariant.known

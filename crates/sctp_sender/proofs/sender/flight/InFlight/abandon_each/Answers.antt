@@ -24,8 +24,8 @@ loop-tsn-preserved c =
     record {
       so_far = inv.so_far ∙ ap (λ xs. abandoned_each xs f) d ∙ ap (abandoned_each rest) (sym is);
       listed = λ all. c.in-Ok.ensures.listed rest (subst (λ xs. are_listed xs f ≡ true) d (inv.listed all));
-      told =
-          inv.told ∙ ap (λ xs. items ++ leaving_each xs f) d ∙ sym (append_assoc items (leaving_at t f) (leaving_each rest (abandoned_at t f)))
+      answered =
+          inv.answered ∙ ap (λ xs. items ++ leaving_each xs f) d ∙ sym (append_assoc items (leaving_at t f) (leaving_each rest (abandoned_at t f)))
           ∙ ap (λ xs. (items ++ xs) ++ leaving_each rest (abandoned_at t f)) (sym one)
           ∙ ap (λ xs. xs ++ leaving_each rest (abandoned_at t f)) (sym c.put_any.ensures.items)
           ∙ ap (λ g. c.put_any.new.abandoned.items ++ leaving_each rest g) (sym is);

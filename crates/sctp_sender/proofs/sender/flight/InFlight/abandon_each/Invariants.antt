@@ -12,7 +12,7 @@ abbrev pub invariant-loop-tsn : goal.invariant-loop-tsn
 invariant-loop-tsn l = record {
   so_far : abandoned_each l.tsns l.initial.self ≡ abandoned_each (drop l.tsn-index l.tsns) l.self;
   listed : are_listed l.tsns l.initial.self ≡ true → are_listed (drop l.tsn-index l.tsns) l.self ≡ true;
-  told : l.initial.abandoned.items ++ leaving_each l.tsns l.initial.self ≡ l.abandoned.items ++ leaving_each (drop l.tsn-index l.tsns) l.self;
+  answered : l.initial.abandoned.items ++ leaving_each l.tsns l.initial.self ≡ l.abandoned.items ++ leaving_each (drop l.tsn-index l.tsns) l.self;
   bytes : total_bytes l.self.queue + sum_by (λ (g : AbandonedMessage). g.bytes) l.abandoned.items
       ≡ total_bytes l.initial.self.queue + sum_by (λ (g : AbandonedMessage). g.bytes) l.initial.abandoned.items;
   no_tail : list_all (λ t. not (has_tail_at l.self t)) (drop l.tsn-index l.tsns) ≡ true;

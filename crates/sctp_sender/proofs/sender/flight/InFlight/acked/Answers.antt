@@ -14,14 +14,14 @@ use Rattle.sctp_sender.specs.declared.sender.flight.Released.{Released}
 use Rattle.sctp_sender.specs.Flight.{Flight, is_outdated, is_whole, sack_refusal, released_of, reports_anew}
 use Rattle.sctp_sender.specs.Reporting.{AreKnown, AreSorted}
 use Rattle.sctp_sender.specs.SideBySide.{StandSideBySide, messages_of, number_of_half}
-use Rattle.sctp_sender.specs.Telling.{AreInFlight, PicksAnew, is_told, judged, no_message}
+use Rattle.sctp_sender.specs.Telling.{AreInFlight, PicksAnew, is_answered, judged, no_message}
 use Rattle.sctp_sender.proofs.InLine.{messages-changed, shorter}
 use Rattle.sctp_sender.proofs.Keepings.{taken-within}
-use Rattle.sctp_sender.proofs.Reported.{ends, known-then, picks, told-judged}
+use Rattle.sctp_sender.proofs.Reported.{ends, known-then, picks, answered-judged}
 use Rattle.sctp_sender.proofs.Runs.{IsRunFrom}
 use Rattle.sctp_sender.proofs.Sacks.{contiguous, count, run, taken-is}
 use Rattle.sctp_sender.proofs.Settled.{after-bytes}
-use Rattle.sctp_sender.proofs.Told.{of-changed, told-are, told-in-flight}
+use Rattle.sctp_sender.proofs.Answered.{of-changed, answered-are, answered-in-flight}
 use Rattle.sctp_sender.proofs.sender.flight.InFlight.acked.Goals as goal
 
 pub tell_anew-requires-clause-within : goal.tell_anew-requires-clause-within
@@ -41,8 +41,8 @@ tell_anew-requires-clause-within c =
     (sym c.deref-3.ensures.value) are in
     λ n h. let e = ends f inv s fits none current c.deref-3.result.now lent n h in omega (arith, e, c.distance-count.ensures.value)
 
-pub acknowledge_told-requires-clause-told : goal.acknowledge_told-requires-clause-told
-acknowledge_told-requires-clause-told c =
+pub acknowledge_answered-requires-clause-answered : goal.acknowledge_answered-requires-clause-answered
+acknowledge_answered-requires-clause-answered c =
     let f : Flight = record { queue = c.self.inside.queue; next_tsn = c.self.inside.next_tsn; acked_tsn = c.self.inside.acked_tsn } in
     let s = sack_of c.args.sack.now in
     let cs = f.queue.inflight.chunks in
@@ -56,9 +56,9 @@ acknowledge_told-requires-clause-told c =
     c.in_ok-sorted.ensures.ok in
     let lent : AreSorted c.deref-3.result.now s.gap_ack_blocks = subst (λ (bs : List GapAckBlock). AreSorted bs s.gap_ack_blocks)
     (sym c.deref-3.ensures.value) are in
-    let told : c.tell_anew.new.released.items ≡ map (released_of no_message) (filter p cs) = c.in_ok-tell_anew.ensures.told p
+    let answered : c.tell_anew.new.released.items ≡ map (released_of no_message) (filter p cs) = c.in_ok-tell_anew.ensures.answered p
     (subst (λ k. PicksAnew p k c.deref-3.result.now cs) (sym c.distance-count.ensures.value) (picks f inv s fits none current c.deref-3.result.now lent)) in
-    subst (λ (rs : List Released). AreInFlight rs cs) (sym (c.deref-4.ensures.value ∙ told)) (told-in-flight p no_message cs cs (λ r h. h))
+    subst (λ (rs : List Released). AreInFlight rs cs) (sym (c.deref-4.ensures.value ∙ answered)) (answered-in-flight p no_message cs cs (λ r h. h))
 
 pub judge_each-requires-clause-run : goal.judge_each-requires-clause-run
 judge_each-requires-clause-run c =
@@ -75,11 +75,11 @@ judge_each-requires-clause-run c =
     c.in_ok-sorted.ensures.ok in
     let lent : AreSorted c.deref-3.result.now s.gap_ack_blocks = subst (λ (bs : List GapAckBlock). AreSorted bs s.gap_ack_blocks)
     (sym c.deref-3.ensures.value) are in
-    let told : c.tell_anew.new.released.items ≡ map (released_of no_message) (filter p cs) = c.in_ok-tell_anew.ensures.told p
+    let answered : c.tell_anew.new.released.items ≡ map (released_of no_message) (filter p cs) = c.in_ok-tell_anew.ensures.answered p
     (subst (λ k. PicksAnew p k c.deref-3.result.now cs) (sym c.distance-count.ensures.value) (picks f inv s fits none current c.deref-3.result.now lent)) in
-    let marked : c.acknowledge_told.new.queue ≡ with_inflight f.queue (change_where p as_acknowledged cs) = c.acknowledge_told.ensures
-    ∙ ap (with_inflight f.queue) (ap (λ (rs : List Released). change_where (is_told rs) as_acknowledged cs) (c.deref-4.ensures.value ∙ told)
-    ∙ told-are p no_message (following_tsn f.acked_tsn) cs (omega arith) inv.run inv.few) in
+    let marked : c.acknowledge_answered.new.queue ≡ with_inflight f.queue (change_where p as_acknowledged cs) = c.acknowledge_answered.ensures
+    ∙ ap (with_inflight f.queue) (ap (λ (rs : List Released). change_where (is_answered rs) as_acknowledged cs) (c.deref-4.ensures.value ∙ answered)
+    ∙ answered-are p no_message (following_tsn f.acked_tsn) cs (omega arith) inv.run inv.few) in
     subst (λ (o : Outbound). IsRunFrom (following_tsn f.acked_tsn) o.inflight.chunks) (sym marked) (run f inv s fits)
 
 pub judge_each-requires-clause-few : goal.judge_each-requires-clause-few
@@ -97,11 +97,11 @@ judge_each-requires-clause-few c =
     c.in_ok-sorted.ensures.ok in
     let lent : AreSorted c.deref-3.result.now s.gap_ack_blocks = subst (λ (bs : List GapAckBlock). AreSorted bs s.gap_ack_blocks)
     (sym c.deref-3.ensures.value) are in
-    let told : c.tell_anew.new.released.items ≡ map (released_of no_message) (filter p cs) = c.in_ok-tell_anew.ensures.told p
+    let answered : c.tell_anew.new.released.items ≡ map (released_of no_message) (filter p cs) = c.in_ok-tell_anew.ensures.answered p
     (subst (λ k. PicksAnew p k c.deref-3.result.now cs) (sym c.distance-count.ensures.value) (picks f inv s fits none current c.deref-3.result.now lent)) in
-    let marked : c.acknowledge_told.new.queue ≡ with_inflight f.queue (change_where p as_acknowledged cs) = c.acknowledge_told.ensures
-    ∙ ap (with_inflight f.queue) (ap (λ (rs : List Released). change_where (is_told rs) as_acknowledged cs) (c.deref-4.ensures.value ∙ told)
-    ∙ told-are p no_message (following_tsn f.acked_tsn) cs (omega arith) inv.run inv.few) in
+    let marked : c.acknowledge_answered.new.queue ≡ with_inflight f.queue (change_where p as_acknowledged cs) = c.acknowledge_answered.ensures
+    ∙ ap (with_inflight f.queue) (ap (λ (rs : List Released). change_where (is_answered rs) as_acknowledged cs) (c.deref-4.ensures.value ∙ answered)
+    ∙ answered-are p no_message (following_tsn f.acked_tsn) cs (omega arith) inv.run inv.few) in
     let n = ap (λ (o : Outbound). length o.inflight.chunks) marked in
     let k = count f inv s fits in
     let few = inv.few in
@@ -122,17 +122,17 @@ judge_each-requires-clause-beside c =
     c.in_ok-sorted.ensures.ok in
     let lent : AreSorted c.deref-3.result.now s.gap_ack_blocks = subst (λ (bs : List GapAckBlock). AreSorted bs s.gap_ack_blocks)
     (sym c.deref-3.ensures.value) are in
-    let told : c.tell_anew.new.released.items ≡ map (released_of no_message) (filter p cs) = c.in_ok-tell_anew.ensures.told p
+    let answered : c.tell_anew.new.released.items ≡ map (released_of no_message) (filter p cs) = c.in_ok-tell_anew.ensures.answered p
     (subst (λ k. PicksAnew p k c.deref-3.result.now cs) (sym c.distance-count.ensures.value) (picks f inv s fits none current c.deref-3.result.now lent)) in
-    let marked : c.acknowledge_told.new.queue ≡ with_inflight f.queue (change_where p as_acknowledged cs) = c.acknowledge_told.ensures
-    ∙ ap (with_inflight f.queue) (ap (λ (rs : List Released). change_where (is_told rs) as_acknowledged cs) (c.deref-4.ensures.value ∙ told)
-    ∙ told-are p no_message (following_tsn f.acked_tsn) cs (omega arith) inv.run inv.few) in
+    let marked : c.acknowledge_answered.new.queue ≡ with_inflight f.queue (change_where p as_acknowledged cs) = c.acknowledge_answered.ensures
+    ∙ ap (with_inflight f.queue) (ap (λ (rs : List Released). change_where (is_answered rs) as_acknowledged cs) (c.deref-4.ensures.value ∙ answered)
+    ∙ answered-are p no_message (following_tsn f.acked_tsn) cs (omega arith) inv.run inv.few) in
     subst (λ (o : Outbound). StandSideBySide (messages_of o.inflight.chunks)) (sym marked)
     (subst StandSideBySide (sym (messages-changed p as_acknowledged (λ d. refl) cs))
     (shorter (messages_of cs) (number_of_half (partially_sent f.queue.pending)) inv.side_by_side))
 
-pub judge_each-requires-clause-told : goal.judge_each-requires-clause-told
-judge_each-requires-clause-told c =
+pub judge_each-requires-clause-answered : goal.judge_each-requires-clause-answered
+judge_each-requires-clause-answered c =
     let f : Flight = record { queue = c.self.inside.queue; next_tsn = c.self.inside.next_tsn; acked_tsn = c.self.inside.acked_tsn } in
     let s = sack_of c.args.sack.now in
     let cs = f.queue.inflight.chunks in
@@ -146,14 +146,14 @@ judge_each-requires-clause-told c =
     c.in_ok-sorted.ensures.ok in
     let lent : AreSorted c.deref-3.result.now s.gap_ack_blocks = subst (λ (bs : List GapAckBlock). AreSorted bs s.gap_ack_blocks)
     (sym c.deref-3.ensures.value) are in
-    let told : c.tell_anew.new.released.items ≡ map (released_of no_message) (filter p cs) = c.in_ok-tell_anew.ensures.told p
+    let answered : c.tell_anew.new.released.items ≡ map (released_of no_message) (filter p cs) = c.in_ok-tell_anew.ensures.answered p
     (subst (λ k. PicksAnew p k c.deref-3.result.now cs) (sym c.distance-count.ensures.value) (picks f inv s fits none current c.deref-3.result.now lent)) in
-    let marked : c.acknowledge_told.new.queue ≡ with_inflight f.queue (change_where p as_acknowledged cs) = c.acknowledge_told.ensures
-    ∙ ap (with_inflight f.queue) (ap (λ (rs : List Released). change_where (is_told rs) as_acknowledged cs) (c.deref-4.ensures.value ∙ told)
-    ∙ told-are p no_message (following_tsn f.acked_tsn) cs (omega arith) inv.run inv.few) in
-    subst (λ (rs : List Released). AreInFlight rs c.acknowledge_told.new.queue.inflight.chunks) (sym told)
+    let marked : c.acknowledge_answered.new.queue ≡ with_inflight f.queue (change_where p as_acknowledged cs) = c.acknowledge_answered.ensures
+    ∙ ap (with_inflight f.queue) (ap (λ (rs : List Released). change_where (is_answered rs) as_acknowledged cs) (c.deref-4.ensures.value ∙ answered)
+    ∙ answered-are p no_message (following_tsn f.acked_tsn) cs (omega arith) inv.run inv.few) in
+    subst (λ (rs : List Released). AreInFlight rs c.acknowledge_answered.new.queue.inflight.chunks) (sym answered)
     (subst (λ (o : Outbound). AreInFlight (map (released_of no_message) (filter p cs)) o.inflight.chunks) (sym marked)
-    (told-in-flight p no_message cs (change_where p as_acknowledged cs) (λ r h. of-changed p r cs ∙ h)))
+    (answered-in-flight p no_message cs (change_where p as_acknowledged cs) (λ r h. of-changed p r cs ∙ h)))
 
 pub pop_run-requires-clause-run : goal.pop_run-requires-clause-run
 pop_run-requires-clause-run c =
@@ -170,11 +170,11 @@ pop_run-requires-clause-run c =
     c.in_ok-sorted.ensures.ok in
     let lent : AreSorted c.deref-3.result.now s.gap_ack_blocks = subst (λ (bs : List GapAckBlock). AreSorted bs s.gap_ack_blocks)
     (sym c.deref-3.ensures.value) are in
-    let told : c.tell_anew.new.released.items ≡ map (released_of no_message) (filter p cs) = c.in_ok-tell_anew.ensures.told p
+    let answered : c.tell_anew.new.released.items ≡ map (released_of no_message) (filter p cs) = c.in_ok-tell_anew.ensures.answered p
     (subst (λ k. PicksAnew p k c.deref-3.result.now cs) (sym c.distance-count.ensures.value) (picks f inv s fits none current c.deref-3.result.now lent)) in
-    let marked : c.acknowledge_told.new.queue ≡ with_inflight f.queue (change_where p as_acknowledged cs) = c.acknowledge_told.ensures
-    ∙ ap (with_inflight f.queue) (ap (λ (rs : List Released). change_where (is_told rs) as_acknowledged cs) (c.deref-4.ensures.value ∙ told)
-    ∙ told-are p no_message (following_tsn f.acked_tsn) cs (omega arith) inv.run inv.few) in
+    let marked : c.acknowledge_answered.new.queue ≡ with_inflight f.queue (change_where p as_acknowledged cs) = c.acknowledge_answered.ensures
+    ∙ ap (with_inflight f.queue) (ap (λ (rs : List Released). change_where (is_answered rs) as_acknowledged cs) (c.deref-4.ensures.value ∙ answered)
+    ∙ answered-are p no_message (following_tsn f.acked_tsn) cs (omega arith) inv.run inv.few) in
     subst (λ (o : Outbound). IsRunFrom (following_tsn f.acked_tsn) o.inflight.chunks) (sym marked) (run f inv s fits)
 
 pub pop_run-requires-clause-within : goal.pop_run-requires-clause-within
@@ -192,11 +192,11 @@ pop_run-requires-clause-within c =
     c.in_ok-sorted.ensures.ok in
     let lent : AreSorted c.deref-3.result.now s.gap_ack_blocks = subst (λ (bs : List GapAckBlock). AreSorted bs s.gap_ack_blocks)
     (sym c.deref-3.ensures.value) are in
-    let told : c.tell_anew.new.released.items ≡ map (released_of no_message) (filter p cs) = c.in_ok-tell_anew.ensures.told p
+    let answered : c.tell_anew.new.released.items ≡ map (released_of no_message) (filter p cs) = c.in_ok-tell_anew.ensures.answered p
     (subst (λ k. PicksAnew p k c.deref-3.result.now cs) (sym c.distance-count.ensures.value) (picks f inv s fits none current c.deref-3.result.now lent)) in
-    let marked : c.acknowledge_told.new.queue ≡ with_inflight f.queue (change_where p as_acknowledged cs) = c.acknowledge_told.ensures
-    ∙ ap (with_inflight f.queue) (ap (λ (rs : List Released). change_where (is_told rs) as_acknowledged cs) (c.deref-4.ensures.value ∙ told)
-    ∙ told-are p no_message (following_tsn f.acked_tsn) cs (omega arith) inv.run inv.few) in
+    let marked : c.acknowledge_answered.new.queue ≡ with_inflight f.queue (change_where p as_acknowledged cs) = c.acknowledge_answered.ensures
+    ∙ ap (with_inflight f.queue) (ap (λ (rs : List Released). change_where (is_answered rs) as_acknowledged cs) (c.deref-4.ensures.value ∙ answered)
+    ∙ answered-are p no_message (following_tsn f.acked_tsn) cs (omega arith) inv.run inv.few) in
     let taken = taken-within s f none current in
     let within : distance f.acked_tsn c.args.sack.now.cumulative_tsn_ack ≤ length f.queue.inflight.chunks = taken in
     let n = ap (λ (o : Outbound). length o.inflight.chunks) marked in
@@ -218,17 +218,17 @@ invariant_of-self c =
     c.in_ok-sorted.ensures.ok in
     let lent : AreSorted c.deref-3.result.now s.gap_ack_blocks = subst (λ (bs : List GapAckBlock). AreSorted bs s.gap_ack_blocks)
     (sym c.deref-3.ensures.value) are in
-    let told : c.tell_anew.new.released.items ≡ map (released_of no_message) (filter p cs) = c.in_ok-tell_anew.ensures.told p
+    let answered : c.tell_anew.new.released.items ≡ map (released_of no_message) (filter p cs) = c.in_ok-tell_anew.ensures.answered p
     (subst (λ k. PicksAnew p k c.deref-3.result.now cs) (sym c.distance-count.ensures.value) (picks f inv s fits none current c.deref-3.result.now lent)) in
-    let marked : c.acknowledge_told.new.queue ≡ with_inflight f.queue (change_where p as_acknowledged cs) = c.acknowledge_told.ensures
-    ∙ ap (with_inflight f.queue) (ap (λ (rs : List Released). change_where (is_told rs) as_acknowledged cs) (c.deref-4.ensures.value ∙ told)
-    ∙ told-are p no_message (following_tsn f.acked_tsn) cs (omega arith) inv.run inv.few) in
+    let marked : c.acknowledge_answered.new.queue ≡ with_inflight f.queue (change_where p as_acknowledged cs) = c.acknowledge_answered.ensures
+    ∙ ap (with_inflight f.queue) (ap (λ (rs : List Released). change_where (is_answered rs) as_acknowledged cs) (c.deref-4.ensures.value ∙ answered)
+    ∙ answered-are p no_message (following_tsn f.acked_tsn) cs (omega arith) inv.run inv.few) in
     let taken = taken-within s f none current in
     let within : distance f.acked_tsn c.args.sack.now.cumulative_tsn_ack ≤ length f.queue.inflight.chunks = taken in
-    let left = c.pop_run.ensures ∙ ap (λ k. with_inflight c.acknowledge_told.new.queue (drop k c.acknowledge_told.new.queue.inflight.chunks))
+    let left = c.pop_run.ensures ∙ ap (λ k. with_inflight c.acknowledge_answered.new.queue (drop k c.acknowledge_answered.new.queue.inflight.chunks))
     c.distance-count.ensures.value in
     record {
-      contiguous = contiguous f inv s fits within c.acknowledge_told.new.queue c.pop_run.new.queue marked left;
+      contiguous = contiguous f inv s fits within c.acknowledge_answered.new.queue c.pop_run.new.queue marked left;
       ascend = are.ascend;
       known = subst (λ (o : Outbound). AreKnown c.in_ok-sorted.sorted.items o.inflight.chunks)
           (sym (left ∙ ap (λ (o : Outbound). with_inflight o (drop (distance f.acked_tsn s.cumulative_tsn_ack) o.inflight.chunks)) marked))
@@ -250,16 +250,16 @@ returns-clause-ok c =
     c.in_ok-sorted.ensures.ok in
     let lent : AreSorted c.deref-3.result.now s.gap_ack_blocks = subst (λ (bs : List GapAckBlock). AreSorted bs s.gap_ack_blocks)
     (sym c.deref-3.ensures.value) are in
-    let told : c.tell_anew.new.released.items ≡ map (released_of no_message) (filter p cs) = c.in_ok-tell_anew.ensures.told p
+    let answered : c.tell_anew.new.released.items ≡ map (released_of no_message) (filter p cs) = c.in_ok-tell_anew.ensures.answered p
     (subst (λ k. PicksAnew p k c.deref-3.result.now cs) (sym c.distance-count.ensures.value) (picks f inv s fits none current c.deref-3.result.now lent)) in
-    let marked : c.acknowledge_told.new.queue ≡ with_inflight f.queue (change_where p as_acknowledged cs) = c.acknowledge_told.ensures
-    ∙ ap (with_inflight f.queue) (ap (λ (rs : List Released). change_where (is_told rs) as_acknowledged cs) (c.deref-4.ensures.value ∙ told)
-    ∙ told-are p no_message (following_tsn f.acked_tsn) cs (omega arith) inv.run inv.few) in
+    let marked : c.acknowledge_answered.new.queue ≡ with_inflight f.queue (change_where p as_acknowledged cs) = c.acknowledge_answered.ensures
+    ∙ ap (with_inflight f.queue) (ap (λ (rs : List Released). change_where (is_answered rs) as_acknowledged cs) (c.deref-4.ensures.value ∙ answered)
+    ∙ answered-are p no_message (following_tsn f.acked_tsn) cs (omega arith) inv.run inv.few) in
     let taken = taken-within s f none current in
     let within : distance f.acked_tsn c.args.sack.now.cumulative_tsn_ack ≤ length f.queue.inflight.chunks = taken in
-    let left = c.pop_run.ensures ∙ ap (λ k. with_inflight c.acknowledge_told.new.queue (drop k c.acknowledge_told.new.queue.inflight.chunks))
+    let left = c.pop_run.ensures ∙ ap (λ k. with_inflight c.acknowledge_answered.new.queue (drop k c.acknowledge_answered.new.queue.inflight.chunks))
     c.distance-count.ensures.value in
-    rw (← c.self.view_is) (taken-is f inv s fits within c.acknowledge_told.new.queue c.pop_run.new.queue marked left current)
+    rw (← c.self.view_is) (taken-is f inv s fits within c.acknowledge_answered.new.queue c.pop_run.new.queue marked left current)
 
 pub returns-clause-released : goal.returns-clause-released
 returns-clause-released c =
@@ -276,20 +276,20 @@ returns-clause-released c =
     c.in_ok-sorted.ensures.ok in
     let lent : AreSorted c.deref-3.result.now s.gap_ack_blocks = subst (λ (bs : List GapAckBlock). AreSorted bs s.gap_ack_blocks)
     (sym c.deref-3.ensures.value) are in
-    let told : c.tell_anew.new.released.items ≡ map (released_of no_message) (filter p cs) = c.in_ok-tell_anew.ensures.told p
+    let answered : c.tell_anew.new.released.items ≡ map (released_of no_message) (filter p cs) = c.in_ok-tell_anew.ensures.answered p
     (subst (λ k. PicksAnew p k c.deref-3.result.now cs) (sym c.distance-count.ensures.value) (picks f inv s fits none current c.deref-3.result.now lent)) in
-    let marked : c.acknowledge_told.new.queue ≡ with_inflight f.queue (change_where p as_acknowledged cs) = c.acknowledge_told.ensures
-    ∙ ap (with_inflight f.queue) (ap (λ (rs : List Released). change_where (is_told rs) as_acknowledged cs) (c.deref-4.ensures.value ∙ told)
-    ∙ told-are p no_message (following_tsn f.acked_tsn) cs (omega arith) inv.run inv.few) in
+    let marked : c.acknowledge_answered.new.queue ≡ with_inflight f.queue (change_where p as_acknowledged cs) = c.acknowledge_answered.ensures
+    ∙ ap (with_inflight f.queue) (ap (λ (rs : List Released). change_where (is_answered rs) as_acknowledged cs) (c.deref-4.ensures.value ∙ answered)
+    ∙ answered-are p no_message (following_tsn f.acked_tsn) cs (omega arith) inv.run inv.few) in
     let taken = taken-within s f none current in
     let within : distance f.acked_tsn c.args.sack.now.cumulative_tsn_ack ≤ length f.queue.inflight.chunks = taken in
-    let left = c.pop_run.ensures ∙ ap (λ k. with_inflight c.acknowledge_told.new.queue (drop k c.acknowledge_told.new.queue.inflight.chunks))
+    let left = c.pop_run.ensures ∙ ap (λ k. with_inflight c.acknowledge_answered.new.queue (drop k c.acknowledge_answered.new.queue.inflight.chunks))
     c.distance-count.ensures.value in
-    let mine = c.judge_each.ensures ∙ ap (map (judged c.half_of-half.result c.acknowledge_told.new.queue.inflight.chunks)) told
-    ∙ told-judged s f c.half_of-half.result (c.half_of-half.ensures ∙ ap (λ (o : Outbound). partially_sent o.pending) marked) cs
-    c.acknowledge_told.new.queue.inflight.chunks refl (ap (λ (o : Outbound). o.inflight.chunks) marked) in
+    let mine = c.judge_each.ensures ∙ ap (map (judged c.partial_of-partial.result c.acknowledge_answered.new.queue.inflight.chunks)) answered
+    ∙ answered-judged s f c.partial_of-partial.result (c.partial_of-partial.ensures ∙ ap (λ (o : Outbound). partially_sent o.pending) marked) cs
+    c.acknowledge_answered.new.queue.inflight.chunks refl (ap (λ (o : Outbound). o.inflight.chunks) marked) in
     let g : Flight = record { queue = c.pop_run.new.queue; next_tsn = c.self.inside.next_tsn; acked_tsn = c.args.sack.now.cumulative_tsn_ack } in
-    let is = taken-is f inv s fits within c.acknowledge_told.new.queue c.pop_run.new.queue marked left current in
+    let is = taken-is f inv s fits within c.acknowledge_answered.new.queue c.pop_run.new.queue marked left current in
     rw (← c.self.view_is) (after-bytes s f g c.judge_each.new.released.items current is mine)
 
 pub returns-clause-answer : goal.returns-clause-answer
@@ -307,12 +307,12 @@ returns-clause-answer c =
     c.in_ok-sorted.ensures.ok in
     let lent : AreSorted c.deref-3.result.now s.gap_ack_blocks = subst (λ (bs : List GapAckBlock). AreSorted bs s.gap_ack_blocks)
     (sym c.deref-3.ensures.value) are in
-    let told : c.tell_anew.new.released.items ≡ map (released_of no_message) (filter p cs) = c.in_ok-tell_anew.ensures.told p
+    let answered : c.tell_anew.new.released.items ≡ map (released_of no_message) (filter p cs) = c.in_ok-tell_anew.ensures.answered p
     (subst (λ k. PicksAnew p k c.deref-3.result.now cs) (sym c.distance-count.ensures.value) (picks f inv s fits none current c.deref-3.result.now lent)) in
-    let marked : c.acknowledge_told.new.queue ≡ with_inflight f.queue (change_where p as_acknowledged cs) = c.acknowledge_told.ensures
-    ∙ ap (with_inflight f.queue) (ap (λ (rs : List Released). change_where (is_told rs) as_acknowledged cs) (c.deref-4.ensures.value ∙ told)
-    ∙ told-are p no_message (following_tsn f.acked_tsn) cs (omega arith) inv.run inv.few) in
-    let mine = c.judge_each.ensures ∙ ap (map (judged c.half_of-half.result c.acknowledge_told.new.queue.inflight.chunks)) told
-    ∙ told-judged s f c.half_of-half.result (c.half_of-half.ensures ∙ ap (λ (o : Outbound). partially_sent o.pending) marked) cs
-    c.acknowledge_told.new.queue.inflight.chunks refl (ap (λ (o : Outbound). o.inflight.chunks) marked) in
+    let marked : c.acknowledge_answered.new.queue ≡ with_inflight f.queue (change_where p as_acknowledged cs) = c.acknowledge_answered.ensures
+    ∙ ap (with_inflight f.queue) (ap (λ (rs : List Released). change_where (is_answered rs) as_acknowledged cs) (c.deref-4.ensures.value ∙ answered)
+    ∙ answered-are p no_message (following_tsn f.acked_tsn) cs (omega arith) inv.run inv.few) in
+    let mine = c.judge_each.ensures ∙ ap (map (judged c.partial_of-partial.result c.acknowledge_answered.new.queue.inflight.chunks)) answered
+    ∙ answered-judged s f c.partial_of-partial.result (c.partial_of-partial.ensures ∙ ap (λ (o : Outbound). partially_sent o.pending) marked) cs
+    c.acknowledge_answered.new.queue.inflight.chunks refl (ap (λ (o : Outbound). o.inflight.chunks) marked) in
     rw (← c.self.view_is) (mine ∙ ap (λ b. if b then [] else map (released_of (is_whole s f)) (filter (reports_anew s) f.queue.inflight.chunks)) (sym current))

@@ -4,7 +4,7 @@ use Rattle.sctp_outbound.specs.outbound_queue.OutboundQueue.{expiring_tail, mess
 use Rattle.sctp_outbound.specs.pending_queue.PendingQueue.{next_pending}
 use Rattle.sctp_serial.specs.DataChunks.{following_tsn}
 use Rattle.sctp_sender.specs.Flight.{Flight, may_send}
-use Rattle.sctp_sender.proofs.InLine.{abandoned-in-line, tail-half}
+use Rattle.sctp_sender.proofs.InLine.{abandoned-in-line, tail-partial}
 use Rattle.sctp_sender.proofs.Flights.{fresh, window, after-abandoning, tail-there}
 use Rattle.sctp_sender.proofs.Known.{abandoned-known}
 use Rattle.sctp_sender.proofs.sender.flight.InFlight.expire_tail.Goals as goal
@@ -29,7 +29,7 @@ invariant_of-self-2 c =
           (abandoned-in-line f.queue (following_tsn f.acked_tsn)
           (omega arith) c.self.invariant.contiguous.few c.self.invariant.contiguous.run c.are_whole.ensures c.self.invariant.contiguous.side_by_side
           (message_of (expiring_tail c.args.now f.queue)) f.next_tsn (let next = c.self.invariant.contiguous.next in omega (arith, next)) (λ m h w.
-          tail-half f.queue c.are_whole.ensures c.args.now (next_pending f.queue.pending) refl m h) c.expire_pending_tail.new.self
+          tail-partial f.queue c.are_whole.ensures c.args.now (next_pending f.queue.pending) refl m h) c.expire_pending_tail.new.self
           c.in_ok-abandoned.ensures.ok));
       ascend = c.self.invariant.ascend;
       known = abandoned-known c.self.inside.known.items f c.self.invariant.contiguous c.self.invariant.known

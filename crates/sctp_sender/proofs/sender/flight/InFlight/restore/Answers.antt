@@ -3,7 +3,7 @@ use Rattle.std.specs.List.{All}
 use Rattle.sctp_data.specs.declared.chunk.chunk_selective_ack.GapAckBlock.{GapAckBlock}
 use Rattle.sctp_outbound.specs.outbound_queue.OutboundQueue.{Outbound}
 use Rattle.sctp_sender.specs.Flight.{Flight, IsContiguous, can_resend}
-use Rattle.sctp_sender.specs.Keeping.{back_each, told_back, with_restored}
+use Rattle.sctp_sender.specs.Keeping.{back_each, answered_back, with_restored}
 use Rattle.sctp_sender.specs.declared.sender.flight.keeping.TakenBack.{TakenBack}
 use Rattle.sctp_sender.proofs.Keepings.{restored-contiguous}
 use Rattle.sctp_sender.proofs.TakenBacks.{outstanding}
@@ -40,9 +40,9 @@ returns-then-not-restore_each-clause-outstanding c = λ s ks is.
     let bs = c.args.backs.items in
     let new : with_restored bs f ≡ g = ap (λ (o : Outbound). let h : Flight = record f { queue = o } in h) (sym c.restore_each.ensures.restored) in
     let here = is ∙ ap (λ (h : Flight). back_each s h.queue.inflight.chunks ks) (sym c.self.view_is) in
-    let all = subst (λ (h : Flight). All (λ (b : TakenBack). can_resend b.tsn h ≡ true) (told_back bs f.queue.inflight.chunks)) new
+    let all = subst (λ (h : Flight). All (λ (b : TakenBack). can_resend b.tsn h ≡ true) (answered_back bs f.queue.inflight.chunks)) new
     (outstanding s f c.self.invariant.contiguous ks bs here) in
-    subst (λ (h : Flight). All (λ (b : TakenBack). can_resend b.tsn g ≡ true) (told_back bs h.queue.inflight.chunks)) c.self.view_is all
+    subst (λ (h : Flight). All (λ (b : TakenBack). can_resend b.tsn g ≡ true) (answered_back bs h.queue.inflight.chunks)) c.self.view_is all
 
 pub returns-clause-outstanding : goal.returns-clause-outstanding
 returns-clause-outstanding c = λ s ks is.
@@ -51,6 +51,6 @@ returns-clause-outstanding c = λ s ks is.
     let bs = c.args.backs.items in
     let new : with_restored bs f ≡ g = ap (λ (o : Outbound). let h : Flight = record f { queue = o } in h) (sym c.restore_each.ensures.restored) in
     let here = is ∙ ap (λ (h : Flight). back_each s h.queue.inflight.chunks ks) (sym c.self.view_is) in
-    let all = subst (λ (h : Flight). All (λ (b : TakenBack). can_resend b.tsn h ≡ true) (told_back bs f.queue.inflight.chunks)) new
+    let all = subst (λ (h : Flight). All (λ (b : TakenBack). can_resend b.tsn h ≡ true) (answered_back bs f.queue.inflight.chunks)) new
     (outstanding s f c.self.invariant.contiguous ks bs here) in
-    subst (λ (h : Flight). All (λ (b : TakenBack). can_resend b.tsn g ≡ true) (told_back bs h.queue.inflight.chunks)) c.self.view_is all
+    subst (λ (h : Flight). All (λ (b : TakenBack). can_resend b.tsn g ≡ true) (answered_back bs h.queue.inflight.chunks)) c.self.view_is all

@@ -3,7 +3,7 @@ use Rattle.std.proofs.lemmas.Bool.{false≢true}
 use Rattle.sctp_outbound.specs.Marks.{as_taken_back}
 use Rattle.sctp_outbound.specs.outbound_queue.OutboundQueue.{Outbound, with_inflight}
 use Rattle.sctp_sender.specs.Keeping.{restored}
-use Rattle.sctp_sender.proofs.Keepings.{none-left, restored-last, restored-none, told-weight, weight, weight-last}
+use Rattle.sctp_sender.proofs.Keepings.{none-left, restored-last, restored-none, answered-weight, weight, weight-last}
 use Rattle.sctp_sender.proofs.Runs.{any_chunk}
 use Rattle.sctp_sender.proofs.sender.flight.keeping.restore_each.Goals as goal
 
@@ -12,7 +12,7 @@ loop-back-init c = record {
   goes_on = refl;
   none = λ e. refl;
   within = c.requires.within;
-  fits = let w = told-weight c.args.backs.items c.args.queue.now.inflight.chunks c.requires.within in omega (arith, w, c.requires.bytes);
+  fits = let w = answered-weight c.args.backs.items c.args.queue.now.inflight.chunks c.requires.within in omega (arith, w, c.requires.bytes);
 }
 
 pub loop-back-preserved-in_default-back : goal.loop-back-preserved-in_default-back

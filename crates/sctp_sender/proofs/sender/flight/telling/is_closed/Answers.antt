@@ -10,7 +10,7 @@ pub returns-then-not-is_open_before : goal.returns-then-not-is_open_before
 returns-then-not-is_open_before c =
     let cs = c.args.queue.now.inflight.chunks in
     let q = is_open_of c.args.message in
-    let nay : is_half c.args.half c.args.message ≡ false = search rules in
+    let nay : is_half c.args.partial c.args.message ≡ false = search rules in
     sym (ap (λ b. not b && not (list_any q cs)) nay ∙ ap not (both-sides q cs c.args.place
     ∙ ap (λ b. b || list_any q (drop c.args.place cs)) (sym c.is_open_before.ensures ∙ c.if-not-is_open_before.true) ∙ sym c.is_open_from.ensures))
 
@@ -18,6 +18,6 @@ pub returns-else-not-is_open_before : goal.returns-else-not-is_open_before
 returns-else-not-is_open_before c =
     let cs = c.args.queue.now.inflight.chunks in
     let q = is_open_of c.args.message in
-    let nay : is_half c.args.half c.args.message ≡ false = search rules in
+    let nay : is_half c.args.partial c.args.message ≡ false = search rules in
     ap not c.if-not-is_open_before.false ∙ sym (ap (λ b. not b && not (list_any q cs)) nay ∙ ap not (both-sides q cs c.args.place
     ∙ ap (λ b. b || list_any q (drop c.args.place cs)) (sym c.is_open_before.ensures ∙ c.if-not-is_open_before.false)))

@@ -5,8 +5,8 @@ use Rattle.sctp_sender.proofs.sender.flight.telling.judge_each.Given as goal
 
 abbrev pub invariant-loop-one : goal.invariant-loop-one
 invariant-loop-one l = record {
-  noted : map (judged l.half l.queue.inflight.chunks) l.fn.released.items
-      ≡ take l.one-index l.one-items ++ map (judged l.half l.queue.inflight.chunks) (drop l.one-index l.one-items);
+  noted : map (judged l.partial l.queue.inflight.chunks) l.fn.released.items
+      ≡ take l.one-index l.one-items ++ map (judged l.partial l.queue.inflight.chunks) (drop l.one-index l.one-items);
   there : AreInFlight (drop l.one-index l.one-items) l.queue.inflight.chunks;
-  last : IfSome l.last (λ k. k.1 ≡ is_closed l.half l.queue.inflight.chunks k.0);
+  last : IfSome l.last (λ k. k.1 ≡ is_closed l.partial l.queue.inflight.chunks k.0);
 }

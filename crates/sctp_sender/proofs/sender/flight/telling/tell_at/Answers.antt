@@ -6,21 +6,21 @@ use Rattle.sctp_data.specs.declared.chunk.chunk_payload_data.ChunkPayloadData.{C
 use Rattle.sctp_sender.specs.declared.sender.flight.Released.{Released}
 use Rattle.sctp_sender.specs.Flight.{released_of}
 use Rattle.sctp_sender.specs.Telling.{no_message}
-use Rattle.sctp_sender.proofs.Anew.{none-told, one-told}
+use Rattle.sctp_sender.proofs.Anew.{none-answered, one-answered}
 use Rattle.sctp_sender.proofs.Walks.{read-of}
 use Rattle.sctp_sender.proofs.sender.flight.telling.tell_at.Goals as goal
 
-pub returns-then-chunk-clause-told : goal.returns-then-chunk-clause-told
-returns-then-chunk-clause-told c = λ p picks start.
+pub returns-then-chunk-clause-answered : goal.returns-then-chunk-clause-answered
+returns-then-chunk-clause-answered c = λ p picks start.
     let cs = c.args.queue.now.inflight.chunks in
     let i = c.args.place in
     let x = c.in-Some.chunk.now in
     let at = read-of cs i x (sym c.in-Some.ensures) in
     let nay = ap p at.1 ∙ picks i x (omega arith) (omega arith) at.0 ∙ ap (λ (y : ChunkPayloadData). not y.acked) (sym at.1) ∙ ap not c.if-chunk.true in
-    start ∙ ap (map (released_of no_message)) (sym (none-told p cs i x at.0 at.1 nay))
+    start ∙ ap (map (released_of no_message)) (sym (none-answered p cs i x at.0 at.1 nay))
 
-pub returns-clause-told : goal.returns-clause-told
-returns-clause-told c = λ p picks start.
+pub returns-clause-answered : goal.returns-clause-answered
+returns-clause-answered c = λ p picks start.
     let cs = c.args.queue.now.inflight.chunks in
     let i = c.args.place in
     let x = c.in-Some.chunk.now in
@@ -28,4 +28,4 @@ returns-clause-told c = λ p picks start.
     let yea = ap p at.1 ∙ picks i x (omega arith) (omega arith) at.0 ∙ ap (λ (y : ChunkPayloadData). not y.acked) (sym at.1) ∙ ap not c.if-chunk.false in
     c.put.ensures.items ∙ ap (λ (rs : List Released). rs ++ c.released_of.result ∷ []) (c.reserve.ensures.items ∙ start)
     ∙ ap (λ (r : Released). map (released_of no_message) (filter p (take i cs)) ++ r ∷ []) c.released_of.ensures
-    ∙ sym (map-append (released_of no_message) (filter p (take i cs)) (x ∷ [])) ∙ ap (map (released_of no_message)) (sym (one-told p cs i x at.0 at.1 yea))
+    ∙ sym (map-append (released_of no_message) (filter p (take i cs)) (x ∷ [])) ∙ ap (map (released_of no_message)) (sym (one-answered p cs i x at.0 at.1 yea))

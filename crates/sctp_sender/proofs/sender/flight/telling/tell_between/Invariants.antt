@@ -9,7 +9,7 @@ abbrev pub invariant-loop-place : goal.invariant-loop-place
 invariant-loop-place l = record {
   from : l.places.0 ≤ l.place;
   within : l.place ≤ l.places.1;
-  told : (p : ChunkPayloadData → Bool) → PicksOpen p l.places.0 l.places.1 l.queue.inflight.chunks
+  answered : (p : ChunkPayloadData → Bool) → PicksOpen p l.places.0 l.places.1 l.queue.inflight.chunks
       → l.initial.released.items ≡ map (released_of no_message) (filter p (take l.places.0 l.queue.inflight.chunks))
       → l.released.items ≡ map (released_of no_message) (filter p (take l.place l.queue.inflight.chunks));
 }

@@ -7,7 +7,7 @@ use Rattle.sctp_list_lemmas.specs.Kept.{put_before_runs, runs_of}
 use Rattle.sctp_list_lemmas.proofs.Cases.{or-left, or-right, or-split, same-is, same-yes}
 use Rattle.sctp_list_lemmas.proofs.More.{and, both, not_both}
 use Rattle.sctp_delivery.proofs.Every.{Every}
-use Rattle.sctp_delivery.proofs.HeardTsns.{in_run}
+use Rattle.sctp_delivery.proofs.ArrivedTsns.{in_run}
 
 abbrev IsRun : ℕ × ℕ → Type 0
 IsRun b = b.0 ≤ b.1

@@ -10,40 +10,43 @@ use Rattle.sctp_serial.specs.DataChunks.{chunk_before, bytes_of, tsns}
 use Rattle.sctp_serial.specs.Window
 use Rattle.sctp_serial.specs.Window.{IsWithinHalf, IsWindow}
 use Rattle.sctp_outbound.specs.payload_queue.PayloadQueue.{past}
-use Rattle.sctp_receiver.specs.TsnFilter.{mark, rise_beyond}
+use Rattle.sctp_receiver.specs.TsnFilter.{placeholder, rise_beyond}
 use Rattle.sctp_receiver.proofs.TsnLists.{step-of, IsStep}
 use Rattle.sctp_serial.proofs.lemmas.Serials.{held-any}
 
-pub tsns-mark : (ts : List ℕ) → tsns (map mark ts) ≡ ts
-tsns-mark [] = refl
-tsns-mark (t ∷ ts) = ap (λ us. t ∷ us) (tsns-mark ts)
+pub tsns-placeholder : (ts : List ℕ) → tsns (map placeholder ts) ≡ ts
+tsns-placeholder [] = refl
+tsns-placeholder (t ∷ ts) = ap (λ us. t ∷ us) (tsns-placeholder ts)
 
 -- what is made of marks is marks
-pub marked : (cs : List ChunkPayloadData) (ts : List ℕ) → cs ≡ map mark ts → cs ≡ map mark (tsns cs)
-marked cs ts e = e ∙ ap (map mark) (sym (tsns-mark ts) ∙ ap tsns (sym e))
+pub as-placeholders : (cs : List ChunkPayloadData) (ts : List ℕ) → cs ≡ map placeholder ts → cs ≡ map placeholder (tsns cs)
+as-placeholders cs ts e = e ∙ ap (map placeholder) (sym (tsns-placeholder ts) ∙ ap tsns (sym e))
 
-pub marks-inserted : (x : ℕ) (ts : List ℕ) → insert_before chunk_before (mark x) (map mark ts) ≡ map mark (insert_before comes_before x ts)
-marks-inserted x [] = refl
-marks-inserted x (t ∷ ts) = step (comes_before x t) (marks-inserted x ts)
+pub placeholders-inserted : (x : ℕ) (ts : List ℕ)
+    → insert_before chunk_before (placeholder x) (map placeholder ts) ≡ map placeholder (insert_before comes_before x ts)
+placeholders-inserted x [] = refl
+placeholders-inserted x (t ∷ ts) = step (comes_before x t) (placeholders-inserted x ts)
   where
-    step : (b : Bool) → insert_before chunk_before (mark x) (map mark ts) ≡ map mark (insert_before comes_before x ts)
-        → (if b then mark x ∷ mark t ∷ map mark ts else mark t ∷ insert_before chunk_before (mark x) (map mark ts))
-        ≡ map mark (if b then x ∷ t ∷ ts else t ∷ insert_before comes_before x ts)
+    step : (b : Bool) → insert_before chunk_before (placeholder x) (map placeholder ts) ≡ map placeholder (insert_before comes_before x ts)
+        → (if b then placeholder x ∷ placeholder t ∷ map placeholder ts else placeholder t ∷ insert_before chunk_before (placeholder x) (map placeholder ts))
+        ≡ map placeholder (if b then x ∷ t ∷ ts else t ∷ insert_before comes_before x ts)
     step true ih = refl
-    step false ih = ap (λ cs. mark t ∷ cs) ih
+    step false ih = ap (λ cs. placeholder t ∷ cs) ih
 
-pub marks-past : (n : ℕ) (ts : List ℕ) → past n (map mark ts) ≡ map mark (filter (λ t. not (at_or_before t n)) ts)
-marks-past n [] = refl
-marks-past n (t ∷ ts) = step (not (at_or_before t n)) (marks-past n ts)
+pub placeholders-past : (n : ℕ) (ts : List ℕ) → past n (map placeholder ts) ≡ map placeholder (filter (λ t. not (at_or_before t n)) ts)
+placeholders-past n [] = refl
+placeholders-past n (t ∷ ts) = step (not (at_or_before t n)) (placeholders-past n ts)
   where
-    step : (b : Bool) → past n (map mark ts) ≡ map mark (filter (λ u. not (at_or_before u n)) ts) → (if b then mark t ∷ past n (map mark ts)
-        else past n (map mark ts)) ≡ map mark (if b then t ∷ filter (λ u. not (at_or_before u n)) ts else filter (λ u. not (at_or_before u n)) ts)
-    step true ih = ap (λ cs. mark t ∷ cs) ih
+    step : (b : Bool) → past n (map placeholder ts) ≡ map placeholder (filter (λ u. not (at_or_before u n)) ts)
+        → (if b then placeholder t ∷ past n (map placeholder ts)
+        else past n (map placeholder ts)) ≡ map placeholder (if b then t ∷ filter (λ u. not (at_or_before u n)) ts else filter (λ u. not (at_or_before u n)) ts)
+    step true ih = ap (λ cs. placeholder t ∷ cs) ih
     step false ih = ih
 
-pub no-bytes : (ts : List ℕ) → bytes_of (map mark ts) ≡ 0
+pub no-bytes : (ts : List ℕ) → bytes_of (map placeholder ts) ≡ 0
 no-bytes [] = refl
-no-bytes (t ∷ ts) = let more = sum_by-cons (λ (c : ChunkPayloadData). length c.user_data) (mark t) (map mark ts) in let rest = no-bytes ts in omega arith
+no-bytes (t ∷ ts) = let more = sum_by-cons (λ (c : ChunkPayloadData). length c.user_data) (placeholder t) (map placeholder ts) in let rest = no-bytes ts in
+    omega arith
 
 -- the queue tells new what did not come
 pub new-is : (cs : List ChunkPayloadData) (t c : ℕ) → Window.is_new cs t c ≡ not (at_or_before t c || list_any (λ u. u == t) (tsns cs))

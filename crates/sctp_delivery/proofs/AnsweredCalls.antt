@@ -27,12 +27,12 @@ use Rattle.sctp_delivery.specs.Sacks.{NextSackTells, reports_tsn, was_taken}
 use Rattle.sctp_delivery.specs.SenderCalls.{data_chunk, forward_tsn}
 use Rattle.sctp_delivery.specs.Session.{ReceiverFollows, Session}
 use Rattle.sctp_delivery.proofs.Every.{Every, all-of-every, every-contained, every-of, one-of}
-use Rattle.sctp_delivery.proofs.HeardTsns.{IsHeard}
+use Rattle.sctp_delivery.proofs.ArrivedTsns.{IsArrived}
 use Rattle.sctp_delivery.proofs.ReportedTsns.{any-run}
 use Rattle.sctp_delivery.proofs.SackSteps.{IsMadeGiven}
 use Rattle.sctp_delivery.proofs.TakenCalls.{AreTaken, HasCome, fresh-new}
 use Rattle.sctp_delivery.proofs.TakenTsns.{come}
-use Rattle.sctp_delivery.proofs.ToldTsns.{distance-held, runs-have, whole}
+use Rattle.sctp_delivery.proofs.AnsweredTsns.{distance-held, runs-have, whole}
 use Rattle.sctp_delivery.proofs.TsnPlaces.{IsGiven, at-or-before, before, tsn-small}
 
 -- ## The order of TSNs
@@ -40,7 +40,7 @@ use Rattle.sctp_delivery.proofs.TsnPlaces.{IsGiven, at-or-before, before, tsn-sm
 abbrev pub IsInOrder : Reception → Type 0
 IsInOrder r = IsAscending (filter_of r)
 
-module _ (p n : ℕ) (r : Reception) (kn : ℕ → Bool) (few : n < 2 ^ 31) (h : IsHeard p n kn r.cumulative_tsn r.beyond) (a : IsInOrder r) where
+module _ (p n : ℕ) (r : Reception) (kn : ℕ → Bool) (few : n < 2 ^ 31) (h : IsArrived p n kn r.cumulative_tsn r.beyond) (a : IsInOrder r) where
   -- one that was given out is not half the circle away
   pub near : (t : ℕ) → IsGiven p n t → is_opposite t (filter_of r) ≡ false
   near t g =
@@ -79,16 +79,16 @@ module _ (p n : ℕ) (r : Reception) (kn : ℕ → Bool) (few : n < 2 ^ 31) (h :
           (ahead e)).ascending in record { small = k.small; rise = k.rise }
 
 module _ (p n : ℕ) (kn : ℕ → Bool) (old new : Session) (few : n < 2 ^ 31) (m : Every (IsMadeGiven p n) old.made)
-    (h : IsHeard p n kn old.receiving.receiver.cumulative_tsn old.receiving.receiver.beyond) (a : IsInOrder old.receiving.receiver) where
+    (h : IsArrived p n kn old.receiving.receiver.cumulative_tsn old.receiving.receiver.beyond) (a : IsInOrder old.receiving.receiver) where
   order-to : (q : Reception) → new.receiving.receiver ≡ q → IsInOrder q → IsInOrder new.receiving.receiver
   order-to q e o = subst IsInOrder (sym e) o
 
   pub keeps-order : (call : ReceiverCall) → ReceiverFollows call old new → IsInOrder new.receiving.receiver
   keeps-order (incoming.opens stream) f = order-to _ f.step.receiver.1 (record { small = a.small; rise = a.rise })
   keeps-order (incoming.takes c Repeat) f = order-to _ f.step.receiver (record { small = a.small; rise = a.rise })
-  keeps-order (incoming.takes c (New told)) f =
+  keeps-order (incoming.takes c (New answered)) f =
       let g : IsGiven p n c.tsn = every-contained (IsMadeGiven p n) old.made (data_chunk (data_of c)) f.handed m in
-      let k = order-with p n old.receiving.receiver kn few h a c.tsn g (fresh-new c.tsn told old.receiving.receiver f.accepted.1) in
+      let k = order-with p n old.receiving.receiver kn few h a c.tsn g (fresh-new c.tsn answered old.receiving.receiver f.accepted.1) in
       order-to _ f.step.receiver.after (record { small = k.small; rise = k.rise })
   keeps-order (incoming.follows g) f = order-to _ f.step.receiver
       (order-past p n old.receiving.receiver kn few h a g (every-contained (IsMadeGiven p n) old.made (forward_tsn g) f.handed m))
@@ -97,7 +97,7 @@ module _ (p n : ℕ) (kn : ℕ → Bool) (old new : Session) (few : n < 2 ^ 31) 
 
 -- ## The next SACK
 
-module _ (p n : ℕ) (s : Session) (kn : ℕ → Bool) (few : n < 2 ^ 31) (h : IsHeard p n kn s.receiving.receiver.cumulative_tsn s.receiving.receiver.beyond)
+module _ (p n : ℕ) (s : Session) (kn : ℕ → Bool) (few : n < 2 ^ 31) (h : IsArrived p n kn s.receiving.receiver.cumulative_tsn s.receiving.receiver.beyond)
     (a : IsInOrder s.receiving.receiver) (t : AreTaken p n s.receiving.receiver s.receiving.accepted) where
   abbrev r : Reception
   r = s.receiving.receiver
@@ -121,12 +121,12 @@ module _ (p n : ℕ) (s : Session) (kn : ℕ → Bool) (few : n < 2 ^ 31) (h : I
       any-run (distance r.cumulative_tsn u) (runs_of (offsets (filter_of r)))
       ∙ runs-have (offsets (filter_of r)) (distance r.cumulative_tsn u) (distance-held (distance r.cumulative_tsn) is_offset r.beyond u far e)
 
-  abbrev IsTold : Sack → ChunkPayloadData → Type 0
-  IsTold k c = (reports_tsn c.tsn k || nat_le (2 ^ 16) (distance k.cumulative_tsn_ack c.tsn)) ≡ true
+  abbrev IsAnswered : Sack → ChunkPayloadData → Type 0
+  IsAnswered k c = (reports_tsn c.tsn k || nat_le (2 ^ 16) (distance k.cumulative_tsn_ack c.tsn)) ≡ true
 
-  told : (credit : ℕ) → length (sack credit s.receiving.receiver).gap_ack_blocks < max_sack_entries → (c : ChunkPayloadData)
-      → HasCome p n s.receiving.receiver c → IsTold (sack credit s.receiving.receiver) c
-  told credit free c k = by (at_or_before c.tsn r.cumulative_tsn) refl
+  answered : (credit : ℕ) → length (sack credit s.receiving.receiver).gap_ack_blocks < max_sack_entries → (c : ChunkPayloadData)
+      → HasCome p n s.receiving.receiver c → IsAnswered (sack credit s.receiving.receiver) c
+  answered credit free c k = by (at_or_before c.tsn r.cumulative_tsn) refl
       (or-split (at_or_before c.tsn r.cumulative_tsn) (list_any (λ u. u == c.tsn) r.beyond) k.1)
     where
       past : at_or_before c.tsn s.receiving.receiver.cumulative_tsn ≡ false → 0 < distance s.receiving.receiver.cumulative_tsn c.tsn
@@ -143,11 +143,11 @@ module _ (p n : ℕ) (s : Session) (kn : ℕ → Bool) (few : n < 2 ^ 31) (h : I
           let far = distance-tsn p h.place g.place (omega (arith, lt)) (omega (arith, in', few)) in
           omega (arith, is, far, lt)
 
-      beyond-told : (b : Bool) → nat_le (2 ^ 16) (distance s.receiving.receiver.cumulative_tsn c.tsn) ≡ b
+      beyond-answered : (b : Bool) → nat_le (2 ^ 16) (distance s.receiving.receiver.cumulative_tsn c.tsn) ≡ b
           → 0 < distance s.receiving.receiver.cumulative_tsn c.tsn
-          → list_any (λ u. u == c.tsn) s.receiving.receiver.beyond ≡ true → IsTold (sack credit s.receiving.receiver) c
-      beyond-told true e pos x = or-right (reports_tsn c.tsn (sack credit r)) (nat_le (2 ^ 16) (distance r.cumulative_tsn c.tsn)) e
-      beyond-told false e pos x =
+          → list_any (λ u. u == c.tsn) s.receiving.receiver.beyond ≡ true → IsAnswered (sack credit s.receiving.receiver) c
+      beyond-answered true e pos x = or-right (reports_tsn c.tsn (sack credit r)) (nat_le (2 ^ 16) (distance r.cumulative_tsn c.tsn)) e
+      beyond-answered false e pos x =
           let offset : is_offset (distance r.cumulative_tsn c.tsn) ≡ true =
           and (nat_lt 0 (distance r.cumulative_tsn c.tsn)) (nat_lt (distance r.cumulative_tsn c.tsn) (2 ^ 16)) (grind (arith, nat_tests, pos))
           (grind (arith, nat_tests, e)) in
@@ -157,12 +157,12 @@ module _ (p n : ℕ) (s : Session) (kn : ℕ → Bool) (few : n < 2 ^ 31) (h : I
           (or-right (at_or_before c.tsn r.cumulative_tsn) (is_in_blocks (sack credit r).gap_ack_blocks (distance r.cumulative_tsn c.tsn)) in')
 
       by : (b : Bool) → at_or_before c.tsn s.receiving.receiver.cumulative_tsn ≡ b → (at_or_before c.tsn s.receiving.receiver.cumulative_tsn ≡ true) ⊎
-          (list_any (λ u. u == c.tsn) s.receiving.receiver.beyond ≡ true) → IsTold (sack credit s.receiving.receiver) c
+          (list_any (λ u. u == c.tsn) s.receiving.receiver.beyond ≡ true) → IsAnswered (sack credit s.receiving.receiver) c
       by true e x =
           or-left (reports_tsn c.tsn (sack credit r)) (nat_le (2 ^ 16) (distance r.cumulative_tsn c.tsn))
           (or-left (at_or_before c.tsn r.cumulative_tsn) (is_in_blocks (sack credit r).gap_ack_blocks (distance r.cumulative_tsn c.tsn)) e)
       by false e (inl x) = absurd (not_both (sym e ∙ x))
-      by false e (inr x) = beyond-told (nat_le (2 ^ 16) (distance r.cumulative_tsn c.tsn)) refl (past e) x
+      by false e (inr x) = beyond-answered (nat_le (2 ^ 16) (distance r.cumulative_tsn c.tsn)) refl (past e) x
 
   pub next-sack-tells : NextSackTells s
   next-sack-tells credit new f = (
@@ -170,7 +170,7 @@ module _ (p n : ℕ) (s : Session) (kn : ℕ → Bool) (few : n < 2 ^ 31) (h : I
     ap (λ (x : Session). x.sacks) f.after,
     record {
       next = next-untaken;
-      all = λ free. all-of-every (IsTold (sack credit r)) s.receiving.accepted
-          (every-of (HasCome p n r) (IsTold (sack credit r)) (λ c k. told credit free c k) s.receiving.accepted t.each);
+      all = λ free. all-of-every (IsAnswered (sack credit r)) s.receiving.accepted
+          (every-of (HasCome p n r) (IsAnswered (sack credit r)) (λ c k. answered credit free c k) s.receiving.accepted t.each);
     },
   )

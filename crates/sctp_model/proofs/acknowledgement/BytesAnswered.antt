@@ -24,7 +24,7 @@ use Rattle.sctp_model.proofs.sender.Shape.{Shape, MessagePart, shape, message_pa
 use Rattle.sctp_model.proofs.sender.Shapes
 use Rattle.sctp_model.proofs.sender.SenderSteps.{of-has}
 use Rattle.sctp_model.proofs.sender.SenderEnds.{message-old, message-new}
-use Rattle.sctp_model.proofs.sender.SenderRun.{Sane, sane-run, sends-keep, written_as}
+use Rattle.sctp_model.proofs.sender.SenderRun.{Consistent, consistent-run, sends-keep, written_as}
 use Rattle.sctp_model.proofs.sender.Moves
 use Rattle.sctp_model.proofs.sender.Moves.{Quiet}
 use Rattle.sctp_model.proofs.sender.Network
@@ -38,9 +38,9 @@ use Rattle.sctp_list_lemmas.proofs.Totals.{total-le, total-append, total-kept_sa
 
 -- ## Written
 
-pub total-told : (f : Shown → ℕ) (g : ℕ → Shown) (xs : List ℕ) → total_over (λ n. f (g n)) xs ≡ total_shown f (map g xs)
-total-told f g [] = refl
-total-told f g (x ∷ xs) = omega (arith, total-told f g xs)
+pub total-answered : (f : Shown → ℕ) (g : ℕ → Shown) (xs : List ℕ) → total_over (λ n. f (g n)) xs ≡ total_shown f (map g xs)
+total-answered f g [] = refl
+total-answered f g (x ∷ xs) = omega (arith, total-answered f g xs)
 
 -- ## Released
 
@@ -83,7 +83,8 @@ acknowledged-quiet w v q n lt =
         (Messages.slot_at w k).fragment [])) q.grows.size
 
 -- it never takes back what was released
-released-grows : (setup : Setup) (w v : LinkRecord) → IsSetup setup → Sane setup w → Quiet w v → length v.messages ≡ length w.messages → released w ≤ released v
+released-grows : (setup : Setup) (w v : LinkRecord) → IsSetup setup → Consistent setup w → Quiet w v → length v.messages ≡ length w.messages
+    → released w ≤ released v
 released-grows setup w v is g q count = omega (
   arith,
   total-le (Amounts.released_bytes w) (Amounts.released_bytes v) 0 (length w.messages)
@@ -171,7 +172,7 @@ messages-sent u = sends-keep (λ v. v.messages ≡ u.messages) (λ v e. more v (
     more v None = refl
     more v (Some n) = refl
 
-released-sent : (setup : Setup) (w : LinkRecord) (now : ℕ) (o : Option ℕ) → Sane setup w
+released-sent : (setup : Setup) (w : LinkRecord) (now : ℕ) (o : Option ℕ) → Consistent setup w
     → released (Changes.send_from (Changes.after_start w now) o) ≡ released w
 released-sent setup w now None g = released-same w (Changes.after_start w now) (Shapes.shape-started w now) (λ p. refl)
 released-sent setup w now (Some n) g =
@@ -193,16 +194,16 @@ pub count-late : (ns : List ℕ) (w : LinkRecord) → length (fold Changes.after
 count-late [] w = refl
 count-late (n ∷ ns) w = count-late ns (Changes.after_abandon w n) ∙ count-abandoned w n
 
-grown : (setup : Setup) (w v : LinkRecord) → IsSetup setup → Sane setup w → Quiet w v → length v.messages ≡ length w.messages
+grown : (setup : Setup) (w v : LinkRecord) → IsSetup setup → Consistent setup w → Quiet w v → length v.messages ≡ length w.messages
     → released v ≡ released w + Amounts.growth w v
 grown setup w v is g q c = omega (arith, released-grows setup w v is g q c)
 
-released-expired : (setup : Setup) (w : LinkRecord) (o : Option ℕ) → IsSetup setup → Sane setup w → Quiet w (Changes.after_expire w o)
+released-expired : (setup : Setup) (w : LinkRecord) (o : Option ℕ) → IsSetup setup → Consistent setup w → Quiet w (Changes.after_expire w o)
     → released (Changes.after_expire w o) ≡ released w + released_by (expired_reply w (Changes.after_expire w o) o)
 released-expired setup w None is g q = omega arith
 released-expired setup w (Some n) is g q = grown setup w (Changes.after_expire w (Some n)) is g q (length-changed Changes.mark_expired n w.messages)
 
-released-tail : (setup : Setup) (w : LinkRecord) (o : Option ℕ) → IsSetup setup → Sane setup w
+released-tail : (setup : Setup) (w : LinkRecord) (o : Option ℕ) → IsSetup setup → Consistent setup w
     → released (Changes.after_tail w o) ≡ released w + released_by (tail_reply w (Changes.after_tail w o) o)
 released-tail setup w None is g = omega arith
 released-tail setup w (Some n) is g = grown setup w (Changes.after_abandon w n) is g (Moves.quiet-abandoned setup w n g) (count-abandoned w n)
@@ -259,7 +260,8 @@ none-received w (Some (Forward upto names)) = step (Changes.skip_counts w upto)
     step true = refl
     step false = refl
 
-released-after : (setup : Setup) (w : LinkRecord) (e : Event) → IsSetup setup → Sane setup w → released (after w e) ≡ released w + released_by (reply_to w e)
+released-after : (setup : Setup) (w : LinkRecord) (e : Event) → IsSetup setup → Consistent setup w
+    → released (after w e) ≡ released w + released_by (reply_to w e)
 released-after setup w (E.Open s) is g = omega arith
 released-after setup w (E.Mode s u v x) is g = omega arith
 released-after setup w (E.Write s ppi []) is g = omega arith
@@ -295,13 +297,13 @@ released-after setup w (E.Read s) is g = omega (
 pub released-run : (setup : Setup) (h : History) → IsSetup setup → IsRun setup h → released (record_of setup h) ≡ released_in h
 released-run setup [] is run = refl
 released-run setup (entry ∷ older) is run =
-    released-after setup (record_of setup older) entry.0 is (sane-run setup older run.1.1)
+    released-after setup (record_of setup older) entry.0 is (consistent-run setup older run.1.1)
     ∙ ap (λ r. released (record_of setup older) + released_by r) (sym run.1.0)
     ∙ ap (λ c. c + released_by entry.1) (released-run setup older is run.1.1)
 
 pub sums_agree : OnEveryRun SumsAgree
 sums_agree setup h is run = (
-  total-told length_shown (λ n. shown_part ((shape (record_of setup h)).message n)) (numbers_where always 0 (length (record_of setup h).messages))
+  total-answered length_shown (λ n. shown_part ((shape (record_of setup h)).message n)) (numbers_where always 0 (length (record_of setup h).messages))
       ∙ ap (total_shown length_shown) (messages_are_writes setup h is run),
   released-run setup h is run,
 )

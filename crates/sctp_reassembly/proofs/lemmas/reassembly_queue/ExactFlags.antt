@@ -14,20 +14,20 @@ use Rattle.sctp_serial.proofs.lemmas.AscendingEdits.{Ascends, ascends, ascending
 use Rattle.sctp_reassembly.specs.reassembly_queue.Orders.{IsOffOnlyOutOfOrder}
 
 -- a mark that is on says nothing here
-pub off_if : (mark : Bool) (ns : List ℕ) → (mark ≡ false → IsAscending ns → ⊥) → IsOffOnlyOutOfOrder mark ns
+pub off_if : (flag : Bool) (ns : List ℕ) → (flag ≡ false → IsAscending ns → ⊥) → IsOffOnlyOutOfOrder flag ns
 off_if true ns f = tt
 off_if false ns f = f refl
 
-pub off_on : (mark : Bool) (ns : List ℕ) → mark ≡ false → IsOffOnlyOutOfOrder mark ns → IsAscending ns → ⊥
-off_on mark ns off h = subst (λ b. IsOffOnlyOutOfOrder b ns) off h
+pub off_on : (flag : Bool) (ns : List ℕ) → flag ≡ false → IsOffOnlyOutOfOrder flag ns → IsAscending ns → ⊥
+off_on flag ns off h = subst (λ b. IsOffOnlyOutOfOrder b ns) off h
 
 -- where it is off though they ascend, there is none
-pub mark_on : (mark : Bool) (ns : List ℕ) → IsOffOnlyOutOfOrder mark ns → IsAscending ns → mark ≡ true
-mark_on true ns h a = refl
-mark_on false ns h a = absurd (h a)
+pub flag_on : (flag : Bool) (ns : List ℕ) → IsOffOnlyOutOfOrder flag ns → IsAscending ns → flag ≡ true
+flag_on true ns h a = refl
+flag_on false ns h a = absurd (h a)
 
-pub ascending_on : (mark : Bool) (ns : List ℕ) → mark ≡ true → IsOrder mark ns → IsAscending ns
-ascending_on mark ns on h = subst (λ b. IsOrder b ns) on h
+pub ascending_on : (flag : Bool) (ns : List ℕ) → flag ≡ true → IsOrder flag ns → IsAscending ns
+ascending_on flag ns on h = subst (λ b. IsOrder b ns) on h
 
 module _ {X : Type 0} (num : X → ℕ) where
   -- without an element that was put in the others ascend

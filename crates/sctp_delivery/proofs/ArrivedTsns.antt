@@ -1,4 +1,4 @@
--- What a filter of TSNs and its gap ack blocks know, where it heard of none but those that were given out.
+-- What a filter of TSNs and its gap ack blocks know, where none arrived but those that were given out.
 use Rattle.std.proofs.Common.{◌≡◌, ℕ, ◌+◌, ◌<◌, ◌≤◌, ◌%◌, ◌^◌, Bool, true, false, List, [], ◌∷◌, map, refl, ap, sym, subst, ◌∙◌, inl, inr, arith}
 use Rattle.std.specs.Prelude.{if◌then◌else◌, ◌==◌, ◌&&◌, nat_le}
 use Rattle.std.specs.List.{filter, list_any}
@@ -22,20 +22,20 @@ pub record IsKnown (p n : ℕ) (known : ℕ → Bool) (t : ℕ) : Type 0 where
   pub so : known t ≡ true
 
 -- all up to the cumulative TSN is known, and each one beyond
-pub record IsHeard (p n : ℕ) (known : ℕ → Bool) (cumulative : ℕ) (beyond : List ℕ) : Type 0 where
+pub record IsArrived (p n : ℕ) (known : ℕ → Bool) (cumulative : ℕ) (beyond : List ℕ) : Type 0 where
   pub place : ℕ
   pub within : place ≤ n
   pub is : cumulative ≡ tsn p place
   pub so_far : (k : ℕ) → 0 < k → k ≤ place → known (tsn p k) ≡ true
   pub each : Every (IsKnown p n known) beyond
 
-pub advanced : (p n : ℕ) (known : ℕ → Bool) (c : ℕ) (ts : List ℕ) → n < 2 ^ 31 → IsHeard p n known c ts → IsHeard p n known (advance_over c ts).cum
+pub advanced : (p n : ℕ) (known : ℕ → Bool) (c : ℕ) (ts : List ℕ) → n < 2 ^ 31 → IsArrived p n known c ts → IsArrived p n known (advance_over c ts).cum
     (advance_over c ts).held
 advanced p n known c [] few h = h
 advanced p n known c (t ∷ ts) few h = by (t == (c + 1) % 2 ^ 32) refl (λ g. advanced p n known t ts few g)
   where
-    by : (b : Bool) → (t == (c + 1) % 2 ^ 32) ≡ b → (IsHeard p n known t ts → IsHeard p n known (advance_over t ts).cum (advance_over t ts).held) →
-        (let s : Seen = if b then advance_over t ts else (let r : Seen = record { cum = c; held = t ∷ ts } in r) in IsHeard p n known s.cum s.held)
+    by : (b : Bool) → (t == (c + 1) % 2 ^ 32) ≡ b → (IsArrived p n known t ts → IsArrived p n known (advance_over t ts).cum (advance_over t ts).held) →
+        (let s : Seen = if b then advance_over t ts else (let r : Seen = record { cum = c; held = t ∷ ts } in r) in IsArrived p n known s.cum s.held)
     by true e ih =
         let x = h.each.0 in
         let next : t ≡ tsn p (h.place + 1) = same-is t ((c + 1) % 2 ^ 32) e ∙ ap (λ u. (u + 1) % 2 ^ 32) h.is ∙ next-place p h.place in

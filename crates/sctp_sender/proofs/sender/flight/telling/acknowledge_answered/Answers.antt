@@ -7,11 +7,11 @@ use Rattle.sctp_outbound.specs.Marks.{as_acknowledged}
 use Rattle.sctp_outbound.specs.outbound_queue.OutboundQueue.{with_inflight}
 use Rattle.sctp_outbound.specs.outbound_queue.OutboundQueue.{Outbound}
 use Rattle.sctp_serial.specs.DataChunks.{following_tsn}
-use Rattle.sctp_sender.specs.Telling.{is_of_chunk, is_told}
+use Rattle.sctp_sender.specs.Telling.{is_of_chunk, is_answered}
 use Rattle.sctp_sender.proofs.Anew.{all-at}
 use Rattle.sctp_sender.proofs.Runs.{any_chunk}
-use Rattle.sctp_sender.proofs.Told.{any_told, none-acknowledged, one-acknowledged, stands-at}
-use Rattle.sctp_sender.proofs.sender.flight.telling.acknowledge_told.Goals as goal
+use Rattle.sctp_sender.proofs.Answered.{any_answered, none-acknowledged, one-acknowledged, stands-at}
+use Rattle.sctp_sender.proofs.sender.flight.telling.acknowledge_answered.Goals as goal
 
 pub loop-one-init : goal.loop-one-init
 loop-one-init c = ap (with_inflight c.args.queue.now) (sym (none-acknowledged c.args.queue.now.inflight.chunks))
@@ -22,8 +22,8 @@ overflow_sub-place c =
     let rs = c.args.released.now in
     let i = c.loop-one.one-index in
     let lt : i < length rs = c.loop-one-test.true in
-    let at = stands-at c.args.acked_tsn cs c.ranges.acked_tsn.fits c.requires.run c.requires.few (get_or rs i any_told)
-    (all-at (λ r. list_any (is_of_chunk r) cs) rs i any_told c.requires.told lt) any_chunk in
+    let at = stands-at c.args.acked_tsn cs c.ranges.acked_tsn.fits c.requires.run c.requires.few (get_or rs i any_answered)
+    (all-at (λ r. list_any (is_of_chunk r) cs) rs i any_answered c.requires.answered lt) any_chunk in
     let far = c.distance.ensures.value ∙ at.far in
     omega (arith, far)
 
@@ -33,10 +33,10 @@ mark_as_acked_at-requires c =
     let rs = c.args.released.now in
     let i = c.loop-one.one-index in
     let lt : i < length rs = c.loop-one-test.true in
-    let at = stands-at c.args.acked_tsn cs c.ranges.acked_tsn.fits c.requires.run c.requires.few (get_or rs i any_told)
-    (all-at (λ r. list_any (is_of_chunk r) cs) rs i any_told c.requires.told lt) any_chunk in
+    let at = stands-at c.args.acked_tsn cs c.ranges.acked_tsn.fits c.requires.run c.requires.few (get_or rs i any_answered)
+    (all-at (λ r. list_any (is_of_chunk r) cs) rs i any_answered c.requires.answered lt) any_chunk in
     let far = c.distance.ensures.value ∙ at.far in
-    let n = ap (λ (o : Outbound). length o.inflight.chunks) c.loop-one.invariant ∙ length-change_where (is_told (take i rs)) as_acknowledged cs in
+    let n = ap (λ (o : Outbound). length o.inflight.chunks) c.loop-one.invariant ∙ length-change_where (is_answered (take i rs)) as_acknowledged cs in
     let here = at.lt in
     omega (arith, far, n, here)
 
@@ -49,12 +49,12 @@ loop-one-preserved c =
     let rs = c.args.released.now in
     let i = c.loop-one.one-index in
     let lt : i < length rs = c.loop-one-test.true in
-    let r = get_or rs i any_told in
+    let r = get_or rs i any_answered in
     let at = stands-at c.args.acked_tsn cs c.ranges.acked_tsn.fits c.requires.run c.requires.few r
-    (all-at (λ r. list_any (is_of_chunk r) cs) rs i any_told c.requires.told lt) any_chunk in
+    (all-at (λ r. list_any (is_of_chunk r) cs) rs i any_answered c.requires.answered lt) any_chunk in
     let far = c.distance.ensures.value ∙ at.far in
     let place : c.distance.result - 1 ≡ at.k = omega (arith, far) in
     c.mark_as_acked_at.ensures.acked any_chunk ∙ ap (λ k. with_inflight now (set ys k (as_acknowledged (get_or ys k any_chunk)))) place
     ∙ ap (with_inflight now) (one-acknowledged (following_tsn c.args.acked_tsn) cs ys rs i at.k r any_chunk (omega arith) c.requires.run c.requires.few lt
-    (get_or_default rs i any_told r lt) at.lt at.tsn (ap (λ (o : Outbound). o.inflight.chunks) c.loop-one.invariant))
-    ∙ ap (λ (o : Outbound). with_inflight o (change_where (is_told (take (i + 1) rs)) as_acknowledged cs)) c.loop-one.invariant
+    (get_or_default rs i any_answered r lt) at.lt at.tsn (ap (λ (o : Outbound). o.inflight.chunks) c.loop-one.invariant))
+    ∙ ap (λ (o : Outbound). with_inflight o (change_where (is_answered (take (i + 1) rs)) as_acknowledged cs)) c.loop-one.invariant

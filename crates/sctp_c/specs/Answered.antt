@@ -19,8 +19,8 @@ use Rattle.sctp_c.specs.declared.reading.SctpSkip.{SctpSkip}
 use Rattle.sctp_c.specs.declared.reading.SctpInit.{SctpInit}
 use Rattle.sctp_c.specs.declared.reading.SctpParam.{SctpParam}
 
-abbrev pub data_told : Data → SctpData
-data_told d = record {
+abbrev pub data_answered : Data → SctpData
+data_answered d = record {
   length = length d.user_data;
   tsn = d.tsn;
   payload_type = payload_type_number d.payload_type;
@@ -32,22 +32,22 @@ data_told d = record {
   wants_sack = weight d.immediate_sack 1;
 }
 
-abbrev pub sack_told : Sack → SctpSack
-sack_told s = record {
+abbrev pub sack_answered : Sack → SctpSack
+sack_answered s = record {
   blocks = length s.gap_ack_blocks;
   duplicates = length s.duplicate_tsn;
   cumulative_tsn = s.cumulative_tsn_ack;
   credit = s.advertised_receiver_window_credit;
 }
 
-abbrev pub gap_told : GapAckBlock → SctpGap
-gap_told b = record { start = b.start; end = b.end }
+abbrev pub gap_answered : GapAckBlock → SctpGap
+gap_answered b = record { start = b.start; end = b.end }
 
-abbrev pub skip_told : ChunkForwardTsnStream → SctpSkip
-skip_told s = record { stream = s.identifier; sequence = s.sequence }
+abbrev pub skip_answered : ChunkForwardTsnStream → SctpSkip
+skip_answered s = record { stream = s.identifier; sequence = s.sequence }
 
-abbrev pub init_told : Init → SctpInit
-init_told i = record {
+abbrev pub init_answered : Init → SctpInit
+init_answered i = record {
   initiate_tag = i.initiate_tag;
   credit = i.advertised_receiver_window_credit;
   initial_tsn = i.initial_tsn;
@@ -60,15 +60,15 @@ init_told i = record {
 pub record IsData (bytes : List ℕ) (t : SctpData) : Type 0 where
   pub fields : Data
   pub reads : ReadsChunk bytes (data_chunk fields)
-  pub told : t ≡ data_told fields
+  pub answered : t ≡ data_answered fields
 
 -- the bytes begin with a SACK of these fields; as many blocks and duplicates as there is room for stand in the rows
 pub record IsSack (bytes : List ℕ) (t : SctpSack) (old_blocks blocks : List SctpGap)
     (old_duplicates duplicates : List ℕ) : Type 0 where
   pub sack : Sack
   pub reads : ReadsChunk bytes (sack_chunk sack)
-  pub told : t ≡ sack_told sack
-  pub gaps : blocks ≡ filled (map gap_told sack.gap_ack_blocks) old_blocks
+  pub answered : t ≡ sack_answered sack
+  pub gaps : blocks ≡ filled (map gap_answered sack.gap_ack_blocks) old_blocks
   pub repeats : duplicates ≡ filled sack.duplicate_tsn old_duplicates
 
 -- the bytes begin with a FORWARD-TSN of this TSN and so many streams; as many of them as there is room for stand in the rows
@@ -77,13 +77,13 @@ pub record IsForwardTsn (bytes : List ℕ) (tsn count : ℕ) (old rows : List Sc
   pub reads : ReadsChunk bytes (forward_tsn_chunk forward)
   pub new_cumulative_tsn : tsn ≡ forward.new_cumulative_tsn
   pub streams : count ≡ length forward.streams
-  pub skips : rows ≡ filled (map skip_told forward.streams) old
+  pub skips : rows ≡ filled (map skip_answered forward.streams) old
 
 -- the bytes begin with an INIT or INIT-ACK of these fields
 pub record IsInit (bytes : List ℕ) (t : SctpInit) : Type 0 where
   pub init : Init
   pub reads : ReadsChunk bytes (init_chunk init)
-  pub told : t ≡ init_told init
+  pub answered : t ≡ init_answered init
 
 -- the bytes begin with a parameter of this type and length; the next one begins behind its padding, or at the end of the bytes
 pub record IsParameter (bytes : List ℕ) (t : SctpParam) : Type 0 where

@@ -1,4 +1,4 @@
--- A session in which few TSNs are given out, call by call of the receiver: what it heard of.
+-- A session in which few TSNs are given out, call by call of the receiver: what arrived.
 use Rattle.std.proofs.Common.{◌≡◌, ℕ, ◌<◌, ◌≤◌, ◌^◌, Bool, true, false, List, ap, sym, subst, ◌∙◌, arith}
 use Rattle.std.specs.Prelude.{if◌then◌else◌, not, nat_le, Contains}
 use Rattle.std.specs.List.{filter, list_any}
@@ -20,16 +20,16 @@ use Rattle.sctp_delivery.specs.Sacks.{passes, was_passed, was_taken}
 use Rattle.sctp_delivery.specs.SenderCalls.{Made, data_chunk, forward_tsn}
 use Rattle.sctp_delivery.specs.Session.{ReceiverFollows, Session}
 use Rattle.sctp_delivery.proofs.Every.{Every, every-contained, every-inserted, every-of, every-passing}
-use Rattle.sctp_delivery.proofs.HeardTsns.{IsHeard, IsKnown, advanced}
+use Rattle.sctp_delivery.proofs.ArrivedTsns.{IsArrived, IsKnown, advanced}
 use Rattle.sctp_delivery.proofs.ReportedTsns.{IsTruthful, later-truthful, sack-truthful}
 use Rattle.sctp_delivery.proofs.SackSteps.{IsMadeGiven, known}
 use Rattle.sctp_delivery.proofs.TsnPlaces.{IsGiven, at-or-before}
 
 -- ## What stays known
 
-pub more-heard : (p m n : ℕ) (kn kn' : ℕ → Bool) (cumulative : ℕ) (beyond : List ℕ) → m ≤ n → ((t : ℕ) → kn t ≡ true → kn' t ≡ true)
-    → IsHeard p m kn cumulative beyond → IsHeard p n kn' cumulative beyond
-more-heard p m n kn kn' cumulative beyond le more h = record {
+pub more-arrived : (p m n : ℕ) (kn kn' : ℕ → Bool) (cumulative : ℕ) (beyond : List ℕ) → m ≤ n → ((t : ℕ) → kn t ≡ true → kn' t ≡ true)
+    → IsArrived p m kn cumulative beyond → IsArrived p n kn' cumulative beyond
+more-arrived p m n kn kn' cumulative beyond le more h = record {
   place = h.place;
   within = omega (arith, le, h.within);
   is = h.is;
@@ -56,20 +56,20 @@ passed-upto p n ms f few g in' k le =
     list_any_at (passes (tsn p k)) ms in'.0 (forward_tsn f) in'.1 (ap (passes (tsn p k)) in'.2 ∙ at)
 
 module _ (p n : ℕ) (old new : Session) (few : n < 2 ^ 31) (m : Every (IsMadeGiven p n) old.made) where
-  -- what the receiver heard of, known by what was taken and passed after the call
+  -- what arrived at the receiver, known by what was taken and passed after the call
   abbrev Hears : Reception → Type 0
-  Hears r = IsHeard p n (known new) r.cumulative_tsn r.beyond
+  Hears r = IsArrived p n (known new) r.cumulative_tsn r.beyond
 
   module _ (made-same : new.made ≡ old.made) (grows : (t : ℕ) → known old t ≡ true → known new t ≡ true)
-      (h : IsHeard p n (known old) old.receiving.receiver.cumulative_tsn old.receiving.receiver.beyond) where
+      (h : IsArrived p n (known old) old.receiving.receiver.cumulative_tsn old.receiving.receiver.beyond) where
     still : Hears old.receiving.receiver
-    still = more-heard p n n (known old) (known new) old.receiving.receiver.cumulative_tsn old.receiving.receiver.beyond (omega arith) grows h
+    still = more-arrived p n n (known old) (known new) old.receiving.receiver.cumulative_tsn old.receiving.receiver.beyond (omega arith) grows h
 
     hears-to : (r : Reception) → new.receiving.receiver ≡ r → Hears r → Hears new.receiving.receiver
     hears-to r e k = subst Hears (sym e) k
 
     -- with a new TSN
-    hears-one : (t : ℕ) → IsGiven p n t → known new t ≡ true → IsHeard p n (known new) old.receiving.receiver.cumulative_tsn
+    hears-one : (t : ℕ) → IsGiven p n t → known new t ≡ true → IsArrived p n (known new) old.receiving.receiver.cumulative_tsn
         (insert_before comes_before t old.receiving.receiver.beyond)
     hears-one t g so = record {
       place = still.place;
@@ -81,7 +81,7 @@ module _ (p n : ℕ) (old new : Session) (few : n < 2 ^ 31) (m : Every (IsMadeGi
     }
 
     -- with all up to a FORWARD-TSN
-    hears-upto : (f : ForwardTsn) → Contains old.made (forward_tsn f) → IsHeard p n (known new) f.new_cumulative_tsn
+    hears-upto : (f : ForwardTsn) → Contains old.made (forward_tsn f) → IsArrived p n (known new) f.new_cumulative_tsn
         (filter (λ t. not (at_or_before t f.new_cumulative_tsn)) old.receiving.receiver.beyond)
     hears-upto f in' =
         let g : IsGiven p n f.new_cumulative_tsn = every-contained (IsMadeGiven p n) old.made (forward_tsn f) in' m in
@@ -93,8 +93,8 @@ module _ (p n : ℕ) (old new : Session) (few : n < 2 ^ 31) (m : Every (IsMadeGi
           each = every-passing (IsKnown p n (known new)) (λ t. not (at_or_before t f.new_cumulative_tsn)) old.receiving.receiver.beyond still.each;
         }
 
-    follows-heard : (f : ForwardTsn) → Contains old.made (forward_tsn f) → Hears (after_forward_tsn f old.receiving.receiver)
-    follows-heard f in' = by (is_stale f old.receiving.receiver)
+    follows-arrived : (f : ForwardTsn) → Contains old.made (forward_tsn f) → Hears (after_forward_tsn f old.receiving.receiver)
+    follows-arrived f in' = by (is_stale f old.receiving.receiver)
       where
         by : (b : Bool) → Hears (if b then old.receiving.receiver else without_incomplete f.new_cumulative_tsn
             (if b then old.receiving.receiver else follow_forward_tsn f old.receiving.receiver))
@@ -105,20 +105,20 @@ module _ (p n : ℕ) (old new : Session) (few : n < 2 ^ 31) (m : Every (IsMadeGi
     pub hears : (call : ReceiverCall) → ReceiverFollows call old new → Hears new.receiving.receiver
     hears (incoming.opens stream) f = hears-to _ f.step.receiver.1 still
     hears (incoming.takes c Repeat) f = hears-to _ f.step.receiver still
-    hears (incoming.takes c (New told)) f =
+    hears (incoming.takes c (New answered)) f =
         let given : IsGiven p n c.tsn = every-contained (IsMadeGiven p n) old.made (data_chunk (data_of c)) f.handed m in
         let now : was_taken c.tsn new ≡ true = ap (list_any (has_tsn c.tsn)) f.step.accepted ∙ or-left (has_tsn c.tsn c)
         (list_any (has_tsn c.tsn) old.receiving.accepted) (same-yes c.tsn) in
         hears-to _ f.step.receiver.after
         (advanced p n (known new) old.receiving.receiver.cumulative_tsn (insert_before comes_before c.tsn old.receiving.receiver.beyond) few
         (hears-one c.tsn given (or-left (was_taken c.tsn new) (was_passed c.tsn new) now)))
-    hears (incoming.follows g) f = hears-to _ f.step.receiver (follows-heard g f.handed)
+    hears (incoming.follows g) f = hears-to _ f.step.receiver (follows-arrived g f.handed)
     hears (incoming.reports credit) f = hears-to _ f.step.receiver still
     hears (incoming.reads stream) f = hears-to _ f.step.receiver still
 
 -- ## What SACKs say
 
-pub tells : (p n : ℕ) (old : Session) (kn : ℕ → Bool) (call : ReceiverCall) → n < 2 ^ 31 → ((t : ℕ) → known old t ≡ true → kn t ≡ true) → IsHeard p n
+pub tells : (p n : ℕ) (old : Session) (kn : ℕ → Bool) (call : ReceiverCall) → n < 2 ^ 31 → ((t : ℕ) → known old t ≡ true → kn t ≡ true) → IsArrived p n
     (known old) old.receiving.receiver.cumulative_tsn old.receiving.receiver.beyond → Every (IsTruthful p n (known old)) old.sacks → Every (IsTruthful p n kn)
     (reports_after call old.receiving.receiver old.sacks)
 tells p n old kn call few grows h t = by call

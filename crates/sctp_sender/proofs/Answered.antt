@@ -16,14 +16,14 @@ use Rattle.sctp_outbound.specs.Marks.{as_acknowledged}
 use Rattle.sctp_serial.specs.DataChunks.{following_tsn, has_tsn}
 use Rattle.sctp_sender.specs.declared.sender.flight.Released.{Released}
 use Rattle.sctp_sender.specs.Flight.{leaves_open, open_messages, released_of, reports, reports_anew, tsns_from}
-use Rattle.sctp_sender.specs.Telling.{AreInFlight, is_of_chunk, is_open_of, is_told, is_told_as}
+use Rattle.sctp_sender.specs.Telling.{AreInFlight, is_of_chunk, is_open_of, is_answered, is_answered_as}
 use Rattle.sctp_sender.proofs.Anew.{any-at, any-place, both}
 use Rattle.sctp_sender.proofs.Places.{away}
 use Rattle.sctp_sender.proofs.Runs.{IsRunFrom, changed-run, only-at, tsn-at}
 
 -- anything told, where a look-up asks for one to fall back on
-abbrev pub any_told : Released
-any_told = record { tsn = 0; stream = 0; bytes = 0; nsent = 0; since = None; message = 0; is_message_acked = false; is_low = false }
+abbrev pub any_answered : Released
+any_answered = record { tsn = 0; stream = 0; bytes = 0; nsent = 0; since = None; message = 0; is_message_acked = false; is_low = false }
 
 -- ## Two changes
 
@@ -82,23 +82,23 @@ next-in-flight cs rs i r lt all =
 -- one more is acknowledged
 pub one-acknowledged : (first : ℕ) (cs ys : List ChunkPayloadData) (rs : List Released) (i k : ℕ) (r : Released) (d : ChunkPayloadData) → first < 2 ^ 32
     → IsRunFrom first cs → length cs < 2 ^ 31 → i < length rs → r ≡ get_or rs i r → k < length cs → r.tsn ≡ (first + k) % 2 ^ 32
-    → ys ≡ change_where (is_told (take i rs)) as_acknowledged cs
-    → set ys k (as_acknowledged (get_or ys k d)) ≡ change_where (is_told (take (i + 1) rs)) as_acknowledged cs
+    → ys ≡ change_where (is_answered (take i rs)) as_acknowledged cs
+    → set ys k (as_acknowledged (get_or ys k d)) ≡ change_where (is_answered (take (i + 1) rs)) as_acknowledged cs
 one-acknowledged first cs ys rs i k r d small run few more is lt tsn so_far =
-    let n : length ys ≡ length cs = ap length so_far ∙ length-change_where (is_told (take i rs)) as_acknowledged cs in
+    let n : length ys ≡ length cs = ap length so_far ∙ length-change_where (is_answered (take i rs)) as_acknowledged cs in
     let its-run : IsRunFrom first ys = ap (λ (zs : List ChunkPayloadData). map (λ (c : ChunkPayloadData). c.tsn) zs) so_far
-    ∙ changed-run (is_told (take i rs)) as_acknowledged (λ c. refl) cs ∙ run ∙ ap (tsns_from first) (sym n) in
+    ∙ changed-run (is_answered (take i rs)) as_acknowledged (λ c. refl) cs ∙ run ∙ ap (tsns_from first) (sym n) in
     let only : OnlyAt (has_tsn r.tsn) ys k = subst (λ t. OnlyAt (has_tsn t) ys k) (sym tsn)
     (only-at ys first k small its-run (omega (arith, few, n)) (omega (arith, lt, n))) in
-    let told : (c : ChunkPayloadData) → (is_told (take i rs) c || has_tsn r.tsn c) ≡ is_told (take (i + 1) rs) c = λ c.
-    ap (λ b. is_told (take i rs) c || b) (sym (or-none (has_tsn r.tsn c))) ∙ sym (list_any-append (is_told_as c) (take i rs) (r ∷ []))
-    ∙ ap (list_any (is_told_as c)) (ap (λ y. take i rs ++ y ∷ []) is ∙ sym (take_more rs i r more)) in
+    let answered : (c : ChunkPayloadData) → (is_answered (take i rs) c || has_tsn r.tsn c) ≡ is_answered (take (i + 1) rs) c = λ c.
+    ap (λ b. is_answered (take i rs) c || b) (sym (or-none (has_tsn r.tsn c))) ∙ sym (list_any-append (is_answered_as c) (take i rs) (r ∷ []))
+    ∙ ap (list_any (is_answered_as c)) (ap (λ y. take i rs ++ y ∷ []) is ∙ sym (take_more rs i r more)) in
     sym (change_where-only (has_tsn r.tsn) as_acknowledged ys k d only) ∙ ap (change_where (has_tsn r.tsn) as_acknowledged) so_far
-    ∙ change-both as_acknowledged (is_told (take i rs)) (has_tsn r.tsn) (λ c. refl) (λ c. refl) cs
-    ∙ change-same as_acknowledged (λ c. is_told (take i rs) c || has_tsn r.tsn c) (is_told (take (i + 1) rs)) cs (λ j e less. told (get_or cs j e))
+    ∙ change-both as_acknowledged (is_answered (take i rs)) (has_tsn r.tsn) (λ c. refl) (λ c. refl) cs
+    ∙ change-same as_acknowledged (λ c. is_answered (take i rs) c || has_tsn r.tsn c) (is_answered (take (i + 1) rs)) cs (λ j e less. answered (get_or cs j e))
 
-pub none-acknowledged : (cs : List ChunkPayloadData) → change_where (is_told []) as_acknowledged cs ≡ cs
-none-acknowledged cs = change_where-none (is_told []) as_acknowledged cs (λ k d lt. refl)
+pub none-acknowledged : (cs : List ChunkPayloadData) → change_where (is_answered []) as_acknowledged cs ≡ cs
+none-acknowledged cs = change_where-none (is_answered []) as_acknowledged cs (λ k d lt. refl)
 
 -- ## What was told
 
@@ -125,26 +125,26 @@ only-any p q xs k d o = by (p (get_or xs k d)) refl
       | inr other ↦ ap (λ b. p (get_or xs j x) && b) (o.elsewhere j x lt other) ∙ no (p (get_or xs j x))
     ])
 
-told-of-those : (p : ChunkPayloadData → Bool) (w : ℕ → Bool) (c : ChunkPayloadData) (xs : List ChunkPayloadData)
-    → list_any (is_told_as c) (map (released_of w) (filter p xs)) ≡ list_any (λ (x : ChunkPayloadData). p x && has_tsn x.tsn c) xs
-told-of-those p w c [] = refl
-told-of-those p w c (x ∷ xs) = by (p x) (told-of-those p w c xs)
+answered-of-those : (p : ChunkPayloadData → Bool) (w : ℕ → Bool) (c : ChunkPayloadData) (xs : List ChunkPayloadData)
+    → list_any (is_answered_as c) (map (released_of w) (filter p xs)) ≡ list_any (λ (x : ChunkPayloadData). p x && has_tsn x.tsn c) xs
+answered-of-those p w c [] = refl
+answered-of-those p w c (x ∷ xs) = by (p x) (answered-of-those p w c xs)
   where
-    by : (b : Bool) → list_any (is_told_as c) (map (released_of w) (filter p xs)) ≡ list_any (λ (x : ChunkPayloadData). p x && has_tsn x.tsn c) xs
-        → list_any (is_told_as c) (map (released_of w) (if b then x ∷ filter p xs else filter p xs))
+    by : (b : Bool) → list_any (is_answered_as c) (map (released_of w) (filter p xs)) ≡ list_any (λ (x : ChunkPayloadData). p x && has_tsn x.tsn c) xs
+        → list_any (is_answered_as c) (map (released_of w) (if b then x ∷ filter p xs else filter p xs))
         ≡ ((b && has_tsn x.tsn c) || list_any (λ (x : ChunkPayloadData). p x && has_tsn x.tsn c) xs)
     by true ih = ap (λ k. has_tsn x.tsn c || k) ih
     by false ih = ih
 
 -- those that were told of are those that pass
-pub told-are : (p : ChunkPayloadData → Bool) (w : ℕ → Bool) (first : ℕ) (cs : List ChunkPayloadData) → first < 2 ^ 32 → IsRunFrom first cs
-    → length cs < 2 ^ 31 → change_where (is_told (map (released_of w) (filter p cs))) as_acknowledged cs ≡ change_where p as_acknowledged cs
-told-are p w first cs small run few = change-same as_acknowledged (is_told (map (released_of w) (filter p cs))) p cs (λ k d lt.
+pub answered-are : (p : ChunkPayloadData → Bool) (w : ℕ → Bool) (first : ℕ) (cs : List ChunkPayloadData) → first < 2 ^ 32 → IsRunFrom first cs
+    → length cs < 2 ^ 31 → change_where (is_answered (map (released_of w) (filter p cs))) as_acknowledged cs ≡ change_where p as_acknowledged cs
+answered-are p w first cs small run few = change-same as_acknowledged (is_answered (map (released_of w) (filter p cs))) p cs (λ k d lt.
     let c : ChunkPayloadData = get_or cs k d in
     let here : c.tsn ≡ (first + k) % 2 ^ 32 = tsn-at cs first k d small run lt in
     let only : OnlyAt (λ (x : ChunkPayloadData). has_tsn x.tsn c) cs k =
     turned c (subst (λ t. OnlyAt (has_tsn t) cs k) (sym here) (only-at cs first k small run few lt)) in
-    told-of-those p w c cs ∙ only-any p (λ (x : ChunkPayloadData). has_tsn x.tsn c) cs k d only)
+    answered-of-those p w c cs ∙ only-any p (λ (x : ChunkPayloadData). has_tsn x.tsn c) cs k d only)
   where
     turn : (a b : ℕ) → nat_eq a b ≡ nat_eq b a
     turn a b = grind (arith, nat_tests)
@@ -157,10 +157,10 @@ told-are p w first cs small run few = change-same as_acknowledged (is_told (map 
     }
 
 -- each of them is in flight, be it changed or not
-pub told-in-flight : (p : ChunkPayloadData → Bool) (w : ℕ → Bool) (cs ds : List ChunkPayloadData)
+pub answered-in-flight : (p : ChunkPayloadData → Bool) (w : ℕ → Bool) (cs ds : List ChunkPayloadData)
     → ((r : Released) → list_any (is_of_chunk r) cs ≡ true → list_any (is_of_chunk r) ds ≡ true) → AreInFlight (map (released_of w) (filter p cs)) ds
-told-in-flight p w [] ds more = refl
-told-in-flight p w (c ∷ cs) ds more = by (p c) (told-in-flight p w cs ds (λ r h. more r (or-right (is_of_chunk r c) (list_any (is_of_chunk r) cs) h)))
+answered-in-flight p w [] ds more = refl
+answered-in-flight p w (c ∷ cs) ds more = by (p c) (answered-in-flight p w cs ds (λ r h. more r (or-right (is_of_chunk r c) (list_any (is_of_chunk r) cs) h)))
   where
     same : (a : ℕ) → nat_eq a a ≡ true
     same a = grind (arith, nat_tests)
@@ -186,15 +186,6 @@ of-changed q r (c ∷ cs) = by (q c) (of-changed q r cs)
 
 -- ## What is noted of each
 
-pub next-noted : (g : Released → Released) (rs : List Released) (i : ℕ) (r x : Released) → i < length rs → r ≡ get_or rs i r → x ≡ g r
-    → take i rs ++ map g (drop i rs) ≡ take (i + 1) (set rs i x) ++ map g (drop (i + 1) (set rs i x))
-next-noted g rs i r x lt is same =
-    let here : drop i rs ≡ r ∷ drop (i + 1) rs = drop_more rs i r lt ∙ ap (λ y. y ∷ drop (i + 1) rs) (sym is) in
-    let rest : drop (i + 1) (set rs i x) ≡ drop (i + 1) rs = drop-set-lt (i + 1) rs i x (omega arith) in
-    ap (λ ys. take i rs ++ map g ys) here ∙ ap (λ y. take i rs ++ y ∷ map g (drop (i + 1) rs)) (sym same)
-    ∙ sym (append_assoc (take i rs) (x ∷ []) (map g (drop (i + 1) rs))) ∙ ap (λ ys. ys ++ map g (drop (i + 1) rs)) (sym (take_more_set rs i x lt))
-    ∙ ap (λ ys. take (i + 1) (set rs i x) ++ map g ys) (sym rest)
-
 -- ## Which messages are left open
 
 -- what a SACK leaves open is open once what it reports anew is acknowledged
@@ -204,10 +195,6 @@ open-is s m [] = refl
 open-is s m (c ∷ cs) = ap (λ b. b || list_any (is_open_of m) (change_where (reports_anew s) as_acknowledged cs)) (here c.acked (reports s c) refl refl)
     ∙ ap (λ b. (nat_eq m c.message_id && leaves_open s c) || b) (open-is s m cs) ∙ there (leaves_open s c)
   where
-    or-true : (b : Bool) → (b || false) ≡ b
-    or-true true = refl
-    or-true false = refl
-
     here : (a r : Bool) → c.acked ≡ a → reports s c ≡ r
         → is_open_of m (if reports_anew s c then as_acknowledged c else c) ≡ (nat_eq m c.message_id && leaves_open s c)
     here true r e h = ap (λ a. is_open_of m (if not a && reports s c then as_acknowledged c else c)) e

@@ -16,10 +16,10 @@ use Rattle.sctp_model.specs.Changes
 use Rattle.sctp_model.specs.Changes.{message_on, after_write, read_of, after_reading, mark_read}
 use Rattle.sctp_model.specs.Steps.{History, record_of, IsRun, after}
 use Rattle.sctp_model.specs.Laws.{IsSetup}
-use Rattle.sctp_model.proofs.sender.SenderRun.{Sane}
+use Rattle.sctp_model.proofs.sender.SenderRun.{Consistent}
 use Rattle.sctp_model.proofs.sender.Moves
 use Rattle.sctp_model.proofs.sender.Moves.{Quiet}
-use Rattle.sctp_model.proofs.acknowledgement.BytesTold.{count-abandoned, count-late}
+use Rattle.sctp_model.proofs.acknowledgement.BytesAnswered.{count-abandoned, count-late}
 use Rattle.sctp_model.proofs.sender.Lifetimes.{messages-received, messages-taken}
 use Rattle.sctp_model.proofs.receiver.Known.{HasRead}
 use Rattle.sctp_model.proofs.receiver.View.{view}
@@ -31,7 +31,7 @@ use Rattle.sctp_refinement.proofs.amounts.StreamAmounts.{count-sent, same-turned
 -- ## What an event leaves
 
 -- the messages of v are those of w, as they were written
-pub record AsTold (w v : LinkRecord) : Type 0 where
+pub record AsAnswered (w v : LinkRecord) : Type 0 where
   pub count : length v.messages ≡ length w.messages
   pub stream : (n : ℕ) → n < length w.messages → (message_at v n).stream ≡ (message_at w n).stream
   pub ppi : (n : ℕ) → n < length w.messages → (message_at v n).ppi ≡ (message_at w n).ppi
@@ -39,12 +39,12 @@ pub record AsTold (w v : LinkRecord) : Type 0 where
 
 -- and the same were read
 pub record AsRead (w v : LinkRecord) : Type 0 where
-  pub told : AsTold w v
+  pub answered : AsAnswered w v
   pub read : (n : ℕ) → n < length w.messages → (message_at v n).read ≡ (message_at w n).read
 
 pub read-quiet : (w v : LinkRecord) → length v.messages ≡ length w.messages → Quiet w v → AsRead w v
 read-quiet w v count q = record {
-  told = record {
+  answered = record {
     count = count;
     stream = λ n lt. ap (λ m. m.stream) (q.grows.message n lt);
     ppi = λ n lt. ap (λ m. m.ppi) (q.grows.message n lt);
@@ -55,7 +55,7 @@ read-quiet w v count q = record {
 
 read-messages : (w v : LinkRecord) → v.messages ≡ w.messages → AsRead w v
 read-messages w v e = record {
-  told = record {
+  answered = record {
     count = ap length e;
     stream = λ n lt. ap (λ ms. (slice_index_or ms n no_message).stream) e;
     ppi = λ n lt. ap (λ ms. (slice_index_or ms n no_message).ppi) e;
@@ -72,7 +72,7 @@ count-tail : (w : LinkRecord) (o : Option ℕ) → length (Changes.after_tail w 
 count-tail w None = refl
 count-tail w (Some n) = count-abandoned w n
 
-pub read-after : (setup : Setup) (w : LinkRecord) (e : Event) → Sane setup w → is_write e ≡ false → is_read e ≡ false → AsRead w (after w e)
+pub read-after : (setup : Setup) (w : LinkRecord) (e : Event) → Consistent setup w → is_write e ≡ false → is_read e ≡ false → AsRead w (after w e)
 read-after setup w (E.Open s) g a b = read-messages w (after w (E.Open s)) refl
 read-after setup w (E.Mode s u x y) g a b = read-messages w (after w (E.Mode s u x y)) refl
 read-after setup w (E.Write s x y) g a b = cc
@@ -93,9 +93,9 @@ read-after setup w (E.Arrive k) g a b = read-messages w (after w (E.Arrive k)) (
 read-after setup w (E.Acked k) g a b = read-messages w (after w (E.Acked k)) (messages-taken w (slice_get w.network k))
 read-after setup w (E.Read s) g a b = cc
 
-pub told-read_of : (w : LinkRecord) (s : ℕ) (o : Option ℕ) → AsTold w (read_of w s o)
-told-read_of w s None = record { count = refl; stream = λ n lt. refl; ppi = λ n lt. refl; bytes = λ n lt. refl }
-told-read_of w s (Some k) = record {
+pub answered-read_of : (w : LinkRecord) (s : ℕ) (o : Option ℕ) → AsAnswered w (read_of w s o)
+answered-read_of w s None = record { count = refl; stream = λ n lt. refl; ppi = λ n lt. refl; bytes = λ n lt. refl }
+answered-read_of w s (Some k) = record {
   count = length-changed mark_read k w.messages;
   stream = λ n lt. changed-keeps mark_read (λ m. m.stream) (λ m. refl) k n w.messages no_message;
   ppi = λ n lt. changed-keeps mark_read (λ m. m.ppi) (λ m. refl) k n w.messages no_message;
@@ -103,11 +103,11 @@ told-read_of w s (Some k) = record {
 }
 
 -- but for writes, each event leaves the messages as they were written
-pub told-after : (setup : Setup) (w : LinkRecord) (e : Event) → Sane setup w → is_write e ≡ false → AsTold w (after w e)
-told-after setup w e g a = by (is_read e) refl
+pub answered-after : (setup : Setup) (w : LinkRecord) (e : Event) → Consistent setup w → is_write e ≡ false → AsAnswered w (after w e)
+answered-after setup w e g a = by (is_read e) refl
   where
-    read : (e : Event) → is_read e ≡ true → AsTold w (after w e)
-    read (E.Read s) h = told-read_of w s (next_read w s)
+    read : (e : Event) → is_read e ≡ true → AsAnswered w (after w e)
+    read (E.Read s) h = answered-read_of w s (next_read w s)
     read (E.Open s) h = cc
     read (E.Mode s u x y) h = cc
     read (E.Write s x y) h = cc
@@ -123,42 +123,44 @@ told-after setup w e g a = by (is_read e) refl
     read (E.Arrive k) h = cc
     read (E.Acked k) h = cc
 
-    by : (b : Bool) → is_read e ≡ b → AsTold w (after w e)
+    by : (b : Bool) → is_read e ≡ b → AsAnswered w (after w e)
     by true h = read e h
-    by false h = (read-after setup w e g a h).told
+    by false h = (read-after setup w e g a h).answered
 
 -- ## Sums
 
 -- a sum over the messages of stream t, of their payload types and bytes
-abbrev pub told_on : LinkRecord → ℕ → (PayloadProtocolIdentifier → List ℕ → ℕ) → ℕ
-told_on w t g = sum_where w (is_on t) (λ m. g m.ppi m.bytes)
+abbrev pub answered_on : LinkRecord → ℕ → (PayloadProtocolIdentifier → List ℕ → ℕ) → ℕ
+answered_on w t g = sum_where w (is_on t) (λ m. g m.ppi m.bytes)
 
 -- over those that were read
 abbrev pub read_on : LinkRecord → ℕ → (PayloadProtocolIdentifier → List ℕ → ℕ) → ℕ
 read_on w t g = sum_where w (is_on t) (λ m. if m.read then g m.ppi m.bytes else 0)
 
-pub told_on-same : (w v : LinkRecord) (t : ℕ) (g : PayloadProtocolIdentifier → List ℕ → ℕ) → AsTold w v → told_on v t g ≡ told_on w t g
-told_on-same w v t g a = sum-same w v (is_on t) (λ m. g m.ppi m.bytes) a.count (λ n lt. ap (λ k. k == t) (a.stream n lt))
+pub answered_on-same : (w v : LinkRecord) (t : ℕ) (g : PayloadProtocolIdentifier → List ℕ → ℕ) → AsAnswered w v → answered_on v t g ≡ answered_on w t g
+answered_on-same w v t g a = sum-same w v (is_on t) (λ m. g m.ppi m.bytes) a.count (λ n lt. ap (λ k. k == t) (a.stream n lt))
     (λ n lt. ap (λ p. g p (message_at v n).bytes) (a.ppi n lt) ∙ ap (g (message_at w n).ppi) (a.bytes n lt))
 
 pub read_on-same : (w v : LinkRecord) (t : ℕ) (g : PayloadProtocolIdentifier → List ℕ → ℕ) → AsRead w v → read_on v t g ≡ read_on w t g
-read_on-same w v t g a = sum-same w v (is_on t) (λ m. if m.read then g m.ppi m.bytes else 0) a.told.count (λ n lt. ap (λ k. k == t) (a.told.stream n lt))
-    (λ n lt. ap (λ p. if (message_at v n).read then g p (message_at v n).bytes else 0) (a.told.ppi n lt) ∙ ap (λ l. if (message_at v n).read
-    then g (message_at w n).ppi l else 0) (a.told.bytes n lt) ∙ ap (λ b. if b then g (message_at w n).ppi (message_at w n).bytes else 0) (a.read n lt))
+read_on-same w v t g a =
+    sum-same w v (is_on t) (λ m. if m.read then g m.ppi m.bytes else 0) a.answered.count (λ n lt. ap (λ k. k == t) (a.answered.stream n lt))
+    (λ n lt. ap (λ p. if (message_at v n).read then g p (message_at v n).bytes else 0) (a.answered.ppi n lt) ∙ ap (λ l. if (message_at v n).read
+    then g (message_at w n).ppi l else 0) (a.answered.bytes n lt) ∙ ap (λ b. if b then g (message_at w n).ppi (message_at w n).bytes else 0) (a.read n lt))
 
 -- a write adds its message to its stream
-pub told_on-wrote : (w : LinkRecord) (s t : ℕ) (ppi : PayloadProtocolIdentifier) (bytes : List ℕ) (g : PayloadProtocolIdentifier → List ℕ → ℕ)
-    → (stream_of w s).stream ≡ s → told_on (after_write w s ppi bytes) t g ≡ told_on w t g + (if (t == s) && not (length bytes == 0) then g ppi bytes else 0)
-told_on-wrote w s t ppi [] g e = none (t == s) (told_on w t g)
+pub answered_on-wrote : (w : LinkRecord) (s t : ℕ) (ppi : PayloadProtocolIdentifier) (bytes : List ℕ) (g : PayloadProtocolIdentifier → List ℕ → ℕ)
+    → (stream_of w s).stream ≡ s
+    → answered_on (after_write w s ppi bytes) t g ≡ answered_on w t g + (if (t == s) && not (length bytes == 0) then g ppi bytes else 0)
+answered_on-wrote w s t ppi [] g e = none (t == s) (answered_on w t g)
   where
     none : (b : Bool) (k : ℕ) → k ≡ k + (if b && false then g ppi [] else 0)
     none true k = omega arith
     none false k = omega arith
-told_on-wrote w s t ppi (b ∷ bs) g e =
+answered_on-wrote w s t ppi (b ∷ bs) g e =
     sum-written w (message_on w (stream_of w s) ppi (b ∷ bs)) (is_on t) (λ m. g m.ppi m.bytes)
-    ∙ ap (λ k. told_on w t g + (if k == t then g ppi (b ∷ bs) else 0)) e
-    ∙ ap (λ c. told_on w t g + (if c then g ppi (b ∷ bs) else 0)) (same-turned s t)
-    ∙ ap (λ k. told_on w t g + k) (some (t == s) (length (b ∷ bs) == 0) (let z : (length (b ∷ bs) == 0) ≡ false = grind (arith, nat_tests) in z))
+    ∙ ap (λ k. answered_on w t g + (if k == t then g ppi (b ∷ bs) else 0)) e
+    ∙ ap (λ c. answered_on w t g + (if c then g ppi (b ∷ bs) else 0)) (same-turned s t)
+    ∙ ap (λ k. answered_on w t g + k) (some (t == s) (length (b ∷ bs) == 0) (let z : (length (b ∷ bs) == 0) ≡ false = grind (arith, nat_tests) in z))
   where
     some : (c d : Bool) → d ≡ false → (if c then g ppi (b ∷ bs) else 0) ≡ (if c && not d then g ppi (b ∷ bs) else 0)
     some c true h = cc

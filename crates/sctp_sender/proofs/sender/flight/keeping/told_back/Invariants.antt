@@ -1,6 +1,0 @@
-use Rattle.std.proofs.Common.{◌≡◌, take}
-use Rattle.sctp_sender.specs.Keeping.{told_back}
-use Rattle.sctp_sender.proofs.sender.flight.keeping.told_back.Given as goal
-
-abbrev pub invariant-loop-place : goal.invariant-loop-place
-invariant-loop-place l = l.told.items ≡ told_back (take l.place l.backs) l.queue.inflight.chunks
