@@ -16,4 +16,6 @@ pub mod Resets
 pub mod TakenBack
 pub mod TakenRuns
 pub mod Unassembled
+pub mod Scans
+pub mod Stretches
 pub mod Undone

@@ -13,6 +13,7 @@ use Rattle.sctp_data.specs.declared.chunk.chunk_payload_data.ChunkPayloadData.{C
 use Rattle.sctp_serial.specs.Runs.{IsRising, IsRun, IsEarliestRun, IsRunAround, IsEarliestRunAround, HasNoRun, HasNoRunAround, IsStretch}
 use Rattle.sctp_reassembly.specs.reassembly_queue.Around.{IsStart, HasNoStart, IsEnd, IsFirstEnding, HasNoEnd}
 use Rattle.sctp_serial.specs.DataChunks.{following_tsn}
+use Rattle.sctp_serial.specs.Window.{IsSerial}
 
 module _ (xs : List ChunkPayloadData) (place : ℕ) where
   -- what rises to the place lies in its stretch
@@ -256,9 +257,17 @@ pub none_of_around : (xs : List ChunkPayloadData) (place : ℕ) (d : ChunkPayloa
 none_of_around xs place d lt none None h = λ f n r. h f n (all_around xs place d lt none f n r)
 none_of_around xs place d lt none (Some r) h = tt
 
-pub flag_after_drop : (flag : Bool) (xs : List ChunkPayloadData) (count : ℕ) → count ≤ length xs → IsFlag flag xs → IsFlag flag (drop count xs)
-flag_after_drop true xs count le none = none_after_drop xs count le none
-flag_after_drop false xs count le none = tt
+-- what the mark of a search says where it is on, and that it is on in serial order without a run
+pub no_run_on : (flag : Bool) (xs : List ChunkPayloadData) → flag ≡ true → IsFlag flag xs → HasNoRun xs
+no_run_on flag xs on h = subst (λ b. IsFlag b xs) on h
+
+pub searched_on : (flag : Bool) (xs : List ChunkPayloadData) → IsFlag flag xs → IsSerial xs → HasNoRun xs → flag ≡ true
+searched_on true xs h serial none = refl
+searched_on false xs h serial none = absurd (h serial none)
+
+pub searched_flag : (flag : Bool) (xs : List ChunkPayloadData) → (flag ≡ true → HasNoRun xs) → (flag ≡ false → IsSerial xs → HasNoRun xs → ⊥) → IsFlag flag xs
+searched_flag true xs on off = on refl
+searched_flag false xs on off = off refl
 
 -- where the fragment at this place begins nothing, and neither TSN nor flag joins it to the one before
 pub cut_before : (xs : List ChunkPayloadData) (place first : ℕ) (x : ChunkPayloadData) → x ≡ get_or xs first x → x.beginning_fragment ≡ false → first ≤ place
