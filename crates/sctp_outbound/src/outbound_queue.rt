@@ -1,6 +1,6 @@
 //! What waits to be sent and what is in flight.
 
-ghost use Rattle.std.specs.Prelude.{◌≡◌, ◌==◌, ℕ, Bool, ◌⊎◌, ◌+◌, ◌^◌, ◌<◌, ◌≤◌, ◌||◌, [], length, map, max, false, true, OnOk, OnErr, OnSome, IfOk, IfSome, IsOk, IsOkUnless, IsSome, IsTrue, find, is_some, unwrap_or, option_copied, slice_get, slice_index_or, slice_set, if◌then◌else◌};
+ghost use Rattle.std.specs.Prelude.{◌≡◌, ◌==◌, ℕ, Bool, ◌⊎◌, ◌+◌, ◌^◌, ◌<◌, ◌≤◌, ◌||◌, [], length, map, max, false, true, OnOk, OnErr, OnSome, IfOk, IfSome, IsOk, IsOkUnless, IsSome, IsTrue, find, is_some, unwrap_or, option_copied, Some, slice_get, slice_index_or, slice_set, if◌then◌else◌};
 ghost use Rattle.std.specs.Option.{option_map};
 ghost use Rattle.std.specs.List.{list_any};
 ghost use Rattle.sctp_data.specs.Reliability.{is_past};
@@ -339,6 +339,7 @@ impl OutboundQueue {
     fn abandon_with_tail(&mut self, message_id: u64, places: (usize, usize), tsn: u32) -> usize
         requires between { IsBetween message_id places.0 places.1 self.old.inflight.chunks }
         requires tail { waits message_id self.old.pending ≡ true }
+        requires partial { partially_sent self.old.pending ≡ Some message_id }
         requires room { 0 < self.old.inflight.room }
         requires fresh { is_held self.old.inflight.chunks tsn ≡ false }
         requires window { SpansOneWindow self.old.inflight.chunks tsn }
@@ -347,7 +348,7 @@ impl OutboundQueue {
     {
         let (start, end) = places;
         let in_flight = self.inflight.abandon_between(message_id, start, end);
-        let (pending, last) = self.pending.remove_message(message_id);
+        let (pending, last) = self.pending.pop_message(message_id);
         let Some(mut mark) = last else { unreachable!() };
         mark.tsn = tsn;
         mark.beginning_fragment = false;
@@ -387,13 +388,15 @@ impl OutboundQueue {
         Some((stream_identifier, unordered, bytes))
     }
 
-    // Removes what waits of a message, and answers its bytes.
+    // Removes what waits of the message in front, and answers its bytes.
     fn remove_pending(&mut self, message_id: u64) -> usize
+        requires { option_map (λ c. c.message_id) (pending.next_pending self.old.pending)
+            ≡ Some message_id }
         ensures released { total_bytes self.new + result ≡ total_bytes self.old }
         ensures removed { self.new
             ≡ record self.old { pending = pending.without message_id self.old.pending } }
     {
-        let (bytes, _) = self.pending.remove_message(message_id);
+        let (bytes, _) = self.pending.pop_message(message_id);
         bytes
     }
 
