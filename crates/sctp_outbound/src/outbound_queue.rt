@@ -14,6 +14,7 @@ ghost use Rattle.sctp_serial.specs.Window.{SpansOneWindow, is_held};
 ghost use Rattle.sctp_serial.specs.DataChunks.{has_tsn, bytes_of, following_tsn, is_on};
 ghost use Rattle.sctp_outbound.specs.outbound_queue.OutboundQueue.{is_expired, is_expired_tail, is_late, released_of, expired_bytes, tail_bytes};
 
+mod expiry;
 mod message;
 mod waiting;
 
@@ -383,7 +384,7 @@ impl OutboundQueue {
         let message_id = chunk.message_id;
         let bytes = self.remove_pending(message_id);
         if !unordered {
-            self.compact_ordered_ssns(stream_identifier);
+            self.lower_ordered_ssns(stream_identifier, 1);
         }
         Some((stream_identifier, unordered, bytes))
     }
@@ -400,13 +401,13 @@ impl OutboundQueue {
         bytes
     }
 
-    // Lowers the numbers of a stream's ordered messages that wait by one.
-    fn compact_ordered_ssns(&mut self, stream_identifier: u16)
+    // Lowers the numbers of a stream's ordered messages that wait by so many.
+    fn lower_ordered_ssns(&mut self, stream_identifier: u16, by: u16)
         ensures bytes { total_bytes self.new ≡ total_bytes self.old }
-        ensures closed_up { self.new
-            ≡ record self.old { pending = pending.closed_up stream_identifier self.old.pending } }
+        ensures lowered { self.new
+            ≡ record self.old { pending = pending.lowered stream_identifier by self.old.pending } }
     {
-        self.pending.compact_ordered_ssns(stream_identifier);
+        self.pending.lower_ordered_ssns(stream_identifier, by);
     }
 
     /// Abandons the rest of the partially sent message in front, where it is past its deadline, as `abandon` does;

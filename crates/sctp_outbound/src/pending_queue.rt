@@ -54,7 +54,7 @@ impl Model for PendingQueue {
 }
 
 impl PendingQueue {
-    ghost use Rattle.sctp_outbound.specs.pending_queue.PendingQueue.{Pending, chunk_count, total_bytes, room_for, with_room, push_pending, next_pending, chunk_to_pop, rest_after, list_of, rest_of, removed_bytes, last_removed, without, closed_up, start_pending};
+    ghost use Rattle.sctp_outbound.specs.pending_queue.PendingQueue.{Pending, chunk_count, total_bytes, room_for, with_room, push_pending, next_pending, chunk_to_pop, rest_after, list_of, rest_of, removed_bytes, last_removed, without, closed_up, lowered, start_pending};
 
     /// A queue of nothing. It takes no memory.
     pub fn new(alloc: Global) -> Self
@@ -225,7 +225,14 @@ impl PendingQueue {
     pub fn compact_ordered_ssns(&mut self, stream_identifier: u16)
         ensures { self.new ≡ closed_up stream_identifier self.old }
     {
-        self.ordered.lower_ssns(stream_identifier);
+        self.lower_ordered_ssns(stream_identifier, 1);
+    }
+
+    /// The same for so many messages that were removed, in one walk. It takes no memory.
+    pub(crate) fn lower_ordered_ssns(&mut self, stream_identifier: u16, by: u16)
+        ensures { self.new ≡ lowered stream_identifier by self.old }
+    {
+        self.ordered.lower_ssns(stream_identifier, by);
     }
 
     /// Removes what waits of a message, the ordered chunks first, and answers its bytes and the chunk
@@ -258,10 +265,7 @@ impl PendingQueue {
         let (ordered, last_ordered) = self.ordered.pop_message(message_id);
         let (unordered, last_unordered) = self.unordered.pop_message(message_id);
         self.selected = selected_without(self.selected, message_id);
-        (
-            ordered + unordered,
-            last_unordered.or(last_ordered),
-        )
+        (ordered + unordered, last_unordered.or(last_ordered))
     }
 
     /// The bytes of user data of all that waits.

@@ -7,7 +7,7 @@ ghost use Rattle.sctp_base.specs.declared.error.Error.TheVariants.{ErrOutOfMemor
 ghost use Rattle.sctp_list_lemmas.specs.Lists.{change_where};
 ghost use Rattle.sctp_outbound.specs.Marks.{is_of};
 ghost use Rattle.sctp_outbound.specs.outbound_queue.OutboundQueue.{with_message_id};
-ghost use Rattle.sctp_outbound.specs.pending_queue.PendingQueue.{removed_bytes, last_of, without_message, one_lower, is_to_start, with_deadline, has_lifetime};
+ghost use Rattle.sctp_outbound.specs.pending_queue.PendingQueue.{removed_bytes, last_of, without_message, lower_by, is_to_start, with_deadline, has_lifetime};
 ghost use Rattle.sctp_outbound.specs.pending_queue.Whole.{AreWhole, NumbersAscend, begins_with, begun, stand_in_front, until_end};
 ghost use Rattle.sctp_serial.specs.DataChunks.{bytes_of, is_on};
 
@@ -253,13 +253,13 @@ impl Line {
         (bytes, last)
     }
 
-    /// Lowers the stream sequence numbers of a stream by one.
-    pub(crate) fn lower_ssns(&mut self, stream_identifier: u16)
+    /// Lowers the stream sequence numbers of a stream by so many.
+    pub(crate) fn lower_ssns(&mut self, stream_identifier: u16, by: u16)
         ensures lowered { self.new ≡ with_chunks self.old
-            (change_where (is_on stream_identifier) one_lower self.old.chunks) }
+            (change_where (is_on stream_identifier) (lower_by by) self.old.chunks) }
         ensures bytes { bytes_of self.new.chunks ≡ bytes_of self.old.chunks }
     {
-        lower_ssns_in(&mut self.chunks, stream_identifier);
+        lower_ssns_in(&mut self.chunks, stream_identifier, by);
     }
 
     /// Starts the lifetimes of timed messages numbered from `first_message_id` on
@@ -335,10 +335,10 @@ fn remove_from(
     (bytes, last)
 }
 
-// Lowers the stream sequence numbers of a stream by one.
-fn lower_ssns_in(chunks: &mut VecDeque<ChunkPayloadData>, stream_identifier: u16)
+// Lowers the stream sequence numbers of a stream by so many.
+fn lower_ssns_in(chunks: &mut VecDeque<ChunkPayloadData>, stream_identifier: u16, by: u16)
     ensures items { chunks.new.items
-        ≡ change_where (is_on stream_identifier) one_lower chunks.old.items }
+        ≡ change_where (is_on stream_identifier) (lower_by by) chunks.old.items }
     ensures len { deque_len chunks.new ≡ deque_len chunks.old }
     ensures capacity { deque_capacity chunks.new ≡ deque_capacity chunks.old }
 {
@@ -347,7 +347,7 @@ fn lower_ssns_in(chunks: &mut VecDeque<ChunkPayloadData>, stream_identifier: u16
         if chunk.stream_identifier != stream_identifier {
             continue;
         }
-        chunk.stream_sequence_number = chunk.stream_sequence_number.wrapping_sub(1);
+        chunk.stream_sequence_number = chunk.stream_sequence_number.wrapping_sub(by);
     }
 }
 
