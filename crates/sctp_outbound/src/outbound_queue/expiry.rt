@@ -1,7 +1,7 @@
 //! Messages that expire one after another.
 
-ghost use Rattle.std.specs.Prelude.{◌≡◌, ◌+◌, ◌<◌, ◌^◌, None, IfSome, IfNone};
-ghost use Rattle.sctp_outbound.specs.outbound_queue.OutboundQueue.{AreExpiredOf, IsOfRun, closed_run, expired_times, expiring, total_bytes};
+ghost use Rattle.std.specs.Prelude.{◌≡◌, ◌≢◌, ℕ, ◌+◌, ◌<◌, ◌^◌, Some, None, IfSome, IfNone};
+ghost use Rattle.sctp_outbound.specs.outbound_queue.OutboundQueue.{AreExpiredOf, IsOfRun, closed_run, expired_times, expiring, stream_and_kind, total_bytes};
 ghost use Rattle.sctp_outbound.specs.pending_queue.PendingQueue.{next_pending};
 
 use super::{OutboundQueue, is_expired};
@@ -29,6 +29,10 @@ impl OutboundQueue {
         ensures of_one { IfSome result (λ run. AreExpiredOf
             run.stream_identifier run.unordered now run.messages self.old) }
         ensures some { IfSome result (λ run. 0 < run.messages) }
+        // none of the run is left in front, but where the count is at its greatest
+        ensures all { IfSome result (λ run. run.messages + 1 < 2 ^ 16
+            → stream_and_kind (expiring now self.new)
+            ≢ Some (run.stream_identifier, run.unordered)) }
         ensures released { IfSome result (λ run. total_bytes self.new + run.bytes
             ≡ total_bytes self.old) }
         ensures none { IfNone result ((expiring now self.old ≡ None) × (self.new ≡ self.old)) }
@@ -69,6 +73,8 @@ impl OutboundQueue {
             ≡ expired_times now result.0 self.old }
         ensures of_one { AreExpiredOf stream_identifier unordered now result.0 self.old }
         ensures some { 0 < result.0 }
+        ensures all { result.0 + 1 < 2 ^ 16 → (m : ℕ)
+            → IsOfRun now stream_identifier unordered m (next_pending self.new.pending) → ⊥ }
         ensures released { total_bytes self.new + result.1 ≡ total_bytes self.old }
     {
         let before = self.pending_bytes();
@@ -89,8 +95,10 @@ impl OutboundQueue {
         unordered: bool,
         messages: u16,
     ) -> Option<u64>
-        ensures { IfSome result (λ m. (messages + 1 < 2 ^ 16)
+        ensures some { IfSome result (λ m. (messages + 1 < 2 ^ 16)
             × IsOfRun now stream_identifier unordered m (next_pending self.now.pending)) }
+        ensures none { IfNone result (messages + 1 < 2 ^ 16 → (m : ℕ)
+            → IsOfRun now stream_identifier unordered m (next_pending self.now.pending) → ⊥) }
     {
         let chunk = self.peek_pending()?;
         if messages == u16::MAX

@@ -159,3 +159,64 @@ first_in_run now s m q kind h = by (next_pending q.pending) refl h
     by (Some c) e h =
         let it = expiring_is now q c e h.0 in
         record { removed = ap (λ o. expired_of o q) it ∙ one kind c h; answer = ap stream_and_kind it ∙ same_answer s kind c h.1 h.2 }
+
+-- ## The end of a run
+
+-- what expires of the stream is of the run
+in_run : (now s : ℕ) (kind : Bool) (c : ChunkPayloadData) → stream_and_kind (passing (is_expired now) (Some c)) ≡ Some (s, kind)
+    → IsOfRun now s kind c.message_id (Some c)
+in_run now s kind c h = by (is_expired now c) refl h
+  where
+    pair_of : (a p : ℕ × Bool) → ◌≡◌ {A = Option (ℕ × Bool)} (Some a) (Some p) → a ≡ p
+    pair_of a p h = cc
+
+    stream : stream_and_kind (Some c) ≡ Some (s, kind) → c.stream_identifier ≡ s
+    stream h = ap (λ (a : ℕ × Bool). a.0) (pair_of (c.stream_identifier, c.unordered) (s, kind) h)
+
+    unordered : stream_and_kind (Some c) ≡ Some (s, kind) → c.unordered ≡ kind
+    unordered h = ap (λ (a : ℕ × Bool). a.1) (pair_of (c.stream_identifier, c.unordered) (s, kind) h)
+
+    by : (b : Bool) → is_expired now c ≡ b → stream_and_kind (if b then Some c else None) ≡ Some (s, kind) → IsOfRun now s kind c.message_id (Some c)
+    by true e h = (e, stream h, unordered h, refl)
+    by false e h = cc
+
+-- so it is where numbers are lower
+raised : (now s k : ℕ) (kind b : Bool) (c : ChunkPayloadData) → IsOfRun now s kind c.message_id (Some (lower_if b k c))
+    → IsOfRun now s kind c.message_id (Some c)
+raised now s k kind true c h = h
+raised now s k kind false c h = h
+
+number_if : (b : Bool) (k : ℕ) (c : ChunkPayloadData) → (lower_if b k c).message_id ≡ c.message_id
+number_if true k c = refl
+number_if false k c = refl
+
+none_lowered : (s k : ℕ) (os us : List ChunkPayloadData) (sel : Option Selected) (ro ru : ℕ) → next_pending (made os us sel ro ru) ≡ None
+    → next_pending (lowered s k (made os us sel ro ru)) ≡ None
+none_lowered s k os (u ∷ us) None ro ru h = h
+none_lowered s k [] [] None ro ru h = h
+none_lowered s k (o ∷ os) [] None ro ru h = cc
+none_lowered s k os us (Some t) ro ru h = by t.unordered os h
+  where
+    by : (u : Bool) (os : List ChunkPayloadData) → slice_get (list_of u (made os us (Some t) ro ru)) 0 ≡ None
+        → slice_get (list_of u (lowered s k (made os us (Some t) ro ru))) 0 ≡ None
+    by true os h = h
+    by false [] h = h
+    by false (o ∷ os) h = cc
+
+pub run_ends : (now s k : ℕ) (kind : Bool) (q : Outbound) → ((m : ℕ) → IsOfRun now s kind m (next_pending q.pending) → ⊥)
+    → stream_and_kind (expiring now (closed_run s kind k q)) ≡ Some (s, kind) → ⊥
+run_ends now s k kind q none h = by (next_pending q.pending) refl kind none h
+  where
+    by : (o : Option ChunkPayloadData) → next_pending q.pending ≡ o → (kind : Bool) → ((m : ℕ) → IsOfRun now s kind m (next_pending q.pending) → ⊥)
+        → stream_and_kind (expiring now (closed_run s kind k q)) ≡ Some (s, kind) → ⊥
+    by None e true none h = none-some (s, true) (ap (λ o. stream_and_kind (passing (is_expired now) o)) (sym e) ∙ h)
+    by None e false none h = none-some (s, false) (ap (λ o. stream_and_kind (passing (is_expired now) o))
+        (sym (none_lowered s k q.pending.ordered q.pending.unordered q.pending.selected q.pending.ordered_room q.pending.unordered_room e)) ∙ h)
+    by (Some c) e true none h =
+        let here = in_run now s true c (ap (λ o. stream_and_kind (passing (is_expired now) o)) (sym e) ∙ h) in
+        none c.message_id (subst (IsOfRun now s true c.message_id) (sym e) here)
+    by (Some c) e false none h =
+        let n = next_lowered s k q.pending.ordered q.pending.unordered q.pending.selected q.pending.ordered_room q.pending.unordered_room c e in
+        let here = in_run now s false (lower_if n.0 k c) (ap (λ o. stream_and_kind (passing (is_expired now) o)) (sym n.1) ∙ h) in
+        let same = subst (λ m. IsOfRun now s false m (Some (lower_if n.0 k c))) (number_if n.0 k c) here in
+        none c.message_id (subst (IsOfRun now s false c.message_id) (sym e) (raised now s k false n.0 c same))

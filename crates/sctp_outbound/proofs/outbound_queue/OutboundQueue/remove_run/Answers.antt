@@ -21,7 +21,7 @@ pub loop-next-preserved : goal.loop-next-preserved
 loop-next-preserved c =
     let s = c.args.stream_identifier in
     let inv = c.loop-next.invariant in
-    let n = next_in_run c.args.now s c.loop-next.messages c.in-Some.next c.loop-next.self c.in-Some.ensures.0 c.args.unordered c.in-Some.ensures.1 in
+    let n = next_in_run c.args.now s c.loop-next.messages c.in-Some.next c.loop-next.self c.in-Some.ensures.some.0 c.args.unordered c.in-Some.ensures.some.1 in
     let removed = c.remove_pending-in-Some.ensures.removed in
     let same = ap (λ (o : Outbound). o.inflight) removed in
     let up : suc c.loop-next.messages ≡ c.loop-next.messages + 1 = omega arith in
