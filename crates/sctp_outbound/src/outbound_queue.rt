@@ -18,6 +18,7 @@ mod expiry;
 mod message;
 mod waiting;
 
+pub use self::expiry::ExpiredRun;
 use self::message::{is_message_or_none, is_room_for};
 use crate::payload_queue::{PayloadQueue, is_outstanding};
 use crate::pending_queue::PendingQueue;
