@@ -12,7 +12,7 @@ ghost use Rattle.sctp_serial.specs.Runs.{HasNoRun, IsStretch};
 ghost use Rattle.sctp_serial.specs.Window.{IsSerial};
 ghost use Rattle.sctp_serial.specs.Ascending.{IsAscending, upper_half};
 ghost use Rattle.sctp_reassembly.specs.reassembly_queue.Orders.{digits, IsOrderly};
-ghost use Rattle.sctp_reassembly.specs.reassembly_queue.Costs.{ordered_push_looks, ordered_push_walk, read_walk, FitsInOrder, Joins, unordered_push_looks, unordered_push_walk, StandsInOrder, unordered_skip_walk};
+ghost use Rattle.sctp_reassembly.specs.reassembly_queue.Costs.{ordered_push_looks, ordered_push_walk, read_walk, FitsInOrder, Joins, unordered_push_looks, unordered_push_walk, StandsInOrder, unordered_skip_walk, ordered_skip_walk};
 ghost use Rattle.sctp_reassembly.specs.reassembly_queue.Skips.{after_bounded_skip, applicable, is_upto};
 ghost use Rattle.sctp_reassembly.specs.reassembly_queue.Undo.{undone, CanUndo};
 ghost use Rattle.sctp_base.specs.declared.error.Error.TheVariants.{ErrOutOfMemory, ErrInboundPacketTooLarge};
@@ -268,12 +268,28 @@ impl ReassemblyQueue {
     pub fn is_too_large(&self, chunk: &ChunkPayloadData) -> bool
         ensures { result ≡ is_too_large chunk.now self.now }
     {
+        self.is_too_large_counted(chunk, &mut Turns::new())
+    }
+
+    /// The same, and what it looks at is added: no more than `push_counted` says of a push.
+    pub fn is_too_large_counted(&self, chunk: &ChunkPayloadData, turns: &mut Turns) -> bool
+        ensures answer { result ≡ is_too_large chunk.now self.now }
+        ensures not_back { turns.old ≤ turns.new }
+        ensures ordered_cost { chunk.now.unordered ≡ false → IsOrderly self.now.held.ordered
+            → turns.new ≤ turns.old + ordered_push_looks chunk.now self.now.held }
+        ensures ordered_walk { chunk.now.unordered ≡ false
+            → turns.new ≤ turns.old + ordered_push_walk chunk.now self.now.held }
+        ensures unordered_cost { chunk.now.unordered ≡ true → FitsInOrder chunk.now self.now.held
+            → (first last : ℕ) → Joins chunk.now self.now.held first last
+            → turns.new ≤ turns.old + unordered_push_looks self.now.held first last }
+        ensures unordered_walk { chunk.now.unordered ≡ true
+            → turns.new ≤ turns.old + unordered_push_walk self.now.held }
+    {
         if self.si != chunk.stream_identifier {
             return false;
         }
-        let mut turns = Turns::new();
-        let place = self.place_of(chunk, &mut turns);
-        self.is_too_large_at(chunk, place, &mut turns)
+        let place = self.place_of(chunk, turns);
+        self.is_too_large_at(chunk, place, turns)
     }
 
     // Where an unordered chunk goes among the unassembled fragments. An ordered one takes no turn.
@@ -528,8 +544,22 @@ impl ReassemblyQueue {
         ensures counted { IsCounted self.old → IsCounted self.new }
         ensures complete { complete_sets self.new.held ≡ complete_sets self.old.held }
     {
+        self.forward_tsn_for_ordered_counted(last_ssn, &mut Turns::new());
+    }
+
+    /// The same, and what it looks at is added: four turns for each set of ordered messages at most, where these are in order
+    /// (`IsOrderly`), and `ordered_skip_walk` whatever the numbers.
+    pub fn forward_tsn_for_ordered_counted(&mut self, last_ssn: u16, turns: &mut Turns)
+        ensures value { self.new ≡ after_ordered_skip last_ssn self.old }
+        ensures counted { IsCounted self.old → IsCounted self.new }
+        ensures complete { complete_sets self.new.held ≡ complete_sets self.old.held }
+        ensures not_back { turns.old ≤ turns.new }
+        ensures few { IsOrderly self.old.held.ordered
+            → turns.new ≤ turns.old + 4 * length self.old.held.ordered }
+        ensures walk { turns.new ≤ turns.old + ordered_skip_walk self.old.held }
+    {
         self.next_ssn = ssn_past(self.next_ssn, last_ssn);
-        let gone = self.ordered.discard(Some(last_ssn), None);
+        let gone = self.ordered.discard(Some(last_ssn), None, turns);
         self.release(gone);
     }
 
@@ -545,9 +575,11 @@ impl ReassemblyQueue {
     {
         let goal = goal(self.ordered.as_deque(), last_ssn, new_cumulative_tsn);
         self.next_ssn = ssn_upto(self.next_ssn, goal);
-        let gone = self
-            .ordered
-            .discard(Some(last_ssn), Some(new_cumulative_tsn));
+        let gone = self.ordered.discard(
+            Some(last_ssn),
+            Some(new_cumulative_tsn),
+            &mut Turns::new(),
+        );
         self.release(gone);
     }
 

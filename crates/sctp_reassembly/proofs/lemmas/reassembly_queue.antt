@@ -17,5 +17,6 @@ pub mod TakenBack
 pub mod TakenRuns
 pub mod Unassembled
 pub mod Scans
+pub mod SkipCosts
 pub mod Stretches
 pub mod Undone

@@ -56,3 +56,13 @@ pub record StandsInOrder (q : Reassembly) : Type 0 where
 -- what their skip looks at, whatever is held: each of them six times, and one more
 abbrev pub unordered_skip_walk : Reassembly → ℕ
 unordered_skip_walk q = 6 * length q.unassembled + 1
+
+-- ## Skips of ordered messages, whatever is held
+
+-- those up to a number: each set five times, and each of their fragments twice
+abbrev pub ordered_skip_walk : Reassembly → ℕ
+ordered_skip_walk q = 5 * length q.ordered + 2 * set_chunks q.ordered
+
+-- those that no number names: each set eight times, and each of their fragments four times
+abbrev pub incomplete_skip_walk : Reassembly → ℕ
+incomplete_skip_walk q = 8 * length q.ordered + 4 * set_chunks q.ordered

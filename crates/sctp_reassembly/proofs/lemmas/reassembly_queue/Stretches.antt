@@ -1,5 +1,6 @@
 -- What joins a fragment that is put in, looked at from there to both sides.
-use Rattle.std.proofs.Common.{◌≡◌, ◌≢◌, ℕ, ◌+◌, ◌-◌, ◌^◌, ◌<◌, ◌≤◌, IsTrue, List, length, length-drop, length-take-le, get_or, take, drop, remove, sym, ap, subst, ◌∙◌, inl, inr, arith}
+use Rattle.std.proofs.Common.{◌≡◌, ◌≢◌, ℕ, ◌+◌, ◌-◌, ◌^◌, ◌<◌, ◌≤◌, IsTrue, List, length, length-drop, length-take-le, get_or, take, drop, remove, sym, ap}
+use Rattle.std.proofs.Common.{subst, ◌∙◌, inl, inr, arith}
 use Rattle.std.specs.List.{insert}
 use Rattle.std.proofs.lemmas.Bool.{cases_eq, false≢true}
 use Rattle.sctp_list_lemmas.specs.Lists.{insert_before}
@@ -111,7 +112,8 @@ pub inserted_among : (xs : List ChunkPayloadData) (x : ChunkPayloadData) (place 
 inserted_among xs x place at = inserted-position chunk_before x xs ∙ ap (λ i. insert xs i x) (sym at)
 
 -- without it nothing has changed
-pub none_without : (xs : List ChunkPayloadData) (x : ChunkPayloadData) (place : ℕ) → place ≤ length xs → HasNoRun xs → HasNoRun (remove (insert xs place x) place)
+pub none_without : (xs : List ChunkPayloadData) (x : ChunkPayloadData) (place : ℕ) → place ≤ length xs → HasNoRun xs
+    → HasNoRun (remove (insert xs place x) place)
 none_without xs x place le none = subst HasNoRun (sym (remove-insert xs place x le)) none
 
 -- the run that it completes lies in its stretch
@@ -136,8 +138,8 @@ pub record FitsAt (xs : List ChunkPayloadData) (x : ChunkPayloadData) (place s t
   pub small : bytes_of xs + length x.user_data < 2 ^ 64 - 1
   pub stretch : IsStretch (insert xs place x) place s t
 
-pub fits_at : (q : Reassembly) (xs : List ChunkPayloadData) (x : ChunkPayloadData) (place s t : ℕ) → xs ≡ q.unassembled → place ≡ place_among x.tsn q.unassembled
-    → FitsInOrder x q → Joins x q s t → FitsAt xs x place s t
+pub fits_at : (q : Reassembly) (xs : List ChunkPayloadData) (x : ChunkPayloadData) (place s t : ℕ) → xs ≡ q.unassembled
+    → place ≡ place_among x.tsn q.unassembled → FitsInOrder x q → Joins x q s t → FitsAt xs x place s t
 fits_at q xs x place s t same at f w =
     let e : insert_before chunk_before x q.unassembled ≡ insert xs place x =
     inserted_among q.unassembled x place at ∙ ap (λ zs. insert zs place x) (sym same) in

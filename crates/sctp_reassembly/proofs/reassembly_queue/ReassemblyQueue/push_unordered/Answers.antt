@@ -115,9 +115,11 @@ returns-in-Some-clause-cost c fits s t w =
     let r = rw c.in-Some.is at c.in_ok-run.ensures.ok in
     let at = c.requires ∙ ap (place_among x.tsn) (sym same) in
     let long = run_long (insert_before chunk_before x xs) c.in-Some.chunks.items r.first r.count r.run.run.in_range r.fragments in
-    let few = run_joined xs x c.args.place h.le h.none s t r.first r.count h.stretch (subst (λ ys. IsRun ys r.first r.count) (inserted_among xs x c.args.place at)
+    let few =
+    run_joined xs x c.args.place h.le h.none s t r.first r.count h.stretch (subst (λ ys. IsRun ys r.first r.count) (inserted_among xs x c.args.place at)
     r.run.run) in
-    omega (arith, c.in_ok-run.ensures.cost s t h.serial h.none h.small h.stretch, c.set_of_run.ensures.cost, long, few, h.stretch.holds_from, h.stretch.holds_to)
+    omega
+    (arith, c.in_ok-run.ensures.cost s t h.serial h.none h.small h.stretch, c.set_of_run.ensures.cost, long, few, h.stretch.holds_from, h.stretch.holds_to)
 
 pub returns-in-None-clause-walk : goal.returns-in-None-clause-walk
 returns-in-None-clause-walk c =

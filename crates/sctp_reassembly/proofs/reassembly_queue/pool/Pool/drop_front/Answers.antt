@@ -9,7 +9,8 @@ use Rattle.sctp_reassembly.proofs.reassembly_queue.pool.Pool.drop_front.Goals as
 pub is_searched-self-inside-requires : goal.is_searched-self-inside-requires
 is_searched-self-inside-requires c on =
     let xs = c.self.inside.unassembled.chunks in
-    subst HasNoRun (sym (same_list c.drop_front_counted.ensures.value)) (none_after_drop xs c.args.count (omega (arith, same_long c.self.view_is, c.requires)) (no_run_on _ xs on c.self.invariant))
+    subst HasNoRun (sym (same_list c.drop_front_counted.ensures.value))
+    (none_after_drop xs c.args.count (omega (arith, same_long c.self.view_is, c.requires)) (no_run_on _ xs on c.self.invariant))
 
 pub returns-clause-few : goal.returns-clause-few
 returns-clause-few c serial none small =

@@ -1,4 +1,5 @@
-use Rattle.std.proofs.Common.{◌≡◌, ℕ, ◌+◌, ◌-◌, ◌^◌, ◌<◌, ◌≤◌, ◌&&◌, Bool, true, List, [], length, length-append, length-drop, length-take-le, insert, remove, take}
+use Rattle.std.proofs.Common.{◌≡◌, ℕ, ◌+◌, ◌-◌, ◌^◌, ◌<◌, ◌≤◌, ◌&&◌, Bool, true, List, [], length, length-append, length-drop, length-take-le, insert, remove}
+use Rattle.std.proofs.Common.{take}
 use Rattle.std.proofs.Common.{drop, refl, sym, ap, ap₂, subst, ◌∙◌, arith}
 use Rattle.std.proofs.lemmas.List.Edits.{length-insert}
 use Rattle.sctp_data.specs.declared.chunk.chunk_payload_data.ChunkPayloadData.{ChunkPayloadData}
@@ -159,16 +160,19 @@ plain searched old mid xs x place s t same le put flag serial none small w =
 pub returns-in_default-clause-cost : goal.returns-in_default-clause-cost
 returns-in_default-clause-cost c s t serial none small w =
     let xs = c.args.self.now.chunks in
-    let h = plain c.self.inside.searched c.self.inside.unassembled c.insert_counted.new.self xs c.args.chunk c.args.place s t (same_list c.self.view_is) (place_upto c.args.chunk.tsn xs c.args.place c.requires)
+    let h = plain c.self.inside.searched c.self.inside.unassembled c.insert_counted.new.self xs c.args.chunk c.args.place s t (same_list c.self.view_is)
+    (place_upto c.args.chunk.tsn xs c.args.place c.requires)
     (same_list c.in_ok-insert_counted.ensures.ok) c.self.invariant serial none small w in
     omega (arith, c.in_ok-insert_counted.ensures.few, c.search.ensures.cost s t h.serial h.without h.stretch, w.holds_from, w.holds_to)
 
 pub returns-in-Ok-clause-cost : goal.returns-in-Ok-clause-cost
 returns-in-Ok-clause-cost c s t serial none small w =
     let xs = c.args.self.now.chunks in
-    let h = plain c.self.inside.searched c.self.inside.unassembled c.insert_counted.new.self xs c.args.chunk c.args.place s t (same_list c.self.view_is) (place_upto c.args.chunk.tsn xs c.args.place c.requires)
+    let h = plain c.self.inside.searched c.self.inside.unassembled c.insert_counted.new.self xs c.args.chunk c.args.place s t (same_list c.self.view_is)
+    (place_upto c.args.chunk.tsn xs c.args.place c.requires)
     (same_list c.in_ok-insert_counted.ensures.ok) c.self.invariant serial none small w in
-    let known = c.is_known-known.ensures ∙ ap₂ (λ a b. a && b) h.on (serial_on c.is_serial-serial.result c.insert_counted.new.self.chunks c.is_serial-serial.ensures h.serial) in
+    let known = c.is_known-known.ensures
+    ∙ ap₂ (λ a b. a && b) h.on (serial_on c.is_serial-serial.result c.insert_counted.new.self.chunks c.is_serial-serial.ensures h.serial) in
     omega (
       arith,
       c.in_ok-insert_counted.ensures.few,
@@ -183,7 +187,8 @@ returns-in-Ok-clause-cost c s t serial none small w =
 pub returns-in-Err-clause-cost : goal.returns-in-Err-clause-cost
 returns-in-Err-clause-cost c s t serial none small w =
     let xs = c.args.self.now.chunks in
-    let h = plain c.self.inside.searched c.self.inside.unassembled c.insert_counted.new.self xs c.args.chunk c.args.place s t (same_list c.self.view_is) (place_upto c.args.chunk.tsn xs c.args.place c.requires)
+    let h = plain c.self.inside.searched c.self.inside.unassembled c.insert_counted.new.self xs c.args.chunk c.args.place s t (same_list c.self.view_is)
+    (place_upto c.args.chunk.tsn xs c.args.place c.requires)
     (same_list c.in_ok-insert_counted.ensures.ok) c.self.invariant serial none small w in
     omega (
       arith,

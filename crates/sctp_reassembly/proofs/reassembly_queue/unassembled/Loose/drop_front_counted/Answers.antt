@@ -27,7 +27,8 @@ invariant_of-self c =
     }
 
 pub returns-clause-value : goal.returns-clause-value
-returns-clause-value c = same_parts (c.loop-gone.invariant.rest ∙ ap₂ drop {x = c.loop-gone._gone} {y = c.args.count} (omega (arith, c.loop-gone.auto._gone-end))
+returns-clause-value c =
+    same_parts (c.loop-gone.invariant.rest ∙ ap₂ drop {x = c.loop-gone._gone} {y = c.args.count} (omega (arith, c.loop-gone.auto._gone-end))
     (same_list c.self.view_is)) (c.loop-gone.invariant.places ∙ same_places c.self.view_is)
 
 pub returns-clause-few : goal.returns-clause-few

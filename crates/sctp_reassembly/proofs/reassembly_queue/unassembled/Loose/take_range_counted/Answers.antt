@@ -18,7 +18,8 @@ invariant_of-self c =
     let xs = c.self.inside.chunks.items in
     record {
       counted = c.bytes_without-self-inside.ensures.value (bytes_of (take c.args.count (drop c.args.first xs)))
-          (omega (arith, c.self.invariant.counted, some_out xs c.args.first c.args.count, ap bytes_of c.take_each.ensures.rest)) c.bytes_from-gone.ensures.value;
+          (omega (arith, c.self.invariant.counted, some_out xs c.args.first c.args.count, ap bytes_of c.take_each.ensures.rest))
+          c.bytes_from-gone.ensures.value;
       order = c.is_still_serial-self-inside.ensures.flag;
       room = omega (arith, c.self.invariant.room, c.take_each.ensures.capacity);
     }
