@@ -19,6 +19,10 @@ loop-place-preserved-then-block-place-2 c =
     record {
       from = (let f = inv.from in omega (arith, f, further));
       within = omega (arith, c.min-place.ensures);
+      onward = inv.onward;
+      inside = inv.inside;
+      not_back = omega (arith, c.tick.ensures, inv.not_back);
+      cost = (let cost = inv.cost in omega (arith, c.tick.ensures, cost, c.min-place.ensures, c.if-block-place.false, c.loop-place-test.true));
       answered = λ p picks start. inv.answered p picks start ∙ ap (map (released_of no_message))
           (sym (jumped p bs cs c.requires.known c.args.places.0 c.args.places.1 picks i b lt (get_or_default bs i none b lt) c.loop-place.place
           c.min-place.result (omega (arith, c.if-block-place-2.true)) inv.from further (omega (arith, c.min-place.ensures))

@@ -1,4 +1,4 @@
-use Rattle.std.proofs.Common.{◌≡◌, ◌+◌, ◌-◌, ◌≤◌, Bool, length, map, take}
+use Rattle.std.proofs.Common.{◌≡◌, ◌+◌, ◌*◌, ◌-◌, ◌≤◌, Bool, length, map, take}
 use Rattle.std.specs.List.{filter}
 use Rattle.sctp_data.specs.declared.chunk.chunk_payload_data.ChunkPayloadData.{ChunkPayloadData}
 use Rattle.sctp_sender.specs.Flight.{released_of}
@@ -9,6 +9,10 @@ abbrev pub invariant-loop-place : goal.invariant-loop-place
 invariant-loop-place l = record {
   from : l.places.0 ≤ l.place;
   within : l.place ≤ l.places.1;
+  onward : l.initial.next ≤ l.next;
+  inside : l.initial.next ≤ length l.known → l.next ≤ length l.known;
+  not_back : l.initial.turns ≤ l.turns;
+  cost : l.turns + l.initial.next + 2 * l.places.0 ≤ l.initial.turns + l.next + 2 * l.place;
   answered : (p : ChunkPayloadData → Bool) → PicksOpen p l.places.0 l.places.1 l.queue.inflight.chunks
       → l.initial.released.items ≡ map (released_of no_message) (filter p (take l.places.0 l.queue.inflight.chunks))
       → l.released.items ≡ map (released_of no_message) (filter p (take l.place l.queue.inflight.chunks));
