@@ -112,7 +112,8 @@ module _ (m : ℕ) (cs : List ChunkPayloadData) (i : ℕ) (c : ChunkPayloadData)
   those = messages_of cs
 
   yes : is_number m (get_or those i 0) ≡ true
-  yes = same-yes m (get_or those i 0) (get_or-map (λ (c : ChunkPayloadData). c.message_id) cs i c 0 lt ∙ ap (λ (c : ChunkPayloadData). c.message_id) (sym is) ∙ own)
+  yes = same-yes m (get_or those i 0)
+      (get_or-map (λ (c : ChunkPayloadData). c.message_id) cs i c 0 lt ∙ ap (λ (c : ChunkPayloadData). c.message_id) (sym is) ∙ own)
 
   in-range : i < length those
   in-range = let n = length-map cs (λ (c : ChunkPayloadData). c.message_id) in omega (arith, n, lt)

@@ -6,6 +6,7 @@ pub mod InLine
 pub mod CompleteMessages
 pub mod Anew
 pub mod Counts
+pub mod KnownPlaces
 pub mod Walks
 pub mod Sent
 pub mod Sacks

@@ -3,13 +3,14 @@
 ghost use Rattle.std.specs.Prelude.{◌≡◌, ℕ, Bool, ◌+◌, ◌*◌, ◌-◌, ◌^◌, ◌<◌, ◌≤◌, not, ◌&&◌, true, false, [], OnOk, IfErr, IfSome, length, map, take, drop, slice_index_or};
 ghost use Rattle.std.specs.List.{count_by, filter, list_all, list_any};
 ghost use Rattle.sctp_data.specs.declared.chunk.chunk_payload_data.ChunkPayloadData.{ChunkPayloadData};
+ghost use Rattle.sctp_data.specs.declared.chunk.chunk_selective_ack.GapAckBlock.{GapAckBlock};
 ghost use Rattle.sctp_list_lemmas.specs.Lists.{change_where};
 ghost use Rattle.sctp_outbound.specs.Marks.{as_acknowledged};
 ghost use Rattle.sctp_outbound.specs.outbound_queue.OutboundQueue.{with_inflight};
 ghost use Rattle.sctp_outbound.specs.payload_queue.Blocks.{is_in_blocks};
 ghost use Rattle.sctp_serial.specs.DataChunks.{following_tsn, tsns};
 ghost use Rattle.sctp_sender.specs.declared.sender.refusal.SenderRefusal.TheVariants.{OutOfMemory};
-ghost use Rattle.sctp_sender.specs.Costs.{chunks_of, distances_in};
+ghost use Rattle.sctp_sender.specs.Costs.{chunks_of, distances_in, unknown_from, unknown_in};
 ghost use Rattle.sctp_sender.specs.Flight.{is_half, released_of, tsns_from};
 ghost use Rattle.sctp_sender.specs.Reporting.{AreKnown, ascends_from};
 ghost use Rattle.sctp_sender.specs.SideBySide.{StandSideBySide, is_number, messages_of};
@@ -26,7 +27,8 @@ use sctp_stream::stream_numbers::put;
 
 /// Tells of each chunk in flight that is not acknowledged, and stands at one of the first `count` places or at a distance behind
 /// them that the blocks report. What the known blocks report is acknowledged, and not looked at. Refuses only for memory.
-/// Turns: at most one for each block and for each known one, and two for each of these places.
+/// Turns: at most one for each block and each known one, and two for each of these places; and at most two for each block and each
+/// known one, two for each of these places that no known block reports, and one more.
 pub(super) fn tell_anew(
     queue: &OutboundQueue,
     known: &[GapAckBlock],
@@ -36,6 +38,7 @@ pub(super) fn tell_anew(
     turns: &mut Turns,
 ) -> Result<(), SenderRefusal>
     requires known { AreKnown known.now queue.now.inflight.chunks }
+    requires known_ascend { ascends_from 0 known.now ≡ true }
     requires few { length queue.now.inflight.chunks < 2 ^ 31 }
     requires count { count ≤ length queue.now.inflight.chunks }
     requires ascend { ascends_from 0 sorted.now ≡ true }
@@ -50,6 +53,8 @@ pub(super) fn tell_anew(
     ensures not_back { turns.old ≤ turns.new }
     ensures cost { turns.new ≤ turns.old + length sorted.now + length known.now
         + 2 * (count + distances_in sorted.now) }
+    ensures unknown { turns.new ≤ turns.old + 2 * length sorted.now + 2 * length known.now
+        + 2 * unknown_in known.now count sorted.now + 1 }
 {
     let mut next = 0;
     tell_between(queue, known, (0, count), &mut next, released, turns)?;
@@ -73,6 +78,9 @@ fn tell_between(
     turns: &mut Turns,
 ) -> Result<(), SenderRefusal>
     requires known { AreKnown known.now queue.now.inflight.chunks }
+    requires ascend { ascends_from 0 known.now ≡ true }
+    requires passed { (i : ℕ) (b : GapAckBlock) → i < next.old
+        → (slice_index_or known.now i b).end ≤ places.0 }
     requires ordered { places.0 ≤ places.1 }
     requires within { places.1 ≤ length queue.now.inflight.chunks }
     ensures answered { (p : ChunkPayloadData → Bool)
@@ -87,6 +95,10 @@ fn tell_between(
     ensures not_back { turns.old ≤ turns.new }
     ensures cost { turns.new + next.old
         ≤ turns.old + next.new + 2 * (places.1 - places.0) }
+    ensures passed { (i : ℕ) (b : GapAckBlock) → i < next.new
+        → (slice_index_or known.now i b).end ≤ places.1 }
+    ensures unknown { turns.new + 2 * next.old ≤ turns.old + 2 * next.new
+        + 2 * unknown_from known.now places.0 (places.1 - places.0) + 1 }
 {
     let mut place = places.0;
     while place < places.1 {
