@@ -565,7 +565,7 @@ impl Sender {
     }
 
     /// The same, and its turns are added: where the sender does not keep what is reported, at most `sack_turns`, as
-    /// `InFlight::acked_counted` says. The amounts of the streams take none.
+    /// `InFlight::acked_counted` says. What one that keeps it looks at to keep it takes none, nor do the amounts of the streams.
     pub fn acked_counted(
         &mut self,
         sack: &ChunkSelectiveAck,

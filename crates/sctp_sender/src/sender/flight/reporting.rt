@@ -69,8 +69,8 @@ impl InFlight {
     /// The same, and its turns are added, at most `sack_turns`: five for each block, and where these do not ascend three for each
     /// distance up to the greatest that they report; one for each chunk in flight that was acknowledged before; three for each that
     /// the SACK reports, and three more where it does so anew; and one for each of a message of which it reports a chunk anew. What
-    /// lies elsewhere in flight is not looked at, however much it is. What both this SACK and the one taken before it have in blocks
-    /// is passed over, a block at a time.
+    /// else is in flight costs nothing, however much it is. What both this SACK and the one taken before it have in blocks is passed
+    /// over, a block at a time.
     pub fn acked_counted(
         &mut self,
         alloc: Global,
