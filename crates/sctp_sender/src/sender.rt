@@ -565,7 +565,8 @@ impl Sender {
     }
 
     /// The same, and its turns are added: where the sender does not keep what is reported, at most `sack_turns`, as
-    /// `InFlight::acked_counted` says. What one that keeps it looks at to keep it takes none, nor do the amounts of the streams.
+    /// `InFlight::acked_counted` says, none where the SACK is out of date, and at most one for each block where it is refused for what it
+    /// claims. What one that keeps it looks at to keep it takes none, nor do the amounts of the streams.
     pub fn acked_counted(
         &mut self,
         sack: &ChunkSelectiveAck,
@@ -588,6 +589,11 @@ impl Sender {
         ensures not_back { turns.old ≤ turns.new }
         ensures cost { self.old.kept ≡ None
             → turns.new ≤ turns.old + sack_turns (sack_of sack.now) self.old.flight }
+        ensures stale { self.old.kept ≡ None
+            → is_outdated (sack_of sack.now) self.old.flight ≡ true → turns.new ≡ turns.old }
+        ensures forged { self.old.kept ≡ None
+            → is_some (sack_refusal (sack_of sack.now) self.old.flight) ≡ true
+            → turns.new ≤ turns.old + length (sack_of sack.now).gap_ack_blocks }
     {
         let kept = self.kept_after(sack)?;
         let mut released = self.flight.acked_counted(self.alloc, sack, turns)?;

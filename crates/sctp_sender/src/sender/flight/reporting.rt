@@ -1,6 +1,6 @@
 //! What a SACK reports, and what it makes of what is in flight (RFC 4960 6.2.1).
 
-ghost use Rattle.std.specs.Prelude.{◌≡◌, ◌≢◌, ◌-◌, ◌&&◌, ◌||◌, Bool, not, nat_eq, nat_lt, ◌+◌, ◌*◌, ◌<◌, ◌≤◌, ◌^◌, ◌⊎◌, [], ℕ, true, false, Some, None, OnOk, OnErr, IfOk, IfErr, IsOk, length, map, drop, take, vec_capacity, slice_index_or};
+ghost use Rattle.std.specs.Prelude.{◌≡◌, ◌≢◌, ◌-◌, ◌&&◌, ◌||◌, Bool, not, nat_eq, nat_lt, ◌+◌, ◌*◌, ◌<◌, ◌≤◌, ◌^◌, ◌⊎◌, [], ℕ, true, false, Some, None, OnOk, OnErr, IfOk, IfErr, IsOk, is_some, length, map, drop, take, vec_capacity, slice_index_or};
 ghost use Rattle.std.specs.List.{list_all, list_any, filter};
 ghost use Rattle.sctp_list_lemmas.specs.Lists.{change_where};
 ghost use Rattle.sctp_data.specs.SelectiveAck.{sack_of};
@@ -70,7 +70,8 @@ impl InFlight {
     /// distance up to the greatest that they report; one for each chunk in flight that was acknowledged before; three for each that
     /// the SACK reports, and three more where it does so anew; and one for each of a message of which it reports a chunk anew. What
     /// else is in flight costs nothing, however much it is. What both this SACK and the one taken before it have in blocks is passed
-    /// over, a block at a time.
+    /// over, a block at a time. One that is out of date takes no turn, and one that is refused for what it claims at most one for each
+    /// block.
     pub fn acked_counted(
         &mut self,
         alloc: Global,
@@ -90,6 +91,9 @@ impl InFlight {
         ensures outdated { is_outdated (sack_of sack.now) self.old ≡ true → IsOk result }
         ensures not_back { turns.old ≤ turns.new }
         ensures cost { turns.new ≤ turns.old + sack_turns (sack_of sack.now) self.old }
+        ensures stale { is_outdated (sack_of sack.now) self.old ≡ true → turns.new ≡ turns.old }
+        ensures forged { is_some (sack_refusal (sack_of sack.now) self.old) ≡ true
+            → turns.new ≤ turns.old + length (sack_of sack.now).gap_ack_blocks }
     {
         let mut released = Vec::new(alloc);
         if !self.is_current_counted(sack, turns)? {
@@ -130,7 +134,7 @@ impl InFlight {
         self.is_current_counted(sack, &mut Turns::new())
     }
 
-    /// The same, and its turns are added: at most one for each block.
+    /// The same, and its turns are added: at most one for each block, and none where the SACK is out of date.
     pub fn is_current_counted(
         &self,
         sack: &ChunkSelectiveAck,
@@ -143,6 +147,7 @@ impl InFlight {
         ensures outdated { is_outdated (sack_of sack.now) self.now ≡ true → IsOk result }
         ensures not_back { turns.old ≤ turns.new }
         ensures cost { turns.new ≤ turns.old + length (sack_of sack.now).gap_ack_blocks }
+        ensures stale { is_outdated (sack_of sack.now) self.now ≡ true → turns.new ≡ turns.old }
     {
         if sna32lt(sack.cumulative_tsn_ack, self.acked_tsn) {
             return Ok(false);

@@ -29,3 +29,15 @@ returns-in_err-released-clause-cost c = λ none. rw (← c.self.view_is) c.acked
 
 pub returns-clause-cost : goal.returns-clause-cost
 returns-clause-cost c = λ none. rw (← c.self.view_is) c.acked_counted.ensures.cost
+
+pub returns-in_err-released-clause-stale : goal.returns-in_err-released-clause-stale
+returns-in_err-released-clause-stale c = λ none. rw (← c.self.view_is) c.acked_counted.ensures.stale
+
+pub returns-in_err-released-clause-forged : goal.returns-in_err-released-clause-forged
+returns-in_err-released-clause-forged c = λ none. rw (← c.self.view_is) c.acked_counted.ensures.forged
+
+pub returns-clause-stale : goal.returns-clause-stale
+returns-clause-stale c = λ none. rw (← c.self.view_is) c.acked_counted.ensures.stale
+
+pub returns-clause-forged : goal.returns-clause-forged
+returns-clause-forged c = λ none. rw (← c.self.view_is) c.acked_counted.ensures.forged
