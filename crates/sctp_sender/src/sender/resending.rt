@@ -64,7 +64,8 @@ impl Sender {
         self.add_miss_indications_counted(before, &mut Turns::new())
     }
 
-    /// The same, and its turns are added: one for each chunk in flight whose TSN is before this one.
+    /// The same, and its turns are added: one for each chunk in flight whose TSN is before this one. The look-up by which a chunk is
+    /// counted takes none.
     pub fn add_miss_indications_counted(&mut self, before: u32, turns: &mut Turns) -> usize
         ensures missed { self.new ≡ with_flight
             (after_misses (count_before before self.old.flight) self.old.flight) self.old }

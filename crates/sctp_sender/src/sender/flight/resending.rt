@@ -100,7 +100,8 @@ impl InFlight {
         self.add_miss_indications_counted(before, &mut Turns::new())
     }
 
-    /// The same, and its turns are added: one for each chunk in flight whose TSN is before this one.
+    /// The same, and its turns are added: one for each chunk in flight whose TSN is before this one. The look-up by which a chunk is
+    /// counted takes none.
     pub fn add_miss_indications_counted(&mut self, before: u32, turns: &mut Turns) -> usize
         ensures missed { self.new ≡ after_misses (count_before before self.old) self.old }
         ensures thirds { result ≡ length (thirds (count_before before self.old) self.old) }
