@@ -71,7 +71,7 @@ pub known-acked : (bs : List GapAckBlock) (cs : List ChunkPayloadData) → AreKn
     → is_in_blocks bs (suc k) ≡ true → k < length cs → (get_or cs k d).acked ≡ true
 known-acked bs cs known k d h lt = sym (get_or-map (λ c. c.acked) cs k d false lt) ∙ known k h
 
-in-block : (n : ℕ) (b : GapAckBlock) → b.start ≤ n → n ≤ b.end → is_in_block n b ≡ true
+pub in-block : (n : ℕ) (b : GapAckBlock) → b.start ≤ n → n ≤ b.end → is_in_block n b ≡ true
 in-block n b low high = grind (arith, nat_tests, low, high)
 
 pub jumped : (p : ChunkPayloadData → Bool) (bs : List GapAckBlock) (cs : List ChunkPayloadData) → AreKnown bs cs → (from to : ℕ) → PicksOpen p from to cs

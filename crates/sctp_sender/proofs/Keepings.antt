@@ -98,49 +98,11 @@ module _ (s : Sack) where
       let front = length-take-le i all (omega (arith, less)) in
       ap (drop start) (take_more all i None less) ∙ drop-append-le start (take i all) (get_or all i None ∷ []) (omega (arith, front, le))
       ∙ ap (λ x. drop start (take i all) ++ x ∷ []) (kept-at cs ks i c lt ∙ ap (λ x. keep s x (get_or ks i None)) (sym here) ∙ sym is)
-
   -- ## What comes back of each
-
-  pub back-more : (cs : List ChunkPayloadData) (ks : List (Option (List ℕ))) (i : ℕ) (c : ChunkPayloadData) (b : Option (List ℕ)) → i < length cs
-      → i < length ks → c ≡ get_or cs i c → b ≡ back_of s c (get_or ks i None) → back_each s cs (take (i + 1) ks) ≡ back_each s cs (take i ks) ++ b ∷ []
-  back-more cs [] i c b lt less here is = absurd (omega (arith, less))
-  back-more [] (k ∷ ks) i c b lt less here is = absurd (omega (arith, lt))
-  back-more (x ∷ cs) (k ∷ ks) zero c b lt less here is = ap (λ y. y ∷ []) (ap (λ y. back_of s y k) (sym here) ∙ sym is)
-  back-more (x ∷ cs) (k ∷ ks) (suc i) c b lt less here is =
-      let next : suc i + 1 ≡ suc (i + 1) = omega arith in
-      ap (λ n. back_each s (x ∷ cs) (take n (k ∷ ks))) next
-      ∙ ap (λ ys. back_of s x k ∷ ys) (back-more cs ks i c b (omega (arith, lt)) (omega (arith, less)) here is)
-
-  pub back-all : (n : ℕ) (cs : List ChunkPayloadData) (ks : List (Option (List ℕ))) → min (length ks) (length cs) ≤ n
-      → back_each s cs (take n ks) ≡ back_each s cs ks
-  back-all zero cs [] le = refl
-  back-all (suc n) cs [] le = refl
-  back-all zero [] (k ∷ ks) le = refl
-  back-all (suc n) [] (k ∷ ks) le = refl
-  back-all zero (c ∷ cs) (k ∷ ks) le = absurd (omega (arith, le))
-  back-all (suc n) (c ∷ cs) (k ∷ ks) le = ap (λ ys. back_of s c k ∷ ys) (back-all n cs ks (omega (arith, le)))
 
 -- ## Of a chunk that is acknowledged, and not abandoned
 
-pub reported-open : (reported acked abandoned : Bool) → acked ≡ true → abandoned ≡ false → ((acked && not abandoned) && not reported) ≡ not reported
-reported-open reported acked abandoned e f = ap (λ b. (b && not abandoned) && not reported) e ∙ ap (λ b. not b && not reported) f
-
 -- ## What is told
-
-pub answered-more : (bs : List (Option (List ℕ))) (cs : List ChunkPayloadData) (i : ℕ) (c : ChunkPayloadData) (b : Option (List ℕ)) → i < length bs
-    → i < length cs → c ≡ get_or cs i c → b ≡ get_or bs i None → answered_back (take (i + 1) bs) cs ≡ answered_back (take i bs) cs ++ answered_of b c
-answered-more [] cs i c b less lt here is = absurd (omega (arith, less))
-answered-more (x ∷ bs) [] i c b less lt here is = absurd (omega (arith, lt))
-answered-more (x ∷ bs) (y ∷ cs) zero c b less lt here is = ap (λ z. answered_of z y ++ []) (sym is) ∙ ap (λ z. answered_of b z ++ []) (sym here)
-    ∙ nil (answered_of b c)
-  where
-    nil : (ts : List TakenBack) → ts ++ [] ≡ ts
-    nil [] = refl
-    nil (t ∷ ts) = ap (λ us. t ∷ us) (nil ts)
-answered-more (x ∷ bs) (y ∷ cs) (suc i) c b less lt here is =
-    let next : suc i + 1 ≡ suc (i + 1) = omega arith in
-    ap (λ n. answered_back (take n (x ∷ bs)) (y ∷ cs)) next
-    ∙ ap (λ ts. answered_of x y ++ ts) (answered-more bs cs i c b (omega (arith, less)) (omega (arith, lt)) here is) ∙ rw append_assoc refl
 
 -- ## Restored
 
@@ -165,9 +127,6 @@ answered-weight (b ∷ bs) (c ∷ cs) le = by b (answered-weight bs cs (omega (a
         let f = sum_by-cons (λ (t : TakenBack). t.bytes) r (answered_back bs cs) in
         omega (arith, e, f, h)
 
-pub weight-last : (bs : List (Option (List ℕ))) (b : Option (List ℕ)) → weight (bs ++ b ∷ []) ≡ weight bs + size b
-weight-last bs b = let e = sum_by-append size bs (b ∷ []) in let f = sum_by-cons size b [] in omega (arith, e, f)
-
 pub length-restored : (bs : List (Option (List ℕ))) (cs : List ChunkPayloadData) → length (restored bs cs) ≡ length cs
 length-restored [] cs = refl
 length-restored (b ∷ bs) [] = refl
@@ -179,23 +138,6 @@ map-restored f same [] cs = refl
 map-restored f same (b ∷ bs) [] = refl
 map-restored f same (None ∷ bs) (c ∷ cs) = ap (λ ys. f c ∷ ys) (map-restored f same bs cs)
 map-restored {B} f same (Some bytes ∷ bs) (c ∷ cs) = ap (λ (y : B). y ∷ map f (restored bs cs)) (same bytes c) ∙ ap (λ ys. f c ∷ ys) (map-restored f same bs cs)
-
-pub none-left : (bs : List (Option (List ℕ))) (cs : List ChunkPayloadData) → length bs ≡ 0 → restored bs cs ≡ cs
-none-left [] cs n = refl
-none-left (b ∷ bs) cs n = absurd (omega (arith, n))
-
--- from the last place on
-pub restored-none : (bs : List (Option (List ℕ))) (cs : List ChunkPayloadData) → restored (bs ++ None ∷ []) cs ≡ restored bs cs
-restored-none [] [] = refl
-restored-none [] (c ∷ cs) = refl
-restored-none (b ∷ bs) [] = refl
-restored-none (b ∷ bs) (c ∷ cs) = ap (λ ys. restored_with b c ∷ ys) (restored-none bs cs)
-
-pub restored-last : (bs : List (Option (List ℕ))) (bytes : List ℕ) (cs : List ChunkPayloadData) (d : ChunkPayloadData) → length bs < length cs
-    → restored (bs ++ Some bytes ∷ []) cs ≡ restored bs (set cs (length bs) (as_taken_back bytes (get_or cs (length bs) d)))
-restored-last bs bytes [] d lt = absurd (omega (arith, lt))
-restored-last [] bytes (c ∷ cs) d lt = refl
-restored-last (b ∷ bs) bytes (c ∷ cs) d lt = ap (λ ys. restored_with b c ∷ ys) (restored-last bs bytes cs d (omega (arith, lt)))
 
 -- ## In flight
 

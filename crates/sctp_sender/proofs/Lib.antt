@@ -29,5 +29,9 @@ pub mod Closed
 pub mod Keepings
 pub mod Reported
 pub mod TakenBacks
+pub mod Returns
+pub mod Covers
+pub mod Placed
+pub mod Covering
 pub mod Lows
 mod Examples

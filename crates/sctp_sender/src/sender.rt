@@ -60,6 +60,7 @@ pub struct Sender {
 
 impl Model for Sender {
     ghost use Rattle.std.specs.Prelude.{◌<◌, ◌≤◌, option_map};
+    ghost use Rattle.sctp_sender.specs.Keeping.{IsCovered};
     ghost use Rattle.sctp_sender.specs.Sender.{Transmission};
     ghost use Rattle.sctp_sender.specs.Totals.{IsAllSettled};
 
@@ -70,11 +71,11 @@ impl Model for Sender {
       flight = s.flight;
       fragment_size = s.fragment_size;
       max_message_size = s.max_message_size;
-      kept = option_map (λ k. k.items) s.kept;
+      kept = option_map (λ k. k.user_data.items) s.kept;
     } };
 
     ghost invariant = { λ s. (0 < s.fragment_size) × (s.fragment_size ≤ 65519)
-        × IsAllSettled s.flight.queue };
+        × IsAllSettled s.flight.queue × IsCovered s.kept s.flight };
 }
 
 impl Sender {
@@ -640,8 +641,7 @@ fn is_full(queue: &OutboundQueue, len: usize) -> bool
 
 // Keeps what is kept now, where that changes.
 fn keep(place: &mut Option<Kept>, now: Option<Kept>)
-    ensures { option_map (λ k. k.items) place.new ≡ option_or (option_map (λ k. k.items) now)
-        (option_map (λ k. k.items) place.old) }
+    ensures { place.new ≡ option_or now place.old }
 {
     if now.is_some() {
         *place = now;

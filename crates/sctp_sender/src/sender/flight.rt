@@ -14,6 +14,7 @@ mod reporting;
 mod resending;
 mod skipping;
 mod sorting;
+pub mod taking_back;
 mod telling;
 mod walking;
 

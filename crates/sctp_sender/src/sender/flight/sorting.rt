@@ -28,7 +28,7 @@ pub(super) fn sorted_blocks(
 }
 
 // Whether each block reports something, and begins behind the one before it.
-fn ascend(blocks: &[GapAckBlock]) -> bool
+pub(super) fn ascend(blocks: &[GapAckBlock]) -> bool
     ensures { result ≡ ascends_from 0 blocks.now }
 {
     let mut last = 0;
