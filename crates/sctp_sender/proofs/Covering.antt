@@ -228,3 +228,7 @@ module _ (f : Flight) (inv : IsContiguous f) where
 pub each-ok : {A E : Type 0} (r : Result A E) {P Q : A → Type 0} → ((a : A) → P a → Q a) → IfOk r P → IfOk r Q
 each-ok (Ok a) f h = f a h
 each-ok (Err e) f h = h
+
+pub both-ok : {A E : Type 0} (r : Result A E) {P Q R : A → Type 0} → ((a : A) → P a → Q a → R a) → IfOk r P → IfOk r Q → IfOk r R
+both-ok (Ok a) f g h = f a g h
+both-ok (Err e) f g h = h

@@ -1,8 +1,8 @@
 -- What can come back stays covered.
-use Rattle.std.proofs.Common.{◌≡◌, ℕ, ◌+◌, ◌≤◌, Bool, true, false, List, [], ◌∷◌, ◌++◌, length, length-append, map, take, drop, Option, Some}
-use Rattle.std.proofs.Common.{None, inl, inr, Result, Ok, Err, refl, ap, sym, subst, ◌∙◌, arith}
-use Rattle.std.specs.Option.{option_map, option_or}
-use Rattle.std.specs.Prelude.{◌⊎◌, IfSome, IsOk, OnErr, OnOk, if◌then◌else◌, ◌==◌, ◌&&◌, ◌||◌, not, find, slice_get}
+use Rattle.std.proofs.Common.{◌≡◌, ℕ, ◌+◌, ◌≤◌, Bool, true, false, List, [], ◌∷◌, ◌++◌, length, length-append, map, take, drop, Option}
+use Rattle.std.proofs.Common.{Some}
+use Rattle.std.proofs.Common.{None, Result, Ok, Err, refl, ap, sym, subst, ◌∙◌, arith}
+use Rattle.std.specs.Prelude.{IfSome, IsOk, OnErr, OnOk, if◌then◌else◌, ◌==◌, ◌&&◌, ◌||◌, not, find, slice_get}
 use Rattle.std.specs.List.{filter, list_any}
 use Rattle.sctp_list_lemmas.specs.Kept.{numbers_from}
 use Rattle.std.proofs.lemmas.Bool.{false≢true}
@@ -16,7 +16,6 @@ use Rattle.sctp_list_lemmas.proofs.More.{fails, not_both}
 use Rattle.sctp_data.specs.declared.chunk.chunk_payload_data.ChunkPayloadData.{ChunkPayloadData}
 use Rattle.sctp_data.specs.declared.chunk.chunk_payload_data.PayloadProtocolIdentifier.{PayloadProtocolIdentifier}
 use Rattle.sctp_data.specs.declared.chunk.chunk_selective_ack.GapAckBlock.{GapAckBlock}
-use Rattle.sctp_data.specs.SelectiveAck.{Sack}
 use Rattle.sctp_outbound.specs.Marks.{as_abandoned, is_of, is_outstanding, with_retransmit}
 use Rattle.sctp_outbound.specs.outbound_queue.OutboundQueue.{Outbound, abandoned_of, all_started, append_chunks, terminal_chunk, expired_of, as_sent, sent_next}
 use Rattle.sctp_outbound.specs.outbound_queue.OutboundQueue.{sent_of, with_terminal_chunk, with_message, with_message_id}
@@ -29,8 +28,7 @@ use Rattle.sctp_stream.specs.declared.stream.StreamState.{StreamState}
 use Rattle.sctp_stream.specs.Stream.{fragment_at, fragments_of, pieces_of}
 use Rattle.sctp_sender.specs.declared.sender.flight.keeping.Kept.{Kept}
 use Rattle.sctp_sender.specs.declared.sender.refusal.SenderRefusal.{SenderRefusal}
-use Rattle.sctp_sender.specs.Flight.{Flight, after_abandonment, after_sack, can_resend, is_outdated, is_outstanding_in, message_to_abandon, resent, take_sack}
-use Rattle.sctp_sender.specs.Flight.{with_queue}
+use Rattle.sctp_sender.specs.Flight.{Flight, after_abandonment, can_resend, is_outstanding_in, message_to_abandon, resent, with_queue}
 use Rattle.sctp_sender.specs.Keeping.{Cover, IsCovered, is_uncovered, restored, with_restored}
 use Rattle.sctp_sender.proofs.Keepings.{length-restored}
 use Rattle.sctp_sender.specs.Late.{abandoned_at, abandoned_each}
@@ -353,30 +351,3 @@ restored-covered o bs f v = record {
         nor (is_uncovered blocks f.acked_tsn c) (list_any (is_uncovered blocks f.acked_tsn) (restored bs cs)) n.0 (left blocks bs cs n.1)
     left blocks (Some bytes ∷ bs) (c ∷ cs) h =
         left blocks bs cs (neither (is_uncovered blocks f.acked_tsn c) (list_any (is_uncovered blocks f.acked_tsn) cs) h).1
-
--- after a SACK, where blocks cover what is left
-pub acked-covered : (old new after : Option Kept) (s : Sack) (f g : Flight) → g ≡ after_sack s f → new ≡ option_or after old
-    → IfSome after (λ k. Cover k.reported.items k.user_data.items (after_sack s f))
-    → (after ≡ None → (option_map (λ k. k.user_data.items) old ≡ None) ⊎ (is_outdated s f ≡ true)) → IsCovered old f → IsCovered new g
-acked-covered old new after s f g is kept covered same v = subst (IsCovered new) (sym is) (record {
-  ordered = ap (λ (q : Pending). list_any (λ c. c.acked) q.ordered) (waits (is_outdated s f)) ∙ v.ordered;
-  unordered = ap (λ (q : Pending). list_any (λ c. c.acked) q.unordered) (waits (is_outdated s f)) ∙ v.unordered;
-  cover = subst (λ o. IfSome o (λ k. Cover k.reported.items k.user_data.items (after_sack s f))) (sym kept) (by after covered same);
-})
-  where
-    waits : (b : Bool) → (if b then f else take_sack s f).queue.pending ≡ f.queue.pending
-    waits true = refl
-    waits false = refl
-
-    none : (o : Option Kept) → option_map (λ k. k.user_data.items) o ≡ None → IfSome o (λ k. Cover k.reported.items k.user_data.items (after_sack s f))
-    none None e = tt
-    none (Some k) e = absurd (none-some k.user_data.items (sym e))
-
-    by : (o : Option Kept) → IfSome o (λ k. Cover k.reported.items k.user_data.items (after_sack s f))
-        → (o ≡ None → (option_map (λ k. k.user_data.items) old ≡ None) ⊎ (is_outdated s f ≡ true))
-        → IfSome (option_or o old) (λ k. Cover k.reported.items k.user_data.items (after_sack s f))
-    by (Some k) c h = c
-    by None c h = elim (h refl) [
-      | inl e ↦ none old e
-      | inr e ↦ subst (λ (x : Flight). IfSome old (λ k. Cover k.reported.items k.user_data.items x)) (sym (ap (λ b. if b then f else take_sack s f) e)) v.cover
-    ]

@@ -33,5 +33,6 @@ pub mod Returns
 pub mod Covers
 pub mod Placed
 pub mod Covering
+pub mod AnewKept
 pub mod Lows
 mod Examples

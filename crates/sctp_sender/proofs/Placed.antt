@@ -1,5 +1,6 @@
 -- What comes back, with its place.
-use Rattle.std.proofs.Common.{◌≡◌, ℕ, zero, suc, ◌+◌, ◌<◌, ◌≤◌, ◌%◌, ◌^◌, List, [], ◌∷◌, ◌++◌, length, map, take, drop, get_or, set}
+use Rattle.std.proofs.Common.{◌≡◌, ℕ, zero, suc, ◌+◌, ◌<◌, ◌≤◌, ◌%◌, ◌^◌, List, [], ◌∷◌, ◌++◌, length, map, take, drop}
+use Rattle.std.proofs.Common.{get_or, set}
 use Rattle.std.proofs.Common.{Option, Some, None, refl, ap, sym, subst, ◌∙◌, arith}
 use Rattle.std.specs.List.{All}
 use Rattle.std.proofs.lemmas.List.{append_assoc, drop_more, length-take-le, take_more, take-append-drop}
@@ -11,8 +12,9 @@ use Rattle.sctp_data.specs.declared.chunk.chunk_payload_data.ChunkPayloadData.{C
 use Rattle.sctp_data.specs.SelectiveAck.{Sack}
 use Rattle.sctp_outbound.specs.Marks.{as_taken_back}
 use Rattle.sctp_sender.specs.declared.sender.flight.keeping.TakenBack.{TakenBack}
-use Rattle.sctp_sender.specs.declared.sender.flight.taking_back.ComingBack.{ComingBack}
-use Rattle.sctp_sender.specs.Keeping.{answered_back, back_each, bytes_back, bytes_coming, placed, put_back, restored, told_back, with_restored}
+use Rattle.sctp_sender.specs.declared.sender.flight.taking_back.PlacedData.{PlacedData}
+use Rattle.sctp_sender.specs.Keeping.{answered_back, back_each, bytes_back, bytes_coming, placed, put_back, restored, told_back}
+use Rattle.sctp_sender.specs.Keeping.{with_restored}
 use Rattle.sctp_outbound.specs.outbound_queue.OutboundQueue.{with_inflight}
 use Rattle.sctp_outbound.specs.pending_queue.Whole.{partially_sent}
 use Rattle.sctp_serial.specs.DataChunks.{following_tsn}
@@ -37,7 +39,7 @@ placed-same n zero (suc j) (b ∷ bs) le none =
 placed-same n (suc i) (suc j) (None ∷ bs) le none =
     placed-same (suc n) i j bs (omega (arith, le)) (λ k low high. none (suc k) (omega (arith, low)) (omega (arith, high)))
 placed-same n (suc i) (suc j) (Some bytes ∷ bs) le none =
-    let b : ComingBack = record { place = n; user_data = bytes } in
+    let b : PlacedData = record { place = n; user_data = bytes } in
     ap (λ xs. b ∷ xs) (placed-same (suc n) i j bs (omega (arith, le)) (λ k low high. none (suc k) (omega (arith, low)) (omega (arith, high))))
 
 -- nothing from a place on
@@ -48,10 +50,10 @@ placed-end n zero (b ∷ bs) none =
     ap (λ x. placed n (x ∷ bs)) (none 0 (omega arith)) ∙ placed-end (suc n) 0 bs (λ k low. none (suc k) (omega arith))
 placed-end n (suc i) (None ∷ bs) none = placed-end (suc n) i bs (λ k low. none (suc k) (omega (arith, low)))
 placed-end n (suc i) (Some bytes ∷ bs) none =
-    let b : ComingBack = record { place = n; user_data = bytes } in
+    let b : PlacedData = record { place = n; user_data = bytes } in
     ap (λ xs. b ∷ xs) (placed-end (suc n) i bs (λ k low. none (suc k) (omega (arith, low))))
 
-abbrev pub one : ℕ → List ℕ → List ComingBack
+abbrev pub one : ℕ → List ℕ → List PlacedData
 one place bytes = record { place = place; user_data = bytes } ∷ []
 
 -- something at a place
@@ -65,7 +67,7 @@ placed-more n (suc i) m (None ∷ bs) bytes e is =
     ap (λ k. placed n (take k (None ∷ bs))) next ∙ placed-more (suc n) i m bs bytes e (omega (arith, is))
 placed-more n (suc i) m (Some first ∷ bs) bytes e is =
     let next : suc i + 1 ≡ suc (i + 1) = omega arith in
-    let b : ComingBack = record { place = n; user_data = first } in
+    let b : PlacedData = record { place = n; user_data = first } in
     ap (λ k. placed n (take k (Some first ∷ bs))) next ∙ ap (λ xs. b ∷ xs) (placed-more (suc n) i m bs bytes e (omega (arith, is)))
 
 -- ## Where each stands
@@ -92,32 +94,32 @@ placed-told n (None ∷ bs) cs d le =
     ∙ ap (λ xs. answered_back (None ∷ bs) xs) (sym (drop_more cs n d (omega (arith, le))))
 placed-told n (Some bytes ∷ bs) cs d le =
     let next : n + 1 ≡ suc n = omega arith in
-    let b : ComingBack = record { place = n; user_data = bytes } in
+    let b : PlacedData = record { place = n; user_data = bytes } in
     ap (λ xs. told_back b (get_or cs n d) ∷ xs) (placed-told (suc n) bs cs d (omega (arith, le)) ∙ ap (λ k. answered_back bs (drop k cs)) (sym next))
     ∙ ap (λ xs. answered_back (Some bytes ∷ bs) xs) (sym (drop_more cs n d (omega (arith, le))))
 
-pub told-bytes : (bs : List ComingBack) (cs : List ChunkPayloadData) (d : ChunkPayloadData)
+pub told-bytes : (bs : List PlacedData) (cs : List ChunkPayloadData) (d : ChunkPayloadData)
     → bytes_back (map (λ b. told_back b (get_or cs b.place d)) bs) ≡ bytes_coming bs
 told-bytes [] cs d = refl
 told-bytes (b ∷ bs) cs d =
     let rest = told-bytes bs cs d in
     let x = sum_by-cons (λ (t : TakenBack). t.bytes) (told_back b (get_or cs b.place d)) (map (λ b. told_back b (get_or cs b.place d)) bs) in
-    let y = sum_by-cons (λ (t : ComingBack). length t.user_data) b bs in
+    let y = sum_by-cons (λ (t : PlacedData). length t.user_data) b bs in
     omega (arith, rest, x, y)
 
 -- ## Put back
 
-pub coming-last : (bs : List ComingBack) (b : ComingBack) → bytes_coming (bs ++ b ∷ []) ≡ bytes_coming bs + length b.user_data
+pub coming-last : (bs : List PlacedData) (b : PlacedData) → bytes_coming (bs ++ b ∷ []) ≡ bytes_coming bs + length b.user_data
 coming-last bs b =
-    let e = sum_by-append (λ (t : ComingBack). length t.user_data) bs (b ∷ []) in
-    let f = sum_by-cons (λ (t : ComingBack). length t.user_data) b [] in omega (arith, e, f)
+    let e = sum_by-append (λ (t : PlacedData). length t.user_data) bs (b ∷ []) in
+    let f = sum_by-cons (λ (t : PlacedData). length t.user_data) b [] in omega (arith, e, f)
 
-pub put-last : (bs : List ComingBack) (b : ComingBack) (cs : List ChunkPayloadData)
+pub put-last : (bs : List PlacedData) (b : PlacedData) (cs : List ChunkPayloadData)
     → put_back (bs ++ b ∷ []) cs ≡ put_back bs (change_at (as_taken_back b.user_data) b.place cs)
 put-last [] b cs = refl
 put-last (x ∷ bs) b cs = ap (change_at (as_taken_back x.user_data) x.place) (put-last bs b cs)
 
-pub last-is : (bs : List ComingBack) (b d : ComingBack) → get_or (bs ++ b ∷ []) (length bs) d ≡ b
+pub last-is : (bs : List PlacedData) (b d : PlacedData) → get_or (bs ++ b ∷ []) (length bs) d ≡ b
 last-is [] b d = refl
 last-is (x ∷ bs) b d = last-is bs b d
 
@@ -164,12 +166,12 @@ placed-put bs cs d le = placed-put-from 0 bs cs d (omega (arith, le))
 
 -- ## In flight
 
-put-length : (bs : List ComingBack) (cs : List ChunkPayloadData) → length (put_back bs cs) ≡ length cs
+put-length : (bs : List PlacedData) (cs : List ChunkPayloadData) → length (put_back bs cs) ≡ length cs
 put-length [] cs = refl
 put-length (b ∷ bs) cs = length-changed (as_taken_back b.user_data) b.place (put_back bs cs) ∙ put-length bs cs
 
 put-map : {B : Type 0} (f : ChunkPayloadData → B) → ((bytes : List ℕ) (c : ChunkPayloadData) → f (as_taken_back bytes c) ≡ f c)
-    → (bs : List ComingBack) (cs : List ChunkPayloadData) → map f (put_back bs cs) ≡ map f cs
+    → (bs : List PlacedData) (cs : List ChunkPayloadData) → map f (put_back bs cs) ≡ map f cs
 put-map f same [] cs = refl
 put-map {B} f same (b ∷ bs) cs = one b.place (put_back bs cs) ∙ put-map f same bs cs
   where
@@ -178,7 +180,7 @@ put-map {B} f same (b ∷ bs) cs = one b.place (put_back bs cs) ∙ put-map f sa
     one zero (x ∷ xs) = ap (λ (y : B). y ∷ map f xs) (same b.user_data x)
     one (suc i) (x ∷ xs) = ap (λ ys. f x ∷ ys) (one i xs)
 
-pub put-contiguous : (bs : List ComingBack) (f : Flight) → IsContiguous f
+pub put-contiguous : (bs : List PlacedData) (f : Flight) → IsContiguous f
     → IsContiguous (with_queue f (with_inflight f.queue (put_back bs f.queue.inflight.chunks)))
 put-contiguous bs f inv =
     let cs = f.queue.inflight.chunks in
@@ -192,7 +194,7 @@ put-contiguous bs f inv =
           (sym (put-map (λ c. c.message_id) (λ bytes c. refl) bs cs)) inv.side_by_side;
     }
 
-pub put-restored : (f : Flight) (backs : List ComingBack) (bs : List Data) → backs ≡ placed 0 bs → length bs ≤ length f.queue.inflight.chunks
+pub put-restored : (f : Flight) (backs : List PlacedData) (bs : List Data) → backs ≡ placed 0 bs → length bs ≤ length f.queue.inflight.chunks
     → with_queue f (with_inflight f.queue (put_back backs f.queue.inflight.chunks)) ≡ with_restored bs f
 put-restored f backs bs is le = ap (λ cs. with_queue f (with_inflight f.queue cs))
     (ap (λ xs. put_back xs f.queue.inflight.chunks) is ∙ placed-put bs f.queue.inflight.chunks any_chunk le)

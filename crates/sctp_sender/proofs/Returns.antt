@@ -1,6 +1,7 @@
 -- A walk over the places where something can come back, and over the blocks of a SACK.
-use Rattle.std.proofs.Common.{◌≡◌, ℕ, zero, suc, ◌+◌, ◌-◌, ◌<◌, ◌≤◌, Bool, true, false, List, [], ◌∷◌, length, take, drop, get_or, refl, ap, sym, subst}
-use Rattle.std.proofs.Common.{◌∙◌, inl, inr, slice_get, Some, None, arith}
+use Rattle.std.proofs.Common.{◌≡◌, ℕ, zero, suc, ◌+◌, ◌-◌, ◌<◌, ◌≤◌, Bool, true, false, List, [], ◌∷◌, length, take, drop, get_or, refl, ap, sym}
+use Rattle.std.proofs.Common.{subst}
+use Rattle.std.proofs.Common.{◌∙◌, inl, inr, slice_get, None, arith}
 use Rattle.std.specs.Prelude.{Option, if◌then◌else◌, ◌&&◌, ◌||◌, not, nat_le, nat_lt}
 use Rattle.std.proofs.lemmas.Bool.{cases_lt, false≢true}
 use Rattle.std.proofs.lemmas.Bool.Decides.{nat_tests}
@@ -12,7 +13,7 @@ use Rattle.sctp_list_lemmas.proofs.More.{fails}
 use Rattle.sctp_data.specs.declared.chunk.chunk_payload_data.ChunkPayloadData.{ChunkPayloadData}
 use Rattle.sctp_data.specs.declared.chunk.chunk_selective_ack.GapAckBlock.{GapAckBlock}
 use Rattle.sctp_outbound.specs.payload_queue.Blocks.{is_in_block, is_in_blocks}
-use Rattle.sctp_sender.specs.Keeping.{ArePassed, can_at, can_come_back, return_at, returns_at}
+use Rattle.sctp_sender.specs.Keeping.{ArePassed, can_at, return_at, returns_at}
 use Rattle.sctp_sender.specs.Reporting.{ascends_from}
 use Rattle.sctp_sender.specs.Telling.{is_reached}
 use Rattle.sctp_sender.proofs.Anew.{any-at, both, in-block, none-up-to}

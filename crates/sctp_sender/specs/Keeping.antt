@@ -1,8 +1,8 @@
 -- What a sender keeps of the chunks that gap ack blocks reported, and what a SACK takes back of that (RFC 4960 6.2.1 D iv).
-use Rattle.std.specs.Prelude.{◌≡◌, ℕ, suc, ◌+◌, ◌<◌, ◌≤◌, Bool, false, true, not, ◌&&◌, if◌then◌else◌, List, [], ◌∷◌, ◌++◌, length, map, take, drop}
-use Rattle.std.specs.Prelude.{slice_index_or}
+use Rattle.std.specs.Prelude.{◌≡◌, ◌==◌, ◌^◌, ℕ, zero, suc, ◌+◌, ◌<◌, ◌≤◌, Bool, false, true, not, ◌&&◌, if◌then◌else◌, List, [], ◌∷◌, ◌++◌, length, map, take}
+use Rattle.std.specs.Prelude.{drop, slice_index_or}
 use Rattle.std.specs.Prelude.{Option, Some, None, IfSome}
-use Rattle.std.specs.List.{list_any, sum_by}
+use Rattle.std.specs.List.{All, list_any, sum_by}
 use Rattle.sctp_list_lemmas.specs.Lists.{change_at, change_where}
 use Rattle.sctp_list_lemmas.specs.Serial.{distance}
 use Rattle.sctp_data.specs.declared.chunk.chunk_payload_data.ChunkPayloadData.{ChunkPayloadData}
@@ -13,9 +13,10 @@ use Rattle.sctp_outbound.specs.outbound_queue.OutboundQueue.{with_inflight}
 use Rattle.sctp_outbound.specs.payload_queue.Blocks.{is_in_blocks}
 use Rattle.sctp_stream.specs.Stats.{count_up}
 use Rattle.sctp_stream.specs.declared.stream.StreamState.{StreamState}
+use Rattle.sctp_sender.specs.declared.sender.flight.anew.Anew.{Anew}
 use Rattle.sctp_sender.specs.declared.sender.flight.keeping.Kept.{Kept}
 use Rattle.sctp_sender.specs.declared.sender.flight.keeping.TakenBack.{TakenBack}
-use Rattle.sctp_sender.specs.declared.sender.flight.taking_back.ComingBack.{ComingBack}
+use Rattle.sctp_sender.specs.declared.sender.flight.taking_back.PlacedData.{PlacedData}
 use Rattle.sctp_sender.specs.Flight.{Flight, count_acked, is_outdated, reports, reports_anew, with_queue}
 use Rattle.sctp_sender.specs.Outgoing.{has_number}
 use Rattle.sctp_sender.specs.Reporting.{ascends_from}
@@ -163,12 +164,12 @@ return_at count blocks chunks ks k =
 -- ## What comes back, with its place
 
 -- those of which there is something, the first at the place
-abbrev pub placed : ℕ → List (Option (List ℕ)) → List ComingBack
+abbrev pub placed : ℕ → List (Option (List ℕ)) → List PlacedData
 placed n [] = []
 placed n (None ∷ ks) = placed (suc n) ks
 placed n (Some bytes ∷ ks) = record { place = n; user_data = bytes } ∷ placed (suc n) ks
 
-abbrev pub told_back : ComingBack → ChunkPayloadData → TakenBack
+abbrev pub told_back : PlacedData → ChunkPayloadData → TakenBack
 told_back b c = record {
   tsn = c.tsn;
   stream = c.stream_identifier;
@@ -176,10 +177,54 @@ told_back b c = record {
   message = c.message_id;
 }
 
-abbrev pub bytes_coming : List ComingBack → ℕ
+abbrev pub bytes_coming : List PlacedData → ℕ
 bytes_coming bs = sum_by (λ b. length b.user_data) bs
 
 -- each chunk is outstanding again, with what comes back of it
-abbrev pub put_back : List ComingBack → List ChunkPayloadData → List ChunkPayloadData
+abbrev pub put_back : List PlacedData → List ChunkPayloadData → List ChunkPayloadData
 put_back [] cs = cs
 put_back (b ∷ bs) cs = change_at (as_taken_back b.user_data) b.place (put_back bs cs)
+
+-- ## What a SACK reports anew, with its place past those that it reports cumulatively
+
+-- the user data is that of the chunk at its place past the first so many
+abbrev pub IsOwn : ℕ → List ChunkPayloadData → PlacedData → Type 0
+IsOwn count cs b = (d : ChunkPayloadData) → (count + b.place < length cs)
+    × ((slice_index_or cs (count + b.place) d).user_data ≡ b.user_data)
+
+abbrev pub is_at : ℕ → PlacedData → Bool
+is_at k b = b.place == k
+
+-- that of each chunk past those that the SACK reports anew
+pub record AreAnew (s : Sack) (f : Flight) (bs : List PlacedData) : Type 0 where
+  pub own : All (IsOwn (count_acked s f) f.queue.inflight.chunks) bs
+  pub small : All (λ b. b.place < 2 ^ 31) bs
+  pub each : (k : ℕ) (d : ChunkPayloadData)
+      → count_acked s f + k < length f.queue.inflight.chunks → list_any (is_at k) bs
+      ≡ reports_anew s (slice_index_or f.queue.inflight.chunks (count_acked s f + k) d)
+
+-- as many places, with nothing at those that were not there
+abbrev pub filled : ℕ → List (Option (List ℕ)) → List (Option (List ℕ))
+filled zero ks = ks
+filled (suc n) [] = None ∷ filled n []
+filled (suc n) (k ∷ ks) = k ∷ filled n ks
+
+-- what is kept, with this at a place
+abbrev pub kept_with : ℕ → List ℕ → List (Option (List ℕ)) → List (Option (List ℕ))
+kept_with zero bytes [] = Some bytes ∷ []
+kept_with zero bytes (k ∷ ks) = Some bytes ∷ ks
+kept_with (suc n) bytes [] = None ∷ kept_with n bytes []
+kept_with (suc n) bytes (k ∷ ks) = k ∷ kept_with n bytes ks
+
+abbrev pub put_all : List PlacedData → List (Option (List ℕ)) → List (Option (List ℕ))
+put_all [] ks = ks
+put_all (b ∷ bs) ks = kept_with b.place b.user_data (put_all bs ks)
+
+-- what is kept then, and by which blocks it is covered, where there is something to do
+abbrev pub data_after : Option Anew → List (Option (List ℕ)) → List (Option (List ℕ))
+data_after None ks = ks
+data_after (Some a) ks = put_all a.chunks.items (drop a.count ks)
+
+abbrev pub blocks_after : Option Anew → List GapAckBlock → List GapAckBlock
+blocks_after None bs = bs
+blocks_after (Some a) bs = a.reported.items

@@ -1,7 +1,6 @@
 //! The sending half of a link (RFC 4960 6.1, 6.2.1, 6.9).
 
 ghost use Rattle.std.specs.Prelude.{◌≡◌, ◌≢◌, ◌==◌, ◌<◌, ◌≤◌, ◌⊎◌, ℕ, Bool, true, false, not, None, Some, OnOk, OnErr, IfOk, IfErr, IfSome, IsOk, IsOkUnless, ◌+◌, option_map, option_copied, option_to_list, is_some, map, find, length, if◌then◌else◌};
-ghost use Rattle.std.specs.Option.{option_or};
 ghost use Rattle.std.specs.List.{count_by, list_any, sum_by};
 ghost use Rattle.sctp_sender.specs.Outgoing.{after_releases};
 ghost use Rattle.sctp_sender.specs.Thresholds.{with_lows};
@@ -18,6 +17,7 @@ mod settings;
 pub mod total;
 mod walking;
 
+use self::flight::anew::{keep_anew, make_room};
 use self::flight::keeping::Kept;
 use self::flight::late::AbandonedMessage;
 use self::flight::{InFlight, Released};
@@ -560,9 +560,10 @@ impl Sender {
         ensures outdated { is_outdated (sack_of sack.now) self.old.flight ≡ true → IsOk result }
         ensures err { OnErr result (self.new ≡ self.old) }
     {
-        let kept = self.kept_after(sack)?;
+        let anew = self.anew_by(sack)?;
+        make_room(&mut self.kept, &anew)?;
         let mut released = self.flight.acked(self.alloc, sack)?;
-        keep(&mut self.kept, kept);
+        keep_anew(&mut self.kept, anew);
         release_each(&mut self.streams, &mut released);
         Ok(released)
     }
@@ -636,15 +637,6 @@ fn is_full(queue: &OutboundQueue, len: usize) -> bool
     match queue.pending_bytes().checked_add(queue.inflight_bytes()) {
         Some(held) => held.checked_add(len).is_none(),
         None => true,
-    }
-}
-
-// Keeps what is kept now, where that changes.
-fn keep(place: &mut Option<Kept>, now: Option<Kept>)
-    ensures { place.new ≡ option_or now place.old }
-{
-    if now.is_some() {
-        *place = now;
     }
 }
 

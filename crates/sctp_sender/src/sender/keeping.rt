@@ -2,22 +2,24 @@
 
 ghost use Rattle.std.specs.Prelude.{◌≡◌, ◌+◌, ◌^◌, ◌<◌, ◌⊎◌, ◌==◌, [], true, false, nat_lt, None, Some, OnOk, OnErr, IfOk, IfErr, IfSome, IsOk, length, option_map, if◌then◌else◌};
 ghost use Rattle.std.specs.List.{All};
-ghost use Rattle.std.specs.Option.{option_or};
 ghost use Rattle.sctp_outbound.specs.outbound_queue.OutboundQueue.{total_bytes};
-ghost use Rattle.sctp_sender.specs.Keeping.{Cover, after_returns, bytes_back, kept_after};
+ghost use Rattle.sctp_sender.specs.Keeping.{AreAnew, Cover, after_returns, bytes_back, kept_after};
 ghost use Rattle.sctp_sender.specs.declared.sender.refusal.SenderRefusal.TheVariants.{ChunksInFlight, OutOfMemory};
 
 use super::Sender;
+use super::flight::anew::Anew;
 use super::flight::keeping::{Kept, TakenBack, answered_back};
 use super::outbound_streams::OutboundStreams;
 use crate::sender::refusal::SenderRefusal;
 use sctp_data::chunk::chunk_selective_ack::ChunkSelectiveAck;
 use sctp_outbound::outbound_queue::OutboundQueue;
+use sctp_serial::serial::distance;
 use std::alloc::Global;
+use std::collections::VecDeque;
 
 impl Sender {
     ghost use Rattle.sctp_data.specs.SelectiveAck.{sack_of};
-    ghost use Rattle.sctp_sender.specs.Flight.{after_sack, can_resend, is_outdated, sack_refusal};
+    ghost use Rattle.sctp_sender.specs.Flight.{after_sack, can_resend, count_acked, is_outdated, sack_refusal};
     ghost use Rattle.sctp_sender.specs.Sender.{after_take_back, keeping, take_back_refusal, taken_back_by};
 
     /// From here on the user data of each chunk that a gap ack block reports is kept until the cumulative TSN passes it (RFC 4960
@@ -34,7 +36,7 @@ impl Sender {
             return Err(SenderRefusal::ChunksInFlight);
         }
         self.kept = Some(Kept {
-            user_data: Vec::new(self.alloc),
+            user_data: VecDeque::new(self.alloc),
             reported: Vec::new(self.alloc),
         });
         Ok(())
@@ -79,15 +81,20 @@ impl Sender {
         Ok(answered)
     }
 
-    // What is kept after a SACK; None where that is as before: nothing is kept, or the SACK is out of date. Refuses what `acked`
-    // refuses.
-    pub(super) fn kept_after(&self, sack: &ChunkSelectiveAck) -> Result<Option<Kept>, SenderRefusal>
-        ensures ok { IfOk result (λ after.
-            option_or (option_map (λ k. k.user_data.items) after) self.now.kept
-            ≡ option_map (kept_after (sack_of sack.now) self.now.flight) self.now.kept) }
-        ensures covered { IfOk result (λ after. IfSome after (λ k. Cover k.reported.items
-            k.user_data.items (after_sack (sack_of sack.now) self.now.flight))) }
-        ensures same { IfOk result (λ after. after ≡ None → (self.now.kept ≡ None)
+    // What a SACK makes of what is kept; None where that stays as it is: nothing is kept, or the SACK is out of date. Refuses what
+    // `acked` refuses.
+    pub(super) fn anew_by(&self, sack: &ChunkSelectiveAck) -> Result<Option<Anew>, SenderRefusal>
+        ensures anew { IfOk result (λ anew. IfSome anew (λ a.
+            (a.count ≡ count_acked (sack_of sack.now) self.now.flight)
+            × AreAnew (sack_of sack.now) self.now.flight a.chunks.items)) }
+        ensures current { IfOk result (λ anew. IfSome anew
+            (λ a. is_outdated (sack_of sack.now) self.now.flight ≡ false)) }
+        ensures taken { IfOk result (λ anew. IfSome anew
+            (λ a. sack_refusal (sack_of sack.now) self.now.flight ≡ None)) }
+        ensures covered { IfOk result (λ anew. IfSome anew (λ a. IfSome self.now.kept
+            (λ ks. Cover a.reported.items (kept_after (sack_of sack.now) self.now.flight ks)
+            (after_sack (sack_of sack.now) self.now.flight)))) }
+        ensures same { IfOk result (λ anew. anew ≡ None → (self.now.kept ≡ None)
             ⊎ (is_outdated (sack_of sack.now) self.now.flight ≡ true)) }
         ensures refused { IfErr result
             (λ e. ((e ≡ OutOfMemory) × (sack_refusal (sack_of sack.now) self.now.flight ≡ None))
@@ -100,10 +107,12 @@ impl Sender {
         if !self.flight.is_current(sack)? {
             return Ok(None);
         }
+        let count = distance(self.flight.acked_tsn(), sack.cumulative_tsn_ack) as usize;
+        let chunks = self.flight.reported_anew(self.alloc, sack)?;
         let reported = self.flight.reported_after(self.alloc, sack, kept)?;
-        let user_data = self.flight.kept_after(self.alloc, sack, &kept.user_data)?;
-        Ok(Some(Kept {
-            user_data,
+        Ok(Some(Anew {
+            count,
+            chunks,
             reported,
         }))
     }

@@ -10,7 +10,7 @@ ghost use Rattle.sctp_outbound.specs.outbound_queue.OutboundQueue.{with_inflight
 ghost use Rattle.sctp_outbound.specs.pending_queue.Whole.{partially_sent};
 ghost use Rattle.sctp_serial.specs.DataChunks.{tsns};
 ghost use Rattle.sctp_sender.specs.declared.sender.refusal.SenderRefusal.TheVariants.{OutOfMemory};
-ghost use Rattle.sctp_sender.specs.Flight.{tsns_from, reports_anew, is_within};
+ghost use Rattle.sctp_sender.specs.Flight.{tsns_from, is_within};
 ghost use Rattle.sctp_sender.specs.Reporting.{after_block, after_blocks, goes_from_to, HasEnds, Marks};
 ghost use Rattle.sctp_sender.specs.SideBySide.{IsApartAt, StandSideBySide, messages_of};
 
@@ -18,7 +18,7 @@ use super::sorting::sorted_blocks;
 use super::telling::{acknowledge_answered, judge_each, tell_anew};
 use super::{InFlight, Released};
 use crate::sender::refusal::SenderRefusal;
-use sctp_base::util::{sna32lt, sna32lte};
+use sctp_base::util::sna32lt;
 use sctp_data::chunk::chunk_payload_data::ChunkPayloadData;
 use sctp_data::chunk::chunk_selective_ack::{ChunkSelectiveAck, GapAckBlock};
 use sctp_outbound::outbound_queue::OutboundQueue;
@@ -194,19 +194,6 @@ fn after_block(block: &GapAckBlock) -> u32
         return 0;
     }
     u32::from(block.end) + 1
-}
-
-// Whether a SACK reports the TSN, where the distances that it reports are marked.
-pub(super) fn is_reported(sack: &ChunkSelectiveAck, marks: &[bool], tsn: u32) -> bool
-    requires { Marks marks.now (sack_of sack.now).gap_ack_blocks }
-    ensures { (c : ChunkPayloadData)
-        → c.tsn ≡ tsn → c.acked ≡ false → result ≡ reports_anew (sack_of sack.now) c }
-{
-    if sna32lte(tsn, sack.cumulative_tsn_ack) {
-        return true;
-    }
-    let offset = distance(sack.cumulative_tsn_ack, tsn) as usize;
-    offset < marks.len() && marks[offset]
 }
 
 // The first place from this one on from where no chunk in flight is of the message of one before it.

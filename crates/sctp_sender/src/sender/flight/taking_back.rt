@@ -18,12 +18,12 @@ use sctp_serial::serial::distance;
 use sctp_stream::stream_numbers::put;
 use std::alloc::Global;
 
-/// The user data that comes back of a chunk in flight.
+/// User data that is kept or comes back, with its place.
 #[derive(Drop)]
-pub struct ComingBack {
-    /// The place of the chunk.
+pub struct PlacedData {
+    /// The place of its chunk in flight, from 0.
     pub place: usize,
-    /// Its user data.
+    /// The user data of the chunk.
     pub user_data: Bytes,
 }
 
@@ -39,7 +39,7 @@ impl InFlight {
         alloc: Global,
         sack: &ChunkSelectiveAck,
         kept: &Kept,
-    ) -> Result<Vec<ComingBack>, SenderRefusal>
+    ) -> Result<Vec<PlacedData>, SenderRefusal>
         requires taken { sack_refusal (sack_of sack.now) self.now ≡ None }
         requires current { is_outdated (sack_of sack.now) self.now ≡ false }
         requires covered { Cover kept.now.reported.items kept.now.user_data.items self.now }
@@ -94,7 +94,7 @@ fn returning(
     kept: &Kept,
     count: usize,
     blocks: &[GapAckBlock],
-) -> Result<Vec<ComingBack>, SenderRefusal>
+) -> Result<Vec<PlacedData>, SenderRefusal>
     requires ascend { ascends_from 0 kept.now.reported.items ≡ true }
     requires sorted { ascends_from 0 blocks.now ≡ true }
     requires few { count < 2 ^ 31 }
@@ -121,7 +121,7 @@ fn returning(
         if backs.reserve(1).is_err() {
             return Err(SenderRefusal::OutOfMemory);
         }
-        put(&mut backs, ComingBack { place, user_data });
+        put(&mut backs, PlacedData { place, user_data });
     }
     Ok(backs)
 }

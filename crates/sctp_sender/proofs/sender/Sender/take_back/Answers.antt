@@ -10,7 +10,7 @@ use Rattle.sctp_serial.specs.DataChunks.{bytes_of}
 use Rattle.sctp_stream.specs.declared.stream.StreamState.{StreamState}
 use Rattle.sctp_sender.specs.Flight.{Flight, can_resend, is_outdated}
 use Rattle.sctp_sender.specs.declared.sender.flight.keeping.TakenBack.{TakenBack}
-use Rattle.sctp_sender.specs.declared.sender.flight.taking_back.ComingBack.{ComingBack}
+use Rattle.sctp_sender.specs.declared.sender.flight.taking_back.PlacedData.{PlacedData}
 use Rattle.sctp_sender.specs.Keeping.{IsCovered, after_returns, back_each, bytes_back, bytes_coming, placed, restored, told_back, answered_back, with_restored}
 use Rattle.sctp_sender.specs.Sender.{Transmission, after_take_back, back_by, take_back_refusal, taken_back_by}
 use Rattle.sctp_sender.specs.Totals.{IsAllSettled}
@@ -42,8 +42,8 @@ answered_back-requires c =
     let le : length dense ≤ length cs = back-length s cs ks in
     λ k d lt.
     let within = placed-within 0 (length cs) dense (omega (arith, le)) in
-    let here : All (λ (b : ComingBack). b.place < length cs) c.deref.result.now =
-    subst (λ (xs : List ComingBack). All (λ (b : ComingBack). b.place < length cs) xs)
+    let here : All (λ (b : PlacedData). b.place < length cs) c.deref.result.now =
+    subst (λ (xs : List PlacedData). All (λ (b : PlacedData). b.place < length cs) xs)
     (sym (c.deref.ensures.value ∙ is)) within in
     let n = ap (λ (o : Outbound). length o.inflight.chunks) c.queue.ensures in
     let h = here k d lt in omega (arith, h, n)
@@ -97,7 +97,7 @@ restore-requires-clause-within c =
     let backs = c.in_ok-backs.backs.items in
     let is : backs ≡ placed 0 dense = c.in_ok-backs.ensures.ok in
     let le : length dense ≤ length cs = back-length s cs ks in
-    subst (λ (xs : List ComingBack). All (λ (b : ComingBack). b.place < length cs) xs) (sym is) (placed-within 0 (length cs) dense (omega (arith, le)))
+    subst (λ (xs : List PlacedData). All (λ (b : PlacedData). b.place < length cs) xs) (sym is) (placed-within 0 (length cs) dense (omega (arith, le)))
 
 pub restore-requires-clause-bytes : goal.restore-requires-clause-bytes
 restore-requires-clause-bytes c =

@@ -1,7 +1,7 @@
 use Rattle.std.proofs.Common.{◌≡◌, ◌+◌, ◌<◌, ◌≤◌, ◌++◌, ◌∷◌, [], List, length, length-append, map, take, get_or, ap, sym, ◌∙◌, arith}
 use Rattle.std.proofs.lemmas.List.{get_or_default, map-append, take_more, take_all}
 use Rattle.sctp_sender.specs.declared.sender.flight.keeping.TakenBack.{TakenBack}
-use Rattle.sctp_sender.specs.declared.sender.flight.taking_back.ComingBack.{ComingBack}
+use Rattle.sctp_sender.specs.declared.sender.flight.taking_back.PlacedData.{PlacedData}
 use Rattle.sctp_sender.specs.Keeping.{told_back}
 use Rattle.sctp_sender.proofs.Walks.{read-of}
 use Rattle.sctp_sender.proofs.sender.flight.keeping.answered_back.Goals as goal
@@ -11,7 +11,7 @@ loop-back-preserved c =
     let cs = c.args.queue.now.inflight.chunks in
     let bs = c.args.backs.now in
     let i = c.loop-back.back-index in
-    let b : ComingBack = c.back-item.result in
+    let b : PlacedData = c.back-item.result in
     let x = c.in-Some.chunk.now in
     let inv = c.loop-back.invariant in
     let at = read-of cs b.place x (sym c.in-Some.ensures) in
@@ -21,7 +21,7 @@ loop-back-preserved c =
     let next : take (i + 1) bs ≡ take i bs ++ b ∷ [] = take_more bs i b lt ∙ ap (λ y. take i bs ++ y ∷ []) (sym c.back-item.is) in
     record {
       answered = λ d.
-          let f : ComingBack → TakenBack = λ y. told_back y (get_or cs y.place d) in
+          let f : PlacedData → TakenBack = λ y. told_back y (get_or cs y.place d) in
           let same : c.taken_back.result ≡ f b = c.taken_back.ensures ∙ ap (told_back b) (at.1 ∙ get_or_default cs b.place x d at.0) in
           c.put.ensures.items ∙ ap (λ (ts : List TakenBack). ts ++ c.taken_back.result ∷ []) (inv.answered d)
           ∙ ap (λ (r : TakenBack). map f (take i bs) ++ r ∷ []) same ∙ sym (map-append f (take i bs) (b ∷ [])) ∙ ap (map f) (sym next);
@@ -33,6 +33,6 @@ pub returns-clause-ok : goal.returns-clause-ok
 returns-clause-ok c = λ d.
     let cs = c.args.queue.now.inflight.chunks in
     let bs = c.args.backs.now in
-    let f : ComingBack → TakenBack = λ y. told_back y (get_or cs y.place d) in
+    let f : PlacedData → TakenBack = λ y. told_back y (get_or cs y.place d) in
     let all : length bs ≤ c.loop-back.back-index = c.loop-back-test.false in
     c.loop-back.invariant.answered d ∙ ap (map f) (take_all c.loop-back.back-index bs all)

@@ -1,9 +1,9 @@
-use Rattle.std.proofs.Common.{◌≡◌, ◌+◌, ◌++◌, ℕ, List, take, get_or, Some, None, Option, inl, inr, refl, ap, sym, subst, ◌∙◌, arith}
+use Rattle.std.proofs.Common.{◌≡◌, ◌+◌, ◌++◌, List, take, get_or, Some, None, inl, inr, refl, ap, sym, subst, ◌∙◌, arith}
 use Rattle.std.specs.Prelude.{false}
 use Rattle.std.proofs.lemmas.Bool.{cases_lt}
 use Rattle.sctp_data.specs.declared.chunk.chunk_selective_ack.GapAckBlock.{GapAckBlock}
 use Rattle.sctp_outbound.specs.payload_queue.Blocks.{is_in_blocks}
-use Rattle.sctp_sender.specs.declared.sender.flight.taking_back.ComingBack.{ComingBack}
+use Rattle.sctp_sender.specs.declared.sender.flight.taking_back.PlacedData.{PlacedData}
 use Rattle.sctp_sender.specs.Keeping.{return_at}
 use Rattle.sctp_sender.proofs.Placed.{one, placed-end, placed-more, placed-same}
 use Rattle.sctp_sender.proofs.Returns.{none-at, none-below, some-at}
@@ -25,8 +25,7 @@ loop-at-preserved-in_default c =
     let j = c.next_return.new.at.block in
     let e = c.next_return.ensures in
     let on = e.on in
-    let empty : get_or c.args.kept.now.user_data.items p None ≡ None = ap (λ (xs : List (Option (List ℕ))). get_or xs p None)
-    (sym c.deref-in-loop-at.ensures.value) ∙ sym c.in_default.ensures in
+    let empty : get_or c.args.kept.now.user_data.items p None ≡ None = sym c.in_default.ensures in
     record {
       from = let f = c.loop-at.invariant.from in omega (arith, f, on);
       passed = λ n lt. subst (λ (xs : List GapAckBlock). is_in_blocks (take i xs) n ≡ false) c.deref.ensures.value (e.passed n (omega (arith, lt)));
@@ -50,13 +49,12 @@ loop-at-preserved c =
     let e = c.next_return.ensures in
     let on = e.on in
     let bytes = c.in_ok-user_data.user_data in
-    let full : get_or c.args.kept.now.user_data.items p None ≡ Some bytes = ap (λ (xs : List (Option (List ℕ))). get_or xs p None)
-    (sym c.deref-in-loop-at.ensures.value) ∙ sym c.in-Some.ensures ∙ ap Some (sym c.in_ok-user_data.ensures.ok) in
+    let full : get_or c.args.kept.now.user_data.items p None ≡ Some bytes = sym c.in-Some.ensures ∙ ap Some (sym c.in_ok-user_data.ensures.ok) in
     record {
       from = let f = c.loop-at.invariant.from in omega (arith, f, on);
       passed = λ n lt. subst (λ (xs : List GapAckBlock). is_in_blocks (take i xs) n ≡ false) c.deref.ensures.value (e.passed n (omega (arith, lt)));
       reported = λ n lt. e.reported n (omega (arith, lt));
-      backs = λ bs is. c.put.ensures.items ∙ ap (λ (xs : List ComingBack). xs ++ one p bytes) (c.reserve.ensures.items ∙ c.loop-at.invariant.backs bs is
+      backs = λ bs is. c.put.ensures.items ∙ ap (λ (xs : List PlacedData). xs ++ one p bytes) (c.reserve.ensures.items ∙ c.loop-at.invariant.backs bs is
           ∙ sym (placed-same 0 c.loop-at.at.place p bs (omega (arith, on)) (λ k low high. is k
           ∙ none-at c.args.count c.args.blocks.now c.args.queue.now.inflight.chunks c.args.kept.now.user_data.items k (e.before k low high))))
           ∙ sym (placed-more 0 p p bs bytes (is p ∙ some-at c.args.count c.args.blocks.now c.args.queue.now.inflight.chunks c.args.kept.now.user_data.items
