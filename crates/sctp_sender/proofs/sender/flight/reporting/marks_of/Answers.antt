@@ -7,7 +7,7 @@ use Rattle.std.proofs.lemmas.List.{get_or_append_left, get_or_default, get_or_pa
 use Rattle.sctp_list_lemmas.proofs.Cases.{by_last}
 use Rattle.sctp_outbound.specs.payload_queue.Blocks.{is_in_blocks}
 use Rattle.sctp_sender.proofs.Offsets.{end-more, goes_past, max-is, none-before, none-behind, past-is-in}
-use Rattle.sctp_sender.proofs.sender.flight.reporting.marks_of_counted.Goals as goal
+use Rattle.sctp_sender.proofs.sender.flight.reporting.marks_of.Goals as goal
 
 pub loop-offset-init : goal.loop-offset-init
 loop-offset-init c = record {

@@ -3,7 +3,7 @@ use Rattle.std.specs.Prelude.{nat_lt, vec_capacity}
 use Rattle.std.specs.List.{list_any}
 use Rattle.sctp_outbound.specs.payload_queue.Blocks.{is_in_blocks}
 use Rattle.sctp_sender.proofs.Offsets.{goes_past}
-use Rattle.sctp_sender.proofs.sender.flight.reporting.marks_of_counted.Given as goal
+use Rattle.sctp_sender.proofs.sender.flight.reporting.marks_of.Given as goal
 
 abbrev pub invariant-loop-offset : goal.invariant-loop-offset
 invariant-loop-offset l = record {
