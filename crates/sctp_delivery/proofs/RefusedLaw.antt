@@ -80,7 +80,7 @@ limits-after (incoming.follows g) old new f = ap (λ (r : Reception). r.limits) 
 limits-after (incoming.reports credit) old new f = ap (λ (r : Reception). r.limits) f.step.receiver
 limits-after (incoming.reads stream) old new f = ap (λ (r : Reception). r.limits) f.step.receiver
 
-limits-same : (cs : List Call) (old new : Session) → RunsTo old cs new → new.receiving.receiver.limits ≡ old.receiving.receiver.limits
+pub limits-same : (cs : List Call) (old new : Session) → RunsTo old cs new → new.receiving.receiver.limits ≡ old.receiving.receiver.limits
 limits-same [] old new r = ap (λ (s : Session). s.receiving.receiver.limits) r
 limits-same (of_sender call ∷ cs) old new r =
     limits-same cs r.0 new r.1.1 ∙ ap (λ (s : Session). s.receiving.receiver.limits) r.1.0.after

@@ -4,6 +4,7 @@
 pub mod arrived;
 pub mod drained;
 pub mod emptied;
+pub mod ended;
 pub mod forwarded;
 pub mod in_order;
 pub mod laws;

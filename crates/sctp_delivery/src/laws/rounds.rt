@@ -1,6 +1,7 @@
 //! Exchanges that get through empty the sender: a FORWARD-TSN passes what is abandoned, and each SACK of a receiver that is caught up
 //! leaves fewer chunks in flight (RFC 4960 6.2.1; RFC 3758 3.5).
 
+ghost use Rattle.sctp_delivery.specs.Ending.{AfterEachSessionWithTsnsLeft, EndsWhereTaken};
 ghost use Rattle.sctp_delivery.specs.Messages.{WhileFewTsns};
 ghost use Rattle.sctp_delivery.specs.Rounds.{AfterEachFitReliableSession, AfterEachFitSessionOfFewTsns, AllIsReadAfterRounds, CanBeAnswered, EachAnswerLeavesFewer, EachCanGoOn, EachRoundTakesOne, RoundsEnd, SkipsToPoint};
 ghost use Rattle.sctp_delivery.specs.Sacks.{AfterEachSessionOfFewTsns};
@@ -42,4 +43,12 @@ pub fn rounds_end()
 /// is a message to read, each write was read exactly once. So it is in sessions that give out fewer than 2^31 TSNs.
 pub fn all_is_read_after_rounds()
     ensures { AfterEachFitReliableSession AllIsReadAfterRounds }
+{}
+
+/// Each session can be ended: where the receiver has no limits, and takes messages as long as the sender writes, calls exist, none of
+/// which is refused for a reason, behind which nothing waits, nothing is in flight, and nothing is to be read. None of them writes,
+/// abandons a message, or lets one expire; and each write whose message had not been abandoned was read exactly once then. So it is in
+/// sessions that give out fewer than 2^31 TSNs, with one for each chunk that waits.
+pub fn every_session_can_end()
+    ensures { AfterEachSessionWithTsnsLeft EndsWhereTaken }
 {}

@@ -1,0 +1,64 @@
+-- Calls that end a session exist (RFC 4960 6.2, 6.3.3; RFC 3758 3.5, 3.6).
+use Rattle.std.specs.Prelude.{◌≡◌, ℕ, ◌+◌, ◌^◌, ◌<◌, ◌≤◌, Bool, true, false, not, ◌&&◌, nat_le, is_some, List, length, Option}
+use Rattle.std.specs.List.{list_all}
+use Rattle.sctp_outbound.specs.pending_queue.PendingQueue.{chunk_count}
+use Rattle.sctp_receiver.specs.declared.receiver.limits.Limits.{Limits}
+use Rattle.sctp_receiver.specs.Receiver.{Reception}
+use Rattle.sctp_sender.specs.Sender.{Transmission}
+use Rattle.sctp_delivery.specs.Abandoned.{EachOtherIsReadOnce, abandoned_in}
+use Rattle.sctp_delivery.specs.Complete.{is_exhausted}
+use Rattle.sctp_delivery.specs.Rounds.{chunks_left}
+use Rattle.sctp_delivery.specs.Sacks.{tsns_given}
+use Rattle.sctp_delivery.specs.SenderCalls.{forwards, resends, sends, takes_sack}
+use Rattle.sctp_delivery.specs.Session.{Call, RunsTo, Session, at_start, of_receiver, of_sender}
+
+-- ## Sessions that can go on
+
+-- how many chunks wait to be sent
+abbrev pub chunks_waiting : Transmission → ℕ
+chunks_waiting t = chunk_count t.flight.queue.pending
+
+-- P of the messages that were abandoned and of the session, after each session that leaves a TSN for each chunk that waits: with
+-- these, fewer than 2^31 are given out. The first TSN is a number of 32 bits, and fragments have some bytes
+abbrev pub AfterEachSessionWithTsnsLeft : (List ℕ → Session → Type 0) → Type 0
+AfterEachSessionWithTsnsLeft P =
+    (tsn size max most : ℕ) (limits : Option Limits) (calls : List Call) (s : Session)
+    → tsn < 2 ^ 32 → 0 < size → (run : RunsTo (at_start tsn size max most limits) calls s)
+    → tsns_given (at_start tsn size max most limits) calls s run
+    + chunks_waiting s.sending.sender < 2 ^ 31
+    → P (abandoned_in (at_start tsn size max most limits) calls s run) s
+
+-- the receiver has no limits, and takes messages as long as the sender writes
+abbrev pub takes_all_of : Transmission → Reception → Bool
+takes_all_of t r = not (is_some r.limits) && nat_le t.max_message_size r.max_message_size
+
+-- ## The end
+
+-- the sender sends a chunk, for the first time or again, makes a FORWARD-TSN, or takes a SACK; or it is a call of the receiver. None of
+-- these writes, abandons a message, or lets one expire
+abbrev pub is_delivery : Call → Bool
+is_delivery (of_sender (sends now)) = true
+is_delivery (of_sender (resends tsn now c)) = true
+is_delivery (of_sender (forwards tsn f)) = true
+is_delivery (of_sender (takes_sack sack gone)) = true
+is_delivery (of_sender call) = false
+is_delivery (of_receiver call) = true
+
+-- such calls, one after another, none of which is refused for a reason, lead to where nothing waits, nothing is in flight, and nothing
+-- is to be read: each chunk that waited got a TSN, no more SACKs were made than chunks were left, and each write was read exactly once,
+-- but for messages that had been abandoned
+pub record CanEnd (gone : List ℕ) (s : Session) : Type 0 where
+  pub calls : List Call
+  pub ended : Session
+  pub run : RunsTo s calls ended
+  pub delivery : list_all is_delivery calls ≡ true
+  pub given : tsns_given s calls ended run ≡ chunks_waiting s.sending.sender
+  pub written : ended.written ≡ s.written
+  pub sacks : length ended.sacks ≤ length s.sacks + chunks_left s.sending.sender
+  pub exhausted : is_exhausted ended.sending.sender ended.receiving.receiver ≡ true
+  pub read : EachOtherIsReadOnce gone ended
+
+-- so a session ends, where the receiver takes what the sender writes
+abbrev pub EndsWhereTaken : List ℕ → Session → Type 0
+EndsWhereTaken gone s =
+    takes_all_of s.sending.sender s.receiving.receiver ≡ true → CanEnd gone s
