@@ -112,3 +112,5 @@ pub mod EndReads
 pub mod EndDelivers
 pub mod EndForwards
 pub mod EndSessions
+pub mod OneStep
+mod EndExamples

@@ -2,15 +2,20 @@
 use Rattle.std.specs.Prelude.{◌≡◌, ℕ, ◌+◌, ◌^◌, ◌<◌, ◌≤◌, Bool, true, false, not, ◌&&◌, nat_le, is_some, List, length, Option}
 use Rattle.std.specs.List.{list_all}
 use Rattle.sctp_outbound.specs.pending_queue.PendingQueue.{chunk_count}
+use Rattle.sctp_data.specs.declared.chunk.chunk_payload_data.ChunkPayloadData.{ChunkPayloadData}
+use Rattle.sctp_data.specs.SelectiveAck.{Sack}
+use Rattle.sctp_receiver.specs.declared.receiver.arrival.Arrival.{Arrival}
 use Rattle.sctp_receiver.specs.declared.receiver.limits.Limits.{Limits}
 use Rattle.sctp_receiver.specs.Receiver.{Reception}
+use Rattle.sctp_sender.specs.declared.sender.flight.Released.{Released}
 use Rattle.sctp_sender.specs.Sender.{Transmission}
 use Rattle.sctp_delivery.specs.Abandoned.{EachOtherIsReadOnce, abandoned_in}
 use Rattle.sctp_delivery.specs.Complete.{is_exhausted}
+use Rattle.sctp_delivery.specs.ReceiverCalls.{takes}
 use Rattle.sctp_delivery.specs.Rounds.{chunks_left}
 use Rattle.sctp_delivery.specs.Sacks.{tsns_given}
 use Rattle.sctp_delivery.specs.SenderCalls.{forwards, resends, sends, takes_sack}
-use Rattle.sctp_delivery.specs.Session.{Call, RunsTo, Session, at_start, of_receiver, of_sender}
+use Rattle.sctp_delivery.specs.Session.{Call, Follows, RunsTo, Session, at_start, of_receiver, of_sender}
 
 -- ## Sessions that can go on
 
@@ -62,3 +67,22 @@ pub record CanEnd (gone : List ℕ) (s : Session) : Type 0 where
 abbrev pub EndsWhereTaken : List ℕ → Session → Type 0
 EndsWhereTaken gone s =
     takes_all_of s.sending.sender s.receiving.receiver ≡ true → CanEnd gone s
+
+-- ## What a call makes
+
+-- a call, as it is told here, leads from a session to one other alone
+abbrev pub EachMakesOneStep : Type 0
+EachMakesOneStep = (call : Call) (s t u : Session) → Follows call s t → Follows call s u → t ≡ u
+
+-- so does a chunk that comes: its answer is settled by the receiver
+abbrev pub ArrivalsAreDetermined : Type 0
+ArrivalsAreDetermined =
+    (c : ChunkPayloadData) (a b : Arrival) (s t u : Session) → Follows (of_receiver (takes c a)) s t
+    → Follows (of_receiver (takes c b)) s u → a ≡ b
+
+-- and a SACK, whatever is told of the chunks that it releases
+abbrev pub ReleasesAreDetermined : Type 0
+ReleasesAreDetermined =
+    (sack : Sack) (gone other : List Released) (s t u : Session)
+    → Follows (of_sender (takes_sack sack gone)) s t
+    → Follows (of_sender (takes_sack sack other)) s u → t ≡ u
