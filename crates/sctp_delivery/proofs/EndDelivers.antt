@@ -1,28 +1,26 @@
 -- Sessions that can end: each chunk in flight that was lost is sent again, and taken.
-use Rattle.std.proofs.Common.{◌≡◌, ℕ, zero, suc, ◌+◌, ◌^◌, ◌<◌, ◌≤◌, Bool, true, false, not, List, [], ◌∷◌, length, get_or, Option, Some, None, is_some, inl}
-use Rattle.std.proofs.Common.{inr}
+use Rattle.std.proofs.Common.{◌≡◌, ℕ, zero, suc, ◌^◌, ◌<◌, ◌≤◌, Bool, true, false, not, List, [], ◌∷◌, length, get_or, Option, Some, None, is_some, inl, inr}
 use Rattle.std.proofs.Common.{refl, ap, sym, subst, ◌∙◌, arith}
 use Rattle.std.specs.Prelude.{◌==◌, ◌||◌, All, Contains, find, if◌then◌else◌, nat_le}
-use Rattle.std.specs.List.{list_any, sum_by}
+use Rattle.std.specs.List.{list_any}
 use Rattle.std.proofs.lemmas.Bool.Decides.{nat_tests}
 use Rattle.std.proofs.lemmas.List.{get_or_default}
-use Rattle.std.proofs.lemmas.List.Sums.{sum_by-cons}
-use Rattle.std.proofs.lemmas.Option.{none-some}
-use Rattle.sctp_list_lemmas.specs.Lists.{change_where}
-use Rattle.sctp_list_lemmas.specs.Serial.{at_or_before}
-use Rattle.sctp_list_lemmas.proofs.Cases.{or-split, same-is, same-yes, some-same}
+use Rattle.std.proofs.lemmas.Bool.{cases_lt}
+use Rattle.sctp_list_lemmas.proofs.Cases.{or-left, or-split, same-is}
 use Rattle.sctp_list_lemmas.proofs.Edits.{length-change_where}
 use Rattle.sctp_list_lemmas.proofs.More.{fails, not_both}
-use Rattle.sctp_list_lemmas.proofs.Round.{tsn}
-use Rattle.sctp_data.specs.declared.chunk.chunk_payload_data.ChunkPayloadData.{ChunkPayloadData}
+use Rattle.sctp_list_lemmas.proofs.Round.{distance-tsn, tsn}
+use Rattle.sctp_list_lemmas.specs.Lists.{change_where}
+use Rattle.sctp_list_lemmas.specs.Serial.{at_or_before, distance}
 use Rattle.sctp_data.specs.PayloadData.{data_of}
+use Rattle.sctp_data.specs.declared.chunk.chunk_payload_data.ChunkPayloadData.{ChunkPayloadData}
 use Rattle.sctp_reassembly.specs.reassembly_queue.ReassemblyQueue.{ReassemblyState, after_ordered_push, is_complete_with}
-use Rattle.sctp_receiver.specs.declared.receiver.arrival.Arrival.{Arrival}
-use Rattle.sctp_receiver.specs.declared.receiver.arrival.Arrival.TheVariants.{New, Repeat}
-use Rattle.sctp_receiver.specs.declared.receiver.inbound_streams.InboundStream.{InboundStream}
 use Rattle.sctp_receiver.specs.Inbound.{Pushes, PushesAs, has_number, with_queue}
 use Rattle.sctp_receiver.specs.Receiver.{Reception, arrival_refusal, filter_of, is_open, stream_of, with_filter}
 use Rattle.sctp_receiver.specs.TsnFilter.{has_come, with_tsn}
+use Rattle.sctp_receiver.specs.declared.receiver.arrival.Arrival.{Arrival}
+use Rattle.sctp_receiver.specs.declared.receiver.arrival.Arrival.TheVariants.{New, Repeat}
+use Rattle.sctp_receiver.specs.declared.receiver.inbound_streams.InboundStream.{InboundStream}
 use Rattle.sctp_serial.specs.DataChunks.{has_tsn}
 use Rattle.sctp_sender.specs.Flight.{Flight, can_resend}
 use Rattle.sctp_sender.specs.Resending.{count_again, resent_at, sent_again}
@@ -34,98 +32,23 @@ use Rattle.sctp_delivery.specs.Rounds.{flight_of, in_flight}
 use Rattle.sctp_delivery.specs.Sacks.{passes, tsns_given, was_passed, was_taken}
 use Rattle.sctp_delivery.specs.SenderCalls.{Made, data_chunk, resends}
 use Rattle.sctp_delivery.specs.Session.{ReceiverFollows, SenderFollows, Session, of_receiver, of_sender}
+use Rattle.sctp_delivery.proofs.Answered.{ahead-of-sacks}
 use Rattle.sctp_delivery.proofs.ArrivedTsns.{IsArrived, IsKnown}
 use Rattle.sctp_delivery.proofs.EndReads.{Rests, ends-open, ends-read}
-use Rattle.sctp_delivery.proofs.EndSteps.{At, Ends, Setting, at-same, kept-at, long-enough, no-distance, receiver-before, sender-before, start}
+use Rattle.sctp_delivery.proofs.EndRoom.{due, is_due, less-due, none-refused, price, same-due, taken-cost}
+use Rattle.sctp_delivery.proofs.EndSteps.{At, Ends, Setting, apart-at, at-same, kept-at, long-enough, no-distance, reached, receiver-before, sender-before}
+use Rattle.sctp_delivery.proofs.EndSteps.{start}
 use Rattle.sctp_delivery.proofs.Every.{Every, all-of-every, every-at, every-of-all, one-of}
 use Rattle.sctp_delivery.proofs.GivenTsns.{IsNumbered}
 use Rattle.sctp_delivery.proofs.PassedTsns.{flight-given}
 use Rattle.sctp_delivery.proofs.PushesExist.{unordered-pushed}
-use Rattle.sctp_delivery.proofs.RefusedLaw.{none-where-read}
+use Rattle.sctp_delivery.proofs.RefusedLaw.{limits-same, none-read-with-room}
 use Rattle.sctp_delivery.proofs.SackLaws.{pass-abandoned}
 use Rattle.sctp_delivery.proofs.SackSteps.{known}
 use Rattle.sctp_delivery.proofs.SentAgain.{all-go-on, found-in}
 use Rattle.sctp_delivery.proofs.TsnPlaces.{IsGiven, at-or-before, base}
 
--- ## What was not taken
-
--- the message is not abandoned, and the chunk is none of those that were taken
-abbrev pub is_due : List ChunkPayloadData → ChunkPayloadData → Bool
-is_due accepted c = not (c.abandoned || list_any (has_tsn c.tsn) accepted)
-
-abbrev weigh : Bool → ℕ
-weigh b = if b then 1 else 0
-
-abbrev pub due : List ChunkPayloadData → List ChunkPayloadData → ℕ
-due accepted cs = sum_by (λ c. weigh (is_due accepted c)) cs
-
--- one more was taken
-no-more-due : (x : ChunkPayloadData) (accepted : List ChunkPayloadData) (c : ChunkPayloadData)
-    → weigh (is_due (x ∷ accepted) c) ≤ weigh (is_due accepted c)
-no-more-due x accepted c = by c.abandoned (has_tsn c.tsn x) (list_any (has_tsn c.tsn) accepted)
-  where
-    by : (a h k : Bool) → weigh (not (a || (h || k))) ≤ weigh (not (a || k))
-    by true h k = omega arith
-    by false true k = omega arith
-    by false false k = omega arith
-
-few-due : (x : ChunkPayloadData) (accepted cs : List ChunkPayloadData) → due (x ∷ accepted) cs ≤ due accepted cs
-few-due x accepted [] = omega arith
-few-due x accepted (c ∷ cs) =
-    let n = sum_by-cons (λ d. weigh (is_due (x ∷ accepted) d)) c cs in
-    let m = sum_by-cons (λ d. weigh (is_due accepted d)) c cs in
-    let one = no-more-due x accepted c in
-    let ih = few-due x accepted cs in
-    omega (arith, n, m, one, ih)
-
--- it was due, so fewer are
-fewer-due : (x : ChunkPayloadData) (accepted cs : List ChunkPayloadData) → is_due accepted x ≡ true → find (has_tsn x.tsn) cs ≡ Some x
-    → due (x ∷ accepted) cs < due accepted cs
-fewer-due x accepted [] h e = absurd (none-some x e)
-fewer-due x accepted (c ∷ cs) h e = by (has_tsn x.tsn c) e (fewer-due x accepted cs h)
-  where
-    n : due (x ∷ accepted) (c ∷ cs) ≡ weigh (is_due (x ∷ accepted) c) + due (x ∷ accepted) cs
-    n = sum_by-cons (λ d. weigh (is_due (x ∷ accepted) d)) c cs
-
-    m : due accepted (c ∷ cs) ≡ weigh (is_due accepted c) + due accepted cs
-    m = sum_by-cons (λ d. weigh (is_due accepted d)) c cs
-
-    gone : is_due (x ∷ accepted) x ≡ false
-    gone = ap (λ t. not (x.abandoned || (t || list_any (has_tsn x.tsn) accepted))) (same-yes x.tsn) ∙ none x.abandoned
-      where
-        none : (a : Bool) → not (a || true) ≡ false
-        none true = refl
-        none false = refl
-
-    by : (b : Bool) → (if b then Some c else find (has_tsn x.tsn) cs) ≡ Some x → (find (has_tsn x.tsn) cs ≡ Some x → due (x ∷ accepted) cs < due accepted cs)
-        → due (x ∷ accepted) (c ∷ cs) < due accepted (c ∷ cs)
-    by true f ih =
-        let same : c ≡ x = some-same f in
-        let was : weigh (is_due accepted c) ≡ 1 = ap (λ d. weigh (is_due accepted d)) same ∙ ap weigh h in
-        let is : weigh (is_due (x ∷ accepted) c) ≡ 0 = ap (λ d. weigh (is_due (x ∷ accepted) d)) same ∙ ap weigh gone in
-        let le = few-due x accepted cs in
-        omega (arith, n, m, was, is, le)
-    by false f ih =
-        let lt = ih f in
-        let one = no-more-due x accepted c in
-        omega (arith, n, m, lt, one)
-
--- to send one again changes nothing in that
-same-due : (accepted : List ChunkPayloadData) (p : ChunkPayloadData → Bool) (count now : ℕ) (cs : List ChunkPayloadData)
-    → due accepted (change_where p (sent_again count now) cs) ≡ due accepted cs
-same-due accepted p count now [] = refl
-same-due accepted p count now (c ∷ cs) = by (p c) (same-due accepted p count now cs)
-  where
-    by : (b : Bool) → due accepted (change_where p (sent_again count now) cs) ≡ due accepted cs
-        → due accepted ((if b then sent_again count now c else c) ∷ change_where p (sent_again count now) cs) ≡ due accepted (c ∷ cs)
-    by true ih =
-        let n = sum_by-cons (λ d. weigh (is_due accepted d)) (sent_again count now c) (change_where p (sent_again count now) cs) in
-        let m = sum_by-cons (λ d. weigh (is_due accepted d)) c cs in
-        omega (arith, n, m, ih)
-    by false ih =
-        let n = sum_by-cons (λ d. weigh (is_due accepted d)) c (change_where p (sent_again count now) cs) in
-        let m = sum_by-cons (λ d. weigh (is_due accepted d)) c cs in
-        omega (arith, n, m, ih)
+-- ## What is due
 
 -- where none is due, each was taken whose message is not abandoned
 none-due : (accepted cs : List ChunkPayloadData) → list_any (is_due accepted) cs ≡ false
@@ -297,8 +220,8 @@ module _ (b : Setting) where
     found = found-in (base b.first) n s i.few (kept-at b n s i).kept.step k d lt;
     sent = (k, lt, get_or_default (in_flight s) k (get_or (in_flight s) k d) d lt);
     given = λ p m h. every-at (λ (c : ChunkPayloadData). IsGiven p m c.tsn) (in_flight s) k d lt (flight-given p m (flight_of s) h);
-    goes-on = all-go-on b.first b.size b.max b.most None i.calls s i.run b.small (few-given n s i) k d lt;
-    passed = pass-abandoned b.first b.size b.max b.most None i.calls s i.run b.small (few-given n s i) k d lt;
+    goes-on = all-go-on b.first b.size b.max b.most b.limits i.calls s i.run b.small (few-given n s i) k d lt;
+    passed = pass-abandoned b.first b.size b.max b.most b.limits i.calls s i.run b.small (few-given n s i) k d lt;
   })
 
   -- such a chunk is not refused, and did not come
@@ -312,11 +235,35 @@ module _ (b : Setting) where
           | inr t ↦ not_both (sym d.kept ∙ f.passed t)
         ])
 
+    -- it is as far past the cumulative TSN as one in flight may be
+    near : distance s.receiving.receiver.cumulative_tsn c.tsn ≤ length (in_flight s)
+    near =
+        let few = i.few in
+        let step = (kept-at b n s i).kept.step in
+        let g = f.given (base b.first) n step.numbered in
+        let up = ahead-of-sacks b.first n s few (reached b n s i) step in
+        let total = step.numbered.total in
+        let within = g.within in
+        let most = step.arrived.within in
+        elim (cases_lt step.arrived.place g.place) [
+          | inl lt ↦
+              let far = distance-tsn (base b.first) step.arrived.place g.place (omega (arith, lt)) (omega (arith, within, few)) in
+              let same = ap (λ t. distance t c.tsn) step.arrived.is ∙ ap (distance (tsn (base b.first) step.arrived.place)) g.is in
+              omega (arith, far, same, total, within, up)
+          | inr ge ↦
+              let order : nat_le g.place step.arrived.place ≡ true = grind (arith, nat_tests, ge) in
+              absurd (not_both (sym fresh ∙ or-left (at_or_before c.tsn s.receiving.receiver.cumulative_tsn)
+              (list_any (λ u. u == c.tsn) s.receiving.receiver.beyond)
+              (ap (at_or_before c.tsn) step.arrived.is ∙ ap (λ t. at_or_before t (tsn (base b.first) step.arrived.place)) g.is
+              ∙ at-or-before (base b.first) g.place step.arrived.place (omega (arith, within, few)) (omega (arith, most, few)) ∙ order)))
+        ]
+
     unrefused : reads_nothing s.receiving.receiver ≡ true → is_open c.stream_identifier s.receiving.receiver ≡ true
         → arrival_refusal c s.receiving.receiver ≡ None
     unrefused none there =
-        none-where-read b.first b.size b.max b.most i.calls s b.small b.some i.run (few-given n s i) (long-enough b n s i) none c
+        none-read-with-room b.first b.size b.max b.most b.limits i.calls s b.small b.some i.run (few-given n s i) (long-enough b n s i) none c
         (record { chunk = c; sent = f.sent; kept = d.kept; same = inl refl }) there
+        (none-refused b.limits s c.tsn i.room (limits-same i.calls (start b) s i.run) near)
 
   -- the chunk is sent again, and taken
   deliver-open : (n : ℕ) (s : Session) → At b n s → reads_nothing s.receiving.receiver ≡ true → (c : ChunkPayloadData) → IsFoundIn s c
@@ -327,19 +274,26 @@ module _ (b : Setting) where
       let l = some-of (stream_of c.stream_identifier s.receiving.receiver) there in
       let u = after_resends c s in
       let again = resends-one c s (can-again s c f d) f.found in
-      let j = at-same b n (of_sender (resends c.tsn 0 c)) s u again refl refl i in
+      let long = length-change_where (has_tsn c.tsn) (sent_again (count_again c) 0) (in_flight s) in
+      let price-same = same-due price (λ k m x. refl) s.receiving.accepted (has_tsn c.tsn) (count_again c) 0 (in_flight s) in
+      let j = at-same b n (of_sender (resends c.tsn 0 c)) s u again refl refl (omega (arith, long)) (omega (arith, price-same)) i in
       let t = after_takes c u l.0 l.1 in
       let taking = takes-one c u l.0 l.1 (0, omega arith, refl) (unrefused n s i c f d none there) (fresh n s i c f d) in
       let zero' = no-distance b n s i in
       sender-before b (resends c.tsn 0 c) s u again refl (omega (arith, zero'))
       (receiver-before b n (takes c (New (queued c (l.0).queue).complete)) u t j taking
-      (next t (at-same b n (of_receiver (takes c (New (queued c (l.0).queue).complete))) u t taking refl refl j) (record {
+      (next t (at-same b n (of_receiver (takes c (New (queued c (l.0).queue).complete))) u t taking refl refl (omega arith)
+      (let more = taken-cost c (queued c (l.0).queue).complete l.0 (queued c (l.0).queue).queue s.receiving.receiver.streams (apart-at b n s i) l.1
+      (queued c (l.0).queue).pushed in
+      let before = same-due price (λ k m x. refl) (c ∷ s.receiving.accepted) (has_tsn c.tsn) (count_again c) 0 (in_flight s) in
+      let less = less-due price c s.receiving.accepted (in_flight s) e f.found in
+      omega (arith, more, before, less, price-same)) j) (record {
         pending = refl;
         as_many = length-change_where (has_tsn c.tsn) (sent_again (count_again c) 0) (in_flight s);
         sacks = refl;
         fewer =
-            let same = same-due (c ∷ s.receiving.accepted) (has_tsn c.tsn) (count_again c) 0 (in_flight s) in
-            let lt = fewer-due c s.receiving.accepted (in_flight s) e f.found in
+            let same = same-due (λ x. 1) (λ k m x. refl) (c ∷ s.receiving.accepted) (has_tsn c.tsn) (count_again c) 0 (in_flight s) in
+            let lt = less-due (λ x. 1) c s.receiving.accepted (in_flight s) e f.found in
             omega (arith, same, lt);
       })))
 

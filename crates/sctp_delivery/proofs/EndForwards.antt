@@ -1,29 +1,34 @@
 -- Sessions that can end: where a FORWARD-TSN can be made the receiver follows it, and its SACK leaves fewer chunks in flight.
-use Rattle.std.proofs.Common.{◌≡◌, ℕ, ◌+◌, ◌%◌, ◌^◌, ◌<◌, ◌≤◌, Bool, true, false, not, List, [], ◌∷◌, length, Option, Some, None, is_some, inl}
-use Rattle.std.proofs.Common.{refl, ap}
-use Rattle.std.proofs.Common.{sym, subst, ◌∙◌, arith}
+use Rattle.std.proofs.Common.{◌≡◌, ℕ, ◌+◌, ◌%◌, ◌^◌, ◌<◌, ◌≤◌, Bool, true, false, not, List, [], ◌∷◌, length, Option, Some, None, is_some, inl, refl, ap, sym}
+use Rattle.std.proofs.Common.{subst, ◌∙◌, arith}
 use Rattle.std.specs.Prelude.{◌==◌, ◌&&◌, All, if◌then◌else◌, nat_le}
-use Rattle.std.specs.List.{filter, list_all, list_any}
+use Rattle.std.specs.List.{filter, list_all, list_any, sum_by}
 use Rattle.std.proofs.lemmas.Bool.Decides.{nat_tests}
 use Rattle.std.proofs.lemmas.Option.{none-some}
-use Rattle.sctp_list_lemmas.specs.Lists.{Seen, advance_over}
-use Rattle.sctp_list_lemmas.specs.Serial.{at_or_before, distance}
 use Rattle.sctp_list_lemmas.proofs.Cases.{same-is, some-same}
 use Rattle.sctp_list_lemmas.proofs.More.{and, both}
 use Rattle.sctp_list_lemmas.proofs.Round.{tsn}
-use Rattle.sctp_data.specs.declared.chunk.chunk_forward_tsn.ChunkForwardTsnStream.{ChunkForwardTsnStream}
+use Rattle.sctp_list_lemmas.specs.Lists.{Seen, advance_over}
+use Rattle.sctp_list_lemmas.specs.Serial.{at_or_before, distance}
 use Rattle.sctp_data.specs.ForwardTsn.{ForwardTsn}
-use Rattle.sctp_receiver.specs.declared.receiver.inbound_streams.InboundStream.{InboundStream}
+use Rattle.sctp_data.specs.SelectiveAck.{Sack}
+use Rattle.sctp_data.specs.declared.chunk.chunk_forward_tsn.ChunkForwardTsnStream.{ChunkForwardTsnStream}
+use Rattle.sctp_data.specs.declared.chunk.chunk_payload_data.ChunkPayloadData.{ChunkPayloadData}
+use Rattle.sctp_receiver.specs.Limits.{cost_of}
 use Rattle.sctp_receiver.specs.Receiver.{Reception, follow_forward_tsn, is_open, is_stale, message_of, stream_of}
+use Rattle.sctp_receiver.specs.ReceiverRuns.{Stand}
 use Rattle.sctp_receiver.specs.Skips.{after_forward_tsn, without_incomplete}
+use Rattle.sctp_receiver.specs.declared.receiver.inbound_streams.InboundStream.{InboundStream}
 use Rattle.sctp_serial.specs.DataChunks.{has_tsn}
 use Rattle.sctp_sender.specs.Abandonment.{advanced_ack_point, named_up_to, skip_end}
+use Rattle.sctp_sender.specs.Flight.{Flight, after_sack, is_outdated, reports_anew, take_sack}
+use Rattle.sctp_sender.specs.Sender.{Transmission}
 use Rattle.sctp_sender.specs.SenderRuns.{Ledger}
 use Rattle.sctp_delivery.specs.Complete.{reads_nothing}
 use Rattle.sctp_delivery.specs.Ending.{chunks_waiting}
 use Rattle.sctp_delivery.specs.ReceiverCalls.{follows, reports}
 use Rattle.sctp_delivery.specs.Refused.{reads_nothing_on}
-use Rattle.sctp_delivery.specs.Rounds.{IsCaughtUp, flight_of, in_flight}
+use Rattle.sctp_delivery.specs.Rounds.{IsCaughtUp, chunks_left, flight_of, in_flight}
 use Rattle.sctp_delivery.specs.Sacks.{was_taken}
 use Rattle.sctp_delivery.specs.SenderCalls.{forward_tsn, forwards, takes_sack}
 use Rattle.sctp_delivery.specs.Session.{ReceiverFollows, SenderFollows, Session, of_receiver, of_sender}
@@ -32,6 +37,7 @@ use Rattle.sctp_delivery.proofs.ArrivedTsns.{IsKnown}
 use Rattle.sctp_delivery.proofs.Delivered.{next_tsn}
 use Rattle.sctp_delivery.proofs.EndDelivers.{few-given}
 use Rattle.sctp_delivery.proofs.EndReads.{Rests, ends-open, ends-read, rests-same, rests-then}
+use Rattle.sctp_delivery.proofs.EndRoom.{due_by, followed-cost, price, sack-due, waiting_cost}
 use Rattle.sctp_delivery.proofs.EndSteps.{At, Ends, Setting, at-same, kept-at, no-distance, reached, receiver-before, sender-before}
 use Rattle.sctp_delivery.proofs.Every.{Every, every-passing}
 use Rattle.sctp_delivery.proofs.ForwardLaw.{none-made}
@@ -137,7 +143,7 @@ module _ (b : Setting) (n : ℕ) (s : Session) (i : At b n s) (p : ℕ)
   following none all = record {
     handed = (0, omega arith, refl);
     step = record { receiver = refl; accepted = refl; read = refl };
-    accepted = none-made b.first b.size b.max b.most None i.calls s b.small b.some i.run (few-given b n s i) g
+    accepted = none-made b.first b.size b.max b.most b.limits i.calls s b.small b.some i.run (few-given b n s i) g
         (inl (advanced_ack_point (flight_of s), making.accepted)) (all-due g.streams s.receiving.receiver none all);
     after = refl;
   }
@@ -148,12 +154,13 @@ module _ (b : Setting) (n : ℕ) (s : Session) (i : At b n s) (p : ℕ)
       → at_or_before p t.receiving.receiver.cumulative_tsn ≡ true → Ends b t) → Ends b s
   forward-one none all next =
       let point = advanced_ack_point (flight_of s) in
-      let j = at-same b n (of_sender (forwards point g)) s made-one making refl refl i in
+      let j = at-same b n (of_sender (forwards point g)) s made-one making refl refl (omega arith) (omega arith) i in
       let f = following none all in
       let zero' = no-distance b n s i in
       sender-before b (forwards point g) s made-one making refl (omega (arith, zero'))
       (receiver-before b n (follows g) made-one followed-one j f
-      (next followed-one (at-same b n (of_receiver (follows g)) made-one followed-one f refl refl j) refl refl refl gets-there))
+      (next followed-one (at-same b n (of_receiver (follows g)) made-one followed-one f refl refl (omega arith)
+      (let less = followed-cost g s.receiving.receiver in omega (arith, less)) j) refl refl refl gets-there))
 
 -- ## Caught up
 
@@ -235,6 +242,15 @@ pub record Answered (s t : Session) : Type 0 where
   pub fewer : length (in_flight t) < length (in_flight s)
   pub sacks : length t.sacks ≡ length s.sacks + 1
 
+-- it makes no more due
+after-due : (k : Sack) (accepted : List ChunkPayloadData) (f : Flight)
+    → due_by price accepted (after_sack k f).queue.inflight.chunks ≤ due_by price accepted f.queue.inflight.chunks
+after-due k accepted f = by (is_outdated k f)
+  where
+    by : (b : Bool) → due_by price accepted (if b then f else take_sack k f).queue.inflight.chunks ≤ due_by price accepted f.queue.inflight.chunks
+    by true = omega arith
+    by false = sack-due price (λ c. omega arith) accepted k.cumulative_tsn_ack (reports_anew k) f.queue.inflight.chunks
+
 module _ (b : Setting) where
   pub ends-answered : (n : ℕ) (s : Session) → At b n s → IsCaughtUp s → 0 < length (in_flight s)
       → ((t : Session) → At b n t → Answered s t → Ends b t) → Ends b s
@@ -245,14 +261,28 @@ module _ (b : Setting) where
       let u = a.reported in
       let sender : u.sending ≡ s.sending = ap (λ (x : Session). x.sending) a.reporting.after in
       let first = ap (λ (l : Ledger). l.sender.flight.next_tsn) sender in
-      let j = at-same b n (of_receiver (reports a.credit)) s u a.reporting refl first i in
+      let streams = ap (λ (r : Reception). r.streams) a.reporting.step.receiver in
+      let came = a.reporting.step.accepted in
+      let left = ap (λ (l : Ledger). chunks_left l.sender) sender in
+      let held = ap (sum_by cost_of) streams in
+      let due-there = ap (λ (l : Ledger). due_by price u.receiving.accepted l.sender.flight.queue.inflight.chunks) sender
+      ∙ ap (λ cs. due_by price cs (in_flight s)) came in
+      let waiting = ap (λ (l : Ledger). waiting_cost l.sender.flight.queue.pending) sender in
+      let j = at-same b n (of_receiver (reports a.credit)) s u a.reporting refl first (omega (arith, left)) (omega (arith, held, due-there, waiting)) i in
       let second : next_tsn t ≡ next_tsn u = same-next s t a ∙ sym first in
-      let k = at-same b n (of_sender (takes_sack a.sack a.gone)) u t a.taking refl second j in
-      let none : distance (next_tsn u) (next_tsn t) ≡ 0 = ap (distance (next_tsn u)) second ∙ no-distance b n u j in
+      let less = (leaves-fewer b.first n s t i.few (reached b n s i) caught a).fewer some in
       let waits = ap (λ p. length p.ordered + length p.unordered) (same-pending s t a) in
+      let still = ap waiting_cost (same-pending s t a) in
+      let same = ap (λ (x : Session). x.receiving) a.taking.after in
+      let held' = ap (λ (x : Stand). sum_by cost_of x.receiver.streams) same in
+      let due-after = ap (λ (x : Stand). due_by price x.accepted (in_flight t)) same
+      ∙ ap (λ (x : Transmission). due_by price u.receiving.accepted x.flight.queue.inflight.chunks) a.taking.exact in
+      let fewer-due = after-due a.sack u.receiving.accepted u.sending.sender.flight in
+      let k = at-same b n (of_sender (takes_sack a.sack a.gone)) u t a.taking refl second (omega (arith, less, waits, left))
+      (omega (arith, held', due-after, fewer-due, still, waiting)) j in
+      let none : distance (next_tsn u) (next_tsn t) ≡ 0 = ap (distance (next_tsn u)) second ∙ no-distance b n u j in
       let waited = ap (λ (l : Ledger). chunks_waiting l.sender) sender in
       let made = ap length (ap (λ (x : Session). x.sacks) a.taking.after ∙ a.made) in
-      let less = (leaves-fewer b.first n s t i.few (reached b n s i) caught a).fewer some in
       receiver-before b n (reports a.credit) s u i a.reporting
       (sender-before b (takes_sack a.sack a.gone) u t a.taking refl (omega (arith, none, waits, waited))
       (next t k (record { waiting = omega (arith, waits); fewer = less; sacks = omega (arith, made) })))

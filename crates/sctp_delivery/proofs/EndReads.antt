@@ -6,21 +6,22 @@ use Rattle.std.specs.List.{list_all, sum_by}
 use Rattle.std.proofs.lemmas.List.Folds.{list_all-append}
 use Rattle.std.proofs.lemmas.List.Sums.{sum_by-cons}
 use Rattle.std.proofs.lemmas.Option.{none-some}
-use Rattle.sctp_list_lemmas.specs.Lists.{change_where}
 use Rattle.sctp_list_lemmas.proofs.Cases.{same-yes}
 use Rattle.sctp_list_lemmas.proofs.More.{and, not_both}
+use Rattle.sctp_list_lemmas.specs.Lists.{change_where}
 use Rattle.sctp_data.specs.ChunkSet.{ChunkSet}
-use Rattle.sctp_reassembly.specs.reassembly_queue.ReassemblyQueue.{Reassembly, after_read, front_readable, message_among, message_read}
-use Rattle.sctp_reassembly.specs.reassembly_queue.ReassemblyQueue.{rest_among, rest_read, without_first}
-use Rattle.sctp_receiver.specs.declared.receiver.inbound_streams.InboundStream.{InboundStream}
+use Rattle.sctp_reassembly.specs.reassembly_queue.ReassemblyQueue.{Reassembly, after_read, front_readable, message_among, message_read, rest_among, rest_read}
+use Rattle.sctp_reassembly.specs.reassembly_queue.ReassemblyQueue.{without_first}
 use Rattle.sctp_receiver.specs.Inbound.{has_number, new_stream, stream_read}
 use Rattle.sctp_receiver.specs.Receiver as receiver
 use Rattle.sctp_receiver.specs.Receiver.{Reception, is_open, open_stream}
 use Rattle.sctp_receiver.specs.ReceiverRuns as receiver_runs
 use Rattle.sctp_receiver.specs.ReceiverRuns.{messages_after}
+use Rattle.sctp_receiver.specs.declared.receiver.inbound_streams.InboundStream.{InboundStream}
 use Rattle.sctp_delivery.specs.Complete.{reads_nothing}
 use Rattle.sctp_delivery.specs.ReceiverCalls.{opens, reads}
 use Rattle.sctp_delivery.specs.Session.{ReceiverFollows, Session, of_receiver}
+use Rattle.sctp_delivery.proofs.EndRoom.{open-cost, read-cost}
 use Rattle.sctp_delivery.proofs.EndSteps.{At, Ends, Setting, at-same, receiver-before}
 
 -- ## A read leaves fewer
@@ -176,7 +177,8 @@ module _ (b : Setting) where
       let f = reads-one r.number s r.there in
       let lt = r.fewer in
       receiver-before b n (reads r.number) s t i f
-      (read-all m n t (at-same b n (of_receiver (reads r.number)) s t f refl refl i) (omega (arith, le, lt)) (λ u j x none.
+      (read-all m n t (at-same b n (of_receiver (reads r.number)) s t f refl refl (omega arith) (let less = read-cost r.number s.receiving.receiver.streams in
+      omega (arith, less)) i) (omega (arith, le, lt)) (λ u j x none.
       next u j (rests-then s t u (record { sending = refl; accepted = refl; cumulative = refl; made = refl; sacks = refl }) x) none)))
 
   pub ends-read : (n : ℕ) (s : Session) → At b n s → EndsRead n s → Ends b s
@@ -239,4 +241,5 @@ module _ (b : Setting) where
           let t = after_opens stream s in
           let f = opens-one stream s e in
           receiver-before b n (opens stream) s t i f
-          (next t (at-same b n (of_receiver (opens stream)) s t f refl refl i) (opened stream s))
+          (next t (at-same b n (of_receiver (opens stream)) s t f refl refl (omega arith)
+          (let same = open-cost stream s.receiving.receiver.max_message_size s.receiving.receiver.streams in omega (arith, same)) i) (opened stream s))

@@ -1,37 +1,36 @@
 -- Each session can end: round after round leaves fewer chunks, and then all that is to be read is read.
 use Rattle.std.proofs.Common.{◌≡◌, ℕ, zero, suc, ◌+◌, ◌-◌, ◌%◌, ◌^◌, ◌<◌, ◌≤◌, Bool, true, false, not, List, [], ◌∷◌, length, Option, Some, None, is_some, inl}
-use Rattle.std.proofs.Common.{inr}
-use Rattle.std.proofs.Common.{refl, ap, sym, subst, ◌∙◌, arith}
+use Rattle.std.proofs.Common.{inr, refl, ap, subst, ◌∙◌, arith}
 use Rattle.std.specs.Prelude.{◌==◌, ◌&&◌, if◌then◌else◌, nat_le, nat_lt, slice_get}
 use Rattle.std.proofs.lemmas.Bool.{cases_lt}
 use Rattle.std.proofs.lemmas.Bool.Decides.{nat_tests}
-use Rattle.std.proofs.lemmas.Option.{none-some}
-use Rattle.sctp_list_lemmas.specs.Lists.{insert_before}
-use Rattle.sctp_list_lemmas.specs.Serial.{distance}
+use Rattle.std.proofs.lemmas.List.Sums.{sum_by-cons}
 use Rattle.sctp_list_lemmas.proofs.Cases.{and-none}
 use Rattle.sctp_list_lemmas.proofs.Edits.{length-change_where}
 use Rattle.sctp_list_lemmas.proofs.More.{and, both, not_both}
 use Rattle.sctp_list_lemmas.proofs.Round.{distance-tsn}
+use Rattle.sctp_list_lemmas.specs.Lists.{change_where, insert_before}
+use Rattle.sctp_list_lemmas.specs.Serial.{distance}
 use Rattle.sctp_data.specs.declared.chunk.chunk_payload_data.ChunkPayloadData.{ChunkPayloadData}
+use Rattle.sctp_outbound.proofs.lemmas.outbound_queue.Outbounds.{peeked_all_started}
+use Rattle.sctp_outbound.proofs.lemmas.outbound_queue.Sendable.{popped_bytes, sendable-sent}
 use Rattle.sctp_outbound.specs.declared.pending_queue.Selected.{Selected}
 use Rattle.sctp_outbound.specs.outbound_queue.OutboundQueue.{Outbound, all_started, as_sent, sent_next, sent_of}
 use Rattle.sctp_outbound.specs.pending_queue.PendingQueue.{Pending, chunk_count, front_of, is_to_start, list_of, list_to_pop, next_pending, next_pending_of}
 use Rattle.sctp_outbound.specs.pending_queue.PendingQueue.{start_pending, with_deadline}
 use Rattle.sctp_outbound.specs.pending_queue.Whole.{IsSendable, IsWhole, begun, free, stage_of}
-use Rattle.sctp_outbound.proofs.lemmas.outbound_queue.Outbounds.{peeked_all_started}
-use Rattle.sctp_outbound.proofs.lemmas.outbound_queue.Sendable.{sendable-sent}
 use Rattle.sctp_receiver.specs.declared.receiver.limits.Limits.{Limits}
-use Rattle.sctp_serial.specs.DataChunks.{chunk_before, following_tsn}
-use Rattle.sctp_sender.specs.declared.sender.refusal.SenderRefusal.TheVariants.{SsnsUsedUp, TsnsUsedUp}
+use Rattle.sctp_serial.specs.DataChunks.{bytes_of, chunk_before, following_tsn}
+use Rattle.sctp_sender.proofs.Amounts.{sent-bytes}
+use Rattle.sctp_sender.proofs.Flights.{started-inflight}
 use Rattle.sctp_sender.specs.Flight.{Flight, next_after_send}
 use Rattle.sctp_sender.specs.Numbers.{begins_ordered, first_ordered, past_number, refusal_of, send_refusal}
 use Rattle.sctp_sender.specs.Sender.{with_flight}
 use Rattle.sctp_sender.specs.SenderRuns.{Ledger}
-use Rattle.sctp_sender.proofs.Amounts.{sent-bytes}
-use Rattle.sctp_sender.proofs.Flights.{started-inflight}
+use Rattle.sctp_sender.specs.declared.sender.refusal.SenderRefusal.TheVariants.{SsnsUsedUp, TsnsUsedUp}
 use Rattle.sctp_delivery.specs.Abandoned.{EachOtherIsReadOnce, abandoned_in}
 use Rattle.sctp_delivery.specs.Complete.{is_all_acknowledged, reads_nothing}
-use Rattle.sctp_delivery.specs.Ending.{AfterEachSessionWithTsnsLeft, CanEnd, EndsWhereTaken, chunks_waiting}
+use Rattle.sctp_delivery.specs.Ending.{AfterEachSessionWithTsnsLeft, EndsWhereTaken, chunks_waiting, has_room, takes_all_of}
 use Rattle.sctp_delivery.specs.Rounds.{chunks_left, flight_of, in_flight}
 use Rattle.sctp_delivery.specs.Sacks.{tsns_given}
 use Rattle.sctp_delivery.specs.SenderCalls.{made_after, sends}
@@ -40,6 +39,7 @@ use Rattle.sctp_delivery.proofs.Delivered.{next_tsn}
 use Rattle.sctp_delivery.proofs.EndDelivers.{ends-delivered, few-given}
 use Rattle.sctp_delivery.proofs.EndForwards.{ends-answered, ends-caught-up}
 use Rattle.sctp_delivery.proofs.EndReads.{ends-read}
+use Rattle.sctp_delivery.proofs.EndRoom.{RoomIn, cost, due_by, price, put-due, room-of, waiting_cost}
 use Rattle.sctp_delivery.proofs.EndSteps.{At, Ends, Setting, at-next, kept-at, numbered-at, sender-before}
 use Rattle.sctp_delivery.proofs.MessageSizes.{fit-session}
 use Rattle.sctp_delivery.proofs.Numbers.{number_of}
@@ -83,6 +83,22 @@ put-length x (c ∷ cs) = by (chunk_before x c) (put-length x cs)
     by true ih = omega arith
     by false ih = omega (arith, ih)
 
+-- a deadline costs nothing
+bytes-same : (p : ChunkPayloadData → Bool) (now : ℕ) (cs : List ChunkPayloadData) → bytes_of (change_where p (with_deadline now) cs) ≡ bytes_of cs
+bytes-same p now [] = refl
+bytes-same p now (c ∷ cs) = by (p c) (bytes-same p now cs)
+  where
+    by : (b : Bool) → bytes_of (change_where p (with_deadline now) cs) ≡ bytes_of cs
+        → bytes_of ((if b then with_deadline now c else c) ∷ change_where p (with_deadline now) cs) ≡ bytes_of (c ∷ cs)
+    by true ih =
+        let n = sum_by-cons (λ (d : ChunkPayloadData). length d.user_data) (with_deadline now c) (change_where p (with_deadline now) cs) in
+        let m = sum_by-cons (λ (d : ChunkPayloadData). length d.user_data) c cs in
+        omega (arith, n, m, ih)
+    by false ih =
+        let n = sum_by-cons (λ (d : ChunkPayloadData). length d.user_data) c (change_where p (with_deadline now) cs) in
+        let m = sum_by-cons (λ (d : ChunkPayloadData). length d.user_data) c cs in
+        omega (arith, n, m, ih)
+
 started-count : (now : ℕ) (q : Outbound) → chunk_count (all_started now q).pending ≡ chunk_count q.pending
 started-count now q = by (q.next_unstarted == q.next_message_id)
   where
@@ -95,10 +111,26 @@ started-count now q = by (q.next_unstarted == q.next_message_id)
         let u = length-change_where (is_to_start q.next_unstarted) (with_deadline now) q.pending.unordered in
         omega (arith, o, u)
 
--- it waits no more, and is in flight
+started-waiting : (now : ℕ) (q : Outbound) → waiting_cost (all_started now q).pending ≡ waiting_cost q.pending
+started-waiting now q = by (q.next_unstarted == q.next_message_id)
+  where
+    by : (b : Bool)
+        → waiting_cost (if b then q else record q { pending = start_pending q.next_unstarted now q.pending; next_unstarted = q.next_message_id }).pending
+        ≡ waiting_cost q.pending
+    by true = refl
+    by false =
+        let o = length-change_where (is_to_start q.next_unstarted) (with_deadline now) q.pending.ordered in
+        let u = length-change_where (is_to_start q.next_unstarted) (with_deadline now) q.pending.unordered in
+        let x = bytes-same (is_to_start q.next_unstarted) now q.pending.ordered in
+        let y = bytes-same (is_to_start q.next_unstarted) now q.pending.unordered in
+        omega (arith, o, u, x, y)
+
+-- it waits no more, and is in flight, for its price
 record IsMoved (q r : Outbound) : Type 0 where
   waiting : chunk_count r.pending + 1 ≡ chunk_count q.pending
   flying : length r.inflight.chunks ≡ length q.inflight.chunks + 1
+  dear : (accepted : List ChunkPayloadData) → due_by price accepted r.inflight.chunks + waiting_cost r.pending
+      ≤ due_by price accepted q.inflight.chunks + waiting_cost q.pending
 
 moved : (q : Outbound) (tsn now : ℕ) → IsSendable q.pending q.inflight.chunks q.next_message_id → (o : Option ChunkPayloadData)
     → next_pending q.pending ≡ o → is_some o ≡ true → IsMoved q (sent_of o q tsn now)
@@ -108,6 +140,13 @@ moved q tsn now s (Some c) e some = record {
       popped (list_to_pop q.pending.selected c.beginning_fragment c.unordered) q.pending.ordered q.pending.unordered q.pending.selected q.pending.ordered_room
       q.pending.unordered_room c (sendable-sent q.pending q.inflight.chunks q.next_message_id c (as_sent tsn now c) refl s e).taken;
   flying = put-length (as_sent tsn now c) q.inflight.chunks;
+  dear = λ accepted.
+      let on = (sendable-sent q.pending q.inflight.chunks q.next_message_id c (as_sent tsn now c) refl s e).taken in
+      let count = popped (list_to_pop q.pending.selected c.beginning_fragment c.unordered) q.pending.ordered q.pending.unordered q.pending.selected
+      q.pending.ordered_room q.pending.unordered_room c on in
+      let bytes = popped_bytes c.beginning_fragment c.unordered q.pending c on in
+      let put = put-due price accepted (as_sent tsn now c) q.inflight.chunks in
+      omega (arith, count, bytes, put);
 }
 
 -- with nothing in flight none is refused
@@ -144,6 +183,7 @@ after_sends s =
 record Sent (s t : Session) : Type 0 where
   waiting : chunks_waiting t.sending.sender + 1 ≡ chunks_waiting s.sending.sender
   flying : length (in_flight t) ≡ length (in_flight s) + 1
+  dear : cost t ≤ cost s
   sacks : t.sacks ≡ s.sacks
 
 module _ (b : Setting) (n : ℕ) (s : Session) (i : At b n s) (none : length (in_flight s) ≡ 0) (some : 0 < chunks_waiting s.sending.sender)
@@ -178,7 +218,15 @@ module _ (b : Setting) (n : ℕ) (s : Session) (i : At b n s) (none : length (in
       let flies = m.flying in
       let count = started-count 0 q in
       let same = ap (λ p. length p.chunks) (started-inflight 0 q) in
-      record { waiting = omega (arith, waits, count); flying = omega (arith, flies, same); sacks = refl }
+      let dear = m.dear s.receiving.accepted in
+      let flying-same = ap (λ p. due_by price s.receiving.accepted p.chunks) (started-inflight 0 q) in
+      let waiting-same = started-waiting 0 q in
+      record {
+        waiting = omega (arith, waits, count);
+        flying = omega (arith, flies, same);
+        dear = omega (arith, dear, flying-same, waiting-same);
+        sacks = refl;
+      }
 
   one-tsn : distance (next_tsn s) (next_tsn (after_sends s)) ≡ 1
   one-tsn =
@@ -194,7 +242,9 @@ module _ (b : Setting) (n : ℕ) (s : Session) (i : At b n s) (none : length (in
       let one = one-tsn in
       let x = sent in
       let waits = x.waiting in
-      let j = at-next b n (of_sender (sends 0)) s t sending refl (omega (arith, one, few)) i in
+      let flies = x.flying in
+      let dear = x.dear in
+      let j = at-next b n (of_sender (sends 0)) s t sending refl (omega (arith, one, few)) (omega (arith, waits, flies)) dear i in
       sender-before b (sends 0) s t sending refl (omega (arith, one, waits))
       (next-ends t (subst (λ k. At b k t) {x = n + distance (next_tsn s) (next_tsn t)} {y = n + 1} (omega (arith, one)) j) x)
 
@@ -245,7 +295,7 @@ module _ (b : Setting) where
         sacks = omega (arith, sacks, made);
         exhausted = exhausted;
         read = subst (λ g. EachOtherIsReadOnce g t) j.gone
-            (others-read b.first b.size b.max b.most None j.calls t j.run b.small (few-given b n t j) b.some exhausted);
+            (others-read b.first b.size b.max b.most b.limits j.calls t j.run b.small (few-given b n t j) b.some exhausted);
       })
 
   ends-from : (m n : ℕ) (s : Session) → At b n s → n + chunks_waiting s.sending.sender < 2 ^ 31
@@ -274,19 +324,21 @@ module _ (b : Setting) where
 
 -- ## The law
 
-none-of : {A : Type 0} (o : Option A) → not (is_some o) ≡ true → o ≡ None
-none-of None e = refl
-none-of (Some x) e = absurd (not_both e)
+module _ (tsn size max most : ℕ) (limits : Option Limits) (cs : List Call) (s : Session) (small : tsn < 2 ^ 32) (some : 0 < size)
+    (run : RunsTo (at_start tsn size max most limits) cs s)
+    (few : tsns_given (at_start tsn size max most limits) cs s run + chunks_waiting s.sending.sender < 2 ^ 31)
+    (takes : takes_all_of s.sending.sender s.receiving.receiver ≡ true) where
+  parts : (has_room s.receiving.receiver.limits s.sending.sender s.receiving.receiver ≡ true)
+      × (nat_le s.sending.sender.max_message_size s.receiving.receiver.max_message_size ≡ true)
+  parts = both (has_room s.receiving.receiver.limits s.sending.sender s.receiving.receiver)
+      (nat_le s.sending.sender.max_message_size s.receiving.receiver.max_message_size) takes
 
-module _ (tsn size max most : ℕ) (cs : List Call) (s : Session) (small : tsn < 2 ^ 32) (some : 0 < size)
-    (run : RunsTo (at_start tsn size max most None) cs s)
-    (few : tsns_given (at_start tsn size max most None) cs s run + chunks_waiting s.sending.sender < 2 ^ 31)
-    (enough : s.sending.sender.max_message_size ≤ s.receiving.receiver.max_message_size) where
   longer : max ≤ most
   longer =
-      let fit = fit-session tsn size max most None cs s run in
+      let fit = fit-session tsn size max most limits cs s run in
       let sent = fit.sender in
       let own = fit.streams.own in
+      let enough : s.sending.sender.max_message_size ≤ s.receiving.receiver.max_message_size = grind (arith, nat_tests, parts.1) in
       omega (arith, sent, own, enough)
 
   abbrev setting : Setting
@@ -295,41 +347,34 @@ module _ (tsn size max most : ℕ) (cs : List Call) (s : Session) (small : tsn <
     size = size;
     max = max;
     most = most;
+    limits = limits;
     small = small;
     some = some;
     enough = longer;
-    gone = abandoned_in (at_start tsn size max most None) cs s run;
+    gone = abandoned_in (at_start tsn size max most limits) cs s run;
     sacks = length s.sacks + chunks_left s.sending.sender;
   }
 
-  ends : Ends setting s
-  ends = ends-from setting (chunks_left s.sending.sender) (tsns_given (at_start tsn size max most None) cs s run) s
-      (record { calls = cs; run = run; given = refl; gone = refl; few = omega (arith, few) }) few (omega arith) (omega arith)
+  room : RoomIn limits s
+  room =
+      room-of limits s (subst (λ o. has_room o s.sending.sender s.receiving.receiver ≡ true)
+      (limits-same cs (at_start tsn size max most limits) s run) parts.0)
 
-  without-limits : CanEnd (abandoned_in (at_start tsn size max most None) cs s run) s
-  without-limits = record {
-    calls = ends.calls;
-    ended = ends.ended;
-    run = ends.run;
-    delivery = ends.delivery;
-    given = ends.given;
-    written = ends.written;
-    sacks = ends.sacks;
-    exhausted = ends.exhausted;
-    read = ends.read;
-  }
+  ends : Ends setting s
+  ends = ends-from setting (chunks_left s.sending.sender) (tsns_given (at_start tsn size max most limits) cs s run) s
+      (record { calls = cs; run = run; given = refl; gone = refl; few = omega (arith, few); room = room }) few (omega arith) (omega arith)
 
 pub all-end : AfterEachSessionWithTsnsLeft EndsWhereTaken
-all-end tsn size max most limits cs s small some run few takes = from limits (sym (limits-same cs (at_start tsn size max most limits) s run) ∙ free) run few
-  where
-    parts : (not (is_some s.receiving.receiver.limits) ≡ true) × (nat_le s.sending.sender.max_message_size s.receiving.receiver.max_message_size ≡ true)
-    parts = both (not (is_some s.receiving.receiver.limits)) (nat_le s.sending.sender.max_message_size s.receiving.receiver.max_message_size) takes
-
-    free : s.receiving.receiver.limits ≡ None
-    free = none-of s.receiving.receiver.limits parts.0
-
-    from : (l : Option Limits) → l ≡ None → (r : RunsTo (at_start tsn size max most l) cs s)
-        → tsns_given (at_start tsn size max most l) cs s r + chunks_waiting s.sending.sender < 2 ^ 31
-        → CanEnd (abandoned_in (at_start tsn size max most l) cs s r) s
-    from None e r f = without-limits tsn size max most cs s small some r f (let le = parts.1 in grind (arith, nat_tests, le))
-    from (Some x) e r f = absurd (none-some x (sym e))
+all-end tsn size max most limits cs s small some run few takes =
+    let e = ends tsn size max most limits cs s small some run few takes in
+    record {
+      calls = e.calls;
+      ended = e.ended;
+      run = e.run;
+      delivery = e.delivery;
+      given = e.given;
+      written = e.written;
+      sacks = e.sacks;
+      exhausted = e.exhausted;
+      read = e.read;
+    }

@@ -1,17 +1,22 @@
 -- Sessions that can end: a call in front of others that end one.
-use Rattle.std.proofs.Common.{◌≡◌, ℕ, ◌+◌, ◌-◌, ◌^◌, ◌<◌, ◌≤◌, true, List, [], ◌∷◌, ◌++◌, length, None, refl, ap, sym, subst, ◌∙◌, arith}
+use Rattle.std.proofs.Common.{◌≡◌, ℕ, ◌+◌, ◌-◌, ◌^◌, ◌<◌, ◌≤◌, true, List, [], ◌∷◌, ◌++◌, length, refl, ap, sym, subst, ◌∙◌, arith, Option}
 use Rattle.std.specs.List.{list_all}
-use Rattle.sctp_list_lemmas.specs.Serial.{distance}
 use Rattle.sctp_list_lemmas.proofs.More.{and, not_both}
 use Rattle.sctp_list_lemmas.proofs.Round.{distance-tsn}
+use Rattle.sctp_list_lemmas.specs.Serial.{distance}
+use Rattle.sctp_receiver.proofs.StreamCosts.{are_apart}
+use Rattle.sctp_receiver.specs.Inbound.{numbers_of}
+use Rattle.sctp_receiver.specs.declared.receiver.limits.Limits.{Limits}
 use Rattle.sctp_delivery.specs.Abandoned.{EachOtherIsReadOnce, abandoned_by, abandoned_in}
 use Rattle.sctp_delivery.specs.Complete.{is_exhausted}
 use Rattle.sctp_delivery.specs.Ending.{chunks_waiting, is_delivery}
 use Rattle.sctp_delivery.specs.ReceiverCalls.{ReceiverCall}
+use Rattle.sctp_delivery.specs.Rounds.{chunks_left}
 use Rattle.sctp_delivery.specs.Sacks.{tsns_given}
 use Rattle.sctp_delivery.specs.SenderCalls.{SenderCall, Write, forwards, resends, sends, takes_sack, written_after}
 use Rattle.sctp_delivery.specs.Session.{Call, Follows, ReceiverFollows, RunsTo, SenderFollows, Session, at_start, of_receiver, of_sender}
 use Rattle.sctp_delivery.proofs.Delivered.{next_tsn}
+use Rattle.sctp_delivery.proofs.EndRoom.{RoomIn, apart-in, cost, room-still}
 use Rattle.sctp_delivery.proofs.GivenTsns.{IsNumbered}
 use Rattle.sctp_delivery.proofs.MessageSizes.{fit-session}
 use Rattle.sctp_delivery.proofs.Reached.{HasKept, IsReached, kept}
@@ -52,7 +57,7 @@ module _ (call : Call) (s t : Session) (f : Follows call s t) (delivery : is_del
       let ih = longer cs run.0 run.1.1 in
       record { more = (run.0, (run.1.0, ih.more)); given = let e = ih.given in omega (arith, e); gone = ih.gone }
 
--- ## From a start without limits
+-- ## From a start
 
 -- where the session began, with the messages that were abandoned before it is ended, and how many SACKs may have been made then
 pub record Setting : Type 0 where
@@ -60,6 +65,7 @@ pub record Setting : Type 0 where
   pub size : ℕ
   pub max : ℕ
   pub most : ℕ
+  pub limits : Option Limits
   pub small : first < 2 ^ 32
   pub some : 0 < size
   pub enough : max ≤ most
@@ -67,15 +73,16 @@ pub record Setting : Type 0 where
   pub sacks : ℕ
 
 abbrev pub start : Setting → Session
-start b = at_start b.first b.size b.max b.most None
+start b = at_start b.first b.size b.max b.most b.limits
 
--- n TSNs were given out since, fewer than 2^31
+-- n TSNs were given out since, fewer than 2^31; and the receiver has room for what is left
 pub record At (b : Setting) (n : ℕ) (s : Session) : Type 0 where
   pub calls : List Call
   pub run : RunsTo (start b) calls s
   pub given : tsns_given (start b) calls s run ≡ n
   pub gone : abandoned_in (start b) calls s run ≡ b.gone
   pub few : n < 2 ^ 31
+  pub room : RoomIn b.limits s
 
 -- calls of delivery lead from the session to the end
 pub record Ends (b : Setting) (s : Session) : Type 0 where
@@ -95,7 +102,7 @@ module _ (b : Setting) where
     size = b.size;
     max = b.max;
     most = b.most;
-    limits = None;
+    limits = b.limits;
     calls = i.calls;
     small = b.small;
     some = b.some;
@@ -112,11 +119,15 @@ module _ (b : Setting) where
   -- the receiver takes messages as long as the sender writes
   pub long-enough : (n : ℕ) (s : Session) → At b n s → s.sending.sender.max_message_size ≤ s.receiving.receiver.max_message_size
   long-enough n s i =
-      let fit = fit-session b.first b.size b.max b.most None i.calls s i.run in
+      let fit = fit-session b.first b.size b.max b.most b.limits i.calls s i.run in
       let sent = fit.sender in
       let own = fit.streams.own in
       let enough = b.enough in
       omega (arith, sent, own, enough)
+
+  -- no two of its streams have one number
+  pub apart-at : (n : ℕ) (s : Session) → At b n s → are_apart (numbers_of s.receiving.receiver.streams) ≡ true
+  apart-at n s i = apart-in i.calls (start b) s i.run refl
 
   pub no-distance : (n : ℕ) (s : Session) → At b n s → distance (next_tsn s) (next_tsn s) ≡ 0
   no-distance n s i =
@@ -127,8 +138,9 @@ module _ (b : Setting) where
   -- ## Behind one more call
 
   pub at-next : (n : ℕ) (call : Call) (s t : Session) → Follows call s t → is_delivery call ≡ true
-      → n + distance (next_tsn s) (next_tsn t) < 2 ^ 31 → At b n s → At b (n + distance (next_tsn s) (next_tsn t)) t
-  at-next n call s t f d few i =
+      → n + distance (next_tsn s) (next_tsn t) < 2 ^ 31 → chunks_left t.sending.sender ≤ chunks_left s.sending.sender → cost t ≤ cost s → At b n s
+      → At b (n + distance (next_tsn s) (next_tsn t)) t
+  at-next n call s t f d few left less i =
       let l = longer call s t f d i.calls (start b) i.run in
       record {
         calls = i.calls ++ call ∷ [];
@@ -136,15 +148,17 @@ module _ (b : Setting) where
         given = let e = l.given in let g = i.given in omega (arith, e, g);
         gone = l.gone ∙ i.gone;
         few = few;
+        room = room-still b.limits s t left less i.room;
       }
 
   -- where no TSN is given out
-  pub at-same : (n : ℕ) (call : Call) (s t : Session) → Follows call s t → is_delivery call ≡ true → next_tsn t ≡ next_tsn s → At b n s → At b n t
-  at-same n call s t f d same i =
+  pub at-same : (n : ℕ) (call : Call) (s t : Session) → Follows call s t → is_delivery call ≡ true → next_tsn t ≡ next_tsn s
+      → chunks_left t.sending.sender ≤ chunks_left s.sending.sender → cost t ≤ cost s → At b n s → At b n t
+  at-same n call s t f d same left less i =
       let none : distance (next_tsn s) (next_tsn t) ≡ 0 = ap (distance (next_tsn s)) same ∙ no-distance n s i in
       let few = i.few in
       subst (λ k. At b k t) {x = n + distance (next_tsn s) (next_tsn t)} {y = n} (omega (arith, none))
-      (at-next n call s t f d (omega (arith, none, few)) i)
+      (at-next n call s t f d (omega (arith, none, few)) left less i)
 
   -- ## In front of calls that end it
 

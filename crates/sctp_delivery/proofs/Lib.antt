@@ -107,6 +107,7 @@ pub mod Taking
 pub mod ReadAfterRounds
 pub mod PushesExist
 pub mod NamesExist
+pub mod EndRoom
 pub mod EndSteps
 pub mod EndReads
 pub mod EndDelivers

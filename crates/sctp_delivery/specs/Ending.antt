@@ -1,14 +1,16 @@
 -- Calls that end a session exist (RFC 4960 6.2, 6.3.3; RFC 3758 3.5, 3.6).
-use Rattle.std.specs.Prelude.{◌≡◌, ℕ, ◌+◌, ◌^◌, ◌<◌, ◌≤◌, Bool, true, false, not, ◌&&◌, nat_le, is_some, List, length, Option}
-use Rattle.std.specs.List.{list_all}
+use Rattle.std.specs.Prelude.{◌≡◌, ℕ, ◌+◌, ◌*◌, ◌^◌, ◌<◌, ◌≤◌, Bool, true, false, ◌&&◌, nat_le, nat_lt, List, length, Option, Some, None}
+use Rattle.std.specs.List.{list_all, sum_by}
 use Rattle.sctp_outbound.specs.pending_queue.PendingQueue.{chunk_count}
 use Rattle.sctp_data.specs.declared.chunk.chunk_payload_data.ChunkPayloadData.{ChunkPayloadData}
 use Rattle.sctp_data.specs.SelectiveAck.{Sack}
 use Rattle.sctp_receiver.specs.declared.receiver.arrival.Arrival.{Arrival}
 use Rattle.sctp_receiver.specs.declared.receiver.limits.Limits.{Limits}
+use Rattle.sctp_receiver.specs.Limits.{cost_of}
 use Rattle.sctp_receiver.specs.Receiver.{Reception}
 use Rattle.sctp_sender.specs.declared.sender.flight.Released.{Released}
 use Rattle.sctp_sender.specs.Sender.{Transmission}
+use Rattle.sctp_sender.specs.SenderRuns.{held_by_sender}
 use Rattle.sctp_delivery.specs.Abandoned.{EachOtherIsReadOnce, abandoned_in}
 use Rattle.sctp_delivery.specs.Complete.{is_exhausted}
 use Rattle.sctp_delivery.specs.ReceiverCalls.{takes}
@@ -33,9 +35,21 @@ AfterEachSessionWithTsnsLeft P =
     + chunks_waiting s.sending.sender < 2 ^ 31
     → P (abandoned_in (at_start tsn size max most limits) calls s run) s
 
--- the receiver has no limits, and takes messages as long as the sender writes
+-- what waits and what is in flight counts for: its bytes, and 200 for each chunk, as a receiver counts what it holds
+abbrev pub cost_left : Transmission → ℕ
+cost_left t = held_by_sender t + 200 * chunks_left t
+
+-- there are no limits; or the reach is no less than the chunks that are left, and the window is more than what they and all that is held
+-- count for together
+abbrev pub has_room : Option Limits → Transmission → Reception → Bool
+has_room None t r = true
+has_room (Some l) t r =
+    nat_le (chunks_left t) l.reach
+    && nat_lt (sum_by cost_of r.streams + cost_left t) l.window
+
+-- so it is of the receiver, and it takes messages as long as the sender writes
 abbrev pub takes_all_of : Transmission → Reception → Bool
-takes_all_of t r = not (is_some r.limits) && nat_le t.max_message_size r.max_message_size
+takes_all_of t r = has_room r.limits t r && nat_le t.max_message_size r.max_message_size
 
 -- ## The end
 

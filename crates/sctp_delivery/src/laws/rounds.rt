@@ -45,10 +45,10 @@ pub fn all_is_read_after_rounds()
     ensures { AfterEachFitReliableSession AllIsReadAfterRounds }
 {}
 
-/// Each session can be ended: where the receiver has no limits, and takes messages as long as the sender writes, calls exist, none of
-/// which is refused for a reason, behind which nothing waits, nothing is in flight, and nothing is to be read. None of them writes,
-/// abandons a message, or lets one expire; and each write whose message had not been abandoned was read exactly once then. So it is in
-/// sessions that give out fewer than 2^31 TSNs, with one for each chunk that waits.
+/// Each session can be ended: where the receiver has no limits, or room within them for all that is left, and takes messages as long as
+/// the sender writes, calls exist, none of which is refused for a reason, behind which nothing waits, nothing is in flight, and nothing is
+/// to be read. None of them writes, abandons a message, or lets one expire; and each write whose message had not been abandoned was read
+/// exactly once then. So it is in sessions that give out fewer than 2^31 TSNs, with one for each chunk that waits.
 pub fn every_session_can_end()
     ensures { AfterEachSessionWithTsnsLeft EndsWhereTaken }
 {}
