@@ -35,7 +35,7 @@ use Rattle.sctp_delivery.specs.Session.{ReceiverFollows, SenderFollows, Session,
 use Rattle.sctp_delivery.proofs.Answered.{ahead-of-sacks}
 use Rattle.sctp_delivery.proofs.ArrivedTsns.{IsArrived, IsKnown}
 use Rattle.sctp_delivery.proofs.EndReads.{Rests, ends-open, ends-read}
-use Rattle.sctp_delivery.proofs.EndRoom.{due, is_due, less-due, none-refused, price, same-due, taken-cost}
+use Rattle.sctp_delivery.proofs.EndRoom.{due, is_due, less-due, none-refused, price, same-due, spent, taken-cost}
 use Rattle.sctp_delivery.proofs.EndSteps.{At, Ends, Setting, apart-at, at-same, kept-at, long-enough, no-distance, reached, receiver-before, sender-before}
 use Rattle.sctp_delivery.proofs.EndSteps.{start}
 use Rattle.sctp_delivery.proofs.Every.{Every, all-of-every, every-at, every-of-all, one-of}
@@ -143,6 +143,7 @@ pub record Delivered (s t : Session) : Type 0 where
   pub pending : (flight_of t).queue.pending ≡ (flight_of s).queue.pending
   pub as_many : length (in_flight t) ≡ length (in_flight s)
   pub sacks : t.sacks ≡ s.sacks
+  pub few : spent t ≤ spent s
   pub taken : All (λ c. c.abandoned ≡ false → was_taken c.tsn t ≡ true) (in_flight t)
 
 -- what is known of a chunk in flight
@@ -209,6 +210,7 @@ record Nearer (s t : Session) : Type 0 where
   pending : (flight_of t).queue.pending ≡ (flight_of s).queue.pending
   as_many : length (in_flight t) ≡ length (in_flight s)
   sacks : t.sacks ≡ s.sacks
+  few : spent t ≤ spent s
   fewer : due t.receiving.accepted (in_flight t) < due s.receiving.accepted (in_flight s)
 
 module _ (b : Setting) where
@@ -291,6 +293,10 @@ module _ (b : Setting) where
         pending = refl;
         as_many = length-change_where (has_tsn c.tsn) (sent_again (count_again c) 0) (in_flight s);
         sacks = refl;
+        few =
+            let same = same-due (λ x. 1) (λ k m x. refl) (c ∷ s.receiving.accepted) (has_tsn c.tsn) (count_again c) 0 (in_flight s) in
+            let lt = less-due (λ x. 1) c s.receiving.accepted (in_flight s) e f.found in
+            omega (arith, same, lt);
         fewer =
             let same = same-due (λ x. 1) (λ k m x. refl) (c ∷ s.receiving.accepted) (has_tsn c.tsn) (count_again c) 0 (in_flight s) in
             let lt = less-due (λ x. 1) c s.receiving.accepted (in_flight s) e f.found in
@@ -307,6 +313,7 @@ module _ (b : Setting) where
         pending = y.pending ∙ ap (λ (l : Ledger). l.sender.flight.queue.pending) x.sending;
         as_many = y.as_many ∙ ap (λ (l : Ledger). length l.sender.flight.queue.inflight.chunks) x.sending;
         sacks = y.sacks ∙ x.sacks;
+        few = let le = y.few in let made = ap length x.made in omega (arith, le, made, same);
         fewer = let lt = y.fewer in omega (arith, lt, same);
       })))
 
@@ -323,6 +330,11 @@ module _ (b : Setting) where
         pending = ap (λ (l : Ledger). l.sender.flight.queue.pending) x.sending;
         as_many = ap (λ (l : Ledger). length l.sender.flight.queue.inflight.chunks) x.sending;
         sacks = x.sacks;
+        few =
+            let made = ap length x.made in
+            let same = ap (λ (l : Ledger). due u.receiving.accepted l.sender.flight.queue.inflight.chunks) x.sending
+            ∙ ap (λ xs. due xs (in_flight s)) x.accepted in
+            omega (arith, made, same);
         taken = all-of-every (λ (c : ChunkPayloadData). c.abandoned ≡ false → was_taken c.tsn u ≡ true) (in_flight u)
             (none-due u.receiving.accepted (in_flight u) e);
       })
@@ -334,6 +346,7 @@ module _ (b : Setting) where
             pending = y.pending ∙ ap (λ (l : Ledger). l.sender.flight.queue.pending) x.sending;
             as_many = y.as_many ∙ ap (λ (l : Ledger). length l.sender.flight.queue.inflight.chunks) x.sending;
             sacks = y.sacks ∙ x.sacks;
+            few = let le = y.few in let made = ap length x.made in omega (arith, le, made, same);
             fewer = let lt = y.fewer in omega (arith, lt, same);
           }))
 
@@ -345,6 +358,7 @@ module _ (b : Setting) where
         pending = z.pending ∙ y.pending;
         as_many = z.as_many ∙ y.as_many;
         sacks = z.sacks ∙ y.sacks;
+        few = let le = z.few in let more = y.few in omega (arith, le, more);
         taken = z.taken;
       })))
 

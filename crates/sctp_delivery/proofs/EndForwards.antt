@@ -14,6 +14,7 @@ use Rattle.sctp_data.specs.ForwardTsn.{ForwardTsn}
 use Rattle.sctp_data.specs.SelectiveAck.{Sack}
 use Rattle.sctp_data.specs.declared.chunk.chunk_forward_tsn.ChunkForwardTsnStream.{ChunkForwardTsnStream}
 use Rattle.sctp_data.specs.declared.chunk.chunk_payload_data.ChunkPayloadData.{ChunkPayloadData}
+use Rattle.sctp_outbound.specs.Marks.{as_acknowledged}
 use Rattle.sctp_receiver.specs.Limits.{cost_of}
 use Rattle.sctp_receiver.specs.Receiver.{Reception, follow_forward_tsn, is_open, is_stale, message_of, stream_of}
 use Rattle.sctp_receiver.specs.ReceiverRuns.{Stand}
@@ -37,7 +38,7 @@ use Rattle.sctp_delivery.proofs.ArrivedTsns.{IsKnown}
 use Rattle.sctp_delivery.proofs.Delivered.{next_tsn}
 use Rattle.sctp_delivery.proofs.EndDelivers.{few-given}
 use Rattle.sctp_delivery.proofs.EndReads.{Rests, ends-open, ends-read, rests-same, rests-then}
-use Rattle.sctp_delivery.proofs.EndRoom.{due_by, followed-cost, price, sack-due, waiting_cost}
+use Rattle.sctp_delivery.proofs.EndRoom.{due, due_by, followed-cost, price, sack-due, spent, waiting_cost}
 use Rattle.sctp_delivery.proofs.EndSteps.{At, Ends, Setting, at-same, kept-at, no-distance, reached, receiver-before, sender-before}
 use Rattle.sctp_delivery.proofs.Every.{Every, every-passing}
 use Rattle.sctp_delivery.proofs.ForwardLaw.{none-made}
@@ -151,7 +152,7 @@ module _ (b : Setting) (n : ℕ) (s : Session) (i : At b n s) (p : ℕ)
   -- it is made and followed
   forward-one : reads_nothing s.receiving.receiver ≡ true → list_all (λ m. is_open m.identifier s.receiving.receiver) g.streams ≡ true
       → ((t : Session) → At b n t → t.sending ≡ s.sending → t.receiving.accepted ≡ s.receiving.accepted → t.sacks ≡ s.sacks
-      → at_or_before p t.receiving.receiver.cumulative_tsn ≡ true → Ends b t) → Ends b s
+      → length t.made ≡ length s.made + 1 → at_or_before p t.receiving.receiver.cumulative_tsn ≡ true → Ends b t) → Ends b s
   forward-one none all next =
       let point = advanced_ack_point (flight_of s) in
       let j = at-same b n (of_sender (forwards point g)) s made-one making refl refl (omega arith) (omega arith) i in
@@ -160,7 +161,7 @@ module _ (b : Setting) (n : ℕ) (s : Session) (i : At b n s) (p : ℕ)
       sender-before b (forwards point g) s made-one making refl (omega (arith, zero'))
       (receiver-before b n (follows g) made-one followed-one j f
       (next followed-one (at-same b n (of_receiver (follows g)) made-one followed-one f refl refl (omega arith)
-      (let less = followed-cost g s.receiving.receiver in omega (arith, less)) j) refl refl refl gets-there))
+      (let less = followed-cost g s.receiving.receiver in omega (arith, less)) j) refl refl refl (omega arith) gets-there))
 
 -- ## Caught up
 
@@ -168,6 +169,7 @@ pub record CaughtUp (s t : Session) : Type 0 where
   pub caught : IsCaughtUp t
   pub sending : t.sending ≡ s.sending
   pub sacks : t.sacks ≡ s.sacks
+  pub few : spent t ≤ spent s + 1
 
 abbrev pub AreTaken : Session → Type 0
 AreTaken s = All (λ c. c.abandoned ≡ false → was_taken c.tsn s ≡ true) (in_flight s)
@@ -211,7 +213,7 @@ module _ (b : Setting) where
           ap (λ (l : Ledger). skip_end (advanced_ack_point l.sender.flight) l.sender.flight) same ∙ e in
           let all : list_all (λ m. is_open m.identifier w.receiving.receiver) (names (named_up_to p (flight_of w))) ≡ true =
           ap (λ (l : Ledger). list_all (λ m. is_open m.identifier w.receiving.receiver) (names (named_up_to p l.sender.flight))) same ∙ o.all in
-          forward-one b n w k p skip o.unread all (λ t l sending accepted sacks upto.
+          forward-one b n w k p skip o.unread all (λ t l sending accepted sacks made upto.
           let sent : t.sending ≡ s.sending = sending ∙ same in
           let came : t.receiving.accepted ≡ s.receiving.accepted = accepted ∙ o.rests.accepted ∙ x.accepted in
           next t l (record {
@@ -219,11 +221,16 @@ module _ (b : Setting) where
                 (taken-still s t sent came taken) upto;
             sending = sent;
             sacks = sacks ∙ o.rests.sacks ∙ x.sacks;
+            few =
+                let more = ap length (o.rests.made ∙ x.made) in
+                let due-same = ap (λ (y : Ledger). due t.receiving.accepted y.sender.flight.queue.inflight.chunks) sent
+                ∙ ap (λ cs. due cs (in_flight s)) came in
+                omega (arith, more, made, due-same);
           }))))
 
       at : (p : ℕ) → skip_end (advanced_ack_point (flight_of s)) (flight_of s) ≡ Some p → (c : Bool)
           → at_or_before p s.receiving.receiver.cumulative_tsn ≡ c → Ends b s
-      at p e true upto = next s i (record { caught = caught-by s p e taken upto; sending = refl; sacks = refl })
+      at p e true upto = next s i (record { caught = caught-by s p e taken upto; sending = refl; sacks = refl; few = omega arith })
       at p e false upto = forward p e
 
       by : (o : Option ℕ) → skip_end (advanced_ack_point (flight_of s)) (flight_of s) ≡ o → Ends b s
@@ -231,6 +238,7 @@ module _ (b : Setting) where
         caught = record { taken = taken; followed = λ t h. absurd (none-some t (sym e ∙ h)) };
         sending = refl;
         sacks = refl;
+        few = omega arith;
       })
       by (Some p) e = at p e (at_or_before p s.receiving.receiver.cumulative_tsn) refl
 
@@ -241,15 +249,16 @@ pub record Answered (s t : Session) : Type 0 where
   pub waiting : chunks_waiting t.sending.sender ≡ chunks_waiting s.sending.sender
   pub fewer : length (in_flight t) < length (in_flight s)
   pub sacks : length t.sacks ≡ length s.sacks + 1
+  pub few : spent t ≤ spent s
 
 -- it makes no more due
-after-due : (k : Sack) (accepted : List ChunkPayloadData) (f : Flight)
-    → due_by price accepted (after_sack k f).queue.inflight.chunks ≤ due_by price accepted f.queue.inflight.chunks
-after-due k accepted f = by (is_outdated k f)
+after-due : (w : ChunkPayloadData → ℕ) → ((c : ChunkPayloadData) → w (as_acknowledged c) ≤ w c) → (k : Sack) (accepted : List ChunkPayloadData) (f : Flight)
+    → due_by w accepted (after_sack k f).queue.inflight.chunks ≤ due_by w accepted f.queue.inflight.chunks
+after-due w less k accepted f = by (is_outdated k f)
   where
-    by : (b : Bool) → due_by price accepted (if b then f else take_sack k f).queue.inflight.chunks ≤ due_by price accepted f.queue.inflight.chunks
+    by : (b : Bool) → due_by w accepted (if b then f else take_sack k f).queue.inflight.chunks ≤ due_by w accepted f.queue.inflight.chunks
     by true = omega arith
-    by false = sack-due price (λ c. omega arith) accepted k.cumulative_tsn_ack (reports_anew k) f.queue.inflight.chunks
+    by false = sack-due w less accepted k.cumulative_tsn_ack (reports_anew k) f.queue.inflight.chunks
 
 module _ (b : Setting) where
   pub ends-answered : (n : ℕ) (s : Session) → At b n s → IsCaughtUp s → 0 < length (in_flight s)
@@ -277,7 +286,13 @@ module _ (b : Setting) where
       let held' = ap (λ (x : Stand). sum_by cost_of x.receiver.streams) same in
       let due-after = ap (λ (x : Stand). due_by price x.accepted (in_flight t)) same
       ∙ ap (λ (x : Transmission). due_by price u.receiving.accepted x.flight.queue.inflight.chunks) a.taking.exact in
-      let fewer-due = after-due a.sack u.receiving.accepted u.sending.sender.flight in
+      let fewer-due = after-due price (λ x. omega arith) a.sack u.receiving.accepted u.sending.sender.flight in
+      let due-same = ap (λ (x : Stand). due x.accepted (in_flight t)) same
+      ∙ ap (λ (x : Transmission). due u.receiving.accepted x.flight.queue.inflight.chunks) a.taking.exact in
+      let due-first = ap (λ (l : Ledger). due u.receiving.accepted l.sender.flight.queue.inflight.chunks) sender
+      ∙ ap (λ cs. due cs (in_flight s)) came in
+      let due-less = after-due (λ x. 1) (λ x. omega arith) a.sack u.receiving.accepted u.sending.sender.flight in
+      let sent-same = ap length (ap (λ (x : Session). x.made) a.taking.after ∙ ap (λ (x : Session). x.made) a.reporting.after) in
       let k = at-same b n (of_sender (takes_sack a.sack a.gone)) u t a.taking refl second (omega (arith, less, waits, left))
       (omega (arith, held', due-after, fewer-due, still, waiting)) j in
       let none : distance (next_tsn u) (next_tsn t) ≡ 0 = ap (distance (next_tsn u)) second ∙ no-distance b n u j in
@@ -285,4 +300,9 @@ module _ (b : Setting) where
       let made = ap length (ap (λ (x : Session). x.sacks) a.taking.after ∙ a.made) in
       receiver-before b n (reports a.credit) s u i a.reporting
       (sender-before b (takes_sack a.sack a.gone) u t a.taking refl (omega (arith, none, waits, waited))
-      (next t k (record { waiting = omega (arith, waits); fewer = less; sacks = omega (arith, made) })))
+      (next t k (record {
+        waiting = omega (arith, waits);
+        fewer = less;
+        sacks = omega (arith, made);
+        few = omega (arith, due-same, due-first, due-less, sent-same);
+      })))

@@ -55,6 +55,10 @@ due_by w accepted cs = sum_by (λ c. worth (w c) (is_due accepted c)) cs
 abbrev pub due : List ChunkPayloadData → List ChunkPayloadData → ℕ
 due accepted cs = due_by (λ c. 1) accepted cs
 
+-- so many chunks were made, and are due
+abbrev pub spent : Session → ℕ
+spent s = length s.made + due s.receiving.accepted s.sending.sender.flight.queue.inflight.chunks
+
 module _ (w : ChunkPayloadData → ℕ) where
   -- one more was taken
   no-more-due : (x : ChunkPayloadData) (accepted : List ChunkPayloadData) (c : ChunkPayloadData)
@@ -304,3 +308,16 @@ pub taken-cost : (c : ChunkPayloadData) (complete : Bool) (l : InboundStream) (q
 taken-cost c complete l q ls apart found pushed =
     one-changed cost_of c.stream_identifier (length c.user_data + 200) (with_queue q) l ls apart found
     ((all-cost (length c.user_data)).pushed c complete l q (omega arith) pushed)
+
+-- ## How many are due
+
+count-all : (cs : List ChunkPayloadData) → sum_by (λ (c : ChunkPayloadData). 1) cs ≡ length cs
+count-all [] = refl
+count-all (c ∷ cs) = let n = sum_by-cons (λ (d : ChunkPayloadData). 1) c cs in let ih = count-all cs in omega (arith, n, ih)
+
+-- no more than are in flight
+pub few-spent : (s : Session) → spent s ≤ length s.made + length (in_flight s)
+few-spent s =
+    let le = all-due (λ c. 1) s.receiving.accepted (in_flight s) in
+    let n = count-all (in_flight s) in
+    omega (arith, le, n)

@@ -1,7 +1,7 @@
 -- Each session can end: round after round leaves fewer chunks, and then all that is to be read is read.
 use Rattle.std.proofs.Common.{◌≡◌, ℕ, zero, suc, ◌+◌, ◌-◌, ◌%◌, ◌^◌, ◌<◌, ◌≤◌, Bool, true, false, not, List, [], ◌∷◌, length, Option, Some, None, is_some, inl}
 use Rattle.std.proofs.Common.{inr, refl, ap, subst, ◌∙◌, arith}
-use Rattle.std.specs.Prelude.{◌==◌, ◌&&◌, if◌then◌else◌, nat_le, nat_lt, slice_get}
+use Rattle.std.specs.Prelude.{◌*◌, ◌==◌, ◌&&◌, if◌then◌else◌, nat_le, nat_lt, slice_get}
 use Rattle.std.proofs.lemmas.Bool.{cases_lt}
 use Rattle.std.proofs.lemmas.Bool.Decides.{nat_tests}
 use Rattle.std.proofs.lemmas.List.Sums.{sum_by-cons}
@@ -33,13 +33,13 @@ use Rattle.sctp_delivery.specs.Complete.{is_all_acknowledged, reads_nothing}
 use Rattle.sctp_delivery.specs.Ending.{AfterEachSessionWithTsnsLeft, EndsWhereTaken, chunks_waiting, has_room, takes_all_of}
 use Rattle.sctp_delivery.specs.Rounds.{chunks_left, flight_of, in_flight}
 use Rattle.sctp_delivery.specs.Sacks.{tsns_given}
-use Rattle.sctp_delivery.specs.SenderCalls.{made_after, sends}
+use Rattle.sctp_delivery.specs.SenderCalls.{Made, made_after, next_chunk, sends, with_chunk}
 use Rattle.sctp_delivery.specs.Session.{Call, RunsTo, SenderFollows, Session, at_start, of_sender}
 use Rattle.sctp_delivery.proofs.Delivered.{next_tsn}
 use Rattle.sctp_delivery.proofs.EndDelivers.{ends-delivered, few-given}
 use Rattle.sctp_delivery.proofs.EndForwards.{ends-answered, ends-caught-up}
 use Rattle.sctp_delivery.proofs.EndReads.{ends-read}
-use Rattle.sctp_delivery.proofs.EndRoom.{RoomIn, cost, due_by, price, put-due, room-of, waiting_cost}
+use Rattle.sctp_delivery.proofs.EndRoom.{RoomIn, cost, due_by, few-spent, price, put-due, room-of, spent, waiting_cost}
 use Rattle.sctp_delivery.proofs.EndSteps.{At, Ends, Setting, at-next, kept-at, numbered-at, sender-before}
 use Rattle.sctp_delivery.proofs.MessageSizes.{fit-session}
 use Rattle.sctp_delivery.proofs.Numbers.{number_of}
@@ -167,6 +167,11 @@ unrefused f none = by (next_pending f.queue.pending)
         ∙ ap (λ b. if begins_ordered c && (b && nat_le (2 ^ 14) (past_number (first_ordered c.stream_identifier f) c)) then Some SsnsUsedUp else None) near
         ∙ ap (λ b. if b then Some SsnsUsedUp else None) (and-none (begins_ordered c))
 
+-- no more than one chunk is made
+few-made : (o : Option ChunkPayloadData) (ms : List Made) → length (with_chunk o ms) ≤ length ms + 1
+few-made None ms = omega arith
+few-made (Some c) ms = omega arith
+
 abbrev after_sends : Session → Session
 after_sends s =
     record s {
@@ -184,6 +189,7 @@ record Sent (s t : Session) : Type 0 where
   waiting : chunks_waiting t.sending.sender + 1 ≡ chunks_waiting s.sending.sender
   flying : length (in_flight t) ≡ length (in_flight s) + 1
   dear : cost t ≤ cost s
+  few : spent t ≤ spent s + 2
   sacks : t.sacks ≡ s.sacks
 
 module _ (b : Setting) (n : ℕ) (s : Session) (i : At b n s) (none : length (in_flight s) ≡ 0) (some : 0 < chunks_waiting s.sending.sender)
@@ -225,6 +231,11 @@ module _ (b : Setting) (n : ℕ) (s : Session) (i : At b n s) (none : length (in
         waiting = omega (arith, waits, count);
         flying = omega (arith, flies, same);
         dear = omega (arith, dear, flying-same, waiting-same);
+        few =
+            let most = few-spent (after_sends s) in
+            let made = few-made (next_chunk 0 s.sending.sender) s.made in
+            let long : length (in_flight (after_sends s)) ≡ 1 = omega (arith, flies, same, none) in
+            omega (arith, most, made, long);
         sacks = refl;
       }
 
@@ -254,6 +265,7 @@ module _ (b : Setting) (n : ℕ) (s : Session) (i : At b n s) (none : length (in
 record Rounded (s t : Session) : Type 0 where
   waiting : chunks_waiting t.sending.sender ≡ chunks_waiting s.sending.sender
   fewer : length (in_flight t) < length (in_flight s)
+  few : spent t ≤ spent s + 1
   sacks : length t.sacks ≡ length s.sacks + 1
 
 module _ (b : Setting) where
@@ -268,16 +280,20 @@ module _ (b : Setting) where
       let fewer = a.fewer in
       let waiting = a.waiting in
       let made = a.sacks in
+      let few = a.few in
+      let few-caught = c.few in
+      let few-delivered = d.few in
       next v l (record {
         waiting = omega (arith, waiting, waits, waited);
         fewer = omega (arith, fewer, long, same);
+        few = omega (arith, few, few-caught, few-delivered);
         sacks = omega (arith, made, sacks);
       }))))
 
   -- ## The end
 
-  finish : (n : ℕ) (s : Session) → At b n s → chunks_left s.sending.sender ≡ 0 → length s.sacks ≤ b.sacks → Ends b s
-  finish n s i none made = ends-read b n s i (λ t j x unread.
+  finish : (n : ℕ) (s : Session) → At b n s → chunks_left s.sending.sender ≡ 0 → length s.sacks ≤ b.sacks → length s.made ≤ b.made → Ends b s
+  finish n s i none made all = ends-read b n s i (λ t j x unread.
       let waits = ap (λ (l : Ledger). chunks_waiting l.sender) x.sending in
       let flies = ap (λ (l : Ledger). length l.sender.flight.queue.inflight.chunks) x.sending in
       let sacks = ap length x.sacks in
@@ -293,22 +309,26 @@ module _ (b : Setting) where
         given = omega (arith, waiting);
         written = refl;
         sacks = omega (arith, sacks, made);
+        made = let same = ap length x.made in omega (arith, same, all);
         exhausted = exhausted;
         read = subst (λ g. EachOtherIsReadOnce g t) j.gone
             (others-read b.first b.size b.max b.most b.limits j.calls t j.run b.small (few-given b n t j) b.some exhausted);
       })
 
   ends-from : (m n : ℕ) (s : Session) → At b n s → n + chunks_waiting s.sending.sender < 2 ^ 31
-      → length s.sacks + chunks_left s.sending.sender ≤ b.sacks → chunks_left s.sending.sender ≤ m → Ends b s
-  ends-from zero n s i few sacks le = finish n s i (omega (arith, le)) (omega (arith, sacks))
-  ends-from (suc m) n s i few sacks le = elim (cases_lt 0 (length (in_flight s))) [
+      → length s.sacks + chunks_left s.sending.sender ≤ b.sacks → spent s + chunks_left s.sending.sender + 2 * chunks_waiting s.sending.sender ≤ b.made
+      → chunks_left s.sending.sender ≤ m → Ends b s
+  ends-from zero n s i few sacks made le = finish n s i (omega (arith, le)) (omega (arith, sacks)) (omega (arith, made))
+  ends-from (suc m) n s i few sacks made le = elim (cases_lt 0 (length (in_flight s))) [
     | inl some ↦ ends-rounded n s i some (λ t j r.
         let waits = r.waiting in
         let fewer = r.fewer in
-        let made = r.sacks in
-        ends-from m n t j (omega (arith, few, waits)) (omega (arith, sacks, waits, fewer, made)) (omega (arith, le, waits, fewer)))
+        let reported = r.sacks in
+        let spent' = r.few in
+        ends-from m n t j (omega (arith, few, waits)) (omega (arith, sacks, waits, fewer, reported)) (omega (arith, made, spent', waits, fewer))
+        (omega (arith, le, waits, fewer)))
     | inr none ↦ elim (cases_lt 0 (chunks_waiting s.sending.sender)) [
-      | inr empty ↦ finish n s i (omega (arith, none, empty)) (omega (arith, sacks))
+      | inr empty ↦ finish n s i (omega (arith, none, empty)) (omega (arith, sacks)) (omega (arith, made))
       | inl more ↦ ends-sent b n s i (omega (arith, none)) more (omega (arith, few, more)) (λ u k x.
           let gone = x.waiting in
           let flies = x.flying in
@@ -316,9 +336,11 @@ module _ (b : Setting) where
           ends-rounded (n + 1) u k (omega (arith, flies)) (λ t j r.
           let waits = r.waiting in
           let fewer = r.fewer in
-          let made = r.sacks in
-          ends-from m (n + 1) t j (omega (arith, few, waits, gone)) (omega (arith, sacks, waits, fewer, made, gone, flies, told))
-          (omega (arith, le, waits, fewer, gone, flies))))
+          let reported = r.sacks in
+          let spent' = r.few in
+          let sent' = x.few in
+          ends-from m (n + 1) t j (omega (arith, few, waits, gone)) (omega (arith, sacks, waits, fewer, reported, gone, flies, told))
+          (omega (arith, made, spent', sent', waits, fewer, gone, flies)) (omega (arith, le, waits, fewer, gone, flies))))
     ]
   ]
 
@@ -353,6 +375,7 @@ module _ (tsn size max most : ℕ) (limits : Option Limits) (cs : List Call) (s 
     enough = longer;
     gone = abandoned_in (at_start tsn size max most limits) cs s run;
     sacks = length s.sacks + chunks_left s.sending.sender;
+    made = length s.made + 3 * chunks_left s.sending.sender;
   }
 
   room : RoomIn limits s
@@ -362,7 +385,8 @@ module _ (tsn size max most : ℕ) (limits : Option Limits) (cs : List Call) (s 
 
   ends : Ends setting s
   ends = ends-from setting (chunks_left s.sending.sender) (tsns_given (at_start tsn size max most limits) cs s run) s
-      (record { calls = cs; run = run; given = refl; gone = refl; few = omega (arith, few); room = room }) few (omega arith) (omega arith)
+      (record { calls = cs; run = run; given = refl; gone = refl; few = omega (arith, few); room = room }) few (omega arith)
+      (let most = few-spent s in omega (arith, most)) (omega arith)
 
 pub all-end : AfterEachSessionWithTsnsLeft EndsWhereTaken
 all-end tsn size max most limits cs s small some run few takes =
@@ -375,6 +399,7 @@ all-end tsn size max most limits cs s small some run few takes =
       given = e.given;
       written = e.written;
       sacks = e.sacks;
+      made = e.made;
       exhausted = e.exhausted;
       read = e.read;
     }

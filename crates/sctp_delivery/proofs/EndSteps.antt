@@ -59,7 +59,7 @@ module _ (call : Call) (s t : Session) (f : Follows call s t) (delivery : is_del
 
 -- ## From a start
 
--- where the session began, with the messages that were abandoned before it is ended, and how many SACKs may have been made then
+-- where the session began, with the messages that were abandoned before it is ended, and how many SACKs and chunks may have been made then
 pub record Setting : Type 0 where
   pub first : ℕ
   pub size : ℕ
@@ -71,6 +71,7 @@ pub record Setting : Type 0 where
   pub enough : max ≤ most
   pub gone : List ℕ
   pub sacks : ℕ
+  pub made : ℕ
 
 abbrev pub start : Setting → Session
 start b = at_start b.first b.size b.max b.most b.limits
@@ -93,6 +94,7 @@ pub record Ends (b : Setting) (s : Session) : Type 0 where
   pub given : tsns_given s calls ended run ≡ chunks_waiting s.sending.sender
   pub written : ended.written ≡ s.written
   pub sacks : length ended.sacks ≤ b.sacks
+  pub made : length ended.made ≤ b.made
   pub exhausted : is_exhausted ended.sending.sender ended.receiving.receiver ≡ true
   pub read : EachOtherIsReadOnce b.gone ended
 
@@ -179,6 +181,7 @@ module _ (b : Setting) where
     given = let g = e.given in omega (arith, g, waiting);
     written = e.written ∙ ap (λ (x : Session). x.written) f.after ∙ unwritten call s.written d;
     sacks = e.sacks;
+    made = e.made;
     exhausted = e.exhausted;
     read = e.read;
   }
@@ -196,6 +199,7 @@ module _ (b : Setting) where
         given = let g = e.given in omega (arith, g, none, waiting);
         written = e.written ∙ ap (λ (x : Session). x.written) f.after;
         sacks = e.sacks;
+        made = e.made;
         exhausted = e.exhausted;
         read = e.read;
       }

@@ -416,6 +416,7 @@ ends = record {
   given = refl;
   written = refl;
   sacks = omega arith;
+  made = omega arith;
   exhausted = refl;
   read = (
     0 ∷ [],

@@ -64,8 +64,8 @@ is_delivery (of_sender call) = false
 is_delivery (of_receiver call) = true
 
 -- such calls, one after another, none of which is refused for a reason, lead to where nothing waits, nothing is in flight, and nothing
--- is to be read: each chunk that waited got a TSN, no more SACKs were made than chunks were left, and each write was read exactly once,
--- but for messages that had been abandoned
+-- is to be read: each chunk that waited got a TSN, no more SACKs were made than chunks were left, and no more than three times as many DATA
+-- chunks and FORWARD-TSNs; and each write was read exactly once, but for messages that had been abandoned
 pub record CanEnd (gone : List ℕ) (s : Session) : Type 0 where
   pub calls : List Call
   pub ended : Session
@@ -74,6 +74,7 @@ pub record CanEnd (gone : List ℕ) (s : Session) : Type 0 where
   pub given : tsns_given s calls ended run ≡ chunks_waiting s.sending.sender
   pub written : ended.written ≡ s.written
   pub sacks : length ended.sacks ≤ length s.sacks + chunks_left s.sending.sender
+  pub made : length ended.made ≤ length s.made + 3 * chunks_left s.sending.sender
   pub exhausted : is_exhausted ended.sending.sender ended.receiving.receiver ≡ true
   pub read : EachOtherIsReadOnce gone ended
 
