@@ -6,7 +6,7 @@ use Rattle.std.specs.List.{list_any}
 use Rattle.std.proofs.lemmas.Bool.Decides.{nat_tests}
 use Rattle.std.proofs.lemmas.List.{get_or_default}
 use Rattle.std.proofs.lemmas.Bool.{cases_lt}
-use Rattle.sctp_list_lemmas.proofs.Cases.{or-left, or-split, same-is}
+use Rattle.sctp_list_lemmas.proofs.Cases.{or-left, or-split, same-is, same-yes}
 use Rattle.sctp_list_lemmas.proofs.Edits.{length-change_where}
 use Rattle.sctp_list_lemmas.proofs.More.{fails, not_both}
 use Rattle.sctp_list_lemmas.proofs.Round.{distance-tsn, tsn}
@@ -119,16 +119,16 @@ module _ (c : ChunkPayloadData) (s : Session) (l : InboundStream) (found : strea
 
 -- ## A chunk is sent again
 
-abbrev pub after_resends : ChunkPayloadData → Session → Session
-after_resends c s =
+abbrev pub after_resends : ℕ → ChunkPayloadData → Session → Session
+after_resends now c s =
     record s {
-      sending = record s.sending { sender = with_flight (resent_at c.tsn 0 c s.sending.sender.flight) s.sending.sender };
-      made = data_chunk (data_of (sent_again (count_again c) 0 c)) ∷ s.made;
+      sending = record s.sending { sender = with_flight (resent_at c.tsn now c s.sending.sender.flight) s.sending.sender };
+      made = data_chunk (data_of (sent_again (count_again c) now c)) ∷ s.made;
     }
 
-resends-one : (c : ChunkPayloadData) (s : Session) → can_resend c.tsn (flight_of s) ≡ true → find (has_tsn c.tsn) (in_flight s) ≡ Some c
-    → SenderFollows (resends c.tsn 0 c) s (after_resends c s)
-resends-one c s can found = record {
+resends-one : (now : ℕ) (c : ChunkPayloadData) (s : Session) → can_resend c.tsn (flight_of s) ≡ true → find (has_tsn c.tsn) (in_flight s) ≡ Some c
+    → SenderFollows (resends c.tsn now c) s (after_resends now c s)
+resends-one now c s can found = record {
   handed = tt;
   step = record { sender = refl; written = omega arith; released = omega arith; taken_back = omega arith };
   exact = tt;
@@ -274,31 +274,31 @@ module _ (b : Setting) where
   deliver-open n s i none c f e there next =
       let d = due-parts s.receiving.accepted c e in
       let l = some-of (stream_of c.stream_identifier s.receiving.receiver) there in
-      let u = after_resends c s in
-      let again = resends-one c s (can-again s c f d) f.found in
-      let long = length-change_where (has_tsn c.tsn) (sent_again (count_again c) 0) (in_flight s) in
-      let price-same = same-due price (λ k m x. refl) s.receiving.accepted (has_tsn c.tsn) (count_again c) 0 (in_flight s) in
-      let j = at-same b n (of_sender (resends c.tsn 0 c)) s u again refl refl (omega (arith, long)) (omega (arith, price-same)) i in
+      let u = after_resends b.now c s in
+      let again = resends-one b.now c s (can-again s c f d) f.found in
+      let long = length-change_where (has_tsn c.tsn) (sent_again (count_again c) b.now) (in_flight s) in
+      let price-same = same-due price (λ k m x. refl) s.receiving.accepted (has_tsn c.tsn) (count_again c) b.now (in_flight s) in
+      let j = at-same b n (of_sender (resends c.tsn b.now c)) s u again (same-yes b.now) refl (omega (arith, long)) (omega (arith, price-same)) i in
       let t = after_takes c u l.0 l.1 in
       let taking = takes-one c u l.0 l.1 (0, omega arith, refl) (unrefused n s i c f d none there) (fresh n s i c f d) in
       let zero' = no-distance b n s i in
-      sender-before b (resends c.tsn 0 c) s u again refl (omega (arith, zero'))
+      sender-before b (resends c.tsn b.now c) s u again (same-yes b.now) (omega (arith, zero'))
       (receiver-before b n (takes c (New (queued c (l.0).queue).complete)) u t j taking
       (next t (at-same b n (of_receiver (takes c (New (queued c (l.0).queue).complete))) u t taking refl refl (omega arith)
       (let more = taken-cost c (queued c (l.0).queue).complete l.0 (queued c (l.0).queue).queue s.receiving.receiver.streams (apart-at b n s i) l.1
       (queued c (l.0).queue).pushed in
-      let before = same-due price (λ k m x. refl) (c ∷ s.receiving.accepted) (has_tsn c.tsn) (count_again c) 0 (in_flight s) in
+      let before = same-due price (λ k m x. refl) (c ∷ s.receiving.accepted) (has_tsn c.tsn) (count_again c) b.now (in_flight s) in
       let less = less-due price c s.receiving.accepted (in_flight s) e f.found in
       omega (arith, more, before, less, price-same)) j) (record {
         pending = refl;
-        as_many = length-change_where (has_tsn c.tsn) (sent_again (count_again c) 0) (in_flight s);
+        as_many = length-change_where (has_tsn c.tsn) (sent_again (count_again c) b.now) (in_flight s);
         sacks = refl;
         few =
-            let same = same-due (λ x. 1) (λ k m x. refl) (c ∷ s.receiving.accepted) (has_tsn c.tsn) (count_again c) 0 (in_flight s) in
+            let same = same-due (λ x. 1) (λ k m x. refl) (c ∷ s.receiving.accepted) (has_tsn c.tsn) (count_again c) b.now (in_flight s) in
             let lt = less-due (λ x. 1) c s.receiving.accepted (in_flight s) e f.found in
             omega (arith, same, lt);
         fewer =
-            let same = same-due (λ x. 1) (λ k m x. refl) (c ∷ s.receiving.accepted) (has_tsn c.tsn) (count_again c) 0 (in_flight s) in
+            let same = same-due (λ x. 1) (λ k m x. refl) (c ∷ s.receiving.accepted) (has_tsn c.tsn) (count_again c) b.now (in_flight s) in
             let lt = less-due (λ x. 1) c s.receiving.accepted (in_flight s) e f.found in
             omega (arith, same, lt);
       })))

@@ -36,8 +36,8 @@ takes-all : takes_all_of first_gone.sending.sender first_gone.receiving.receiver
 takes-all = refl
 
 -- the law leads to its end
-ends : CanEnd (0 ∷ []) first_gone
-ends = all-end 10 1200 65536 65536 None calls first_gone (omega arith) (omega arith) run (omega (arith, given, waiting)) takes-all
+ends : CanEnd 7 (0 ∷ []) first_gone
+ends = all-end 10 1200 65536 65536 None calls first_gone (omega arith) (omega arith) run (omega (arith, given, waiting)) takes-all 7
 
 -- where the second message was read
 second-read : Contains ends.read.0 0

@@ -16,7 +16,7 @@ use Rattle.sctp_data.specs.declared.chunk.chunk_forward_tsn.ChunkForwardTsnStrea
 use Rattle.sctp_data.specs.declared.chunk.chunk_payload_data.ChunkPayloadData.{ChunkPayloadData}
 use Rattle.sctp_outbound.specs.Marks.{as_acknowledged}
 use Rattle.sctp_receiver.specs.Limits.{cost_of}
-use Rattle.sctp_receiver.specs.Receiver.{Reception, follow_forward_tsn, is_open, is_stale, message_of, stream_of}
+use Rattle.sctp_receiver.specs.Receiver.{Reception, follow_forward_tsn, is_open, is_stale, message_of, stream_of, window}
 use Rattle.sctp_receiver.specs.ReceiverRuns.{Stand}
 use Rattle.sctp_receiver.specs.Skips.{after_forward_tsn, without_incomplete}
 use Rattle.sctp_receiver.specs.declared.receiver.inbound_streams.InboundStream.{InboundStream}
@@ -264,7 +264,7 @@ module _ (b : Setting) where
   pub ends-answered : (n : ℕ) (s : Session) → At b n s → IsCaughtUp s → 0 < length (in_flight s)
       → ((t : Session) → At b n t → Answered s t → Ends b t) → Ends b s
   ends-answered n s i caught some next =
-      let c = can (base b.first) n s i.few (kept-at b n s i).kept.step 0 in
+      let c = can (base b.first) n s i.few (kept-at b n s i).kept.step (window s.receiving.receiver) in
       let t = c.0 in
       let a = c.1 in
       let u = a.reported in

@@ -5,7 +5,7 @@ use Rattle.std.specs.Prelude.{◌*◌, ◌==◌, ◌&&◌, if◌then◌else◌, 
 use Rattle.std.proofs.lemmas.Bool.{cases_lt}
 use Rattle.std.proofs.lemmas.Bool.Decides.{nat_tests}
 use Rattle.std.proofs.lemmas.List.Sums.{sum_by-cons}
-use Rattle.sctp_list_lemmas.proofs.Cases.{and-none}
+use Rattle.sctp_list_lemmas.proofs.Cases.{and-none, same-yes}
 use Rattle.sctp_list_lemmas.proofs.Edits.{length-change_where}
 use Rattle.sctp_list_lemmas.proofs.More.{and, both, not_both}
 use Rattle.sctp_list_lemmas.proofs.Round.{distance-tsn}
@@ -172,16 +172,16 @@ few-made : (o : Option ChunkPayloadData) (ms : List Made) → length (with_chunk
 few-made None ms = omega arith
 few-made (Some c) ms = omega arith
 
-abbrev after_sends : Session → Session
-after_sends s =
+abbrev after_sends : ℕ → Session → Session
+after_sends now s =
     record s {
       sending = record s.sending {
         sender = with_flight (record s.sending.sender.flight {
-          queue = sent_next s.sending.sender.flight.queue s.sending.sender.flight.next_tsn 0;
+          queue = sent_next s.sending.sender.flight.queue s.sending.sender.flight.next_tsn now;
           next_tsn = next_after_send s.sending.sender.flight;
         }) s.sending.sender;
       };
-      made = made_after (sends 0) s.sending.sender s.made;
+      made = made_after (sends now) s.sending.sender s.made;
     }
 
 -- one chunk waits less, and is in flight
@@ -206,57 +206,57 @@ module _ (b : Setting) (n : ℕ) (s : Session) (i : At b n s) (none : length (in
   there : is_some (next_pending s.sending.sender.flight.queue.pending) ≡ true
   there = next-there q.pending q.inflight.chunks q.next_message_id sendable some
 
-  sending : SenderFollows (sends 0) s (after_sends s)
+  sending : SenderFollows (sends b.now) s (after_sends b.now s)
   sending = record {
     handed = tt;
-    step = record { sender = sent-bytes next 0 q sendable; written = omega arith; released = omega arith; taken_back = omega arith };
+    step = record { sender = sent-bytes next b.now q sendable; written = omega arith; released = omega arith; taken_back = omega arith };
     exact = refl;
     accepted = unrefused (flight_of s) none;
     after = refl;
   }
 
-  sent : Sent s (after_sends s)
+  sent : Sent s (after_sends b.now s)
   sent =
       let k = kept-at b n s i in
-      let st = started k.numbered b.first (λ st. number_of st s.sending.sender.streams) 0 q next k.sent k.kept.holds.held.stands in
-      let m = moved (all_started 0 q) next 0 st.sendable (next_pending (all_started 0 q).pending) refl (peeked_all_started 0 q ∙ there) in
+      let st = started k.numbered b.first (λ st. number_of st s.sending.sender.streams) b.now q next k.sent k.kept.holds.held.stands in
+      let m = moved (all_started b.now q) next b.now st.sendable (next_pending (all_started b.now q).pending) refl (peeked_all_started b.now q ∙ there) in
       let waits = m.waiting in
       let flies = m.flying in
-      let count = started-count 0 q in
-      let same = ap (λ p. length p.chunks) (started-inflight 0 q) in
+      let count = started-count b.now q in
+      let same = ap (λ p. length p.chunks) (started-inflight b.now q) in
       let dear = m.dear s.receiving.accepted in
-      let flying-same = ap (λ p. due_by price s.receiving.accepted p.chunks) (started-inflight 0 q) in
-      let waiting-same = started-waiting 0 q in
+      let flying-same = ap (λ p. due_by price s.receiving.accepted p.chunks) (started-inflight b.now q) in
+      let waiting-same = started-waiting b.now q in
       record {
         waiting = omega (arith, waits, count);
         flying = omega (arith, flies, same);
         dear = omega (arith, dear, flying-same, waiting-same);
         few =
-            let most = few-spent (after_sends s) in
-            let made = few-made (next_chunk 0 s.sending.sender) s.made in
-            let long : length (in_flight (after_sends s)) ≡ 1 = omega (arith, flies, same, none) in
+            let most = few-spent (after_sends b.now s) in
+            let made = few-made (next_chunk b.now s.sending.sender) s.made in
+            let long : length (in_flight (after_sends b.now s)) ≡ 1 = omega (arith, flies, same, none) in
             omega (arith, most, made, long);
         sacks = refl;
       }
 
-  one-tsn : distance (next_tsn s) (next_tsn (after_sends s)) ≡ 1
+  one-tsn : distance (next_tsn s) (next_tsn (after_sends b.now s)) ≡ 1
   one-tsn =
       let at = (numbered-at b n s i).next_is in
       let p = base b.first in
-      let up : next_tsn (after_sends s) ≡ following_tsn next = ap (λ c. if c then following_tsn next else next) there in
+      let up : next_tsn (after_sends b.now s) ≡ following_tsn next = ap (λ c. if c then following_tsn next else next) there in
       ap (distance next) (up ∙ ap following_tsn at ∙ next-place p (n + 1)) ∙ ap (λ u. distance u ((p + (n + 1 + 1)) % 2 ^ 32)) at
       ∙ distance-tsn p (n + 1) (n + 1 + 1) (omega arith) (omega arith) ∙ (let z : n + 1 + 1 - (n + 1) ≡ 1 = omega arith in z)
 
   ends-sent : ((t : Session) → At b (n + 1) t → Sent s t → Ends b t) → Ends b s
   ends-sent next-ends =
-      let t = after_sends s in
+      let t = after_sends b.now s in
       let one = one-tsn in
       let x = sent in
       let waits = x.waiting in
       let flies = x.flying in
       let dear = x.dear in
-      let j = at-next b n (of_sender (sends 0)) s t sending refl (omega (arith, one, few)) (omega (arith, waits, flies)) dear i in
-      sender-before b (sends 0) s t sending refl (omega (arith, one, waits))
+      let j = at-next b n (of_sender (sends b.now)) s t sending (same-yes b.now) (omega (arith, one, few)) (omega (arith, waits, flies)) dear i in
+      sender-before b (sends b.now) s t sending (same-yes b.now) (omega (arith, one, waits))
       (next-ends t (subst (λ k. At b k t) {x = n + distance (next_tsn s) (next_tsn t)} {y = n + 1} (omega (arith, one)) j) x)
 
 -- ## A round
@@ -332,14 +332,14 @@ module _ (b : Setting) where
       | inl more ↦ ends-sent b n s i (omega (arith, none)) more (omega (arith, few, more)) (λ u k x.
           let gone = x.waiting in
           let flies = x.flying in
-          let told = ap length x.sacks in
+          let before = ap length x.sacks in
           ends-rounded (n + 1) u k (omega (arith, flies)) (λ t j r.
           let waits = r.waiting in
           let fewer = r.fewer in
           let reported = r.sacks in
           let spent' = r.few in
           let sent' = x.few in
-          ends-from m (n + 1) t j (omega (arith, few, waits, gone)) (omega (arith, sacks, waits, fewer, reported, gone, flies, told))
+          ends-from m (n + 1) t j (omega (arith, few, waits, gone)) (omega (arith, sacks, waits, fewer, reported, gone, flies, before))
           (omega (arith, made, spent', sent', waits, fewer, gone, flies)) (omega (arith, le, waits, fewer, gone, flies))))
     ]
   ]
@@ -349,7 +349,7 @@ module _ (b : Setting) where
 module _ (tsn size max most : ℕ) (limits : Option Limits) (cs : List Call) (s : Session) (small : tsn < 2 ^ 32) (some : 0 < size)
     (run : RunsTo (at_start tsn size max most limits) cs s)
     (few : tsns_given (at_start tsn size max most limits) cs s run + chunks_waiting s.sending.sender < 2 ^ 31)
-    (takes : takes_all_of s.sending.sender s.receiving.receiver ≡ true) where
+    (takes : takes_all_of s.sending.sender s.receiving.receiver ≡ true) (now : ℕ) where
   parts : (has_room s.receiving.receiver.limits s.sending.sender s.receiving.receiver ≡ true)
       × (nat_le s.sending.sender.max_message_size s.receiving.receiver.max_message_size ≡ true)
   parts = both (has_room s.receiving.receiver.limits s.sending.sender s.receiving.receiver)
@@ -376,6 +376,7 @@ module _ (tsn size max most : ℕ) (limits : Option Limits) (cs : List Call) (s 
     gone = abandoned_in (at_start tsn size max most limits) cs s run;
     sacks = length s.sacks + chunks_left s.sending.sender;
     made = length s.made + 3 * chunks_left s.sending.sender;
+    now = now;
   }
 
   room : RoomIn limits s
@@ -389,8 +390,8 @@ module _ (tsn size max most : ℕ) (limits : Option Limits) (cs : List Call) (s 
       (let most = few-spent s in omega (arith, most)) (omega arith)
 
 pub all-end : AfterEachSessionWithTsnsLeft EndsWhereTaken
-all-end tsn size max most limits cs s small some run few takes =
-    let e = ends tsn size max most limits cs s small some run few takes in
+all-end tsn size max most limits cs s small some run few takes now =
+    let e = ends tsn size max most limits cs s small some run few takes now in
     record {
       calls = e.calls;
       ended = e.ended;

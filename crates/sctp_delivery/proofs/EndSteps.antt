@@ -24,7 +24,7 @@ use Rattle.sctp_delivery.proofs.TsnPlaces.{base}
 
 -- ## One more call
 
-module _ (call : Call) (s t : Session) (f : Follows call s t) (delivery : is_delivery call ≡ true) where
+module _ (now : ℕ) (call : Call) (s t : Session) (f : Follows call s t) (delivery : is_delivery now call ≡ true) where
   -- calls that lead to the one session, and this one behind them
   record Longer (cs : List Call) (r : Session) (run : RunsTo r cs s) : Type 0 where
     more : RunsTo r (cs ++ call ∷ []) t
@@ -32,10 +32,10 @@ module _ (call : Call) (s t : Session) (f : Follows call s t) (delivery : is_del
     gone : abandoned_in r (cs ++ call ∷ []) t more ≡ abandoned_in r cs s run
 
   -- it abandons nothing
-  alone : (c : Call) → is_delivery c ≡ true → (r : Session) (run : RunsTo r (c ∷ []) t) → abandoned_in r (c ∷ []) t run ≡ []
+  alone : (c : Call) → is_delivery now c ≡ true → (r : Session) (run : RunsTo r (c ∷ []) t) → abandoned_in r (c ∷ []) t run ≡ []
   alone (of_receiver c) d r run = refl
-  alone (of_sender (sends now)) d r run = refl
-  alone (of_sender (resends tsn now c)) d r run = refl
+  alone (of_sender (sends moment)) d r run = refl
+  alone (of_sender (resends tsn moment c)) d r run = refl
   alone (of_sender (forwards tsn g)) d r run = refl
   alone (of_sender (takes_sack sack gone)) d r run = refl
   alone (of_sender c) d r run = absurd (not_both d)
@@ -59,7 +59,8 @@ module _ (call : Call) (s t : Session) (f : Follows call s t) (delivery : is_del
 
 -- ## From a start
 
--- where the session began, with the messages that were abandoned before it is ended, and how many SACKs and chunks may have been made then
+-- where the session began, with the messages that were abandoned before it is ended, how many SACKs and chunks may have been made then, and
+-- when that is
 pub record Setting : Type 0 where
   pub first : ℕ
   pub size : ℕ
@@ -72,6 +73,7 @@ pub record Setting : Type 0 where
   pub gone : List ℕ
   pub sacks : ℕ
   pub made : ℕ
+  pub now : ℕ
 
 abbrev pub start : Setting → Session
 start b = at_start b.first b.size b.max b.most b.limits
@@ -90,7 +92,7 @@ pub record Ends (b : Setting) (s : Session) : Type 0 where
   pub calls : List Call
   pub ended : Session
   pub run : RunsTo s calls ended
-  pub delivery : list_all is_delivery calls ≡ true
+  pub delivery : list_all (is_delivery b.now) calls ≡ true
   pub given : tsns_given s calls ended run ≡ chunks_waiting s.sending.sender
   pub written : ended.written ≡ s.written
   pub sacks : length ended.sacks ≤ b.sacks
@@ -139,11 +141,11 @@ module _ (b : Setting) where
 
   -- ## Behind one more call
 
-  pub at-next : (n : ℕ) (call : Call) (s t : Session) → Follows call s t → is_delivery call ≡ true
+  pub at-next : (n : ℕ) (call : Call) (s t : Session) → Follows call s t → is_delivery b.now call ≡ true
       → n + distance (next_tsn s) (next_tsn t) < 2 ^ 31 → chunks_left t.sending.sender ≤ chunks_left s.sending.sender → cost t ≤ cost s → At b n s
       → At b (n + distance (next_tsn s) (next_tsn t)) t
   at-next n call s t f d few left less i =
-      let l = longer call s t f d i.calls (start b) i.run in
+      let l = longer b.now call s t f d i.calls (start b) i.run in
       record {
         calls = i.calls ++ call ∷ [];
         run = l.more;
@@ -154,7 +156,7 @@ module _ (b : Setting) where
       }
 
   -- where no TSN is given out
-  pub at-same : (n : ℕ) (call : Call) (s t : Session) → Follows call s t → is_delivery call ≡ true → next_tsn t ≡ next_tsn s
+  pub at-same : (n : ℕ) (call : Call) (s t : Session) → Follows call s t → is_delivery b.now call ≡ true → next_tsn t ≡ next_tsn s
       → chunks_left t.sending.sender ≤ chunks_left s.sending.sender → cost t ≤ cost s → At b n s → At b n t
   at-same n call s t f d same left less i =
       let none : distance (next_tsn s) (next_tsn t) ≡ 0 = ap (distance (next_tsn s)) same ∙ no-distance n s i in
@@ -164,20 +166,20 @@ module _ (b : Setting) where
 
   -- ## In front of calls that end it
 
-  unwritten : (call : SenderCall) (ws : List Write) → is_delivery (of_sender call) ≡ true → written_after call ws ≡ ws
-  unwritten (sends now) ws d = refl
-  unwritten (resends tsn now c) ws d = refl
+  unwritten : (call : SenderCall) (ws : List Write) → is_delivery b.now (of_sender call) ≡ true → written_after call ws ≡ ws
+  unwritten (sends moment) ws d = refl
+  unwritten (resends tsn moment c) ws d = refl
   unwritten (forwards tsn f) ws d = refl
   unwritten (takes_sack sack gone) ws d = refl
   unwritten call ws d = absurd (not_both d)
 
-  pub sender-before : (call : SenderCall) (s t : Session) → SenderFollows call s t → is_delivery (of_sender call) ≡ true
+  pub sender-before : (call : SenderCall) (s t : Session) → SenderFollows call s t → is_delivery b.now (of_sender call) ≡ true
       → distance (next_tsn s) (next_tsn t) + chunks_waiting t.sending.sender ≡ chunks_waiting s.sending.sender → Ends b t → Ends b s
   sender-before call s t f d waiting e = record {
     calls = of_sender call ∷ e.calls;
     ended = e.ended;
     run = (t, (f, e.run));
-    delivery = and (is_delivery (of_sender call)) (list_all is_delivery e.calls) d e.delivery;
+    delivery = and (is_delivery b.now (of_sender call)) (list_all (is_delivery b.now) e.calls) d e.delivery;
     given = let g = e.given in omega (arith, g, waiting);
     written = e.written ∙ ap (λ (x : Session). x.written) f.after ∙ unwritten call s.written d;
     sacks = e.sacks;

@@ -401,7 +401,7 @@ skip-refused = refl
 -- ## A session that ends
 
 -- from the write on these calls end it
-ends : CanEnd [] written
+ends : CanEnd 5 [] written
 unfolding at_or_before at_or_before16 comes_before comes_before16 distance distance16
 ends = record {
   calls =

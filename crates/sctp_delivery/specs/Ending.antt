@@ -1,5 +1,5 @@
 -- Calls that end a session exist (RFC 4960 6.2, 6.3.3; RFC 3758 3.5, 3.6).
-use Rattle.std.specs.Prelude.{◌≡◌, ℕ, ◌+◌, ◌*◌, ◌^◌, ◌<◌, ◌≤◌, Bool, true, false, ◌&&◌, nat_le, nat_lt, List, length, Option, Some, None}
+use Rattle.std.specs.Prelude.{◌≡◌, ℕ, ◌+◌, ◌*◌, ◌^◌, ◌<◌, ◌≤◌, Bool, true, false, ◌==◌, ◌&&◌, nat_le, nat_lt, List, length, Option, Some, None}
 use Rattle.std.specs.List.{list_all, sum_by}
 use Rattle.sctp_outbound.specs.pending_queue.PendingQueue.{chunk_count}
 use Rattle.sctp_data.specs.declared.chunk.chunk_payload_data.ChunkPayloadData.{ChunkPayloadData}
@@ -53,24 +53,24 @@ takes_all_of t r = has_room r.limits t r && nat_le t.max_message_size r.max_mess
 
 -- ## The end
 
--- the sender sends a chunk, for the first time or again, makes a FORWARD-TSN, or takes a SACK; or it is a call of the receiver. None of
--- these writes, abandons a message, or lets one expire
-abbrev pub is_delivery : Call → Bool
-is_delivery (of_sender (sends now)) = true
-is_delivery (of_sender (resends tsn now c)) = true
-is_delivery (of_sender (forwards tsn f)) = true
-is_delivery (of_sender (takes_sack sack gone)) = true
-is_delivery (of_sender call) = false
-is_delivery (of_receiver call) = true
+-- at this moment the sender sends a chunk, for the first time or again, makes a FORWARD-TSN, or takes a SACK; or it is a call of the
+-- receiver. None of these writes, abandons a message, or lets one expire
+abbrev pub is_delivery : ℕ → Call → Bool
+is_delivery now (of_sender (sends moment)) = moment == now
+is_delivery now (of_sender (resends tsn moment c)) = moment == now
+is_delivery now (of_sender (forwards tsn f)) = true
+is_delivery now (of_sender (takes_sack sack gone)) = true
+is_delivery now (of_sender call) = false
+is_delivery now (of_receiver call) = true
 
 -- such calls, one after another, none of which is refused for a reason, lead to where nothing waits, nothing is in flight, and nothing
 -- is to be read: each chunk that waited got a TSN, no more SACKs were made than chunks were left, and no more than three times as many DATA
 -- chunks and FORWARD-TSNs; and each write was read exactly once, but for messages that had been abandoned
-pub record CanEnd (gone : List ℕ) (s : Session) : Type 0 where
+pub record CanEnd (now : ℕ) (gone : List ℕ) (s : Session) : Type 0 where
   pub calls : List Call
   pub ended : Session
   pub run : RunsTo s calls ended
-  pub delivery : list_all is_delivery calls ≡ true
+  pub delivery : list_all (is_delivery now) calls ≡ true
   pub given : tsns_given s calls ended run ≡ chunks_waiting s.sending.sender
   pub written : ended.written ≡ s.written
   pub sacks : length ended.sacks ≤ length s.sacks + chunks_left s.sending.sender
@@ -78,24 +78,24 @@ pub record CanEnd (gone : List ℕ) (s : Session) : Type 0 where
   pub exhausted : is_exhausted ended.sending.sender ended.receiving.receiver ≡ true
   pub read : EachOtherIsReadOnce gone ended
 
--- so a session ends, where the receiver takes what the sender writes
+-- so a session ends, at whatever moment, where the receiver takes what the sender writes
 abbrev pub EndsWhereTaken : List ℕ → Session → Type 0
 EndsWhereTaken gone s =
-    takes_all_of s.sending.sender s.receiving.receiver ≡ true → CanEnd gone s
+    takes_all_of s.sending.sender s.receiving.receiver ≡ true → (now : ℕ) → CanEnd now gone s
 
 -- ## What a call makes
 
--- a call, as it is told here, leads from a session to one other alone
+-- a call, with its arguments and its answer, leads from a session to one other alone
 abbrev pub EachMakesOneStep : Type 0
 EachMakesOneStep = (call : Call) (s t u : Session) → Follows call s t → Follows call s u → t ≡ u
 
--- so does a chunk that comes: its answer is settled by the receiver
+-- the answer of a chunk that comes is settled by the receiver
 abbrev pub ArrivalsAreDetermined : Type 0
 ArrivalsAreDetermined =
     (c : ChunkPayloadData) (a b : Arrival) (s t u : Session) → Follows (of_receiver (takes c a)) s t
     → Follows (of_receiver (takes c b)) s u → a ≡ b
 
--- and a SACK, whatever is told of the chunks that it releases
+-- and what a SACK makes is the same, whatever is answered of the chunks that it releases
 abbrev pub ReleasesAreDetermined : Type 0
 ReleasesAreDetermined =
     (sack : Sack) (gone other : List Released) (s t u : Session)

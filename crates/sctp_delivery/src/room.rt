@@ -1,6 +1,6 @@
 //! What the law of calls that end a session asks of a sender and a receiver.
 
-ghost use Rattle.std.specs.Prelude.{◌≡◌, ◌^◌, ◌<◌, ◌&&◌, nat_le, true};
+ghost use Rattle.std.specs.Prelude.{◌≡◌, ℕ, ◌^◌, ◌<◌, ◌&&◌, nat_le, true};
 ghost use Rattle.sctp_delivery.specs.Ending.{AfterEachSessionWithTsnsLeft, CanEnd, cost_left, has_room};
 ghost use Rattle.sctp_delivery.specs.Rounds.{chunks_left};
 
@@ -53,7 +53,7 @@ pub fn can_end(
     ensures ends { result ≡ true → limits ≡ receiver.now.limits
         → max_message_size ≡ receiver.now.max_message_size
         → AfterEachSessionWithTsnsLeft (λ gone s. s.sending.sender ≡ sender.now
-        → s.receiving.receiver ≡ receiver.now → CanEnd gone s) }
+        → s.receiving.receiver ≡ receiver.now → (now : ℕ) → CanEnd now gone s) }
 {
     every_session_can_end();
     is_room_left(sender, receiver, limits) && sender.max_message_size() <= max_message_size
