@@ -30,7 +30,7 @@ use Rattle.sctp_sender.specs.SenderRuns.{Ledger}
 use Rattle.sctp_sender.specs.declared.sender.refusal.SenderRefusal.TheVariants.{SsnsUsedUp, TsnsUsedUp}
 use Rattle.sctp_delivery.specs.Abandoned.{EachOtherIsReadOnce, abandoned_in}
 use Rattle.sctp_delivery.specs.Complete.{is_all_acknowledged, reads_nothing}
-use Rattle.sctp_delivery.specs.Ending.{AfterEachSessionWithTsnsLeft, EndsWhereTaken, chunks_waiting, has_room, takes_all_of}
+use Rattle.sctp_delivery.specs.Ending.{AfterEachSessionWithTsnsLeft, EndsWhereTaken, EndsWithAllRead, chunks_waiting, has_room, takes_all_of}
 use Rattle.sctp_delivery.specs.Rounds.{chunks_left, flight_of, in_flight}
 use Rattle.sctp_delivery.specs.Sacks.{tsns_given}
 use Rattle.sctp_delivery.specs.SenderCalls.{Made, made_after, next_chunk, sends, with_chunk}
@@ -42,6 +42,7 @@ use Rattle.sctp_delivery.proofs.EndReads.{ends-read}
 use Rattle.sctp_delivery.proofs.EndRoom.{RoomIn, cost, due_by, few-spent, price, put-due, room-of, spent, waiting_cost}
 use Rattle.sctp_delivery.proofs.EndSteps.{At, Ends, Setting, at-next, kept-at, numbered-at, sender-before}
 use Rattle.sctp_delivery.proofs.MessageSizes.{fit-session}
+use Rattle.sctp_delivery.proofs.NoneAbandoned.{each-of-others}
 use Rattle.sctp_delivery.proofs.Numbers.{number_of}
 use Rattle.sctp_delivery.proofs.OthersOnce.{others-read}
 use Rattle.sctp_delivery.proofs.Queues.{started}
@@ -404,3 +405,8 @@ all-end tsn size max most limits cs s small some run few takes now =
       exhausted = e.exhausted;
       read = e.read;
     }
+
+pub all-read : AfterEachSessionWithTsnsLeft EndsWithAllRead
+all-read tsn size max most limits cs s small some run few none takes now =
+    let e = all-end tsn size max most limits cs s small some run few takes now in
+    (e, each-of-others e.ended (subst (λ gone. EachOtherIsReadOnce gone e.ended) none e.read))

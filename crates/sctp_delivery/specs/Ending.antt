@@ -1,5 +1,5 @@
 -- Calls that end a session exist (RFC 4960 6.2, 6.3.3; RFC 3758 3.5, 3.6).
-use Rattle.std.specs.Prelude.{◌≡◌, ℕ, ◌+◌, ◌*◌, ◌^◌, ◌<◌, ◌≤◌, Bool, true, false, ◌==◌, ◌&&◌, nat_le, nat_lt, List, length, Option, Some, None}
+use Rattle.std.specs.Prelude.{◌≡◌, ℕ, ◌+◌, ◌*◌, ◌^◌, ◌<◌, ◌≤◌, Bool, true, false, ◌==◌, ◌&&◌, nat_le, nat_lt, List, [], length, Option, Some, None}
 use Rattle.std.specs.List.{list_all, sum_by}
 use Rattle.sctp_outbound.specs.pending_queue.PendingQueue.{chunk_count}
 use Rattle.sctp_data.specs.declared.chunk.chunk_payload_data.ChunkPayloadData.{ChunkPayloadData}
@@ -12,7 +12,7 @@ use Rattle.sctp_sender.specs.declared.sender.flight.Released.{Released}
 use Rattle.sctp_sender.specs.Sender.{Transmission}
 use Rattle.sctp_sender.specs.SenderRuns.{held_by_sender}
 use Rattle.sctp_delivery.specs.Abandoned.{EachOtherIsReadOnce, abandoned_in}
-use Rattle.sctp_delivery.specs.Complete.{is_exhausted}
+use Rattle.sctp_delivery.specs.Complete.{EachIsReadOnce, is_exhausted}
 use Rattle.sctp_delivery.specs.ReceiverCalls.{takes}
 use Rattle.sctp_delivery.specs.Rounds.{chunks_left}
 use Rattle.sctp_delivery.specs.Sacks.{tsns_given}
@@ -82,6 +82,12 @@ pub record CanEnd (now : ℕ) (gone : List ℕ) (s : Session) : Type 0 where
 abbrev pub EndsWhereTaken : List ℕ → Session → Type 0
 EndsWhereTaken gone s =
     takes_all_of s.sending.sender s.receiving.receiver ≡ true → (now : ℕ) → CanEnd now gone s
+
+-- and where no message had been abandoned, each write was read exactly once then
+abbrev pub EndsWithAllRead : List ℕ → Session → Type 0
+EndsWithAllRead gone s =
+    gone ≡ [] → takes_all_of s.sending.sender s.receiving.receiver ≡ true
+    → (now : ℕ) → (e : CanEnd now gone s) × EachIsReadOnce e.ended
 
 -- ## What a call makes
 
