@@ -37,7 +37,7 @@ CALLERS = {
     "sctp_receiver::InboundStreams::held_bytes": {"sctp_receiver/receiver/limits held_bytes", "sctp_receiver/receiver/limits refusal_within"},
     "sctp_reassembly::ReassemblyQueue::next_len": {"sctp_receiver/receiver next_len"},
     "sctp_receiver::Receiver::held_bytes": {"sctp_receiver/receiver/limits left_of", "transfer_tests/limits_tests holds",
-                                              "sctp_c/receiver sctp_receiver_held_bytes"},
+                                              "sctp_c/receiver sctp_receiver_held_bytes", "sctp_delivery/room is_room_left"},
     "sctp_c::sctp_sender_open": {"sctp_c/callers first_chunk"},
     "crc32c::Crc::update": {"benchlib/packet sum", "crc32c/lib crc32c", "sctp_packets/checksum checksum", "sctp_show/checksum checksum",
                             "crc32c/tests datagrams", "crc32c/tests pieces"},
