@@ -11,7 +11,7 @@ use Rattle.sctp_list_lemmas.proofs.Edits.{change_where-only, changed_step, uncha
 use Rattle.sctp_data.specs.declared.chunk.chunk_payload_data.ChunkPayloadData.{ChunkPayloadData}
 use Rattle.sctp_serial.specs.DataChunks.{has_tsn, tsns}
 use Rattle.sctp_sender.specs.Flight.{tsns_from}
-use Rattle.sctp_sender.proofs.Runs.{IsRunFrom, tsn-at, found-at, only-at, changed-run}
+use Rattle.sctp_sender.proofs.Runs.{IsRunFrom, found-at, only-at, changed-run}
 
 tsns-append : (xs ys : List ChunkPayloadData) → tsns (xs ++ ys) ≡ tsns xs ++ tsns ys
 tsns-append [] ys = refl
