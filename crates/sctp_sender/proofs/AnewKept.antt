@@ -45,15 +45,15 @@ with-other (suc n) (suc k) bytes (x ∷ ks) differ = with-other n k bytes ks (λ
 
 pub put-at : (bs : List PlacedData) (ks : List Data) (f : ℕ → Data) → All (λ b. f b.place ≡ Some b.user_data) bs → (k : ℕ)
     → list_any (is_at k) bs ≡ true → get_or (put_all bs ks) k None ≡ f k
-put-at [] ks f sound k h = absurd (false≢true h)
-put-at (b ∷ bs) ks f sound k h = by (b.place == k) refl h (put-at bs ks f (λ i d lt. sound (suc i) d (omega (arith, lt))) k)
+put-at [] ks f valid k h = absurd (false≢true h)
+put-at (b ∷ bs) ks f valid k h = by (b.place == k) refl h (put-at bs ks f (λ i d lt. valid (suc i) d (omega (arith, lt))) k)
   where
     by : (q : Bool) → (b.place == k) ≡ q → (q || list_any (is_at k) bs) ≡ true → (list_any (is_at k) bs ≡ true → get_or (put_all bs ks) k None ≡ f k)
         → get_or (kept_with b.place b.user_data (put_all bs ks)) k None ≡ f k
     by true e g ih =
         let same = same-is b.place k e in
         ap (λ i. get_or (kept_with b.place b.user_data (put_all bs ks)) i None) (sym same) ∙ with-same b.place b.user_data (put_all bs ks)
-        ∙ sym (sound 0 b (omega arith)) ∙ ap f same
+        ∙ sym (valid 0 b (omega arith)) ∙ ap f same
     by false e g ih =
         with-other b.place k b.user_data (put_all bs ks) (λ same. false≢true (sym e ∙ ap (λ i. b.place == i) same ∙ same-yes b.place)) ∙ ih g
 
@@ -144,8 +144,8 @@ module _ (s : Sack) (f : Flight) (current : is_outdated s f ≡ false) (bs : Lis
   abbrev own-data : ℕ → Data
   own-data k = Some (get_or cs (n + k) any_chunk).user_data
 
-  sound : All (λ b. own-data b.place ≡ Some b.user_data) bs
-  sound i d lt = ap Some (are.own i d lt any_chunk).1
+  valid : All (λ b. own-data b.place ≡ Some b.user_data) bs
+  valid i d lt = ap Some (are.own i d lt any_chunk).1
 
   none-far : (k : ℕ) → length cs ≤ n + k → list_any (is_at k) bs ≡ false
   none-far k far = by bs are.own
@@ -171,7 +171,7 @@ module _ (s : Sack) (f : Flight) (current : is_outdated s f ≡ false) (bs : Lis
       by : (c : ChunkPayloadData) (q : Bool) → reports_anew s c ≡ q → list_any (is_at k) bs ≡ reports_anew s c → c ≡ get_or cs (n + k) any_chunk
           → get_or (put_all bs (drop n ks)) k None ≡ keep s c (get_or ks (n + k) None)
       by c true e h is =
-          put-at bs (drop n ks) own-data sound k (h ∙ e) ∙ ap (λ (x : ChunkPayloadData). Some x.user_data) (sym is)
+          put-at bs (drop n ks) own-data valid k (h ∙ e) ∙ ap (λ (x : ChunkPayloadData). Some x.user_data) (sym is)
           ∙ sym (ap (λ r. if r then Some c.user_data else get_or ks (n + k) None) e)
       by c false e h is =
           put-none bs (drop n ks) k (h ∙ e) ∙ get_or-drop n ks k None ∙ sym (ap (λ r. if r then Some c.user_data else get_or ks (n + k) None) e)

@@ -105,9 +105,9 @@ answered-more rs i r c lt is =
     ∙ list_any-append (is_answered_as c) (take i rs) (r ∷ []) ∙ ap (λ b. is_answered (take i rs) c || b) (or-none (has_tsn r.tsn c))
 
 -- of the chunks in flight only the one at its place
-pub told-here : (first : ℕ) (cs : List ChunkPayloadData) (r : Released) (k j : ℕ) (d : ChunkPayloadData) → first < 2 ^ 32 → IsRunFrom first cs
+pub answer-here : (first : ℕ) (cs : List ChunkPayloadData) (r : Released) (k j : ℕ) (d : ChunkPayloadData) → first < 2 ^ 32 → IsRunFrom first cs
     → length cs < 2 ^ 31 → r.tsn ≡ (first + k) % 2 ^ 32 → k < length cs → j < length cs → has_tsn r.tsn (get_or cs j d) ≡ nat_eq k j
-told-here first cs r k j d small run few tsn lt less = elim (cases_eq j k) [
+answer-here first cs r k j d small run few tsn lt less = elim (cases_eq j k) [
   | inl same ↦ ap (λ i. has_tsn r.tsn (get_or cs i d)) same ∙ only.here d ∙ sym (yes k j same)
   | inr other ↦ only.elsewhere j d less other ∙ sym (no k j other)
 ]

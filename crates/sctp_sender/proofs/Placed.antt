@@ -13,7 +13,7 @@ use Rattle.sctp_data.specs.SelectiveAck.{Sack}
 use Rattle.sctp_outbound.specs.Marks.{as_taken_back}
 use Rattle.sctp_sender.specs.declared.sender.flight.keeping.TakenBack.{TakenBack}
 use Rattle.sctp_sender.specs.declared.sender.flight.taking_back.PlacedData.{PlacedData}
-use Rattle.sctp_sender.specs.Keeping.{answered_back, back_each, bytes_back, bytes_coming, placed, put_back, restored, told_back}
+use Rattle.sctp_sender.specs.Keeping.{answered_back, back_each, bytes_back, bytes_coming, placed, put_back, restored, answered_of_placed}
 use Rattle.sctp_sender.specs.Keeping.{with_restored}
 use Rattle.sctp_outbound.specs.outbound_queue.OutboundQueue.{with_inflight}
 use Rattle.sctp_outbound.specs.pending_queue.Whole.{partially_sent}
@@ -86,7 +86,7 @@ back-length s (c ∷ cs) (k ∷ ks) = let h = back-length s cs ks in omega (arit
 -- ## What is told
 
 pub placed-told : (n : ℕ) (bs : List Data) (cs : List ChunkPayloadData) (d : ChunkPayloadData) → n + length bs ≤ length cs
-    → map (λ b. told_back b (get_or cs b.place d)) (placed n bs) ≡ answered_back bs (drop n cs)
+    → map (λ b. answered_of_placed b (get_or cs b.place d)) (placed n bs) ≡ answered_back bs (drop n cs)
 placed-told n [] cs d le = refl
 placed-told n (None ∷ bs) cs d le =
     let next : n + 1 ≡ suc n = omega arith in
@@ -95,15 +95,15 @@ placed-told n (None ∷ bs) cs d le =
 placed-told n (Some bytes ∷ bs) cs d le =
     let next : n + 1 ≡ suc n = omega arith in
     let b : PlacedData = record { place = n; user_data = bytes } in
-    ap (λ xs. told_back b (get_or cs n d) ∷ xs) (placed-told (suc n) bs cs d (omega (arith, le)) ∙ ap (λ k. answered_back bs (drop k cs)) (sym next))
+    ap (λ xs. answered_of_placed b (get_or cs n d) ∷ xs) (placed-told (suc n) bs cs d (omega (arith, le)) ∙ ap (λ k. answered_back bs (drop k cs)) (sym next))
     ∙ ap (λ xs. answered_back (Some bytes ∷ bs) xs) (sym (drop_more cs n d (omega (arith, le))))
 
-pub told-bytes : (bs : List PlacedData) (cs : List ChunkPayloadData) (d : ChunkPayloadData)
-    → bytes_back (map (λ b. told_back b (get_or cs b.place d)) bs) ≡ bytes_coming bs
-told-bytes [] cs d = refl
-told-bytes (b ∷ bs) cs d =
-    let rest = told-bytes bs cs d in
-    let x = sum_by-cons (λ (t : TakenBack). t.bytes) (told_back b (get_or cs b.place d)) (map (λ b. told_back b (get_or cs b.place d)) bs) in
+pub answer-bytes : (bs : List PlacedData) (cs : List ChunkPayloadData) (d : ChunkPayloadData)
+    → bytes_back (map (λ b. answered_of_placed b (get_or cs b.place d)) bs) ≡ bytes_coming bs
+answer-bytes [] cs d = refl
+answer-bytes (b ∷ bs) cs d =
+    let rest = answer-bytes bs cs d in
+    let x = sum_by-cons (λ (t : TakenBack). t.bytes) (answered_of_placed b (get_or cs b.place d)) (map (λ b. answered_of_placed b (get_or cs b.place d)) bs) in
     let y = sum_by-cons (λ (t : PlacedData). length t.user_data) b bs in
     omega (arith, rest, x, y)
 

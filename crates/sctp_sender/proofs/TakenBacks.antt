@@ -11,7 +11,7 @@ use Rattle.sctp_outbound.specs.Marks.{as_taken_back}
 use Rattle.sctp_serial.specs.DataChunks.{following_tsn, has_tsn}
 use Rattle.sctp_sender.specs.declared.sender.flight.keeping.TakenBack.{TakenBack}
 use Rattle.sctp_sender.specs.Flight.{Flight, IsContiguous, can_resend, is_outdated, is_outstanding_in, reports, sack_refusal}
-use Rattle.sctp_sender.specs.Keeping.{back_each, bytes_back, placed, restored, restored_with, takes_back, told_back, answered_back, with_restored}
+use Rattle.sctp_sender.specs.Keeping.{back_each, bytes_back, placed, restored, restored_with, takes_back, answered_of_placed, answered_back, with_restored}
 use Rattle.sctp_outbound.specs.outbound_queue.OutboundQueue.{total_bytes}
 use Rattle.sctp_sender.specs.declared.sender.flight.taking_back.PlacedData.{PlacedData}
 use Rattle.sctp_sender.specs.declared.sender.refusal.SenderRefusal.{SenderRefusal}
@@ -86,10 +86,10 @@ module _ (s : Sack) (t : Transmission) (ks : List (Option (List ℕ))) (kept : t
   pub back-by-is : back_each s chunks ks ≡ back_by s t.flight t.kept
   back-by-is = ap (λ b. if b then [] else back_each s chunks ks) (sym current) ∙ ap (back_by s t.flight) (sym kept)
 
-  pub told-is : (backs : List PlacedData) → backs ≡ placed 0 (back_each s chunks ks) → (d : ChunkPayloadData)
-      → map (λ b. told_back b (get_or chunks b.place d)) backs ≡ taken_back_by s t
-  told-is backs is d =
-      ap (map (λ b. told_back b (get_or chunks b.place d))) is ∙ placed-told 0 (back_each s chunks ks) chunks d
+  pub answer-is : (backs : List PlacedData) → backs ≡ placed 0 (back_each s chunks ks) → (d : ChunkPayloadData)
+      → map (λ b. answered_of_placed b (get_or chunks b.place d)) backs ≡ taken_back_by s t
+  answer-is backs is d =
+      ap (map (λ b. answered_of_placed b (get_or chunks b.place d))) is ∙ placed-told 0 (back_each s chunks ks) chunks d
       (let le = back-length s chunks ks in omega (arith, le))
       ∙ ap (λ bs. answered_back bs chunks) back-by-is
 

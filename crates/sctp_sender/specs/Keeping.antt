@@ -169,8 +169,8 @@ placed n [] = []
 placed n (None ∷ ks) = placed (suc n) ks
 placed n (Some bytes ∷ ks) = record { place = n; user_data = bytes } ∷ placed (suc n) ks
 
-abbrev pub told_back : PlacedData → ChunkPayloadData → TakenBack
-told_back b c = record {
+abbrev pub answered_of_placed : PlacedData → ChunkPayloadData → TakenBack
+answered_of_placed b c = record {
   tsn = c.tsn;
   stream = c.stream_identifier;
   bytes = length b.user_data;

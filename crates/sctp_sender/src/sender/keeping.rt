@@ -13,7 +13,6 @@ use super::outbound_streams::OutboundStreams;
 use crate::sender::refusal::SenderRefusal;
 use sctp_data::chunk::chunk_selective_ack::ChunkSelectiveAck;
 use sctp_outbound::outbound_queue::OutboundQueue;
-use sctp_serial::serial::distance;
 use std::alloc::Global;
 use std::collections::VecDeque;
 
@@ -107,14 +106,8 @@ impl Sender {
         if !self.flight.is_current(sack)? {
             return Ok(None);
         }
-        let count = distance(self.flight.acked_tsn(), sack.cumulative_tsn_ack) as usize;
-        let chunks = self.flight.reported_anew(self.alloc, sack)?;
-        let reported = self.flight.reported_after(self.alloc, sack, kept)?;
-        Ok(Some(Anew {
-            count,
-            chunks,
-            reported,
-        }))
+        let anew = self.flight.anew(self.alloc, sack, kept)?;
+        Ok(Some(anew))
     }
 }
 

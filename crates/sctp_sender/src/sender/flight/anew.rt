@@ -8,7 +8,8 @@ ghost use Rattle.sctp_data.specs.declared.chunk.chunk_payload_data.ChunkPayloadD
 ghost use Rattle.sctp_serial.specs.DataChunks.{following_tsn, tsns};
 ghost use Rattle.sctp_sender.specs.declared.sender.refusal.SenderRefusal.TheVariants.{OutOfMemory};
 ghost use Rattle.sctp_sender.specs.Flight.{tsns_from};
-ghost use Rattle.sctp_sender.specs.Keeping.{AreAnew, IsOwn, blocks_after, data_after, filled, is_at, kept_with, put_all};
+ghost use Rattle.sctp_sender.specs.Keeping.{AreAnew, Cover, IsOwn, blocks_after, data_after, filled, is_at, kept_after, kept_with, put_all};
+ghost use Rattle.sctp_sender.specs.Reporting.{AreSorted};
 ghost use Rattle.sctp_sender.specs.Telling.{AreInFlight, is_answered};
 
 use super::keeping::{Kept, share};
@@ -38,29 +39,58 @@ pub struct Anew {
 }
 
 impl InFlight {
-    ghost use Rattle.sctp_sender.specs.Flight.{is_outdated, sack_refusal};
+    ghost use Rattle.sctp_sender.specs.Flight.{after_sack, count_acked, is_outdated, sack_refusal};
 
-    /// The user data of each chunk that a SACK reports anew past its cumulative TSN, shared, with its place past those that it
-    /// reports cumulatively. It looks at what `acked` looks at of what is reported anew.
+    /// What a SACK makes of what is kept. It looks at what `acked` looks at of what is reported anew, at each block of the SACK and of
+    /// what was reported, and at each place of the latter that the SACK does not report.
     /// Precondition: `is_current` answers true. Refuses only for memory.
-    pub fn reported_anew(
+    pub fn anew(
         &self,
         alloc: Global,
         sack: &ChunkSelectiveAck,
-    ) -> Result<Vec<PlacedData>, SenderRefusal>
+        kept: &Kept,
+    ) -> Result<Anew, SenderRefusal>
         requires taken { sack_refusal (sack_of sack.now) self.now ≡ None }
         requires current { is_outdated (sack_of sack.now) self.now ≡ false }
-        ensures anew { IfOk result (λ anew. AreAnew (sack_of sack.now) self.now anew.items) }
+        requires covered { Cover kept.now.reported.items kept.now.user_data.items self.now }
+        ensures anew { IfOk result (λ a. (a.count ≡ count_acked (sack_of sack.now) self.now)
+            × AreAnew (sack_of sack.now) self.now a.chunks.items) }
+        ensures covered { IfOk result (λ a. Cover a.reported.items
+            (kept_after (sack_of sack.now) self.now kept.now.user_data.items)
+            (after_sack (sack_of sack.now) self.now)) }
         ensures memory { IfErr result (λ e. e ≡ OutOfMemory) }
     {
         let count = distance(self.acked_tsn, sack.cumulative_tsn_ack) as usize;
         let sorted = sorted_blocks(alloc, &sack.gap_ack_blocks, &mut Turns::new())?;
+        let chunks = self.reported_anew(alloc, sack, &sorted)?;
+        let reported = self.reported_after(alloc, sack, kept, sorted)?;
+        Ok(Anew {
+            count,
+            chunks,
+            reported,
+        })
+    }
+
+    // The user data of each chunk that a SACK, whose blocks are these in ascending order, reports anew past its cumulative TSN, shared.
+    fn reported_anew(
+        &self,
+        alloc: Global,
+        sack: &ChunkSelectiveAck,
+        sorted: &[GapAckBlock],
+    ) -> Result<Vec<PlacedData>, SenderRefusal>
+        requires taken { sack_refusal (sack_of sack.now) self.now ≡ None }
+        requires current { is_outdated (sack_of sack.now) self.now ≡ false }
+        requires sorted { AreSorted sorted.now (sack_of sack.now).gap_ack_blocks }
+        ensures anew { IfOk result (λ anew. AreAnew (sack_of sack.now) self.now anew.items) }
+        ensures memory { IfErr result (λ e. e ≡ OutOfMemory) }
+    {
+        let count = distance(self.acked_tsn, sack.cumulative_tsn_ack) as usize;
         let mut released = Vec::new(alloc);
         tell_anew(
             &self.queue,
             &self.known,
             count,
-            &sorted,
+            sorted,
             &mut released,
             &mut Turns::new(),
         )?;

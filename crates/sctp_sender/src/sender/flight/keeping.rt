@@ -6,7 +6,7 @@ ghost use Rattle.sctp_data.specs.SelectiveAck.{Sack};
 ghost use Rattle.sctp_data.specs.declared.chunk.chunk_payload_data.ChunkPayloadData.{ChunkPayloadData};
 ghost use Rattle.sctp_outbound.specs.outbound_queue.OutboundQueue.{total_bytes, with_inflight};
 ghost use Rattle.sctp_sender.specs.declared.sender.refusal.SenderRefusal.TheVariants.{OutOfMemory};
-ghost use Rattle.sctp_sender.specs.Keeping.{answered_back, back_each, bytes_coming, placed, put_back, told_back, with_restored};
+ghost use Rattle.sctp_sender.specs.Keeping.{answered_back, back_each, bytes_coming, placed, put_back, answered_of_placed, with_restored};
 
 use super::InFlight;
 use super::taking_back::PlacedData;
@@ -77,7 +77,7 @@ pub fn answered_back(
 ) -> Result<Vec<TakenBack>, SenderRefusal>
     requires { All (λ b. b.place < length queue.now.inflight.chunks) backs.now }
     ensures ok { (d : ChunkPayloadData) → IfOk result (λ answered. answered.items
-        ≡ map (λ b. told_back b (slice_index_or queue.now.inflight.chunks b.place d)) backs.now) }
+        ≡ map (λ b. answered_of_placed b (slice_index_or queue.now.inflight.chunks b.place d)) backs.now) }
     ensures memory { IfErr result (λ e. e ≡ OutOfMemory) }
 {
     let mut answered = Vec::new(alloc);

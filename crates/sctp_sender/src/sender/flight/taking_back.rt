@@ -5,7 +5,7 @@ ghost use Rattle.sctp_data.specs.SelectiveAck.{sack_of};
 ghost use Rattle.sctp_outbound.specs.payload_queue.Blocks.{is_in_blocks};
 ghost use Rattle.sctp_sender.specs.declared.sender.refusal.SenderRefusal.TheVariants.{OutOfMemory};
 ghost use Rattle.sctp_sender.specs.Keeping.{ArePassed, Cover, back_each, can_at, kept_after, placed, return_at, returns_at};
-ghost use Rattle.sctp_sender.specs.Reporting.{ascends_from};
+ghost use Rattle.sctp_sender.specs.Reporting.{AreSorted, ascends_from};
 
 use super::InFlight;
 use super::keeping::{Kept, kept_at, share};
@@ -56,25 +56,25 @@ impl InFlight {
         returning(alloc, &self.queue, kept, count, &sorted)
     }
 
-    /// Blocks that report, after a SACK, each chunk in flight that can come back then: its own in ascending order, but where some
-    /// chunk could come back by it, which `take_back` then did not do before, one up to the last distance.
-    /// Precondition: `is_current` answers true. Refuses only for memory.
-    pub fn reported_after(
+    // Blocks that report, after a SACK, each chunk in flight that can come back then: its own, which are these in ascending order, but
+    // where some chunk could come back by it, which `take_back` then did not do before, one up to the last distance.
+    pub(super) fn reported_after(
         &self,
         alloc: Global,
         sack: &ChunkSelectiveAck,
         kept: &Kept,
+        sorted: Vec<GapAckBlock>,
     ) -> Result<Vec<GapAckBlock>, SenderRefusal>
         requires taken { sack_refusal (sack_of sack.now) self.now ≡ None }
         requires current { is_outdated (sack_of sack.now) self.now ≡ false }
         requires covered { Cover kept.now.reported.items kept.now.user_data.items self.now }
+        requires sorted { AreSorted sorted.items (sack_of sack.now).gap_ack_blocks }
         ensures covered { IfOk result (λ after. Cover after.items
             (kept_after (sack_of sack.now) self.now kept.now.user_data.items)
             (after_sack (sack_of sack.now) self.now)) }
         ensures memory { IfErr result (λ e. e ≡ OutOfMemory) }
     {
         let count = distance(self.acked_tsn, sack.cumulative_tsn_ack) as usize;
-        let sorted = sorted_blocks(alloc, &sack.gap_ack_blocks, &mut Turns::new())?;
         let mut at = Reached {
             place: count,
             listed: 0,

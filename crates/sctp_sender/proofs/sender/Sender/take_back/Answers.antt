@@ -11,14 +11,14 @@ use Rattle.sctp_stream.specs.declared.stream.StreamState.{StreamState}
 use Rattle.sctp_sender.specs.Flight.{Flight, can_resend, is_outdated}
 use Rattle.sctp_sender.specs.declared.sender.flight.keeping.TakenBack.{TakenBack}
 use Rattle.sctp_sender.specs.declared.sender.flight.taking_back.PlacedData.{PlacedData}
-use Rattle.sctp_sender.specs.Keeping.{IsCovered, after_returns, back_each, bytes_back, bytes_coming, placed, restored, told_back, answered_back, with_restored}
+use Rattle.sctp_sender.specs.Keeping.{IsCovered, after_returns, back_each, bytes_back, bytes_coming, placed, restored, answered_of_placed, answered_back, with_restored}
 use Rattle.sctp_sender.specs.Sender.{Transmission, after_take_back, back_by, take_back_refusal, taken_back_by}
 use Rattle.sctp_sender.specs.Totals.{IsAllSettled}
 use Rattle.sctp_sender.proofs.Covers.{restored-covered}
 use Rattle.sctp_sender.proofs.Keepings.{back-bytes, restored-all-settled, answered-weight, weight}
-use Rattle.sctp_sender.proofs.Placed.{back-length, placed-within, told-bytes}
+use Rattle.sctp_sender.proofs.Placed.{back-length, placed-within, answer-bytes}
 use Rattle.sctp_sender.proofs.Runs.{any_chunk}
-use Rattle.sctp_sender.proofs.TakenBacks.{back-by-is, refusal-is, told-is}
+use Rattle.sctp_sender.proofs.TakenBacks.{back-by-is, refusal-is, answer-is}
 use Rattle.sctp_sender.proofs.sender.Sender.take_back.Goals as goal
 
 pub answered_back-requires : goal.answered_back-requires
@@ -67,10 +67,10 @@ returns-then-not-is_room_for-clause-refused c =
     let backs = c.in_ok-backs.backs.items in
     let is : backs ≡ placed 0 dense = c.in_ok-backs.ensures.ok in
     let le : length dense ≤ length cs = back-length s cs ks in
-    let mapped : c.in_ok-answered.answered.items ≡ map (λ b. told_back b (get_or cs b.place any_chunk)) backs = c.in_ok-answered.ensures.ok any_chunk
-    ∙ ap (λ (o : Outbound). map (λ b. told_back b (get_or o.inflight.chunks b.place any_chunk)) c.deref.result.now) c.queue.ensures
-    ∙ ap (map (λ b. told_back b (get_or cs b.place any_chunk))) c.deref.ensures.value in
-    let told : c.in_ok-answered.answered.items ≡ taken_back_by s t = mapped ∙ told-is s t ks kept current backs is any_chunk in
+    let mapped : c.in_ok-answered.answered.items ≡ map (λ b. answered_of_placed b (get_or cs b.place any_chunk)) backs = c.in_ok-answered.ensures.ok any_chunk
+    ∙ ap (λ (o : Outbound). map (λ b. answered_of_placed b (get_or o.inflight.chunks b.place any_chunk)) c.deref.result.now) c.queue.ensures
+    ∙ ap (map (λ b. answered_of_placed b (get_or cs b.place any_chunk))) c.deref.ensures.value in
+    let told : c.in_ok-answered.answered.items ≡ taken_back_by s t = mapped ∙ answer-is s t ks kept current backs is any_chunk in
     let room : c.is_room_for.result ≡ nat_lt (total_bytes f.queue + bytes_back c.in_ok-answered.answered.items) (2 ^ 64) = c.is_room_for.ensures
     ∙ ap (λ (o : Outbound). nat_lt (total_bytes o + bytes_back c.deref-2.result.now) (2 ^ 64)) c.queue-2.ensures
     ∙ ap (λ (rs : List TakenBack). nat_lt (total_bytes f.queue + bytes_back rs) (2 ^ 64)) c.deref-2.ensures.value in
@@ -118,14 +118,14 @@ restore-requires-clause-bytes c =
     let backs = c.in_ok-backs.backs.items in
     let is : backs ≡ placed 0 dense = c.in_ok-backs.ensures.ok in
     let le : length dense ≤ length cs = back-length s cs ks in
-    let mapped : c.in_ok-answered.answered.items ≡ map (λ b. told_back b (get_or cs b.place any_chunk)) backs = c.in_ok-answered.ensures.ok any_chunk
-    ∙ ap (λ (o : Outbound). map (λ b. told_back b (get_or o.inflight.chunks b.place any_chunk)) c.deref.result.now) c.queue.ensures
-    ∙ ap (map (λ b. told_back b (get_or cs b.place any_chunk))) c.deref.ensures.value in
-    let told : c.in_ok-answered.answered.items ≡ taken_back_by s t = mapped ∙ told-is s t ks kept current backs is any_chunk in
+    let mapped : c.in_ok-answered.answered.items ≡ map (λ b. answered_of_placed b (get_or cs b.place any_chunk)) backs = c.in_ok-answered.ensures.ok any_chunk
+    ∙ ap (λ (o : Outbound). map (λ b. answered_of_placed b (get_or o.inflight.chunks b.place any_chunk)) c.deref.result.now) c.queue.ensures
+    ∙ ap (map (λ b. answered_of_placed b (get_or cs b.place any_chunk))) c.deref.ensures.value in
+    let told : c.in_ok-answered.answered.items ≡ taken_back_by s t = mapped ∙ answer-is s t ks kept current backs is any_chunk in
     let room : c.is_room_for.result ≡ nat_lt (total_bytes f.queue + bytes_back c.in_ok-answered.answered.items) (2 ^ 64) = c.is_room_for.ensures
     ∙ ap (λ (o : Outbound). nat_lt (total_bytes o + bytes_back c.deref-2.result.now) (2 ^ 64)) c.queue-2.ensures
     ∙ ap (λ (rs : List TakenBack). nat_lt (total_bytes f.queue + bytes_back rs) (2 ^ 64)) c.deref-2.ensures.value in
-    let same : bytes_back c.in_ok-answered.answered.items ≡ bytes_coming backs = ap bytes_back mapped ∙ told-bytes backs cs any_chunk in
+    let same : bytes_back c.in_ok-answered.answered.items ≡ bytes_coming backs = ap bytes_back mapped ∙ answer-bytes backs cs any_chunk in
     let fits = sym room ∙ c.if-not-is_room_for.false in
     grind (arith, nat_tests, same, fits)
 
@@ -174,10 +174,10 @@ returns-clause-answer c =
     let backs = c.in_ok-backs.backs.items in
     let is : backs ≡ placed 0 dense = c.in_ok-backs.ensures.ok in
     let le : length dense ≤ length cs = back-length s cs ks in
-    let mapped : c.in_ok-answered.answered.items ≡ map (λ b. told_back b (get_or cs b.place any_chunk)) backs = c.in_ok-answered.ensures.ok any_chunk
-    ∙ ap (λ (o : Outbound). map (λ b. told_back b (get_or o.inflight.chunks b.place any_chunk)) c.deref.result.now) c.queue.ensures
-    ∙ ap (map (λ b. told_back b (get_or cs b.place any_chunk))) c.deref.ensures.value in
-    let told : c.in_ok-answered.answered.items ≡ taken_back_by s t = mapped ∙ told-is s t ks kept current backs is any_chunk in
+    let mapped : c.in_ok-answered.answered.items ≡ map (λ b. answered_of_placed b (get_or cs b.place any_chunk)) backs = c.in_ok-answered.ensures.ok any_chunk
+    ∙ ap (λ (o : Outbound). map (λ b. answered_of_placed b (get_or o.inflight.chunks b.place any_chunk)) c.deref.result.now) c.queue.ensures
+    ∙ ap (map (λ b. answered_of_placed b (get_or cs b.place any_chunk))) c.deref.ensures.value in
+    let told : c.in_ok-answered.answered.items ≡ taken_back_by s t = mapped ∙ answer-is s t ks kept current backs is any_chunk in
     told ∙ ap (taken_back_by s) c.self.view_is
 
 pub returns-clause-ok : goal.returns-clause-ok
@@ -199,10 +199,10 @@ returns-clause-ok c =
     let backs = c.in_ok-backs.backs.items in
     let is : backs ≡ placed 0 dense = c.in_ok-backs.ensures.ok in
     let le : length dense ≤ length cs = back-length s cs ks in
-    let mapped : c.in_ok-answered.answered.items ≡ map (λ b. told_back b (get_or cs b.place any_chunk)) backs = c.in_ok-answered.ensures.ok any_chunk
-    ∙ ap (λ (o : Outbound). map (λ b. told_back b (get_or o.inflight.chunks b.place any_chunk)) c.deref.result.now) c.queue.ensures
-    ∙ ap (map (λ b. told_back b (get_or cs b.place any_chunk))) c.deref.ensures.value in
-    let told : c.in_ok-answered.answered.items ≡ taken_back_by s t = mapped ∙ told-is s t ks kept current backs is any_chunk in
+    let mapped : c.in_ok-answered.answered.items ≡ map (λ b. answered_of_placed b (get_or cs b.place any_chunk)) backs = c.in_ok-answered.ensures.ok any_chunk
+    ∙ ap (λ (o : Outbound). map (λ b. answered_of_placed b (get_or o.inflight.chunks b.place any_chunk)) c.deref.result.now) c.queue.ensures
+    ∙ ap (map (λ b. answered_of_placed b (get_or cs b.place any_chunk))) c.deref.ensures.value in
+    let told : c.in_ok-answered.answered.items ≡ taken_back_by s t = mapped ∙ answer-is s t ks kept current backs is any_chunk in
     let streams : c.return_each.new.streams ≡ after_returns (taken_back_by s t) t.streams = c.return_each.ensures
     ∙ ap (λ rs. after_returns rs t.streams) (c.deref-3.ensures.value ∙ told) in
     let new : c.restore.new.self ≡ with_restored (back_by s f t.kept) f = c.restore.ensures.restored dense is le
@@ -230,10 +230,10 @@ returns-clause-accepted c =
     let backs = c.in_ok-backs.backs.items in
     let is : backs ≡ placed 0 dense = c.in_ok-backs.ensures.ok in
     let le : length dense ≤ length cs = back-length s cs ks in
-    let mapped : c.in_ok-answered.answered.items ≡ map (λ b. told_back b (get_or cs b.place any_chunk)) backs = c.in_ok-answered.ensures.ok any_chunk
-    ∙ ap (λ (o : Outbound). map (λ b. told_back b (get_or o.inflight.chunks b.place any_chunk)) c.deref.result.now) c.queue.ensures
-    ∙ ap (map (λ b. told_back b (get_or cs b.place any_chunk))) c.deref.ensures.value in
-    let told : c.in_ok-answered.answered.items ≡ taken_back_by s t = mapped ∙ told-is s t ks kept current backs is any_chunk in
+    let mapped : c.in_ok-answered.answered.items ≡ map (λ b. answered_of_placed b (get_or cs b.place any_chunk)) backs = c.in_ok-answered.ensures.ok any_chunk
+    ∙ ap (λ (o : Outbound). map (λ b. answered_of_placed b (get_or o.inflight.chunks b.place any_chunk)) c.deref.result.now) c.queue.ensures
+    ∙ ap (map (λ b. answered_of_placed b (get_or cs b.place any_chunk))) c.deref.ensures.value in
+    let told : c.in_ok-answered.answered.items ≡ taken_back_by s t = mapped ∙ answer-is s t ks kept current backs is any_chunk in
     let room : c.is_room_for.result ≡ nat_lt (total_bytes f.queue + bytes_back c.in_ok-answered.answered.items) (2 ^ 64) = c.is_room_for.ensures
     ∙ ap (λ (o : Outbound). nat_lt (total_bytes o + bytes_back c.deref-2.result.now) (2 ^ 64)) c.queue-2.ensures
     ∙ ap (λ (rs : List TakenBack). nat_lt (total_bytes f.queue + bytes_back rs) (2 ^ 64)) c.deref-2.ensures.value in
@@ -261,10 +261,10 @@ returns-clause-bytes c =
     let backs = c.in_ok-backs.backs.items in
     let is : backs ≡ placed 0 dense = c.in_ok-backs.ensures.ok in
     let le : length dense ≤ length cs = back-length s cs ks in
-    let mapped : c.in_ok-answered.answered.items ≡ map (λ b. told_back b (get_or cs b.place any_chunk)) backs = c.in_ok-answered.ensures.ok any_chunk
-    ∙ ap (λ (o : Outbound). map (λ b. told_back b (get_or o.inflight.chunks b.place any_chunk)) c.deref.result.now) c.queue.ensures
-    ∙ ap (map (λ b. told_back b (get_or cs b.place any_chunk))) c.deref.ensures.value in
-    let told : c.in_ok-answered.answered.items ≡ taken_back_by s t = mapped ∙ told-is s t ks kept current backs is any_chunk in
+    let mapped : c.in_ok-answered.answered.items ≡ map (λ b. answered_of_placed b (get_or cs b.place any_chunk)) backs = c.in_ok-answered.ensures.ok any_chunk
+    ∙ ap (λ (o : Outbound). map (λ b. answered_of_placed b (get_or o.inflight.chunks b.place any_chunk)) c.deref.result.now) c.queue.ensures
+    ∙ ap (map (λ b. answered_of_placed b (get_or cs b.place any_chunk))) c.deref.ensures.value in
+    let told : c.in_ok-answered.answered.items ≡ taken_back_by s t = mapped ∙ answer-is s t ks kept current backs is any_chunk in
     let new : total_bytes c.restore.new.self.queue ≡ total_bytes (with_restored dense f).queue =
     ap (λ (g : Flight). total_bytes g.queue) (c.restore.ensures.restored dense is le) in
     let back : bytes_of (restored dense cs) ≡ bytes_of cs + weight dense = back-bytes s cs ks c.self.invariant.2.inflight in
@@ -292,9 +292,9 @@ returns-clause-outstanding c =
     let backs = c.in_ok-backs.backs.items in
     let is : backs ≡ placed 0 dense = c.in_ok-backs.ensures.ok in
     let le : length dense ≤ length cs = back-length s cs ks in
-    let mapped : c.in_ok-answered.answered.items ≡ map (λ b. told_back b (get_or cs b.place any_chunk)) backs = c.in_ok-answered.ensures.ok any_chunk
-    ∙ ap (λ (o : Outbound). map (λ b. told_back b (get_or o.inflight.chunks b.place any_chunk)) c.deref.result.now) c.queue.ensures
-    ∙ ap (map (λ b. told_back b (get_or cs b.place any_chunk))) c.deref.ensures.value in
-    let told : c.in_ok-answered.answered.items ≡ taken_back_by s t = mapped ∙ told-is s t ks kept current backs is any_chunk in
+    let mapped : c.in_ok-answered.answered.items ≡ map (λ b. answered_of_placed b (get_or cs b.place any_chunk)) backs = c.in_ok-answered.ensures.ok any_chunk
+    ∙ ap (λ (o : Outbound). map (λ b. answered_of_placed b (get_or o.inflight.chunks b.place any_chunk)) c.deref.result.now) c.queue.ensures
+    ∙ ap (map (λ b. answered_of_placed b (get_or cs b.place any_chunk))) c.deref.ensures.value in
+    let told : c.in_ok-answered.answered.items ≡ taken_back_by s t = mapped ∙ answer-is s t ks kept current backs is any_chunk in
     let dense-told : c.in_ok-answered.answered.items ≡ answered_back dense cs = told ∙ ap (λ bs. answered_back bs cs) (sym (back-by-is s t ks kept current)) in
     subst (λ ts. All (λ (b : TakenBack). can_resend b.tsn c.restore.new.self ≡ true) ts) (sym dense-told) (c.restore.ensures.outstanding s ks is)

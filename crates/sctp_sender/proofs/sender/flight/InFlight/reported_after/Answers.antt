@@ -22,7 +22,7 @@ next_return-requires-clause-covered c = λ k e.
     let ks = c.args.kept.now.user_data.items in
     let inv = c.self.invariant.contiguous in
     let v : Cover bs ks f = subst (Cover bs ks) (sym c.self.view_is) c.requires.covered in
-    subst (λ (xs : List GapAckBlock). is_in_blocks xs (suc k) ≡ true) (sym c.deref-2.ensures.value) (covered-at f inv bs ks v k e)
+    subst (λ (xs : List GapAckBlock). is_in_blocks xs (suc k) ≡ true) (sym c.deref.ensures.value) (covered-at f inv bs ks v k e)
 
 pub returns-then-not-next_return-clause-covered : goal.returns-then-not-next_return-clause-covered
 returns-then-not-next_return-clause-covered c =
@@ -36,12 +36,12 @@ returns-then-not-next_return-clause-covered c =
     let none = ap (sack_refusal s) c.self.view_is ∙ c.requires.taken in
     let current = ap (is_outdated s) c.self.view_is ∙ c.requires.current in
     let fits = c.distance-count.ensures.to_fits in
-    let sorted = c.in_ok-sorted.sorted.items in
-    let are : AreSorted sorted s.gap_ack_blocks = subst (AreSorted sorted) c.deref.ensures.value c.in_ok-sorted.ensures.ok in
+    let sorted = c.args.sorted.items in
+    let are : AreSorted sorted s.gap_ack_blocks = c.requires.sorted in
     let count : c.distance-count.result ≡ distance f.acked_tsn s.cumulative_tsn_ack = c.distance-count.ensures.value in
     let left : (k : ℕ) → c.distance-count.result ≤ k → returns_at (distance f.acked_tsn s.cumulative_tsn_ack) sorted cs k ≡ false = λ k le.
     subst (λ n. returns_at n sorted cs k ≡ false) count (subst (λ (xs : List GapAckBlock). returns_at c.distance-count.result xs cs k ≡ false)
-    c.deref-3.ensures.value (c.next_return.ensures.none c.if-not-next_return.true k le)) in
+    c.deref-2.ensures.value (c.next_return.ensures.none c.if-not-next_return.true k le)) in
     rw (← c.self.view_is) (after-covered f inv s fits none current sorted are sorted ks are.ascend (λ k h. h)
     (λ k lt e. absurd (false≢true (sym (left (distance f.acked_tsn s.cumulative_tsn_ack + k) (omega (arith, count))) ∙ e))))
 
@@ -57,17 +57,17 @@ returns-clause-covered c =
     let none = ap (sack_refusal s) c.self.view_is ∙ c.requires.taken in
     let current = ap (is_outdated s) c.self.view_is ∙ c.requires.current in
     let fits = c.distance-count.ensures.to_fits in
-    let sorted = c.in_ok-sorted.sorted.items in
-    let are : AreSorted sorted s.gap_ack_blocks = subst (AreSorted sorted) c.deref.ensures.value c.in_ok-sorted.ensures.ok in
+    let sorted = c.args.sorted.items in
+    let are : AreSorted sorted s.gap_ack_blocks = c.requires.sorted in
     let end = c.max.result in
     let some : 0 < end = omega (arith, c.max.ensures) in
     let theirs : (k : ℕ) → is_in_blocks sorted (suc k) ≡ true → suc k ≤ end = λ k h.
-    let last = c.last_end.ensures (ap (ascends_from 0) c.deref-4.ensures.value ∙ are.ascend) (suc k)
-    (ap (λ (xs : List GapAckBlock). is_in_blocks xs (suc k)) c.deref-4.ensures.value ∙ h) in
+    let last = c.last_end.ensures (ap (ascends_from 0) c.deref-3.ensures.value ∙ are.ascend) (suc k)
+    (ap (λ (xs : List GapAckBlock). is_in_blocks xs (suc k)) c.deref-3.ensures.value ∙ h) in
     omega (arith, last, c.max-last.ensures, c.max.ensures) in
     let ours : (k : ℕ) → is_in_blocks bs k ≡ true → k ≤ end = λ k h.
-    let last = c.last_end-2.ensures (ap (ascends_from 0) c.deref-5.ensures.value ∙ v.ascend) k
-    (ap (λ (xs : List GapAckBlock). is_in_blocks xs k) c.deref-5.ensures.value ∙ h) in
+    let last = c.last_end-2.ensures (ap (ascends_from 0) c.deref-4.ensures.value ∙ v.ascend) k
+    (ap (λ (xs : List GapAckBlock). is_in_blocks xs k) c.deref-4.ensures.value ∙ h) in
     omega (arith, last, c.max-last.ensures, c.max.ensures) in
     let one : List GapAckBlock = record { start = 1; end = end } ∷ [] in
     let rises : ascends_from 0 one ≡ true = grind (arith, nat_tests, some) in

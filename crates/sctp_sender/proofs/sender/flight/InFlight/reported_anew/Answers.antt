@@ -1,7 +1,6 @@
 use Rattle.std.proofs.Common.{◌≡◌, ◌+◌, List, map, get_or, ap, sym, subst, ◌∙◌, arith}
 use Rattle.std.specs.List.{All, filter}
 use Rattle.sctp_data.specs.SelectiveAck.{Sack, sack_of}
-use Rattle.sctp_data.specs.declared.chunk.chunk_selective_ack.GapAckBlock.{GapAckBlock}
 use Rattle.sctp_serial.specs.DataChunks.{following_tsn}
 use Rattle.sctp_sender.specs.declared.sender.flight.Released.{Released}
 use Rattle.sctp_sender.specs.Flight.{Flight, count_acked, is_outdated, sack_refusal, released_of, reports_anew}
@@ -24,11 +23,8 @@ tell_anew-requires-clause-within c =
     let fits = c.distance-count.ensures.to_fits in
     let none = ap (sack_refusal s) c.self.view_is ∙ c.requires.taken in
     let current = ap (is_outdated s) c.self.view_is ∙ c.requires.current in
-    let are : AreSorted c.in_ok-sorted.sorted.items s.gap_ack_blocks = subst (AreSorted c.in_ok-sorted.sorted.items) c.deref.ensures.value
-    c.in_ok-sorted.ensures.ok in
-    let lent : AreSorted c.deref-3.result.now s.gap_ack_blocks = subst (λ (bs : List GapAckBlock). AreSorted bs s.gap_ack_blocks)
-    (sym c.deref-3.ensures.value) are in
-    λ n h. let e = ends f inv s fits none current c.deref-3.result.now lent n h in omega (arith, e, c.distance-count.ensures.value)
+    let lent : AreSorted c.args.sorted.now s.gap_ack_blocks = c.requires.sorted in
+    λ n h. let e = ends f inv s fits none current c.args.sorted.now lent n h in omega (arith, e, c.distance-count.ensures.value)
 
 pub shared_each-requires-clause-answered : goal.shared_each-requires-clause-answered
 shared_each-requires-clause-answered c =
@@ -40,13 +36,10 @@ shared_each-requires-clause-answered c =
     let fits = c.distance-count.ensures.to_fits in
     let none = ap (sack_refusal s) c.self.view_is ∙ c.requires.taken in
     let current = ap (is_outdated s) c.self.view_is ∙ c.requires.current in
-    let are : AreSorted c.in_ok-sorted.sorted.items s.gap_ack_blocks = subst (AreSorted c.in_ok-sorted.sorted.items) c.deref.ensures.value
-    c.in_ok-sorted.ensures.ok in
-    let lent : AreSorted c.deref-3.result.now s.gap_ack_blocks = subst (λ (bs : List GapAckBlock). AreSorted bs s.gap_ack_blocks)
-    (sym c.deref-3.ensures.value) are in
+    let lent : AreSorted c.args.sorted.now s.gap_ack_blocks = c.requires.sorted in
     let answered : c.tell_anew.new.released.items ≡ map (released_of no_message) (filter p cs) = c.in_ok-tell_anew.ensures.answered p
-    (subst (λ k. PicksAnew p k c.deref-3.result.now cs) (sym c.distance-count.ensures.value) (picks f inv s fits none current c.deref-3.result.now lent)) in
-    subst (λ (rs : List Released). AreInFlight rs cs) (sym (c.deref-4.ensures.value ∙ answered)) (answered-in-flight p no_message cs cs (λ r h. h))
+    (subst (λ k. PicksAnew p k c.args.sorted.now cs) (sym c.distance-count.ensures.value) (picks f inv s fits none current c.args.sorted.now lent)) in
+    subst (λ (rs : List Released). AreInFlight rs cs) (sym (c.deref-2.ensures.value ∙ answered)) (answered-in-flight p no_message cs cs (λ r h. h))
 
 pub returns-clause-anew : goal.returns-clause-anew
 returns-clause-anew c =
@@ -58,12 +51,9 @@ returns-clause-anew c =
     let fits = c.distance-count.ensures.to_fits in
     let none = ap (sack_refusal s) c.self.view_is ∙ c.requires.taken in
     let current = ap (is_outdated s) c.self.view_is ∙ c.requires.current in
-    let are : AreSorted c.in_ok-sorted.sorted.items s.gap_ack_blocks = subst (AreSorted c.in_ok-sorted.sorted.items) c.deref.ensures.value
-    c.in_ok-sorted.ensures.ok in
-    let lent : AreSorted c.deref-3.result.now s.gap_ack_blocks = subst (λ (bs : List GapAckBlock). AreSorted bs s.gap_ack_blocks)
-    (sym c.deref-3.ensures.value) are in
+    let lent : AreSorted c.args.sorted.now s.gap_ack_blocks = c.requires.sorted in
     let answered : c.tell_anew.new.released.items ≡ map (released_of no_message) (filter p cs) = c.in_ok-tell_anew.ensures.answered p
-    (subst (λ k. PicksAnew p k c.deref-3.result.now cs) (sym c.distance-count.ensures.value) (picks f inv s fits none current c.deref-3.result.now lent)) in
+    (subst (λ k. PicksAnew p k c.args.sorted.now cs) (sym c.distance-count.ensures.value) (picks f inv s fits none current c.args.sorted.now lent)) in
     let n : c.distance-count.result ≡ count_acked s f = c.distance-count.ensures.value in
     rw (← c.self.view_is) (both-ok c.shared_each.result (λ anew own each.
     let owns : All (IsOwn (count_acked s f) cs) anew.items = subst (λ k. All (IsOwn k cs) anew.items) n own in
@@ -72,7 +62,7 @@ returns-clause-anew c =
       small = λ k d lt. let h = (owns k d lt any_chunk).0 in let few = inv.few in omega (arith, h, few);
       each = λ k d lt.
           each k d (omega (arith, lt, n))
-          ∙ ap (λ (rs : List Released). is_answered rs (get_or cs (c.distance-count.result + k) d)) (c.deref-4.ensures.value ∙ answered)
+          ∙ ap (λ (rs : List Released). is_answered rs (get_or cs (c.distance-count.result + k) d)) (c.deref-2.ensures.value ∙ answered)
           ∙ answered-at p no_message (following_tsn f.acked_tsn) cs (omega arith) inv.run inv.few (c.distance-count.result + k) d (omega (arith, lt, n))
           ∙ ap (λ j. p (get_or cs (j + k) d)) n;
     }) c.shared_each.ensures.own c.shared_each.ensures.each)

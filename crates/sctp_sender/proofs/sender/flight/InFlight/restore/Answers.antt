@@ -3,7 +3,7 @@ use Rattle.std.specs.List.{All}
 use Rattle.sctp_data.specs.declared.chunk.chunk_selective_ack.GapAckBlock.{GapAckBlock}
 use Rattle.sctp_outbound.specs.outbound_queue.OutboundQueue.{Outbound}
 use Rattle.sctp_sender.specs.Flight.{Flight, IsContiguous, can_resend}
-use Rattle.sctp_sender.specs.Keeping.{back_each, answered_back, placed, told_back, with_restored}
+use Rattle.sctp_sender.specs.Keeping.{back_each, answered_back, placed, answered_of_placed, with_restored}
 use Rattle.sctp_sender.specs.declared.sender.flight.keeping.TakenBack.{TakenBack}
 use Rattle.sctp_sender.proofs.Placed.{back-length, nil-of, placed-told, put-contiguous, put-restored}
 use Rattle.sctp_sender.proofs.Runs.{any_chunk}
@@ -35,7 +35,7 @@ returns-then-is_empty-clause-outstanding c = λ s ks is.
     let cs = c.args.self.now.queue.inflight.chunks in
     let bs = back_each s cs ks in
     let told : answered_back bs cs ≡ [] = sym (placed-told 0 bs cs any_chunk (let le = back-length s cs ks in omega (arith, le)))
-    ∙ ap (map (λ b. told_back b (get_or cs b.place any_chunk))) (sym is ∙ none) in
+    ∙ ap (map (λ b. answered_of_placed b (get_or cs b.place any_chunk))) (sym is ∙ none) in
     let n = ap length told in
     λ k d lt. absurd (omega (arith, n, lt))
 

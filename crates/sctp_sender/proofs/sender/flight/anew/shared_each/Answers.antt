@@ -12,7 +12,7 @@ use Rattle.sctp_sender.specs.Keeping.{IsOwn, is_at}
 use Rattle.sctp_sender.specs.Telling.{is_answered, is_of_chunk}
 use Rattle.sctp_sender.proofs.Anew.{all-at}
 use Rattle.sctp_sender.proofs.AnewKept.{one-more-at, own-more}
-use Rattle.sctp_sender.proofs.Answered.{answered-more, any_answered, stands-at, told-here}
+use Rattle.sctp_sender.proofs.Answered.{answered-more, any_answered, stands-at, answer-here}
 use Rattle.sctp_sender.proofs.Runs.{any_chunk}
 use Rattle.sctp_sender.proofs.Walks.{read-of}
 use Rattle.sctp_sender.proofs.sender.flight.anew.shared_each.Goals as goal
@@ -60,7 +60,7 @@ loop-one-preserved-then-place-count c =
       each = λ k d less. c.loop-one.invariant.each k d less
           ∙ sym (answered-more rs i r (get_or cs (c.args.count + k) d) lt (get_or_default rs i any_answered r lt)
           ∙ ap (λ b. is_answered (take i rs) (get_or cs (c.args.count + k) d) || b)
-          (told-here (following_tsn c.args.acked_tsn) cs r at.k (c.args.count + k) d (omega arith) c.requires.run c.requires.few at.tsn at.lt less
+          (answer-here (following_tsn c.args.acked_tsn) cs r at.k (c.args.count + k) d (omega arith) c.requires.run c.requires.few at.tsn at.lt less
           ∙ other at.k (c.args.count + k) (omega (arith, low))) ∙ or-none _);
     }
   where
@@ -94,7 +94,7 @@ loop-one-preserved c =
           ∙ ap (λ q. q || (b.place == k)) (c.loop-one.invariant.each k d less)
           ∙ sym (answered-more rs i r (get_or cs (c.args.count + k) d) lt (get_or_default rs i any_answered r lt)
           ∙ ap (λ q. is_answered (take i rs) (get_or cs (c.args.count + k) d) || q)
-          (told-here (following_tsn c.args.acked_tsn) cs r at.k (c.args.count + k) d (omega arith) c.requires.run c.requires.few at.tsn at.lt less
+          (answer-here (following_tsn c.args.acked_tsn) cs r at.k (c.args.count + k) d (omega arith) c.requires.run c.requires.few at.tsn at.lt less
           ∙ moved at.k b.place c.args.count k (omega (arith, there, place))));
     }
   where

@@ -2,7 +2,7 @@ use Rattle.std.proofs.Common.{◌≡◌, ◌+◌, ◌<◌, ◌≤◌, ◌++◌, 
 use Rattle.std.proofs.lemmas.List.{get_or_default, map-append, take_more, take_all}
 use Rattle.sctp_sender.specs.declared.sender.flight.keeping.TakenBack.{TakenBack}
 use Rattle.sctp_sender.specs.declared.sender.flight.taking_back.PlacedData.{PlacedData}
-use Rattle.sctp_sender.specs.Keeping.{told_back}
+use Rattle.sctp_sender.specs.Keeping.{answered_of_placed}
 use Rattle.sctp_sender.proofs.Walks.{read-of}
 use Rattle.sctp_sender.proofs.sender.flight.keeping.answered_back.Goals as goal
 
@@ -21,8 +21,8 @@ loop-back-preserved c =
     let next : take (i + 1) bs ≡ take i bs ++ b ∷ [] = take_more bs i b lt ∙ ap (λ y. take i bs ++ y ∷ []) (sym c.back-item.is) in
     record {
       answered = λ d.
-          let f : PlacedData → TakenBack = λ y. told_back y (get_or cs y.place d) in
-          let same : c.taken_back.result ≡ f b = c.taken_back.ensures ∙ ap (told_back b) (at.1 ∙ get_or_default cs b.place x d at.0) in
+          let f : PlacedData → TakenBack = λ y. answered_of_placed y (get_or cs y.place d) in
+          let same : c.taken_back.result ≡ f b = c.taken_back.ensures ∙ ap (answered_of_placed b) (at.1 ∙ get_or_default cs b.place x d at.0) in
           c.put.ensures.items ∙ ap (λ (ts : List TakenBack). ts ++ c.taken_back.result ∷ []) (inv.answered d)
           ∙ ap (λ (r : TakenBack). map f (take i bs) ++ r ∷ []) same ∙ sym (map-append f (take i bs) (b ∷ [])) ∙ ap (map f) (sym next);
       count = omega (arith, put, n, inv.count);
@@ -33,6 +33,6 @@ pub returns-clause-ok : goal.returns-clause-ok
 returns-clause-ok c = λ d.
     let cs = c.args.queue.now.inflight.chunks in
     let bs = c.args.backs.now in
-    let f : PlacedData → TakenBack = λ y. told_back y (get_or cs y.place d) in
+    let f : PlacedData → TakenBack = λ y. answered_of_placed y (get_or cs y.place d) in
     let all : length bs ≤ c.loop-back.back-index = c.loop-back-test.false in
     c.loop-back.invariant.answered d ∙ ap (map f) (take_all c.loop-back.back-index bs all)
