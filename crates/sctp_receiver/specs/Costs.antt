@@ -4,7 +4,7 @@ use Rattle.std.specs.Prelude.{◌≡◌, ℕ, ◌+◌, ◌*◌, ◌-◌, ◌≤�
 use Rattle.sctp_data.specs.declared.chunk.chunk_payload_data.ChunkPayloadData.{ChunkPayloadData}
 use Rattle.sctp_data.specs.ForwardTsn.{ForwardTsn}
 use Rattle.sctp_serial.specs.Turns.{IsWithinDigits}
-use Rattle.sctp_reassembly.specs.reassembly_queue.Costs.{ordered_push_looks, ordered_push_walk, FitsInOrder, Joins, unordered_push_looks, unordered_push_walk}
+use Rattle.sctp_reassembly.specs.reassembly_queue.Costs.{ordered_push_looks, ordered_push_walk, FitsInOrder, Joins, JoinsAtEnd, unordered_push_looks, unordered_push_walk}
 use Rattle.sctp_reassembly.specs.reassembly_queue.Orders.{digits, IsOrderly}
 use Rattle.sctp_reassembly.specs.reassembly_queue.ReassemblyQueue.{ReassemblyState, held_after_ordered_push}
 use Rattle.sctp_receiver.specs.declared.receiver.inbound_streams.InboundStream.{InboundStream}
@@ -34,6 +34,8 @@ pub record IsWithinPush (x : ChunkPayloadData) (q : ReassemblyState) (turns : �
   pub ordered_walk : x.unordered ≡ false → turns ≤ ordered_push_walk x q.held
   pub unordered : x.unordered ≡ true → FitsInOrder x q.held → (first last : ℕ)
       → Joins x q.held first last → turns ≤ unordered_push_looks q.held first last
+  pub unordered_few : x.unordered ≡ true → FitsInOrder x q.held → (first last : ℕ)
+      → JoinsAtEnd x q first last → turns ≤ digits (length q.held.unassembled) + 9
   pub unordered_walk : x.unordered ≡ true → turns ≤ unordered_push_walk q.held
 
 -- the same of its stream, and none where that is not open

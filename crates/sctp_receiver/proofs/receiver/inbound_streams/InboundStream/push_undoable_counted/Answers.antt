@@ -36,7 +36,7 @@ returns-clause-cost c =
     subst (λ (y : ChunkPayloadData). IsWithinPush y q turns) same
     (push-within x q c.push_undoable_counted.new.self c.args.turns.now c.push_undoable_counted.new.turns
     (λ off old then. subst IsOrderly (sym (ap (λ (r : ReassemblyState). r.held.ordered) (c.in_ok-push_undoable_counted.ensures.ordered stream off).0)) then)
-    e.ordered_cost e.ordered_walk e.unordered_cost e.unordered_walk)
+    e.ordered_cost e.ordered_walk e.unordered_cost e.unordered_few e.unordered_walk)
 
 pub returns-in_err-push_undoable_counted-clause-cost : goal.returns-in_err-push_undoable_counted-clause-cost
 returns-in_err-push_undoable_counted-clause-cost c =
@@ -48,4 +48,4 @@ returns-in_err-push_undoable_counted-clause-cost c =
     subst (λ (y : ChunkPayloadData). IsWithinPush y q turns) same
     (push-within x q c.push_undoable_counted.new.self c.args.turns.now c.push_undoable_counted.new.turns
     (λ off old then. subst IsOrderly (sym (ap (λ (r : ReassemblyState). r.held.ordered) c.in_err-push_undoable_counted.ensures.err)) old)
-    e.ordered_cost e.ordered_walk e.unordered_cost e.unordered_walk)
+    e.ordered_cost e.ordered_walk e.unordered_cost e.unordered_few e.unordered_walk)
