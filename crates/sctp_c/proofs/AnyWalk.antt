@@ -1,10 +1,15 @@
 -- Chunks of any types, one behind the other.
 use Rattle.std.proofs.Common.{◌≡◌, ℕ, ◌+◌, ◌<◌, true, false, List, [], ◌∷◌, ◌++◌, length, drop, refl, sym, subst, ap, ◌∙◌, inl, inr, arith, length-append}
 use Rattle.std.specs.Prelude.{◌⊎◌}
-use Rattle.sctp_chunks.specs.Framing.{type_at}
-use Rattle.sctp_packets.specs.Packet.{IsHeaded}
+use Rattle.std.specs.List.{AllByRecursion}
+use Rattle.std.proofs.lemmas.List.{drop-drop}
+use Rattle.sctp_base.specs.Padding.{padded_length}
+use Rattle.sctp_base.specs.Walk.{Walks}
+use Rattle.sctp_chunks.specs.Framing.{declared_length, type_at}
+use Rattle.sctp_chunks.specs.Wire.{Wire}
+use Rattle.sctp_packets.specs.Packet.{IsHeaded, Steps, after}
 use Rattle.sctp_c.specs.AnyChunks.{HasAnyChunks, IsAnyPacket, IsThere, Passes, TellsAll, any_chunk_at, any_chunks_from, is_stopping}
-use Rattle.sctp_c.specs.Head.{HeadsPacket, Lie, rows_from}
+use Rattle.sctp_c.specs.Head.{HeadsPacket, IsInPlace, Lie, rows_from}
 use Rattle.sctp_c.specs.Out.{filled}
 use Rattle.sctp_c.specs.declared.packet.SctpHead.{SctpHead}
 use Rattle.sctp_c.specs.declared.packet.any.SctpAnyChunk.{SctpAnyChunk}
@@ -155,3 +160,20 @@ is_any_packet sum bytes h n old new headed has head rows = record {
   chunks = has.count;
   rows = rows ∙ ap (λ (all : List SctpAnyChunk). filled all old) (sym (any_rows bytes n has));
 }
+
+-- ## Chunks that are read in place
+
+-- wherever the reading stands before the end, such a chunk is there, where all are of them
+pub in_place_passed : (packet : List ℕ) (at : ℕ) (rows : List SctpAnyChunk) (vs : List Wire) (here : ℕ) → Passes packet at rows here
+    → Walks Steps after (drop at packet) vs [] → AllByRecursion IsInPlace vs → 0 < length (drop here packet)
+    → (w : Wire) × IsInPlace w × Steps (drop here packet) w
+unfolding Walks after
+in_place_passed packet at [] [] here passes walk all some =
+    let none : length (drop here packet) ≡ 0 = ap (λ (p : ℕ). length (drop p packet)) (sym passes) ∙ ap (λ (l : List ℕ). length l) walk in
+    absurd (omega (arith, none, some))
+in_place_passed packet at [] (v ∷ vs) here passes walk all some = (v, all.0, subst (λ (p : ℕ). Steps (drop p packet) v) passes walk.0)
+in_place_passed packet at (row ∷ rows) [] here passes walk all some =
+    absurd (omega (arith, ap (λ (l : List ℕ). length l) walk, passes.1.is_framed.headed))
+in_place_passed packet at (row ∷ rows) (v ∷ vs) here passes walk all some =
+    let rest = subst (λ (b : List ℕ). Walks Steps after b vs []) (drop-drop (padded_length (declared_length (drop at packet))) at packet) walk.1 in
+    in_place_passed packet (behind packet at) rows vs here passes.3 rest all.1 some

@@ -1,6 +1,8 @@
 -- What the bytes of a DATA chunk and of a SACK say, by their type alone.
-use Rattle.std.proofs.Common.{◌≡◌, ℕ, ◌+◌, ◌≤◌, List, length, refl, sym, ap, ◌∙◌, inl, inr}
+use Rattle.std.proofs.Common.{◌≡◌, ℕ, ◌+◌, ◌<◌, ◌≤◌, List, [], ◌∷◌, length, refl, sym, subst, ap, ◌∙◌, inl, inr, arith}
 use Rattle.std.specs.Prelude.{◌*◌, map}
+use Rattle.std.specs.List.{AllByRecursion}
+use Rattle.sctp_base.specs.Walk.{Walks}
 use Rattle.sctp_base.proofs.EachAt.{length_each}
 use Rattle.sctp_base.specs.Each.{each}
 use Rattle.sctp_base.specs.Field.{u32_at}
@@ -8,12 +10,14 @@ use Rattle.sctp_base.specs.declared.error.Error.{Error}
 use Rattle.sctp_chunks.specs.Fault.{IsChunk, DataFault, SackFault}
 use Rattle.sctp_chunks.specs.Framing.{type_at, flags_at, value_at}
 use Rattle.sctp_chunks.specs.Kind.{KindFault}
-use Rattle.sctp_chunks.specs.Wire.{ReadsChunk, data_chunk, sack_chunk}
+use Rattle.sctp_chunks.specs.Wire.{Wire, ReadsChunk, data_chunk, sack_chunk}
 use Rattle.sctp_data.specs.PayloadData.{Data, data_in}
 use Rattle.sctp_data.specs.SelectiveAck.{block_at, sack_in, blocks_in, duplicates_in}
 use Rattle.sctp_data.specs.declared.chunk.chunk_selective_ack.GapAckBlock.{GapAckBlock}
 use Rattle.sctp_c.specs.Answered.{IsSack, gap_answered}
+use Rattle.sctp_c.specs.Head.{IsInPlace}
 use Rattle.sctp_c.specs.Out.{filled}
+use Rattle.sctp_packets.specs.Packet.{Steps, after}
 use Rattle.sctp_c.specs.declared.reading.SctpGap.{SctpGap}
 use Rattle.sctp_c.specs.declared.reading.SctpSack.{SctpSack}
 
@@ -61,3 +65,15 @@ data_kind e bytes typ fault = inr (inr (inl (typ, fault)))
 pub sack_kind : (e : Error) (bytes : List ℕ) → type_at bytes ≡ 3 → SackFault e bytes → KindFault e bytes
 unfolding KindFault
 sack_kind e bytes typ fault = inr (inr (inr (inr (inl (typ, fault)))))
+
+-- ## Chunks that are read in place
+
+-- whoever walks over all of the bytes, and over such chunks alone, takes one wherever another walk stands before the end
+pub in_place_on : (bytes : List ℕ) (ws vs : List Wire) (rest : List ℕ) → Walks Steps after bytes ws rest → Walks Steps after bytes vs []
+    → AllByRecursion IsInPlace vs → 0 < length rest → (w : Wire) × IsInPlace w × Steps rest w
+unfolding Walks
+in_place_on bytes [] [] rest so_far whole all some = absurd (omega (arith, ap (λ (l : List ℕ). length l) so_far, ap (λ (l : List ℕ). length l) whole, some))
+in_place_on bytes [] (v ∷ vs) rest so_far whole all some = (v, all.0, subst (λ (b : List ℕ). Steps b v) so_far whole.0)
+in_place_on bytes (w ∷ ws) [] rest so_far whole all some =
+    absurd (omega (arith, ap (λ (l : List ℕ). length l) whole, so_far.0.chunk.is_framed.headed))
+in_place_on bytes (w ∷ ws) (v ∷ vs) rest so_far whole all some = in_place_on (after bytes) ws vs rest so_far.1 whole.1 all.1 some

@@ -5,7 +5,7 @@ use Rattle.sctp_base.specs.Field.{le32, u16_at, u32_at}
 use Rattle.sctp_base.specs.Padding.{padded_length, four_zeroes}
 use Rattle.sctp_base.specs.Walk.{Walks}
 use Rattle.sctp_chunks.specs.Framing.{type_at, flags_at, declared_length}
-use Rattle.sctp_chunks.specs.Wire.{Wire}
+use Rattle.sctp_chunks.specs.Wire.{Wire, data_chunk, sack_chunk}
 use Rattle.sctp_packets.specs.Packet.{Parts, ReadsPacket, Steps, after, head_encoding}
 use Rattle.sctp_c.specs.Out.{filled}
 use Rattle.sctp_c.specs.declared.packet.SctpHead.{SctpHead}
@@ -50,6 +50,12 @@ Lie packet at (suc n) =
     (at + 4 ≤ length packet)
     × (at + padded_length (declared_length (drop at packet)) ≤ length packet)
     × Lie packet (at + padded_length (declared_length (drop at packet))) n
+
+-- a chunk that is read with no memory
+abbrev pub IsInPlace : Wire → Type 0
+IsInPlace (data_chunk d) = Unit {0}
+IsInPlace (sack_chunk s) = Unit {0}
+IsInPlace _ = ⊥
 
 -- the bytes are so many chunks, one behind the padding of the other
 pub record HaveChunks (bytes : List ℕ) (n : ℕ) : Type 0 where

@@ -1,6 +1,6 @@
 //! Chunks read where they lie (RFC 4960 3.2): DATA and SACK without a copy, another kind over a copy of its chunk alone.
 
-ghost use Rattle.std.specs.Prelude.{◌≡◌, ◌+◌, ◌*◌, ◌≤◌, ◌<◌, length, IfOk, IfErr, OnOk, IsOkUnless};
+ghost use Rattle.std.specs.Prelude.{◌≡◌, ◌+◌, ◌*◌, ◌≤◌, ◌<◌, length, IfOk, IfErr, OnOk, IsOk, IsOkUnless};
 ghost use Rattle.sctp_base.specs.Outcome.{OrMemory};
 ghost use Rattle.sctp_base.specs.Padding.{padded_length};
 ghost use Rattle.sctp_base.specs.declared.error.Error.TheVariants.{ErrOutOfMemory, ErrParseSctpChunkNotEnoughData};
@@ -10,6 +10,7 @@ ghost use Rattle.sctp_chunks.specs.Kind.{KindFault};
 ghost use Rattle.sctp_chunks.specs.Wire.{Wire, ReadsChunk, data_chunk};
 ghost use Rattle.sctp_data.specs.ChunkSet.{IsFreshData};
 ghost use Rattle.sctp_data.specs.PayloadData.{data_of};
+ghost use Rattle.sctp_c.specs.Head.{IsInPlace};
 ghost use Rattle.sctp_data.specs.SelectiveAck.{blocks_in, duplicates_in};
 
 use bytes::Bytes;
@@ -155,6 +156,7 @@ pub fn read_length(alloc: Global, bytes: &[u8]) -> Result<usize>
     ensures reads { OnOk result ((w : Wire) × ReadsChunk bytes.now w) }
     ensures length { IfOk result (λ n. n ≡ declared_length bytes.now) }
     ensures only { (w : Wire) → ReadsChunk bytes.now w → IsOkUnless result ErrOutOfMemory }
+    ensures in_place { (w : Wire) → IsInPlace w → ReadsChunk bytes.now w → IsOk result }
     ensures fault { IfErr result (λ e. OrMemory e (KindFault e bytes.now)) }
 {
     match ChunkType(bytes[0]) {

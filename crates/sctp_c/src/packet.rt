@@ -1,6 +1,7 @@
 //! Packets: read whole, and sealed under a header and its checksum (RFC 4960 3).
 
 ghost use Rattle.std.specs.Prelude.{◌≡◌, ◌≢◌, ◌+◌, ◌≤◌, ◌<◌, ◌++◌, [], List, length, take, drop, IfOk, IfErr, OnOk, IsOk, IsOkUnless};
+ghost use Rattle.std.specs.List.{AllByRecursion};
 ghost use Rattle.crc32c.specs.Castagnoli.{crc32c_of};
 ghost use Rattle.sctp_base.specs.Field.{le32};
 ghost use Rattle.sctp_base.specs.Padding.{four_zeroes, padded_length};
@@ -12,7 +13,7 @@ ghost use Rattle.sctp_chunks.specs.Wire.{Wire};
 ghost use Rattle.sctp_packets.specs.Fault.{HeadFault, PacketFault, PlaceFault, WalkFault};
 ghost use Rattle.sctp_packets.specs.Packet.{IsHeaded, Parts, ReadsPacket, Steps, after, body_of, packet_encoding};
 ghost use Rattle.sctp_c.specs.Head as heads;
-ghost use Rattle.sctp_c.specs.Head.{HaveChunks, HeadsPacket, IsPacket, Lie, chunks_from, head_bytes, sealed, parts_under};
+ghost use Rattle.sctp_c.specs.Head.{HaveChunks, HeadsPacket, IsInPlace, IsPacket, Lie, chunks_from, head_bytes, sealed, parts_under};
 ghost use Rattle.sctp_c.specs.Out.{filled};
 ghost use Rattle.sctp_c.specs.Refusal.{IsRefusal};
 
@@ -110,6 +111,7 @@ fn read_next(alloc: Global, rest: &[u8]) -> Result<usize>
     ensures some { IfOk result (λ n. 4 ≤ n) }
     ensures within { IfOk result (λ n. n ≤ length rest.now) }
     ensures only { (w : Wire) → Steps rest.now w → IsOkUnless result ErrOutOfMemory }
+    ensures in_place { (w : Wire) → IsInPlace w → Steps rest.now w → IsOk result }
     ensures fault { IfErr result (λ e. OrMemory e (PlaceFault e rest.now)) }
 {
     if rest.len() < CHUNK_HEADER_SIZE {
@@ -125,6 +127,8 @@ fn count_chunks(alloc: Global, raw: &[u8]) -> Result<usize>
     ensures found { IfOk result (HaveChunks (drop 12 raw.now)) }
     ensures only { (ws : List Wire) → Walks Steps after (drop 12 raw.now) ws []
         → IsOkUnless result ErrOutOfMemory }
+    ensures in_place { (ws : List Wire) → AllByRecursion IsInPlace ws
+        → Walks Steps after (drop 12 raw.now) ws [] → IsOk result }
     ensures fault { IfErr result (λ e. OrMemory e (WalkFault e (drop 12 raw.now))) }
 {
     let mut count = 0;
@@ -142,6 +146,8 @@ fn count_in<C: Checksum>(alloc: Global, raw: &[u8], checksum: &C) -> Result<usiz
     ensures found { IfOk result (HaveChunks (drop 12 raw.now)) }
     ensures only { (p : Parts) → ReadsPacket (C.sum checksum.now) raw.now p
         → IsOkUnless result ErrOutOfMemory }
+    ensures in_place { (p : Parts) → AllByRecursion IsInPlace p.chunks
+        → ReadsPacket (C.sum checksum.now) raw.now p → IsOk result }
     ensures fault { IfErr result (λ e. OrMemory e (PacketFault (C.sum checksum.now) e raw.now)) }
 {
     check_head(raw, checksum)?;
@@ -161,6 +167,8 @@ fn tell<C: Checksum>(
         → IsPacket (C.sum checksum.now) raw.now head.new count.new rows.old rows.new }
     ensures only { (p : Parts) → ReadsPacket (C.sum checksum.now) raw.now p
         → result ≢ 0 → result ≡ 16 }
+    ensures in_place { (p : Parts) → AllByRecursion IsInPlace p.chunks
+        → ReadsPacket (C.sum checksum.now) raw.now p → result ≡ 0 }
     ensures refused { result ≢ 0
         → IsRefusal (λ e. PacketFault (C.sum checksum.now) e raw.now) result }
     ensures kept { result ≢ 0
@@ -178,7 +186,8 @@ fn tell<C: Checksum>(
 }
 
 /// Reads a packet under CRC-32C. Where it is one, `head` becomes its header, `count` how many chunks it has, and `rows` begin with the
-/// places of as many as there is room for. Refuses as `Packet::unmarshal` does, and then changes nothing.
+/// places of as many as there is room for. It is read where it lies: chunks but for DATA and SACKs are copied one by one, and freed. Refuses
+/// as `Packet::unmarshal` does, and then changes nothing.
 #[unsafe(no_mangle)]
 pub extern "C" fn sctp_read_packet(
     alloc: Global,
@@ -190,6 +199,9 @@ pub extern "C" fn sctp_read_packet(
     ensures read { result ≡ 0
         → IsPacket crc32c_of raw.now head.new count.new rows.old rows.new }
     ensures only { (p : Parts) → ReadsPacket crc32c_of raw.now p → result ≢ 0 → result ≡ 16 }
+    // Of DATA and SACKs alone it is read with no memory.
+    ensures in_place { (p : Parts) → AllByRecursion IsInPlace p.chunks
+        → ReadsPacket crc32c_of raw.now p → result ≡ 0 }
     ensures refused { result ≢ 0 → IsRefusal (λ e. PacketFault crc32c_of e raw.now) result }
     ensures kept { result ≢ 0
         → (head.new ≡ head.old) × (count.new ≡ count.old) × (rows.new ≡ rows.old) }
@@ -225,6 +237,9 @@ pub extern "C" fn sctp_read_packet_with_sum(
     ensures read { result ≡ 0
         → IsPacket (λ _. sum) raw.now head.new count.new rows.old rows.new }
     ensures only { (p : Parts) → ReadsPacket (λ _. sum) raw.now p → result ≢ 0 → result ≡ 16 }
+    // Of DATA and SACKs alone it is read with no memory.
+    ensures in_place { (p : Parts) → AllByRecursion IsInPlace p.chunks
+        → ReadsPacket (λ _. sum) raw.now p → result ≡ 0 }
     ensures refused { result ≢ 0 → IsRefusal (λ e. PacketFault (λ _. sum) e raw.now) result }
     ensures kept { result ≢ 0
         → (head.new ≡ head.old) × (count.new ≡ count.old) × (rows.new ≡ rows.old) }

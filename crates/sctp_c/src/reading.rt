@@ -134,12 +134,14 @@ fn answered(flags: u8, value: &[u8]) -> SctpData
     }
 }
 
-/// Reads a DATA chunk. Refuses as `ChunkPayloadData::unmarshal` does, and then changes nothing. It takes no memory.
+/// Reads a DATA chunk. Refuses as `ChunkPayloadData::unmarshal` does, and then changes nothing.
 #[unsafe(no_mangle)]
 pub extern "C" fn sctp_read_data(_alloc: Global, chunk: &[u8], fields: &mut SctpData) -> u32
     ensures read { result ≡ 0 → IsData chunk.now fields.new }
     ensures only { (d : Data) → ReadsChunk chunk.now (data_chunk d) → result ≢ 0 → result ≡ 16 }
     ensures refused { result ≢ 0 → IsRefusal (λ e. DataFault e chunk.now) result }
+    // It takes no memory.
+    ensures granted { result ≢ 16 }
     ensures kept { result ≢ 0 → fields.new ≡ fields.old }
 {
     match data_value(chunk) {
@@ -191,7 +193,7 @@ fn fill_skips(rows: &mut [SctpSkip], streams: &[ChunkForwardTsnStream])
 }
 
 /// Reads a SACK. As many blocks and duplicates as there is room for stand in `blocks` and `duplicates`; `sack` says how many there are.
-/// Refuses as `ChunkSelectiveAck::unmarshal` does, and then changes nothing. It takes no memory.
+/// Refuses as `ChunkSelectiveAck::unmarshal` does, and then changes nothing.
 #[unsafe(no_mangle)]
 pub extern "C" fn sctp_read_sack(
     _alloc: Global,
@@ -204,6 +206,8 @@ pub extern "C" fn sctp_read_sack(
         → IsSack chunk.now sack.new blocks.old blocks.new duplicates.old duplicates.new }
     ensures only { (s : Sack) → ReadsChunk chunk.now (sack_chunk s) → result ≢ 0 → result ≡ 16 }
     ensures refused { result ≢ 0 → IsRefusal (λ e. SackFault e chunk.now) result }
+    // It takes no memory.
+    ensures granted { result ≢ 16 }
     ensures kept { result ≢ 0 → (sack.new ≡ sack.old) × (blocks.new ≡ blocks.old)
         × (duplicates.new ≡ duplicates.old) }
 {

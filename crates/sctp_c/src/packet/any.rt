@@ -1,20 +1,22 @@
 //! Packets that may have chunks of types that are not read (RFC 4960 3.2).
 
-ghost use Rattle.std.specs.Prelude.{◌≡◌, ◌≢◌, ◌+◌, ◌≤◌, List, length, true, IfOk, IfErr, OnOk, IsOkUnless};
+ghost use Rattle.std.specs.Prelude.{◌≡◌, ◌≢◌, ◌+◌, ◌≤◌, [], List, length, drop, true, IfOk, IfErr, OnOk, IsOk, IsOkUnless};
+ghost use Rattle.std.specs.List.{AllByRecursion};
 ghost use Rattle.crc32c.specs.Castagnoli.{crc32c_of};
 ghost use Rattle.sctp_base.specs.Outcome.{OrMemory};
 ghost use Rattle.sctp_base.specs.Padding.{padded_length};
+ghost use Rattle.sctp_base.specs.Walk.{Walks};
 ghost use Rattle.sctp_base.specs.declared.error.Error.TheVariants.{ErrOutOfMemory};
 ghost use Rattle.sctp_c.specs.AnyChunks as any;
 ghost use Rattle.sctp_c.specs.AnyChunks.{AnyPacketFault, AnyPlaceFault, AnyWalkFault, HasAnyChunks, IsAnyPacket, IsThere, NextFault, TellsAll};
 ghost use Rattle.sctp_c.specs.AnyChunks.{any_chunk_at, any_chunks_from};
-ghost use Rattle.sctp_c.specs.Head.{Lie};
+ghost use Rattle.sctp_c.specs.Head.{IsInPlace, Lie};
 ghost use Rattle.sctp_c.specs.Out.{filled};
 ghost use Rattle.sctp_c.specs.Refusal.{IsRefusal};
 ghost use Rattle.sctp_c.specs.declared.packet.any.SctpAnyChunk.{SctpAnyChunk};
 ghost use Rattle.sctp_chunks.specs.Framing.{IsFramed, declared_length, type_at};
 ghost use Rattle.sctp_chunks.specs.Wire.{Wire, ReadsChunk};
-ghost use Rattle.sctp_packets.specs.Packet.{IsHeaded, Parts, ReadsPacket};
+ghost use Rattle.sctp_packets.specs.Packet.{IsHeaded, Parts, ReadsPacket, Steps, after};
 
 use super::{Given, SctpHead, check_head, head_at};
 use crate::code::{SCTP_OK, of_error};
@@ -63,6 +65,7 @@ fn length_next(alloc: Global, rest: &[u8]) -> Result<usize>
     ensures reads { OnOk result (any.is_read_type (type_at rest.now) ≡ true
         → (w : Wire) × ReadsChunk rest.now w) }
     ensures only { IsThere rest.now → IsOkUnless result ErrOutOfMemory }
+    ensures in_place { (w : Wire) → IsInPlace w → ReadsChunk rest.now w → IsOk result }
     ensures fault { IfErr result (λ e. OrMemory e (NextFault e rest.now)) }
 {
     if is_read_type(rest[0]) {
@@ -79,6 +82,7 @@ fn read_next(alloc: Global, rest: &[u8]) -> Result<usize>
     ensures some { IfOk result (λ n. 4 ≤ n) }
     ensures within { IfOk result (λ n. n ≤ length rest.now) }
     ensures only { IsThere rest.now → IsOkUnless result ErrOutOfMemory }
+    ensures in_place { (w : Wire) → IsInPlace w → Steps rest.now w → IsOk result }
     ensures fault { IfErr result (λ e. OrMemory e (AnyPlaceFault e rest.now)) }
 {
     if rest.len() < CHUNK_HEADER_SIZE {
@@ -94,6 +98,8 @@ fn count_chunks(alloc: Global, raw: &[u8]) -> Result<usize>
     ensures found { IfOk result (HasAnyChunks raw.now) }
     ensures only { (rows : List SctpAnyChunk)
         → TellsAll raw.now rows → IsOkUnless result ErrOutOfMemory }
+    ensures in_place { (ws : List Wire) → AllByRecursion IsInPlace ws
+        → Walks Steps after (drop 12 raw.now) ws [] → IsOk result }
     ensures fault { IfErr result (λ e. OrMemory e (AnyWalkFault e raw.now)) }
 {
     let mut count = 0;
@@ -114,6 +120,8 @@ fn count_in<C: Checksum>(alloc: Global, raw: &[u8], checksum: &C) -> Result<usiz
     ensures found { IfOk result (HasAnyChunks raw.now) }
     ensures only { (rows : List SctpAnyChunk) → IsHeaded (C.sum checksum.now) raw.now
         → TellsAll raw.now rows → IsOkUnless result ErrOutOfMemory }
+    ensures in_place { (p : Parts) → AllByRecursion IsInPlace p.chunks
+        → ReadsPacket (C.sum checksum.now) raw.now p → IsOk result }
     ensures fault { IfErr result
         (λ e. OrMemory e (AnyPacketFault (C.sum checksum.now) e raw.now)) }
 {
@@ -166,6 +174,8 @@ fn tell_any<C: Checksum>(
         → IsAnyPacket (C.sum checksum.now) raw.now head.new count.new rows.old rows.new }
     ensures only { (all : List SctpAnyChunk) → IsHeaded (C.sum checksum.now) raw.now
         → TellsAll raw.now all → result ≢ 0 → result ≡ 16 }
+    ensures in_place { (p : Parts) → AllByRecursion IsInPlace p.chunks
+        → ReadsPacket (C.sum checksum.now) raw.now p → result ≡ 0 }
     ensures refused { result ≢ 0
         → IsRefusal (λ e. AnyPacketFault (C.sum checksum.now) e raw.now) result }
     ensures kept { result ≢ 0
@@ -185,7 +195,7 @@ fn tell_any<C: Checksum>(
 /// Reads a packet under CRC-32C that may have chunks of types that are not read (RFC 4960 3.2). Where it is one, `head` becomes its header,
 /// `count` how many chunks it has, and `rows` begin with the places of as many as there is room for. A chunk of a type that is not read is
 /// skipped where the highest bit of its type is set; else it is the last one that is looked at. Refuses as `Packet::unmarshal` does, but
-/// for unknown types, and then changes nothing.
+/// for unknown types, and then changes nothing. It copies what `sctp_read_packet` does.
 #[unsafe(no_mangle)]
 pub extern "C" fn sctp_read_any_packet(
     alloc: Global,
@@ -200,6 +210,9 @@ pub extern "C" fn sctp_read_any_packet(
         → TellsAll raw.now all → result ≢ 0 → result ≡ 16 }
     // What `sctp_read_packet` reads is read here too.
     ensures strict { (p : Parts) → ReadsPacket crc32c_of raw.now p → result ≢ 0 → result ≡ 16 }
+    // Of DATA and SACKs alone it is read with no memory.
+    ensures in_place { (p : Parts) → AllByRecursion IsInPlace p.chunks
+        → ReadsPacket crc32c_of raw.now p → result ≡ 0 }
     ensures refused { result ≢ 0 → IsRefusal (λ e. AnyPacketFault crc32c_of e raw.now) result }
     ensures kept { result ≢ 0
         → (head.new ≡ head.old) × (count.new ≡ count.old) × (rows.new ≡ rows.old) }
@@ -224,6 +237,9 @@ pub extern "C" fn sctp_read_any_packet_with_sum(
         → TellsAll raw.now all → result ≢ 0 → result ≡ 16 }
     // What `sctp_read_packet_with_sum` reads is read here too.
     ensures strict { (p : Parts) → ReadsPacket (λ _. sum) raw.now p → result ≢ 0 → result ≡ 16 }
+    // Of DATA and SACKs alone it is read with no memory.
+    ensures in_place { (p : Parts) → AllByRecursion IsInPlace p.chunks
+        → ReadsPacket (λ _. sum) raw.now p → result ≡ 0 }
     ensures refused { result ≢ 0 → IsRefusal (λ e. AnyPacketFault (λ _. sum) e raw.now) result }
     ensures kept { result ≢ 0
         → (head.new ≡ head.old) × (count.new ≡ count.old) × (rows.new ≡ rows.old) }

@@ -1,3 +1,4 @@
+use Rattle.std.proofs.lemmas.Bool.{false≢true}
 use Rattle.sctp_c.proofs.Places.{chunks_lie, is_packet}
 use Rattle.sctp_c.proofs.packet.tell.Goals as goal
 
@@ -11,3 +12,6 @@ returns-in-Ok-clause-read g c _ =
 
 pub returns-in-Err-clause-only : goal.returns-in-Err-clause-only
 returns-in-Err-clause-only g c = λ p reads refused. c.of_error.ensures.memory (c.in-Err.ensures.only p reads)
+
+pub returns-in-Err-clause-in_place : goal.returns-in-Err-clause-in_place
+returns-in-Err-clause-in_place g c = λ p all reads. absurd (false≢true (c.in-Err.ensures.in_place p all reads))

@@ -1,10 +1,11 @@
 use Rattle.std.proofs.Common.{◌<◌, ◌≡◌, true, false, length, drop, inl, inr, arith, rules}
+use Rattle.std.proofs.lemmas.Bool.{false≢true}
 use Rattle.std.proofs.lemmas.Grind.{common_steps}
 use Rattle.std.proofs.lemmas.List.{take_rest}
 use Rattle.std.proofs.lemmas.Result.{err_from_is_err_and}
 use Rattle.sctp_chunks.specs.Framing.{type_at}
 use Rattle.sctp_c.specs.AnyChunks.{is_stopping}
-use Rattle.sctp_c.proofs.AnyWalk.{all-there, passed-none, passed-next, passed-stop}
+use Rattle.sctp_c.proofs.AnyWalk.{all-there, in_place_passed, passed-none, passed-next, passed-stop}
 use Rattle.sctp_c.proofs.packet.any.count_chunks.Goals as goal
 
 pub walk-init : goal.walk-init
@@ -49,3 +50,10 @@ returns-then-is_stopping-clause-found c =
     let rest = take_rest c.args.raw.now c.walk.at in
     let stops : is_stopping (type_at (drop c.walk.at c.args.raw.now)) ≡ true = grind (arith, common_steps) in
     passed-stop c.args.raw.now c.walk.at c.walk.count c.walk.invariant.counted (rw rest at c.in_ok-span.ensures.there) stops
+
+pub returns-in_err-span-clause-in_place : goal.returns-in_err-span-clause-in_place
+returns-in_err-span-clause-in_place c = λ ws all whole.
+    let some : 0 < length (drop c.walk.at c.args.raw.now) = grind (arith, common_steps) in
+    let so_far = c.walk.invariant.counted in
+    let next = in_place_passed c.args.raw.now 12 so_far.0 ws c.walk.at so_far.1 whole all some in
+    absurd (false≢true (c.in_err-span.ensures.in_place next.0 next.1 (rw (take_rest c.args.raw.now c.walk.at) next.2)))
