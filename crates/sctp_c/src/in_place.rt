@@ -10,6 +10,7 @@ ghost use Rattle.sctp_chunks.specs.Kind.{KindFault};
 ghost use Rattle.sctp_chunks.specs.Wire.{Wire, ReadsChunk, data_chunk};
 ghost use Rattle.sctp_data.specs.ChunkSet.{IsFreshData};
 ghost use Rattle.sctp_data.specs.PayloadData.{data_of};
+ghost use Rattle.sctp_c.specs.AnyChunks as any;
 ghost use Rattle.sctp_c.specs.Head.{IsInPlace};
 ghost use Rattle.sctp_data.specs.SelectiveAck.{blocks_in, duplicates_in};
 
@@ -26,6 +27,13 @@ use sctp_chunks::chunk::chunk_payload_data::{
 };
 use sctp_chunks::chunk::chunk_selective_ack::SELECTIVE_ACK_HEADER_SIZE;
 use std::alloc::Global;
+
+/// Whether a chunk of a type is read.
+pub fn is_read_type(typ: u8) -> bool
+    ensures { result ≡ any.is_read_type typ }
+{
+    typ <= 11 || typ == 14 || typ == 130 || typ == 192 || typ == 194
+}
 
 /// The length that the chunk declares that the bytes begin with, its header with it. They are all that follow from the chunk on, as with
 /// `ChunkHeader::unmarshal`, which refuses the same.
@@ -162,7 +170,8 @@ pub fn read_length(alloc: Global, bytes: &[u8]) -> Result<usize>
     match ChunkType(bytes[0]) {
         CT_PAYLOAD_DATA => Ok(CHUNK_HEADER_SIZE + data_value(bytes)?.len()),
         CT_SACK => Ok(CHUNK_HEADER_SIZE + sack_value(bytes)?.len()),
-        _ => copied_length(alloc, bytes),
+        _ if is_read_type(bytes[0]) => copied_length(alloc, bytes),
+        _ => Err(Error::ErrUnmarshalUnknownChunkType),
     }
 }
 

@@ -20,7 +20,7 @@ ghost use Rattle.sctp_packets.specs.Packet.{IsHeaded, Parts, ReadsPacket, Steps,
 
 use super::{Given, SctpHead, check_head, head_at};
 use crate::code::{SCTP_OK, of_error};
-use crate::in_place::{chunk_length, padded_span, read_length};
+use crate::in_place::{chunk_length, is_read_type, padded_span, read_length};
 use sctp_base::error::{Error, Result};
 use sctp_base::field::read_u16;
 use sctp_base::util::{Checksum, get_padding_size};
@@ -41,13 +41,6 @@ pub struct SctpAnyChunk {
     pub is_known: u8,
     /// 1 where it is not known, and its sender is to be told of it in an ERROR (RFC 4960 3.2, 3.3.10.6); else 0.
     pub is_reported: u8,
-}
-
-// Whether a chunk of a type is read.
-fn is_read_type(typ: u8) -> bool
-    ensures { result ≡ any.is_read_type typ }
-{
-    typ <= 11 || typ == 14 || typ == 130 || typ == 192 || typ == 194
 }
 
 // Whether the reading stops behind a chunk of a type.

@@ -1,8 +1,10 @@
-use Rattle.std.proofs.Common.{inr, refl, rules}
+use Rattle.std.proofs.Common.{◌≡◌, false, inr, refl, rules}
 use Rattle.std.proofs.lemmas.Result.{err_from_is_err_and}
-use Rattle.sctp_chunks.specs.Framing.{flags_at}
+use Rattle.sctp_chunks.specs.Framing.{flags_at, type_at}
 use Rattle.sctp_chunks.specs.Wire.{data_chunk}
 use Rattle.sctp_data.specs.PayloadData.{Data, data_in}
+use Rattle.sctp_c.specs.AnyChunks.{is_read_type}
+use Rattle.sctp_c.proofs.Strict.{other_type}
 use Rattle.sctp_c.proofs.InPlace.{data_reads, sack_reads, data_kind, sack_kind}
 use Rattle.sctp_c.proofs.in_place.read_length.Goals as goal
 
@@ -26,3 +28,8 @@ pub returns-in_ok-sack_value-in-CT_SACK-clause-reads : goal.returns-in_ok-sack_v
 returns-in_ok-sack_value-in-CT_SACK-clause-reads c =
     let e = c.in_ok-sack_value-in-CT_SACK.ensures in
     (_, sack_reads c.args.bytes.now _ e.chunk e.value e.headed e.long)
+
+pub returns-in_default-2-clause-fault : goal.returns-in_default-2-clause-fault
+returns-in_default-2-clause-fault c =
+    let no : is_read_type (type_at c.args.bytes.now) ≡ false = search rules in
+    inr (other_type _ c.args.bytes.now refl c.requires no)
