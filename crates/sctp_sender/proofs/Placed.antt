@@ -85,17 +85,17 @@ back-length s (c ∷ cs) (k ∷ ks) = let h = back-length s cs ks in omega (arit
 
 -- ## What is told
 
-pub placed-told : (n : ℕ) (bs : List Data) (cs : List ChunkPayloadData) (d : ChunkPayloadData) → n + length bs ≤ length cs
+pub placed-answer : (n : ℕ) (bs : List Data) (cs : List ChunkPayloadData) (d : ChunkPayloadData) → n + length bs ≤ length cs
     → map (λ b. answered_of_placed b (get_or cs b.place d)) (placed n bs) ≡ answered_back bs (drop n cs)
-placed-told n [] cs d le = refl
-placed-told n (None ∷ bs) cs d le =
+placed-answer n [] cs d le = refl
+placed-answer n (None ∷ bs) cs d le =
     let next : n + 1 ≡ suc n = omega arith in
-    placed-told (suc n) bs cs d (omega (arith, le)) ∙ ap (λ k. answered_back bs (drop k cs)) (sym next)
+    placed-answer (suc n) bs cs d (omega (arith, le)) ∙ ap (λ k. answered_back bs (drop k cs)) (sym next)
     ∙ ap (λ xs. answered_back (None ∷ bs) xs) (sym (drop_more cs n d (omega (arith, le))))
-placed-told n (Some bytes ∷ bs) cs d le =
+placed-answer n (Some bytes ∷ bs) cs d le =
     let next : n + 1 ≡ suc n = omega arith in
     let b : PlacedData = record { place = n; user_data = bytes } in
-    ap (λ xs. answered_of_placed b (get_or cs n d) ∷ xs) (placed-told (suc n) bs cs d (omega (arith, le)) ∙ ap (λ k. answered_back bs (drop k cs)) (sym next))
+    ap (λ xs. answered_of_placed b (get_or cs n d) ∷ xs) (placed-answer (suc n) bs cs d (omega (arith, le)) ∙ ap (λ k. answered_back bs (drop k cs)) (sym next))
     ∙ ap (λ xs. answered_back (Some bytes ∷ bs) xs) (sym (drop_more cs n d (omega (arith, le))))
 
 pub answer-bytes : (bs : List PlacedData) (cs : List ChunkPayloadData) (d : ChunkPayloadData)

@@ -17,7 +17,7 @@ use Rattle.sctp_sender.specs.declared.sender.flight.taking_back.PlacedData.{Plac
 use Rattle.sctp_sender.specs.declared.sender.refusal.SenderRefusal.{SenderRefusal}
 use Rattle.sctp_sender.specs.declared.sender.refusal.SenderRefusal.TheVariants.{QueueFull}
 use Rattle.sctp_sender.specs.Sender.{Transmission, back_by, or_full, take_back_refusal, taken_back_by}
-use Rattle.sctp_sender.proofs.Placed.{back-length, placed-told}
+use Rattle.sctp_sender.proofs.Placed.{back-length, placed-answer}
 use Rattle.sctp_sender.proofs.Keepings.{length-restored, restored-contiguous}
 use Rattle.sctp_sender.proofs.Runs.{found-at, tsn-at}
 
@@ -89,7 +89,7 @@ module _ (s : Sack) (t : Transmission) (ks : List (Option (List ℕ))) (kept : t
   pub answer-is : (backs : List PlacedData) → backs ≡ placed 0 (back_each s chunks ks) → (d : ChunkPayloadData)
       → map (λ b. answered_of_placed b (get_or chunks b.place d)) backs ≡ taken_back_by s t
   answer-is backs is d =
-      ap (map (λ b. answered_of_placed b (get_or chunks b.place d))) is ∙ placed-told 0 (back_each s chunks ks) chunks d
+      ap (map (λ b. answered_of_placed b (get_or chunks b.place d))) is ∙ placed-answer 0 (back_each s chunks ks) chunks d
       (let le = back-length s chunks ks in omega (arith, le))
       ∙ ap (λ bs. answered_back bs chunks) back-by-is
 

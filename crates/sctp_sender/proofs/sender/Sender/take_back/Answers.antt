@@ -11,7 +11,8 @@ use Rattle.sctp_stream.specs.declared.stream.StreamState.{StreamState}
 use Rattle.sctp_sender.specs.Flight.{Flight, can_resend, is_outdated}
 use Rattle.sctp_sender.specs.declared.sender.flight.keeping.TakenBack.{TakenBack}
 use Rattle.sctp_sender.specs.declared.sender.flight.taking_back.PlacedData.{PlacedData}
-use Rattle.sctp_sender.specs.Keeping.{IsCovered, after_returns, back_each, bytes_back, bytes_coming, placed, restored, answered_of_placed, answered_back, with_restored}
+use Rattle.sctp_sender.specs.Keeping.{IsCovered, after_returns, back_each, bytes_back, bytes_coming, placed, restored, answered_of_placed, answered_back}
+use Rattle.sctp_sender.specs.Keeping.{with_restored}
 use Rattle.sctp_sender.specs.Sender.{Transmission, after_take_back, back_by, take_back_refusal, taken_back_by}
 use Rattle.sctp_sender.specs.Totals.{IsAllSettled}
 use Rattle.sctp_sender.proofs.Covers.{restored-covered}
@@ -70,12 +71,12 @@ returns-then-not-is_room_for-clause-refused c =
     let mapped : c.in_ok-answered.answered.items ≡ map (λ b. answered_of_placed b (get_or cs b.place any_chunk)) backs = c.in_ok-answered.ensures.ok any_chunk
     ∙ ap (λ (o : Outbound). map (λ b. answered_of_placed b (get_or o.inflight.chunks b.place any_chunk)) c.deref.result.now) c.queue.ensures
     ∙ ap (map (λ b. answered_of_placed b (get_or cs b.place any_chunk))) c.deref.ensures.value in
-    let told : c.in_ok-answered.answered.items ≡ taken_back_by s t = mapped ∙ answer-is s t ks kept current backs is any_chunk in
+    let answer : c.in_ok-answered.answered.items ≡ taken_back_by s t = mapped ∙ answer-is s t ks kept current backs is any_chunk in
     let room : c.is_room_for.result ≡ nat_lt (total_bytes f.queue + bytes_back c.in_ok-answered.answered.items) (2 ^ 64) = c.is_room_for.ensures
     ∙ ap (λ (o : Outbound). nat_lt (total_bytes o + bytes_back c.deref-2.result.now) (2 ^ 64)) c.queue-2.ensures
     ∙ ap (λ (rs : List TakenBack). nat_lt (total_bytes f.queue + bytes_back rs) (2 ^ 64)) c.deref-2.ensures.value in
     let full : nat_lt (total_bytes f.queue + bytes_back (taken_back_by s t)) (2 ^ 64) ≡ false =
-    ap (λ (rs : List TakenBack). nat_lt (total_bytes f.queue + bytes_back rs) (2 ^ 64)) (sym told) ∙ sym room ∙ c.if-not-is_room_for.true in
+    ap (λ (rs : List TakenBack). nat_lt (total_bytes f.queue + bytes_back rs) (2 ^ 64)) (sym answer) ∙ sym room ∙ c.if-not-is_room_for.true in
     inr (ap (take_back_refusal s) (sym c.self.view_is) ∙ refusal-is s t ks kept current false (c.in_ok-is_current.ensures.accepted refl) full)
 
 pub restore-requires-clause-within : goal.restore-requires-clause-within
@@ -121,7 +122,7 @@ restore-requires-clause-bytes c =
     let mapped : c.in_ok-answered.answered.items ≡ map (λ b. answered_of_placed b (get_or cs b.place any_chunk)) backs = c.in_ok-answered.ensures.ok any_chunk
     ∙ ap (λ (o : Outbound). map (λ b. answered_of_placed b (get_or o.inflight.chunks b.place any_chunk)) c.deref.result.now) c.queue.ensures
     ∙ ap (map (λ b. answered_of_placed b (get_or cs b.place any_chunk))) c.deref.ensures.value in
-    let told : c.in_ok-answered.answered.items ≡ taken_back_by s t = mapped ∙ answer-is s t ks kept current backs is any_chunk in
+    let answer : c.in_ok-answered.answered.items ≡ taken_back_by s t = mapped ∙ answer-is s t ks kept current backs is any_chunk in
     let room : c.is_room_for.result ≡ nat_lt (total_bytes f.queue + bytes_back c.in_ok-answered.answered.items) (2 ^ 64) = c.is_room_for.ensures
     ∙ ap (λ (o : Outbound). nat_lt (total_bytes o + bytes_back c.deref-2.result.now) (2 ^ 64)) c.queue-2.ensures
     ∙ ap (λ (rs : List TakenBack). nat_lt (total_bytes f.queue + bytes_back rs) (2 ^ 64)) c.deref-2.ensures.value in
@@ -177,8 +178,8 @@ returns-clause-answer c =
     let mapped : c.in_ok-answered.answered.items ≡ map (λ b. answered_of_placed b (get_or cs b.place any_chunk)) backs = c.in_ok-answered.ensures.ok any_chunk
     ∙ ap (λ (o : Outbound). map (λ b. answered_of_placed b (get_or o.inflight.chunks b.place any_chunk)) c.deref.result.now) c.queue.ensures
     ∙ ap (map (λ b. answered_of_placed b (get_or cs b.place any_chunk))) c.deref.ensures.value in
-    let told : c.in_ok-answered.answered.items ≡ taken_back_by s t = mapped ∙ answer-is s t ks kept current backs is any_chunk in
-    told ∙ ap (taken_back_by s) c.self.view_is
+    let answer : c.in_ok-answered.answered.items ≡ taken_back_by s t = mapped ∙ answer-is s t ks kept current backs is any_chunk in
+    answer ∙ ap (taken_back_by s) c.self.view_is
 
 pub returns-clause-ok : goal.returns-clause-ok
 returns-clause-ok c =
@@ -202,9 +203,9 @@ returns-clause-ok c =
     let mapped : c.in_ok-answered.answered.items ≡ map (λ b. answered_of_placed b (get_or cs b.place any_chunk)) backs = c.in_ok-answered.ensures.ok any_chunk
     ∙ ap (λ (o : Outbound). map (λ b. answered_of_placed b (get_or o.inflight.chunks b.place any_chunk)) c.deref.result.now) c.queue.ensures
     ∙ ap (map (λ b. answered_of_placed b (get_or cs b.place any_chunk))) c.deref.ensures.value in
-    let told : c.in_ok-answered.answered.items ≡ taken_back_by s t = mapped ∙ answer-is s t ks kept current backs is any_chunk in
+    let answer : c.in_ok-answered.answered.items ≡ taken_back_by s t = mapped ∙ answer-is s t ks kept current backs is any_chunk in
     let streams : c.return_each.new.streams ≡ after_returns (taken_back_by s t) t.streams = c.return_each.ensures
-    ∙ ap (λ rs. after_returns rs t.streams) (c.deref-3.ensures.value ∙ told) in
+    ∙ ap (λ rs. after_returns rs t.streams) (c.deref-3.ensures.value ∙ answer) in
     let new : c.restore.new.self ≡ with_restored (back_by s f t.kept) f = c.restore.ensures.restored dense is le
     ∙ ap (λ bs. with_restored bs f) (back-by-is s t ks kept current) in
     ap (λ (ls : List StreamState). let u : Transmission = record t { streams = ls; flight = c.restore.new.self } in u) streams
@@ -233,13 +234,13 @@ returns-clause-accepted c =
     let mapped : c.in_ok-answered.answered.items ≡ map (λ b. answered_of_placed b (get_or cs b.place any_chunk)) backs = c.in_ok-answered.ensures.ok any_chunk
     ∙ ap (λ (o : Outbound). map (λ b. answered_of_placed b (get_or o.inflight.chunks b.place any_chunk)) c.deref.result.now) c.queue.ensures
     ∙ ap (map (λ b. answered_of_placed b (get_or cs b.place any_chunk))) c.deref.ensures.value in
-    let told : c.in_ok-answered.answered.items ≡ taken_back_by s t = mapped ∙ answer-is s t ks kept current backs is any_chunk in
+    let answer : c.in_ok-answered.answered.items ≡ taken_back_by s t = mapped ∙ answer-is s t ks kept current backs is any_chunk in
     let room : c.is_room_for.result ≡ nat_lt (total_bytes f.queue + bytes_back c.in_ok-answered.answered.items) (2 ^ 64) = c.is_room_for.ensures
     ∙ ap (λ (o : Outbound). nat_lt (total_bytes o + bytes_back c.deref-2.result.now) (2 ^ 64)) c.queue-2.ensures
     ∙ ap (λ (rs : List TakenBack). nat_lt (total_bytes f.queue + bytes_back rs) (2 ^ 64)) c.deref-2.ensures.value in
     λ ok.
     let fits : nat_lt (total_bytes f.queue + bytes_back (taken_back_by s t)) (2 ^ 64) ≡ true =
-    ap (λ (rs : List TakenBack). nat_lt (total_bytes f.queue + bytes_back rs) (2 ^ 64)) (sym told) ∙ sym room ∙ c.if-not-is_room_for.false in
+    ap (λ (rs : List TakenBack). nat_lt (total_bytes f.queue + bytes_back rs) (2 ^ 64)) (sym answer) ∙ sym room ∙ c.if-not-is_room_for.false in
     ap (take_back_refusal s) (sym c.self.view_is) ∙ refusal-is s t ks kept current true (c.in_ok-is_current.ensures.accepted refl) fits
 
 pub returns-clause-bytes : goal.returns-clause-bytes
@@ -264,11 +265,11 @@ returns-clause-bytes c =
     let mapped : c.in_ok-answered.answered.items ≡ map (λ b. answered_of_placed b (get_or cs b.place any_chunk)) backs = c.in_ok-answered.ensures.ok any_chunk
     ∙ ap (λ (o : Outbound). map (λ b. answered_of_placed b (get_or o.inflight.chunks b.place any_chunk)) c.deref.result.now) c.queue.ensures
     ∙ ap (map (λ b. answered_of_placed b (get_or cs b.place any_chunk))) c.deref.ensures.value in
-    let told : c.in_ok-answered.answered.items ≡ taken_back_by s t = mapped ∙ answer-is s t ks kept current backs is any_chunk in
+    let answer : c.in_ok-answered.answered.items ≡ taken_back_by s t = mapped ∙ answer-is s t ks kept current backs is any_chunk in
     let new : total_bytes c.restore.new.self.queue ≡ total_bytes (with_restored dense f).queue =
     ap (λ (g : Flight). total_bytes g.queue) (c.restore.ensures.restored dense is le) in
     let back : bytes_of (restored dense cs) ≡ bytes_of cs + weight dense = back-bytes s cs ks c.self.invariant.2.inflight in
-    let answered : bytes_back c.in_ok-answered.answered.items ≡ weight dense = ap bytes_back (told ∙ ap (λ bs. answered_back bs cs)
+    let answered : bytes_back c.in_ok-answered.answered.items ≡ weight dense = ap bytes_back (answer ∙ ap (λ bs. answered_back bs cs)
     (sym (back-by-is s t ks kept current))) ∙ answered-weight dense cs le in
     let all : total_bytes c.restore.new.self.queue ≡ total_bytes f.queue + bytes_back c.in_ok-answered.answered.items = omega (arith, answered, back, new) in
     rw (← c.self.view_is) all
@@ -295,6 +296,6 @@ returns-clause-outstanding c =
     let mapped : c.in_ok-answered.answered.items ≡ map (λ b. answered_of_placed b (get_or cs b.place any_chunk)) backs = c.in_ok-answered.ensures.ok any_chunk
     ∙ ap (λ (o : Outbound). map (λ b. answered_of_placed b (get_or o.inflight.chunks b.place any_chunk)) c.deref.result.now) c.queue.ensures
     ∙ ap (map (λ b. answered_of_placed b (get_or cs b.place any_chunk))) c.deref.ensures.value in
-    let told : c.in_ok-answered.answered.items ≡ taken_back_by s t = mapped ∙ answer-is s t ks kept current backs is any_chunk in
-    let dense-told : c.in_ok-answered.answered.items ≡ answered_back dense cs = told ∙ ap (λ bs. answered_back bs cs) (sym (back-by-is s t ks kept current)) in
-    subst (λ ts. All (λ (b : TakenBack). can_resend b.tsn c.restore.new.self ≡ true) ts) (sym dense-told) (c.restore.ensures.outstanding s ks is)
+    let answer : c.in_ok-answered.answered.items ≡ taken_back_by s t = mapped ∙ answer-is s t ks kept current backs is any_chunk in
+    let dense-answer : c.in_ok-answered.answered.items ≡ answered_back dense cs = answer ∙ ap (λ bs. answered_back bs cs) (sym (back-by-is s t ks kept current)) in
+    subst (λ ts. All (λ (b : TakenBack). can_resend b.tsn c.restore.new.self ≡ true) ts) (sym dense-answer) (c.restore.ensures.outstanding s ks is)

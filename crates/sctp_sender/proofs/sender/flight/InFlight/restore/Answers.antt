@@ -5,7 +5,7 @@ use Rattle.sctp_outbound.specs.outbound_queue.OutboundQueue.{Outbound}
 use Rattle.sctp_sender.specs.Flight.{Flight, IsContiguous, can_resend}
 use Rattle.sctp_sender.specs.Keeping.{back_each, answered_back, placed, answered_of_placed, with_restored}
 use Rattle.sctp_sender.specs.declared.sender.flight.keeping.TakenBack.{TakenBack}
-use Rattle.sctp_sender.proofs.Placed.{back-length, nil-of, placed-told, put-contiguous, put-restored}
+use Rattle.sctp_sender.proofs.Placed.{back-length, nil-of, placed-answer, put-contiguous, put-restored}
 use Rattle.sctp_sender.proofs.Runs.{any_chunk}
 use Rattle.sctp_list_lemmas.proofs.Cases.{same-is}
 use Rattle.sctp_sender.proofs.TakenBacks.{outstanding}
@@ -34,9 +34,9 @@ returns-then-is_empty-clause-outstanding c = λ s ks is.
     let none : c.args.backs.items ≡ [] = nil-of c.args.backs.items (sym c.args.backs.ok.0 ∙ same-is _ 0 (sym c.is_empty.ensures ∙ c.if-is_empty.true)) in
     let cs = c.args.self.now.queue.inflight.chunks in
     let bs = back_each s cs ks in
-    let told : answered_back bs cs ≡ [] = sym (placed-told 0 bs cs any_chunk (let le = back-length s cs ks in omega (arith, le)))
+    let answer : answered_back bs cs ≡ [] = sym (placed-answer 0 bs cs any_chunk (let le = back-length s cs ks in omega (arith, le)))
     ∙ ap (map (λ b. answered_of_placed b (get_or cs b.place any_chunk))) (sym is ∙ none) in
-    let n = ap length told in
+    let n = ap length answer in
     λ k d lt. absurd (omega (arith, n, lt))
 
 pub returns-clause-restored : goal.returns-clause-restored
