@@ -70,6 +70,13 @@ placed-more n (suc i) m (Some first ∷ bs) bytes e is =
     let b : PlacedData = record { place = n; user_data = first } in
     ap (λ k. placed n (take k (Some first ∷ bs))) next ∙ ap (λ xs. b ∷ xs) (placed-more (suc n) i m bs bytes e (omega (arith, is)))
 
+-- something at a place is listed
+pub placed-some : (n k : ℕ) (bs : List Data) (bytes : List ℕ) → get_or bs k None ≡ Some bytes → 0 < length (placed n bs)
+placed-some n k [] bytes e = absurd (none-some bytes e)
+placed-some n zero (b ∷ bs) bytes e = subst (λ (x : Data). 0 < length (placed n (x ∷ bs))) (sym e) (omega arith)
+placed-some n (suc k) (None ∷ bs) bytes e = placed-some (suc n) k bs bytes e
+placed-some n (suc k) (Some first ∷ bs) bytes e = omega arith
+
 -- ## Where each stands
 
 pub placed-within : (n end : ℕ) (bs : List Data) → n + length bs ≤ end → All (λ b. b.place < end) (placed n bs)

@@ -1,6 +1,6 @@
 //! Which chunks in flight a SACK takes back, found by blocks (RFC 4960 6.2.1 D iv).
 
-ghost use Rattle.std.specs.Prelude.{◌≡◌, ℕ, List, Option, ◌∷◌, [], suc, ◌+◌, ◌<◌, ◌≤◌, ◌^◌, None, true, false, IfOk, IfErr, slice_index_or};
+ghost use Rattle.std.specs.Prelude.{◌≡◌, ℕ, List, Option, ◌∷◌, [], suc, ◌+◌, ◌<◌, ◌≤◌, ◌^◌, None, true, false, IfOk, IfErr, IsOk, slice_index_or};
 ghost use Rattle.sctp_data.specs.SelectiveAck.{sack_of};
 ghost use Rattle.sctp_outbound.specs.payload_queue.Blocks.{is_in_blocks};
 ghost use Rattle.sctp_sender.specs.declared.sender.refusal.SenderRefusal.TheVariants.{OutOfMemory};
@@ -47,6 +47,9 @@ impl InFlight {
         ensures ok { IfOk result (λ backs. backs.items ≡ placed 0 (back_each (sack_of sack.now)
             self.now.queue.inflight.chunks kept.now.user_data.items)) }
         ensures memory { IfErr result (λ e. e ≡ OutOfMemory) }
+        ensures idle { ascends_from 0 (sack_of sack.now).gap_ack_blocks ≡ true
+            → placed 0 (back_each (sack_of sack.now)
+            self.now.queue.inflight.chunks kept.now.user_data.items) ≡ [] → IsOk result }
     {
         let count = distance(self.acked_tsn, sack.cumulative_tsn_ack) as usize;
         if ascend(&sack.gap_ack_blocks, &mut Turns::new()) {
@@ -105,6 +108,9 @@ fn returning(
         ≡ return_at count blocks.now queue.now.inflight.chunks kept.now.user_data.items k)
         → IfOk result (λ backs. backs.items ≡ placed 0 bs) }
     ensures memory { IfErr result (λ e. e ≡ OutOfMemory) }
+    ensures idle { (bs : List (Option (List ℕ))) → ((k : ℕ) → slice_index_or bs k None
+        ≡ return_at count blocks.now queue.now.inflight.chunks kept.now.user_data.items k)
+        → placed 0 bs ≡ [] → IsOk result }
 {
     let mut backs = Vec::new(alloc);
     let mut at = Reached {

@@ -1,11 +1,11 @@
-use Rattle.std.proofs.Common.{◌≡◌, ◌+◌, ◌++◌, List, take, get_or, Some, None, inl, inr, refl, ap, sym, subst, ◌∙◌, arith}
+use Rattle.std.proofs.Common.{length, ◌≡◌, ◌+◌, ◌++◌, List, take, get_or, Some, None, inl, inr, refl, ap, sym, subst, ◌∙◌, arith}
 use Rattle.std.specs.Prelude.{false}
 use Rattle.std.proofs.lemmas.Bool.{cases_lt}
 use Rattle.sctp_data.specs.declared.chunk.chunk_selective_ack.GapAckBlock.{GapAckBlock}
 use Rattle.sctp_outbound.specs.payload_queue.Blocks.{is_in_blocks}
 use Rattle.sctp_sender.specs.declared.sender.flight.taking_back.PlacedData.{PlacedData}
 use Rattle.sctp_sender.specs.Keeping.{return_at}
-use Rattle.sctp_sender.proofs.Placed.{one, placed-end, placed-more, placed-same}
+use Rattle.sctp_sender.proofs.Placed.{one, placed-end, placed-more, placed-same, placed-some}
 use Rattle.sctp_sender.proofs.Returns.{none-at, none-below, some-at}
 use Rattle.sctp_sender.proofs.sender.flight.taking_back.returning.Goals as goal
 
@@ -66,3 +66,21 @@ returns-clause-ok c = λ bs is.
     c.loop-at.invariant.backs bs is
     ∙ sym (placed-end 0 c.loop-at.at.place bs (λ k low. is k ∙ none-at c.args.count c.args.blocks.now c.args.queue.now.inflight.chunks
     c.args.kept.now.user_data.items k (c.next_return.ensures.none c.loop-at-test.false k low)))
+
+pub returns-in_err-user_data-clause-idle : goal.returns-in_err-user_data-clause-idle
+returns-in_err-user_data-clause-idle c = λ bs is none.
+    let p = c.next_return.new.at.place in
+    let full = is p ∙ some-at c.args.count c.args.blocks.now c.args.queue.now.inflight.chunks c.args.kept.now.user_data.items p
+    (c.next_return.ensures.found c.loop-at-test.true) ∙ sym c.in-Some.ensures in
+    let some = placed-some 0 p bs c.in-Some.bytes.now full in
+    let n = ap length none in
+    absurd (omega (arith, some, n))
+
+pub returns-then-is_err-clause-idle : goal.returns-then-is_err-clause-idle
+returns-then-is_err-clause-idle c = λ bs is none.
+    let p = c.next_return.new.at.place in
+    let full = is p ∙ some-at c.args.count c.args.blocks.now c.args.queue.now.inflight.chunks c.args.kept.now.user_data.items p
+    (c.next_return.ensures.found c.loop-at-test.true) ∙ sym c.in-Some.ensures in
+    let some = placed-some 0 p bs c.in-Some.bytes.now full in
+    let n = ap length none in
+    absurd (omega (arith, some, n))
