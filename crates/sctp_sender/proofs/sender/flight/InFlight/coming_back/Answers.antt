@@ -50,7 +50,7 @@ returns-then-ascend-clause-idle c =
     let none = ap (sack_refusal s) c.self.view_is ∙ c.requires.taken in
     let current = ap (is_outdated s) c.self.view_is ∙ c.requires.current in
     let fits = c.distance-count.ensures.to_fits in
-    let rises : ascends_from 0 s.gap_ack_blocks ≡ true = ap (ascends_from 0) (sym c.deref.ensures.value) ∙ sym c.ascend.ensures ∙ c.if-ascend.true in
+    let rises : ascends_from 0 s.gap_ack_blocks ≡ true = ap (ascends_from 0) (sym c.deref.ensures.value) ∙ sym c.ascend.ensures.answer ∙ c.if-ascend.true in
     let sorted = c.deref-then-ascend.result.now in
     let are : AreSorted sorted s.gap_ack_blocks = subst (λ (xs : List GapAckBlock). AreSorted xs s.gap_ack_blocks) (sym c.deref-then-ascend.ensures.value)
     (record { ascend = rises; same = λ n pos. refl }) in
