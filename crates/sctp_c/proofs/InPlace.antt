@@ -58,6 +58,30 @@ is_sack bytes value t old_blocks blocks old_duplicates duplicates chunk is heade
       repeats = rw (many, repeats) at numbers;
     }
 
+-- the same by its fields
+pub sack_made : (bytes value : List ℕ) (tsn credit blocks duplicates : ℕ) (gaps : List GapAckBlock) (numbers : List ℕ) → IsChunk 3 bytes
+    → value ≡ value_at bytes → 12 ≤ length value → 12 + 4 * blocks_in value + 4 * duplicates_in value ≤ length value → tsn ≡ u32_at value 0
+    → credit ≡ u32_at value 4 → blocks ≡ blocks_in value → duplicates ≡ duplicates_in value → gaps ≡ each blocks (λ i. block_at value (12 + 4 * i))
+    → numbers ≡ each duplicates (λ i. u32_at value (12 + 4 * blocks + 4 * i))
+    → ReadsChunk bytes (sack_chunk (record {
+      cumulative_tsn_ack = tsn;
+      advertised_receiver_window_credit = credit;
+      gap_ack_blocks = gaps;
+      duplicate_tsn = numbers;
+    }))
+sack_made bytes value tsn credit blocks duplicates gaps numbers chunk is headed long at_tsn at_credit many repeats at_gaps at_numbers =
+    let own : record {
+      cumulative_tsn_ack = tsn;
+      advertised_receiver_window_credit = credit;
+      gap_ack_blocks = gaps;
+      duplicate_tsn = numbers;
+    } ≡ sack_in value = rw (at_tsn, at_credit, at_gaps, at_numbers, many, repeats) refl in
+    record {
+      is_framed = chunk.0;
+      typ = chunk.1;
+      value = record { headed = rw is at headed; long = rw is at long; fields = own ∙ ap sack_in is };
+    }
+
 pub data_kind : (e : Error) (bytes : List ℕ) → type_at bytes ≡ 0 → DataFault e bytes → KindFault e bytes
 unfolding KindFault
 data_kind e bytes typ fault = inr (inr (inl (typ, fault)))

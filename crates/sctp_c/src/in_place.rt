@@ -1,18 +1,20 @@
 //! Chunks read where they lie (RFC 4960 3.2): DATA and SACK without a copy, another kind over a copy of its chunk alone.
 
 ghost use Rattle.std.specs.Prelude.{◌≡◌, ◌+◌, ◌*◌, ◌≤◌, ◌<◌, length, IfOk, IfErr, OnOk, IsOk, IsOkUnless};
+ghost use Rattle.sctp_base.specs.Each.{each};
+ghost use Rattle.sctp_base.specs.Field.{u32_at};
 ghost use Rattle.sctp_base.specs.Outcome.{OrMemory};
 ghost use Rattle.sctp_base.specs.Padding.{padded_length};
 ghost use Rattle.sctp_base.specs.declared.error.Error.TheVariants.{ErrOutOfMemory, ErrParseSctpChunkNotEnoughData};
 ghost use Rattle.sctp_chunks.specs.Fault.{DataFault, HeaderFault, IsChunk, OpenFault, SackFault};
 ghost use Rattle.sctp_chunks.specs.Framing.{IsFramed, declared_length, value_at};
 ghost use Rattle.sctp_chunks.specs.Kind.{KindFault};
-ghost use Rattle.sctp_chunks.specs.Wire.{Wire, ReadsChunk, data_chunk};
+ghost use Rattle.sctp_chunks.specs.Wire.{Wire, ReadsChunk, data_chunk, sack_chunk};
 ghost use Rattle.sctp_data.specs.ChunkSet.{IsFreshData};
 ghost use Rattle.sctp_data.specs.PayloadData.{data_of};
 ghost use Rattle.sctp_c.specs.AnyChunks as any;
 ghost use Rattle.sctp_c.specs.Head.{IsInPlace};
-ghost use Rattle.sctp_data.specs.SelectiveAck.{blocks_in, duplicates_in};
+ghost use Rattle.sctp_data.specs.SelectiveAck.{block_at, blocks_in, duplicates_in, sack_of};
 
 use bytes::Bytes;
 use sctp_base::error::{Error, Result};
@@ -25,7 +27,9 @@ use sctp_chunks::chunk::chunk_payload_data::{
     ChunkPayloadData, PAYLOAD_DATA_BEGINING_FRAGMENT_BITMASK, PAYLOAD_DATA_ENDING_FRAGMENT_BITMASK,
     PAYLOAD_DATA_HEADER_SIZE, PAYLOAD_DATA_IMMEDIATE_SACK, PAYLOAD_DATA_UNORDERED_BITMASK,
 };
-use sctp_chunks::chunk::chunk_selective_ack::SELECTIVE_ACK_HEADER_SIZE;
+use sctp_chunks::chunk::chunk_selective_ack::{
+    ChunkSelectiveAck, GapAckBlock, SELECTIVE_ACK_HEADER_SIZE,
+};
 use std::alloc::Global;
 
 /// Whether a chunk of a type is read.
@@ -140,6 +144,55 @@ pub fn read_data(alloc: Global, bytes: &[u8]) -> Result<ChunkPayloadData>
         deadline: None,
         nsent: 0,
         retransmit: false,
+    })
+}
+
+// The gap ack blocks in the value of a SACK that has so many. Refuses only for memory.
+#[tactic(auto, using(sctp_base::proofs::EachAt::each_none, sctp_base::proofs::EachAt::each_next))]
+fn read_gaps(alloc: Global, value: &[u8], count: usize) -> Result<Vec<GapAckBlock>>
+    requires { 12 + 4 * count ≤ length value.now }
+    ensures ok { IfOk result (λ v. v.items ≡ each count (λ i. block_at value.now (12 + 4 * i))) }
+    ensures memory { IsOkUnless result ErrOutOfMemory }
+{
+    let mut gaps = Vec::new(alloc);
+    for i in 0..count {
+        let at = SELECTIVE_ACK_HEADER_SIZE + 4 * i;
+        let (start, end) = (read_u16(value, at), read_u16(value, at + 2));
+        gaps.push(GapAckBlock { start, end })?;
+    }
+    Ok(gaps)
+}
+
+// So many numbers of four bytes, from a place on. Refuses only for memory.
+#[tactic(auto, using(sctp_base::proofs::EachAt::each_none, sctp_base::proofs::EachAt::each_next))]
+fn read_numbers(alloc: Global, bytes: &[u8], at: usize, count: usize) -> Result<Vec<u32>>
+    requires { at + 4 * count ≤ length bytes.now }
+    ensures ok { IfOk result (λ v. v.items ≡ each count (λ i. u32_at bytes.now (at + 4 * i))) }
+    ensures memory { IsOkUnless result ErrOutOfMemory }
+{
+    let mut numbers = Vec::new(alloc);
+    for i in 0..count {
+        numbers.push(read_u32(bytes, at + 4 * i))?;
+    }
+    Ok(numbers)
+}
+
+/// Reads a SACK: its gap ack blocks and duplicates alone take memory. Refuses as `ChunkSelectiveAck::unmarshal` does, or for memory.
+pub fn read_sack(alloc: Global, bytes: &[u8]) -> Result<ChunkSelectiveAck>
+    ensures found { IfOk result (λ c. ReadsChunk bytes.now (sack_chunk (sack_of c))) }
+    ensures fault { IfErr result (λ e. OrMemory e (SackFault e bytes.now)) }
+{
+    let value = sack_value(bytes)?;
+    let blocks = read_u16(value, 8) as usize;
+    let duplicates = read_u16(value, 10) as usize;
+    let gap_ack_blocks = read_gaps(alloc, value, blocks)?;
+    let behind = SELECTIVE_ACK_HEADER_SIZE + 4 * blocks;
+    let duplicate_tsn = read_numbers(alloc, value, behind, duplicates)?;
+    Ok(ChunkSelectiveAck {
+        cumulative_tsn_ack: read_u32(value, 0),
+        advertised_receiver_window_credit: read_u32(value, 4),
+        gap_ack_blocks,
+        duplicate_tsn,
     })
 }
 
