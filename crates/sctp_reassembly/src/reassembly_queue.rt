@@ -419,7 +419,8 @@ impl ReassemblyQueue {
         ensures memory { IfErr result (λ e. e ≡ ErrOutOfMemory) }
         ensures not_back { turns.old ≤ turns.new }
         ensures cost { FitsInOrder chunk self.old.held → (first last : ℕ)
-            → Joins chunk self.old.held first last → turns.new ≤ turns.old + 4 * (last - first) + 10 }
+            → Joins chunk self.old.held first last
+            → turns.new ≤ turns.old + 4 * (last - first) + 10 }
         ensures few { FitsInOrder chunk self.old.held → (first last : ℕ)
             → Joins chunk self.old.held first last → IsAtEnd chunk place first last
             → turns.new ≤ turns.old + 7 }
@@ -646,8 +647,8 @@ impl ReassemblyQueue {
         ensures value { self.new ≡ after_unordered_skip new_cumulative_tsn self.old }
         ensures counted { IsCounted self.old → IsCounted self.new }
         ensures not_back { turns.old ≤ turns.new }
-        ensures few { StandsInOrder self.old.held → turns.new
-            ≤ turns.old + 3 * length (leading_upto new_cumulative_tsn self.old.held.unassembled) + 1 }
+        ensures few { StandsInOrder self.old.held → turns.new ≤ turns.old
+            + 3 * length (leading_upto new_cumulative_tsn self.old.held.unassembled) + 1 }
         ensures walk { turns.new ≤ turns.old + unordered_skip_walk self.old.held }
     {
         let unassembled = self.unordered_chunks.unassembled();

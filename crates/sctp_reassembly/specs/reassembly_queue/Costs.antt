@@ -37,12 +37,14 @@ pub record FitsInOrder (x : ChunkPayloadData) (q : Reassembly) : Type 0 where
 -- the fragments with which it makes the longest stretch of TSNs up by one stand from one place to another, itself among them
 abbrev pub Joins : ChunkPayloadData → Reassembly → ℕ → ℕ → Type 0
 Joins x q first last =
-    IsStretch (insert_before chunk_before x q.unassembled) (place_among x.tsn q.unassembled) first last
+    IsStretch (insert_before chunk_before x q.unassembled)
+    (place_among x.tsn q.unassembled) first last
 
 -- it stands at an end of these, and its message goes on beyond: at the back it does not end, or at the front it does not begin
 abbrev pub IsAtEnd : ChunkPayloadData → ℕ → ℕ → ℕ → Type 0
 IsAtEnd x place first last =
-    ((last ≡ place) × (x.ending_fragment ≡ false)) ⊎ ((first ≡ place) × (x.beginning_fragment ≡ false))
+    ((last ≡ place) × (x.ending_fragment ≡ false))
+    ⊎ ((first ≡ place) × (x.beginning_fragment ≡ false))
 
 -- and with all unassembled fragments it is no longer than one message may be: so of a message that comes in order, or reversed
 pub record JoinsAtEnd (x : ChunkPayloadData) (q : ReassemblyState) (first last : ℕ) : Type 0 where
