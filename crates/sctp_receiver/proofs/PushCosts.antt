@@ -1,7 +1,8 @@
 -- What a DATA chunk looks at.
 use Rattle.std.proofs.Common.{◌≡◌, length, ℕ, ◌+◌, ◌-◌, ◌≤◌, true, false, Option, Some, None, refl, arith}
 use Rattle.sctp_data.specs.declared.chunk.chunk_payload_data.ChunkPayloadData.{ChunkPayloadData}
-use Rattle.sctp_reassembly.specs.reassembly_queue.Costs.{ordered_push_looks, ordered_push_walk, FitsInOrder, Joins, JoinsAtEnd, unordered_push_looks, unordered_push_walk}
+use Rattle.sctp_reassembly.specs.reassembly_queue.Costs.{ordered_push_looks, ordered_push_walk, FitsInOrder, Joins, JoinsAtEnd, unordered_push_looks}
+use Rattle.sctp_reassembly.specs.reassembly_queue.Costs.{unordered_push_walk}
 use Rattle.sctp_reassembly.specs.reassembly_queue.Orders.{digits, IsOrderly}
 use Rattle.sctp_reassembly.specs.reassembly_queue.ReassemblyQueue.{ReassemblyState, held_after_ordered_push}
 use Rattle.sctp_receiver.specs.declared.receiver.inbound_streams.InboundStream.{InboundStream}
