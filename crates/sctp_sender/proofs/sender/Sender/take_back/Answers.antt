@@ -297,5 +297,6 @@ returns-clause-outstanding c =
     ∙ ap (λ (o : Outbound). map (λ b. answered_of_placed b (get_or o.inflight.chunks b.place any_chunk)) c.deref.result.now) c.queue.ensures
     ∙ ap (map (λ b. answered_of_placed b (get_or cs b.place any_chunk))) c.deref.ensures.value in
     let answer : c.in_ok-answered.answered.items ≡ taken_back_by s t = mapped ∙ answer-is s t ks kept current backs is any_chunk in
-    let dense-answer : c.in_ok-answered.answered.items ≡ answered_back dense cs = answer ∙ ap (λ bs. answered_back bs cs) (sym (back-by-is s t ks kept current)) in
+    let dense-answer : c.in_ok-answered.answered.items ≡ answered_back dense cs =
+    answer ∙ ap (λ bs. answered_back bs cs) (sym (back-by-is s t ks kept current)) in
     subst (λ ts. All (λ (b : TakenBack). can_resend b.tsn c.restore.new.self ≡ true) ts) (sym dense-answer) (c.restore.ensures.outstanding s ks is)
