@@ -13,7 +13,6 @@ pub mod DataEach
 pub mod Weights
 pub mod CompleteMessages
 pub mod OneMessage
-pub mod Readable
 pub mod Ssns
 pub mod Handed
 pub mod Closed

@@ -6,5 +6,5 @@ use Rattle.crc32c.proofs.steps.four_alone.Goals as goal
 
 pub returns : goal.returns
 returns c r =
-    four-beside c.args.zeros r c.args.four.now c.answered-four
+    four-beside c.args.zeros r c.args.four.now c.told-four
     ∙ ap (bit_xor (zero_bytes (c.args.zeros + 4) r)) (sym c.four_then_zeros.ensures)

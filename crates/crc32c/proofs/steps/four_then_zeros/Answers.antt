@@ -8,4 +8,4 @@ pub returns : goal.returns
 returns c =
     c.word_after_zeros.ensures
     ∙ (λ i. zero_bytes (c.args.zeros + 4) (bit_xor c.args.remainder (c.from_le_bytes.ensures i)))
-    ∙ four-zero_bytes c.args.zeros c.args.remainder c.args.four.now c.answered-four c.fits-four
+    ∙ four-zero_bytes c.args.zeros c.args.remainder c.args.four.now c.told-four c.fits-four

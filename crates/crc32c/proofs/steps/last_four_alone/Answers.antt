@@ -11,8 +11,8 @@ returns c r =
     let second : get_or four 1 0 ≡ c.from-2.result % 256 = omega (arith, c.fits-four 1) in
     let third : get_or four 2 0 ≡ c.from-3.result % 256 = omega (arith, c.fits-four 2) in
     let fourth : get_or four 3 0 ≡ c.from-4.result % 256 = omega (arith, c.fits-four 3) in
-    fold-beside four r 4 c.answered-four
-    ∙ ap (bit_xor (zero_bytes 4 r)) (each_of_four four c.answered-four
+    fold-beside four r 4 c.told-four
+    ∙ ap (bit_xor (zero_bytes 4 r)) (each_of_four four c.told-four
     ∙ (λ i. bit_xor (bit_xor (zero_bytes 4 (first i)) (zero_bytes 3 (second i)))
     (bit_xor (zero_bytes 2 (third i)) (zero_bytes 1 (fourth i))))
     ∙ sym (λ i. bit_xor (bit_xor (c.after_zeros.ensures i) (c.after_zeros-2.ensures i))

@@ -14,7 +14,7 @@ returns c =
     let last = c.last_four_alone.result in
     let third = bit_xor c.four_alone.result last in
     let second = bit_xor c.four_alone-2.result third in
-    sym (ap (fold (fold byte_step) c.args.remainder) (four_items [] fours c.answered-fours)
+    sym (ap (fold (fold byte_step) c.args.remainder) (four_items [] fours c.told-fours)
     ∙ c.last_four_alone.ensures three
     ∙ ap (λ n. bit_xor n last) (c.four_alone.ensures two)
     ∙ xor_assoc (zero_bytes 8 two) c.four_alone.result last
