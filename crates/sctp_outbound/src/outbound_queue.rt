@@ -1,6 +1,6 @@
 //! What waits to be sent and what is in flight.
 
-ghost use Rattle.std.specs.Prelude.{◌≡◌, ◌==◌, ℕ, Bool, ◌⊎◌, ◌+◌, ◌^◌, ◌<◌, ◌≤◌, ◌||◌, [], length, map, max, false, true, OnOk, OnErr, OnSome, IfOk, IfSome, IsOk, IsOkUnless, IsSome, IsTrue, find, is_some, unwrap_or, option_copied, slice_get, slice_index_or, slice_set, if◌then◌else◌};
+ghost use Rattle.std.specs.Prelude.{◌≡◌, ◌==◌, ℕ, Bool, ◌⊎◌, ◌+◌, ◌^◌, ◌<◌, ◌≤◌, ◌||◌, [], length, map, max, false, true, OnOk, OnErr, OnSome, IfOk, IfSome, IsOk, IsOkUnless, IsSome, IsTrue, find, is_some, unwrap_or, option_copied, Some, slice_get, slice_index_or, slice_set, if◌then◌else◌};
 ghost use Rattle.std.specs.Option.{option_map};
 ghost use Rattle.std.specs.List.{list_any};
 ghost use Rattle.sctp_data.specs.Reliability.{is_past};
@@ -14,9 +14,11 @@ ghost use Rattle.sctp_serial.specs.Window.{SpansOneWindow, is_held};
 ghost use Rattle.sctp_serial.specs.DataChunks.{has_tsn, bytes_of, following_tsn, is_on};
 ghost use Rattle.sctp_outbound.specs.outbound_queue.OutboundQueue.{is_expired, is_expired_tail, is_late, released_of, expired_bytes, tail_bytes};
 
+mod expiry;
 mod message;
 mod waiting;
 
+pub use self::expiry::ExpiredRun;
 use self::message::{is_message_or_none, is_room_for};
 use crate::payload_queue::{PayloadQueue, is_outstanding};
 use crate::pending_queue::PendingQueue;
@@ -339,6 +341,7 @@ impl OutboundQueue {
     fn abandon_with_tail(&mut self, message_id: u64, places: (usize, usize), tsn: u32) -> usize
         requires between { IsBetween message_id places.0 places.1 self.old.inflight.chunks }
         requires tail { waits message_id self.old.pending ≡ true }
+        requires partial { partially_sent self.old.pending ≡ Some message_id }
         requires room { 0 < self.old.inflight.room }
         requires fresh { is_held self.old.inflight.chunks tsn ≡ false }
         requires window { SpansOneWindow self.old.inflight.chunks tsn }
@@ -347,7 +350,7 @@ impl OutboundQueue {
     {
         let (start, end) = places;
         let in_flight = self.inflight.abandon_between(message_id, start, end);
-        let (pending, last) = self.pending.remove_message(message_id);
+        let (pending, last) = self.pending.pop_message(message_id);
         let Some(mut mark) = last else { unreachable!() };
         mark.tsn = tsn;
         mark.beginning_fragment = false;
@@ -382,28 +385,30 @@ impl OutboundQueue {
         let message_id = chunk.message_id;
         let bytes = self.remove_pending(message_id);
         if !unordered {
-            self.compact_ordered_ssns(stream_identifier);
+            self.lower_ordered_ssns(stream_identifier, 1);
         }
         Some((stream_identifier, unordered, bytes))
     }
 
-    // Removes what waits of a message, and answers its bytes.
+    // Removes what waits of the message in front, and answers its bytes.
     fn remove_pending(&mut self, message_id: u64) -> usize
+        requires { option_map (λ c. c.message_id) (pending.next_pending self.old.pending)
+            ≡ Some message_id }
         ensures released { total_bytes self.new + result ≡ total_bytes self.old }
         ensures removed { self.new
             ≡ record self.old { pending = pending.without message_id self.old.pending } }
     {
-        let (bytes, _) = self.pending.remove_message(message_id);
+        let (bytes, _) = self.pending.pop_message(message_id);
         bytes
     }
 
-    // Lowers the numbers of a stream's ordered messages that wait by one.
-    fn compact_ordered_ssns(&mut self, stream_identifier: u16)
+    // Lowers the numbers of a stream's ordered messages that wait by so many.
+    fn lower_ordered_ssns(&mut self, stream_identifier: u16, by: u16)
         ensures bytes { total_bytes self.new ≡ total_bytes self.old }
-        ensures closed_up { self.new
-            ≡ record self.old { pending = pending.closed_up stream_identifier self.old.pending } }
+        ensures lowered { self.new
+            ≡ record self.old { pending = pending.lowered stream_identifier by self.old.pending } }
     {
-        self.pending.compact_ordered_ssns(stream_identifier);
+        self.pending.lower_ordered_ssns(stream_identifier, by);
     }
 
     /// Abandons the rest of the partially sent message in front, where it is past its deadline, as `abandon` does;

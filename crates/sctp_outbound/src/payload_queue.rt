@@ -14,6 +14,7 @@ ghost use Rattle.sctp_outbound.specs.Stored.{NoneBefore};
 ghost use Rattle.sctp_outbound.specs.Marks.{IsBetween, is_outstanding};
 ghost use Rattle.sctp_outbound.specs.payload_queue.Blocks.{IsFirstAfter, IsRunUntil, Reports, gap_offsets, ends_of, is_offset, gap_text};
 
+mod arrival;
 mod blocks;
 pub mod held;
 mod room;
@@ -93,23 +94,24 @@ fn search<'a>(
     Err(low)
 }
 
-// Where a chunk with this TSN goes, unless it is held: mostly behind the last.
-fn free_place(held: &Held, tsn: u32) -> Option<usize>
+// Where a chunk with this TSN goes, unless it is held: mostly behind the last. A look at the last, then a search.
+fn free_place(held: &Held, tsn: u32, turns: &mut Turns) -> Option<usize>
     requires { IsSerial held.now.chunks }
     ensures free { is_some result ≡ not (is_held held.now.chunks tsn) }
     ensures place { IfSome result (IsPlaceFor held.now.chunks tsn) }
     ensures fits { tsn < 2 ^ 32 }
+    ensures not_back { turns.old ≤ turns.new }
+    ensures cost { IsWithinDigits (length held.now.chunks) (turns.new - turns.old - 1) }
 {
-    let mut turns = Turns::new();
     let len = held.len();
     if len == 0 {
         return Some(0);
     }
-    let last = held.look(len - 1, &mut turns);
+    let last = held.look(len - 1, turns);
     if sna32lt(last.tsn, tsn) {
         return Some(len);
     }
-    match search(held, tsn, &mut turns) {
+    match search(held, tsn, turns) {
         Ok(_) => None,
         Err(place) => Some(place),
     }
@@ -304,7 +306,7 @@ impl PayloadQueue {
         ensures exact { is_held self.now.chunks tsn ≡ false
             → SpansOneWindow self.now.chunks tsn → result ≡ true }
     {
-        span_one_window(&self.held, tsn) && free_place(&self.held, tsn).is_some()
+        span_one_window(&self.held, tsn) && free_place(&self.held, tsn, &mut Turns::new()).is_some()
     }
 
     /// Puts a chunk whose TSN is not held, in one window with all that are.
@@ -320,39 +322,10 @@ impl PayloadQueue {
         ensures memory { IsOkUnless result ErrOutOfMemory }
         ensures succeeds { 0 < self.old.room → IsOk result }
     {
-        match free_place(&self.held, chunk.tsn) {
+        match free_place(&self.held, chunk.tsn, &mut Turns::new()) {
             Some(place) => self.insert(place, chunk),
             None => unreachable!(),
         }
-    }
-
-    /// Puts a chunk that came. One that is held, or at or before `cumulative_tsn`, is noted as
-    /// a duplicate, which the next SACK reports (RFC 4960 3.3.4); the answer is false then.
-    /// Precondition: where the chunk is new (`can_push`), it and all that is held lie at
-    /// distance 1 to 2^31 after `cumulative_tsn` (`fits` tells), and the bytes of all are fewer than 2^64.
-    /// Refuses only for memory, and a new chunk never within the room of `reserve`. The queue is as it was then.
-    pub fn push(&mut self, chunk: ChunkPayloadData, cumulative_tsn: u32) -> Result<bool>
-        requires window { IsTrue (is_new self.old.chunks chunk.tsn cumulative_tsn)
-            → IsWindow cumulative_tsn self.old.chunks chunk.tsn }
-        requires bytes { IsTrue (is_new self.old.chunks chunk.tsn cumulative_tsn)
-            → bytes_of self.old.chunks + length chunk.user_data < 2 ^ 64 }
-        ensures answer { IfOk result (λ new. new
-            ≡ is_new self.old.chunks chunk.tsn cumulative_tsn) }
-        ensures ok { IfOk result (λ new. self.new
-            ≡ (if new then push_chunk self.old chunk else add_duplicate self.old chunk.tsn)) }
-        ensures err { OnErr result (self.new ≡ self.old) }
-        ensures memory { IsOkUnless result ErrOutOfMemory }
-        ensures succeeds { 0 < self.old.room
-            → IsTrue (is_new self.old.chunks chunk.tsn cumulative_tsn) → IsOk result }
-    {
-        if let Some(place) = free_place(&self.held, chunk.tsn) {
-            if !sna32lte(chunk.tsn, cumulative_tsn) {
-                self.insert(place, chunk)?;
-                return Ok(true);
-            }
-        }
-        self.dup_tsn.push(chunk.tsn)?;
-        Ok(false)
     }
 
     // Puts a chunk where it goes.

@@ -1,11 +1,11 @@
 //! Fragments that wait to be sent.
 
-ghost use Rattle.std.specs.Prelude.{◌≡◌, ◌==◌, ◌+◌, ◌^◌, ◌<◌, ◌≤◌, ◌||◌, [], length, map, OnOk, OnErr, IsOk, IsOkUnless, IfSome, IfNone, option_copied, slice_get, true};
+ghost use Rattle.std.specs.Prelude.{◌≡◌, ◌==◌, ◌+◌, ◌^◌, ◌<◌, ◌≤◌, ◌||◌, [], length, map, OnOk, OnErr, IsOk, IsOkUnless, IfSome, IfNone, option_copied, slice_get, true, false};
 ghost use Rattle.std.specs.List.{list_any};
 ghost use Rattle.sctp_base.specs.declared.error.Error.TheVariants.{ErrOutOfMemory};
 ghost use Rattle.sctp_outbound.specs.Marks.{is_of};
 ghost use Rattle.sctp_outbound.specs.outbound_queue.OutboundQueue.{append_chunks, with_message_id};
-ghost use Rattle.sctp_outbound.specs.pending_queue.Whole.{NumbersAscend, has_end, order_of, ordered_first};
+ghost use Rattle.sctp_outbound.specs.pending_queue.Whole.{AreWhole, NumbersAscend, order_of, ordered_first, stage_of, stand_in_front};
 ghost use Rattle.sctp_serial.specs.DataChunks.{bytes_of, is_on};
 ghost use Rattle.sctp_outbound.specs.pending_queue.PendingQueue.{list_to_pop, selected_after, selected_without};
 
@@ -54,7 +54,7 @@ impl Model for PendingQueue {
 }
 
 impl PendingQueue {
-    ghost use Rattle.sctp_outbound.specs.pending_queue.PendingQueue.{Pending, chunk_count, total_bytes, room_for, with_room, push_pending, next_pending, chunk_to_pop, rest_after, list_of, rest_of, removed_bytes, last_removed, without, closed_up, start_pending};
+    ghost use Rattle.sctp_outbound.specs.pending_queue.PendingQueue.{Pending, chunk_count, total_bytes, room_for, with_room, push_pending, next_pending, chunk_to_pop, rest_after, list_of, rest_of, removed_bytes, last_removed, without, closed_up, lowered, start_pending};
 
     /// A queue of nothing. It takes no memory.
     pub fn new(alloc: Global) -> Self
@@ -151,9 +151,9 @@ impl PendingQueue {
     }
 
     /// The chunk that goes after so many others.
-    /// Precondition: where the partially sent message is ordered, its ending fragment waits.
+    /// Precondition: ordered messages wait whole, but for the partially sent one, which is in front.
     pub(crate) fn peek_at(&self, index: usize) -> Option<&ChunkPayloadData>
-        requires { has_end self.now.selected self.now.ordered ≡ true }
+        requires { AreWhole false (stage_of false self.now.selected) self.now.ordered }
         ensures { option_copied result ≡ slice_get (order_of self.now) index }
     {
         let Some(first) = self.ordered_first(index) else {
@@ -168,7 +168,7 @@ impl PendingQueue {
 
     // How many ordered chunks go before the unordered ones, where they are at most `most`.
     fn ordered_first(&self, most: usize) -> Option<usize>
-        requires { has_end self.now.selected self.now.ordered ≡ true }
+        requires { AreWhole false (stage_of false self.now.selected) self.now.ordered }
         ensures some { IfSome result (λ n. (n ≡ ordered_first self.now.selected self.now.ordered)
             × (n ≤ most)) }
         ensures none { IfNone result (most < ordered_first self.now.selected self.now.ordered) }
@@ -178,7 +178,7 @@ impl PendingQueue {
                 if selected.unordered {
                     return Some(0);
                 }
-                self.ordered.until_end(most)
+                self.ordered.until_end(selected.message_id, most)
             }
             None => Some(0),
         }
@@ -225,7 +225,14 @@ impl PendingQueue {
     pub fn compact_ordered_ssns(&mut self, stream_identifier: u16)
         ensures { self.new ≡ closed_up stream_identifier self.old }
     {
-        self.ordered.lower_ssns(stream_identifier);
+        self.lower_ordered_ssns(stream_identifier, 1);
+    }
+
+    /// The same for so many messages that were removed, in one walk. It takes no memory.
+    pub(crate) fn lower_ordered_ssns(&mut self, stream_identifier: u16, by: u16)
+        ensures { self.new ≡ lowered stream_identifier by self.old }
+    {
+        self.ordered.lower_ssns(stream_identifier, by);
     }
 
     /// Removes what waits of a message, the ordered chunks first, and answers its bytes and the chunk
@@ -244,6 +251,21 @@ impl PendingQueue {
             ordered_bytes + unordered_bytes,
             unordered_last.or(ordered_last),
         )
+    }
+
+    /// As `remove_message`, where what waits of the message stands in front: it looks at that, and at the next chunk of each list.
+    /// Precondition: in neither list does a chunk of the message stand behind one of another.
+    pub(crate) fn pop_message(&mut self, message_id: u64) -> (usize, Option<ChunkPayloadData>)
+        requires ordered { stand_in_front message_id self.old.ordered ≡ true }
+        requires unordered { stand_in_front message_id self.old.unordered ≡ true }
+        ensures left { total_bytes self.new + result.0 ≡ total_bytes self.old }
+        ensures last { result.1 ≡ last_removed message_id self.old }
+        ensures rest { self.new ≡ without message_id self.old }
+    {
+        let (ordered, last_ordered) = self.ordered.pop_message(message_id);
+        let (unordered, last_unordered) = self.unordered.pop_message(message_id);
+        self.selected = selected_without(self.selected, message_id);
+        (ordered + unordered, last_unordered.or(last_ordered))
     }
 
     /// The bytes of user data of all that waits.

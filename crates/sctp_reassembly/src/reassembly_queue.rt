@@ -1,6 +1,6 @@
 //! Fragments that become messages again (RFC 4960 6.5, 6.6).
 
-ghost use Rattle.std.specs.Prelude.{◌≡◌, ℕ, ◌==◌, nat_lt, ◌+◌, ◌-◌, ◌*◌, ◌%◌, ◌^◌, ◌<◌, ◌≤◌, [], ◌∷◌, length, map, min, OnOk, OnErr, true, false, IfOk, IfErr, IfSome, IfNone, IsOk, IsTrue, Ok, Err, Some, None, MatchOption, not, is_some, option_map, slice_index_or, if◌then◌else◌};
+ghost use Rattle.std.specs.Prelude.{◌≡◌, ℕ, insert, ◌==◌, nat_lt, ◌+◌, ◌-◌, ◌*◌, ◌%◌, ◌^◌, ◌<◌, ◌≤◌, [], ◌∷◌, length, map, min, OnOk, OnErr, true, false, IfOk, IfErr, IfSome, IfNone, IsOk, IsTrue, Ok, Err, Some, None, MatchOption, not, is_some, option_map, slice_index_or, if◌then◌else◌};
 ghost use Rattle.std.specs.List.{list_any, position_or_len, filter};
 ghost use Rattle.sctp_list_lemmas.specs.Serial.{comes_before16, at_or_before, at_or_before16};
 ghost use Rattle.sctp_reassembly.specs.reassembly_queue.ReassemblyQueue.{is_passed, set_bytes, set_of_run};
@@ -8,11 +8,11 @@ ghost use Rattle.sctp_reassembly.specs.reassembly_queue.Fragments.{has_ssn, chun
 ghost use Rattle.sctp_serial.specs.DataChunks.{bytes_of};
 ghost use Rattle.sctp_reassembly.specs.reassembly_queue.Loose.{place_among};
 ghost use Rattle.sctp_reassembly.specs.reassembly_queue.Sizes.{projected_size, size_before, size_after};
-ghost use Rattle.sctp_serial.specs.Runs.{HasNoRun};
+ghost use Rattle.sctp_serial.specs.Runs.{HasNoRun, IsStretch};
 ghost use Rattle.sctp_serial.specs.Window.{IsSerial};
 ghost use Rattle.sctp_serial.specs.Ascending.{IsAscending, upper_half};
 ghost use Rattle.sctp_reassembly.specs.reassembly_queue.Orders.{digits, IsOrderly};
-ghost use Rattle.sctp_reassembly.specs.reassembly_queue.Costs.{ordered_push_looks, ordered_push_walk, read_walk};
+ghost use Rattle.sctp_reassembly.specs.reassembly_queue.Costs.{ordered_push_looks, ordered_push_walk, read_walk, FitsInOrder, Joins, unordered_push_looks, unordered_push_walk, StandsInOrder, unordered_skip_walk, ordered_skip_walk};
 ghost use Rattle.sctp_reassembly.specs.reassembly_queue.Skips.{after_bounded_skip, applicable, is_upto};
 ghost use Rattle.sctp_reassembly.specs.reassembly_queue.Undo.{undone, CanUndo};
 ghost use Rattle.sctp_base.specs.declared.error.Error.TheVariants.{ErrOutOfMemory, ErrInboundPacketTooLarge};
@@ -84,7 +84,7 @@ impl Model for ReassemblyQueue {
 }
 
 impl ReassemblyQueue {
-    ghost use Rattle.sctp_reassembly.specs.reassembly_queue.ReassemblyQueue.{ReassemblyState, message_read, rest_read, state_read, at_start, after_ordered_skip, after_unordered_skip, is_too_large, after_ordered_push, is_complete_with, PushesUnordered, GivesRun, IsCounted, held_bytes, held_chunks, bytes_read, complete_sets};
+    ghost use Rattle.sctp_reassembly.specs.reassembly_queue.ReassemblyQueue.{ReassemblyState, message_read, rest_read, state_read, at_start, after_ordered_skip, after_unordered_skip, is_too_large, after_ordered_push, is_complete_with, PushesUnordered, GivesRun, IsCounted, held_bytes, held_chunks, bytes_read, complete_sets, leading_upto};
 
     /// An empty queue of the stream `si`, which takes messages of at most `max_message_size`
     /// bytes and expects the stream sequence number 0 first (RFC 4960 6.5). It takes no memory.
@@ -226,10 +226,12 @@ impl ReassemblyQueue {
         Ok(whole)
     }
 
-    /// The same, and what an ordered chunk looks at is added: a turn for each look at a set or at a fragment. Moves of
-    /// pointers are no turns, and no turn of an unordered chunk is counted.
-    /// Where the numbers of the sets and the TSNs in each ascend within half a circle (`IsOrderly`), before and after, the turns are
-    /// at most `ordered_push_looks`, and `ordered_push_walk` whatever the numbers.
+    /// The same, and what it looks at is added: a turn for each look at a set or at a fragment. Moves of pointers are no turns.
+    /// Of an ordered chunk, where the numbers of the sets and the TSNs in each ascend within half a circle (`IsOrderly`), before and
+    /// after, the turns are at most `ordered_push_looks`, and `ordered_push_walk` whatever the numbers. Of an unordered one, where the
+    /// TSNs of all unassembled fragments ascend with it within half a circle (`FitsInOrder`), they are at most `unordered_push_looks`: the
+    /// digits of their number, and five for each other one of the longest stretch of TSNs that it joins; and `unordered_push_walk`
+    /// whatever is held.
     pub fn push_counted(&mut self, chunk: ChunkPayloadData, turns: &mut Turns) -> Result<bool>
         ensures other_stream { (chunk.stream_identifier == self.old.si) ≡ false
             → (result ≡ Ok false) × (self.new ≡ self.old) }
@@ -250,6 +252,11 @@ impl ReassemblyQueue {
             → turns.new ≤ turns.old + ordered_push_looks chunk self.old.held }
         ensures ordered_walk { chunk.unordered ≡ false
             → turns.new ≤ turns.old + ordered_push_walk chunk self.old.held }
+        ensures unordered_cost { chunk.unordered ≡ true → FitsInOrder chunk self.old.held
+            → (first last : ℕ) → Joins chunk self.old.held first last
+            → turns.new ≤ turns.old + unordered_push_looks self.old.held first last }
+        ensures unordered_walk { chunk.unordered ≡ true
+            → turns.new ≤ turns.old + unordered_push_walk self.old.held }
     {
         let (whole, _undo) = self.push_undoable_counted(chunk, turns)?;
         Ok(whole)
@@ -261,31 +268,49 @@ impl ReassemblyQueue {
     pub fn is_too_large(&self, chunk: &ChunkPayloadData) -> bool
         ensures { result ≡ is_too_large chunk.now self.now }
     {
+        self.is_too_large_counted(chunk, &mut Turns::new())
+    }
+
+    /// The same, and what it looks at is added: no more than `push_counted` says of a push.
+    pub fn is_too_large_counted(&self, chunk: &ChunkPayloadData, turns: &mut Turns) -> bool
+        ensures answer { result ≡ is_too_large chunk.now self.now }
+        ensures not_back { turns.old ≤ turns.new }
+        ensures ordered_cost { chunk.now.unordered ≡ false → IsOrderly self.now.held.ordered
+            → turns.new ≤ turns.old + ordered_push_looks chunk.now self.now.held }
+        ensures ordered_walk { chunk.now.unordered ≡ false
+            → turns.new ≤ turns.old + ordered_push_walk chunk.now self.now.held }
+        ensures unordered_cost { chunk.now.unordered ≡ true → FitsInOrder chunk.now self.now.held
+            → (first last : ℕ) → Joins chunk.now self.now.held first last
+            → turns.new ≤ turns.old + unordered_push_looks self.now.held first last }
+        ensures unordered_walk { chunk.now.unordered ≡ true
+            → turns.new ≤ turns.old + unordered_push_walk self.now.held }
+    {
         if self.si != chunk.stream_identifier {
             return false;
         }
-        let place = self.place_of(chunk);
-        self.is_too_large_at(chunk, place, &mut Turns::new())
+        let place = self.place_of(chunk, turns);
+        self.is_too_large_at(chunk, place, turns)
     }
 
-    // Where an unordered chunk goes among the unassembled fragments.
-    fn place_of(&self, chunk: &ChunkPayloadData) -> usize
+    // Where an unordered chunk goes among the unassembled fragments. An ordered one takes no turn.
+    fn place_of(&self, chunk: &ChunkPayloadData, turns: &mut Turns) -> usize
         ensures place { chunk.now.unordered ≡ true
             → result ≡ place_among chunk.now.tsn self.now.held.unassembled }
         ensures fits { chunk.now.unordered ≡ true → chunk.now.tsn < 2 ^ 32 }
+        ensures not_back { turns.old ≤ turns.new }
+        ensures none { chunk.now.unordered ≡ false → turns.new ≡ turns.old }
+        ensures few { IsSerial self.now.held.unassembled
+            → turns.new ≤ turns.old + digits (length self.now.held.unassembled) + 2 }
+        ensures walk { turns.new ≤ turns.old + length self.now.held.unassembled + 2 }
     {
         if !chunk.unordered {
             return 0;
         }
-        place_for(
-            self.unordered_chunks.unassembled(),
-            chunk.tsn,
-            &mut Turns::new(),
-        )
+        place_for(self.unordered_chunks.unassembled(), chunk.tsn, turns)
     }
 
     // Whether the message of the chunk, which goes to this place among the unassembled fragments if it is unordered, would be too
-    // long with it. The turns of an ordered one are added.
+    // long with it. Its turns are added.
     fn is_too_large_at(&self, chunk: &ChunkPayloadData, place: usize, turns: &mut Turns) -> bool
         requires place { chunk.now.unordered ≡ true
             → place ≡ place_among chunk.now.tsn self.now.held.unassembled }
@@ -293,21 +318,29 @@ impl ReassemblyQueue {
         ensures value { result ≡ nat_lt self.now.max_message_size
             (projected_size chunk.now self.now.held.ordered self.now.held.unassembled) }
         ensures not_back { turns.old ≤ turns.new }
-        ensures cost { turns.new ≤ turns.old + 2 * length self.now.held.ordered + 5 }
-        ensures few { IsAscending (map (λ s. upper_half s.ssn) self.now.held.ordered)
+        ensures cost { chunk.now.unordered ≡ false
+            → turns.new ≤ turns.old + 2 * length self.now.held.ordered + 5 }
+        ensures few { chunk.now.unordered ≡ false
+            → IsAscending (map (λ s. upper_half s.ssn) self.now.held.ordered)
             → turns.new ≤ turns.old + digits (length self.now.held.ordered) + 5 }
+        ensures unordered_cost { chunk.now.unordered ≡ true → (first last : ℕ)
+            → IsSerial (insert self.now.held.unassembled place chunk.now)
+            → IsStretch (insert self.now.held.unassembled place chunk.now) place first last
+            → turns.new ≤ turns.old + (last - first) + 5 }
+        ensures unordered_walk { chunk.now.unordered ≡ true
+            → turns.new ≤ turns.old + 4 * length self.now.held.unassembled + 3 }
     {
-        if chunk.unordered && self.fits_beside_all(chunk) {
+        if !chunk.unordered {
+            let there = self
+                .ordered
+                .bytes_there(chunk.stream_sequence_number, turns);
+            return there.saturating_add(chunk.user_data.len()) > self.max_message_size as usize;
+        }
+        if self.fits_beside_all(chunk) {
             return false;
         }
-        let projected = if chunk.unordered {
-            unordered_size(chunk, self.unordered_chunks.unassembled(), place)
-        } else {
-            self.ordered
-                .bytes_there(chunk.stream_sequence_number, turns)
-                .saturating_add(chunk.user_data.len())
-        };
-        projected > self.max_message_size as usize
+        let unassembled = self.unordered_chunks.unassembled();
+        unordered_size(chunk, unassembled, place, turns) > self.max_message_size as usize
     }
 
     // Whether all unassembled fragments and the chunk are no longer than one message may be, in serial order. Then its
@@ -359,27 +392,36 @@ impl ReassemblyQueue {
         Ok((put.whole, undo))
     }
 
-    /// Takes an unordered chunk, and says how it is undone.
+    /// Takes an unordered chunk, and says how it is undone. Its turns are added.
     /// Precondition: `place` is where it goes among the unassembled fragments.
     /// Refuses only for memory.
-    fn push_unordered(&mut self, chunk: ChunkPayloadData, place: usize) -> Result<(bool, PushUndo)>
+    fn push_unordered(
+        &mut self,
+        chunk: ChunkPayloadData,
+        place: usize,
+        turns: &mut Turns,
+    ) -> Result<(bool, PushUndo)>
         requires { place ≡ place_among chunk.tsn self.old.held.unassembled }
         ensures ok { IfOk result (λ put. PushesUnordered chunk self.old self.new put.0) }
         ensures undo { IfOk result (λ put. undone put.1 self.new ≡ self.old) }
         ensures can { IfOk result (λ put. CanUndo put.1 self.new) }
         ensures err { OnErr result (self.new ≡ self.old) }
         ensures memory { IfErr result (λ e. e ≡ ErrOutOfMemory) }
+        ensures not_back { turns.old ≤ turns.new }
+        ensures cost { FitsInOrder chunk self.old.held → (first last : ℕ)
+            → Joins chunk self.old.held first last → turns.new ≤ turns.old + 4 * (last - first) + 10 }
+        ensures walk { turns.new ≤ turns.old + 7 * length self.old.held.unassembled + 13 }
     {
         let before = self.n_bytes;
         let len = chunk.user_data.len();
         self.unordered.reserve(1)?;
         let (run, undo) = self
             .unordered_chunks
-            .put_undoable(self.alloc, place, chunk)?;
+            .put_undoable(self.alloc, place, chunk, turns)?;
         self.n_bytes = before.saturating_add(len);
         match run {
             Some(chunks) => {
-                self.unordered.push_back_reserved(set_of_run(chunks));
+                self.unordered.push_back_reserved(set_of_run(chunks, turns));
                 Ok((true, PushUndo::of(PushChange::Message(undo), before)))
             }
             None => Ok((false, PushUndo::of(PushChange::Unassembled(undo), before))),
@@ -401,7 +443,7 @@ impl ReassemblyQueue {
         let Some(chunks) = self.unordered_chunks.take_run(alloc)? else {
             return Ok(None);
         };
-        Ok(Some(Chunks::of(set_of_run(chunks))))
+        Ok(Some(Chunks::of(set_of_run(chunks, &mut Turns::new()))))
     }
 
     /// Whether `read` would give a message.
@@ -502,8 +544,22 @@ impl ReassemblyQueue {
         ensures counted { IsCounted self.old → IsCounted self.new }
         ensures complete { complete_sets self.new.held ≡ complete_sets self.old.held }
     {
+        self.forward_tsn_for_ordered_counted(last_ssn, &mut Turns::new());
+    }
+
+    /// The same, and what it looks at is added: four turns for each set of ordered messages at most, where these are in order
+    /// (`IsOrderly`), and `ordered_skip_walk` whatever the numbers.
+    pub fn forward_tsn_for_ordered_counted(&mut self, last_ssn: u16, turns: &mut Turns)
+        ensures value { self.new ≡ after_ordered_skip last_ssn self.old }
+        ensures counted { IsCounted self.old → IsCounted self.new }
+        ensures complete { complete_sets self.new.held ≡ complete_sets self.old.held }
+        ensures not_back { turns.old ≤ turns.new }
+        ensures few { IsOrderly self.old.held.ordered
+            → turns.new ≤ turns.old + 4 * length self.old.held.ordered }
+        ensures walk { turns.new ≤ turns.old + ordered_skip_walk self.old.held }
+    {
         self.next_ssn = ssn_past(self.next_ssn, last_ssn);
-        let gone = self.ordered.discard(Some(last_ssn), None);
+        let gone = self.ordered.discard(Some(last_ssn), None, turns);
         self.release(gone);
     }
 
@@ -519,9 +575,11 @@ impl ReassemblyQueue {
     {
         let goal = goal(self.ordered.as_deque(), last_ssn, new_cumulative_tsn);
         self.next_ssn = ssn_upto(self.next_ssn, goal);
-        let gone = self
-            .ordered
-            .discard(Some(last_ssn), Some(new_cumulative_tsn));
+        let gone = self.ordered.discard(
+            Some(last_ssn),
+            Some(new_cumulative_tsn),
+            &mut Turns::new(),
+        );
         self.release(gone);
     }
 
@@ -566,35 +624,62 @@ impl ReassemblyQueue {
         ensures value { self.new ≡ after_unordered_skip new_cumulative_tsn self.old }
         ensures counted { IsCounted self.old → IsCounted self.new }
     {
-        let mut turns = Turns::new();
+        self.forward_tsn_for_unordered_counted(new_cumulative_tsn, &mut Turns::new());
+    }
+
+    /// The same, and what it looks at is added: three turns for each fragment that leaves and one more, where the TSNs of all
+    /// unassembled fragments ascend within half a circle (`StandsInOrder`); and `unordered_skip_walk` whatever is held.
+    pub fn forward_tsn_for_unordered_counted(&mut self, new_cumulative_tsn: u32, turns: &mut Turns)
+        ensures value { self.new ≡ after_unordered_skip new_cumulative_tsn self.old }
+        ensures counted { IsCounted self.old → IsCounted self.new }
+        ensures not_back { turns.old ≤ turns.new }
+        ensures few { StandsInOrder self.old.held → turns.new
+            ≤ turns.old + 3 * length (leading_upto new_cumulative_tsn self.old.held.unassembled) + 1 }
+        ensures walk { turns.new ≤ turns.old + unordered_skip_walk self.old.held }
+    {
         let unassembled = self.unordered_chunks.unassembled();
-        let count = front_upto(unassembled, new_cumulative_tsn, &mut turns);
-        let gone = bytes_of_front(unassembled, count, &mut turns);
-        self.unordered_chunks.drop_front(count);
+        let count = front_upto(unassembled, new_cumulative_tsn, turns);
+        let gone = bytes_of_front(unassembled, count, turns);
+        self.unordered_chunks.drop_front(count, turns);
         self.release(gone);
     }
 }
 
-// A complete message of these fragments.
-fn set_of_run(chunks: Vec<Fragment>) -> Fragments
-    ensures { result ≡ set_of_run chunks.items }
+// A complete message of these fragments. Its turns are added.
+fn set_of_run(chunks: Vec<Fragment>, turns: &mut Turns) -> Fragments
+    ensures value { result ≡ set_of_run chunks.items }
+    ensures not_back { turns.old ≤ turns.new }
+    ensures cost { turns.new ≤ turns.old + 2 * length chunks.items + 1 }
 {
+    turns.tick();
     let ppi = match chunks.first() {
         Some(chunk) => chunk.payload_type,
         None => PayloadProtocolIdentifier::Unknown,
     };
-    Fragments::new(0, ppi, chunks)
+    Fragments::new_counted(0, ppi, chunks, turns)
 }
 
-// How long the message of an unordered chunk would be with it, up to the greatest number.
-fn unordered_size(chunk: &ChunkPayloadData, unassembled: &Loose, place: usize) -> usize
+// How long the message of an unordered chunk would be with it, up to the greatest number. Its turns are added.
+fn unordered_size(
+    chunk: &ChunkPayloadData,
+    unassembled: &Loose,
+    place: usize,
+    turns: &mut Turns,
+) -> usize
     requires { place ≡ place_among chunk.now.tsn unassembled.now.chunks }
-    ensures { result ≡ min (size_before chunk.now unassembled.now.chunks
+    ensures value { result ≡ min (size_before chunk.now unassembled.now.chunks
         + length chunk.now.user_data + size_after chunk.now unassembled.now.chunks) (2 ^ 64 - 1) }
+    ensures not_back { turns.old ≤ turns.new }
+    ensures cost { (first last : ℕ) → IsSerial (insert unassembled.now.chunks place chunk.now)
+        → IsStretch (insert unassembled.now.chunks place chunk.now) place first last
+        → turns.new ≤ turns.old + (last - first) + 5 }
+    ensures walk { turns.new ≤ turns.old + 4 * length unassembled.now.chunks + 3 }
 {
-    size_before(chunk, unassembled, place)
+    let before = size_before(chunk, unassembled, place, turns);
+    let after = size_after(chunk, unassembled, place, turns);
+    before
         .saturating_add(chunk.user_data.len())
-        .saturating_add(size_after(chunk, unassembled, place))
+        .saturating_add(after)
 }
 
 // The number expected next, once no message up to the other one is waited for.

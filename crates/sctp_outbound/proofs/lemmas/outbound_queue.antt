@@ -5,3 +5,4 @@ pub mod SideBySide
 pub mod Outbounds
 pub mod Sendable
 pub mod Rest
+pub mod Runs

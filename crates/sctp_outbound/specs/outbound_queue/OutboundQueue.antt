@@ -1,5 +1,6 @@
 -- What is pending and what is in flight, as callers see it.
-use Rattle.std.specs.Prelude.{ℕ, zero, suc, ◌+◌, ◌-◌, ◌==◌, ◌++◌, List, [], ◌∷◌, length, map, Bool, true, false, not, ◌&&◌, ◌||◌, nat_le, Option, Some, None}
+use Rattle.std.specs.Prelude.{◌≡◌, ℕ, zero, suc, ◌+◌, ◌-◌, ◌==◌, ◌++◌, List, [], ◌∷◌, length, map, Bool, true, false, not, ◌&&◌, ◌||◌, nat_le, Option, Some}
+use Rattle.std.specs.Prelude.{None}
 use Rattle.std.specs.Prelude.{if◌then◌else◌}
 use Rattle.std.specs.List.{filter}
 use Rattle.sctp_data.specs.PayloadTypes.{is_dcep}
@@ -196,6 +197,36 @@ expired_of (Some c) q =
 -- the message in front, past its deadline, wholly unsent
 abbrev pub expiring : ℕ → Outbound → Option ChunkPayloadData
 expiring now q = passing (is_expired now) (pending.next_pending q.pending)
+
+-- so many messages in front expire, one after another
+abbrev pub expired_times : ℕ → ℕ → Outbound → Outbound
+expired_times now zero q = q
+expired_times now (suc n) q =
+    expired_of (expiring now (expired_times now n q)) (expired_times now n q)
+
+-- the stream of a message, and whether it is unordered
+abbrev pub stream_and_kind : Option ChunkPayloadData → Option (ℕ × Bool)
+stream_and_kind None = None
+stream_and_kind (Some c) = Some (c.stream_identifier, c.unordered)
+
+-- each of so many is of the stream, and unordered or not
+abbrev pub AreExpiredOf : ℕ → Bool → ℕ → ℕ → Outbound → Type 0
+AreExpiredOf stream unordered now zero q = Unit {0}
+AreExpiredOf stream unordered now (suc n) q =
+    AreExpiredOf stream unordered now n q
+    × (stream_and_kind (expiring now (expired_times now n q)) ≡ Some (stream, unordered))
+
+-- the chunk begins an expired message with this number, of the stream, and unordered or not
+abbrev pub IsOfRun : ℕ → ℕ → Bool → ℕ → Option ChunkPayloadData → Type 0
+IsOfRun now stream unordered message None = ⊥
+IsOfRun now stream unordered message (Some c) =
+    (is_expired now c ≡ true) × (c.stream_identifier ≡ stream) × (c.unordered ≡ unordered)
+    × (c.message_id ≡ message)
+
+-- the numbers of the stream closed up behind so many messages that were removed, where these were ordered
+abbrev pub closed_run : ℕ → Bool → ℕ → Outbound → Outbound
+closed_run stream unordered by q =
+    if unordered then q else record q { pending = pending.lowered stream by q.pending }
 
 -- the rest of a message in front, past its deadline
 abbrev pub expiring_tail : ℕ → Outbound → Option ChunkPayloadData

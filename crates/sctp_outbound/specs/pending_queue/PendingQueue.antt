@@ -136,6 +136,16 @@ abbrev pub one_lower : ChunkPayloadData → ChunkPayloadData
 one_lower c =
     record c { stream_sequence_number = (c.stream_sequence_number + (2 ^ 16 - 1)) % 2 ^ 16 }
 
+-- so many numbers lower, of which there are fewer than 65,536
+abbrev pub lower_by : ℕ → ChunkPayloadData → ChunkPayloadData
+lower_by by c =
+    record c { stream_sequence_number = (c.stream_sequence_number + (2 ^ 16 - by)) % 2 ^ 16 }
+
+-- each ordered chunk of the stream so many numbers lower
+abbrev pub lowered : ℕ → ℕ → Pending → Pending
+lowered stream by q =
+    record q { ordered = change_where (is_on stream) (lower_by by) q.ordered }
+
 -- each ordered chunk of the stream one number lower
 abbrev pub closed_up : ℕ → Pending → Pending
 closed_up stream q = record q { ordered = change_where (is_on stream) one_lower q.ordered }

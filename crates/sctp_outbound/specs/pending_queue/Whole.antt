@@ -37,6 +37,21 @@ stage_of false (Some s) = if s.unordered then free 0 else begun s.message_id
 abbrev pub NumbersAscend : List ChunkPayloadData → Type 0
 NumbersAscend cs = AllPairs (λ c d. c.message_id ≤ d.message_id) cs
 
+-- whether no chunk of the message stands behind one of another
+abbrev pub stand_in_front : ℕ → List ChunkPayloadData → Bool
+stand_in_front message [] = true
+stand_in_front message (c ∷ cs) =
+    if is_of message c then stand_in_front message cs else not (list_any (is_of message) cs)
+
+-- whether the first chunk is of the message
+abbrev pub begins_with : ℕ → List ChunkPayloadData → Bool
+begins_with message [] = false
+begins_with message (c ∷ cs) = is_of message c
+
+-- complete messages, or the rest of one and then complete ones, as the stage says
+abbrev pub AreWhole : Bool → Stage → List ChunkPayloadData → Type 0
+AreWhole kind stage cs = (below : ℕ) × IsWhole kind below stage cs
+
 -- whether a chunk of the message waits
 abbrev pub waits : ℕ → Pending → Bool
 waits message q = list_any (is_of message) q.unordered || list_any (is_of message) q.ordered

@@ -7,8 +7,8 @@ ghost use Rattle.sctp_base.specs.declared.error.Error.TheVariants.{ErrOutOfMemor
 ghost use Rattle.sctp_list_lemmas.specs.Lists.{change_where};
 ghost use Rattle.sctp_outbound.specs.Marks.{is_of};
 ghost use Rattle.sctp_outbound.specs.outbound_queue.OutboundQueue.{with_message_id};
-ghost use Rattle.sctp_outbound.specs.pending_queue.PendingQueue.{removed_bytes, last_of, without_message, one_lower, is_to_start, with_deadline, has_lifetime};
-ghost use Rattle.sctp_outbound.specs.pending_queue.Whole.{NumbersAscend, ends, until_end};
+ghost use Rattle.sctp_outbound.specs.pending_queue.PendingQueue.{removed_bytes, last_of, without_message, lower_by, is_to_start, with_deadline, has_lifetime};
+ghost use Rattle.sctp_outbound.specs.pending_queue.Whole.{AreWhole, NumbersAscend, begins_with, begun, stand_in_front, until_end};
 ghost use Rattle.sctp_serial.specs.DataChunks.{bytes_of, is_on};
 
 use sctp_base::error::Result;
@@ -82,22 +82,29 @@ impl Line {
         self.chunks.get(place)
     }
 
-    /// How many chunks the rest of the message in front has, where they are at most `most`.
-    /// Precondition: an ending fragment waits.
-    pub(crate) fn until_end(&self, most: usize) -> Option<usize>
-        requires { list_any ends self.now.chunks ≡ true }
+    /// How many chunks the rest of the message in front has, where they are at most `most`: a look at that place, then a search by
+    /// halves.
+    /// Precondition: the rest of the message is in front, and complete messages of other numbers are behind it.
+    pub(crate) fn until_end(&self, message_id: u64, most: usize) -> Option<usize>
+        requires { AreWhole false (begun message_id) self.now.chunks }
         ensures some { IfSome result (λ n. (n ≡ until_end self.now.chunks) × (n ≤ most)) }
         ensures none { IfNone result (most < until_end self.now.chunks) }
     {
-        for place in 0..most {
-            let Some(chunk) = self.chunks.get(place) else {
-                unreachable!()
-            };
-            if chunk.ending_fragment {
-                return Some(place + 1);
+        let len = self.chunks.len();
+        if most < len && self.chunks[most].message_id == message_id {
+            return None;
+        }
+        let mut low = 0;
+        let mut high = most.min(len);
+        while low < high {
+            let middle = low + (high - low) / 2;
+            if self.chunks[middle].message_id == message_id {
+                low = middle + 1;
+            } else {
+                high = middle;
             }
         }
-        None
+        Some(low)
     }
 
     /// From here on `additional` pushes take no memory.
@@ -191,6 +198,38 @@ impl Line {
         Some(chunk)
     }
 
+    // Takes out the first chunk, if it is of the message.
+    fn pop_front_of(&mut self, message_id: u64) -> Option<ChunkPayloadData>
+        ensures popped { IfSome result (λ chunk. (self.old
+            ≡ with_chunks self.new (chunk ∷ self.new.chunks)) × (is_of message_id chunk ≡ true)) }
+        ensures other { IfNone result ((begins_with message_id self.old.chunks ≡ false)
+            × (self.new ≡ self.old)) }
+    {
+        let chunk = self.chunks.front()?;
+        if chunk.message_id != message_id {
+            return None;
+        }
+        self.pop_front()
+    }
+
+    /// Takes out what stands in front of a message, and answers its bytes and the last of it. It looks at that, and at the next chunk.
+    /// Precondition: no chunk of the message stands behind one of another.
+    pub(crate) fn pop_message(&mut self, message_id: u64) -> (usize, Option<ChunkPayloadData>)
+        requires { stand_in_front message_id self.old.chunks ≡ true }
+        ensures bytes { result.0 ≡ removed_bytes message_id self.old.chunks }
+        ensures left { bytes_of self.new.chunks + result.0 ≡ bytes_of self.old.chunks }
+        ensures last { result.1 ≡ last_of (filter (is_of message_id) self.old.chunks) }
+        ensures rest { self.new
+            ≡ with_chunks self.old (without_message message_id self.old.chunks) }
+    {
+        let before = self.get_num_bytes();
+        let mut last = None;
+        while let Some(chunk) = self.pop_front_of(message_id) {
+            last = Some(chunk);
+        }
+        (before - self.get_num_bytes(), last)
+    }
+
     // Gives back memory where no chunk waits: all but that for `MOST_KEPT` chunks and for the room.
     fn give_back(&mut self)
         ensures { self.new ≡ self.old }
@@ -214,13 +253,13 @@ impl Line {
         (bytes, last)
     }
 
-    /// Lowers the stream sequence numbers of a stream by one.
-    pub(crate) fn lower_ssns(&mut self, stream_identifier: u16)
+    /// Lowers the stream sequence numbers of a stream by so many.
+    pub(crate) fn lower_ssns(&mut self, stream_identifier: u16, by: u16)
         ensures lowered { self.new ≡ with_chunks self.old
-            (change_where (is_on stream_identifier) one_lower self.old.chunks) }
+            (change_where (is_on stream_identifier) (lower_by by) self.old.chunks) }
         ensures bytes { bytes_of self.new.chunks ≡ bytes_of self.old.chunks }
     {
-        lower_ssns_in(&mut self.chunks, stream_identifier);
+        lower_ssns_in(&mut self.chunks, stream_identifier, by);
     }
 
     /// Starts the lifetimes of timed messages numbered from `first_message_id` on
@@ -296,10 +335,10 @@ fn remove_from(
     (bytes, last)
 }
 
-// Lowers the stream sequence numbers of a stream by one.
-fn lower_ssns_in(chunks: &mut VecDeque<ChunkPayloadData>, stream_identifier: u16)
+// Lowers the stream sequence numbers of a stream by so many.
+fn lower_ssns_in(chunks: &mut VecDeque<ChunkPayloadData>, stream_identifier: u16, by: u16)
     ensures items { chunks.new.items
-        ≡ change_where (is_on stream_identifier) one_lower chunks.old.items }
+        ≡ change_where (is_on stream_identifier) (lower_by by) chunks.old.items }
     ensures len { deque_len chunks.new ≡ deque_len chunks.old }
     ensures capacity { deque_capacity chunks.new ≡ deque_capacity chunks.old }
 {
@@ -308,7 +347,7 @@ fn lower_ssns_in(chunks: &mut VecDeque<ChunkPayloadData>, stream_identifier: u16
         if chunk.stream_identifier != stream_identifier {
             continue;
         }
-        chunk.stream_sequence_number = chunk.stream_sequence_number.wrapping_sub(1);
+        chunk.stream_sequence_number = chunk.stream_sequence_number.wrapping_sub(by);
     }
 }
 

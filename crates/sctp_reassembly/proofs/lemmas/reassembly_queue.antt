@@ -16,4 +16,7 @@ pub mod Resets
 pub mod TakenBack
 pub mod TakenRuns
 pub mod Unassembled
+pub mod Scans
+pub mod SkipCosts
+pub mod Stretches
 pub mod Undone

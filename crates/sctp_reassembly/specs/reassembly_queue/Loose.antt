@@ -27,10 +27,10 @@ with_one place x p =
 abbrev pub place_among : ℕ → List ChunkPayloadData → ℕ
 place_among tsn xs = position_or_len (λ e. comes_before tsn e.tsn) xs
 
--- while the mark is on there is no run
+-- while the mark is on there is no run; while it is off there is one, where they stand in serial order
 abbrev pub IsFlag : Bool → List ChunkPayloadData → Type 0
 IsFlag true xs = HasNoRun xs
-IsFlag false xs = Unit {0}
+IsFlag false xs = IsSerial xs → HasNoRun xs → ⊥
 
 -- the mark is on where they stand in serial order, and only there
 abbrev pub IsOrderFlag : Bool → List ChunkPayloadData → Type 0

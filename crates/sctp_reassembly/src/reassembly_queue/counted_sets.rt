@@ -1,7 +1,7 @@
 //! Sets of fragments, whose chunks are counted.
 
-ghost use Rattle.std.specs.Prelude.{◌≡◌, ◌+◌, ◌-◌, ◌*◌, ◌^◌, ◌<◌, ◌≤◌, [], ◌∷◌, ◌++◌, length, min, not, drop, set, remove, slice_index_or, option_map, MatchOption, OnOk, OnErr, IfOk, IfErr, IfSome, IfNone, IsOk};
-ghost use Rattle.std.specs.List.{insert, filter};
+ghost use Rattle.std.specs.Prelude.{◌≡◌, ◌+◌, ◌-◌, ◌*◌, ◌^◌, ◌<◌, ◌≤◌, [], ◌∷◌, ◌++◌, length, min, not, drop, set, remove, slice_index_or, option_map, MatchOption, OnOk, OnErr, IfOk, IfErr, IfSome, IfNone, IsOk, None};
+ghost use Rattle.std.specs.List.{All, insert, filter};
 ghost use Rattle.sctp_data.specs.ChunkSet.{ChunkSet};
 ghost use Rattle.sctp_base.specs.declared.error.Error.TheVariants.{ErrOutOfMemory};
 ghost use Rattle.sctp_reassembly.specs.reassembly_queue.Orders.{digits, IsInOrder};
@@ -211,15 +211,26 @@ impl CountedSets {
     }
 
     /// Removes the sets that a skip discards: the incomplete ones, those alone at or before the number where there is
-    /// one, and those alone that miss a TSN where there is a bound. Counts their bytes up to the greatest number.
-    pub(crate) fn discard(&mut self, last_ssn: Option<u16>, bound: Option<u32>) -> usize
+    /// one, and those alone that miss a TSN where there is a bound. Counts their bytes up to the greatest number. Its turns are added:
+    /// four for each set at most where there is no bound and TSNs ascend in each.
+    pub(crate) fn discard(
+        &mut self,
+        last_ssn: Option<u16>,
+        bound: Option<u32>,
+        turns: &mut Turns,
+    ) -> usize
         ensures rest { self.new.items
             ≡ filter (λ s. not (is_discarded last_ssn bound s)) self.old.items }
         ensures bytes { result
             ≡ min (set_bytes (filter (is_discarded last_ssn bound) self.old.items)) (2 ^ 64 - 1) }
+        ensures not_back { turns.old ≤ turns.new }
+        ensures few { bound ≡ None → All IsInOrder self.old.items
+            → turns.new ≤ turns.old + 4 * length self.old.items }
+        ensures walk { turns.new
+            ≤ turns.old + 4 * length self.old.items + 2 * set_chunks self.old.items }
     {
-        let gone = skips::discard(&mut self.sets, last_ssn, bound);
-        self.n_chunks = chunks_in(&self.sets, &mut Turns::new());
+        let gone = skips::discard(&mut self.sets, last_ssn, bound, turns);
+        self.n_chunks = chunks_in(&self.sets, turns);
         gone
     }
 

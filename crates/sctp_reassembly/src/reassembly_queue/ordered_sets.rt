@@ -1,6 +1,6 @@
 //! The sets of ordered messages, in the order of their numbers where these lie within half a circle.
 
-ghost use Rattle.std.specs.Prelude.{◌≡◌, ◌+◌, ◌-◌, ◌*◌, ◌^◌, ◌<◌, ◌≤◌, ◌&&◌, [], ◌∷◌, ◌++◌, length, map, min, true, false, not, option_map, MatchOption, OnOk, OnErr, IfOk, IfErr, IfSome, IfNone};
+ghost use Rattle.std.specs.Prelude.{◌≡◌, ◌+◌, ◌-◌, ◌*◌, ◌^◌, ◌<◌, ◌≤◌, ◌&&◌, [], ◌∷◌, ◌++◌, length, map, min, true, false, not, option_map, MatchOption, OnOk, OnErr, IfOk, IfErr, IfSome, IfNone, None};
 ghost use Rattle.std.specs.List.{list_any, position_or_len, filter, insert};
 ghost use Rattle.std.specs.List.Sorted.{IsNonDecreasingBy, IsPartitionPoint};
 ghost use Rattle.sctp_list_lemmas.specs.Serial.{comes_before16, distance};
@@ -214,15 +214,26 @@ impl OrderedSets {
     }
 
     /// Removes the sets that a skip discards: the incomplete ones, those alone at or before the number where there is
-    /// one, and those alone that miss a TSN where there is a bound. Counts their bytes up to the greatest number.
-    pub(crate) fn discard(&mut self, last_ssn: Option<u16>, bound: Option<u32>) -> usize
+    /// one, and those alone that miss a TSN where there is a bound. Counts their bytes up to the greatest number. Its turns are added:
+    /// four for each set at most where there is no bound, numbers ascend, and TSNs in each set.
+    pub(crate) fn discard(
+        &mut self,
+        last_ssn: Option<u16>,
+        bound: Option<u32>,
+        turns: &mut Turns,
+    ) -> usize
         ensures rest { self.new ≡ filter (λ s. not (is_discarded last_ssn bound s)) self.old }
         ensures bytes { result
             ≡ min (set_bytes (filter (is_discarded last_ssn bound) self.old)) (2 ^ 64 - 1) }
+        ensures not_back { turns.old ≤ turns.new }
+        ensures few { bound ≡ None → IsOrderly self.old
+            → turns.new ≤ turns.old + 4 * length self.old }
+        ensures walk { turns.new
+            ≤ turns.old + 5 * length self.old + 2 * set_chunks self.old }
     {
-        let gone = self.sets.discard(last_ssn, bound);
+        let gone = self.sets.discard(last_ssn, bound, turns);
         let sets = self.sets.as_deque();
-        self.ascending = still_ascending(self.ascending, sets, &mut Turns::new());
+        self.ascending = still_ascending(self.ascending, sets, turns);
         gone
     }
 

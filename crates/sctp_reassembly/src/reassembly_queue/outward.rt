@@ -101,6 +101,7 @@ pub(crate) fn run_outward(
     ensures not_back { turns.old ≤ turns.new }
     ensures cost { (first last : ℕ) → IsStretch unassembled.now.chunks place first last
         → turns.new ≤ turns.old + (last + 1 - first) + 1 }
+    ensures walk { turns.new ≤ turns.old + length unassembled.now.chunks + 1 }
     ensures no_beginning { (first last : ℕ) → IsStretch unassembled.now.chunks place first last
         → ((k : ℕ) (d : ChunkPayloadData) → first ≤ k → k ≤ place
         → (slice_index_or unassembled.now.chunks k d).beginning_fragment ≡ false)

@@ -1,7 +1,9 @@
 //! The unassembled fragments of a stream, out of which complete messages are taken.
 
-ghost use Rattle.std.specs.Prelude.{◌≡◌, ◌<◌, ◌≤◌, ◌&&◌, [], length, remove, IfSome, IfNone, drop, OnErr, IfOk, IfErr, MatchOption};
-ghost use Rattle.sctp_serial.specs.Runs.{HasNoRun, IsEarliestRun};
+ghost use Rattle.std.specs.Prelude.{◌≡◌, ℕ, ◌+◌, ◌-◌, ◌*◌, ◌^◌, ◌<◌, ◌≤◌, ◌&&◌, true, [], length, remove, IfSome, IfNone, drop, OnErr, IfOk, IfErr, MatchOption};
+ghost use Rattle.sctp_serial.specs.DataChunks.{bytes_of};
+ghost use Rattle.sctp_serial.specs.Runs.{HasNoRun, IsEarliestRun, IsStretch};
+ghost use Rattle.sctp_serial.specs.Window.{IsSerial};
 ghost use Rattle.sctp_base.specs.declared.error.Error.TheVariants.{ErrOutOfMemory};
 ghost use Rattle.sctp_reassembly.specs.reassembly_queue.Loose.{IsRunTaken, IsFlag, with_chunks};
 
@@ -62,13 +64,19 @@ impl Pool {
         &self.unassembled
     }
 
-    /// Drops the first `count`.
+    /// Drops the first `count`, and its looks are added: one for each that goes, where all stand in serial order, hold no
+    /// complete message, and their bytes can be counted.
     /// Precondition: there are so many.
-    pub(crate) fn drop_front(&mut self, count: usize)
+    pub(crate) fn drop_front(&mut self, count: usize, turns: &mut Turns)
         requires { count ≤ length self.old.chunks }
-        ensures { self.new ≡ with_chunks self.old (drop count self.old.chunks) }
+        ensures value { self.new ≡ with_chunks self.old (drop count self.old.chunks) }
+        ensures not_back { turns.old ≤ turns.new }
+        ensures few { IsSerial self.old.chunks → HasNoRun self.old.chunks
+            → bytes_of self.old.chunks < 2 ^ 64 - 1 → turns.new ≤ turns.old + count }
+        ensures walk { turns.new ≤ turns.old + count + 3 * length self.old.chunks }
     {
-        self.unassembled.drop_front(count);
+        self.unassembled.drop_front_counted(count, turns);
+        self.searched = is_searched(self.searched, &self.unassembled, turns);
     }
 
     /// Takes out the run that ends earliest, if there is one. Refuses only for memory, and nothing changes then.
@@ -78,33 +86,65 @@ impl Pool {
             × (self.new.places ≡ self.old.places))) }
         ensures err { OnErr result (self.new ≡ self.old) }
     {
-        let Some((first, count)) = find_run(&self.unassembled, &mut Turns::new()) else {
+        let mut turns = Turns::new();
+        let Some((first, count)) = find_run(&self.unassembled, &mut turns) else {
             self.searched = true;
             return Ok(None);
         };
         let chunks = self.unassembled.take_range(alloc, first, count)?;
-        self.searched = false;
+        self.searched = is_searched(false, &self.unassembled, &mut turns);
         Ok(Some(chunks))
     }
 }
 
-// Whether no complete run is left once that of a new fragment was taken: in serial order none arises by it.
-fn is_searched_after(searched: bool, serial: bool) -> bool
+// Whether it is known that no complete run is left once that of a new fragment was taken: in serial order none arises by it.
+fn is_known(searched: bool, serial: bool) -> bool
     ensures { result ≡ (searched && serial) }
 {
     searched && serial
 }
 
+// Whether no complete run is left, where it is known that none is, or all are looked at in serial order.
+fn is_searched(known: bool, left: &Loose, turns: &mut Turns) -> bool
+    requires { known ≡ true → HasNoRun left.now.chunks }
+    ensures flag { IsFlag result left.now.chunks }
+    ensures not_back { turns.old ≤ turns.new }
+    ensures none { known ≡ true → turns.new ≡ turns.old }
+    ensures walk { turns.new ≤ turns.old + length left.now.chunks }
+{
+    if known {
+        return true;
+    }
+    if !left.is_serial() {
+        return false;
+    }
+    match find_run(left, turns) {
+        Some(_) => false,
+        None => true,
+    }
+}
+
 // The run that ends earliest. Where none was there before the fragment at the place, only the runs that hold it are looked for.
-fn search(unassembled: &Loose, searched: bool, place: usize) -> Option<(usize, usize)>
+fn search(
+    unassembled: &Loose,
+    searched: bool,
+    place: usize,
+    turns: &mut Turns,
+) -> Option<(usize, usize)>
     requires in_range { place < length unassembled.now.chunks }
     requires flag { IsFlag searched (remove unassembled.now.chunks place) }
     ensures found { IfSome result (λ run. IsEarliestRun unassembled.now.chunks run.0 run.1) }
     ensures none { IfNone result (HasNoRun unassembled.now.chunks) }
+    ensures not_back { turns.old ≤ turns.new }
+    ensures cost { (first last : ℕ) → IsSerial unassembled.now.chunks
+        → HasNoRun (remove unassembled.now.chunks place)
+        → IsStretch unassembled.now.chunks place first last
+        → turns.new ≤ turns.old + (last + 1 - first) + 1 }
+    ensures walk { turns.new ≤ turns.old + length unassembled.now.chunks + 1 }
 {
     if searched {
-        run_outward(unassembled, place, &mut Turns::new())
+        run_outward(unassembled, place, turns)
     } else {
-        find_run(unassembled, &mut Turns::new())
+        find_run(unassembled, turns)
     }
 }

@@ -1,36 +1,45 @@
 //! Skips that stop before messages whose TSNs lie past a bound.
 
-ghost use Rattle.std.specs.Prelude.{◌≡◌, ◌==◌, ◌+◌, ◌-◌, ◌%◌, ◌^◌, ◌&&◌, ◌||◌, min, not, None, if◌then◌else◌};
-ghost use Rattle.std.specs.List.{list_any, list_all, filter};
+ghost use Rattle.std.specs.Prelude.{◌≡◌, ◌==◌, ◌+◌, ◌-◌, ◌*◌, ◌%◌, ◌^◌, ◌≤◌, ◌&&◌, ◌||◌, length, min, not, None, if◌then◌else◌};
+ghost use Rattle.std.specs.List.{All, list_any, list_all, filter};
 ghost use Rattle.sctp_list_lemmas.specs.Serial.{comes_before16, at_or_before, comes_after};
+ghost use Rattle.sctp_reassembly.specs.reassembly_queue.Counts.{set_chunks};
 ghost use Rattle.sctp_reassembly.specs.reassembly_queue.Fragments.{has_ssn};
+ghost use Rattle.sctp_reassembly.specs.reassembly_queue.Orders.{IsInOrder};
 ghost use Rattle.sctp_reassembly.specs.reassembly_queue.ReassemblyQueue.{set_bytes};
 ghost use Rattle.sctp_reassembly.specs.reassembly_queue.Skips.{misses, misses_behind, cannot_complete, is_discarded, is_abandoned, is_unaffected, earlier_ssn, goal_of, is_covered, settles, earlier_tsn, earliest_among, earliest_from, is_from, is_upto, begins_upto, is_passable, later_ssn, latest_passable};
 
 use crate::reassembly_queue::chunks::Fragments;
 use crate::reassembly_queue::fragment::Fragment;
 use sctp_base::util::{sna16gt, sna16lt, sna16lte, sna32gt, sna32lt, sna32lte};
+use sctp_serial::turns::Turns;
 use std::collections::VecDeque;
 
 // Whether a TSN at or before the given one is missing in a set.
-fn misses(chunks: &[Fragment], tsn: u32) -> bool
-    ensures { result ≡ misses tsn chunks.now }
+fn misses(chunks: &[Fragment], tsn: u32, turns: &mut Turns) -> bool
+    ensures value { result ≡ misses tsn chunks.now }
+    ensures not_back { turns.old ≤ turns.new }
+    ensures cost { turns.new ≤ turns.old + length chunks.now }
 {
     let Some((first, rest)) = chunks.split_first() else {
         return false;
     };
+    turns.tick();
     if !first.beginning_fragment && sna32lte(first.tsn.wrapping_sub(1), tsn) {
         return true;
     }
-    misses_behind(first, rest, tsn)
+    misses_behind(first, rest, tsn, turns)
 }
 
 // Whether one is missing behind the first.
-fn misses_behind(first: &Fragment, rest: &[Fragment], tsn: u32) -> bool
-    ensures { result ≡ misses_behind tsn first.now rest.now }
+fn misses_behind(first: &Fragment, rest: &[Fragment], tsn: u32, turns: &mut Turns) -> bool
+    ensures value { result ≡ misses_behind tsn first.now rest.now }
+    ensures not_back { turns.old ≤ turns.new }
+    ensures cost { turns.new ≤ turns.old + length rest.now }
 {
     let mut last = first;
     for chunk in rest {
+        turns.tick();
         let next = last.tsn.wrapping_add(1);
         if chunk.tsn != next && sna32lte(next, tsn) {
             return true;
@@ -41,21 +50,28 @@ fn misses_behind(first: &Fragment, rest: &[Fragment], tsn: u32) -> bool
 }
 
 /// Removes the sets that a skip discards: the incomplete ones, those alone at or before the number where there is
-/// one, and those alone that miss a TSN where there is a bound. Counts their bytes up to the greatest number.
+/// one, and those alone that miss a TSN where there is a bound. Counts their bytes up to the greatest number. Its turns are added:
+/// three for each set at most where there is no bound and TSNs ascend in each.
 pub(crate) fn discard(
     sets: &mut VecDeque<Fragments>,
     last_ssn: Option<u16>,
     bound: Option<u32>,
+    turns: &mut Turns,
 ) -> usize
     ensures rest { sets.new.items ≡ filter (λ s. not
         (is_discarded last_ssn bound s)) sets.old.items }
     ensures bytes { result
         ≡ min (set_bytes (filter (is_discarded last_ssn bound) sets.old.items)) (2 ^ 64 - 1) }
+    ensures not_back { turns.old ≤ turns.new }
+    ensures few { bound ≡ None → All IsInOrder sets.old.items
+        → turns.new ≤ turns.old + 3 * length sets.old.items }
+    ensures walk { turns.new
+        ≤ turns.old + 3 * length sets.old.items + 2 * set_chunks sets.old.items }
 {
     let mut gone = 0usize;
     let mut place = 0;
     while place < sets.len() {
-        if !is_discarded(&sets[place], last_ssn, bound) {
+        if !is_discarded(&sets[place], last_ssn, bound, turns) {
             place += 1;
             continue;
         }
@@ -70,25 +86,39 @@ pub(crate) fn discard(
 }
 
 // Whether a skip gives the set up.
-fn is_discarded(set: &Fragments, last_ssn: Option<u16>, bound: Option<u32>) -> bool
-    ensures { result ≡ is_discarded last_ssn bound set.now }
+fn is_discarded(
+    set: &Fragments,
+    last_ssn: Option<u16>,
+    bound: Option<u32>,
+    turns: &mut Turns,
+) -> bool
+    ensures value { result ≡ is_discarded last_ssn bound set.now }
+    ensures not_back { turns.old ≤ turns.new }
+    ensures few { bound ≡ None → IsInOrder set.now → turns.new ≤ turns.old + 3 }
+    ensures walk { turns.new ≤ turns.old + 2 * length set.now.chunks + 3 }
 {
+    turns.tick();
     if let Some(last_ssn) = last_ssn
         && !sna16lte(set.ssn(), last_ssn)
     {
         return false;
     }
     match bound {
-        Some(tsn) => cannot_complete(set, tsn),
-        None => !set.is_complete(),
+        Some(tsn) => cannot_complete(set, tsn, turns),
+        None => !set.is_complete_counted(turns),
     }
 }
 
-/// Whether the set can't become complete, where all up to the TSN counts as come.
-pub(crate) fn cannot_complete(set: &Fragments, tsn: u32) -> bool
-    ensures { result ≡ cannot_complete tsn set.now }
+/// Whether the set can't become complete, where all up to the TSN counts as come. Its turns are added.
+pub(crate) fn cannot_complete(set: &Fragments, tsn: u32, turns: &mut Turns) -> bool
+    ensures value { result ≡ cannot_complete tsn set.now }
+    ensures not_back { turns.old ≤ turns.new }
+    ensures walk { turns.new ≤ turns.old + 2 * length set.now.chunks + 2 }
 {
-    !set.is_complete() && misses(set.fragments(), tsn)
+    if set.is_complete_counted(turns) {
+        return false;
+    }
+    misses(set.fragments(), tsn, turns)
 }
 
 // Whether it leaves the set alone, at or before the number.
@@ -101,7 +131,7 @@ fn is_unaffected(set: &Fragments, last_ssn: u16, tsn: u32) -> bool
     if set.is_complete() {
         reaches_past(set.fragments(), tsn)
     } else {
-        !misses(set.fragments(), tsn)
+        !misses(set.fragments(), tsn, &mut Turns::new())
     }
 }
 
@@ -161,7 +191,7 @@ fn is_covered(set: &Fragments, tsn: u32) -> bool
     if set.is_complete() {
         lies_upto(set.fragments(), tsn)
     } else {
-        misses(set.fragments(), tsn)
+        misses(set.fragments(), tsn, &mut Turns::new())
     }
 }
 

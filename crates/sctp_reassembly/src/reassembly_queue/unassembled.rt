@@ -1,6 +1,6 @@
 //! Unassembled fragments: what came of unordered messages that are not whole. `look` takes a turn; the edits take none.
 
-ghost use Rattle.std.specs.Prelude.{◌≡◌, ℕ, ◌==◌, ◌+◌, ◌-◌, ◌^◌, ◌<◌, ◌≤◌, ◌&&◌, [], ◌∷◌, length, vec_capacity, min, slice_index_or, insert, remove, take, drop, ◌++◌, OnOk, OnErr, IfOk, IfErr, IfSome, IfNone, true, false, IsTrue, not};
+ghost use Rattle.std.specs.Prelude.{◌≡◌, ℕ, ◌==◌, ◌+◌, ◌-◌, ◌^◌, ◌<◌, ◌≤◌, ◌*◌, ◌&&◌, [], ◌∷◌, length, vec_capacity, min, slice_index_or, insert, remove, take, drop, ◌++◌, OnOk, OnErr, IfOk, IfErr, IfSome, IfNone, Some, None, true, false, IsTrue, not, if◌then◌else◌};
 ghost use Rattle.std.specs.VecDeque.{deque_capacity};
 ghost use Rattle.sctp_serial.specs.Runs.{IsEarliestRunAround, HasNoRunAround, IsStretch, IsEarliestRun, HasNoRun};
 ghost use Rattle.sctp_base.specs.declared.error.Error.TheVariants.{ErrOutOfMemory};
@@ -157,7 +157,24 @@ impl Loose {
         ensures ok { OnOk result (self.new ≡ with_one place chunk self.old) }
         ensures err { OnErr result (self.new ≡ self.old) }
     {
-        let serial = self.stays_serial(place, chunk.tsn);
+        self.insert_counted(alloc, place, chunk, &mut Turns::new())
+    }
+
+    /// The same, and its looks are added: four at most.
+    pub(crate) fn insert_counted(
+        &mut self,
+        alloc: Global,
+        place: usize,
+        chunk: ChunkPayloadData,
+        turns: &mut Turns,
+    ) -> Result<(), AllocError>
+        requires { place ≤ length self.old.chunks }
+        ensures ok { OnOk result (self.new ≡ with_one place chunk self.old) }
+        ensures err { OnErr result (self.new ≡ self.old) }
+        ensures not_back { turns.old ≤ turns.new }
+        ensures few { turns.new ≤ turns.old + 4 }
+    {
+        let serial = self.stays_serial(place, chunk.tsn, turns);
         let len = chunk.user_data.len();
         let fragment = Fragment::new(alloc, chunk)?;
         self.chunks.insert(place, fragment)?;
@@ -168,18 +185,20 @@ impl Loose {
     }
 
     // Whether they stand in serial order with the number at the place.
-    fn stays_serial(&self, place: usize, tsn: u32) -> bool
+    fn stays_serial(&self, place: usize, tsn: u32, turns: &mut Turns) -> bool
         requires { place ≤ length self.now.chunks }
-        ensures { (x : ChunkPayloadData)
+        ensures flag { (x : ChunkPayloadData)
             → x.tsn ≡ tsn → IsOrderFlag result (insert self.now.chunks place x) }
+        ensures not_back { turns.old ≤ turns.new }
+        ensures few { turns.new ≤ turns.old + 4 }
     {
         if !self.serial {
             return false;
         }
-        if !is_behind(&self.chunks, place, tsn) {
+        if !is_behind(&self.chunks, place, tsn, turns) {
             return false;
         }
-        is_ahead(&self.chunks, place, tsn)
+        is_ahead(&self.chunks, place, tsn, turns)
     }
 
     /// Puts the neighbours back that were taken out, and drops the fragment that was put in. It takes no memory.
@@ -215,11 +234,32 @@ impl Loose {
             (take first self.old.chunks ++ drop (first + count) self.old.chunks)) }
         ensures err { OnErr result (self.new ≡ self.old) }
     {
+        self.take_range_counted(alloc, first, count, &mut Turns::new())
+    }
+
+    /// The same, and its looks are added: one for each that is taken out, where all stand in serial order and their bytes can be counted.
+    pub(crate) fn take_range_counted(
+        &mut self,
+        alloc: Global,
+        first: usize,
+        count: usize,
+        turns: &mut Turns,
+    ) -> Result<Vec<Fragment>, AllocError>
+        requires { first + count ≤ length self.old.chunks }
+        ensures taken { IfOk result (λ taken. taken.items ≡ take count (drop first self.old.chunks)) }
+        ensures rest { OnOk result (self.new ≡ with_chunks self.old
+            (take first self.old.chunks ++ drop (first + count) self.old.chunks)) }
+        ensures err { OnErr result (self.new ≡ self.old) }
+        ensures not_back { turns.old ≤ turns.new }
+        ensures few { IsSerial self.old.chunks → bytes_of self.old.chunks < 2 ^ 64 - 1
+            → turns.new ≤ turns.old + count }
+        ensures walk { turns.new ≤ turns.old + count + 2 * length self.old.chunks }
+    {
         let mut taken = Vec::with_capacity(alloc, count)?;
-        let gone = bytes_from(&self.chunks, first, count);
+        let gone = bytes_from(&self.chunks, first, count, turns);
         take_each(&mut self.chunks, first, count, &mut taken);
-        self.n_bytes = bytes_without(self.n_bytes, gone, &self.chunks);
-        self.serial = is_still_serial(self.serial, &self.chunks);
+        self.n_bytes = bytes_without(self.n_bytes, gone, &self.chunks, turns);
+        self.serial = is_still_serial(self.serial, &self.chunks, turns);
         Ok(taken)
     }
 
@@ -249,12 +289,24 @@ impl Loose {
         requires { count ≤ length self.old.chunks }
         ensures { self.new ≡ with_chunks self.old (drop count self.old.chunks) }
     {
-        let gone = bytes_from(&self.chunks, 0, count);
+        self.drop_front_counted(count, &mut Turns::new());
+    }
+
+    /// The same, and its looks are added: one for each that goes, where all stand in serial order and their bytes can be counted.
+    pub(crate) fn drop_front_counted(&mut self, count: usize, turns: &mut Turns)
+        requires { count ≤ length self.old.chunks }
+        ensures value { self.new ≡ with_chunks self.old (drop count self.old.chunks) }
+        ensures not_back { turns.old ≤ turns.new }
+        ensures few { IsSerial self.old.chunks → bytes_of self.old.chunks < 2 ^ 64 - 1
+            → turns.new ≤ turns.old + count }
+        ensures walk { turns.new ≤ turns.old + count + 2 * length self.old.chunks }
+    {
+        let gone = bytes_from(&self.chunks, 0, count, turns);
         for _gone in 0..count {
             self.chunks.pop_front();
         }
-        self.n_bytes = bytes_without(self.n_bytes, gone, &self.chunks);
-        self.serial = is_still_serial(self.serial, &self.chunks);
+        self.n_bytes = bytes_without(self.n_bytes, gone, &self.chunks, turns);
+        self.serial = is_still_serial(self.serial, &self.chunks, turns);
     }
 }
 
@@ -268,24 +320,28 @@ fn is_before(first: u32, second: u32) -> bool
 }
 
 // Whether the number comes after what stands before the place: after the nearest and the first.
-fn is_behind(chunks: &VecDeque<Fragment>, place: usize, tsn: u32) -> bool
+fn is_behind(chunks: &VecDeque<Fragment>, place: usize, tsn: u32, turns: &mut Turns) -> bool
     requires { place ≤ length chunks.now.items }
     ensures yes { result ≡ true → IsSerial chunks.now.items → (k : ℕ) (d : ChunkPayloadData)
         → k < place → IsTrue (comes_before (slice_index_or chunks.now.items k d).tsn tsn) }
     ensures no { result ≡ false → ((k : ℕ) (d : ChunkPayloadData)
         → k < place → IsTrue (comes_before (slice_index_or chunks.now.items k d).tsn tsn)) → ⊥ }
+    ensures not_back { turns.old ≤ turns.new }
+    ensures few { turns.new ≤ turns.old + 2 }
 {
     if place == 0 {
         return true;
     }
+    turns.tick();
     if !is_before(chunks[place - 1].chunk().tsn, tsn) {
         return false;
     }
+    turns.tick();
     is_before(chunks[0].chunk().tsn, tsn)
 }
 
 // Whether the number comes before what stands from the place on: before the nearest and the last.
-fn is_ahead(chunks: &VecDeque<Fragment>, place: usize, tsn: u32) -> bool
+fn is_ahead(chunks: &VecDeque<Fragment>, place: usize, tsn: u32, turns: &mut Turns) -> bool
     requires { place ≤ length chunks.now.items }
     ensures yes { result ≡ true → IsSerial chunks.now.items
         → (k : ℕ) (d : ChunkPayloadData) → place ≤ k → k < length chunks.now.items
@@ -293,28 +349,36 @@ fn is_ahead(chunks: &VecDeque<Fragment>, place: usize, tsn: u32) -> bool
     ensures no { result ≡ false
         → ((k : ℕ) (d : ChunkPayloadData) → place ≤ k → k < length chunks.now.items
         → IsTrue (comes_before tsn (slice_index_or chunks.now.items k d).tsn)) → ⊥ }
+    ensures not_back { turns.old ≤ turns.new }
+    ensures few { turns.new ≤ turns.old + 2 }
 {
     let len = chunks.len();
     if place == len {
         return true;
     }
+    turns.tick();
     if !is_before(tsn, chunks[place].chunk().tsn) {
         return false;
     }
+    turns.tick();
     is_before(tsn, chunks[len - 1].chunk().tsn)
 }
 
 // Whether fragments stand in serial order: each after the one before it, and after the first.
-fn are_serial(chunks: &VecDeque<Fragment>) -> bool
-    ensures { IsOrderFlag result chunks.now.items }
+fn are_serial(chunks: &VecDeque<Fragment>, turns: &mut Turns) -> bool
+    ensures flag { IsOrderFlag result chunks.now.items }
+    ensures not_back { turns.old ≤ turns.new }
+    ensures walk { turns.new ≤ turns.old + length chunks.now.items }
 {
     let len = chunks.len();
     if len == 0 {
         return true;
     }
+    turns.tick();
     let first = chunks[0].chunk().tsn;
     let mut last = first;
     for place in 1..len {
+        turns.tick();
         let tsn = chunks[place].chunk().tsn;
         if !is_before(last, tsn) {
             return false;
@@ -328,37 +392,51 @@ fn are_serial(chunks: &VecDeque<Fragment>) -> bool
 }
 
 // Whether what is left stands in serial order: a list that did not is looked through.
-fn is_still_serial(was_serial: bool, chunks: &VecDeque<Fragment>) -> bool
+fn is_still_serial(was_serial: bool, chunks: &VecDeque<Fragment>, turns: &mut Turns) -> bool
     requires { was_serial ≡ true → IsSerial chunks.now.items }
-    ensures { IsOrderFlag result chunks.now.items }
+    ensures flag { IsOrderFlag result chunks.now.items }
+    ensures not_back { turns.old ≤ turns.new }
+    ensures none { was_serial ≡ true → turns.new ≡ turns.old }
+    ensures walk { turns.new ≤ turns.old + length chunks.now.items }
 {
     if was_serial {
         return true;
     }
-    are_serial(chunks)
+    are_serial(chunks, turns)
 }
 
 // How many bytes some neighbours carry, up to the greatest number.
-fn bytes_from(chunks: &VecDeque<Fragment>, first: usize, count: usize) -> usize
+fn bytes_from(chunks: &VecDeque<Fragment>, first: usize, count: usize, turns: &mut Turns) -> usize
     requires { first + count ≤ length chunks.now.items }
-    ensures { result ≡ min (bytes_of (take count (drop first chunks.now.items))) (2 ^ 64 - 1) }
+    ensures value { result
+        ≡ min (bytes_of (take count (drop first chunks.now.items))) (2 ^ 64 - 1) }
+    ensures turns { turns.new ≡ turns.old + count }
 {
     let mut bytes = 0usize;
     for step in 0..count {
+        turns.tick();
         bytes = bytes.saturating_add(chunks[first + step].chunk().user_data.len());
     }
     bytes
 }
 
 // The bytes of what is left, where so many were taken of so many: past the greatest number the rest is counted anew.
-fn bytes_without(n_bytes: usize, gone: usize, chunks: &VecDeque<Fragment>) -> usize
-    ensures { (n : ℕ) → n_bytes ≡ min (n + bytes_of chunks.now.items) (2 ^ 64 - 1)
+fn bytes_without(
+    n_bytes: usize,
+    gone: usize,
+    chunks: &VecDeque<Fragment>,
+    turns: &mut Turns,
+) -> usize
+    ensures value { (n : ℕ) → n_bytes ≡ min (n + bytes_of chunks.now.items) (2 ^ 64 - 1)
         → gone ≡ min n (2 ^ 64 - 1) → result ≡ min (bytes_of chunks.now.items) (2 ^ 64 - 1) }
+    ensures not_back { turns.old ≤ turns.new }
+    ensures none { n_bytes < 2 ^ 64 - 1 → turns.new ≡ turns.old }
+    ensures walk { turns.new ≤ turns.old + length chunks.now.items }
 {
     if n_bytes < usize::MAX {
         return n_bytes.saturating_sub(gone);
     }
-    bytes_from(chunks, 0, chunks.len())
+    bytes_from(chunks, 0, chunks.len(), turns)
 }
 
 /// Takes out the fragment at a place.
@@ -575,19 +653,39 @@ pub fn run_around(unassembled: &Loose, place: usize, turns: &mut Turns) -> Optio
     run_through(unassembled, place, here, turns)
 }
 
-/// The place and the length of the run that ends earliest, by a scan of all; None where there is none.
+/// The place and the length of the run that ends earliest, by a scan that looks at each once; None where there is none.
 pub fn find_run(unassembled: &Loose, turns: &mut Turns) -> Option<(usize, usize)>
     ensures found { IfSome result (λ run. IsEarliestRun unassembled.now.chunks run.0 run.1) }
     ensures none { IfNone result (HasNoRun unassembled.now.chunks) }
+    ensures not_back { turns.old ≤ turns.new }
+    ensures walk { turns.new ≤ turns.old + length unassembled.now.chunks }
 {
+    let mut start = None;
+    let mut tsn = 0u32;
     for place in 0..unassembled.len() {
         let here = unassembled.look(place, turns);
-        if !here.beginning_fragment {
+        start = start_at(start, place, tsn, here);
+        tsn = here.tsn;
+        if !here.ending_fragment {
             continue;
         }
-        if let Some(last) = run_end(unassembled, place, here, turns) {
-            return Some((place, last + 1 - place));
+        if let Some(first) = start {
+            return Some((first, place + 1 - first));
         }
     }
     None
+}
+
+// Where a run that holds the place may begin, where one that holds the place before may begin there, and that one has the TSN.
+fn start_at(start: Option<usize>, place: usize, tsn: u32, here: &ChunkPayloadData) -> Option<usize>
+    ensures { result ≡ (if here.now.beginning_fragment then Some place
+        else (if here.now.tsn == following_tsn tsn then start else None)) }
+{
+    if here.beginning_fragment {
+        return Some(place);
+    }
+    if here.tsn != tsn.wrapping_add(1) {
+        return None;
+    }
+    start
 }

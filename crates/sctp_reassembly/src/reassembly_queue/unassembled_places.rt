@@ -1,6 +1,6 @@
 //! Places among the unassembled fragments, by TSN: found by halves where they stand in serial order, else by a walk.
 
-ghost use Rattle.std.specs.Prelude.{◌≡◌, ℕ, ◌==◌, ◌+◌, ◌-◌, ◌^◌, ◌<◌, ◌≤◌, [], length, take, drop, reverse, slice_index_or, true, false, not, IfSome, IfNone};
+ghost use Rattle.std.specs.Prelude.{◌≡◌, ℕ, ◌==◌, ◌+◌, ◌-◌, ◌^◌, ◌<◌, ◌≤◌, ◌≢◌, [], length, take, drop, reverse, slice_index_or, true, false, not, IfSome, IfNone};
 ghost use Rattle.std.specs.List.{position_or_len};
 ghost use Rattle.sctp_data.specs.declared.chunk.chunk_payload_data.ChunkPayloadData.{ChunkPayloadData};
 ghost use Rattle.sctp_list_lemmas.specs.Serial.{comes_before, at_or_before};
@@ -23,6 +23,7 @@ pub(crate) fn place_for(unassembled: &Loose, tsn: u32, turns: &mut Turns) -> usi
     ensures not_back { turns.old ≤ turns.new }
     ensures cost { IsSerial unassembled.now.chunks
         → IsWithinDigits (length unassembled.now.chunks) (turns.new - turns.old - 2) }
+    ensures walk { turns.new ≤ turns.old + length unassembled.now.chunks + 2 }
 {
     let len = unassembled.len();
     if len == 0 {
@@ -45,6 +46,7 @@ fn first_after(unassembled: &Loose, tsn: u32, turns: &mut Turns) -> usize
     ensures place { result ≡ place_among tsn unassembled.now.chunks }
     ensures in_range { result ≤ length unassembled.now.chunks }
     ensures not_back { turns.old ≤ turns.new }
+    ensures walk { turns.new ≤ turns.old + length unassembled.now.chunks }
 {
     for place in 0..unassembled.len() {
         if sna32lt(tsn, unassembled.look(place, turns).tsn) {
@@ -93,7 +95,12 @@ pub(crate) fn place_before(
     ensures back { IfSome result (λ at. back_from (preceding_tsn tsn) unassembled.now.chunks
         ≡ reverse (take (at + 1) unassembled.now.chunks)) }
     ensures none { IfNone result (back_from (preceding_tsn tsn) unassembled.now.chunks ≡ []) }
+    ensures near { IsSerial unassembled.now.chunks → ((d : ChunkPayloadData) → 0 < place
+        → (slice_index_or unassembled.now.chunks (place - 1) d).tsn ≢ tsn)
+        → IfSome result (λ at. at + 1 ≡ place) }
+    ensures not_back { turns.old ≤ turns.new }
     ensures cost { IsSerial unassembled.now.chunks → turns.new ≤ turns.old + 2 }
+    ensures walk { turns.new ≤ turns.old + length unassembled.now.chunks + 2 }
 {
     let wanted = tsn.wrapping_sub(1);
     if !unassembled.is_serial() {
@@ -129,7 +136,10 @@ pub(crate) fn place_after(
     ensures on { IfSome result (λ at. on_from (following_tsn tsn) unassembled.now.chunks
         ≡ drop at unassembled.now.chunks) }
     ensures none { IfNone result (on_from (following_tsn tsn) unassembled.now.chunks ≡ []) }
+    ensures near { IsSerial unassembled.now.chunks → IfSome result (λ at. at ≡ place) }
+    ensures not_back { turns.old ≤ turns.new }
     ensures cost { IsSerial unassembled.now.chunks → turns.new ≤ turns.old + 1 }
+    ensures walk { turns.new ≤ turns.old + length unassembled.now.chunks + 1 }
 {
     let wanted = tsn.wrapping_add(1);
     if !unassembled.is_serial() {
@@ -154,6 +164,7 @@ fn last_among(unassembled: &Loose, tsn: u32, turns: &mut Turns) -> Option<usize>
     ensures none_back { IfNone result (back_from tsn unassembled.now.chunks ≡ []) }
     ensures none_on { IfNone result (on_from tsn unassembled.now.chunks ≡ []) }
     ensures not_back { turns.old ≤ turns.new }
+    ensures walk { turns.new ≤ turns.old + length unassembled.now.chunks }
 {
     let mut end = unassembled.len();
     while end > 0 {
@@ -170,6 +181,7 @@ fn last_among(unassembled: &Loose, tsn: u32, turns: &mut Turns) -> Option<usize>
 pub(crate) fn front_upto(unassembled: &Loose, tsn: u32, turns: &mut Turns) -> usize
     ensures place { result ≡ position_or_len (λ c. not (at_or_before c.tsn tsn)) unassembled.now.chunks }
     ensures in_range { result ≤ length unassembled.now.chunks }
+    ensures not_back { turns.old ≤ turns.new }
     ensures cost { turns.new ≤ turns.old + result + 1 }
 {
     for place in 0..unassembled.len() {

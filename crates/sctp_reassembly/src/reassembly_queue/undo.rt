@@ -1,10 +1,10 @@
 //! Chunks taken so that they can be taken back.
 
-ghost use Rattle.std.specs.Prelude.{◌≡◌, ◌==◌, ◌+◌, ◌^◌, ◌<◌, ◌≤◌, length, OnErr, IfOk, IfErr, IsOk, IsOkAnd, true, false, if◌then◌else◌};
+ghost use Rattle.std.specs.Prelude.{◌≡◌, ℕ, ◌==◌, ◌+◌, ◌^◌, ◌<◌, ◌≤◌, length, OnErr, IfOk, IfErr, IsOk, IsOkAnd, true, false, if◌then◌else◌};
 ghost use Rattle.sctp_reassembly.specs.reassembly_queue.ReassemblyQueue.{is_too_large, after_ordered_push, is_complete_with, PushesUnordered, IsCounted, held_bytes};
 ghost use Rattle.sctp_reassembly.specs.reassembly_queue.PoolUndo.{CanUndoPut, pool_undone};
 ghost use Rattle.sctp_reassembly.specs.reassembly_queue.Undo.{undone, CanUndo, last_chunks, unassembled_of, with_unassembled, without_last};
-ghost use Rattle.sctp_reassembly.specs.reassembly_queue.Costs.{ordered_push_looks, ordered_push_walk};
+ghost use Rattle.sctp_reassembly.specs.reassembly_queue.Costs.{ordered_push_looks, ordered_push_walk, FitsInOrder, Joins, unordered_push_looks, unordered_push_walk};
 ghost use Rattle.sctp_reassembly.specs.reassembly_queue.Orders.{IsOrderly};
 ghost use Rattle.sctp_base.specs.declared.error.Error.TheVariants.{ErrOutOfMemory, ErrInboundPacketTooLarge};
 
@@ -70,7 +70,7 @@ impl ReassemblyQueue {
         self.push_undoable_counted(chunk, &mut Turns::new())
     }
 
-    /// The same, and what an ordered chunk looks at is added, as `push_counted` says.
+    /// The same, and what it looks at is added, as `push_counted` says.
     pub fn push_undoable_counted(
         &mut self,
         chunk: ChunkPayloadData,
@@ -97,16 +97,21 @@ impl ReassemblyQueue {
             → turns.new ≤ turns.old + ordered_push_looks chunk self.old.held }
         ensures ordered_walk { chunk.unordered ≡ false
             → turns.new ≤ turns.old + ordered_push_walk chunk self.old.held }
+        ensures unordered_cost { chunk.unordered ≡ true → FitsInOrder chunk self.old.held
+            → (first last : ℕ) → Joins chunk self.old.held first last
+            → turns.new ≤ turns.old + unordered_push_looks self.old.held first last }
+        ensures unordered_walk { chunk.unordered ≡ true
+            → turns.new ≤ turns.old + unordered_push_walk self.old.held }
     {
         if chunk.stream_identifier != self.si {
             return Ok((false, PushUndo::of(PushChange::NotKept, self.n_bytes)));
         }
-        let place = self.place_of(&chunk);
+        let place = self.place_of(&chunk, turns);
         if self.is_too_large_at(&chunk, place, turns) {
             return Err(Error::ErrInboundPacketTooLarge);
         }
         if chunk.unordered {
-            self.push_unordered(chunk, place)
+            self.push_unordered(chunk, place, turns)
         } else {
             self.push_ordered(chunk, turns)
         }

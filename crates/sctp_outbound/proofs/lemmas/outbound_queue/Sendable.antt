@@ -17,9 +17,9 @@ use Rattle.sctp_serial.specs.DataChunks.{chunk_before, bytes_of, has_tsn, follow
 use Rattle.sctp_outbound.specs.pending_queue.PendingQueue.{Pending, front_of, list_of, next_pending, next_pending_of, chunk_to_pop, chunk_to_pop_from}
 use Rattle.sctp_outbound.specs.pending_queue.PendingQueue.{list_to_pop, rest_after, rest_from, selected_after, selected_without, without, without_message}
 use Rattle.sctp_outbound.specs.pending_queue.PendingQueue.{total_bytes}
-use Rattle.sctp_outbound.specs.pending_queue.Whole.{free, begun, GoesOn, stage_after, stage_of, IsWhole, IsMessage, IsMessageOrNone, IsSendable, ends}
+use Rattle.sctp_outbound.specs.pending_queue.Whole.{free, begun, GoesOn, stage_after, stage_of, IsWhole, IsMessage, IsMessageOrNone, IsSendable}
 use Rattle.sctp_outbound.specs.pending_queue.Whole.{partial_of}
-use Rattle.sctp_outbound.specs.pending_queue.Whole.{partially_sent, has_end, in_order, order_of, rest_then, waits}
+use Rattle.sctp_outbound.specs.pending_queue.Whole.{partially_sent, in_order, order_of, rest_then, waits}
 use Rattle.sctp_outbound.proofs.lemmas.pending_queue.CompleteMessages.{IsWhole-append, IsWhole-message, IsWhole-without, IsWhole-change_where, KeepsMessage}
 use Rattle.sctp_outbound.proofs.lemmas.pending_queue.CompleteMessages.{list_any-change_where, list_any-message, none_before, none_past, none_without}
 use Rattle.sctp_outbound.proofs.lemmas.pending_queue.CompleteMessages.{stage_below, stage_without, weaken_bound, weaken_start}
@@ -418,26 +418,6 @@ message_of_first [] x h m = absurd (none-some x (sym h))
 message_of_first (y ∷ ys) x h m = let same : y ≡ x = cc in subst (λ (z : ChunkPayloadData). IsMessage z.unordered false (y ∷ ys)) same m
 
 -- ## The order of sending
-
-whole_has_end : (kind : Bool) (n j : ℕ) (xs : List ChunkPayloadData) → IsWhole kind n (begun j) xs → list_any ends xs ≡ true
-whole_has_end kind n j [] w = absurd w
-whole_has_end kind n j (c ∷ cs) w = step c.ending_fragment w.3 (whole_has_end kind n c.message_id cs)
-  where
-    step : (b : Bool) → IsWhole kind n (if b then free (c.message_id + 1) else begun c.message_id) cs
-        → (IsWhole kind n (begun c.message_id) cs → list_any ends cs ≡ true) → (b || list_any ends cs) ≡ true
-    step true v ih = refl
-    step false v ih = ih v
-
-pub has_end_of : (q : Pending) (xs : List ChunkPayloadData) (n : ℕ) → IsSendable q xs n → has_end q.selected q.ordered ≡ true
-has_end_of q xs n s = by q.selected s.ordered
-  where
-    by : (sel : Option Selected) → IsWhole false n (stage_of false sel) q.ordered → has_end sel q.ordered ≡ true
-    by None w = refl
-    by (Some s) w = kind s.unordered w
-      where
-        kind : (k : Bool) → IsWhole false n (if k then free 0 else begun s.message_id) q.ordered → (if k then true else list_any ends q.ordered) ≡ true
-        kind true w = refl
-        kind false w = whole_has_end false n s.message_id q.ordered w
 
 nothing_waits : (os us : List ChunkPayloadData) (sel : Option Selected) (ro ru n : ℕ) (xs : List ChunkPayloadData) → IsSendable (made os us sel ro ru) xs n
     → next_pending (made os us sel ro ru) ≡ None → in_order sel os us ≡ []

@@ -229,7 +229,7 @@ after_least c = step c.ending_fragment
     step false = omega arith
 
 -- no number is below that of the stage
-numbers_from : (kind : Bool) (below : ℕ) (stage : Stage) (xs : List ChunkPayloadData) → IsWhole kind below stage xs
+pub numbers_from : (kind : Bool) (below : ℕ) (stage : Stage) (xs : List ChunkPayloadData) → IsWhole kind below stage xs
     → All (λ c. least_of stage ≤ c.message_id) xs
 numbers_from kind below (free least) [] w k d lt = absurd (omega arith)
 numbers_from kind below (begun message) [] w k d lt = absurd w

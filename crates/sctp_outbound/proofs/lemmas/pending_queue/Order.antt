@@ -57,15 +57,6 @@ rest_then-last (c ∷ cs) us i j h e le = step c.ending_fragment i j h e le (λ 
     step true (suc i) (suc j) h e le ih = slice_get-append_right us cs i j (omega arith)
     step false (suc i) (suc j) h e le ih = ih i j h (omega arith) (omega arith)
 
--- what has an end has a rest
-pub until_end_some : (xs : List ChunkPayloadData) → list_any ends xs ≡ true → 0 < until_end xs
-until_end_some [] h = absurd (false≢true h)
-until_end_some (x ∷ xs) h = step x.ending_fragment
-  where
-    step : (b : Bool) → 0 < (if b then 1 else until_end xs + 1)
-    step true = omega arith
-    step false = omega arith
-
 -- ## The chunk that goes after so many others
 
 pub at_first : (sel : Option Selected) (os us : List ChunkPayloadData) (i : ℕ) → i < ordered_first sel os → slice_get (in_order sel os us) i ≡ slice_get os i

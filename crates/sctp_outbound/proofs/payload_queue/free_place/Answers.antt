@@ -7,8 +7,8 @@ use Rattle.sctp_outbound.proofs.payload_queue.free_place.Goals as goal
 pub returns-in-Ok-clause-free : goal.returns-in-Ok-clause-free
 returns-in-Ok-clause-free c = ap not (sym (ap is_some (find_held _ c.args.tsn c.requires _ _ c.in-Ok.ensures.found)))
 
-pub returns-clause-free : goal.returns-clause-free
-returns-clause-free c = ap not (sym (ap is_some (not_found _ c.args.tsn c.in-Err.ensures.absent)))
+pub returns-in-Err-clause-free : goal.returns-in-Err-clause-free
+returns-in-Err-clause-free c = ap not (sym (ap is_some (not_found _ c.args.tsn c.in-Err.ensures.absent)))
 
 pub returns-then-len-eq0-clause-free : goal.returns-then-len-eq0-clause-free
 returns-then-len-eq0-clause-free c =

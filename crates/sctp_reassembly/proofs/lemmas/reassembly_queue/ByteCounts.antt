@@ -1,5 +1,5 @@
 -- The byte count follows what is held.
-use Rattle.std.proofs.Common.{◌≡◌, ℕ, ◌+◌, ◌-◌, ◌^◌, ◌<◌, ◌&&◌, ◌||◌, Bool, true, false, not, if◌then◌else◌, List, [], ◌∷◌, ◌++◌, Some, None, Result, Ok, Err}
+use Rattle.std.proofs.Common.{◌≡◌, ℕ, ◌+◌, ◌-◌, ◌^◌, ◌<◌, ◌&&◌, ◌||◌, Bool, true, false, not, if◌then◌else◌, List, [], ◌∷◌, ◌++◌, Result, Ok, Err}
 use Rattle.std.proofs.Common.{OnOk, OnErr, IfOk, length, take, drop, refl, sym, ap, ap₂, ◌∙◌, arith}
 use Rattle.std.specs.List.{list_any, sum_by, filter}
 use Rattle.std.proofs.lemmas.Bool.{true≢false}
@@ -12,8 +12,8 @@ use Rattle.sctp_data.specs.ChunkSet.{ChunkSet}
 use Rattle.sctp_reassembly.specs.reassembly_queue.Fragments.{has_ssn, with_chunk, new_set, sets_with, chunks_of_ssn, set_before, is_complete}
 use Rattle.sctp_serial.specs.DataChunks.{bytes_of, has_tsn, chunk_before}
 use Rattle.sctp_reassembly.specs.reassembly_queue.ReassemblyQueue.{Reassembly, ReassemblyState, set_bytes, held_bytes, IsCounted, count_up, after_ordered_push}
-use Rattle.sctp_reassembly.specs.reassembly_queue.ReassemblyQueue.{set_of_run, BecomesComplete, PushesUnordered, is_readable, state_read, message_read}
-use Rattle.sctp_reassembly.specs.reassembly_queue.ReassemblyQueue.{rest_read, after_read, bytes_read, leading_upto, after_unordered_skip, after_ordered_skip}
+use Rattle.sctp_reassembly.specs.reassembly_queue.ReassemblyQueue.{set_of_run, BecomesComplete, PushesUnordered}
+use Rattle.sctp_reassembly.specs.reassembly_queue.ReassemblyQueue.{leading_upto, after_unordered_skip, after_ordered_skip}
 use Rattle.sctp_reassembly.specs.reassembly_queue.ReassemblyQueue.{held_after_ordered_skip, is_passed, complete_sets}
 use Rattle.sctp_reassembly.specs.reassembly_queue.Loose.{IsRunTaken}
 use Rattle.sctp_reassembly.specs.reassembly_queue.Skips.{after_bounded_skip, held_after_bounded_skip, is_abandoned, misses, cannot_complete, ssn_past_sets}

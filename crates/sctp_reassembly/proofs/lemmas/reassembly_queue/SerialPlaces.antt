@@ -290,6 +290,10 @@ flag_is_on flag xs on h = subst (λ b. IsOrderFlag b xs) on h
 pub flag_is_off : (flag : Bool) (xs : List ChunkPayloadData) → flag ≡ false → IsOrderFlag flag xs → IsSerial xs → ⊥
 flag_is_off flag xs off h = subst (λ b. IsOrderFlag b xs) off h
 
+pub serial_on : (flag : Bool) (xs : List ChunkPayloadData) → IsOrderFlag flag xs → IsSerial xs → flag ≡ true
+serial_on true xs h serial = refl
+serial_on false xs h serial = absurd (h serial)
+
 pub flag_of : (flag : Bool) (xs : List ChunkPayloadData) → (flag ≡ true → IsSerial xs) → (flag ≡ false → IsSerial xs → ⊥) → IsOrderFlag flag xs
 flag_of true xs on off = on refl
 flag_of false xs on off = off refl

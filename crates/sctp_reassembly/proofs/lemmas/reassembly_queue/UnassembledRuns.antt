@@ -13,6 +13,7 @@ use Rattle.sctp_data.specs.declared.chunk.chunk_payload_data.ChunkPayloadData.{C
 use Rattle.sctp_serial.specs.Runs.{IsRising, IsRun, IsEarliestRun, IsRunAround, IsEarliestRunAround, HasNoRun, HasNoRunAround, IsStretch}
 use Rattle.sctp_reassembly.specs.reassembly_queue.Around.{IsStart, HasNoStart, IsEnd, IsFirstEnding, HasNoEnd}
 use Rattle.sctp_serial.specs.DataChunks.{following_tsn}
+use Rattle.sctp_serial.specs.Window.{IsSerial}
 
 module _ (xs : List ChunkPayloadData) (place : ℕ) where
   -- what rises to the place lies in its stretch
@@ -133,50 +134,6 @@ module _ (xs : List ChunkPayloadData) (place : ℕ) where
       let same : last ≡ place = omega (arith, e.at_or_after) in
       false≢true (sym open_end ∙ ap (λ (c : ChunkPayloadData). c.ending_fragment) read ∙ ap (λ i. (get_or xs i x).ending_fragment) (sym same) ∙ e.ends x)
 
--- no run that begins before the place
-abbrev pub NoneBefore : List ChunkPayloadData → ℕ → Type 0
-NoneBefore xs place = (f n : ℕ) → IsRun xs f n → f < place → ⊥
-
-module _ (xs : List ChunkPayloadData) (place : ℕ) where
-  pub not_at_plain : (x : ChunkPayloadData) → x ≡ get_or xs place x → x.beginning_fragment ≡ false → NoneBefore xs place → NoneBefore xs (place + 1)
-  not_at_plain x read plain none f n r lt = elim (cases_eq f place) [
-    | inl same ↦
-        false≢true (sym plain ∙ ap (λ (c : ChunkPayloadData). c.beginning_fragment) read ∙ ap (λ i. (get_or xs i x).beginning_fragment) (sym same) ∙ r.begins x)
-    | inr apart ↦ none f n r (omega arith)
-  ]
-
-  pub not_without_end : HasNoEnd xs place → NoneBefore xs place → NoneBefore xs (place + 1)
-  not_without_end no_end none f n r lt = elim (cases_eq f place) [
-    | inl same ↦ no_end (f + n - 1) (end_of xs place f n (r, omega arith, omega (arith, r.some)))
-    | inr apart ↦ none f n r (omega arith)
-  ]
-
-  -- the first beginning that has an end makes the run that ends earliest
-  pub earliest_from : (last : ℕ) (x : ChunkPayloadData) → x ≡ get_or xs place x → x.beginning_fragment ≡ true → IsEnd xs place last
-      → IsFirstEnding xs place last → NoneBefore xs place → IsEarliestRun xs place (last + 1 - place)
-  earliest_from last x read begins e earliest none =
-      let s : IsStart xs place place = record {
-        at_or_before = omega arith;
-        begins = λ d. ap (λ (c : ChunkPayloadData). c.beginning_fragment) (get_or_default xs place d x (omega (arith, e.at_or_after, e.in_range)) ∙ sym read)
-            ∙ begins;
-        no_other = λ k d lt le. absurd (omega arith);
-        rising = λ k d ge lt. absurd (omega arith);
-      } in
-      let all = joined xs place x place last s e earliest in
-      record {
-        run = all.around.0;
-        earliest = λ f n r. elim (cases_lt f place) [
-          | inl before ↦ absurd (none f n r before)
-          | inr from ↦ elim (cases_lt last f) [
-            | inl beyond ↦ omega (arith, e.at_or_after, r.some)
-            | inr upto ↦ elim (cases_eq f place) [
-              | inl same ↦ all.earliest f n (r, omega arith, omega (arith, r.some))
-              | inr apart ↦ absurd (false≢true (sym (e.no_other f x (omega arith) upto) ∙ r.begins x))
-            ]
-          ]
-        ];
-      }
-
 -- a run before the new fragment was there
 same_below : (xs : List ChunkPayloadData) (place : ℕ) (x : ChunkPayloadData) → place ≤ length xs → (f n : ℕ) → IsRun (insert xs place x) f n → f + n ≤ place
     → IsRun xs f n
@@ -256,9 +213,13 @@ pub none_of_around : (xs : List ChunkPayloadData) (place : ℕ) (d : ChunkPayloa
 none_of_around xs place d lt none None h = λ f n r. h f n (all_around xs place d lt none f n r)
 none_of_around xs place d lt none (Some r) h = tt
 
-pub flag_after_drop : (flag : Bool) (xs : List ChunkPayloadData) (count : ℕ) → count ≤ length xs → IsFlag flag xs → IsFlag flag (drop count xs)
-flag_after_drop true xs count le none = none_after_drop xs count le none
-flag_after_drop false xs count le none = tt
+-- what the mark of a search says where it is on, and that it is on in serial order without a run
+pub no_run_on : (flag : Bool) (xs : List ChunkPayloadData) → flag ≡ true → IsFlag flag xs → HasNoRun xs
+no_run_on flag xs on h = subst (λ b. IsFlag b xs) on h
+
+pub searched_on : (flag : Bool) (xs : List ChunkPayloadData) → IsFlag flag xs → IsSerial xs → HasNoRun xs → flag ≡ true
+searched_on true xs h serial none = refl
+searched_on false xs h serial none = absurd (h serial none)
 
 -- where the fragment at this place begins nothing, and neither TSN nor flag joins it to the one before
 pub cut_before : (xs : List ChunkPayloadData) (place first : ℕ) (x : ChunkPayloadData) → x ≡ get_or xs first x → x.beginning_fragment ≡ false → first ≤ place

@@ -1,18 +1,20 @@
 //! A fragment put among the unassembled ones so that it can be taken back.
 
-ghost use Rattle.std.specs.Prelude.{◌≡◌, ◌+◌, [], length, max, OnOk, OnErr, IfOk, IfErr, MatchOption};
+ghost use Rattle.std.specs.Prelude.{◌≡◌, ℕ, ◌+◌, ◌-◌, ◌*◌, ◌^◌, ◌<◌, ◌≤◌, [], length, insert, max, OnOk, OnErr, IfOk, IfErr, MatchOption};
 ghost use Rattle.sctp_base.specs.declared.error.Error.TheVariants.{ErrOutOfMemory};
 ghost use Rattle.sctp_list_lemmas.specs.Lists.{insert_before};
-ghost use Rattle.sctp_serial.specs.DataChunks.{chunk_before};
-ghost use Rattle.sctp_serial.specs.Runs.{HasNoRun};
+ghost use Rattle.sctp_serial.specs.DataChunks.{bytes_of, chunk_before};
+ghost use Rattle.sctp_serial.specs.Runs.{HasNoRun, IsStretch};
+ghost use Rattle.sctp_serial.specs.Window.{IsSerial};
 ghost use Rattle.sctp_reassembly.specs.reassembly_queue.Loose.{IsRunTaken, place_among};
 ghost use Rattle.sctp_reassembly.specs.reassembly_queue.PoolUndo.{CanUndoPut, pool_undone};
 
 use crate::reassembly_queue::fragment::Fragment;
-use crate::reassembly_queue::pool::{Pool, is_searched_after, search};
+use crate::reassembly_queue::pool::{Pool, is_known, is_searched, search};
 use crate::reassembly_queue::unassembled::InsertionUndo;
 use sctp_base::error::Result;
 use sctp_data::chunk::chunk_payload_data::ChunkPayloadData;
+use sctp_serial::turns::Turns;
 use std::alloc::Global;
 
 /// What `put_undoable` did.
@@ -26,6 +28,8 @@ pub(crate) struct PoolUndo {
 impl Pool {
     /// Puts a fragment before the first that it comes before, and takes out the run
     /// that ends earliest, if there is one. Answers that run's fragments, and what takes it all back with them.
+    /// Its looks are added: two for each other fragment of the stretch that it joins, and seven more at most, where all stand in serial
+    /// order, none was complete, and their bytes can be counted.
     /// Precondition: `place` is that place.
     /// Refuses only for memory, and nothing changes then.
     pub(crate) fn put_undoable(
@@ -33,6 +37,7 @@ impl Pool {
         alloc: Global,
         place: usize,
         chunk: ChunkPayloadData,
+        turns: &mut Turns,
     ) -> Result<(Option<Vec<Fragment>>, PoolUndo)>
         requires { place ≡ place_among chunk.tsn self.old.chunks }
         ensures ok { IfOk result (λ r.
@@ -48,19 +53,30 @@ impl Pool {
             (λ chunks. CanUndoPut r.1 chunks.items self.new)) }
         ensures err { OnErr result (self.new ≡ self.old) }
         ensures memory { IfErr result (λ e. e ≡ ErrOutOfMemory) }
+        ensures not_back { turns.old ≤ turns.new }
+        ensures cost { (first last : ℕ) → IsSerial (insert self.old.chunks place chunk)
+            → HasNoRun self.old.chunks
+            → bytes_of self.old.chunks + length chunk.user_data < 2 ^ 64 - 1
+            → IsStretch (insert self.old.chunks place chunk) place first last
+            → turns.new ≤ turns.old + 2 * (last - first) + 7 }
+        ensures walk { turns.new ≤ turns.old + 5 * length self.old.chunks + 10 }
     {
         let flags = self.unassembled.flags();
         let searched = self.searched;
-        self.unassembled.insert(alloc, place, chunk)?;
+        self.unassembled.insert_counted(alloc, place, chunk, turns)?;
         let serial = self.unassembled.is_serial();
-        let Some((first, count)) = search(&self.unassembled, searched, place) else {
+        let Some((first, count)) = search(&self.unassembled, searched, place, turns) else {
             self.searched = true;
             let put = InsertionUndo::new(place, 0, flags);
             return Ok((None, PoolUndo { put, searched }));
         };
-        match self.unassembled.take_range(alloc, first, count) {
+        match self
+            .unassembled
+            .take_range_counted(alloc, first, count, turns)
+        {
             Ok(chunks) => {
-                self.searched = is_searched_after(searched, serial);
+                let known = is_known(searched, serial);
+                self.searched = is_searched(known, &self.unassembled, turns);
                 let put = InsertionUndo::new(place, first, flags);
                 Ok((Some(chunks), PoolUndo { put, searched }))
             }

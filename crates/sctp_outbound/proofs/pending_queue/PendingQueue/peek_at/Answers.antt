@@ -1,5 +1,6 @@
-use Rattle.std.proofs.Common.{◌≡◌, ◌-◌, ◌<◌, true, sym, ◌∙◌, subst, arith}
-use Rattle.sctp_outbound.specs.pending_queue.Whole.{has_end, ordered_first}
+use Rattle.std.proofs.Common.{◌≡◌, ◌-◌, ◌<◌, false, sym, ◌∙◌, subst, arith}
+use Rattle.sctp_outbound.specs.pending_queue.Whole.{AreWhole, ordered_first, stage_of}
+use Rattle.sctp_outbound.proofs.lemmas.pending_queue.Front.{has_end_whole}
 use Rattle.sctp_outbound.proofs.lemmas.pending_queue.Order.{at_first, at_unordered, at_last}
 use Rattle.sctp_outbound.proofs.pending_queue.PendingQueue.peek_at.Goals as goal
 
@@ -12,7 +13,8 @@ returns-in_default c =
 pub returns-then-behind-len : goal.returns-then-behind-len
 returns-then-behind-len c =
     let q = c.self.inside in
-    let ended = subst (λ p. has_end p.selected p.ordered ≡ true) (sym c.self.view_is) c.requires in
+    let w = subst (λ p. AreWhole false (stage_of false p.selected) p.ordered) (sym c.self.view_is) c.requires in
+    let ended = has_end_whole w.0 q.selected q.ordered.chunks w.1 in
     let first = subst (λ p. c.in-Some.first ≡ ordered_first p.selected p.ordered) (sym c.self.view_is) c.in-Some.ensures.some.0 in
     rw (← c.self.view_is) (c.get-then-behind-len.ensures ∙ sym (at_unordered q.selected q.ordered.chunks q.unordered.chunks c.args.index
     (c.args.index - c.in-Some.first) ended (omega (arith, first, c.in-Some.ensures.some.1)) (omega arith)))
@@ -20,7 +22,8 @@ returns-then-behind-len c =
 pub returns : goal.returns
 returns c =
     let q = c.self.inside in
-    let ended = subst (λ p. has_end p.selected p.ordered ≡ true) (sym c.self.view_is) c.requires in
+    let w = subst (λ p. AreWhole false (stage_of false p.selected) p.ordered) (sym c.self.view_is) c.requires in
+    let ended = has_end_whole w.0 q.selected q.ordered.chunks w.1 in
     let first = subst (λ p. c.in-Some.first ≡ ordered_first p.selected p.ordered) (sym c.self.view_is) c.in-Some.ensures.some.0 in
     rw (← c.self.view_is) (c.get-2.ensures ∙ sym (at_last q.selected q.ordered.chunks q.unordered.chunks c.args.index (c.args.index - c.len-2.result) ended
     (omega (arith, c.in-Some.ensures.some.1)) (omega (arith, first, c.in-Some.ensures.some.1))))

@@ -1,7 +1,7 @@
 use Rattle.std.proofs.Common.{◌<◌, length, length-set, ◌∙◌, arith}
 use Rattle.std.proofs.lemmas.Bool.Decides.{nat_tests}
 use Rattle.sctp_list_lemmas.proofs.Edits.{changed_step, rewritten_step}
-use Rattle.sctp_outbound.specs.pending_queue.PendingQueue.{one_lower}
+use Rattle.sctp_outbound.specs.pending_queue.PendingQueue.{lower_by}
 use Rattle.sctp_outbound.proofs.pending_queue.line.lower_ssns_in.Goals as goal
 use Rattle.sctp_serial.specs.DataChunks.{is_on}
 
@@ -13,7 +13,8 @@ loop-place-preserved c =
     let x = c.index_mut-chunk.result.now in
     let within : i < length xs = omega (arith, c.args.chunks.now.ok.0) in
     record {
-      changed = changed_step (is_on c.args.stream_identifier) (one_lower) xs ys i x within c.loop-place.invariant.changed c.index_mut-chunk.ensures.value
+      changed =
+          changed_step (is_on c.args.stream_identifier) (lower_by c.args.by) xs ys i x within c.loop-place.invariant.changed c.index_mut-chunk.ensures.value
           (grind (arith, nat_tests, c.if-chunk-stream_identifier.false));
       same_length = length-set ys i _ ∙ c.loop-place.invariant.same_length;
       len = c.loop-place.invariant.len;
@@ -28,7 +29,8 @@ loop-place-preserved-then-chunk-stream_identifier c =
     let x = c.index_mut-chunk.result.now in
     let within : i < length xs = omega (arith, c.args.chunks.now.ok.0) in
     record {
-      changed = rewritten_step (is_on c.args.stream_identifier) (one_lower) xs ys i x within c.loop-place.invariant.changed c.index_mut-chunk.ensures.value
+      changed =
+          rewritten_step (is_on c.args.stream_identifier) (lower_by c.args.by) xs ys i x within c.loop-place.invariant.changed c.index_mut-chunk.ensures.value
           (grind (arith, nat_tests, c.if-chunk-stream_identifier.true));
       same_length = length-set ys i _ ∙ c.loop-place.invariant.same_length;
       len = c.loop-place.invariant.len;

@@ -24,6 +24,6 @@ returns-clause-counted c counted =
     let taken = rw c.in-Some.is at c.in_ok-chunks.ensures.ok in
     let bytes = taken_bytes c.self.inside.unordered_chunks.chunks c.take_run.new.self.chunks c.in-Some.chunks.items taken.0 in
     let old = subst IsCounted (sym c.self.view_is) counted in
-    let given = ap (λ (x : Chunks). bytes_of x.set.chunks) c.of.ensures ∙ ap (λ (s : ChunkSet). bytes_of s.chunks) c.set_of_run.ensures
+    let given = ap (λ (x : Chunks). bytes_of x.set.chunks) c.of.ensures ∙ ap (λ (s : ChunkSet). bytes_of s.chunks) c.set_of_run.ensures.value
     ∙ run_bytes c.in-Some.chunks.items in
     omega (arith, old, bytes, given)

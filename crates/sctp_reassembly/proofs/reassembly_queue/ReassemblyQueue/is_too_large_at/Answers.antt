@@ -7,5 +7,5 @@ pub returns-then-fits_beside_all-clause-value : goal.returns-then-fits_beside_al
 returns-then-fits_beside_all-clause-value c =
     let q = c.args.self.now in
     let (serial, small) = c.fits_beside_all.ensures.yes c.if-fits_beside_all.true in
-    let most = within_all c.args.chunk.now q.held.unassembled serial (c.requires.fits c.if-chunk.true) in
-    rw c.if-chunk.true (grind (arith, nat_tests))
+    let most = within_all c.args.chunk.now q.held.unassembled serial (c.requires.fits c.if-not-chunk.false) in
+    rw c.if-not-chunk.false (grind (arith, nat_tests))

@@ -1,6 +1,8 @@
-use Rattle.std.proofs.Common.{sym, subst}
+use Rattle.std.proofs.Common.{refl, sym, subst, ◌∙◌, arith}
+use Rattle.std.proofs.lemmas.Bool.{false≢true}
 use Rattle.sctp_reassembly.specs.reassembly_queue.ReassemblyQueue.{IsCounted}
 use Rattle.sctp_reassembly.proofs.lemmas.reassembly_queue.ByteCounts.{ordered_counted, unordered_counted, either, either_of}
+use Rattle.sctp_reassembly.proofs.lemmas.reassembly_queue.Stretches.{fits_at}
 use Rattle.sctp_reassembly.proofs.reassembly_queue.ReassemblyQueue.push_undoable_counted.Goals as goal
 
 pub returns-then-chunk-clause-counted : goal.returns-then-chunk-clause-counted
@@ -14,3 +16,64 @@ returns-else-chunk-clause-counted c fits h =
     either c.push_ordered.result c.push_ordered.ensures.ok c.push_ordered.ensures.err
     (λ put. subst IsCounted (sym put) (ordered_counted c.args.chunk c.args.self.now fits h))
     (λ same. subst IsCounted (sym same) h)
+
+-- ## Looks
+
+pub returns-then-is_too_large_at-clause-ordered_cost : goal.returns-then-is_too_large_at-clause-ordered_cost
+returns-then-is_too_large_at-clause-ordered_cost c off old new =
+    omega (arith, c.place_of-place.ensures.none off, c.is_too_large_at.ensures.few off old.numbers)
+
+pub returns-then-is_too_large_at-clause-ordered_walk : goal.returns-then-is_too_large_at-clause-ordered_walk
+returns-then-is_too_large_at-clause-ordered_walk c off = omega (arith, c.place_of-place.ensures.none off, c.is_too_large_at.ensures.cost off)
+
+pub returns-then-is_too_large_at-clause-unordered_cost : goal.returns-then-is_too_large_at-clause-unordered_cost
+returns-then-is_too_large_at-clause-unordered_cost c on fits s t w =
+    let q = c.args.self.now.held in
+    let h = fits_at q q.unassembled c.args.chunk c.place_of-place.result s t refl (c.place_of-place.ensures.place on) fits w in
+    omega (
+      arith,
+      c.place_of-place.ensures.few h.without,
+      c.is_too_large_at.ensures.unordered_cost on s t h.serial h.stretch,
+      h.stretch.holds_from,
+      h.stretch.holds_to,
+    )
+
+pub returns-then-is_too_large_at-clause-unordered_walk : goal.returns-then-is_too_large_at-clause-unordered_walk
+returns-then-is_too_large_at-clause-unordered_walk c on = omega (arith, c.place_of-place.ensures.walk, c.is_too_large_at.ensures.unordered_walk on)
+
+pub returns-then-chunk-clause-ordered_cost : goal.returns-then-chunk-clause-ordered_cost
+returns-then-chunk-clause-ordered_cost c off old new = absurd (false≢true (sym off ∙ c.if-chunk.true))
+
+pub returns-then-chunk-clause-ordered_walk : goal.returns-then-chunk-clause-ordered_walk
+returns-then-chunk-clause-ordered_walk c off = absurd (false≢true (sym off ∙ c.if-chunk.true))
+
+pub returns-then-chunk-clause-unordered_cost : goal.returns-then-chunk-clause-unordered_cost
+returns-then-chunk-clause-unordered_cost c on fits s t w =
+    let q = c.args.self.now.held in
+    let h = fits_at q q.unassembled c.args.chunk c.place_of-place.result s t refl (c.place_of-place.ensures.place on) fits w in
+    omega (
+      arith,
+      c.place_of-place.ensures.few h.without,
+      c.is_too_large_at.ensures.unordered_cost on s t h.serial h.stretch,
+      c.push_unordered.ensures.cost fits s t w,
+      h.stretch.holds_from,
+      h.stretch.holds_to,
+    )
+
+pub returns-then-chunk-clause-unordered_walk : goal.returns-then-chunk-clause-unordered_walk
+returns-then-chunk-clause-unordered_walk c on =
+    omega (arith, c.place_of-place.ensures.walk, c.is_too_large_at.ensures.unordered_walk on, c.push_unordered.ensures.walk)
+
+pub returns-else-chunk-clause-ordered_cost : goal.returns-else-chunk-clause-ordered_cost
+returns-else-chunk-clause-ordered_cost c off old new =
+    omega (arith, c.place_of-place.ensures.none off, c.is_too_large_at.ensures.few off old.numbers, c.push_ordered.ensures.few old new)
+
+pub returns-else-chunk-clause-ordered_walk : goal.returns-else-chunk-clause-ordered_walk
+returns-else-chunk-clause-ordered_walk c off =
+    omega (arith, c.place_of-place.ensures.none off, c.is_too_large_at.ensures.cost off, c.push_ordered.ensures.cost)
+
+pub returns-else-chunk-clause-unordered_cost : goal.returns-else-chunk-clause-unordered_cost
+returns-else-chunk-clause-unordered_cost c on fits s t w = absurd (false≢true (sym c.if-chunk.false ∙ on))
+
+pub returns-else-chunk-clause-unordered_walk : goal.returns-else-chunk-clause-unordered_walk
+returns-else-chunk-clause-unordered_walk c on = absurd (false≢true (sym c.if-chunk.false ∙ on))

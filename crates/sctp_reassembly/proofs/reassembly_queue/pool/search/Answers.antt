@@ -1,5 +1,6 @@
 use Rattle.std.proofs.Common.{remove, subst}
 use Rattle.sctp_reassembly.specs.reassembly_queue.Loose.{IsFlag}
+use Rattle.sctp_serial.proofs.lemmas.Serials.{serial_remove}
 use Rattle.sctp_serial.proofs.lemmas.ListEdits.{an_element}
 use Rattle.sctp_reassembly.proofs.lemmas.reassembly_queue.UnassembledRuns.{earliest_of_around, none_of_around}
 use Rattle.sctp_reassembly.proofs.reassembly_queue.pool.search.Goals as goal
@@ -11,3 +12,12 @@ returns-then-searched-clause-found c = earliest_of_around _ c.args.place (an_ele
 pub returns-then-searched-clause-none : goal.returns-then-searched-clause-none
 returns-then-searched-clause-none c = none_of_around _ c.args.place (an_element _ _ c.requires.in_range) c.requires.in_range (subst
     (λ b. IsFlag b (remove c.args.unassembled.now.chunks c.args.place)) c.if-searched.true c.requires.flag) c.run_outward.result c.run_outward.ensures.none
+
+pub returns-then-searched-clause-cost : goal.returns-then-searched-clause-cost
+returns-then-searched-clause-cost c s t serial none w = c.run_outward.ensures.cost s t w
+
+pub returns-else-searched-clause-cost : goal.returns-else-searched-clause-cost
+returns-else-searched-clause-cost c s t serial none w =
+    let xs = c.args.unassembled.now.chunks in
+    let off = subst (λ b. IsFlag b (remove xs c.args.place)) c.if-searched.false c.requires.flag in
+    absurd (off (serial_remove xs c.args.place c.requires.in_range serial) none)

@@ -4,8 +4,8 @@ use Rattle.sctp_list_lemmas.specs.Serial.{comes_before}
 use Rattle.sctp_reassembly.proofs.lemmas.reassembly_queue.SerialPlaces.{number_at, upto_more}
 use Rattle.sctp_reassembly.proofs.reassembly_queue.unassembled.are_serial.Goals as goal
 
-pub returns-then-not-is_before-2 : goal.returns-then-not-is_before-2
-returns-then-not-is_before-2 c s =
+pub returns-then-not-is_before-2-clause-flag : goal.returns-then-not-is_before-2-clause-flag
+returns-then-not-is_before-2-clause-flag c s =
     let xs = c.args.chunks.now.items in
     let i = c.loop-place.place in
     let d = c.index.result.now in
@@ -28,4 +28,5 @@ loop-place-preserved c =
       upto = upto_more xs i c.chunk.result.now.tsn c.loop-place.last c.chunk-in-loop-place.result.now.tsn
           (omega (arith, c.loop-place.auto.place)) c.is_before.ensures.second_fits front c.loop-place.invariant.last here c.loop-place.invariant.upto
           (sym c.is_before.ensures.value ∙ c.if-not-is_before.false) (sym c.is_before-in-loop-place.ensures.value ∙ c.if-not-is_before-2.false);
+      turns = omega (arith, c.loop-place.invariant.turns, c.tick-in-loop-place.ensures, c.loop-place.auto.place);
     }

@@ -8,23 +8,23 @@ use Rattle.sctp_reassembly.proofs.lemmas.reassembly_queue.SerialPlaces.{serial_i
 use Rattle.sctp_reassembly.proofs.lemmas.reassembly_queue.Unassembled.{same_list, same_long}
 use Rattle.sctp_reassembly.proofs.reassembly_queue.unassembled.Loose.stays_serial.Goals as goal
 
-pub returns-then-not-self : goal.returns-then-not-self
-returns-then-not-self c x e s =
+pub returns-then-not-self-clause-flag : goal.returns-then-not-self-clause-flag
+returns-then-not-self-clause-flag c x e s =
     let xs = c.self.inside.chunks.items in
     let le : c.args.place ≤ length xs = omega (arith, same_long c.self.view_is, c.requires) in
     flag_is_off _ xs c.if-not-self.true c.self.invariant.order
     (serial_without xs c.args.place x le (subst (λ ys. IsSerial (insert ys c.args.place x)) (sym (same_list c.self.view_is)) s))
 
-pub returns-then-not-is_behind : goal.returns-then-not-is_behind
-returns-then-not-is_behind c x e s =
+pub returns-then-not-is_behind-clause-flag : goal.returns-then-not-is_behind-clause-flag
+returns-then-not-is_behind-clause-flag c x e s =
     let xs = c.self.inside.chunks.items in
     let le : c.args.place ≤ length xs = omega (arith, same_long c.self.view_is, c.requires) in
     let there = subst (λ ys. IsSerial (insert ys c.args.place x)) (sym (same_list c.self.view_is)) s in
     c.is_behind.ensures.no c.if-not-is_behind.true
     (λ k d lt. subst (λ t. IsTrue (comes_before (get_or xs k d).tsn t)) e (was_behind xs c.args.place x le there k d lt))
 
-pub returns : goal.returns
-returns c x e =
+pub returns-clause-flag : goal.returns-clause-flag
+returns-clause-flag c x e =
     let xs = c.self.inside.chunks.items in
     let le : c.args.place ≤ length xs = omega (arith, same_long c.self.view_is, c.requires) in
     let serial = flag_is_on _ xs c.if-not-self.false c.self.invariant.order in

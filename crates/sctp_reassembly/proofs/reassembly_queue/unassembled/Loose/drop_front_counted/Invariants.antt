@@ -1,6 +1,6 @@
 use Rattle.std.proofs.Common.{◌≡◌, drop}
 use Rattle.std.specs.VecDeque.{deque_capacity}
-use Rattle.sctp_reassembly.proofs.reassembly_queue.unassembled.Loose.drop_front.Given as goal
+use Rattle.sctp_reassembly.proofs.reassembly_queue.unassembled.Loose.drop_front_counted.Given as goal
 
 abbrev pub invariant-loop-gone : goal.invariant-loop-gone
 invariant-loop-gone l = record {
