@@ -6,8 +6,8 @@
 run at the top of the repository, by hand: it is no part of the gate. Retired words are those of tools/retired_words.txt: each line
 has some, and the word in their place. The docs are all pages (*.md); what stands in code fences or between backticks is no prose, and is passed over
 for words. With --all sources (*.rt, *.antt, *.edit, lists of wrong bodies) are looked through too, names in their code included: half_sent, HalfSent.
-The type `Loose` and the kit's module `sound` are passed over. Paths that begin with a folder of this repository, and links, must name a file or a folder,
-from the top or beside the page. The exit status is 1 where a retired word or a name of nothing is found.
+The type `Loose`, the kit's module `sound` and its step `heard` are passed over. Paths that begin with a folder of this repository, and links, must
+name a file or a folder, from the top or beside the page. The exit status is 1 where a retired word or a name of nothing is found.
 """
 
 import re
@@ -18,7 +18,7 @@ from pathlib import Path
 RETIRED = "tools/retired_words.txt"
 FENCE = re.compile(r"^```.*?^```", re.M | re.S)
 SPAN = re.compile(r"`[^`\n]*`")
-FIXED = re.compile(r"\bLoose\b|^use sound\.", re.M)
+FIXED = re.compile(r"\bLoose\b|^use sound\.|^use denote\.Steps\..*|\bheard !", re.M)
 LINK = re.compile(r"\]\(([^)#\s]+)(#[^)\s]*)?\)")
 PATH = re.compile(r"(?<![\w/.])(?:crates|docs|tools|examples)/[\w./-]*\w")
 
