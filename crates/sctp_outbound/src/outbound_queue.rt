@@ -369,7 +369,8 @@ impl OutboundQueue {
     /// FORWARD-TSN need not pass it. The later numbers of its stream close up where it is ordered;
     /// the caller then lowers the stream's next number by one, for an ordered message alone. Answers its stream, whether it is
     /// unordered, and its bytes. `now` is in nanoseconds; a message is past its deadline from its deadline
-    /// on, and an empty fragment and one that establishes a channel never are. It takes no memory.
+    /// on, and an empty fragment and one that establishes a channel never are. It looks at that message, and where it is ordered at all
+    /// that waits in order; `expire_pending_run` looks at that once for several. It takes no memory.
     pub fn expire_pending(&mut self, now: u64) -> Option<(u16, bool, usize)>
         ensures answer { option_map {U = ℕ × Bool} (λ a. (a.0, a.1)) result ≡ option_map {U = ℕ
             × Bool} (λ c. (c.stream_identifier, c.unordered)) (expiring now self.old) }

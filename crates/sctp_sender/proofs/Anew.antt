@@ -71,7 +71,7 @@ pub known-acked : (bs : List GapAckBlock) (cs : List ChunkPayloadData) → AreKn
     → is_in_blocks bs (suc k) ≡ true → k < length cs → (get_or cs k d).acked ≡ true
 known-acked bs cs known k d h lt = sym (get_or-map (λ c. c.acked) cs k d false lt) ∙ known k h
 
-in-block : (n : ℕ) (b : GapAckBlock) → b.start ≤ n → n ≤ b.end → is_in_block n b ≡ true
+pub in-block : (n : ℕ) (b : GapAckBlock) → b.start ≤ n → n ≤ b.end → is_in_block n b ≡ true
 in-block n b low high = grind (arith, nat_tests, low, high)
 
 pub jumped : (p : ChunkPayloadData → Bool) (bs : List GapAckBlock) (cs : List ChunkPayloadData) → AreKnown bs cs → (from to : ℕ) → PicksOpen p from to cs
@@ -85,12 +85,12 @@ jumped p bs cs known from to picks i b lt is place next start low le end high = 
 
 -- ## Blocks that ascend
 
-record IsAhead (last : ℕ) (b : GapAckBlock) (rest : List GapAckBlock) : Type 0 where
-  behind : last < b.start
-  runs : b.start ≤ b.end
-  ascend : ascends_from b.end rest ≡ true
+pub record IsAhead (last : ℕ) (b : GapAckBlock) (rest : List GapAckBlock) : Type 0 where
+  pub behind : last < b.start
+  pub runs : b.start ≤ b.end
+  pub ascend : ascends_from b.end rest ≡ true
 
-ahead : (last : ℕ) (b : GapAckBlock) (rest : List GapAckBlock) → ascends_from last (b ∷ rest) ≡ true → IsAhead last b rest
+pub ahead : (last : ℕ) (b : GapAckBlock) (rest : List GapAckBlock) → ascends_from last (b ∷ rest) ≡ true → IsAhead last b rest
 ahead last b rest e =
     let h = both (nat_lt last b.start && nat_le b.start b.end) (ascends_from b.end rest) e in
     let t = both (nat_lt last b.start) (nat_le b.start b.end) h.0 in

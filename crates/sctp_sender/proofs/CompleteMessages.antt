@@ -14,7 +14,7 @@ any-at p (m ∷ ms) zero d lt h = or-left (p m) (list_any p ms) h
 any-at p (m ∷ ms) (suc i) d lt h = or-right (p m) (list_any p ms) (any-at p ms i d (omega (arith, lt)) h)
 
 -- where two neighbours differ, no number stands on both sides
-cut : (ms : List ℕ) (at i j d : ℕ) → StandSideBySide ms → get_or ms at d ≢ get_or ms (suc at) d → i ≤ at → at < j → j < length ms
+pub cut : (ms : List ℕ) (at i j d : ℕ) → StandSideBySide ms → get_or ms at d ≢ get_or ms (suc at) d → i ≤ at → at < j → j < length ms
     → get_or ms i d ≢ get_or ms j d
 cut [] at i j d s differ le lt in' = absurd (omega (arith, in'))
 cut (a ∷ []) at i j d s differ le lt in' = absurd (omega (arith, lt, in'))

@@ -5,6 +5,8 @@ pub mod Offsets
 pub mod InLine
 pub mod CompleteMessages
 pub mod Anew
+pub mod Counts
+pub mod KnownPlaces
 pub mod Walks
 pub mod Sent
 pub mod Sacks
@@ -28,6 +30,7 @@ pub mod FarNumbers
 pub mod Closed
 pub mod Keepings
 pub mod Reported
+pub mod SackCosts
 pub mod TakenBacks
 pub mod Lows
 mod Examples

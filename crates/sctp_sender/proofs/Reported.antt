@@ -117,7 +117,7 @@ module _ (f : Flight) (inv : IsContiguous f) (s : Sack) (fits : s.cumulative_tsn
       tsn k d lt = tsn-at cs (following_tsn f.acked_tsn) k d (omega arith) inv.run lt
 
   module _ (sorted : List GapAckBlock) (are : AreSorted sorted s.gap_ack_blocks) where
-    reached : (k : ℕ) (d : ChunkPayloadData) → k < length cs → reports s (get_or cs k d) ≡ is_reached count sorted k
+    pub reached : (k : ℕ) (d : ChunkPayloadData) → k < length cs → reports s (get_or cs k d) ≡ is_reached count sorted k
     reached k d lt = elim (cases_lt k count) [
       | inl low ↦
           let front : nat_lt k count ≡ true = grind (arith, nat_tests, low) in

@@ -2,6 +2,7 @@ pub mod Flight
 pub mod Numbers
 pub mod Reporting
 pub mod Telling
+pub mod Costs
 pub mod SideBySide
 pub mod Outgoing
 pub mod Keeping

@@ -1,5 +1,6 @@
 //! What holds of every sender, or after every run of its calls: laws, each the contract of a function that does nothing.
 
+ghost use Rattle.sctp_sender.specs.Costs.{CostsByWhatIsNew};
 ghost use Rattle.sctp_sender.specs.Numbers.{NumbersTell};
 ghost use Rattle.sctp_sender.specs.SenderRuns.{AfterEachRun, IsAccounted};
 
@@ -13,4 +14,10 @@ pub fn each_written_byte_is_accounted_for()
 /// message whose number is 2^14 or more past that of the first one in flight has 2^14 chunks of its stream in flight before it.
 pub fn numbers_alone_bound_what_is_begun()
     ensures { NumbersTell }
+{}
+
+/// Beside its blocks and what was acknowledged before, what a SACK costs goes by what it reports anew: six turns for each such chunk, and
+/// one for each chunk in flight of their messages. One that reports nothing anew costs nothing more, whatever else is in flight.
+pub fn a_sack_costs_by_what_is_new()
+    ensures { CostsByWhatIsNew }
 {}

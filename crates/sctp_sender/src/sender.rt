@@ -29,6 +29,7 @@ use sctp_data::chunk::chunk_payload_data::{
 };
 use sctp_data::chunk::chunk_selective_ack::ChunkSelectiveAck;
 use sctp_outbound::outbound_queue::OutboundQueue;
+use sctp_serial::turns::Turns;
 use sctp_stream::stream::{DataChannelStats, StreamState};
 use std::alloc::Global;
 use std::marker::Model;
@@ -84,6 +85,7 @@ impl Sender {
     ghost use Rattle.sctp_outbound.specs.pending_queue.PendingQueue.{next_pending};
     ghost use Rattle.sctp_serial.specs.DataChunks.{has_tsn};
     ghost use Rattle.sctp_serial.specs.Window.{is_held};
+    ghost use Rattle.sctp_sender.specs.Costs.{sack_turns};
     ghost use Rattle.sctp_sender.specs.Flight.{with_queue, with_room, may_send, next_after_send, resent, is_outdated, sack_refusal, released_by, message_to_abandon, has_tail_at};
     ghost use Rattle.sctp_sender.specs.Abandonment.{abandon_refusal};
     ghost use Rattle.sctp_sender.specs.Numbers.{send_refusal};
@@ -559,8 +561,42 @@ impl Sender {
         ensures outdated { is_outdated (sack_of sack.now) self.old.flight ≡ true → IsOk result }
         ensures err { OnErr result (self.new ≡ self.old) }
     {
+        self.acked_counted(sack, &mut Turns::new())
+    }
+
+    /// The same, and its turns are added: where the sender does not keep what is reported, at most `sack_turns`, as
+    /// `InFlight::acked_counted` says, none where the SACK is out of date, and at most one for each block where it is refused for what it
+    /// claims. What one that keeps it looks at to keep it takes none, nor do the amounts of the streams.
+    pub fn acked_counted(
+        &mut self,
+        sack: &ChunkSelectiveAck,
+        turns: &mut Turns,
+    ) -> Result<Vec<Released>, SenderRefusal>
+        ensures answer { IfOk result (λ r. r.items
+            ≡ with_lows (released_by (sack_of sack.now) self.old.flight) self.old.streams) }
+        ensures low { IfOk result (λ r. (s : ℕ)
+            → list_any (tells_low s) r.items ≡ fell s self.old self.new) }
+        ensures once { IfOk result (λ r. (s : ℕ) → count_by (tells_low s) r.items ≤ 1) }
+        ensures ok { OnOk result (self.new ≡ after_acked (sack_of sack.now) self.old) }
+        ensures released { IfOk result (λ r. total_bytes self.new.flight.queue + bytes_in r.items
+            ≡ total_bytes self.old.flight.queue) }
+        ensures accepted { IsOk result → sack_refusal (sack_of sack.now) self.old.flight ≡ None }
+        ensures refused { IfErr result
+            (λ e. ((e ≡ OutOfMemory) × (sack_refusal (sack_of sack.now) self.old.flight ≡ None))
+            ⊎ (sack_refusal (sack_of sack.now) self.old.flight ≡ Some e)) }
+        ensures outdated { is_outdated (sack_of sack.now) self.old.flight ≡ true → IsOk result }
+        ensures err { OnErr result (self.new ≡ self.old) }
+        ensures not_back { turns.old ≤ turns.new }
+        ensures cost { self.old.kept ≡ None
+            → turns.new ≤ turns.old + sack_turns (sack_of sack.now) self.old.flight }
+        ensures stale { self.old.kept ≡ None
+            → is_outdated (sack_of sack.now) self.old.flight ≡ true → turns.new ≡ turns.old }
+        ensures forged { self.old.kept ≡ None
+            → is_some (sack_refusal (sack_of sack.now) self.old.flight) ≡ true
+            → turns.new ≤ turns.old + length (sack_of sack.now).gap_ack_blocks }
+    {
         let kept = self.kept_after(sack)?;
-        let mut released = self.flight.acked(self.alloc, sack)?;
+        let mut released = self.flight.acked_counted(self.alloc, sack, turns)?;
         keep(&mut self.kept, kept);
         release_each(&mut self.streams, &mut released);
         Ok(released)

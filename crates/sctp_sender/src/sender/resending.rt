@@ -8,6 +8,7 @@ ghost use Rattle.sctp_serial.specs.DataChunks.{has_tsn};
 use super::Sender;
 use crate::sender::refusal::SenderRefusal;
 use sctp_data::chunk::chunk_payload_data::ChunkPayloadData;
+use sctp_serial::turns::Turns;
 
 impl Sender {
     ghost use Rattle.sctp_sender.specs.Flight.{can_resend};
@@ -60,6 +61,18 @@ impl Sender {
         ensures thirds { result
             ≡ length (thirds (count_before before self.old.flight) self.old.flight) }
     {
-        self.flight.add_miss_indications(before)
+        self.add_miss_indications_counted(before, &mut Turns::new())
+    }
+
+    /// The same, and its turns are added: one for each chunk in flight whose TSN is before this one. The look-up by which a chunk is
+    /// counted takes none.
+    pub fn add_miss_indications_counted(&mut self, before: u32, turns: &mut Turns) -> usize
+        ensures missed { self.new ≡ with_flight
+            (after_misses (count_before before self.old.flight) self.old.flight) self.old }
+        ensures thirds { result
+            ≡ length (thirds (count_before before self.old.flight) self.old.flight) }
+        ensures cost { turns.new ≡ turns.old + count_before before self.old.flight }
+    {
+        self.flight.add_miss_indications_counted(before, turns)
     }
 }

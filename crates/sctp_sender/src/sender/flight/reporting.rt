@@ -1,6 +1,6 @@
 //! What a SACK reports, and what it makes of what is in flight (RFC 4960 6.2.1).
 
-ghost use Rattle.std.specs.Prelude.{◌≡◌, ◌≢◌, ◌-◌, ◌&&◌, ◌||◌, Bool, not, nat_eq, nat_lt, ◌+◌, ◌<◌, ◌≤◌, ◌^◌, ◌⊎◌, [], ℕ, true, false, Some, None, OnOk, OnErr, IfOk, IfErr, IsOk, length, map, drop, take, vec_capacity, slice_index_or};
+ghost use Rattle.std.specs.Prelude.{◌≡◌, ◌≢◌, ◌-◌, ◌&&◌, ◌||◌, Bool, not, nat_eq, nat_lt, ◌+◌, ◌*◌, ◌<◌, ◌≤◌, ◌^◌, ◌⊎◌, [], ℕ, true, false, Some, None, OnOk, OnErr, IfOk, IfErr, IsOk, is_some, length, map, drop, take, vec_capacity, slice_index_or};
 ghost use Rattle.std.specs.List.{list_all, list_any, filter};
 ghost use Rattle.sctp_list_lemmas.specs.Lists.{change_where};
 ghost use Rattle.sctp_data.specs.SelectiveAck.{sack_of};
@@ -10,6 +10,7 @@ ghost use Rattle.sctp_outbound.specs.outbound_queue.OutboundQueue.{with_inflight
 ghost use Rattle.sctp_outbound.specs.pending_queue.Whole.{partially_sent};
 ghost use Rattle.sctp_serial.specs.DataChunks.{tsns};
 ghost use Rattle.sctp_sender.specs.declared.sender.refusal.SenderRefusal.TheVariants.{OutOfMemory};
+ghost use Rattle.sctp_sender.specs.Costs.{sack_turns};
 ghost use Rattle.sctp_sender.specs.Flight.{tsns_from, reports_anew, is_within};
 ghost use Rattle.sctp_sender.specs.Reporting.{after_block, after_blocks, goes_from_to, HasEnds, Marks};
 ghost use Rattle.sctp_sender.specs.SideBySide.{IsApartAt, StandSideBySide, messages_of};
@@ -23,6 +24,7 @@ use sctp_data::chunk::chunk_payload_data::ChunkPayloadData;
 use sctp_data::chunk::chunk_selective_ack::{ChunkSelectiveAck, GapAckBlock};
 use sctp_outbound::outbound_queue::OutboundQueue;
 use sctp_serial::serial::distance;
+use sctp_serial::turns::Turns;
 use sctp_stream::stream_numbers::put;
 use std::alloc::Global;
 
@@ -42,9 +44,8 @@ impl InFlight {
     ///
     /// All is as it was then.
     ///
-    /// It looks a few times at each block; at each chunk that it reports, but not where the SACK taken before it has a block too; at the
-    /// chunks of the messages of what it reports anew, and at one on each side; and at what leaves. Blocks that do not ascend it marks
-    /// first, distance by distance, with memory for as many marks, at most 65,536.
+    /// What it looks at `acked_counted` says. Blocks that do not ascend take memory for as many marks as the greatest distance that they
+    /// report, and one, at most 65,536.
     pub fn acked(
         &mut self,
         alloc: Global,
@@ -62,17 +63,61 @@ impl InFlight {
         ensures err { OnErr result (self.new ≡ self.old) }
         ensures outdated { is_outdated (sack_of sack.now) self.old ≡ true → IsOk result }
     {
+        self.acked_counted(alloc, sack, &mut Turns::new())
+    }
+
+    /// The same, and its turns are added, at most `sack_turns`: five for each block, and where these do not ascend three for each
+    /// distance up to the greatest that they report; one for each chunk in flight that was acknowledged before; three for each that
+    /// the SACK reports, and three more where it does so anew; and one for each of a message of which it reports a chunk anew. What
+    /// else is in flight costs nothing, however much it is. What both this SACK and the one taken before it have in blocks is passed
+    /// over, a block at a time. One that is out of date takes no turn, and one that is refused for what it claims at most one for each
+    /// block.
+    pub fn acked_counted(
+        &mut self,
+        alloc: Global,
+        sack: &ChunkSelectiveAck,
+        turns: &mut Turns,
+    ) -> Result<Vec<Released>, SenderRefusal>
+        ensures answer { IfOk result (λ released. released.items
+            ≡ released_by (sack_of sack.now) self.old) }
+        ensures ok { OnOk result (self.new ≡ after_sack (sack_of sack.now) self.old) }
+        ensures released { AreSettled self.old.queue.inflight.chunks → IfOk result
+            (λ r. total_bytes self.new.queue + bytes_in r.items ≡ total_bytes self.old.queue) }
+        ensures accepted { IsOk result → sack_refusal (sack_of sack.now) self.old ≡ None }
+        ensures refused { IfErr result
+            (λ e. ((e ≡ OutOfMemory) × (sack_refusal (sack_of sack.now) self.old ≡ None))
+            ⊎ (sack_refusal (sack_of sack.now) self.old ≡ Some e)) }
+        ensures err { OnErr result (self.new ≡ self.old) }
+        ensures outdated { is_outdated (sack_of sack.now) self.old ≡ true → IsOk result }
+        ensures not_back { turns.old ≤ turns.new }
+        ensures cost { turns.new ≤ turns.old + sack_turns (sack_of sack.now) self.old }
+        ensures stale { is_outdated (sack_of sack.now) self.old ≡ true → turns.new ≡ turns.old }
+        ensures forged { is_some (sack_refusal (sack_of sack.now) self.old) ≡ true
+            → turns.new ≤ turns.old + length (sack_of sack.now).gap_ack_blocks }
+    {
         let mut released = Vec::new(alloc);
-        if !self.is_current(sack)? {
+        if !self.is_current_counted(sack, turns)? {
             return Ok(released);
         }
         let count = distance(self.acked_tsn, sack.cumulative_tsn_ack) as usize;
-        let sorted = sorted_blocks(alloc, &sack.gap_ack_blocks)?;
-        tell_anew(&self.queue, &self.known, count, &sorted, &mut released)?;
-        acknowledge_answered(&mut self.queue, self.acked_tsn, &released);
+        let sorted = sorted_blocks(alloc, &sack.gap_ack_blocks, turns)?;
+        tell_anew(
+            &self.queue,
+            &self.known,
+            count,
+            &sorted,
+            &mut released,
+            turns,
+        )?;
+        acknowledge_answered(&mut self.queue, self.acked_tsn, &released, turns);
         let partial = partial_of(&self.queue);
-        judge_each(&self.queue, self.acked_tsn, partial, &mut released);
-        pop_run(&mut self.queue, self.acked_tsn.wrapping_add(1), count);
+        judge_each(&self.queue, self.acked_tsn, partial, &mut released, turns);
+        pop_run(
+            &mut self.queue,
+            self.acked_tsn.wrapping_add(1),
+            count,
+            turns,
+        );
         self.acked_tsn = sack.cumulative_tsn_ack;
         self.known = sorted;
         Ok(released)
@@ -86,6 +131,24 @@ impl InFlight {
         ensures refused { IfErr result (λ e. sack_refusal (sack_of sack.now) self.now ≡ Some e) }
         ensures outdated { is_outdated (sack_of sack.now) self.now ≡ true → IsOk result }
     {
+        self.is_current_counted(sack, &mut Turns::new())
+    }
+
+    /// The same, and its turns are added: at most one for each block, and none where the SACK is out of date.
+    pub fn is_current_counted(
+        &self,
+        sack: &ChunkSelectiveAck,
+        turns: &mut Turns,
+    ) -> Result<bool, SenderRefusal>
+        ensures answer { IfOk result (λ current. current
+            ≡ not (is_outdated (sack_of sack.now) self.now)) }
+        ensures accepted { IsOk result → sack_refusal (sack_of sack.now) self.now ≡ None }
+        ensures refused { IfErr result (λ e. sack_refusal (sack_of sack.now) self.now ≡ Some e) }
+        ensures outdated { is_outdated (sack_of sack.now) self.now ≡ true → IsOk result }
+        ensures not_back { turns.old ≤ turns.new }
+        ensures cost { turns.new ≤ turns.old + length (sack_of sack.now).gap_ack_blocks }
+        ensures stale { is_outdated (sack_of sack.now) self.now ≡ true → turns.new ≡ turns.old }
+    {
         if sna32lt(sack.cumulative_tsn_ack, self.acked_tsn) {
             return Ok(false);
         }
@@ -94,7 +157,7 @@ impl InFlight {
         if in_flight < count {
             return Err(SenderRefusal::InflightQueueTsnPop);
         }
-        if !are_within(&sack.gap_ack_blocks, in_flight - count) {
+        if !are_within(&sack.gap_ack_blocks, in_flight - count, turns) {
             return Err(SenderRefusal::TsnRequestNotExist);
         }
         Ok(true)
@@ -102,10 +165,13 @@ impl InFlight {
 }
 
 // Whether each block reports nothing, or distances from 1 to the greatest alone.
-fn are_within(blocks: &[GapAckBlock], left: usize) -> bool
-    ensures { result ≡ list_all (is_within left) blocks.now }
+fn are_within(blocks: &[GapAckBlock], left: usize, turns: &mut Turns) -> bool
+    ensures answer { result ≡ list_all (is_within left) blocks.now }
+    ensures not_back { turns.old ≤ turns.new }
+    ensures cost { turns.new ≤ turns.old + length blocks.now }
 {
     for block in blocks {
+        turns.tick();
         if !is_within(block, left) {
             return false;
         }
@@ -120,20 +186,38 @@ fn is_within(block: &GapAckBlock, left: usize) -> bool
     block.end < block.start || (block.start > 0 && block.end as usize <= left)
 }
 
-// For each distance up to the greatest that a block reports, whether one does. Each block and each distance is looked at once.
+// For each distance up to the greatest that a block reports, whether one does.
 pub(super) fn marks_of(alloc: Global, blocks: &[GapAckBlock]) -> Result<Vec<bool>, SenderRefusal>
     ensures marks { IfOk result (λ marks. Marks marks.items blocks.now) }
     ensures count { IfOk result (λ marks. length marks.items ≡ after_blocks blocks.now) }
     ensures small { IfOk result (λ marks. length marks.items ≤ 2 ^ 16) }
     ensures memory { IfErr result (λ e. e ≡ OutOfMemory) }
 {
-    let ends = ends_of(alloc, blocks)?;
+    marks_of_counted(alloc, blocks, &mut Turns::new())
+}
+
+// The same, and its turns are added: two for each block, and one for each of these distances.
+pub(super) fn marks_of_counted(
+    alloc: Global,
+    blocks: &[GapAckBlock],
+    turns: &mut Turns,
+) -> Result<Vec<bool>, SenderRefusal>
+    ensures marks { IfOk result (λ marks. Marks marks.items blocks.now) }
+    ensures count { IfOk result (λ marks. length marks.items ≡ after_blocks blocks.now) }
+    ensures small { IfOk result (λ marks. length marks.items ≤ 2 ^ 16) }
+    ensures memory { IfErr result (λ e. e ≡ OutOfMemory) }
+    ensures not_back { turns.old ≤ turns.new }
+    ensures cost { turns.new
+        ≤ turns.old + 2 * length blocks.now + after_blocks blocks.now }
+{
+    let ends = ends_of(alloc, blocks, turns)?;
     let mut marks = Vec::new(alloc);
     if marks.reserve(ends.len()).is_err() {
         return Err(SenderRefusal::OutOfMemory);
     }
     let mut end = 0;
     for offset in 0..ends.len() {
+        turns.tick();
         end = end.max(ends[offset]);
         put(&mut marks, offset < end as usize);
     }
@@ -141,16 +225,23 @@ pub(super) fn marks_of(alloc: Global, blocks: &[GapAckBlock]) -> Result<Vec<bool
 }
 
 // For each distance up to the greatest that a block reports, one more than the greatest end of the blocks that begin there.
-fn ends_of(alloc: Global, blocks: &[GapAckBlock]) -> Result<Vec<u32>, SenderRefusal>
+fn ends_of(
+    alloc: Global,
+    blocks: &[GapAckBlock],
+    turns: &mut Turns,
+) -> Result<Vec<u32>, SenderRefusal>
     ensures ends { IfOk result (λ ends. HasEnds ends.items blocks.now) }
     ensures count { IfOk result (λ ends. length ends.items ≡ after_blocks blocks.now) }
     ensures small { IfOk result (λ ends. length ends.items ≤ 2 ^ 16) }
     ensures memory { IfErr result (λ e. e ≡ OutOfMemory) }
+    ensures not_back { turns.old ≤ turns.new }
+    ensures cost { turns.new ≤ turns.old + 2 * length blocks.now }
 {
-    let Ok(mut ends) = vec![in alloc; 0u32; after_blocks(blocks)] else {
+    let Ok(mut ends) = vec![in alloc; 0u32; after_blocks(blocks, turns)] else {
         return Err(SenderRefusal::OutOfMemory);
     };
     for block in blocks {
+        turns.tick();
         note_block(&mut ends, block);
     }
     Ok(ends)
@@ -174,12 +265,14 @@ fn note_block(ends: &mut Vec<u32>, block: &GapAckBlock)
 }
 
 // One more than the greatest distance that a block reports, 0 where none reports any.
-fn after_blocks(blocks: &[GapAckBlock]) -> usize
+fn after_blocks(blocks: &[GapAckBlock], turns: &mut Turns) -> usize
     ensures value { result ≡ after_blocks blocks.now }
     ensures small { result ≤ 2 ^ 16 }
+    ensures cost { turns.new ≡ turns.old + length blocks.now }
 {
     let mut after = 0;
     for block in blocks {
+        turns.tick();
         after = after.max(after_block(block));
     }
     after as usize
@@ -259,15 +352,17 @@ fn partial_of(queue: &OutboundQueue) -> Option<u64>
     Some(chunk.message_id)
 }
 
-// Takes so many chunks from the front, which have TSNs one after another.
-fn pop_run(queue: &mut OutboundQueue, first: u32, count: usize)
+// Takes so many chunks from the front, which have TSNs one after another, a turn for each.
+fn pop_run(queue: &mut OutboundQueue, first: u32, count: usize, turns: &mut Turns)
     requires run { tsns queue.old.inflight.chunks
         ≡ tsns_from first (length queue.old.inflight.chunks) }
     requires within { count ≤ length queue.old.inflight.chunks }
     requires few { count < 2 ^ 31 }
-    ensures { queue.new ≡ with_inflight queue.old (drop count queue.old.inflight.chunks) }
+    ensures value { queue.new ≡ with_inflight queue.old (drop count queue.old.inflight.chunks) }
+    ensures cost { turns.new ≡ turns.old + count }
 {
     for place in 0..count {
+        turns.tick();
         queue.pop(first.wrapping_add(place as u32));
     }
 }

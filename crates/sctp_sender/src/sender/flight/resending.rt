@@ -16,6 +16,7 @@ use sctp_base::util::sna32lt;
 use sctp_data::chunk::chunk_payload_data::{ChunkPayloadData, ReliabilityType};
 use sctp_outbound::outbound_queue::OutboundQueue;
 use sctp_serial::serial::distance;
+use sctp_serial::turns::Turns;
 use sctp_stream::stream_numbers::put;
 use std::alloc::Global;
 
@@ -96,9 +97,19 @@ impl InFlight {
         ensures missed { self.new ≡ after_misses (count_before before self.old) self.old }
         ensures thirds { result ≡ length (thirds (count_before before self.old) self.old) }
     {
+        self.add_miss_indications_counted(before, &mut Turns::new())
+    }
+
+    /// The same, and its turns are added: one for each chunk in flight whose TSN is before this one. The look-up by which a chunk is
+    /// counted takes none.
+    pub fn add_miss_indications_counted(&mut self, before: u32, turns: &mut Turns) -> usize
+        ensures missed { self.new ≡ after_misses (count_before before self.old) self.old }
+        ensures thirds { result ≡ length (thirds (count_before before self.old) self.old) }
+        ensures cost { turns.new ≡ turns.old + count_before before self.old }
+    {
         let count = self.count_before(before);
         let first = self.acked_tsn.wrapping_add(1);
-        count_missing(&mut self.queue, first, count)
+        count_missing(&mut self.queue, first, count, turns)
     }
 
     // How many chunks in flight have TSNs before this one.
@@ -191,7 +202,7 @@ fn is_over(count: u32, limit: Option<u32>) -> bool
 }
 
 // Counts each of the first so many chunks in flight that can miss as missing once more. Answers how many are for the third time.
-fn count_missing(queue: &mut OutboundQueue, first: u32, count: usize) -> usize
+fn count_missing(queue: &mut OutboundQueue, first: u32, count: usize, turns: &mut Turns) -> usize
     requires run { tsns queue.old.inflight.chunks
         ≡ tsns_from first (length queue.old.inflight.chunks) }
     requires few { length queue.old.inflight.chunks < 2 ^ 31 }
@@ -201,9 +212,11 @@ fn count_missing(queue: &mut OutboundQueue, first: u32, count: usize) -> usize
         ++ drop count queue.old.inflight.chunks) }
     ensures thirds { result
         ≡ length (filter is_third (take count queue.old.inflight.chunks)) }
+    ensures cost { turns.new ≡ turns.old + count }
 {
     let mut thirds = 0;
     for place in 0..count {
+        turns.tick();
         let Some(chunk) = queue.inflight_at(place) else {
             unreachable!()
         };

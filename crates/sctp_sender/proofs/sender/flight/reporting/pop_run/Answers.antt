@@ -10,5 +10,9 @@ loop-place-preserved c =
     let i = c.loop-place.place in
     let lt : i < length q.inflight.chunks = omega (arith, c.loop-place-test.true, c.requires.within) in
     let step = front-dropped q.inflight.chunks c.args.first i c.ranges.first.fits c.requires.run lt in
-    c.pop.ensures.rest ∙ ap (λ (o : Outbound). with_inflight o (without_front ((c.args.first + i) % 2 ^ 32) o.inflight.chunks)) c.loop-place.invariant
-    ∙ ap (with_inflight q) step
+    record {
+      left = c.pop.ensures.rest
+          ∙ ap (λ (o : Outbound). with_inflight o (without_front ((c.args.first + i) % 2 ^ 32) o.inflight.chunks)) c.loop-place.invariant.left
+          ∙ ap (with_inflight q) step;
+      turns = omega (arith, c.tick.ensures, c.loop-place.invariant.turns);
+    }

@@ -43,6 +43,7 @@ loop-place-preserved-then-not-can_miss c =
           (sym so_far ∙ unmarked can_miss missed (λ y. refl) cs ys c.args.first i c.ranges.first.fits c.requires.run c.requires.few lt so_far x is nay);
       thirds = omega (arith, n, inv.thirds);
       few = omega (arith, inv.few);
+      turns = omega (arith, c.tick.ensures, inv.turns);
     }
 
 pub loop-place-preserved : goal.loop-place-preserved
@@ -70,4 +71,5 @@ loop-place-preserved c =
           (λ y. refl) cs ys c.args.first i c.ranges.first.fits c.requires.run c.requires.few lt so_far x is (missed_after x.miss_indicator) refl yea);
       thirds = omega (arith, n, inv.thirds, c.note_missing-third.ensures.third);
       few = omega (arith, inv.few, c.note_missing-third.ensures.third, at-most-one (x.miss_indicator == 2));
+      turns = omega (arith, c.tick.ensures, inv.turns);
     }

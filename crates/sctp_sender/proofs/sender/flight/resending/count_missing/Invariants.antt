@@ -1,4 +1,4 @@
-use Rattle.std.proofs.Common.{◌≡◌, ◌≤◌, ◌++◌, length, take, drop}
+use Rattle.std.proofs.Common.{◌≡◌, ◌+◌, ◌≤◌, ◌++◌, length, take, drop}
 use Rattle.std.specs.List.{filter}
 use Rattle.sctp_list_lemmas.specs.Lists.{change_where}
 use Rattle.sctp_outbound.specs.outbound_queue.OutboundQueue.{with_inflight}
@@ -11,4 +11,5 @@ invariant-loop-place l = record {
       (change_where can_miss missed (take l.place l.initial.queue.inflight.chunks) ++ drop l.place l.initial.queue.inflight.chunks);
   thirds : l.thirds ≡ length (filter is_third (take l.place l.initial.queue.inflight.chunks));
   few : l.thirds ≤ l.place;
+  turns : l.turns ≡ l.initial.turns + l.place;
 }

@@ -1,7 +1,8 @@
-use Rattle.std.proofs.Common.{rules, ◌≡◌, ℕ, List, [], ◌∷◌, ◌++◌, ◌<◌, ◌≤◌, true, false, get_or, ap, ◌∙◌, inl, inr, arith}
+use Rattle.std.proofs.Common.{rules, ◌≡◌, ℕ, List, [], ◌∷◌, ◌++◌, ◌<◌, ◌≤◌, true, false, length, get_or, ap, ◌∙◌, inl, inr, arith}
 use Rattle.std.specs.Prelude.{◌&&◌, ◌||◌, nat_le, nat_lt}
 use Rattle.std.proofs.lemmas.Bool.{cases_eq}
 use Rattle.std.proofs.lemmas.Bool.Decides.{nat_tests}
+use Rattle.std.proofs.lemmas.List.{length_push}
 use Rattle.sctp_data.specs.declared.chunk.chunk_selective_ack.GapAckBlock.{GapAckBlock}
 use Rattle.sctp_outbound.specs.payload_queue.Blocks.{is_in_blocks}
 use Rattle.sctp_sender.specs.Reporting.{ascends_from}
@@ -28,4 +29,13 @@ loop-offset-preserved c =
             | inl same ↦ (let m : get_or ms n false ≡ true = ap (λ k. get_or ms k false) same ∙ yes in grind (arith, nat_tests, same, m))
             | inr other ↦ grind (arith, nat_tests, other)
           ]);
+      few = (let n = length_push bs b in let m = ap length put in let few = inv.few in omega (arith, n, m, few));
+      top = omega (arith, c.loop-offset-test.true);
+      turns = omega (arith, c.tick.ensures, inv.turns);
     }
+
+pub returns-clause-few : goal.returns-clause-few
+returns-clause-few c = let inv = c.loop-offset.invariant in let few = inv.few in let top = inv.top in omega (arith, few, top)
+
+pub returns-clause-cost : goal.returns-clause-cost
+returns-clause-cost c = let inv = c.loop-offset.invariant in let turns = inv.turns in let top = inv.top in omega (arith, turns, top)

@@ -1,4 +1,4 @@
-use Rattle.std.proofs.Common.{◌≡◌, ◌+◌, ◌-◌, ◌<◌, length, set, take, get_or, ap, sym, ◌∙◌, arith}
+use Rattle.std.proofs.Common.{rules, ◌≡◌, ◌+◌, ◌-◌, ◌<◌, length, set, take, get_or, ap, sym, ◌∙◌, arith}
 use Rattle.std.specs.List.{list_any}
 use Rattle.std.proofs.lemmas.List.{get_or_default}
 use Rattle.sctp_list_lemmas.specs.Lists.{change_where}
@@ -14,7 +14,7 @@ use Rattle.sctp_sender.proofs.Answered.{any_answered, none-acknowledged, one-ack
 use Rattle.sctp_sender.proofs.sender.flight.telling.acknowledge_answered.Goals as goal
 
 pub loop-one-init : goal.loop-one-init
-loop-one-init c = ap (with_inflight c.args.queue.now) (sym (none-acknowledged c.args.queue.now.inflight.chunks))
+loop-one-init c = record { queue = ap (with_inflight c.args.queue.now) (sym (none-acknowledged c.args.queue.now.inflight.chunks)); turns = search rules }
 
 pub overflow_sub-place : goal.overflow_sub-place
 overflow_sub-place c =
@@ -36,7 +36,7 @@ mark_as_acked_at-requires c =
     let at = stands-at c.args.acked_tsn cs c.ranges.acked_tsn.fits c.requires.run c.requires.few (get_or rs i any_answered)
     (all-at (λ r. list_any (is_of_chunk r) cs) rs i any_answered c.requires.answered lt) any_chunk in
     let far = c.distance.ensures.value ∙ at.far in
-    let n = ap (λ (o : Outbound). length o.inflight.chunks) c.loop-one.invariant ∙ length-change_where (is_answered (take i rs)) as_acknowledged cs in
+    let n = ap (λ (o : Outbound). length o.inflight.chunks) c.loop-one.invariant.queue ∙ length-change_where (is_answered (take i rs)) as_acknowledged cs in
     let here = at.lt in
     omega (arith, far, n, here)
 
@@ -54,7 +54,10 @@ loop-one-preserved c =
     (all-at (λ r. list_any (is_of_chunk r) cs) rs i any_answered c.requires.answered lt) any_chunk in
     let far = c.distance.ensures.value ∙ at.far in
     let place : c.distance.result - 1 ≡ at.k = omega (arith, far) in
-    c.mark_as_acked_at.ensures.acked any_chunk ∙ ap (λ k. with_inflight now (set ys k (as_acknowledged (get_or ys k any_chunk)))) place
-    ∙ ap (with_inflight now) (one-acknowledged (following_tsn c.args.acked_tsn) cs ys rs i at.k r any_chunk (omega arith) c.requires.run c.requires.few lt
-    (get_or_default rs i any_answered r lt) at.lt at.tsn (ap (λ (o : Outbound). o.inflight.chunks) c.loop-one.invariant))
-    ∙ ap (λ (o : Outbound). with_inflight o (change_where (is_answered (take (i + 1) rs)) as_acknowledged cs)) c.loop-one.invariant
+    record {
+      queue = c.mark_as_acked_at.ensures.acked any_chunk ∙ ap (λ k. with_inflight now (set ys k (as_acknowledged (get_or ys k any_chunk)))) place
+          ∙ ap (with_inflight now) (one-acknowledged (following_tsn c.args.acked_tsn) cs ys rs i at.k r any_chunk (omega arith) c.requires.run c.requires.few lt
+          (get_or_default rs i any_answered r lt) at.lt at.tsn (ap (λ (o : Outbound). o.inflight.chunks) c.loop-one.invariant.queue))
+          ∙ ap (λ (o : Outbound). with_inflight o (change_where (is_answered (take (i + 1) rs)) as_acknowledged cs)) c.loop-one.invariant.queue;
+      turns = omega (arith, c.tick.ensures, c.loop-one.invariant.turns);
+    }

@@ -7,11 +7,12 @@ use Rattle.std.proofs.lemmas.List.{get_or_append_left, get_or_default, get_or_pa
 use Rattle.sctp_list_lemmas.proofs.Cases.{by_last}
 use Rattle.sctp_outbound.specs.payload_queue.Blocks.{is_in_blocks}
 use Rattle.sctp_sender.proofs.Offsets.{end-more, goes_past, max-is, none-before, none-behind, past-is-in}
-use Rattle.sctp_sender.proofs.sender.flight.reporting.marks_of.Goals as goal
+use Rattle.sctp_sender.proofs.sender.flight.reporting.marks_of_counted.Goals as goal
 
 pub loop-offset-init : goal.loop-offset-init
 loop-offset-init c = record {
   count = search rules;
+  turns = search rules;
   marked = λ n lt. absurd (omega (arith, lt));
   furthest = λ last le. (let none : nat_lt last 0 ≡ false = grind (arith, nat_tests) in none) ∙ sym (none-before last c.args.blocks.now);
   room = search rules;
@@ -38,6 +39,7 @@ loop-offset-preserved c =
           (λ same. ap (λ zs. get_or zs n false) put ∙ get_or_push xs (nat_lt i c.max-end.result) false n (inv.count ∙ sym same) ∙ further i (omega arith)
           ∙ past-is-in i bs ∙ ap (is_in_blocks bs) (sym same));
       furthest = λ last le. further last (omega (arith, le));
+      turns = omega (arith, c.tick.ensures, inv.turns);
       room = omega (arith, c.put.ensures.capacity, inv.room);
     }
 

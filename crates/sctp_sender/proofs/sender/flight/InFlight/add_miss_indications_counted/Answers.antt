@@ -8,7 +8,7 @@ use Rattle.sctp_sender.proofs.InLine.{part-marked-in-line}
 use Rattle.sctp_sender.proofs.Flights.{kept}
 use Rattle.sctp_sender.specs.Reporting.{AreKnown}
 use Rattle.sctp_sender.proofs.Known.{part-changed-known}
-use Rattle.sctp_sender.proofs.sender.flight.InFlight.add_miss_indications.Goals as goal
+use Rattle.sctp_sender.proofs.sender.flight.InFlight.add_miss_indications_counted.Goals as goal
 
 pub invariant_of-self : goal.invariant_of-self
 invariant_of-self c =

@@ -3,13 +3,13 @@ use Rattle.sctp_sender.specs.Flight.{Flight}
 use Rattle.sctp_sender.specs.Resending.{count_before}
 use Rattle.sctp_sender.specs.Totals.{IsAllSettled}
 use Rattle.sctp_sender.proofs.Settled.{misses-settled}
-use Rattle.sctp_sender.proofs.sender.Sender.add_miss_indications.Goals as goal
+use Rattle.sctp_sender.proofs.sender.Sender.add_miss_indications_counted.Goals as goal
 
 pub invariant_of-self : goal.invariant_of-self
 invariant_of-self c =
     let f : Flight = c.self.inside.flight in (
       c.self.invariant.0,
       c.self.invariant.1,
-      subst (λ (g : Flight). IsAllSettled g.queue) (sym c.add_miss_indications.ensures.missed)
+      subst (λ (g : Flight). IsAllSettled g.queue) (sym c.add_miss_indications_counted.ensures.missed)
           (misses-settled (count_before c.args.before f) f c.self.invariant.2),
     )
