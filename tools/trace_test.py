@@ -1,5 +1,5 @@
 #!/usr/bin/env python3
-"""Asks trace.py's reading for what was found by hand: callers of twenty-one calls, contracts of traits, definitions, and comments.
+"""Asks trace.py's reading for what was found by hand: callers of twenty-two calls, contracts of traits, definitions, and comments.
 
     python3 tools/trace_test.py
 
@@ -17,7 +17,9 @@ CALLERS = {
                                          "sctp_delivery/sender_steps expire_late", "sctp_c/sender/abandoning sctp_sender_expire_late",
                                          "benchlib/sending abandoned"},
     "sctp_outbound::PayloadQueue::pop_up_to": {"queue_tests/payload_queue pops_up_to"},
-    "sctp_reassembly::Loose::take_range": {"sctp_reassembly/reassembly_queue/pool/undo put_undoable", "sctp_reassembly/reassembly_queue/pool take_run"},
+    "sctp_reassembly::Loose::take_range": {"sctp_reassembly/reassembly_queue/pool take_run"},
+    "sctp_reassembly::Loose::take_range_counted": {"sctp_reassembly/reassembly_queue/pool/undo put_undoable",
+                                                    "sctp_reassembly/reassembly_queue/unassembled take_range"},
     "sctp_reassembly::ReassemblyQueue::forward_tsn_for_unordered": {"queue_tests/reassembly_queue skips_by_half_a_circle", "sctp_receiver/receiver/visiting skip_on"},
     "sctp_receiver::TsnFilter::record_duplicate": {"sctp_receiver/receiver/taking note_repeat"},
     "sctp_reassembly::place_for": {"sctp_reassembly/reassembly_queue place_of"},
