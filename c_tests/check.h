@@ -58,6 +58,14 @@ static unsigned passed, failed;
         CHECK(code == (wanted)); \
     } while (0)
 
+/* Makes the call where no allocation is granted. */
+#define WITHOUT_MEMORY(call, wanted) \
+    do { \
+        granted = 0; \
+        CHECK((call) == (wanted)); \
+        granted = -1; \
+    } while (0)
+
 /* The last line of a test, and its status. */
 static int report(const char *name) {
     printf("%s: %u passed, %u failed\n", name, passed, failed);

@@ -10,7 +10,7 @@ static void data(void) {
     static const uint8_t chunk[] = { 0, 0x0e, 0, 21, 0xff, 0xff, 0xff, 0xf0, 0, 2, 0, 3, 0, 0, 0, 51, 'h', 'e', 'l', 'l', 'o' };
     struct sctp_data d;
     memset(&d, 7, sizeof d);
-    REFUSE_EACH(sctp_read_data(chunk, sizeof chunk, &d), SCTP_OK, d.tsn == 0x07070707 && d.begins == 7);
+    WITHOUT_MEMORY(sctp_read_data(chunk, sizeof chunk, &d), SCTP_OK);
     CHECK(d.length == 5 && d.tsn == 0xfffffff0 && d.stream == 2 && d.sequence == 3 && d.payload_type == SCTP_PPID_STRING);
     CHECK(d.is_unordered == 1 && d.begins == 1 && d.ends == 0 && d.wants_sack == 1);
     d.tsn = 5;
@@ -31,8 +31,7 @@ static void sack(void) {
     memset(gaps, 7, sizeof gaps);
     CHECK(sctp_write_chunk(SCTP_SACK, value, sizeof value, chunk, sizeof chunk, &n) == SCTP_OK && n == 28);
     CHECK(memcmp(chunk, "\3\0\0\x1c", 4) == 0 && memcmp(chunk + 4, value, sizeof value) == 0);
-    REFUSE_EACH(sctp_read_sack(chunk, n, &s, gaps, 3, duplicates, 2), SCTP_OK,
-                s.blocks == 9 && s.credit == 9 && gaps[0].start == 0x0707 && duplicates[0] == 8);
+    WITHOUT_MEMORY(sctp_read_sack(chunk, n, &s, gaps, 3, duplicates, 2), SCTP_OK);
     CHECK(s.blocks == 2 && s.duplicates == 1 && s.cumulative_tsn == 9 && s.credit == 65536);
     CHECK(gaps[0].start == 2 && gaps[0].end == 3 && gaps[1].start == 5 && gaps[1].end == 5 && gaps[2].start == 0x0707);
     CHECK(duplicates[0] == 7 && duplicates[1] == 8);

@@ -99,8 +99,29 @@ static void own_sum(void) {
     CHECK(copy[8] == 0 && copy[12] == SCTP_COOKIE_ACK);
 }
 
+/* A packet of a SACK and a DATA chunk is read with no memory, and refused with none where a byte of its padding is not zero. */
+static void in_place(void) {
+    static const uint8_t sack[12] = { 0, 0, 0, 9, 0, 1 }, data[13] = { 0, 0, 0, 7, 0, 1, 0, 0, 0, 0, 0, 53, 'x' };
+    uint8_t whole[48];
+    struct sctp_head got;
+    struct sctp_chunk rows[2];
+    struct sctp_any_chunk any[2];
+    size_t n = 0, m = 0, count = 9;
+    CHECK(sctp_write_chunk(SCTP_SACK, sack, sizeof sack, whole + 12, 16, &n) == SCTP_OK && n == 16);
+    CHECK(sctp_write_chunk_with_flags(SCTP_DATA, 3, data, sizeof data, whole + 28, 20, &m) == SCTP_OK && m == 20);
+    CHECK(sctp_seal_packet(&head, whole, 48) == SCTP_OK);
+    WITHOUT_MEMORY(sctp_read_packet(whole, 48, &got, rows, 2, &count), SCTP_OK);
+    CHECK(count == 2 && rows[0].at == 12 && rows[0].length == 16 && rows[1].at == 28 && rows[1].length == 17 && rows[1].flags == 3);
+    WITHOUT_MEMORY(sctp_read_any_packet(whole, 48, &got, any, 2, &count), SCTP_OK);
+    CHECK(count == 2 && any[1].at == 28 && any[1].length == 17 && any[1].is_known == 1);
+    whole[47] = 1;
+    CHECK(sctp_seal_packet(&head, whole, 48) == SCTP_OK);
+    WITHOUT_MEMORY(sctp_read_packet(whole, 48, &got, rows, 2, &count), SCTP_ERR_CHUNK_HEADER_PADDING_NON_ZERO);
+}
+
 int main(void) {
     seal();
+    in_place();
     own_sum();
     read_it();
     read_two();

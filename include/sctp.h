@@ -284,8 +284,9 @@ struct sctp_chunk {
 
 /* Reads a packet under CRC-32C (RFC 4960 3, 6.8): header, checksum, and each of its chunks whole. `head` becomes its header, `count` how
  * many chunks it has, and the first `room` of them stand in `rows`; the rows behind them stay. Each chunk can then be read by the calls
- * below as `packet + row.at, row.length`. Refuses with SCTP_ERR_PACKET_RAW_TOO_SMALL, SCTP_BAD_CHECKSUM, SCTP_UNKNOWN_CHUNK, another error
- * of a chunk, or SCTP_NO_MEMORY; then nothing was written. */
+ * below as `packet + row.at, row.length`. It is read where it lies: only of chunks that are neither DATA nor SACKs a copy is made, one at a
+ * time, and given back. Refuses with SCTP_ERR_PACKET_RAW_TOO_SMALL, SCTP_BAD_CHECKSUM, SCTP_UNKNOWN_CHUNK, another error of a chunk, or,
+ * but for a packet of DATA and SACKs alone, SCTP_NO_MEMORY; then nothing was written. */
 sctp_code sctp_read_packet(const uint8_t *packet, size_t length, struct sctp_head *head, struct sctp_chunk *rows, size_t room,
                            size_t *count);
 
@@ -315,7 +316,7 @@ sctp_code sctp_read_any_packet_with_sum(const uint8_t *packet, size_t length, ui
                                         struct sctp_any_chunk *rows, size_t room, size_t *count);
 
 /* The readers below take the bytes of a chunk. They refuse with an error of the header or of that kind, or with SCTP_NO_MEMORY, and have
- * written nothing then. */
+ * written nothing then. Those of DATA and of a SACK take no memory. */
 
 /* A DATA chunk (RFC 4960 3.3.1); its user data are `length` bytes from byte 16 of the chunk on. Flags are 0 or 1. */
 struct sctp_data {
@@ -453,8 +454,8 @@ void sctp_receiver_close(sctp_receiver *receiver, uint16_t stream);
 sctp_code sctp_receiver_reset(sctp_receiver *receiver, uint16_t stream, uint32_t last_tsn);
 
 /* Takes the bytes of a DATA chunk, without its padding or with it (RFC 4960 6.2). SCTP_OK: its TSN is new, and `complete` becomes 1 where
- * a message of its stream became complete with it, else 0. SCTP_REPEAT: its TSN came before; the next SACK reports it as a duplicate,
- * but a receiver with limits notes no more of them than one SACK can report, 16,379.
+ * a message of its stream became complete with it, else 0; of the chunk its user data alone are copied. SCTP_REPEAT: its TSN came before;
+ * the next SACK reports it as a duplicate, but a receiver with limits notes no more of them than one SACK can report, 16,379.
  * Refuses with an error of bytes that are no DATA chunk, and, of a new TSN, in this order, with SCTP_SSN_TOO_FAR, SCTP_TSN_OPPOSITE,
  * SCTP_TSN_TOO_FAR, SCTP_WINDOW_FULL, SCTP_STREAM_UNKNOWN, SCTP_MESSAGE_TOO_LARGE, SCTP_NO_MEMORY: nothing is acknowledged then, and
  * the chunk may come again. `complete` stays, but with SCTP_OK. */

@@ -63,7 +63,7 @@ def items_of(lines, begin, end, outer, found):
     at = begin
     while at < end:
         line = lines[at]
-        if not line or USE.match(line) or re.match(r"\s*(pub )?mod ", line):
+        if not line or USE.match(line) or re.match(r"\s*((pub )?mod|open) ", line):
             at += 1
             continue
         until = inside(lines, at)

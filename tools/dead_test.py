@@ -57,6 +57,8 @@ pub attribute : ℕ
 attribute = zero
 
 module _ (n : ℕ) (e : bound n) where
+  open n use {H}
+
   pub of_section : ℕ
   of_section = n
 

@@ -1,5 +1,5 @@
 #!/usr/bin/env python3
-"""Asks trace.py's reading for what was found by hand: callers of twenty-two calls, contracts of traits, definitions, and comments.
+"""Asks trace.py's reading for what was found by hand: callers of twenty-one calls, contracts of traits, definitions, and comments.
 
     python3 tools/trace_test.py
 
@@ -17,11 +17,9 @@ CALLERS = {
                                          "sctp_delivery/sender_steps expire_late", "sctp_c/sender/abandoning sctp_sender_expire_late",
                                          "benchlib/sending abandoned"},
     "sctp_outbound::PayloadQueue::pop_up_to": {"queue_tests/payload_queue pops_up_to"},
-    "sctp_reassembly::Loose::take_range": {"sctp_reassembly/reassembly_queue/pool take_run"},
-    "sctp_reassembly::Loose::take_range_counted": {"sctp_reassembly/reassembly_queue/pool/undo put_undoable",
-                                                    "sctp_reassembly/reassembly_queue/unassembled take_range"},
+    "sctp_reassembly::Loose::take_range_counted": {"sctp_reassembly/reassembly_queue/pool/undo put_undoable", "sctp_reassembly/reassembly_queue/unassembled take_range"},
     "sctp_reassembly::ReassemblyQueue::forward_tsn_for_unordered": {"queue_tests/reassembly_queue skips_by_half_a_circle", "sctp_receiver/receiver/visiting skip_on"},
-    "sctp_receiver::TsnFilter::record_duplicate": {"sctp_receiver/receiver/taking note_repeat"},
+    "sctp_receiver::TsnFilter::record_duplicate_counted": {"sctp_receiver/receiver/taking note_repeat", "sctp_receiver/receiver/tsn_filter record_duplicate"},
     "sctp_reassembly::place_for": {"sctp_reassembly/reassembly_queue place_of"},
     "sctp_outbound::PayloadQueue::mark_as_acked_at": {"sctp_outbound/outbound_queue mark_as_acked_at"},
     "sctp_outbound::OutboundQueue::mark_as_acked_at": {"sctp_sender/sender/flight/telling acknowledge_answered"},
@@ -39,7 +37,7 @@ CALLERS = {
     "sctp_receiver::InboundStreams::held_bytes": {"sctp_receiver/receiver/limits held_bytes", "sctp_receiver/receiver/limits refusal_within"},
     "sctp_reassembly::ReassemblyQueue::next_len": {"sctp_receiver/receiver next_len"},
     "sctp_receiver::Receiver::held_bytes": {"sctp_receiver/receiver/limits left_of", "transfer_tests/limits_tests holds",
-                                              "sctp_c/receiver sctp_receiver_held_bytes"},
+                                              "sctp_c/receiver sctp_receiver_held_bytes", "sctp_delivery/room is_room_left"},
     "sctp_c::sctp_sender_open": {"sctp_c/callers first_chunk"},
     "crc32c::Crc::update": {"benchlib/packet sum", "crc32c/lib crc32c", "sctp_packets/checksum checksum", "sctp_show/checksum checksum",
                             "crc32c/tests datagrams", "crc32c/tests pieces"},

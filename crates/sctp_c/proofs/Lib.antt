@@ -1,8 +1,10 @@
+pub mod Alone
 pub mod AnyWalk
 mod DataOut
 mod DataSent
 pub mod Filling
 pub mod Forwards
+pub mod InPlace
 pub mod Leaving
 pub mod Messages
 pub mod Places

@@ -1,5 +1,9 @@
 -- What the strict reading of a packet reads, the reading past unknown chunks reads too.
-use Rattle.std.proofs.Common.{◌≡◌, ℕ, ◌+◌, Bool, true, false, List, [], ◌∷◌, refl, sym, subst, ap, inl, drop}
+use Rattle.std.proofs.Common.{◌≡◌, ℕ, ◌+◌, ◌≤◌, Bool, true, false, List, [], ◌∷◌, length, refl, sym, subst, ap, ◌∙◌, inl, inr, drop}
+use Rattle.std.proofs.lemmas.Bool.{false≢true}
+use Rattle.sctp_base.specs.declared.error.Error.{Error}
+use Rattle.sctp_base.specs.declared.error.Error.TheVariants.{ErrUnmarshalUnknownChunkType}
+use Rattle.sctp_chunks.specs.Kind.{KindFault}
 use Rattle.std.specs.Prelude.{not, ◌&&◌, nat_lt}
 use Rattle.std.proofs.lemmas.List.{drop-drop}
 use Rattle.sctp_base.specs.Padding.{padded_length}
@@ -34,6 +38,12 @@ read-type shutdown_complete_chunk = refl
 read-type (reconfig_chunk r) = refl
 read-type (forward_tsn_chunk f) = refl
 read-type (i_forward_tsn_chunk f) = refl
+
+-- other types are those of no chunk
+pub other_type : (e : Error) (bytes : List ℕ) → e ≡ ErrUnmarshalUnknownChunkType → 4 ≤ length bytes → is_read_type (type_at bytes) ≡ false
+    → KindFault e bytes
+unfolding KindFault
+other_type e bytes is headed unread = inr (inl (is, headed, λ w same. false≢true (sym unread ∙ ap is_read_type same ∙ read-type w)))
 
 -- none of them stops the reading
 goes-on-behind : (bytes : List ℕ) (w : Wire) → Steps bytes w → is_stopping (type_at bytes) ≡ false

@@ -2,7 +2,6 @@
 use Rattle.std.specs.Prelude.{◌≡◌, ◌⊎◌, ℕ, ◌+◌, ◌%◌, ◌<◌, ◌≤◌, Bool, true, false, not, ◌&&◌, ◌||◌, ◌==◌, nat_lt, nat_le, List, [], ◌∷◌, ◌++◌, length, drop}
 use Rattle.sctp_base.specs.declared.error.Error.{Error}
 use Rattle.sctp_base.specs.declared.error.Error.TheVariants.{ErrParseSctpChunkNotEnoughData}
-use Rattle.sctp_base.specs.Field.{u16_at, u32_at}
 use Rattle.sctp_base.specs.Padding.{padded_length}
 use Rattle.sctp_chunks.specs.Fault.{HeaderFault}
 use Rattle.sctp_chunks.specs.Framing.{IsFramed, type_at, flags_at, declared_length}
@@ -11,6 +10,7 @@ use Rattle.sctp_chunks.specs.Wire.{Wire, ReadsChunk}
 use Rattle.sctp_packets.specs.Fault.{HeadFault}
 use Rattle.sctp_packets.specs.Packet.{IsHeaded}
 use Rattle.sctp_c.specs.Flags.{flag}
+use Rattle.sctp_c.specs.Head.{HeadsPacket, rows_from}
 use Rattle.sctp_c.specs.Out.{filled}
 use Rattle.sctp_c.specs.declared.packet.SctpHead.{SctpHead}
 use Rattle.sctp_c.specs.declared.packet.any.SctpAnyChunk.{SctpAnyChunk}
@@ -52,6 +52,10 @@ any_row bytes at = record {
 abbrev pub any_chunk_at : List ℕ → ℕ → SctpAnyChunk
 any_chunk_at packet at = any_row (drop at packet) at
 
+-- of the first so many of a packet
+abbrev pub any_chunks_from : List ℕ → ℕ → List SctpAnyChunk
+any_chunks_from packet n = rows_from any_chunk_at packet 12 n
+
 -- rows tell of the chunks from one place to another; none of them stops the reading
 abbrev pub Passes : List ℕ → ℕ → List SctpAnyChunk → ℕ → Type 0
 Passes packet at [] end = at ≡ end
@@ -69,13 +73,13 @@ pub record TellsAll (packet : List ℕ) (rows : List SctpAnyChunk) : Type 0 wher
       ⊎ (IsThere (drop end packet) × (is_stopping (type_at (drop end packet)) ≡ true)
       × (rows ≡ passed ++ any_chunk_at packet end ∷ []))
 
--- ## Packets
+-- so many they are
+pub record HasAnyChunks (packet : List ℕ) (n : ℕ) : Type 0 where
+  pub rows : List SctpAnyChunk
+  pub answered : TellsAll packet rows
+  pub count : n ≡ length rows
 
--- the header's numbers stand at the front
-pub record HeadsPacket (bytes : List ℕ) (h : SctpHead) : Type 0 where
-  pub source_port : h.source_port ≡ u16_at bytes 0
-  pub destination_port : h.destination_port ≡ u16_at bytes 2
-  pub verification_tag : h.verification_tag ≡ u32_at bytes 4
+-- ## Packets
 
 -- The bytes are headed under the checksum, and have so many chunks. As many of them as there is room for stand in the rows.
 pub record IsAnyPacket (sum : List ℕ → ℕ) (bytes : List ℕ) (h : SctpHead) (count : ℕ)

@@ -1,14 +1,21 @@
 -- Packets as a caller in C sees them: a header, and where the chunks lie.
-use Rattle.std.specs.Prelude.{◌≡◌, ℕ, zero, suc, ◌+◌, List, [], ◌∷◌, ◌++◌, length, drop}
+use Rattle.std.specs.Prelude.{◌≡◌, ℕ, zero, suc, ◌+◌, ◌≤◌, List, [], ◌∷◌, ◌++◌, length, drop}
 use Rattle.crc32c.specs.Castagnoli.{crc32c_of}
-use Rattle.sctp_base.specs.Field.{le32}
+use Rattle.sctp_base.specs.Field.{le32, u16_at, u32_at}
 use Rattle.sctp_base.specs.Padding.{padded_length, four_zeroes}
+use Rattle.sctp_base.specs.Walk.{Walks}
 use Rattle.sctp_chunks.specs.Framing.{type_at, flags_at, declared_length}
-use Rattle.sctp_chunks.specs.Wire.{Wire}
-use Rattle.sctp_packets.specs.Packet.{Parts, ReadsPacket, head_encoding}
+use Rattle.sctp_chunks.specs.Wire.{Wire, data_chunk, sack_chunk}
+use Rattle.sctp_packets.specs.Packet.{Parts, ReadsPacket, Steps, after, head_encoding}
 use Rattle.sctp_c.specs.Out.{filled}
 use Rattle.sctp_c.specs.declared.packet.SctpHead.{SctpHead}
 use Rattle.sctp_c.specs.declared.packet.SctpChunk.{SctpChunk}
+
+-- the header's numbers stand at the front
+pub record HeadsPacket (bytes : List ℕ) (h : SctpHead) : Type 0 where
+  pub source_port : h.source_port ≡ u16_at bytes 0
+  pub destination_port : h.destination_port ≡ u16_at bytes 2
+  pub verification_tag : h.verification_tag ≡ u32_at bytes 4
 
 -- the header's numbers are the packet's
 pub record Tells (h : SctpHead) (p : Parts) : Type 0 where
@@ -25,12 +32,36 @@ chunk_at packet at = record {
   flags = flags_at (drop at packet);
 }
 
+-- so many rows, of chunks one behind the padding of the other, the first at a place; what a row says is handed in
+abbrev pub rows_from : {T : Type 0} → (List ℕ → ℕ → T) → List ℕ → ℕ → ℕ → List T
+rows_from row packet at zero = []
+rows_from row packet at (suc n) =
+    row packet at
+    ∷ rows_from row packet (at + padded_length (declared_length (drop at packet))) n
+
 -- so many chunks, one behind the padding of the other, the first at a place
 abbrev pub chunks_from : List ℕ → ℕ → ℕ → List SctpChunk
-chunks_from packet at zero = []
-chunks_from packet at (suc n) =
-    chunk_at packet at
-    ∷ chunks_from packet (at + padded_length (declared_length (drop at packet))) n
+chunks_from = rows_from chunk_at
+
+-- so many chunks lie so in a packet, each with its header and its padding
+abbrev pub Lie : List ℕ → ℕ → ℕ → Type 0
+Lie packet at zero = Unit {0}
+Lie packet at (suc n) =
+    (at + 4 ≤ length packet)
+    × (at + padded_length (declared_length (drop at packet)) ≤ length packet)
+    × Lie packet (at + padded_length (declared_length (drop at packet))) n
+
+-- a chunk that is read with no memory
+abbrev pub IsInPlace : Wire → Type 0
+IsInPlace (data_chunk d) = Unit {0}
+IsInPlace (sack_chunk s) = Unit {0}
+IsInPlace _ = ⊥
+
+-- the bytes are so many chunks, one behind the padding of the other
+pub record HaveChunks (bytes : List ℕ) (n : ℕ) : Type 0 where
+  pub chunks : List Wire
+  pub walk : Walks Steps after bytes chunks []
+  pub count : n ≡ length chunks
 
 -- The bytes are a packet under the checksum, of that header and so many chunks. As many of them as there is room for stand in the rows.
 pub record IsPacket (sum : List ℕ → ℕ) (bytes : List ℕ) (h : SctpHead) (count : ℕ)

@@ -1,30 +1,32 @@
 //! Packets: read whole, and sealed under a header and its checksum (RFC 4960 3).
 
-ghost use Rattle.std.specs.Prelude.{◌≡◌, ◌≢◌, ◌+◌, ◌≤◌, ◌<◌, ◌++◌, [], List, length, map, take, drop, IfOk, IfErr};
+ghost use Rattle.std.specs.Prelude.{◌≡◌, ◌≢◌, ◌+◌, ◌≤◌, ◌<◌, ◌++◌, [], List, length, take, drop, IfOk, IfErr, OnOk, IsOk, IsOkUnless};
+ghost use Rattle.std.specs.List.{AllByRecursion};
 ghost use Rattle.crc32c.specs.Castagnoli.{crc32c_of};
 ghost use Rattle.sctp_base.specs.Field.{le32};
-ghost use Rattle.sctp_base.specs.Padding.{four_zeroes};
-ghost use Rattle.sctp_base.specs.Outcome.{OrMemory, GivesUnlessMemory};
+ghost use Rattle.sctp_base.specs.Padding.{four_zeroes, padded_length};
+ghost use Rattle.sctp_base.specs.Outcome.{OrMemory};
 ghost use Rattle.sctp_base.specs.Walk.{Walks};
-ghost use Rattle.sctp_chunks.specs.Kind.{wire_of};
+ghost use Rattle.sctp_base.specs.declared.error.Error.TheVariants.{ErrOutOfMemory};
+ghost use Rattle.sctp_chunks.specs.Framing.{declared_length};
 ghost use Rattle.sctp_chunks.specs.Wire.{Wire};
-ghost use Rattle.sctp_packets.specs.Fault.{PacketFault};
-ghost use Rattle.sctp_packets.specs.Packet.{Parts, ReadsPacket, Steps, after, parts_of, body_of, packet_encoding};
+ghost use Rattle.sctp_packets.specs.Fault.{HeadFault, PacketFault, PlaceFault, WalkFault};
+ghost use Rattle.sctp_packets.specs.Packet.{IsHeaded, Parts, ReadsPacket, Steps, after, body_of, packet_encoding};
 ghost use Rattle.sctp_c.specs.Head as heads;
-ghost use Rattle.sctp_c.specs.Head.{IsPacket, chunks_from, head_bytes, sealed, parts_under};
+ghost use Rattle.sctp_c.specs.Head.{HaveChunks, HeadsPacket, IsInPlace, IsPacket, Lie, chunks_from, head_bytes, sealed, parts_under};
 ghost use Rattle.sctp_c.specs.Out.{filled};
 ghost use Rattle.sctp_c.specs.Refusal.{IsRefusal};
 
 pub mod any;
 
 use crate::code::{SCTP_OK, SCTP_SHORT_BUFFER, of_error};
-use bytes::Bytes;
-use sctp_base::error::Result;
-use sctp_base::field::{read_u16, u32_le_bytes};
+use crate::in_place::{padded_span, read_length};
+use sctp_base::error::{Error, Result};
+use sctp_base::field::{read_u16, read_u32, read_u32_le, u32_le_bytes};
 use sctp_base::util::{Checksum, get_padding_size};
-use sctp_chunks::chunk::chunk_kind::ChunkKind;
+use sctp_chunks::chunk::chunk_header::CHUNK_HEADER_SIZE;
 use sctp_packets::checksum::Crc32c;
-use sctp_packets::packet::{CommonHeader, PACKET_HEADER_SIZE, Packet};
+use sctp_packets::packet::PACKET_HEADER_SIZE;
 use std::alloc::Global;
 
 /// A packet's header but for the checksum.
@@ -60,40 +62,96 @@ fn chunk_at(packet: &[u8], at: usize) -> SctpChunk
     }
 }
 
-// Writes where the chunks of a packet lie, as many as there are rows.
-fn fill(rows: &mut [SctpChunk], packet: &[u8], chunks: &[ChunkKind])
-    requires { Walks Steps after (drop 12 packet.now) (map wire_of chunks.now) [] }
-    ensures { rows.new ≡ filled (chunks_from packet.now 12 (length chunks.now)) rows.old }
+// Writes where the chunks of a packet lie, of which there are so many: as many as there are rows.
+fn fill(rows: &mut [SctpChunk], packet: &[u8], count: usize)
+    requires { Lie packet.now 12 count }
+    ensures { rows.new ≡ filled (chunks_from packet.now 12 count) rows.old }
 {
     let mut at = PACKET_HEADER_SIZE;
-    let count = rows.len().min(chunks.len());
-    for i in 0..count {
+    let filled = rows.len().min(count);
+    for i in 0..filled {
         let chunk = chunk_at(packet, at);
         rows[i] = chunk;
         at += chunk.length + get_padding_size(chunk.length);
     }
 }
 
-fn head_of(header: &CommonHeader) -> SctpHead
-    ensures { (result.verification_tag ≡ header.now.verification_tag)
-        × (result.source_port ≡ header.now.source_port)
-        × (result.destination_port ≡ header.now.destination_port) }
+// Tests the header's length, and the checksum.
+fn check_head<C: Checksum>(raw: &[u8], checksum: &C) -> Result<()>
+    ensures headed { OnOk result (IsHeaded (C.sum checksum.now) raw.now) }
+    ensures only { IsHeaded (C.sum checksum.now) raw.now → IsOk result }
+    ensures fault { IfErr result (λ e. HeadFault (C.sum checksum.now) e raw.now) }
+{
+    if raw.len() < PACKET_HEADER_SIZE {
+        return Err(Error::ErrPacketRawTooSmall);
+    }
+    let ours = checksum.checksum(&raw[..8], &raw[PACKET_HEADER_SIZE..]);
+    if read_u32_le(raw, 8) != ours {
+        return Err(Error::ErrChecksumMismatch);
+    }
+    Ok(())
+}
+
+fn head_at(raw: &[u8]) -> SctpHead
+    requires { 12 ≤ length raw.now }
+    ensures { HeadsPacket raw.now result }
 {
     SctpHead {
-        verification_tag: header.verification_tag,
-        source_port: header.source_port,
-        destination_port: header.destination_port,
+        verification_tag: read_u32(raw, 4),
+        source_port: read_u16(raw, 0),
+        destination_port: read_u16(raw, 2),
     }
 }
 
-fn read<C: Checksum>(alloc: Global, raw: &[u8], checksum: &C) -> Result<Packet>
-    ensures found { IfOk result (λ p. ReadsPacket (C.sum checksum.now) raw.now (parts_of p)) }
+// How many bytes the chunk that the bytes begin with takes with its padding.
+fn read_next(alloc: Global, rest: &[u8]) -> Result<usize>
+    requires { 0 < length rest.now }
+    ensures found { OnOk result ((w : Wire) × Steps rest.now w) }
+    ensures span { IfOk result (λ n. n ≡ padded_length (declared_length rest.now)) }
+    ensures some { IfOk result (λ n. 4 ≤ n) }
+    ensures within { IfOk result (λ n. n ≤ length rest.now) }
+    ensures only { (w : Wire) → Steps rest.now w → IsOkUnless result ErrOutOfMemory }
+    ensures in_place { (w : Wire) → IsInPlace w → Steps rest.now w → IsOk result }
+    ensures fault { IfErr result (λ e. OrMemory e (PlaceFault e rest.now)) }
+{
+    if rest.len() < CHUNK_HEADER_SIZE {
+        return Err(Error::ErrParseSctpChunkNotEnoughData);
+    }
+    let length = read_length(alloc, rest)?;
+    padded_span(rest, length)
+}
+
+// How many chunks a packet has, up to its end.
+fn count_chunks(alloc: Global, raw: &[u8]) -> Result<usize>
+    requires { 12 ≤ length raw.now }
+    ensures found { IfOk result (HaveChunks (drop 12 raw.now)) }
+    ensures only { (ws : List Wire) → Walks Steps after (drop 12 raw.now) ws []
+        → IsOkUnless result ErrOutOfMemory }
+    ensures in_place { (ws : List Wire) → AllByRecursion IsInPlace ws
+        → Walks Steps after (drop 12 raw.now) ws [] → IsOk result }
+    ensures fault { IfErr result (λ e. OrMemory e (WalkFault e (drop 12 raw.now))) }
+{
+    let mut count = 0;
+    let mut at = PACKET_HEADER_SIZE;
+    'walk: while at < raw.len() {
+        at += read_next(alloc, &raw[at..])?;
+        count += 1;
+    }
+    Ok(count)
+}
+
+// How many chunks the bytes have, which are a packet under a checksum.
+fn count_in<C: Checksum>(alloc: Global, raw: &[u8], checksum: &C) -> Result<usize>
+    ensures headed { OnOk result (IsHeaded (C.sum checksum.now) raw.now) }
+    ensures found { IfOk result (HaveChunks (drop 12 raw.now)) }
     ensures only { (p : Parts) → ReadsPacket (C.sum checksum.now) raw.now p
-        → GivesUnlessMemory result (λ q. parts_of q ≡ p) }
+        → IsOkUnless result ErrOutOfMemory }
+    ensures in_place { (p : Parts) → AllByRecursion IsInPlace p.chunks
+        → ReadsPacket (C.sum checksum.now) raw.now p → IsOk result }
     ensures fault { IfErr result (λ e. OrMemory e (PacketFault (C.sum checksum.now) e raw.now)) }
 {
-    let bytes = Bytes::copy_from_slice(alloc, raw)?;
-    Packet::unmarshal(alloc, &bytes, checksum)
+    check_head(raw, checksum)?;
+    count_chunks(alloc, raw)
 }
 
 // Reads a packet under a checksum, and tells where its chunks lie.
@@ -109,16 +167,18 @@ fn tell<C: Checksum>(
         → IsPacket (C.sum checksum.now) raw.now head.new count.new rows.old rows.new }
     ensures only { (p : Parts) → ReadsPacket (C.sum checksum.now) raw.now p
         → result ≢ 0 → result ≡ 16 }
+    ensures in_place { (p : Parts) → AllByRecursion IsInPlace p.chunks
+        → ReadsPacket (C.sum checksum.now) raw.now p → result ≡ 0 }
     ensures refused { result ≢ 0
         → IsRefusal (λ e. PacketFault (C.sum checksum.now) e raw.now) result }
     ensures kept { result ≢ 0
         → (head.new ≡ head.old) × (count.new ≡ count.old) × (rows.new ≡ rows.old) }
 {
-    match read(alloc, raw, checksum) {
-        Ok(packet) => {
-            *head = head_of(&packet.common_header);
-            *count = packet.chunks.len();
-            fill(rows, raw, &packet.chunks);
+    match count_in(alloc, raw, checksum) {
+        Ok(chunks) => {
+            *head = head_at(raw);
+            *count = chunks;
+            fill(rows, raw, chunks);
             SCTP_OK
         }
         Err(e) => of_error(e),
@@ -126,7 +186,8 @@ fn tell<C: Checksum>(
 }
 
 /// Reads a packet under CRC-32C. Where it is one, `head` becomes its header, `count` how many chunks it has, and `rows` begin with the
-/// places of as many as there is room for. Refuses as `Packet::unmarshal` does, and then changes nothing.
+/// places of as many as there is room for. It is read where it lies: chunks but for DATA and SACKs are copied one by one, and freed. Refuses
+/// as `Packet::unmarshal` does, and then changes nothing.
 #[unsafe(no_mangle)]
 pub extern "C" fn sctp_read_packet(
     alloc: Global,
@@ -138,6 +199,9 @@ pub extern "C" fn sctp_read_packet(
     ensures read { result ≡ 0
         → IsPacket crc32c_of raw.now head.new count.new rows.old rows.new }
     ensures only { (p : Parts) → ReadsPacket crc32c_of raw.now p → result ≢ 0 → result ≡ 16 }
+    // Of DATA and SACKs alone it is read with no memory.
+    ensures in_place { (p : Parts) → AllByRecursion IsInPlace p.chunks
+        → ReadsPacket crc32c_of raw.now p → result ≡ 0 }
     ensures refused { result ≢ 0 → IsRefusal (λ e. PacketFault crc32c_of e raw.now) result }
     ensures kept { result ≢ 0
         → (head.new ≡ head.old) × (count.new ≡ count.old) × (rows.new ≡ rows.old) }
@@ -173,6 +237,9 @@ pub extern "C" fn sctp_read_packet_with_sum(
     ensures read { result ≡ 0
         → IsPacket (λ _. sum) raw.now head.new count.new rows.old rows.new }
     ensures only { (p : Parts) → ReadsPacket (λ _. sum) raw.now p → result ≢ 0 → result ≡ 16 }
+    // Of DATA and SACKs alone it is read with no memory.
+    ensures in_place { (p : Parts) → AllByRecursion IsInPlace p.chunks
+        → ReadsPacket (λ _. sum) raw.now p → result ≡ 0 }
     ensures refused { result ≢ 0 → IsRefusal (λ e. PacketFault (λ _. sum) e raw.now) result }
     ensures kept { result ≢ 0
         → (head.new ≡ head.old) × (count.new ≡ count.old) × (rows.new ≡ rows.old) }

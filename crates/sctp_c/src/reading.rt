@@ -1,29 +1,36 @@
 //! Chunks and parameters that came, as numbers.
 
-ghost use Rattle.std.specs.Prelude.{◌≡◌, ◌≢◌, ℕ, length, map, IfOk, IfErr};
+ghost use Rattle.std.specs.Prelude.{◌≡◌, ◌≢◌, ◌+◌, ◌*◌, ◌≤◌, ℕ, length, map, IfOk, IfErr};
+ghost use Rattle.sctp_base.specs.Each.{each};
+ghost use Rattle.sctp_base.specs.Field.{u32_at};
 ghost use Rattle.sctp_base.specs.Outcome.{OrMemory, GivesUnlessMemory};
 ghost use Rattle.sctp_params.specs.Param.{Parameter};
 ghost use Rattle.sctp_params.specs.ParamKind.{ReadsParam, ParamFault, parameter_of};
 ghost use Rattle.sctp_chunks.specs.Fault.{DataFault, SackFault, ForwardTsnFault, InitFault, ShutdownFault};
 ghost use Rattle.sctp_chunks.specs.Init.{Init};
 ghost use Rattle.sctp_chunks.specs.Wire.{Wire, ReadsChunk, data_chunk, sack_chunk, forward_tsn_chunk, init_chunk, shutdown_chunk};
-ghost use Rattle.sctp_data.specs.PayloadData.{Data, data_of, weight};
-ghost use Rattle.sctp_data.specs.SelectiveAck.{Sack};
+ghost use Rattle.sctp_data.specs.PayloadData.{Data, data_in, weight};
+ghost use Rattle.sctp_data.specs.SelectiveAck.{Sack, block_at};
 ghost use Rattle.sctp_data.specs.ForwardTsn.{ForwardTsn};
 ghost use Rattle.sctp_c.specs.Out.{filled};
 ghost use Rattle.sctp_c.specs.Refusal.{IsRefusal};
 ghost use Rattle.sctp_c.specs.Answered.{IsData, IsSack, IsForwardTsn, IsInit, IsParameter, data_answered, gap_answered, skip_answered};
 
 use crate::code::{SCTP_OK, of_error};
+use crate::in_place::{data_value, sack_value};
 use bytes::Bytes;
 use sctp_base::error::Result;
-use sctp_base::field::read_u16;
+use sctp_base::field::{read_u16, read_u32};
 use sctp_base::util::get_padding_size;
 use sctp_chunks::chunk::Chunk;
 use sctp_chunks::chunk::chunk_forward_tsn::{ChunkForwardTsn, ChunkForwardTsnStream};
 use sctp_chunks::chunk::chunk_init::ChunkInit;
-use sctp_chunks::chunk::chunk_payload_data::ChunkPayloadData;
-use sctp_chunks::chunk::chunk_selective_ack::{ChunkSelectiveAck, GapAckBlock};
+use sctp_chunks::chunk::chunk_payload_data::{
+    PAYLOAD_DATA_BEGINING_FRAGMENT_BITMASK, PAYLOAD_DATA_ENDING_FRAGMENT_BITMASK,
+    PAYLOAD_DATA_HEADER_SIZE, PAYLOAD_DATA_IMMEDIATE_SACK, PAYLOAD_DATA_UNORDERED_BITMASK,
+    PayloadProtocolIdentifier,
+};
+use sctp_chunks::chunk::chunk_selective_ack::SELECTIVE_ACK_HEADER_SIZE;
 use sctp_chunks::chunk::chunk_shutdown::ChunkShutdown;
 use sctp_params::param::param_kind::{ParamKind, build_param};
 use std::alloc::Global;
@@ -109,56 +116,68 @@ fn flag(set: bool) -> u8
     if set { 1 } else { 0 }
 }
 
-fn answered(chunk: &ChunkPayloadData) -> SctpData
-    ensures { result ≡ data_answered (data_of chunk.now) }
+// The numbers of a DATA chunk with these flags and this value.
+fn answered(flags: u8, value: &[u8]) -> SctpData
+    requires { 12 ≤ length value.now }
+    ensures { result ≡ data_answered (data_in flags value.now) }
 {
     SctpData {
-        length: chunk.user_data.len(),
-        tsn: chunk.tsn,
-        payload_type: chunk.payload_type.number(),
-        stream: chunk.stream_identifier,
-        sequence: chunk.stream_sequence_number,
-        is_unordered: flag(chunk.unordered),
-        begins: flag(chunk.beginning_fragment),
-        ends: flag(chunk.ending_fragment),
-        wants_sack: flag(chunk.immediate_sack),
+        length: value.len() - PAYLOAD_DATA_HEADER_SIZE,
+        tsn: read_u32(value, 0),
+        payload_type: PayloadProtocolIdentifier::from(read_u32(value, 8)).number(),
+        stream: read_u16(value, 4),
+        sequence: read_u16(value, 6),
+        is_unordered: flag(flags & PAYLOAD_DATA_UNORDERED_BITMASK != 0),
+        begins: flag(flags & PAYLOAD_DATA_BEGINING_FRAGMENT_BITMASK != 0),
+        ends: flag(flags & PAYLOAD_DATA_ENDING_FRAGMENT_BITMASK != 0),
+        wants_sack: flag(flags & PAYLOAD_DATA_IMMEDIATE_SACK != 0),
     }
 }
 
 /// Reads a DATA chunk. Refuses as `ChunkPayloadData::unmarshal` does, and then changes nothing.
 #[unsafe(no_mangle)]
-pub extern "C" fn sctp_read_data(alloc: Global, chunk: &[u8], fields: &mut SctpData) -> u32
+pub extern "C" fn sctp_read_data(_alloc: Global, chunk: &[u8], fields: &mut SctpData) -> u32
     ensures read { result ≡ 0 → IsData chunk.now fields.new }
     ensures only { (d : Data) → ReadsChunk chunk.now (data_chunk d) → result ≢ 0 → result ≡ 16 }
     ensures refused { result ≢ 0 → IsRefusal (λ e. DataFault e chunk.now) result }
+    // It takes no memory.
+    ensures granted { result ≢ 16 }
     ensures kept { result ≢ 0 → fields.new ≡ fields.old }
 {
-    match read::<ChunkPayloadData>(alloc, chunk) {
-        Ok(read) => {
-            *fields = answered(&read);
+    match data_value(chunk) {
+        Ok(value) => {
+            *fields = answered(chunk[1], value);
             SCTP_OK
         }
         Err(e) => of_error(e),
     }
 }
 
-fn fill_gaps(rows: &mut [SctpGap], blocks: &[GapAckBlock])
-    ensures { rows.new ≡ filled (map gap_answered blocks.now) rows.old }
+// Writes the gap ack blocks in the value of a SACK that has so many: as many as there are rows.
+fn fill_gaps(rows: &mut [SctpGap], value: &[u8], count: usize)
+    requires { 12 + 4 * count ≤ length value.now }
+    ensures { rows.new ≡ filled (map gap_answered
+        (each count (λ i. block_at value.now (12 + 4 * i)))) rows.old }
 {
-    let count = rows.len().min(blocks.len());
-    for i in 0..count {
+    let filled = rows.len().min(count);
+    for i in 0..filled {
+        let at = SELECTIVE_ACK_HEADER_SIZE + 4 * i;
         rows[i] = SctpGap {
-            start: blocks[i].start,
-            end: blocks[i].end,
+            start: read_u16(value, at),
+            end: read_u16(value, at + 2),
         };
     }
 }
 
-fn fill_numbers(rows: &mut [u32], numbers: &[u32])
-    ensures { rows.new ≡ filled numbers.now rows.old }
+// Writes numbers of four bytes, of which so many stand from a place on: as many as there are rows.
+fn fill_numbers(rows: &mut [u32], bytes: &[u8], at: usize, count: usize)
+    requires { at + 4 * count ≤ length bytes.now }
+    ensures { rows.new ≡ filled (each count (λ i. u32_at bytes.now (at + 4 * i))) rows.old }
 {
-    let count = rows.len().min(numbers.len());
-    rows[..count].copy_from_slice(&numbers[..count]);
+    let filled = rows.len().min(count);
+    for i in 0..filled {
+        rows[i] = read_u32(bytes, at + 4 * i);
+    }
 }
 
 fn fill_skips(rows: &mut [SctpSkip], streams: &[ChunkForwardTsnStream])
@@ -177,7 +196,7 @@ fn fill_skips(rows: &mut [SctpSkip], streams: &[ChunkForwardTsnStream])
 /// Refuses as `ChunkSelectiveAck::unmarshal` does, and then changes nothing.
 #[unsafe(no_mangle)]
 pub extern "C" fn sctp_read_sack(
-    alloc: Global,
+    _alloc: Global,
     chunk: &[u8],
     sack: &mut SctpSack,
     blocks: &mut [SctpGap],
@@ -187,19 +206,24 @@ pub extern "C" fn sctp_read_sack(
         → IsSack chunk.now sack.new blocks.old blocks.new duplicates.old duplicates.new }
     ensures only { (s : Sack) → ReadsChunk chunk.now (sack_chunk s) → result ≢ 0 → result ≡ 16 }
     ensures refused { result ≢ 0 → IsRefusal (λ e. SackFault e chunk.now) result }
+    // It takes no memory.
+    ensures granted { result ≢ 16 }
     ensures kept { result ≢ 0 → (sack.new ≡ sack.old) × (blocks.new ≡ blocks.old)
         × (duplicates.new ≡ duplicates.old) }
 {
-    match read::<ChunkSelectiveAck>(alloc, chunk) {
-        Ok(read) => {
+    match sack_value(chunk) {
+        Ok(value) => {
+            let gaps = read_u16(value, 8) as usize;
+            let repeats = read_u16(value, 10) as usize;
             *sack = SctpSack {
-                blocks: read.gap_ack_blocks.len(),
-                duplicates: read.duplicate_tsn.len(),
-                cumulative_tsn: read.cumulative_tsn_ack,
-                credit: read.advertised_receiver_window_credit,
+                blocks: gaps,
+                duplicates: repeats,
+                cumulative_tsn: read_u32(value, 0),
+                credit: read_u32(value, 4),
             };
-            fill_gaps(blocks, &read.gap_ack_blocks);
-            fill_numbers(duplicates, &read.duplicate_tsn);
+            fill_gaps(blocks, value, gaps);
+            let behind = SELECTIVE_ACK_HEADER_SIZE + 4 * gaps;
+            fill_numbers(duplicates, value, behind, repeats);
             SCTP_OK
         }
         Err(e) => of_error(e),

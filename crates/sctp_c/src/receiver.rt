@@ -151,7 +151,8 @@ pub extern "C" fn sctp_receiver_new_unlimited(
     hand_out(alloc, receiver, out)
 }
 
-/// Frees a receiver and all that it holds. The handle is not used again.
+/// Frees a receiver and all that it holds. The handle is not used again. It takes no memory.
+// No clause can say more, as at `sctp_sender_free`.
 #[unsafe(no_mangle)]
 pub extern "C" fn sctp_receiver_free(receiver: SctpReceiver) {
     drop(receiver.into_parts().into_box());

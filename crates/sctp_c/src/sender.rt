@@ -133,7 +133,9 @@ pub extern "C" fn sctp_sender_new(
     }
 }
 
-/// Frees a sender and all that it holds. The handle is not used again.
+/// Frees a sender and all that it holds. The handle is not used again. It takes no memory.
+// It takes the handle, which nothing has then any more: no clause could speak of it. Nor can one say that each block is given back: the
+// kit's `deallocate` ensures nothing, and a body that lets the handle go, and frees nothing, is proved too. The tests in C count blocks.
 #[unsafe(no_mangle)]
 pub extern "C" fn sctp_sender_free(sender: SctpSender) {
     drop(sender.into_parts().into_box());

@@ -71,7 +71,7 @@ all-skip first size max most limits cs s small some r few =
 -- ## A SACK of a receiver that is caught up
 
 -- no SACK that was taken was ahead of the receiver
-ahead-of-sacks : (first n : ℕ) (s : Session) → n < 2 ^ 31 → IsReached first n s → (h : IsInStep (base first) n s) → h.numbered.acked ≤ h.arrived.place
+pub ahead-of-sacks : (first n : ℕ) (s : Session) → n < 2 ^ 31 → IsReached first n s → (h : IsInStep (base first) n s) → h.numbered.acked ≤ h.arrived.place
 ahead-of-sacks first n s few i h =
     let p = base first in
     let given = i.given in

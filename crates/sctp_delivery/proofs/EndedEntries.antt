@@ -5,9 +5,9 @@ use Rattle.std.proofs.lemmas.Bool.{cases_lt}
 use Rattle.sctp_list_lemmas.proofs.Cases.{same-is, same-yes}
 use Rattle.sctp_list_lemmas.proofs.More.{fails, not_both}
 use Rattle.sctp_data.specs.PayloadData.{Data}
-use Rattle.sctp_delivery.proofs.OrderedEntries.{AreJoined, Joins, begins_on, begun_on, ends_on, one}
+use Rattle.sctp_delivery.proofs.OrderedEntries.{AreJoined, Joins, begins_on, begun_on, one}
 use Rattle.sctp_delivery.proofs.Sent.{Entry, IsPart, Numbered, fragment, part-length, terminal}
-use Rattle.sctp_delivery.proofs.SpreadEntries.{begun_to, ends_message, is_at, joined-rest, step-up, to-all, to-more, to-most}
+use Rattle.sctp_delivery.proofs.SpreadEntries.{begun_to, ends_message, joined-rest, step-up, to-all, to-more, to-most}
 
 -- the entry at the place passes the test
 abbrev pub entry_at : (Entry → Bool) → ℕ → List Entry → Bool

@@ -32,6 +32,7 @@ use Rattle.sctp_sender.specs.Thresholds.{with_lows}
 use Rattle.sctp_stream.specs.Stream.{new_stream}
 use Rattle.sctp_receiver.specs.ReceiverRuns.{Message}
 use Rattle.sctp_delivery.specs.Complete.{fragments_held, holds_nothing, is_exhausted, is_reliable, is_settled, reads_nothing}
+use Rattle.sctp_delivery.specs.Ending.{CanEnd}
 use Rattle.sctp_delivery.specs.Order.{ordered_places}
 use Rattle.sctp_delivery.specs.ReceiverCalls as incoming
 use Rattle.sctp_delivery.specs.ReceiverCalls.{follows, reads, reports, takes}
@@ -40,6 +41,7 @@ use Rattle.sctp_delivery.specs.Sacks.{is_reported, reports_tsn, tsns_given, was_
 use Rattle.sctp_delivery.specs.SenderCalls as outgoing
 use Rattle.sctp_delivery.specs.SenderCalls.{Write, abandons, data_chunk, forward_tsn, forwards, made_after, sends, takes_sack, writes, written_after}
 use Rattle.sctp_delivery.specs.Session.{Call, ReceiverFollows, RunsTo, SenderFollows, Session, at_start, of_receiver, of_sender}
+use Rattle.sctp_delivery.proofs.Every.{all-of-every}
 
 -- a sender of fragments of up to 1,200 bytes, with stream 1 open and one byte written
 abbrev pub waiting : Transmission
@@ -395,3 +397,31 @@ skip-taken = refl
 skip-refused : skip_refusal skip in_flight.receiving.receiver ≡ Some NamedStreamUnknown
 unfolding at_or_before comes_before distance
 skip-refused = refl
+
+-- ## A session that ends
+
+-- from the write on these calls end it
+ends : CanEnd 5 [] written
+unfolding at_or_before at_or_before16 comes_before comes_before16 distance distance16
+ends = record {
+  calls =
+      of_sender (sends 5) ∷ of_receiver (incoming.opens 1) ∷ of_receiver (takes chunk (New true)) ∷ of_receiver (reads 1) ∷ of_receiver (reports 1000)
+      ∷ of_sender (takes_sack one_sack gone) ∷ [];
+  ended = acknowledged;
+  run = (
+    in_flight,
+    (sends-one, (both_open, (opens-too, (taken, (takes-one, (has_read, (reads-one, (reported, (reports-one, (acknowledged, (takes-sack, refl))))))))))),
+  );
+  delivery = refl;
+  given = refl;
+  written = refl;
+  sacks = omega arith;
+  made = omega arith;
+  exhausted = refl;
+  read = (
+    0 ∷ [],
+    ((omega arith, λ w. record { stream = refl; payload_type = all-of-every (λ c. c.payload_type ≡ Binary) (chunk ∷ []) (refl, tt); bytes = refl }), tt),
+    λ i j d lt le. absurd (omega (arith, lt, le)),
+    λ k lt e. (0, omega arith, omega (arith, lt)),
+  );
+}

@@ -5,7 +5,7 @@ use Rattle.std.specs.Prelude.{◌⊎◌, ◌==◌, ◌&&◌, ◌||◌, if◌then
 use Rattle.std.specs.List.{filter, list_all, list_any}
 use Rattle.std.proofs.lemmas.Bool.{cases_lt}
 use Rattle.std.proofs.lemmas.Bool.Decides.{nat_tests}
-use Rattle.sctp_list_lemmas.specs.Serial.{comes_before, distance, distance16}
+use Rattle.sctp_list_lemmas.specs.Serial.{distance, distance16}
 use Rattle.sctp_list_lemmas.proofs.Cases.{same-yes}
 use Rattle.sctp_list_lemmas.proofs.More.{both, not_both}
 use Rattle.sctp_list_lemmas.proofs.Round.{distance-tsn, tsn}
@@ -39,7 +39,7 @@ use Rattle.sctp_delivery.proofs.SpreadEntries.{begun_to, is_at, to-all}
 use Rattle.sctp_delivery.proofs.SpreadFlight.{AreOn, AreSteps, IsNaming, are-on, are-steps, named}
 use Rattle.sctp_delivery.proofs.TightFlight.{last-at}
 use Rattle.sctp_delivery.proofs.AnsweredCalls as answered
-use Rattle.sctp_delivery.proofs.TsnPlaces.{base, before, same-place}
+use Rattle.sctp_delivery.proofs.TsnPlaces.{base, same-place}
 use Rattle.sctp_delivery.proofs.UnwrappedHolds.{AreDue, Came, DueOn}
 use Rattle.sctp_delivery.proofs.UnwrappedSessions as sessions
 

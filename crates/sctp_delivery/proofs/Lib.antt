@@ -105,3 +105,13 @@ pub mod RefusedLaw
 pub mod ForwardLaw
 pub mod Taking
 pub mod ReadAfterRounds
+pub mod PushesExist
+pub mod NamesExist
+pub mod EndRoom
+pub mod EndSteps
+pub mod EndReads
+pub mod EndDelivers
+pub mod EndForwards
+pub mod EndSessions
+pub mod OneStep
+mod EndExamples

@@ -103,7 +103,7 @@ put-behind x (c ∷ cs) first small few run is =
     ∙ ap (λ ds. c ∷ ds) (put-behind x cs (following_tsn first) (omega arith) (omega (arith, few)) tail same)
 
 -- a chunk that is taken leaves one fewer
-popped : (k : Option Bool) (os us : List ChunkPayloadData) (sel : Option Selected) (ro ru : ℕ) (c : ChunkPayloadData)
+pub popped : (k : Option Bool) (os us : List ChunkPayloadData) (sel : Option Selected) (ro ru : ℕ) (c : ChunkPayloadData)
     → chunk_to_pop_from k (made os us sel ro ru) ≡ Some c → chunk_count (rest_from k (made os us sel ro ru)) + 1 ≡ chunk_count (made os us sel ro ru)
 popped None os us sel ro ru c h = absurd (none-some c h)
 popped (Some true) os [] sel ro ru c h = absurd (none-some c h)

@@ -19,6 +19,7 @@ use Rattle.sctp_reassembly.specs.reassembly_queue.ReassemblyQueue.{message_read,
 use Rattle.sctp_receiver.specs.declared.receiver.arrival.Arrival.TheVariants.{New, Repeat}
 use Rattle.sctp_receiver.specs.declared.receiver.inbound_streams.InboundStream.{InboundStream}
 use Rattle.sctp_receiver.specs.declared.receiver.refusal.ReceiverRefusal.TheVariants.{SsnTooFar, TsnOpposite, MessageTooLarge}
+use Rattle.sctp_receiver.specs.declared.receiver.limits.Limits.{Limits}
 use Rattle.sctp_receiver.specs.Limits.{refusal_by}
 use Rattle.sctp_receiver.specs.Receiver.{Reception, arrival_refusal, filter_of, follow_forward_tsn, is_stale, new_refusal, message_of, stream_of}
 use Rattle.sctp_receiver.specs.Receiver.{stream_refusal, is_open}
@@ -29,7 +30,7 @@ use Rattle.sctp_sender.specs.Flight.{reports}
 use Rattle.sctp_sender.specs.Numbers.{is_ordered_on}
 use Rattle.sctp_delivery.specs.ReceiverCalls as incoming
 use Rattle.sctp_delivery.specs.ReceiverCalls.{ReceiverCall}
-use Rattle.sctp_delivery.specs.Refused.{AfterEachUnlimitedSession, NoneInFlightIsRefused, is_due_on, is_takable, IsCopy, NoneIsRefusedWhereRead}
+use Rattle.sctp_delivery.specs.Refused.{AfterEachUnlimitedSession, IsInFlight, NoneInFlightIsRefused, is_due_on, is_takable, IsCopy, NoneIsRefusedWhereRead}
 use Rattle.sctp_delivery.specs.Sacks.{is_reported, tsns_given, was_taken}
 use Rattle.sctp_delivery.specs.Session.{Call, ReceiverFollows, RunsTo, Session, at_start, of_receiver, of_sender}
 use Rattle.sctp_delivery.proofs.Delivered.{found-sent}
@@ -80,7 +81,7 @@ limits-after (incoming.follows g) old new f = ap (λ (r : Reception). r.limits) 
 limits-after (incoming.reports credit) old new f = ap (λ (r : Reception). r.limits) f.step.receiver
 limits-after (incoming.reads stream) old new f = ap (λ (r : Reception). r.limits) f.step.receiver
 
-limits-same : (cs : List Call) (old new : Session) → RunsTo old cs new → new.receiving.receiver.limits ≡ old.receiving.receiver.limits
+pub limits-same : (cs : List Call) (old new : Session) → RunsTo old cs new → new.receiving.receiver.limits ≡ old.receiving.receiver.limits
 limits-same [] old new r = ap (λ (s : Session). s.receiving.receiver.limits) r
 limits-same (of_sender call ∷ cs) old new r =
     limits-same cs r.0 new r.1.1 ∙ ap (λ (s : Session). s.receiving.receiver.limits) r.1.0.after
@@ -92,7 +93,7 @@ known-each : (first : ℕ) (sent : List Entry) (cs : List ChunkPayloadData) → 
 known-each first sent [] k = tt
 known-each first sent (c ∷ cs) k = (k.0, known-each first sent cs k.1)
 
-module _ (first n : ℕ) (few : n < 2 ^ 31) (s : Session) (h : HasValid first n s) (free : s.receiving.receiver.limits ≡ None)
+module _ (first n : ℕ) (few : n < 2 ^ 31) (s : Session) (h : HasValid first n s)
     (within : AreWithin s.sending.sender.max_message_size s.written)
     (sized : Every (λ (l : InboundStream). l.queue.max_message_size ≡ s.receiving.receiver.max_message_size) s.receiving.receiver.streams)
     (enough : s.sending.sender.max_message_size ≤ s.receiving.receiver.max_message_size) where
@@ -312,9 +313,10 @@ module _ (first n : ℕ) (few : n < 2 ^ 31) (s : Session) (h : HasValid first n 
 
   -- ## The law
 
-  not-refused : (c x : ChunkPayloadData) → Contains chunks c → c.abandoned ≡ false → IsCopy x c s → is_takable x r ≡ true
+  -- where the limits do not refuse its TSN
+  not-refused : (c x : ChunkPayloadData) → Contains chunks c → c.abandoned ≡ false → IsCopy x c s → is_takable x r ≡ true → new_refusal x.tsn r ≡ None
       → arrival_refusal x r ≡ None
-  not-refused c x in' kept same due = by (has_come x.tsn (filter_of r)) refl
+  not-refused c x in' kept same due limits = by (has_come x.tsn (filter_of r)) refl
     where
       at : x.tsn ≡ c.tsn
       at = elim same [ inl e ↦ ap (λ (d : Data). d.tsn) e | inr e ↦ e.0 ]
@@ -354,20 +356,28 @@ module _ (first n : ℕ) (few : n < 2 ^ 31) (s : Session) (h : HasValid first n 
       by true e = refl
       by false e =
           let near = answered.near p n r (known s) few spread.step.arrived spread.step.order x.tsn g in
-          let limits : new_refusal x.tsn r ≡ None = ap (λ o. refusal_by o x.tsn (filter_of r) r.streams) free in
           let stream = on e (stream_of x.stream_identifier r) refl in
           ap (λ b. if b then Some SsnTooFar else (if is_opposite x.tsn (filter_of r) then Some TsnOpposite
           else option_or (new_refusal x.tsn r) (stream_refusal x (stream_of x.stream_identifier r)))) stream.0
           ∙ ap (λ b. if b then Some TsnOpposite else option_or (new_refusal x.tsn r) (stream_refusal x (stream_of x.stream_identifier r))) near
           ∙ ap (λ o. option_or o (stream_refusal x (stream_of x.stream_identifier r))) limits ∙ stream.1
 
+none-with-room : (tsn size max most : ℕ) (limits : Option Limits) (cs : List Call) (s : Session) → tsn < 2 ^ 32 → 0 < size
+    → (run : RunsTo (at_start tsn size max most limits) cs s) → tsns_given (at_start tsn size max most limits) cs s run < 2 ^ 31
+    → s.sending.sender.max_message_size ≤ s.receiving.receiver.max_message_size → (x : ChunkPayloadData) → IsInFlight x s
+    → is_takable x s.receiving.receiver ≡ true → new_refusal x.tsn s.receiving.receiver ≡ None → arrival_refusal x s.receiving.receiver ≡ None
+none-with-room tsn size max most limits cs s small some run few enough x f t room =
+    let fit = fit-session tsn size max most limits cs s run in
+    not-refused tsn (tsns_given (at_start tsn size max most limits) cs s run) few s (valid-session tsn size max most limits cs s small some run few)
+    (subst (λ k. AreWithin k s.written) (sym fit.sender) fit.writes)
+    (subst (λ k. Every (λ (l : InboundStream). l.queue.max_message_size ≡ k) s.receiving.receiver.streams) (sym fit.streams.own) fit.streams.each)
+    enough f.chunk x f.sent f.kept f.same t room
+
 pub none-in-flight : AfterEachUnlimitedSession NoneInFlightIsRefused
 none-in-flight tsn size max most cs s small some run few enough x f t =
-    let fit = fit-session tsn size max most None cs s run in
-    not-refused tsn (tsns_given (at_start tsn size max most None) cs s run) few s (valid-session tsn size max most None cs s small some run few)
-    (limits-same cs (at_start tsn size max most None) s run) (subst (λ k. AreWithin k s.written) (sym fit.sender) fit.writes)
-    (subst (λ k. Every (λ (l : InboundStream). l.queue.max_message_size ≡ k) s.receiving.receiver.streams) (sym fit.streams.own) fit.streams.each)
-    enough f.chunk x f.sent f.kept f.same t
+    none-with-room tsn size max most None cs s small some run few enough x f t
+    (ap (λ o. refusal_by o x.tsn (filter_of s.receiving.receiver) s.receiving.receiver.streams)
+    (limits-same cs (at_start tsn size max most None) s run))
 
 -- ## Where nothing is to be read
 
@@ -391,3 +401,12 @@ takable-where-read x r none open' =
 pub none-where-read : AfterEachUnlimitedSession NoneIsRefusedWhereRead
 none-where-read tsn size max most cs s small some run few enough none x f open' =
     none-in-flight tsn size max most cs s small some run few enough x f (takable-where-read x s.receiving.receiver none open')
+
+-- and where the limits do not refuse its TSN
+pub none-read-with-room : (tsn size max most : ℕ) (limits : Option Limits) (cs : List Call) (s : Session) → tsn < 2 ^ 32 → 0 < size
+    → (run : RunsTo (at_start tsn size max most limits) cs s) → tsns_given (at_start tsn size max most limits) cs s run < 2 ^ 31
+    → s.sending.sender.max_message_size ≤ s.receiving.receiver.max_message_size → reads_nothing s.receiving.receiver ≡ true → (x : ChunkPayloadData)
+    → IsInFlight x s → is_open x.stream_identifier s.receiving.receiver ≡ true → new_refusal x.tsn s.receiving.receiver ≡ None
+    → arrival_refusal x s.receiving.receiver ≡ None
+none-read-with-room tsn size max most limits cs s small some run few enough none x f open' room =
+    none-with-room tsn size max most limits cs s small some run few enough x f (takable-where-read x s.receiving.receiver none open') room

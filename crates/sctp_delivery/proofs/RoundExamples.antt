@@ -42,19 +42,19 @@ use Rattle.sctp_delivery.proofs.Examples.{first_chunk, receiving, in_flight, los
 -- ## Rounds
 
 -- behind the first message in flight a second one waits
-abbrev second_write : Write
+abbrev pub second_write : Write
 second_write = record { stream = 1; payload_type = Binary; bytes = 8 ∷ [] }
 
-abbrev writing_stream : StreamState
+abbrev pub writing_stream : StreamState
 writing_stream = wrote Binary (7 ∷ []) (new_stream 1 1200 65536 Unknown)
 
-abbrev two_written : Session
+abbrev pub two_written : Session
 two_written = record in_flight {
   sending = record in_flight.sending { sender = written_to writing_stream 1 Binary (8 ∷ []) in_flight.sending.sender; written = 2 };
   written = second_write ∷ in_flight.written;
 }
 
-writes-second : SenderFollows (writes 1 Binary (8 ∷ [])) in_flight two_written
+pub writes-second : SenderFollows (writes 1 Binary (8 ∷ [])) in_flight two_written
 writes-second = record {
   handed = tt;
   step = record { sender = refl; written = refl; released = refl; taken_back = refl };
@@ -64,7 +64,7 @@ writes-second = record {
 }
 
 -- the first message is abandoned, and a FORWARD-TSN goes past it
-abbrev first_gone : Session
+abbrev pub first_gone : Session
 first_gone = record two_written {
   sending = record two_written.sending {
     sender = after_abandon (message_to_abandon 10 two_written.sending.sender.flight) 1 1 two_written.sending.sender;
@@ -72,7 +72,7 @@ first_gone = record two_written {
   };
 }
 
-abandons-first : SenderFollows (abandons 10 lost) two_written first_gone
+pub abandons-first : SenderFollows (abandons 10 lost) two_written first_gone
 abandons-first = record {
   handed = tt;
   step = record { sender = refl; written = refl; released = refl; taken_back = refl };

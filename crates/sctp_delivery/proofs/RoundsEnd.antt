@@ -46,7 +46,7 @@ module _ (s t : Session) (a : IsAnswered s t) where
   pub same-pending : t.sending.sender.flight.queue.pending ≡ s.sending.sender.flight.queue.pending
   same-pending = ap (λ (f : Flight). f.queue.pending) after ∙ (after-sack a.sack s.sending.sender.flight).1
 
-  same-next : t.sending.sender.flight.next_tsn ≡ s.sending.sender.flight.next_tsn
+  pub same-next : t.sending.sender.flight.next_tsn ≡ s.sending.sender.flight.next_tsn
   same-next = ap (λ (f : Flight). f.next_tsn) after ∙ (after-sack a.sack s.sending.sender.flight).0
 
   still : (p n : ℕ) → IsNumbered p n s.sending.sender.flight → distance (next_tsn s) (next_tsn s) ≡ 0

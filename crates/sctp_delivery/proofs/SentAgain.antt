@@ -1,5 +1,5 @@
 -- What is in flight can be sent again, unless it came or is abandoned.
-use Rattle.std.proofs.Common.{◌≡◌, ℕ, ◌+◌, ◌^◌, ◌<◌, Bool, true, false, length, get_or, refl, ap, sym, ◌∙◌, arith}
+use Rattle.std.proofs.Common.{◌≡◌, ℕ, ◌+◌, ◌^◌, ◌<◌, Bool, true, false, length, get_or, Some, refl, ap, sym, ◌∙◌, arith}
 use Rattle.std.specs.Prelude.{◌&&◌, ◌||◌, not, find}
 use Rattle.sctp_list_lemmas.proofs.Cases.{or-left, or-right}
 use Rattle.sctp_list_lemmas.proofs.More.{not_both}
@@ -15,19 +15,24 @@ use Rattle.sctp_delivery.specs.Session.{Session, at_start}
 use Rattle.sctp_delivery.proofs.SackLaws.{IsInStep, acknowledged-came, in-step}
 use Rattle.sctp_delivery.proofs.TsnPlaces.{base, tsn-small}
 
+-- the chunk at a place is the first with its TSN
+pub found-in : (p n : ℕ) (s : Session) → n < 2 ^ 31 → IsInStep p n s → (k : ℕ) (d : ChunkPayloadData) → k < length (in_flight s)
+    → find (has_tsn (get_or (in_flight s) k d).tsn) (in_flight s) ≡ Some (get_or (in_flight s) k d)
+found-in p n s few i k d lt =
+    let h = i.numbered in
+    let first = tsn p (h.acked + 1) in
+    let small = tsn-small p (h.acked + 1) in
+    let total = h.total in
+    ap (λ u. find (has_tsn u) (in_flight s)) (tsn-at (in_flight s) first k d small h.run lt)
+    ∙ found-at (in_flight s) first k d small h.run (omega (arith, total, few)) lt
+
 module _ (p n : ℕ) (s : Session) (few : n < 2 ^ 31) (i : IsInStep p n s) (came : AcknowledgedCame s) (k : ℕ) (d : ChunkPayloadData)
     (lt : k < length (in_flight s)) where
   abbrev c : ChunkPayloadData
   c = get_or (in_flight s) k d
 
   found : can_resend c.tsn (flight_of s) ≡ is_outstanding c
-  found =
-      let h = i.numbered in
-      let first = tsn p (h.acked + 1) in
-      let small = tsn-small p (h.acked + 1) in
-      let total = h.total in
-      ap is_outstanding_in (ap (λ u. find (has_tsn u) (in_flight s)) (tsn-at (in_flight s) first k d small h.run lt)
-      ∙ found-at (in_flight s) first k d small h.run (omega (arith, total, few)) lt)
+  found = ap is_outstanding_in (found-in p n s few i k d lt)
 
   done : (a b : Bool) → c.acked ≡ a → c.abandoned ≡ b → (not a && not b) ≡ false → (was_taken c.tsn s || c.abandoned) ≡ true
   done true b e f g = came k d lt (or-left c.acked _ e)

@@ -8,3 +8,4 @@ pub mod Complete
 pub mod Abandoned
 pub mod Rounds
 pub mod Refused
+pub mod Ending

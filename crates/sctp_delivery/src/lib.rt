@@ -4,11 +4,13 @@
 pub mod arrived;
 pub mod drained;
 pub mod emptied;
+pub mod ended;
 pub mod forwarded;
 pub mod in_order;
 pub mod laws;
 pub mod receiver_steps;
 pub mod refusals;
+pub mod room;
 pub mod sacks;
 pub mod sender_steps;
 pub mod settled;

@@ -12,7 +12,7 @@ ghost use Rattle.sctp_serial.specs.Runs.{HasNoRun, IsStretch};
 ghost use Rattle.sctp_serial.specs.Window.{IsSerial};
 ghost use Rattle.sctp_serial.specs.Ascending.{IsAscending, upper_half};
 ghost use Rattle.sctp_reassembly.specs.reassembly_queue.Orders.{digits, IsOrderly};
-ghost use Rattle.sctp_reassembly.specs.reassembly_queue.Costs.{ordered_push_looks, ordered_push_walk, read_walk, FitsInOrder, Joins, unordered_push_looks, unordered_push_walk, StandsInOrder, unordered_skip_walk, ordered_skip_walk};
+ghost use Rattle.sctp_reassembly.specs.reassembly_queue.Costs.{ordered_push_looks, ordered_push_walk, read_walk, FitsInOrder, Joins, IsAtEnd, JoinsAtEnd, unordered_push_looks, unordered_push_walk, StandsInOrder, unordered_skip_walk, ordered_skip_walk};
 ghost use Rattle.sctp_reassembly.specs.reassembly_queue.Skips.{after_bounded_skip, applicable, is_upto};
 ghost use Rattle.sctp_reassembly.specs.reassembly_queue.Undo.{undone, CanUndo};
 ghost use Rattle.sctp_base.specs.declared.error.Error.TheVariants.{ErrOutOfMemory, ErrInboundPacketTooLarge};
@@ -230,8 +230,9 @@ impl ReassemblyQueue {
     /// Of an ordered chunk, where the numbers of the sets and the TSNs in each ascend within half a circle (`IsOrderly`), before and
     /// after, the turns are at most `ordered_push_looks`, and `ordered_push_walk` whatever the numbers. Of an unordered one, where the
     /// TSNs of all unassembled fragments ascend with it within half a circle (`FitsInOrder`), they are at most `unordered_push_looks`: the
-    /// digits of their number, and five for each other one of the longest stretch of TSNs that it joins; and `unordered_push_walk`
-    /// whatever is held.
+    /// digits of their number, and five for each other one of the longest stretch of TSNs that it joins; the digits and 9 more where it
+    /// is put at an end of that, its message goes on there, and all are no longer than one message may be (`JoinsAtEnd`); and
+    /// `unordered_push_walk` whatever is held.
     pub fn push_counted(&mut self, chunk: ChunkPayloadData, turns: &mut Turns) -> Result<bool>
         ensures other_stream { (chunk.stream_identifier == self.old.si) ≡ false
             → (result ≡ Ok false) × (self.new ≡ self.old) }
@@ -255,6 +256,9 @@ impl ReassemblyQueue {
         ensures unordered_cost { chunk.unordered ≡ true → FitsInOrder chunk self.old.held
             → (first last : ℕ) → Joins chunk self.old.held first last
             → turns.new ≤ turns.old + unordered_push_looks self.old.held first last }
+        ensures unordered_few { chunk.unordered ≡ true → FitsInOrder chunk self.old.held
+            → (first last : ℕ) → JoinsAtEnd chunk self.old first last
+            → turns.new ≤ turns.old + digits (length self.old.held.unassembled) + 9 }
         ensures unordered_walk { chunk.unordered ≡ true
             → turns.new ≤ turns.old + unordered_push_walk self.old.held }
     {
@@ -282,6 +286,9 @@ impl ReassemblyQueue {
         ensures unordered_cost { chunk.now.unordered ≡ true → FitsInOrder chunk.now self.now.held
             → (first last : ℕ) → Joins chunk.now self.now.held first last
             → turns.new ≤ turns.old + unordered_push_looks self.now.held first last }
+        ensures unordered_few { chunk.now.unordered ≡ true → FitsInOrder chunk.now self.now.held
+            → (first last : ℕ) → JoinsAtEnd chunk.now self.now first last
+            → turns.new ≤ turns.old + digits (length self.now.held.unassembled) + 9 }
         ensures unordered_walk { chunk.now.unordered ≡ true
             → turns.new ≤ turns.old + unordered_push_walk self.now.held }
     {
@@ -327,6 +334,9 @@ impl ReassemblyQueue {
             → IsSerial (insert self.now.held.unassembled place chunk.now)
             → IsStretch (insert self.now.held.unassembled place chunk.now) place first last
             → turns.new ≤ turns.old + (last - first) + 5 }
+        ensures none { chunk.now.unordered ≡ true → IsSerial self.now.held.unassembled
+            → bytes_of self.now.held.unassembled + length chunk.now.user_data
+            ≤ self.now.max_message_size → turns.new ≡ turns.old }
         ensures unordered_walk { chunk.now.unordered ≡ true
             → turns.new ≤ turns.old + 4 * length self.now.held.unassembled + 3 }
     {
@@ -409,7 +419,11 @@ impl ReassemblyQueue {
         ensures memory { IfErr result (λ e. e ≡ ErrOutOfMemory) }
         ensures not_back { turns.old ≤ turns.new }
         ensures cost { FitsInOrder chunk self.old.held → (first last : ℕ)
-            → Joins chunk self.old.held first last → turns.new ≤ turns.old + 4 * (last - first) + 10 }
+            → Joins chunk self.old.held first last
+            → turns.new ≤ turns.old + 4 * (last - first) + 10 }
+        ensures few { FitsInOrder chunk self.old.held → (first last : ℕ)
+            → Joins chunk self.old.held first last → IsAtEnd chunk place first last
+            → turns.new ≤ turns.old + 7 }
         ensures walk { turns.new ≤ turns.old + 7 * length self.old.held.unassembled + 13 }
     {
         let before = self.n_bytes;
@@ -633,8 +647,8 @@ impl ReassemblyQueue {
         ensures value { self.new ≡ after_unordered_skip new_cumulative_tsn self.old }
         ensures counted { IsCounted self.old → IsCounted self.new }
         ensures not_back { turns.old ≤ turns.new }
-        ensures few { StandsInOrder self.old.held → turns.new
-            ≤ turns.old + 3 * length (leading_upto new_cumulative_tsn self.old.held.unassembled) + 1 }
+        ensures few { StandsInOrder self.old.held → turns.new ≤ turns.old
+            + 3 * length (leading_upto new_cumulative_tsn self.old.held.unassembled) + 1 }
         ensures walk { turns.new ≤ turns.old + unordered_skip_walk self.old.held }
     {
         let unassembled = self.unordered_chunks.unassembled();

@@ -41,7 +41,7 @@ module _ (c : ChunkPayloadData) (ls : List InboundStream) (k : ℕ) (p : IsOnlyP
   number-stays (Ok put) ok err = pushed-number c put.0 x.queue y.queue ok
   number-stays (Err e) ok err = ap number err
 
-  is-found : find (has_number c.stream_identifier) ls ≡ Some x
+  pub is-found : find (has_number c.stream_identifier) ls ≡ Some x
   is-found = found number ls (numbers_of ls) refl c.stream_identifier k p x at
 
   pub pushes : (r : Result (Bool × PushUndo) ReceiverRefusal) → IfOk r (λ put. Pushes c put.0 x.queue y.queue)

@@ -2,6 +2,7 @@ pub mod TsnLists
 pub mod Placeholders
 pub mod FilterCalls
 pub mod FilterCosts
+pub mod PushCosts
 pub mod Retracts
 pub mod Inbounds
 pub mod Undone

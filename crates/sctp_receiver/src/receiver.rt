@@ -71,7 +71,7 @@ impl Model for Receiver {
 impl Receiver {
     ghost use Rattle.sctp_data.specs.ForwardTsn.{forward_tsn_of};
     ghost use Rattle.sctp_reassembly.specs.reassembly_queue.ReassemblyQueue.{at_start};
-    ghost use Rattle.sctp_receiver.specs.Costs.{names_turns};
+    ghost use Rattle.sctp_receiver.specs.Costs.{names_turns, IsWithinData};
     ghost use Rattle.sctp_receiver.specs.Ssns.{is_kept_on};
     ghost use Rattle.sctp_receiver.specs.TsnFilter.{has_come, placeholder};
     ghost use Rattle.sctp_serial.specs.DataChunks.{bytes_of};
@@ -146,7 +146,32 @@ impl Receiver {
             → takes_memory chunk.now self.old ≡ true) }
         ensures err { OnErr result (self.new ≡ self.old) }
     {
-        self.take(chunk, false)
+        self.data_counted(chunk, &mut Turns::new())
+    }
+
+    /// The same, and its turns are added: three times at most as many as the number of TSNs beyond has binary digits, one for each of
+    /// these that leaves, five more, and those of the push in the queue of its stream (`IsWithinData`). A chunk that is refused, or a
+    /// repeat, takes no more. What takes a fragment back where memory runs out for its TSN takes no turn.
+    pub fn data_counted(
+        &mut self,
+        chunk: &ChunkPayloadData,
+        turns: &mut Turns,
+    ) -> Result<Arrival, ReceiverRefusal>
+        ensures answer { IfOk result (λ arrival. arrival
+            ≡ arrival_of chunk.now.tsn (is_answered_complete arrival) self.old) }
+        ensures ok { IfOk result (λ arrival. Takes chunk.now arrival self.old self.new) }
+        ensures accepted { IsOk result → arrival_refusal chunk.now self.old ≡ None }
+        ensures kept { IsOk result → has_come chunk.now.tsn (filter_of self.old) ≡ false
+            → is_kept_on chunk.now (stream_of chunk.now.stream_identifier self.old) ≡ true }
+        ensures refused { IfErr result
+            (λ e. IsRefusedFor (arrival_refusal chunk.now self.old) e) }
+        ensures wants { IfErr result (λ e. e ≡ OutOfMemory
+            → takes_memory chunk.now self.old ≡ true) }
+        ensures err { OnErr result (self.new ≡ self.old) }
+        ensures not_back { turns.old ≤ turns.new }
+        ensures cost { IsWithinData chunk.now self.old self.new (turns.new - turns.old) }
+    {
+        self.take(chunk, false, turns)
     }
 
     /// Takes a DATA chunk as `data` does, but for `SsnTooFar`: an ordered one of any stream sequence number, as a replay of a record
@@ -164,11 +189,17 @@ impl Receiver {
             → takes_memory chunk.now self.old ≡ true) }
         ensures err { OnErr result (self.new ≡ self.old) }
     {
-        self.take(chunk, true)
+        self.take(chunk, true, &mut Turns::new())
     }
 
-    // Takes a DATA chunk, an ordered one of any stream sequence number or not, and how it could be taken back is dropped.
-    fn take(&mut self, chunk: &ChunkPayloadData, any_ssn: bool) -> Result<Arrival, ReceiverRefusal>
+    // Takes a DATA chunk, an ordered one of any stream sequence number or not, and how it could be taken back is dropped. Its turns
+    // are added.
+    fn take(
+        &mut self,
+        chunk: &ChunkPayloadData,
+        any_ssn: bool,
+        turns: &mut Turns,
+    ) -> Result<Arrival, ReceiverRefusal>
         ensures answer { IfOk result (λ arrival. arrival
             ≡ arrival_of chunk.now.tsn (is_answered_complete arrival) self.old) }
         ensures ok { IfOk result (λ arrival. Takes chunk.now arrival self.old self.new) }
@@ -181,9 +212,11 @@ impl Receiver {
         ensures wants { IfErr result (λ e. e ≡ OutOfMemory
             → takes_memory chunk.now self.old ≡ true) }
         ensures err { OnErr result (self.new ≡ self.old) }
+        ensures not_back { turns.old ≤ turns.new }
+        ensures cost { IsWithinData chunk.now self.old self.new (turns.new - turns.old) }
     {
         let rules = self.rules(any_ssn);
-        let (arrival, _) = take(&mut self.streams, &mut self.filter, rules, chunk)?;
+        let (arrival, _) = take(&mut self.streams, &mut self.filter, rules, chunk, turns)?;
         Ok(arrival)
     }
 
@@ -216,7 +249,7 @@ impl Receiver {
         ensures err { OnErr result (self.new ≡ self.old) }
     {
         if self.filter.has_come(tsn) {
-            note_repeat(&mut self.filter, self.limits, tsn)?;
+            note_repeat(&mut self.filter, self.limits, tsn, &mut Turns::new())?;
             return Ok(Arrival::Repeat);
         }
         if self.filter.is_opposite(tsn) {

@@ -1,11 +1,11 @@
 -- What was told is acknowledged, and says which messages are acknowledged whole.
 use Rattle.std.proofs.Common.{◌≡◌, ℕ, suc, ◌+◌, ◌<◌, ◌%◌, ◌^◌, Bool, true, false, List, [], ◌∷◌, ◌++◌, length, map, take, drop, get_or}
-use Rattle.std.proofs.Common.{None, set, refl, ap, sym, subst, ◌∙◌, append_assoc, inl, inr, arith}
+use Rattle.std.proofs.Common.{None, set, refl, ap, sym, subst, ◌∙◌, inl, inr, arith}
 use Rattle.std.specs.Prelude.{if◌then◌else◌, ◌&&◌, ◌||◌, not, nat_eq}
 use Rattle.std.specs.List.{filter, list_all, list_any}
 use Rattle.std.proofs.lemmas.Bool.{cases_eq}
 use Rattle.std.proofs.lemmas.Bool.Decides.{nat_tests}
-use Rattle.std.proofs.lemmas.List.{drop_more, drop-set-lt, get_or_default, take_more, take_more_set}
+use Rattle.std.proofs.lemmas.List.{drop_more, get_or_default, take_more}
 use Rattle.sctp_list_lemmas.specs.Lists.{change_where}
 use Rattle.sctp_list_lemmas.specs.Serial.{distance}
 use Rattle.sctp_list_lemmas.proofs.Cases.{or-left, or-none, or-right, same-is}
@@ -97,6 +97,30 @@ one-acknowledged first cs ys rs i k r d small run few more is lt tsn so_far =
     ∙ change-both as_acknowledged (is_answered (take i rs)) (has_tsn r.tsn) (λ c. refl) (λ c. refl) cs
     ∙ change-same as_acknowledged (λ c. is_answered (take i rs) c || has_tsn r.tsn c) (is_answered (take (i + 1) rs)) cs (λ j e less. answered (get_or cs j e))
 
+-- a chunk was told of by one more
+pub answered-more : (rs : List Released) (i : ℕ) (r : Released) (c : ChunkPayloadData) → i < length rs → r ≡ get_or rs i r
+    → is_answered (take (i + 1) rs) c ≡ (is_answered (take i rs) c || has_tsn r.tsn c)
+answered-more rs i r c lt is =
+    ap (list_any (is_answered_as c)) (take_more rs i r lt ∙ ap (λ y. take i rs ++ y ∷ []) (sym is))
+    ∙ list_any-append (is_answered_as c) (take i rs) (r ∷ []) ∙ ap (λ b. is_answered (take i rs) c || b) (or-none (has_tsn r.tsn c))
+
+-- of the chunks in flight only the one at its place
+pub answer-here : (first : ℕ) (cs : List ChunkPayloadData) (r : Released) (k j : ℕ) (d : ChunkPayloadData) → first < 2 ^ 32 → IsRunFrom first cs
+    → length cs < 2 ^ 31 → r.tsn ≡ (first + k) % 2 ^ 32 → k < length cs → j < length cs → has_tsn r.tsn (get_or cs j d) ≡ nat_eq k j
+answer-here first cs r k j d small run few tsn lt less = elim (cases_eq j k) [
+  | inl same ↦ ap (λ i. has_tsn r.tsn (get_or cs i d)) same ∙ only.here d ∙ sym (yes k j same)
+  | inr other ↦ only.elsewhere j d less other ∙ sym (no k j other)
+]
+  where
+    only : OnlyAt (has_tsn r.tsn) cs k
+    only = subst (λ t. OnlyAt (has_tsn t) cs k) (sym tsn) (only-at cs first k small run few lt)
+
+    yes : (k j : ℕ) → j ≡ k → nat_eq k j ≡ true
+    yes k j e = grind (arith, nat_tests, e)
+
+    no : (k j : ℕ) → (j ≡ k → ⊥) → nat_eq k j ≡ false
+    no k j e = grind (arith, nat_tests, e)
+
 pub none-acknowledged : (cs : List ChunkPayloadData) → change_where (is_answered []) as_acknowledged cs ≡ cs
 none-acknowledged cs = change_where-none (is_answered []) as_acknowledged cs (λ k d lt. refl)
 
@@ -136,15 +160,16 @@ answered-of-those p w c (x ∷ xs) = by (p x) (answered-of-those p w c xs)
     by true ih = ap (λ k. has_tsn x.tsn c || k) ih
     by false ih = ih
 
--- those that were told of are those that pass
-pub answered-are : (p : ChunkPayloadData → Bool) (w : ℕ → Bool) (first : ℕ) (cs : List ChunkPayloadData) → first < 2 ^ 32 → IsRunFrom first cs
-    → length cs < 2 ^ 31 → change_where (is_answered (map (released_of w) (filter p cs))) as_acknowledged cs ≡ change_where p as_acknowledged cs
-answered-are p w first cs small run few = change-same as_acknowledged (is_answered (map (released_of w) (filter p cs))) p cs (λ k d lt.
+-- a chunk was told of where it passes
+pub answered-at : (p : ChunkPayloadData → Bool) (w : ℕ → Bool) (first : ℕ) (cs : List ChunkPayloadData) → first < 2 ^ 32 → IsRunFrom first cs
+    → length cs < 2 ^ 31 → (k : ℕ) (d : ChunkPayloadData) → k < length cs
+    → is_answered (map (released_of w) (filter p cs)) (get_or cs k d) ≡ p (get_or cs k d)
+answered-at p w first cs small run few k d lt =
     let c : ChunkPayloadData = get_or cs k d in
     let here : c.tsn ≡ (first + k) % 2 ^ 32 = tsn-at cs first k d small run lt in
     let only : OnlyAt (λ (x : ChunkPayloadData). has_tsn x.tsn c) cs k =
     turned c (subst (λ t. OnlyAt (has_tsn t) cs k) (sym here) (only-at cs first k small run few lt)) in
-    answered-of-those p w c cs ∙ only-any p (λ (x : ChunkPayloadData). has_tsn x.tsn c) cs k d only)
+    answered-of-those p w c cs ∙ only-any p (λ (x : ChunkPayloadData). has_tsn x.tsn c) cs k d only
   where
     turn : (a b : ℕ) → nat_eq a b ≡ nat_eq b a
     turn a b = grind (arith, nat_tests)
@@ -155,6 +180,12 @@ answered-are p w first cs small run few = change-same as_acknowledged (is_answer
       here = λ d. turn c.tsn (get_or cs k d).tsn ∙ o.here d;
       elsewhere = λ j d lt other. turn c.tsn (get_or cs j d).tsn ∙ o.elsewhere j d lt other;
     }
+
+-- those that were told of are those that pass
+pub answered-are : (p : ChunkPayloadData → Bool) (w : ℕ → Bool) (first : ℕ) (cs : List ChunkPayloadData) → first < 2 ^ 32 → IsRunFrom first cs
+    → length cs < 2 ^ 31 → change_where (is_answered (map (released_of w) (filter p cs))) as_acknowledged cs ≡ change_where p as_acknowledged cs
+answered-are p w first cs small run few =
+    change-same as_acknowledged (is_answered (map (released_of w) (filter p cs))) p cs (λ k d lt. answered-at p w first cs small run few k d lt)
 
 -- each of them is in flight, be it changed or not
 pub answered-in-flight : (p : ChunkPayloadData → Bool) (w : ℕ → Bool) (cs ds : List ChunkPayloadData)

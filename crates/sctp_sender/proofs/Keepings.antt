@@ -1,14 +1,12 @@
 -- What is kept place by place, and what comes back.
-use Rattle.std.proofs.Common.{◌≡◌, ℕ, zero, suc, ◌+◌, ◌-◌, ◌<◌, ◌≤◌, ◌%◌, ◌^◌, Bool, true, false, List, [], ◌∷◌, ◌++◌, length, length-append, map, take, drop}
-use Rattle.std.proofs.Common.{get_or, set, Option, Some, None, inl, inr, refl, ap, sym, subst, ◌∙◌, arith}
-use Rattle.std.specs.Prelude.{if◌then◌else◌, ◌&&◌, is_some, not, min, nat_lt}
+use Rattle.std.proofs.Common.{◌≡◌, ℕ, zero, suc, ◌+◌, ◌-◌, ◌<◌, ◌≤◌, ◌%◌, ◌^◌, Bool, true, false, List, [], ◌∷◌, ◌++◌, length, map}
+use Rattle.std.proofs.Common.{get_or, Option, Some, None, refl, ap, sym, subst, ◌∙◌, arith}
+use Rattle.std.specs.Prelude.{if◌then◌else◌, ◌&&◌, not, nat_lt}
 use Rattle.std.specs.List.{list_all, sum_by}
-use Rattle.std.proofs.lemmas.Bool.{cases_lt, false≢true}
+use Rattle.std.proofs.lemmas.Bool.{false≢true}
 use Rattle.std.proofs.lemmas.Bool.Decides.{nat_tests}
-use Rattle.std.proofs.lemmas.List.{append_assoc, drop-append-le, drop-take, get_or-drop, get_or_past, length-take-le, take-append-le, take_more}
-use Rattle.std.proofs.lemmas.List.Sums.{sum_by-append, sum_by-cons}
+use Rattle.std.proofs.lemmas.List.Sums.{sum_by-cons}
 use Rattle.std.proofs.lemmas.Option.{none-some}
-use Rattle.std.proofs.Math.Seq.{take-length}
 use Rattle.sctp_data.specs.declared.chunk.chunk_payload_data.ChunkPayloadData.{ChunkPayloadData}
 use Rattle.sctp_data.specs.SelectiveAck.{Sack}
 use Rattle.sctp_outbound.specs.Marks.{as_taken_back}
@@ -18,60 +16,19 @@ use Rattle.sctp_sender.specs.declared.sender.flight.keeping.TakenBack.{TakenBack
 use Rattle.sctp_sender.specs.declared.sender.refusal.SenderRefusal.{SenderRefusal}
 use Rattle.sctp_sender.specs.declared.sender.refusal.SenderRefusal.TheVariants.{InflightQueueTsnPop, TsnRequestNotExist}
 use Rattle.sctp_sender.specs.Flight.{Flight, IsContiguous, count_acked, is_outdated, is_within, reports, sack_refusal, tsns_from}
-use Rattle.sctp_sender.specs.Keeping.{back_each, back_of, bytes_back, keep, keep_each, kept_after, kept_from, restored, restored_with, answered_back}
+use Rattle.sctp_sender.specs.Keeping.{back_each, bytes_back, keep, keep_each, kept_from, restored, restored_with, answered_back}
 use Rattle.sctp_sender.specs.Keeping.{answered_of}
 use Rattle.sctp_sender.specs.Keeping.{trimmed, with_restored}
-use Rattle.sctp_sender.specs.Reporting.{after_blocks}
 use Rattle.sctp_sender.specs.SideBySide.{StandSideBySide, number_of_half}
 use Rattle.sctp_sender.specs.Totals.{AreSettled, IsAllSettled}
-use Rattle.sctp_sender.proofs.Runs.{any_chunk}
-use Rattle.sctp_sender.proofs.Sacks.{beyond}
 
 -- ## As far as something is kept
 
-full : (k : Option (List ℕ)) (ks : List (Option (List ℕ))) (bytes : List ℕ) → kept_from k (ks ++ Some bytes ∷ []) ≡ k ∷ ks ++ Some bytes ∷ []
-full (Some b) ks bytes = refl
-full None [] bytes = refl
-full None (k ∷ ks) bytes = refl
-
-pub trimmed-kept : (ks : List (Option (List ℕ))) (bytes : List ℕ) → trimmed (ks ++ Some bytes ∷ []) ≡ ks ++ Some bytes ∷ []
-trimmed-kept [] bytes = refl
-trimmed-kept (k ∷ ks) bytes = ap (kept_from k) (trimmed-kept ks bytes) ∙ full k ks bytes
-
-pub trimmed-none : (ks : List (Option (List ℕ))) → trimmed (ks ++ None ∷ []) ≡ trimmed ks
-trimmed-none [] = refl
-trimmed-none (k ∷ ks) = ap (kept_from k) (trimmed-none ks)
-
-nothing : (ks : List (Option (List ℕ))) → ((n : ℕ) → get_or ks n None ≡ None) → trimmed ks ≡ []
+pub nothing : (ks : List (Option (List ℕ))) → ((n : ℕ) → get_or ks n None ≡ None) → trimmed ks ≡ []
 nothing [] none = refl
 nothing (k ∷ ks) none = ap (λ j. kept_from j (trimmed ks)) (none 0) ∙ ap (kept_from None) (nothing ks (λ n. none (suc n)))
 
--- nothing is kept behind the first so many
-pub trimmed-front : (n : ℕ) (ks : List (Option (List ℕ))) → ((m : ℕ) → n ≤ m → get_or ks m None ≡ None) → trimmed ks ≡ trimmed (take n ks)
-trimmed-front zero ks none = nothing ks (λ m. none m (omega arith))
-trimmed-front (suc n) [] none = refl
-trimmed-front (suc n) (k ∷ ks) none = ap (kept_from k) (trimmed-front n ks (λ m le. none (suc m) (omega (arith, le))))
-
--- the front that is used
-pub record IsUsed (used : ℕ) (ks : List (Option (List ℕ))) : Type 0 where
-  pub trims : trimmed ks ≡ take used ks
-  pub within : used ≤ length ks
-
--- with one place more, of which something is kept, or nothing
-pub used-more : (used : ℕ) (ks : List (Option (List ℕ))) (k : Option (List ℕ)) → IsUsed used ks
-    → IsUsed (if is_some k then length (ks ++ k ∷ []) else used) (ks ++ k ∷ [])
-used-more used ks None u = record {
-  trims = trimmed-none ks ∙ u.trims ∙ sym (take-append-le used ks (None ∷ []) u.within);
-  within = let n = length-append ks (None ∷ []) in omega (arith, n, u.within);
-}
-used-more used ks (Some bytes) u = record { trims = trimmed-kept ks bytes ∙ sym (take-length (ks ++ Some bytes ∷ [])); within = omega arith }
-
 -- ## What is kept of each
-
-pub none-yet : {X : Type 0} (n : ℕ) (xs : List X) → drop n (take n xs) ≡ []
-none-yet zero xs = refl
-none-yet (suc n) [] = refl
-none-yet (suc n) (x ∷ xs) = none-yet n xs
 
 module _ (s : Sack) where
   pub length-keep_each : (cs : List ChunkPayloadData) (ks : List (Option (List ℕ))) → length (keep_each s cs ks) ≡ length cs
@@ -86,61 +43,11 @@ module _ (s : Sack) where
   kept-at (c ∷ cs) [] (suc i) d lt = kept-at cs [] i d (omega (arith, lt))
   kept-at (c ∷ cs) (k ∷ ks) zero d lt = refl
   kept-at (c ∷ cs) (k ∷ ks) (suc i) d lt = kept-at cs ks i d (omega (arith, lt))
-
-  -- one place more
-  pub keep-more : (cs : List ChunkPayloadData) (ks : List (Option (List ℕ))) (start i : ℕ) (c : ChunkPayloadData) (k : Option (List ℕ)) → start ≤ i
-      → i < length cs → c ≡ get_or cs i c → k ≡ keep s c (get_or ks i None)
-      → drop start (take (i + 1) (keep_each s cs ks)) ≡ drop start (take i (keep_each s cs ks)) ++ k ∷ []
-  keep-more cs ks start i c k le lt here is =
-      let all : List (Option (List ℕ)) = keep_each s cs ks in
-      let n = length-keep_each cs ks in
-      let less : i < length all = omega (arith, n, lt) in
-      let front = length-take-le i all (omega (arith, less)) in
-      ap (drop start) (take_more all i None less) ∙ drop-append-le start (take i all) (get_or all i None ∷ []) (omega (arith, front, le))
-      ∙ ap (λ x. drop start (take i all) ++ x ∷ []) (kept-at cs ks i c lt ∙ ap (λ x. keep s x (get_or ks i None)) (sym here) ∙ sym is)
-
   -- ## What comes back of each
-
-  pub back-more : (cs : List ChunkPayloadData) (ks : List (Option (List ℕ))) (i : ℕ) (c : ChunkPayloadData) (b : Option (List ℕ)) → i < length cs
-      → i < length ks → c ≡ get_or cs i c → b ≡ back_of s c (get_or ks i None) → back_each s cs (take (i + 1) ks) ≡ back_each s cs (take i ks) ++ b ∷ []
-  back-more cs [] i c b lt less here is = absurd (omega (arith, less))
-  back-more [] (k ∷ ks) i c b lt less here is = absurd (omega (arith, lt))
-  back-more (x ∷ cs) (k ∷ ks) zero c b lt less here is = ap (λ y. y ∷ []) (ap (λ y. back_of s y k) (sym here) ∙ sym is)
-  back-more (x ∷ cs) (k ∷ ks) (suc i) c b lt less here is =
-      let next : suc i + 1 ≡ suc (i + 1) = omega arith in
-      ap (λ n. back_each s (x ∷ cs) (take n (k ∷ ks))) next
-      ∙ ap (λ ys. back_of s x k ∷ ys) (back-more cs ks i c b (omega (arith, lt)) (omega (arith, less)) here is)
-
-  pub back-all : (n : ℕ) (cs : List ChunkPayloadData) (ks : List (Option (List ℕ))) → min (length ks) (length cs) ≤ n
-      → back_each s cs (take n ks) ≡ back_each s cs ks
-  back-all zero cs [] le = refl
-  back-all (suc n) cs [] le = refl
-  back-all zero [] (k ∷ ks) le = refl
-  back-all (suc n) [] (k ∷ ks) le = refl
-  back-all zero (c ∷ cs) (k ∷ ks) le = absurd (omega (arith, le))
-  back-all (suc n) (c ∷ cs) (k ∷ ks) le = ap (λ ys. back_of s c k ∷ ys) (back-all n cs ks (omega (arith, le)))
 
 -- ## Of a chunk that is acknowledged, and not abandoned
 
-pub reported-open : (reported acked abandoned : Bool) → acked ≡ true → abandoned ≡ false → ((acked && not abandoned) && not reported) ≡ not reported
-reported-open reported acked abandoned e f = ap (λ b. (b && not abandoned) && not reported) e ∙ ap (λ b. not b && not reported) f
-
 -- ## What is told
-
-pub answered-more : (bs : List (Option (List ℕ))) (cs : List ChunkPayloadData) (i : ℕ) (c : ChunkPayloadData) (b : Option (List ℕ)) → i < length bs
-    → i < length cs → c ≡ get_or cs i c → b ≡ get_or bs i None → answered_back (take (i + 1) bs) cs ≡ answered_back (take i bs) cs ++ answered_of b c
-answered-more [] cs i c b less lt here is = absurd (omega (arith, less))
-answered-more (x ∷ bs) [] i c b less lt here is = absurd (omega (arith, lt))
-answered-more (x ∷ bs) (y ∷ cs) zero c b less lt here is = ap (λ z. answered_of z y ++ []) (sym is) ∙ ap (λ z. answered_of b z ++ []) (sym here)
-    ∙ nil (answered_of b c)
-  where
-    nil : (ts : List TakenBack) → ts ++ [] ≡ ts
-    nil [] = refl
-    nil (t ∷ ts) = ap (λ us. t ∷ us) (nil ts)
-answered-more (x ∷ bs) (y ∷ cs) (suc i) c b less lt here is =
-    let next : suc i + 1 ≡ suc (i + 1) = omega arith in
-    ap (λ n. answered_back (take n (x ∷ bs)) (y ∷ cs)) next
-    ∙ ap (λ ts. answered_of x y ++ ts) (answered-more bs cs i c b (omega (arith, less)) (omega (arith, lt)) here is) ∙ rw append_assoc refl
 
 -- ## Restored
 
@@ -165,9 +72,6 @@ answered-weight (b ∷ bs) (c ∷ cs) le = by b (answered-weight bs cs (omega (a
         let f = sum_by-cons (λ (t : TakenBack). t.bytes) r (answered_back bs cs) in
         omega (arith, e, f, h)
 
-pub weight-last : (bs : List (Option (List ℕ))) (b : Option (List ℕ)) → weight (bs ++ b ∷ []) ≡ weight bs + size b
-weight-last bs b = let e = sum_by-append size bs (b ∷ []) in let f = sum_by-cons size b [] in omega (arith, e, f)
-
 pub length-restored : (bs : List (Option (List ℕ))) (cs : List ChunkPayloadData) → length (restored bs cs) ≡ length cs
 length-restored [] cs = refl
 length-restored (b ∷ bs) [] = refl
@@ -179,23 +83,6 @@ map-restored f same [] cs = refl
 map-restored f same (b ∷ bs) [] = refl
 map-restored f same (None ∷ bs) (c ∷ cs) = ap (λ ys. f c ∷ ys) (map-restored f same bs cs)
 map-restored {B} f same (Some bytes ∷ bs) (c ∷ cs) = ap (λ (y : B). y ∷ map f (restored bs cs)) (same bytes c) ∙ ap (λ ys. f c ∷ ys) (map-restored f same bs cs)
-
-pub none-left : (bs : List (Option (List ℕ))) (cs : List ChunkPayloadData) → length bs ≡ 0 → restored bs cs ≡ cs
-none-left [] cs n = refl
-none-left (b ∷ bs) cs n = absurd (omega (arith, n))
-
--- from the last place on
-pub restored-none : (bs : List (Option (List ℕ))) (cs : List ChunkPayloadData) → restored (bs ++ None ∷ []) cs ≡ restored bs cs
-restored-none [] [] = refl
-restored-none [] (c ∷ cs) = refl
-restored-none (b ∷ bs) [] = refl
-restored-none (b ∷ bs) (c ∷ cs) = ap (λ ys. restored_with b c ∷ ys) (restored-none bs cs)
-
-pub restored-last : (bs : List (Option (List ℕ))) (bytes : List ℕ) (cs : List ChunkPayloadData) (d : ChunkPayloadData) → length bs < length cs
-    → restored (bs ++ Some bytes ∷ []) cs ≡ restored bs (set cs (length bs) (as_taken_back bytes (get_or cs (length bs) d)))
-restored-last bs bytes [] d lt = absurd (omega (arith, lt))
-restored-last [] bytes (c ∷ cs) d lt = refl
-restored-last (b ∷ bs) bytes (c ∷ cs) d lt = ap (λ ys. restored_with b c ∷ ys) (restored-last bs bytes cs d (omega (arith, lt)))
 
 -- ## In flight
 
@@ -224,31 +111,6 @@ taken-within s f taken current = by (nat_lt (length f.queue.inflight.chunks) (co
     by false e h = grind (arith, nat_tests, e)
     by true e h = absurd (none-some InflightQueueTsnPop (sym h ∙ ap (λ b. if b then Some InflightQueueTsnPop
         else (if list_all (is_within (length f.queue.inflight.chunks - count_acked s f)) s.gap_ack_blocks then None else Some TsnRequestNotExist)) e))
-
-module _ (f : Flight) (inv : IsContiguous f) (s : Sack) (fits : s.cumulative_tsn_ack < 2 ^ 32) (ks : List (Option (List ℕ))) (end : ℕ)
-    (far : (k : ℕ) → end ≤ k → k < length f.queue.inflight.chunks → (length ks ≤ k) × (count_acked s f + after_blocks s.gap_ack_blocks ≤ k)) where
-  abbrev all : List (Option (List ℕ))
-  all = keep_each s f.queue.inflight.chunks ks
-
-  -- behind the end nothing is kept
-  nothing-behind : (k : ℕ) → end ≤ k → get_or all k None ≡ None
-  nothing-behind k le = elim (cases_lt k (length f.queue.inflight.chunks)) [
-    | inl lt ↦
-        let c : ChunkPayloadData = get_or f.queue.inflight.chunks k any_chunk in
-        let b = far k le lt in
-        kept-at s f.queue.inflight.chunks ks k any_chunk lt
-        ∙ ap (λ r. if r then Some c.user_data else get_or ks k None) (beyond f inv s fits k any_chunk b.1 lt)
-        ∙ get_or_past ks k None b.0
-    | inr ge ↦ get_or_past all k None (let n = length-keep_each s f.queue.inflight.chunks ks in omega (arith, n, ge))
-  ]
-
-  pub kept-is : is_outdated s f ≡ false → count_acked s f ≤ end → trimmed (drop (count_acked s f) (take end all)) ≡ kept_after s f ks
-  kept-is current le =
-      let n : ℕ = count_acked s f in
-      let same : n + (end - n) ≡ end = omega (arith, le) in
-      ap (λ k. trimmed (drop n (take k all))) (sym same) ∙ ap trimmed (drop-take n (end - n) all)
-      ∙ sym (trimmed-front (end - n) (drop n all) (λ k h. get_or-drop n all k None ∙ nothing-behind (n + k) (omega (arith, h, le))))
-      ∙ ap (λ b. if b then ks else trimmed (drop n all)) (sym current)
 
 -- ## What comes back has bytes
 

@@ -30,6 +30,16 @@ runs-at [] last i d up lt = absurd (omega (arith, lt))
 runs-at (b ∷ bs) last zero d up lt = (ahead last b bs up).runs
 runs-at (b ∷ bs) last (suc i) d up lt = runs-at bs b.end i d (ahead last b bs up).ascend (omega (arith, lt))
 
+-- the block at a place has at least as many distances up to its end as blocks
+pub end-past : (bs : List GapAckBlock) (last i : ℕ) (d : GapAckBlock) → ascends_from last bs ≡ true → i < length bs
+    → last + i + 1 ≤ (get_or bs i d).end
+end-past [] last i d up lt = absurd (omega (arith, lt))
+end-past (b ∷ bs) last zero d up lt = let a = ahead last b bs up in omega (arith, a.behind, a.runs)
+end-past (b ∷ bs) last (suc i) d up lt =
+    let a = ahead last b bs up in
+    let ih = end-past bs b.end i d a.ascend (omega (arith, lt)) in
+    omega (arith, ih, a.behind, a.runs)
+
 starts-up : (bs : List GapAckBlock) (last i j : ℕ) (d : GapAckBlock) → ascends_from last bs ≡ true → i ≤ j → j < length bs
     → (get_or bs i d).start ≤ (get_or bs j d).start
 starts-up bs last i zero d up le lt =

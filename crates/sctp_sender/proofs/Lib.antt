@@ -32,5 +32,10 @@ pub mod Keepings
 pub mod Reported
 pub mod SackCosts
 pub mod TakenBacks
+pub mod Returns
+pub mod Covers
+pub mod Placed
+pub mod Covering
+pub mod AnewKept
 pub mod Lows
 mod Examples

@@ -1,5 +1,6 @@
 -- A walk over a run of chunks that changes some of them.
-use Rattle.std.proofs.Common.{◌≡◌, ℕ, ◌+◌, ◌<◌, ◌%◌, ◌^◌, Bool, true, false, List, [], ◌∷◌, ◌++◌, length, length-append, take, drop, ◌-◌, get_or, set}
+use Rattle.std.proofs.Common.{◌≡◌, ℕ, zero, suc, ◌+◌, ◌<◌, ◌≤◌, ◌%◌, ◌^◌, Bool, true, false, List, [], ◌∷◌, ◌++◌, length, length-append, take, drop, ◌-◌}
+use Rattle.std.proofs.Common.{get_or, set}
 use Rattle.std.proofs.Common.{slice_get, Some, refl, ap, sym, ◌∙◌, arith}
 use Rattle.std.specs.Prelude.{if◌then◌else◌, find}
 use Rattle.std.proofs.lemmas.List.{length-map, length-take-le, take-append-drop, get_or-append_right, get_or-drop}
@@ -10,7 +11,7 @@ use Rattle.sctp_list_lemmas.proofs.Edits.{change_where-only, changed_step, uncha
 use Rattle.sctp_data.specs.declared.chunk.chunk_payload_data.ChunkPayloadData.{ChunkPayloadData}
 use Rattle.sctp_serial.specs.DataChunks.{has_tsn, tsns}
 use Rattle.sctp_sender.specs.Flight.{tsns_from}
-use Rattle.sctp_sender.proofs.Runs.{IsRunFrom, tsn-at, found-at, only-at, changed-run}
+use Rattle.sctp_sender.proofs.Runs.{IsRunFrom, found-at, only-at, changed-run}
 
 tsns-append : (xs ys : List ChunkPayloadData) → tsns (xs ++ ys) ≡ tsns xs ++ tsns ys
 tsns-append [] ys = refl
@@ -81,3 +82,18 @@ module _ (p : ChunkPayloadData → Bool) (f : ChunkPayloadData → ChunkPayloadD
         by : (k : Bool) → length (filter r (take i cs) ++ (if k then x ∷ [] else [])) ≡ length (filter r (take i cs)) + (if k then 1 else 0)
         by true = length-append (filter r (take i cs)) (x ∷ [])
         by false = length-append (filter r (take i cs)) []
+
+-- where none passes between two places, as much is changed up to either
+pub part-same : {X : Type 0} (p : X → Bool) (f : X → X) (xs : List X) (i j : ℕ) → i ≤ j
+    → ((k : ℕ) (d : X) → i ≤ k → k < j → k < length xs → p (get_or xs k d) ≡ false)
+    → change_where p f (take j xs) ++ drop j xs ≡ change_where p f (take i xs) ++ drop i xs
+part-same p f xs zero zero le h = refl
+part-same p f xs (suc i) zero le h = absurd (omega (arith, le))
+part-same p f [] zero (suc j) le h = refl
+part-same p f [] (suc i) (suc j) le h = refl
+part-same p f (x ∷ xs) zero (suc j) le h =
+    ap (λ b. (if b then f x else x) ∷ change_where p f (take j xs) ++ drop j xs) (h 0 x (omega arith) (omega arith) (omega arith))
+    ∙ ap (λ ys. x ∷ ys) (part-same p f xs zero j (omega arith)
+    (λ k d low high in'. h (suc k) d (omega arith) (omega (arith, high)) (omega (arith, in'))))
+part-same p f (x ∷ xs) (suc i) (suc j) le h = ap (λ ys. (if p x then f x else x) ∷ ys)
+    (part-same p f xs i j (omega (arith, le)) (λ k d low high in'. h (suc k) d (omega (arith, low)) (omega (arith, high)) (omega (arith, in'))))

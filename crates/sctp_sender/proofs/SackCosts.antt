@@ -52,8 +52,8 @@ module _ (f : Flight) (inv : IsContiguous f) (s : Sack) (fits : s.cumulative_tsn
 pub same-messages : (s : Sack) (cs ds : List ChunkPayloadData) (rs : List Released)
     → rs ≡ map (released_of no_message) (filter (reports_anew s) cs) → ds ≡ change_where (reports_anew s) as_acknowledged cs
     → chunks_of (numbers_of rs) ds ≡ chunks_of (messages_anew s cs) cs
-same-messages s cs ds rs told is =
-    ap (λ (ns : List ℕ). chunks_of ns ds) (ap (λ (rs : List Released). numbers_of rs) told ∙ numbers-of-those no_message (filter (reports_anew s) cs))
+same-messages s cs ds rs answer is =
+    ap (λ (ns : List ℕ). chunks_of ns ds) (ap (λ (rs : List Released). numbers_of rs) answer ∙ numbers-of-those no_message (filter (reports_anew s) cs))
     ∙ ap (λ (ns : List ℕ). count_by (among (messages_anew s cs)) ns)
     (ap (λ (xs : List ChunkPayloadData). messages_of xs) is ∙ messages-changed (reports_anew s) as_acknowledged (λ c. refl) cs)
 

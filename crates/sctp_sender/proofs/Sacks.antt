@@ -1,20 +1,16 @@
 -- What a SACK makes of what is in flight.
-use Rattle.std.proofs.Common.{◌≡◌, ℕ, ◌+◌, ◌-◌, ◌<◌, ◌≤◌, ◌%◌, ◌^◌, false, List, length, length-drop, drop, get_or, refl, ap, sym, subst, ◌∙◌, arith}
-use Rattle.std.specs.Prelude.{if◌then◌else◌, ◌&&◌, ◌||◌, not}
+use Rattle.std.proofs.Common.{◌≡◌, ℕ, ◌+◌, ◌-◌, ◌<◌, ◌≤◌, ◌%◌, ◌^◌, false, List, length, length-drop, drop, refl, ap, sym, subst, ◌∙◌, arith}
+use Rattle.std.specs.Prelude.{if◌then◌else◌}
 use Rattle.sctp_list_lemmas.specs.Lists.{change_where}
-use Rattle.sctp_list_lemmas.specs.Serial.{distance, at_or_before}
-use Rattle.sctp_list_lemmas.proofs.Cases.{and-none}
+use Rattle.sctp_list_lemmas.specs.Serial.{distance}
 use Rattle.sctp_list_lemmas.proofs.Edits.{length-change_where}
 use Rattle.sctp_data.specs.declared.chunk.chunk_payload_data.ChunkPayloadData.{ChunkPayloadData}
 use Rattle.sctp_data.specs.SelectiveAck.{Sack}
 use Rattle.sctp_outbound.specs.Marks.{as_acknowledged}
 use Rattle.sctp_outbound.specs.outbound_queue.OutboundQueue.{Outbound, with_inflight}
 use Rattle.sctp_sender.specs.Flight.{Flight, IsContiguous, tsns_from, reports_anew, is_outdated, take_sack, after_sack}
-use Rattle.sctp_sender.proofs.Runs.{IsRunFrom, tsn-at, later, changed-run, dropped, past-is}
+use Rattle.sctp_sender.proofs.Runs.{IsRunFrom, changed-run, dropped, past-is}
 use Rattle.sctp_sender.proofs.InLine.{IsInLine, marked-in-line, rest-in-line}
-use Rattle.sctp_sender.proofs.Offsets.{none-behind}
-use Rattle.sctp_sender.specs.Reporting.{after_blocks}
-use Rattle.sctp_outbound.specs.payload_queue.Blocks.{is_in_blocks}
 use Rattle.sctp_serial.specs.DataChunks.{following_tsn}
 
 pub cum-is : (acked cum : ℕ) → acked < 2 ^ 32 → cum < 2 ^ 32 → cum ≡ (acked + distance acked cum) % 2 ^ 32
@@ -26,23 +22,6 @@ unfolding distance
 apart t base far small near is = omega arith
 
 module _ (f : Flight) (inv : IsContiguous f) (s : Sack) (fits : s.cumulative_tsn_ack < 2 ^ 32) where
-  -- it reports no chunk farther behind its cumulative TSN than its blocks go
-  pub beyond : (k : ℕ) (d : ChunkPayloadData) → distance f.acked_tsn s.cumulative_tsn_ack + after_blocks s.gap_ack_blocks ≤ k
-      → k < length f.queue.inflight.chunks → reports_anew s (get_or f.queue.inflight.chunks k d) ≡ false
-  beyond k d far lt =
-      let c : ChunkPayloadData = get_or f.queue.inflight.chunks k d in
-      let n : ℕ = k - distance f.acked_tsn s.cumulative_tsn_ack in
-      let cum = cum-is f.acked_tsn s.cumulative_tsn_ack inv.in_range fits in
-      let tsn = tsn-at f.queue.inflight.chunks (following_tsn f.acked_tsn) k d (omega arith) inv.run lt in
-      let is : c.tsn ≡ (s.cumulative_tsn_ack + n + 1) % 2 ^ 32 = omega (arith, tsn, cum, far) in
-      let near : n + 1 < 2 ^ 31 = omega (arith, inv.few, lt) in
-      let after : at_or_before c.tsn s.cumulative_tsn_ack ≡ false = later c.tsn s.cumulative_tsn_ack n fits near is in
-      let away : distance s.cumulative_tsn_ack c.tsn ≡ n + 1 = apart c.tsn s.cumulative_tsn_ack n fits near is in
-      let none : is_in_blocks s.gap_ack_blocks (distance s.cumulative_tsn_ack c.tsn) ≡ false =
-      none-behind s.gap_ack_blocks (distance s.cumulative_tsn_ack c.tsn) (omega (arith, away, far)) in
-      ap (λ b. not c.acked && (b || is_in_blocks s.gap_ack_blocks (distance s.cumulative_tsn_ack c.tsn))) after ∙ ap (λ b. not c.acked && b) none
-      ∙ and-none (not c.acked)
-
   abbrev marked-chunks : List ChunkPayloadData
   marked-chunks = change_where (reports_anew s) as_acknowledged f.queue.inflight.chunks
 

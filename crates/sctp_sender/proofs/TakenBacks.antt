@@ -1,6 +1,7 @@
 -- What was taken back can be sent again.
-use Rattle.std.proofs.Common.{◌≡◌, ℕ, zero, suc, ◌<◌, Bool, true, false, List, [], ◌∷◌, length, get_or, Option, Some, None, refl, ap, sym, ◌∙◌, arith}
-use Rattle.std.specs.Prelude.{◌&&◌, not, find, if◌then◌else◌}
+use Rattle.std.proofs.Common.{◌≡◌, ℕ, zero, suc, ◌<◌, Bool, true, false, ◌+◌, ◌^◌, List, [], ◌∷◌, length, map, get_or, Option, Some, None, refl, ap, sym, ◌∙◌}
+use Rattle.std.proofs.Common.{arith}
+use Rattle.std.specs.Prelude.{◌&&◌, not, find, if◌then◌else◌, is_some, nat_lt}
 use Rattle.std.specs.List.{All}
 use Rattle.std.proofs.lemmas.Bool.{false≢true}
 use Rattle.std.proofs.lemmas.Option.{none-some}
@@ -9,8 +10,14 @@ use Rattle.sctp_data.specs.SelectiveAck.{Sack}
 use Rattle.sctp_outbound.specs.Marks.{as_taken_back}
 use Rattle.sctp_serial.specs.DataChunks.{following_tsn, has_tsn}
 use Rattle.sctp_sender.specs.declared.sender.flight.keeping.TakenBack.{TakenBack}
-use Rattle.sctp_sender.specs.Flight.{Flight, IsContiguous, can_resend, is_outstanding_in, reports}
-use Rattle.sctp_sender.specs.Keeping.{back_each, restored, restored_with, takes_back, answered_back, with_restored}
+use Rattle.sctp_sender.specs.Flight.{Flight, IsContiguous, can_resend, is_outdated, is_outstanding_in, reports, sack_refusal}
+use Rattle.sctp_sender.specs.Keeping.{back_each, bytes_back, placed, restored, restored_with, takes_back, answered_of_placed, answered_back, with_restored}
+use Rattle.sctp_outbound.specs.outbound_queue.OutboundQueue.{total_bytes}
+use Rattle.sctp_sender.specs.declared.sender.flight.taking_back.PlacedData.{PlacedData}
+use Rattle.sctp_sender.specs.declared.sender.refusal.SenderRefusal.{SenderRefusal}
+use Rattle.sctp_sender.specs.declared.sender.refusal.SenderRefusal.TheVariants.{QueueFull}
+use Rattle.sctp_sender.specs.Sender.{Transmission, back_by, or_full, take_back_refusal, taken_back_by}
+use Rattle.sctp_sender.proofs.Placed.{back-length, placed-answer}
 use Rattle.sctp_sender.proofs.Keepings.{length-restored, restored-contiguous}
 use Rattle.sctp_sender.proofs.Runs.{found-at, tsn-at}
 
@@ -69,3 +76,29 @@ module _ (s : Sack) where
           ap (λ t. is_outstanding_in (find (has_tsn t) (restored bs cs))) tsn
           ∙ ap is_outstanding_in (found ∙ ap Some (restored-at bs cs i d bytes lt e))
           ∙ open' (get_or cs i d).acked (get_or cs i d).abandoned (reports s (get_or cs i d)) back
+
+-- ## By a sender that keeps what was reported
+
+module _ (s : Sack) (t : Transmission) (ks : List (Option (List ℕ))) (kept : t.kept ≡ Some ks) (current : is_outdated s t.flight ≡ false) where
+  abbrev chunks : List ChunkPayloadData
+  chunks = t.flight.queue.inflight.chunks
+
+  pub back-by-is : back_each s chunks ks ≡ back_by s t.flight t.kept
+  back-by-is = ap (λ b. if b then [] else back_each s chunks ks) (sym current) ∙ ap (back_by s t.flight) (sym kept)
+
+  pub answer-is : (backs : List PlacedData) → backs ≡ placed 0 (back_each s chunks ks) → (d : ChunkPayloadData)
+      → map (λ b. answered_of_placed b (get_or chunks b.place d)) backs ≡ taken_back_by s t
+  answer-is backs is d =
+      ap (map (λ b. answered_of_placed b (get_or chunks b.place d))) is ∙ placed-answer 0 (back_each s chunks ks) chunks d
+      (let le = back-length s chunks ks in omega (arith, le))
+      ∙ ap (λ bs. answered_back bs chunks) back-by-is
+
+  pub refusal-is : (fits : Bool) → sack_refusal s t.flight ≡ None
+      → nat_lt (total_bytes t.flight.queue + bytes_back (taken_back_by s t)) (2 ^ 64) ≡ fits → take_back_refusal s t ≡ (if fits then None else Some QueueFull)
+  refusal-is fits none is =
+      ap (λ o. if is_some o && not (is_outdated s t.flight) then all else None) kept ∙ ap (λ b. if not b then all else None) current
+      ∙ ap (λ r. or_full r (nat_lt (total_bytes t.flight.queue + bytes_back (taken_back_by s t)) (2 ^ 64))) none
+      ∙ ap (λ b. if b then None else Some QueueFull) is
+    where
+      all : Option SenderRefusal
+      all = or_full (sack_refusal s t.flight) (nat_lt (total_bytes t.flight.queue + bytes_back (taken_back_by s t)) (2 ^ 64))

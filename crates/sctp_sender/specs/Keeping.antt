@@ -1,16 +1,26 @@
 -- What a sender keeps of the chunks that gap ack blocks reported, and what a SACK takes back of that (RFC 4960 6.2.1 D iv).
-use Rattle.std.specs.Prelude.{ℕ, Bool, not, ◌&&◌, if◌then◌else◌, List, [], ◌∷◌, ◌++◌, length, drop, Option, Some, None}
-use Rattle.std.specs.List.{sum_by}
-use Rattle.sctp_list_lemmas.specs.Lists.{change_where}
+use Rattle.std.specs.Prelude.{◌≡◌, ◌==◌, ◌^◌, ℕ, zero, suc, ◌+◌, ◌<◌, ◌≤◌, Bool, false, true, not, ◌&&◌, if◌then◌else◌, List, [], ◌∷◌, ◌++◌, length, map, take}
+use Rattle.std.specs.Prelude.{drop, slice_index_or}
+use Rattle.std.specs.Prelude.{Option, Some, None, IfSome}
+use Rattle.std.specs.List.{All, list_any, sum_by}
+use Rattle.sctp_list_lemmas.specs.Lists.{change_at, change_where}
+use Rattle.sctp_list_lemmas.specs.Serial.{distance}
 use Rattle.sctp_data.specs.declared.chunk.chunk_payload_data.ChunkPayloadData.{ChunkPayloadData}
+use Rattle.sctp_data.specs.declared.chunk.chunk_selective_ack.GapAckBlock.{GapAckBlock}
 use Rattle.sctp_data.specs.SelectiveAck.{Sack}
 use Rattle.sctp_outbound.specs.Marks.{as_taken_back}
 use Rattle.sctp_outbound.specs.outbound_queue.OutboundQueue.{with_inflight}
+use Rattle.sctp_outbound.specs.payload_queue.Blocks.{is_in_blocks}
 use Rattle.sctp_stream.specs.Stats.{count_up}
 use Rattle.sctp_stream.specs.declared.stream.StreamState.{StreamState}
+use Rattle.sctp_sender.specs.declared.sender.flight.anew.Anew.{Anew}
+use Rattle.sctp_sender.specs.declared.sender.flight.keeping.Kept.{Kept}
 use Rattle.sctp_sender.specs.declared.sender.flight.keeping.TakenBack.{TakenBack}
+use Rattle.sctp_sender.specs.declared.sender.flight.taking_back.PlacedData.{PlacedData}
 use Rattle.sctp_sender.specs.Flight.{Flight, count_acked, is_outdated, reports, reports_anew, with_queue}
 use Rattle.sctp_sender.specs.Outgoing.{has_number}
+use Rattle.sctp_sender.specs.Reporting.{ascends_from}
+use Rattle.sctp_sender.specs.Telling.{is_reached}
 
 -- ## What is kept, place by place in flight: the user data of a chunk, or nothing; and nothing behind the list
 
@@ -105,3 +115,116 @@ abbrev pub after_returns : List TakenBack → List StreamState → List StreamSt
 after_returns [] ls = ls
 after_returns (r ∷ rs) ls =
     after_returns rs (change_where (has_number r.stream) (more_by r.bytes) ls)
+
+-- ## Which chunks can come back, by the blocks of an earlier SACK
+
+-- the chunk is acknowledged, and its message not abandoned
+abbrev pub can_come_back : ChunkPayloadData → Bool
+can_come_back c = c.acked && not c.abandoned
+
+-- it can come back, and stands at a distance past the TSN that the blocks do not report
+abbrev pub is_uncovered : List GapAckBlock → ℕ → ChunkPayloadData → Bool
+is_uncovered blocks tsn c = can_come_back c && not (is_in_blocks blocks (distance tsn c.tsn))
+
+-- the blocks ascend, and report each chunk in flight that can come back; and what is kept goes as far as something is, and no
+-- farther than what is in flight
+pub record Cover (blocks : List GapAckBlock) (ks : List (Option (List ℕ))) (f : Flight)
+    : Type 0 where
+  pub ascend : ascends_from 0 blocks ≡ true
+  pub each : list_any (is_uncovered blocks f.acked_tsn) f.queue.inflight.chunks ≡ false
+  pub within : length ks ≤ length f.queue.inflight.chunks
+  pub trim : trimmed ks ≡ ks
+
+-- no chunk that waits is acknowledged, and, where a sender keeps what was reported, its blocks do so
+pub record IsCovered (kept : Option Kept) (f : Flight) : Type 0 where
+  pub ordered : list_any (λ c. c.acked) f.queue.pending.ordered ≡ false
+  pub unordered : list_any (λ c. c.acked) f.queue.pending.unordered ≡ false
+  pub cover : IfSome kept (λ k. Cover k.reported.items k.user_data.items f)
+
+-- ## Place by place, where so many places are reported cumulatively
+
+abbrev pub can_at : List ChunkPayloadData → ℕ → Bool
+can_at chunks k = slice_index_or (map can_come_back chunks) k false
+
+-- the chunk at the place can come back, and these blocks do not report it
+abbrev pub returns_at : ℕ → List GapAckBlock → List ChunkPayloadData → ℕ → Bool
+returns_at count blocks chunks k = can_at chunks k && not (is_reached count blocks k)
+
+-- the first so many blocks lie before the place
+abbrev pub ArePassed : ℕ → ℕ → List GapAckBlock → ℕ → Type 0
+ArePassed count i blocks place =
+    (n : ℕ) → place < count + n → is_in_blocks (take i blocks) n ≡ false
+
+-- what is kept, where the chunk at the place comes back
+abbrev pub return_at : ℕ → List GapAckBlock → List ChunkPayloadData → List (Option (List ℕ)) → ℕ
+    → Option (List ℕ)
+return_at count blocks chunks ks k =
+    if returns_at count blocks chunks k then slice_index_or ks k None else None
+
+-- ## What comes back, with its place
+
+-- those of which there is something, the first at the place
+abbrev pub placed : ℕ → List (Option (List ℕ)) → List PlacedData
+placed n [] = []
+placed n (None ∷ ks) = placed (suc n) ks
+placed n (Some bytes ∷ ks) = record { place = n; user_data = bytes } ∷ placed (suc n) ks
+
+abbrev pub answered_of_placed : PlacedData → ChunkPayloadData → TakenBack
+answered_of_placed b c = record {
+  tsn = c.tsn;
+  stream = c.stream_identifier;
+  bytes = length b.user_data;
+  message = c.message_id;
+}
+
+abbrev pub bytes_coming : List PlacedData → ℕ
+bytes_coming bs = sum_by (λ b. length b.user_data) bs
+
+-- each chunk is outstanding again, with what comes back of it
+abbrev pub put_back : List PlacedData → List ChunkPayloadData → List ChunkPayloadData
+put_back [] cs = cs
+put_back (b ∷ bs) cs = change_at (as_taken_back b.user_data) b.place (put_back bs cs)
+
+-- ## What a SACK reports anew, with its place past those that it reports cumulatively
+
+-- the user data is that of the chunk at its place past the first so many
+abbrev pub IsOwn : ℕ → List ChunkPayloadData → PlacedData → Type 0
+IsOwn count cs b = (d : ChunkPayloadData) → (count + b.place < length cs)
+    × ((slice_index_or cs (count + b.place) d).user_data ≡ b.user_data)
+
+abbrev pub is_at : ℕ → PlacedData → Bool
+is_at k b = b.place == k
+
+-- that of each chunk past those that the SACK reports anew
+pub record AreAnew (s : Sack) (f : Flight) (bs : List PlacedData) : Type 0 where
+  pub own : All (IsOwn (count_acked s f) f.queue.inflight.chunks) bs
+  pub small : All (λ b. b.place < 2 ^ 31) bs
+  pub each : (k : ℕ) (d : ChunkPayloadData)
+      → count_acked s f + k < length f.queue.inflight.chunks → list_any (is_at k) bs
+      ≡ reports_anew s (slice_index_or f.queue.inflight.chunks (count_acked s f + k) d)
+
+-- as many places, with nothing at those that were not there
+abbrev pub filled : ℕ → List (Option (List ℕ)) → List (Option (List ℕ))
+filled zero ks = ks
+filled (suc n) [] = None ∷ filled n []
+filled (suc n) (k ∷ ks) = k ∷ filled n ks
+
+-- what is kept, with this at a place
+abbrev pub kept_with : ℕ → List ℕ → List (Option (List ℕ)) → List (Option (List ℕ))
+kept_with zero bytes [] = Some bytes ∷ []
+kept_with zero bytes (k ∷ ks) = Some bytes ∷ ks
+kept_with (suc n) bytes [] = None ∷ kept_with n bytes []
+kept_with (suc n) bytes (k ∷ ks) = k ∷ kept_with n bytes ks
+
+abbrev pub put_all : List PlacedData → List (Option (List ℕ)) → List (Option (List ℕ))
+put_all [] ks = ks
+put_all (b ∷ bs) ks = kept_with b.place b.user_data (put_all bs ks)
+
+-- what is kept then, and by which blocks it is covered, where there is something to do
+abbrev pub data_after : Option Anew → List (Option (List ℕ)) → List (Option (List ℕ))
+data_after None ks = ks
+data_after (Some a) ks = put_all a.chunks.items (drop a.count ks)
+
+abbrev pub blocks_after : Option Anew → List GapAckBlock → List GapAckBlock
+blocks_after None bs = bs
+blocks_after (Some a) bs = a.reported.items

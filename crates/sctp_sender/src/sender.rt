@@ -1,7 +1,6 @@
 //! The sending half of a link (RFC 4960 6.1, 6.2.1, 6.9).
 
 ghost use Rattle.std.specs.Prelude.{◌≡◌, ◌≢◌, ◌==◌, ◌<◌, ◌≤◌, ◌⊎◌, ℕ, Bool, true, false, not, None, Some, OnOk, OnErr, IfOk, IfErr, IfSome, IsOk, IsOkUnless, ◌+◌, option_map, option_copied, option_to_list, is_some, map, find, length, if◌then◌else◌};
-ghost use Rattle.std.specs.Option.{option_or};
 ghost use Rattle.std.specs.List.{count_by, list_any, sum_by};
 ghost use Rattle.sctp_sender.specs.Outgoing.{after_releases};
 ghost use Rattle.sctp_sender.specs.Thresholds.{with_lows};
@@ -18,6 +17,7 @@ mod settings;
 pub mod total;
 mod walking;
 
+use self::flight::anew::{keep_anew, make_room};
 use self::flight::keeping::Kept;
 use self::flight::late::AbandonedMessage;
 use self::flight::{InFlight, Released};
@@ -61,6 +61,7 @@ pub struct Sender {
 
 impl Model for Sender {
     ghost use Rattle.std.specs.Prelude.{◌<◌, ◌≤◌, option_map};
+    ghost use Rattle.sctp_sender.specs.Keeping.{IsCovered};
     ghost use Rattle.sctp_sender.specs.Sender.{Transmission};
     ghost use Rattle.sctp_sender.specs.Totals.{IsAllSettled};
 
@@ -71,11 +72,11 @@ impl Model for Sender {
       flight = s.flight;
       fragment_size = s.fragment_size;
       max_message_size = s.max_message_size;
-      kept = option_map (λ k. k.items) s.kept;
+      kept = option_map (λ k. k.user_data.items) s.kept;
     } };
 
     ghost invariant = { λ s. (0 < s.fragment_size) × (s.fragment_size ≤ 65519)
-        × IsAllSettled s.flight.queue };
+        × IsAllSettled s.flight.queue × IsCovered s.kept s.flight };
 }
 
 impl Sender {
@@ -595,9 +596,10 @@ impl Sender {
             → is_some (sack_refusal (sack_of sack.now) self.old.flight) ≡ true
             → turns.new ≤ turns.old + length (sack_of sack.now).gap_ack_blocks }
     {
-        let kept = self.kept_after(sack)?;
+        let anew = self.anew_by(sack)?;
+        make_room(&mut self.kept, &anew)?;
         let mut released = self.flight.acked_counted(self.alloc, sack, turns)?;
-        keep(&mut self.kept, kept);
+        keep_anew(&mut self.kept, anew);
         release_each(&mut self.streams, &mut released);
         Ok(released)
     }
@@ -671,16 +673,6 @@ fn is_full(queue: &OutboundQueue, len: usize) -> bool
     match queue.pending_bytes().checked_add(queue.inflight_bytes()) {
         Some(held) => held.checked_add(len).is_none(),
         None => true,
-    }
-}
-
-// Keeps what is kept now, where that changes.
-fn keep(place: &mut Option<Kept>, now: Option<Kept>)
-    ensures { option_map (λ k. k.items) place.new ≡ option_or (option_map (λ k. k.items) now)
-        (option_map (λ k. k.items) place.old) }
-{
-    if now.is_some() {
-        *place = now;
     }
 }
 

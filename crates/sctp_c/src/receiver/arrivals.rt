@@ -3,10 +3,8 @@
 ghost use Rattle.std.specs.Prelude.{◌≡◌, ◌≢◌, ◌≤◌, ◌⊎◌, false, true, IfOk, IfErr};
 ghost use Rattle.sctp_base.specs.Outcome.{OrMemory};
 ghost use Rattle.sctp_chunks.specs.Fault.{DataFault, ForwardTsnFault};
-ghost use Rattle.sctp_chunks.specs.Wire.{ReadsChunk, data_chunk, forward_tsn_chunk};
-ghost use Rattle.sctp_data.specs.ChunkSet.{IsFreshData};
+ghost use Rattle.sctp_chunks.specs.Wire.{ReadsChunk, forward_tsn_chunk};
 ghost use Rattle.sctp_data.specs.ForwardTsn.{forward_tsn_of};
-ghost use Rattle.sctp_data.specs.PayloadData.{data_of};
 ghost use Rattle.sctp_c.specs.Refusal.{IsRefusal};
 ghost use Rattle.sctp_c.specs.Receiving.{receiver_code_for, TakesData, TakesNew, RefusesData, TakesForwardTsn, RefusesForwardTsn};
 ghost use Rattle.sctp_receiver.specs.Receiver.{after_discard, discard_refusal, filter_of};
@@ -16,23 +14,13 @@ ghost use Rattle.sctp_receiver.specs.declared.receiver.arrival.Arrival.TheVarian
 
 use super::SctpReceiver;
 use crate::code::{SCTP_OK, SCTP_REPEAT, SCTP_STALE, of_error, of_receiver};
+use crate::in_place::read_data;
 use bytes::Bytes;
 use sctp_base::error::Error;
 use sctp_chunks::chunk::Chunk;
 use sctp_chunks::chunk::chunk_forward_tsn::ChunkForwardTsn;
-use sctp_chunks::chunk::chunk_payload_data::ChunkPayloadData;
 use sctp_receiver::receiver::arrival::{Arrival, Forwarded};
 use std::alloc::Global;
-
-// Reads bytes as a DATA chunk.
-fn data_in(alloc: Global, chunk: &[u8]) -> Result<ChunkPayloadData, Error>
-    ensures found { IfOk result (λ c. ReadsChunk chunk.now (data_chunk (data_of c))) }
-    ensures fresh { IfOk result (λ c. IsFreshData c) }
-    ensures fault { IfErr result (λ e. OrMemory e (DataFault e chunk.now)) }
-{
-    let bytes = Bytes::copy_from_slice(alloc, chunk)?;
-    ChunkPayloadData::unmarshal(alloc, &bytes)
-}
 
 // Reads bytes as a FORWARD-TSN.
 fn forward_tsn_in(alloc: Global, chunk: &[u8]) -> Result<ChunkForwardTsn, Error>
@@ -65,7 +53,7 @@ pub extern "C" fn sctp_receiver_data(
     ensures reason { 16 ≤ result → IsRefusal (λ e. DataFault e chunk.now) result
         ⊎ RefusesData chunk.now result receiver.old.value }
 {
-    let data = match data_in(alloc, chunk) {
+    let data = match read_data(alloc, chunk) {
         Ok(data) => data,
         Err(e) => return of_error(e),
     };

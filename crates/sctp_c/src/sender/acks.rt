@@ -1,13 +1,11 @@
 //! What a peer acknowledges, and what it takes back (RFC 4960 6.2.1).
 
-ghost use Rattle.std.specs.Prelude.{◌≡◌, ◌≢◌, ◌<◌, ◌≤◌, ◌⊎◌, true, IfOk, IfErr, is_some, length, map};
-ghost use Rattle.sctp_base.specs.Outcome.{OrMemory};
+ghost use Rattle.std.specs.Prelude.{◌≡◌, ◌≢◌, ◌<◌, ◌≤◌, ◌⊎◌, true, is_some, length, map};
 ghost use Rattle.sctp_c.specs.Acks.{IsStale, RefusesSack, RefusesTakeBack, Takes, TakesBack, TakesSack, up_to};
 ghost use Rattle.sctp_c.specs.Out.{at_front};
 ghost use Rattle.sctp_c.specs.Refusal.{IsRefusal};
 ghost use Rattle.sctp_c.specs.Rows.{acked_row, taken_back_row};
 ghost use Rattle.sctp_chunks.specs.Fault.{SackFault};
-ghost use Rattle.sctp_chunks.specs.Wire.{ReadsChunk, sack_chunk};
 ghost use Rattle.sctp_data.specs.SelectiveAck.{sack_of};
 ghost use Rattle.sctp_sender.specs.Flight.{is_outdated, sack_refusal};
 ghost use Rattle.sctp_sender.specs.Sender.{keeping};
@@ -18,10 +16,8 @@ use super::queries::moment_of;
 use crate::code::{
     SCTP_CHUNKS_IN_FLIGHT, SCTP_OK, SCTP_SHORT_BUFFER, SCTP_STALE, of_error, of_sender,
 };
-use bytes::Bytes;
-use sctp_base::error::Error;
+use crate::in_place::read_sack;
 use sctp_base::util::sna32lt;
-use sctp_chunks::chunk::Chunk;
 use sctp_chunks::chunk::chunk_selective_ack::ChunkSelectiveAck;
 use sctp_sender::sender::Sender;
 use sctp_sender::sender::flight::Released;
@@ -64,15 +60,6 @@ pub struct SctpTakenBack {
     pub tsn: u32,
     /// Its stream.
     pub stream: u16,
-}
-
-// Reads bytes as a SACK.
-fn sack_in(alloc: Global, chunk: &[u8]) -> Result<ChunkSelectiveAck, Error>
-    ensures found { IfOk result (λ c. ReadsChunk chunk.now (sack_chunk (sack_of c))) }
-    ensures fault { IfErr result (λ e. OrMemory e (SackFault e chunk.now)) }
-{
-    let bytes = Bytes::copy_from_slice(alloc, chunk)?;
-    ChunkSelectiveAck::unmarshal(alloc, &bytes)
 }
 
 // What is told of a chunk that was acknowledged.
@@ -194,7 +181,7 @@ pub extern "C" fn sctp_sender_acked(
         *count = most;
         return SCTP_SHORT_BUFFER;
     }
-    match sack_in(alloc, chunk) {
+    match read_sack(alloc, chunk) {
         Ok(sack) => take_sack(own, &sack, rows, count),
         Err(e) => of_error(e),
     }
@@ -281,7 +268,7 @@ pub extern "C" fn sctp_sender_take_back(
         *count = most;
         return SCTP_SHORT_BUFFER;
     }
-    let sack = match sack_in(alloc, chunk) {
+    let sack = match read_sack(alloc, chunk) {
         Ok(sack) => sack,
         Err(e) => return of_error(e),
     };

@@ -1,6 +1,7 @@
 //! Exchanges that get through empty the sender: a FORWARD-TSN passes what is abandoned, and each SACK of a receiver that is caught up
 //! leaves fewer chunks in flight (RFC 4960 6.2.1; RFC 3758 3.5).
 
+ghost use Rattle.sctp_delivery.specs.Ending.{AfterEachSessionWithTsnsLeft, ArrivalsAreDetermined, EachMakesOneStep, EndsWhereTaken, EndsWithAllRead, ReleasesAreDetermined};
 ghost use Rattle.sctp_delivery.specs.Messages.{WhileFewTsns};
 ghost use Rattle.sctp_delivery.specs.Rounds.{AfterEachFitReliableSession, AfterEachFitSessionOfFewTsns, AllIsReadAfterRounds, CanBeAnswered, EachAnswerLeavesFewer, EachCanGoOn, EachRoundTakesOne, RoundsEnd, SkipsToPoint};
 ghost use Rattle.sctp_delivery.specs.Sacks.{AfterEachSessionOfFewTsns};
@@ -42,4 +43,23 @@ pub fn rounds_end()
 /// is a message to read, each write was read exactly once. So it is in sessions that give out fewer than 2^31 TSNs.
 pub fn all_is_read_after_rounds()
     ensures { AfterEachFitReliableSession AllIsReadAfterRounds }
+{}
+
+/// Each session can be ended: where the receiver has no limits, or room within them for all that is left, and takes messages as long as
+/// the sender writes, calls exist, at whatever moment, none of which is refused for a reason, behind which nothing waits, nothing is in
+/// flight, and nothing is to be read. None of them writes, abandons a message, or lets one expire; and each write whose message had not
+/// been abandoned was read exactly once then: each, where none had been. So it is in sessions that give out fewer than 2^31 TSNs, with
+/// one for each chunk that waits.
+pub fn every_session_can_end()
+    ensures ends { AfterEachSessionWithTsnsLeft EndsWhereTaken }
+    ensures all { AfterEachSessionWithTsnsLeft EndsWithAllRead }
+{}
+
+/// Each call, with its arguments and its answer, leads from a session to one other alone; whether a message becomes complete by a chunk is
+/// settled by the receiver, and what a SACK makes of a session is the same, whatever is answered of the chunks that it releases. So the
+/// hosts themselves, where memory suffices, go from session to session as calls say that are known to exist.
+pub fn each_call_makes_one_step()
+    ensures step { EachMakesOneStep }
+    ensures arrival { ArrivalsAreDetermined }
+    ensures sack { ReleasesAreDetermined }
 {}

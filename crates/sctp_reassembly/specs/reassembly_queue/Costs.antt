@@ -1,12 +1,12 @@
 -- What calls of a queue look at, counted in turns.
-use Rattle.std.specs.Prelude.{ℕ, ◌+◌, ◌-◌, ◌*◌, ◌^◌, ◌<◌, length}
+use Rattle.std.specs.Prelude.{◌≡◌, ◌⊎◌, ℕ, ◌+◌, ◌-◌, ◌*◌, ◌^◌, ◌<◌, ◌≤◌, false, length}
 use Rattle.sctp_list_lemmas.specs.Lists.{insert_before}
 use Rattle.sctp_data.specs.declared.chunk.chunk_payload_data.ChunkPayloadData.{ChunkPayloadData}
 use Rattle.sctp_reassembly.specs.reassembly_queue.Counts.{set_chunks}
 use Rattle.sctp_reassembly.specs.reassembly_queue.Fragments.{chunks_of_ssn}
 use Rattle.sctp_reassembly.specs.reassembly_queue.Loose.{place_among}
 use Rattle.sctp_reassembly.specs.reassembly_queue.Orders.{digits}
-use Rattle.sctp_reassembly.specs.reassembly_queue.ReassemblyQueue.{Reassembly}
+use Rattle.sctp_reassembly.specs.reassembly_queue.ReassemblyQueue.{Reassembly, ReassemblyState}
 use Rattle.sctp_serial.specs.DataChunks.{bytes_of, chunk_before}
 use Rattle.sctp_serial.specs.Runs.{HasNoRun, IsStretch}
 use Rattle.sctp_serial.specs.Window.{IsSerial}
@@ -37,7 +37,20 @@ pub record FitsInOrder (x : ChunkPayloadData) (q : Reassembly) : Type 0 where
 -- the fragments with which it makes the longest stretch of TSNs up by one stand from one place to another, itself among them
 abbrev pub Joins : ChunkPayloadData → Reassembly → ℕ → ℕ → Type 0
 Joins x q first last =
-    IsStretch (insert_before chunk_before x q.unassembled) (place_among x.tsn q.unassembled) first last
+    IsStretch (insert_before chunk_before x q.unassembled)
+    (place_among x.tsn q.unassembled) first last
+
+-- it stands at an end of these, and its message goes on beyond: at the back it does not end, or at the front it does not begin
+abbrev pub IsAtEnd : ChunkPayloadData → ℕ → ℕ → ℕ → Type 0
+IsAtEnd x place first last =
+    ((last ≡ place) × (x.ending_fragment ≡ false))
+    ⊎ ((first ≡ place) × (x.beginning_fragment ≡ false))
+
+-- and with all unassembled fragments it is no longer than one message may be: so of a message that comes in order, or reversed
+pub record JoinsAtEnd (x : ChunkPayloadData) (q : ReassemblyState) (first last : ℕ) : Type 0 where
+  pub joins : Joins x q.held first last
+  pub at_end : IsAtEnd x (place_among x.tsn q.held.unassembled) first last
+  pub short : bytes_of q.held.unassembled + length x.user_data ≤ q.max_message_size
 
 -- what its push looks at: the digits of the number of unassembled fragments, each other fragment of the stretch five times, and 17 more
 abbrev pub unordered_push_looks : Reassembly → ℕ → ℕ → ℕ

@@ -1,6 +1,8 @@
 //! The unassembled fragments of a stream, out of which complete messages are taken.
 
-ghost use Rattle.std.specs.Prelude.{◌≡◌, ℕ, ◌+◌, ◌-◌, ◌*◌, ◌^◌, ◌<◌, ◌≤◌, ◌&&◌, true, [], length, remove, IfSome, IfNone, drop, OnErr, IfOk, IfErr, MatchOption};
+ghost use Rattle.std.specs.Prelude.{◌≡◌, ℕ, ◌+◌, ◌-◌, ◌*◌, ◌^◌, ◌<◌, ◌≤◌, ◌&&◌, true, [], length, slice_index_or, remove, IfSome, IfNone, drop, OnErr, IfOk, IfErr, MatchOption};
+ghost use Rattle.sctp_data.specs.declared.chunk.chunk_payload_data.ChunkPayloadData.{ChunkPayloadData};
+ghost use Rattle.sctp_reassembly.specs.reassembly_queue.Costs.{IsAtEnd};
 ghost use Rattle.sctp_serial.specs.DataChunks.{bytes_of};
 ghost use Rattle.sctp_serial.specs.Runs.{HasNoRun, IsEarliestRun, IsStretch};
 ghost use Rattle.sctp_serial.specs.Window.{IsSerial};
@@ -140,6 +142,11 @@ fn search(
         → HasNoRun (remove unassembled.now.chunks place)
         → IsStretch unassembled.now.chunks place first last
         → turns.new ≤ turns.old + (last + 1 - first) + 1 }
+    ensures few { (x : ChunkPayloadData) (first last : ℕ) → IsSerial unassembled.now.chunks
+        → HasNoRun (remove unassembled.now.chunks place)
+        → IsStretch unassembled.now.chunks place first last
+        → ((d : ChunkPayloadData) → slice_index_or unassembled.now.chunks place d ≡ x)
+        → IsAtEnd x place first last → turns.new ≤ turns.old + 3 }
     ensures walk { turns.new ≤ turns.old + length unassembled.now.chunks + 1 }
 {
     if searched {

@@ -4,8 +4,8 @@ ghost use Rattle.std.specs.Prelude.{◌≡◌, ℕ, ◌==◌, ◌+◌, ◌^◌, 
 ghost use Rattle.sctp_reassembly.specs.reassembly_queue.ReassemblyQueue.{is_too_large, after_ordered_push, is_complete_with, PushesUnordered, IsCounted, held_bytes};
 ghost use Rattle.sctp_reassembly.specs.reassembly_queue.PoolUndo.{CanUndoPut, pool_undone};
 ghost use Rattle.sctp_reassembly.specs.reassembly_queue.Undo.{undone, CanUndo, last_chunks, unassembled_of, with_unassembled, without_last};
-ghost use Rattle.sctp_reassembly.specs.reassembly_queue.Costs.{ordered_push_looks, ordered_push_walk, FitsInOrder, Joins, unordered_push_looks, unordered_push_walk};
-ghost use Rattle.sctp_reassembly.specs.reassembly_queue.Orders.{IsOrderly};
+ghost use Rattle.sctp_reassembly.specs.reassembly_queue.Costs.{ordered_push_looks, ordered_push_walk, FitsInOrder, Joins, JoinsAtEnd, unordered_push_looks, unordered_push_walk};
+ghost use Rattle.sctp_reassembly.specs.reassembly_queue.Orders.{digits, IsOrderly};
 ghost use Rattle.sctp_base.specs.declared.error.Error.TheVariants.{ErrOutOfMemory, ErrInboundPacketTooLarge};
 
 use crate::reassembly_queue::ReassemblyQueue;
@@ -100,6 +100,9 @@ impl ReassemblyQueue {
         ensures unordered_cost { chunk.unordered ≡ true → FitsInOrder chunk self.old.held
             → (first last : ℕ) → Joins chunk self.old.held first last
             → turns.new ≤ turns.old + unordered_push_looks self.old.held first last }
+        ensures unordered_few { chunk.unordered ≡ true → FitsInOrder chunk self.old.held
+            → (first last : ℕ) → JoinsAtEnd chunk self.old first last
+            → turns.new ≤ turns.old + digits (length self.old.held.unassembled) + 9 }
         ensures unordered_walk { chunk.unordered ≡ true
             → turns.new ≤ turns.old + unordered_push_walk self.old.held }
     {

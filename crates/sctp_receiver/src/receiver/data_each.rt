@@ -13,6 +13,7 @@ use crate::receiver::refusal::ReceiverRefusal;
 use crate::receiver::taking::{ChunkUndo, Rules, take, undo_each};
 use crate::receiver::tsn_filter::TsnFilter;
 use sctp_data::chunk::chunk_payload_data::ChunkPayloadData;
+use sctp_serial::turns::Turns;
 use sctp_stream::stream_numbers::put;
 use std::alloc::Global;
 
@@ -89,7 +90,7 @@ fn take_each(
 {
     let (mut arrivals, mut undos) = room_for(alloc, chunks.len())?;
     for chunk in chunks {
-        match take(streams, filter, rules, chunk) {
+        match take(streams, filter, rules, chunk, &mut Turns::new()) {
             Ok((arrival, undo)) => {
                 put(&mut arrivals, arrival);
                 put(&mut undos, undo);

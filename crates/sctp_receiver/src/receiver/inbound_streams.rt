@@ -8,6 +8,7 @@ ghost use Rattle.sctp_receiver.specs.declared.receiver.refusal.ReceiverRefusal.T
 ghost use Rattle.sctp_stream.specs.Numbers.{IsOnlyPlace, IsAbsent};
 ghost use Rattle.sctp_reassembly.specs.reassembly_queue.ReassemblyQueue.{is_too_large};
 ghost use Rattle.sctp_reassembly.specs.reassembly_queue.Undo.{CanUndo};
+ghost use Rattle.sctp_receiver.specs.Costs.{IsWithinPush, IsWithinPushOn};
 ghost use Rattle.sctp_receiver.specs.Inbound.{unassembled_forwarded};
 ghost use Rattle.sctp_receiver.specs.Limits.{held_cost};
 ghost use Rattle.sctp_receiver.specs.Receiver.{readable_streams};
@@ -90,10 +91,32 @@ impl InboundStream {
             e ≡ (if is_too_large chunk.now self.old.queue then MessageTooLarge else OutOfMemory)) }
         ensures err { OnErr result (self.new ≡ self.old) }
     {
+        self.push_undoable_counted(chunk, &mut Turns::new())
+    }
+
+    /// The same, and its turns are added: those of a push in its queue.
+    pub fn push_undoable_counted(
+        &mut self,
+        chunk: &ChunkPayloadData,
+        turns: &mut Turns,
+    ) -> Result<(bool, PushUndo), ReceiverRefusal>
+        requires { (chunk.now.stream_identifier == self.old.queue.si) ≡ true }
+        ensures ok { IfOk result (λ put.
+            Pushes chunk.now put.0 self.old.queue self.new.queue) }
+        ensures undo { IfOk result (λ put. stream_undone put.1 self.new ≡ self.old) }
+        ensures can { IfOk result (λ put. CanUndo put.1 self.new.queue) }
+        ensures rest { self.new ≡ record self.old { queue = self.new.queue } }
+        ensures fits { IsOk result → is_too_large chunk.now self.old.queue ≡ false }
+        ensures refused { IfErr result (λ e.
+            e ≡ (if is_too_large chunk.now self.old.queue then MessageTooLarge else OutOfMemory)) }
+        ensures err { OnErr result (self.new ≡ self.old) }
+        ensures not_back { turns.old ≤ turns.new }
+        ensures cost { IsWithinPush chunk.now self.old.queue (turns.new - turns.old) }
+    {
         let Ok(fragment) = chunk.try_clone() else {
-            return Err(refusal_without_memory(&self.queue, chunk));
+            return Err(refusal_without_memory(&self.queue, chunk, turns));
         };
-        Ok(self.queue.push_undoable(fragment)?)
+        Ok(self.queue.push_undoable_counted(fragment, turns)?)
     }
 
     /// Takes a fragment back by what `push_undoable` answered. It takes no memory.
@@ -272,9 +295,34 @@ impl InboundStreams {
             (stream_refusal chunk.now (find (has_number chunk.now.stream_identifier) self.old)) e) }
         ensures err { OnErr result (self.new ≡ self.old) }
     {
+        self.push_undoable_at_counted(place, chunk, &mut Turns::new())
+    }
+
+    /// The same, and its turns are added: those of a push in the queue of that stream.
+    pub fn push_undoable_at_counted(
+        &mut self,
+        place: usize,
+        chunk: &ChunkPayloadData,
+        turns: &mut Turns,
+    ) -> Result<(bool, PushUndo), ReceiverRefusal>
+        requires { IsOnlyPlace chunk.now.stream_identifier (numbers_of self.old) place }
+        ensures ok { IfOk result (λ put. PushesOn chunk.now put.0 self.old self.new) }
+        ensures undo { IfOk result (λ put.
+            undone_on chunk.now.stream_identifier put.1 self.new ≡ self.old) }
+        ensures can { IfOk result (λ put.
+            CanUndoOn chunk.now.stream_identifier place put.1 self.new) }
+        ensures fits { IsOk result → stream_refusal chunk.now
+            (find (has_number chunk.now.stream_identifier) self.old) ≡ None }
+        ensures refused { IfErr result (λ e. IsRefusedFor
+            (stream_refusal chunk.now (find (has_number chunk.now.stream_identifier) self.old)) e) }
+        ensures err { OnErr result (self.new ≡ self.old) }
+        ensures not_back { turns.old ≤ turns.new }
+        ensures cost { IsWithinPushOn chunk.now
+            (find (has_number chunk.now.stream_identifier) self.old) (turns.new - turns.old) }
+    {
         let stream = &mut self.items[place];
         let before = cost_of(&stream.queue);
-        let pushed = stream.push_undoable(chunk);
+        let pushed = stream.push_undoable_counted(chunk, turns);
         self.cost = moved(self.cost, before, cost_of(&stream.queue));
         renew(&mut self.visits, place, &stream.queue, true);
         pushed
@@ -460,11 +508,19 @@ fn readable_each(alloc: Global, streams: &[InboundStream]) -> Result<Vec<u16>, R
 }
 
 // Why a chunk for which memory was wanting is refused: for that alone, where its message would not be too long. It takes no
-// memory.
-fn refusal_without_memory(queue: &ReassemblyQueue, chunk: &ChunkPayloadData) -> ReceiverRefusal
-    ensures { result ≡ (if is_too_large chunk.now queue.now then MessageTooLarge else OutOfMemory) }
+// memory. Its turns are added: those of a push in its queue.
+fn refusal_without_memory(
+    queue: &ReassemblyQueue,
+    chunk: &ChunkPayloadData,
+    turns: &mut Turns,
+) -> ReceiverRefusal
+    ensures value { result
+        ≡ (if is_too_large chunk.now queue.now then MessageTooLarge else OutOfMemory) }
+    ensures not_back { turns.old ≤ turns.new }
+    ensures cost { IsWithinPush chunk.now queue.now (turns.new - turns.old) }
 {
-    if queue.is_too_large(chunk) {
+    let large = queue.is_too_large_counted(chunk, turns);
+    if large {
         ReceiverRefusal::MessageTooLarge
     } else {
         ReceiverRefusal::OutOfMemory

@@ -1,9 +1,10 @@
 //! Which stream sequence numbers can be told from those that are still to be read (RFC 1982 3.2; RFC 4960 6.5, 6.6; RFC 3758 3.6).
 
-ghost use Rattle.std.specs.Prelude.{◌≡◌, ◌<◌, ◌^◌, true, false, find, not, ◌&&◌};
+ghost use Rattle.std.specs.Prelude.{◌≡◌, ◌<◌, ◌≤◌, ◌+◌, ◌^◌, true, false, find, length, not, ◌&&◌};
 ghost use Rattle.std.specs.List.{list_any};
 ghost use Rattle.sctp_data.specs.ForwardTsn.{forward_tsn_of};
 ghost use Rattle.sctp_list_lemmas.specs.Serial.{comes_before, distance16};
+ghost use Rattle.sctp_reassembly.specs.reassembly_queue.Orders.{digits};
 ghost use Rattle.sctp_receiver.specs.Inbound.{has_number};
 ghost use Rattle.sctp_receiver.specs.Ssns.{lowest_ssn, is_lowest_complete, is_ssn_too_far, is_kept_or_passed, is_name_too_far, is_too_far_on, is_kept_on};
 ghost use Rattle.sctp_receiver.specs.TsnFilter.{has_come};
@@ -15,6 +16,7 @@ use sctp_base::util::{sna16lte, sna32lt};
 use sctp_data::chunk::chunk_forward_tsn::{ChunkForwardTsn, ChunkForwardTsnStream};
 use sctp_data::chunk::chunk_payload_data::ChunkPayloadData;
 use sctp_reassembly::reassembly_queue::ReassemblyQueue;
+use sctp_serial::turns::Turns;
 
 // Half the circle of stream sequence numbers (RFC 1982 3.2).
 const HALF_CIRCLE: u16 = 1 << 15;
@@ -81,6 +83,7 @@ pub(crate) fn is_new_too_far(
     streams: &InboundStreams,
     filter: &TsnFilter,
     chunk: &ChunkPayloadData,
+    turns: &mut Turns,
 ) -> bool
     ensures kept { result ≡ false → has_come chunk.now.tsn filter.now ≡ false
         → is_kept_on chunk.now (find (has_number chunk.now.stream_identifier) streams.now)
@@ -88,14 +91,21 @@ pub(crate) fn is_new_too_far(
     ensures value { result ≡ (not (has_come chunk.now.tsn filter.now)
         && is_too_far_on chunk.now
         (find (has_number chunk.now.stream_identifier) streams.now)) }
+    ensures not_back { turns.old ≤ turns.new }
+    ensures cost { turns.new ≤ turns.old + digits (length filter.now.beyond) + 2 }
 {
     if chunk.unordered {
         return false;
     }
+    turns.tick();
     let Some(inbound) = streams.find(chunk.stream_identifier) else {
         return false;
     };
-    is_ssn_too_far(&inbound.queue, chunk.stream_sequence_number) && !filter.has_come(chunk.tsn)
+    turns.tick();
+    if !is_ssn_too_far(&inbound.queue, chunk.stream_sequence_number) {
+        return false;
+    }
+    !filter.has_come_counted(chunk.tsn, turns)
 }
 
 // Whether an ordered chunk's number lies half the circle or more past the lowest one.

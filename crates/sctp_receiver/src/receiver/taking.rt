@@ -1,8 +1,10 @@
 //! A DATA chunk is taken so that it can be taken back (RFC 4960 6.2, 6.10).
 
-ghost use Rattle.std.specs.Prelude.{◌≡◌, true, false, None, OnOk, OnErr, IfOk, IfErr, IsOk};
+ghost use Rattle.std.specs.Prelude.{◌≡◌, ◌+◌, ◌-◌, ◌≤◌, length, true, false, None, OnOk, OnErr, IfOk, IfErr, IsOk};
 ghost use Rattle.sctp_receiver.specs.declared.receiver.refusal.ReceiverRefusal.TheVariants.{OutOfMemory};
 ghost use Rattle.sctp_receiver.specs.Receiver.{data_refusal, refusal_for, IsRefusedFor, takes_memory, arrival_of, is_answered_complete, Takes, stream_of, is_full_by, noted_by};
+ghost use Rattle.sctp_reassembly.specs.reassembly_queue.Orders.{digits};
+ghost use Rattle.sctp_receiver.specs.Costs.{IsWithinData};
 ghost use Rattle.sctp_receiver.specs.Ssns.{is_kept_on};
 ghost use Rattle.sctp_receiver.specs.TsnFilter.{has_come};
 ghost use Rattle.sctp_receiver.specs.Undo.{parts, reception_of, chunk_undone, CanUndoChunk, chunks_undone, CanUndoChunks, repeat_undone};
@@ -17,6 +19,7 @@ use crate::receiver::tsn_filter::TsnFilter;
 use crate::receiver::tsn_filter::undo::FilterUndo;
 use sctp_data::chunk::chunk_payload_data::ChunkPayloadData;
 use sctp_reassembly::reassembly_queue::undo::PushUndo;
+use sctp_serial::turns::Turns;
 
 /// By what a receiver takes chunks.
 #[derive(Clone, Copy)]
@@ -45,12 +48,14 @@ pub(crate) enum ChunkUndo {
     },
 }
 
-// Takes a chunk, and answers what it was, and how it is taken back. Where memory is refused for its TSN, its fragment is taken back here.
+// Takes a chunk, and answers what it was, and how it is taken back. Where memory is refused for its TSN, its fragment is taken back here,
+// which takes no turn. Its turns are added.
 pub(crate) fn take(
     streams: &mut InboundStreams,
     filter: &mut TsnFilter,
     rules: Rules,
     chunk: &ChunkPayloadData,
+    turns: &mut Turns,
 ) -> Result<(Arrival, ChunkUndo), ReceiverRefusal>
     ensures answer { IfOk result (λ taken. taken.0
         ≡ arrival_of chunk.now.tsn (is_answered_complete taken.0)
@@ -72,11 +77,17 @@ pub(crate) fn take(
     ensures wants { IfErr result (λ e. e ≡ OutOfMemory → takes_memory chunk.now
         (reception_of rules (parts streams.old filter.old)) ≡ true) }
     ensures err { OnErr result (parts streams.new filter.new ≡ parts streams.old filter.old) }
+    ensures not_back { turns.old ≤ turns.new }
+    ensures cost { IsWithinData chunk.now (reception_of rules (parts streams.old filter.old))
+        (reception_of rules (parts streams.new filter.new)) (turns.new - turns.old) }
 {
-    if !rules.any_ssn && is_new_too_far(streams, filter, chunk) {
+    if rules.any_ssn {
+        return take_any_ssn(streams, filter, rules, chunk, turns);
+    }
+    if is_new_too_far(streams, filter, chunk, turns) {
         return Err(ReceiverRefusal::SsnTooFar);
     }
-    take_any_ssn(streams, filter, rules, chunk)
+    take_any_ssn(streams, filter, rules, chunk, turns)
 }
 
 // The same, and its stream sequence number is not looked at.
@@ -85,6 +96,7 @@ fn take_any_ssn(
     filter: &mut TsnFilter,
     rules: Rules,
     chunk: &ChunkPayloadData,
+    turns: &mut Turns,
 ) -> Result<(Arrival, ChunkUndo), ReceiverRefusal>
     ensures answer { IfOk result (λ taken. taken.0
         ≡ arrival_of chunk.now.tsn (is_answered_complete taken.0)
@@ -102,23 +114,29 @@ fn take_any_ssn(
     ensures wants { IfErr result (λ e. e ≡ OutOfMemory → takes_memory chunk.now
         (reception_of rules (parts streams.old filter.old)) ≡ true) }
     ensures err { OnErr result (parts streams.new filter.new ≡ parts streams.old filter.old) }
+    ensures not_back { turns.old ≤ turns.new }
+    ensures cost { IsWithinData chunk.now (reception_of rules (parts streams.old filter.old))
+        (reception_of rules (parts streams.new filter.new))
+        (turns.new - turns.old + digits (length filter.old.beyond) + 2) }
 {
-    if filter.has_come(chunk.tsn) {
-        let noted = note_repeat(filter, rules.limits, chunk.tsn)?;
+    if filter.has_come_counted(chunk.tsn, turns) {
+        let noted = note_repeat(filter, rules.limits, chunk.tsn, turns)?;
         return Ok((Arrival::Repeat, ChunkUndo::Repeat { noted }));
     }
     if filter.is_opposite(chunk.tsn) {
         return Err(ReceiverRefusal::TsnOpposite);
     }
+    turns.tick();
     if let Some(refusal) = refusal_by(rules.limits, streams, filter, chunk.tsn) {
         return Err(refusal);
     }
     let stream = chunk.stream_identifier;
+    turns.tick();
     let Some(place) = streams.place_of(stream) else {
         return Err(ReceiverRefusal::StreamUnknown);
     };
-    let (complete, queue) = streams.push_undoable_at(place, chunk)?;
-    let Ok(tsn) = filter.accept_undoable(chunk.tsn) else {
+    let (complete, queue) = streams.push_undoable_at_counted(place, chunk, turns)?;
+    let Ok(tsn) = filter.accept_undoable_counted(chunk.tsn, turns) else {
         streams.undo_push_at(place, stream, queue);
         return Err(ReceiverRefusal::OutOfMemory);
     };
@@ -138,6 +156,7 @@ pub(crate) fn note_repeat(
     filter: &mut TsnFilter,
     limits: Option<Limits>,
     tsn: u32,
+    turns: &mut Turns,
 ) -> Result<bool, ReceiverRefusal>
     requires { has_come tsn filter.old ≡ true }
     ensures ok { OnOk result (filter.new ≡ record filter.old {
@@ -147,11 +166,13 @@ pub(crate) fn note_repeat(
     ensures refused { IfErr result (λ e. (e ≡ OutOfMemory)
         × (is_full_by limits filter.old.duplicates ≡ false)) }
     ensures err { OnErr result (filter.new ≡ filter.old) }
+    ensures not_back { turns.old ≤ turns.new }
+    ensures cost { turns.new ≤ turns.old + digits (length filter.old.beyond) + 1 }
 {
     if is_full_by(limits, filter) {
         return Ok(false);
     }
-    filter.record_duplicate(tsn)?;
+    filter.record_duplicate_counted(tsn, turns)?;
     Ok(true)
 }
 

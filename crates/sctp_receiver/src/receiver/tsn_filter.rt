@@ -4,6 +4,7 @@ ghost use Rattle.std.specs.Prelude.{◌≡◌, ◌==◌, ◌<◌, ◌≤◌, ◌
 ghost use Rattle.sctp_base.specs.declared.error.Error.TheVariants.{ErrOutOfMemory};
 ghost use Rattle.sctp_list_lemmas.specs.Lists.{advance_over};
 ghost use Rattle.sctp_list_lemmas.specs.Serial.{comes_before};
+ghost use Rattle.sctp_reassembly.specs.reassembly_queue.Orders.{digits};
 ghost use Rattle.sctp_receiver.specs.Costs.{IsWithinBlocks};
 ghost use Rattle.sctp_receiver.specs.TsnFilter.{placeholder};
 ghost use Rattle.sctp_serial.specs.DataChunks.{following_tsn, preceding_tsn, tsns};
@@ -165,11 +166,27 @@ impl TsnFilter {
         ensures places { self.new.room + length self.new.beyond
             ≡ self.old.room + length self.old.beyond }
     {
+        self.accept_counted(tsn, &mut Turns::new());
+    }
+
+    /// The same, and its turns are added: as many as TSNs beyond leave, and else at most one more than their number has binary digits.
+    pub fn accept_counted(&mut self, tsn: u32, turns: &mut Turns)
+        requires new { has_come tsn self.old ≡ false }
+        requires near { is_opposite tsn self.old ≡ false }
+        requires room { has_room tsn self.old ≡ true }
+        ensures value { self.new ≡ record (with_tsn tsn self.old) { room = self.new.room } }
+        ensures places { self.new.room + length self.new.beyond
+            ≡ self.old.room + length self.old.beyond }
+        ensures not_back { turns.old ≤ turns.new }
+        ensures cost { turns.new ≤ turns.old + digits (length self.old.beyond)
+            + (length self.old.beyond - length self.new.beyond) + 1 }
+    {
         if tsn == self.cumulative_tsn.wrapping_add(1) {
-            self.cumulative_tsn = advance(&mut self.queue, tsn, &mut Turns::new());
+            self.cumulative_tsn = advance(&mut self.queue, tsn, turns);
             return;
         }
-        let _ = self.queue.push(placeholder(tsn), self.cumulative_tsn);
+        let from = self.cumulative_tsn;
+        let _ = self.queue.push_counted(placeholder(tsn), from, turns);
     }
 
     /// A TSN comes again. Refuses only for memory, and the filter is as it was then.
@@ -180,7 +197,20 @@ impl TsnFilter {
         ensures err { OnErr result (self.new ≡ self.old) }
         ensures memory { IsOkUnless result ErrOutOfMemory }
     {
-        self.queue.push(placeholder(tsn), self.cumulative_tsn)?;
+        self.record_duplicate_counted(tsn, &mut Turns::new())
+    }
+
+    /// The same, and its turns are added: at most one more than the number of TSNs beyond has binary digits.
+    pub fn record_duplicate_counted(&mut self, tsn: u32, turns: &mut Turns) -> Result<()>
+        requires { has_come tsn self.old ≡ true }
+        ensures ok { OnOk result (self.new ≡ with_duplicate tsn self.old) }
+        ensures err { OnErr result (self.new ≡ self.old) }
+        ensures memory { IsOkUnless result ErrOutOfMemory }
+        ensures not_back { turns.old ≤ turns.new }
+        ensures cost { turns.new ≤ turns.old + digits (length self.old.beyond) + 1 }
+    {
+        let from = self.cumulative_tsn;
+        self.queue.push_counted(placeholder(tsn), from, turns)?;
         Ok(())
     }
 

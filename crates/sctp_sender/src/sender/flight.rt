@@ -5,6 +5,7 @@ ghost use Rattle.sctp_data.specs.declared.chunk.chunk_payload_data.ChunkPayloadD
 ghost use Rattle.sctp_sender.specs.declared.sender.refusal.SenderRefusal.TheVariants.{OutOfMemory};
 ghost use Rattle.sctp_serial.specs.DataChunks.{bytes_of, has_tsn};
 
+pub mod anew;
 pub mod keeping;
 pub mod late;
 mod numbers;
@@ -14,6 +15,7 @@ mod reporting;
 mod resending;
 mod skipping;
 mod sorting;
+pub mod taking_back;
 mod telling;
 mod walking;
 

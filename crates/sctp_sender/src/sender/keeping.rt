@@ -1,23 +1,24 @@
 //! A sender that keeps what gap ack blocks reported, and what a SACK takes back of that (RFC 4960 6.2.1 D iv).
 
-ghost use Rattle.std.specs.Prelude.{◌≡◌, ◌+◌, ◌^◌, ◌<◌, ◌⊎◌, ◌==◌, [], true, false, nat_lt, None, Some, OnOk, OnErr, IfOk, IfErr, IsOk, length, option_map, if◌then◌else◌};
+ghost use Rattle.std.specs.Prelude.{◌≡◌, ◌+◌, ◌^◌, ◌<◌, ◌⊎◌, ◌==◌, [], true, false, nat_lt, None, Some, OnOk, OnErr, IfOk, IfErr, IfSome, IsOk, length, option_map, if◌then◌else◌};
 ghost use Rattle.std.specs.List.{All};
-ghost use Rattle.std.specs.Option.{option_or};
 ghost use Rattle.sctp_outbound.specs.outbound_queue.OutboundQueue.{total_bytes};
-ghost use Rattle.sctp_sender.specs.Keeping.{after_returns, bytes_back, kept_after};
+ghost use Rattle.sctp_sender.specs.Keeping.{AreAnew, Cover, after_returns, bytes_back, kept_after};
 ghost use Rattle.sctp_sender.specs.declared.sender.refusal.SenderRefusal.TheVariants.{ChunksInFlight, OutOfMemory};
 
 use super::Sender;
-use super::flight::keeping::{Kept, TakenBack, answered_back, coming_back};
+use super::flight::anew::Anew;
+use super::flight::keeping::{Kept, TakenBack, answered_back};
 use super::outbound_streams::OutboundStreams;
 use crate::sender::refusal::SenderRefusal;
 use sctp_data::chunk::chunk_selective_ack::ChunkSelectiveAck;
 use sctp_outbound::outbound_queue::OutboundQueue;
 use std::alloc::Global;
+use std::collections::VecDeque;
 
 impl Sender {
     ghost use Rattle.sctp_data.specs.SelectiveAck.{sack_of};
-    ghost use Rattle.sctp_sender.specs.Flight.{can_resend, is_outdated, sack_refusal};
+    ghost use Rattle.sctp_sender.specs.Flight.{after_sack, can_resend, count_acked, is_outdated, sack_refusal};
     ghost use Rattle.sctp_sender.specs.Sender.{after_take_back, keeping, take_back_refusal, taken_back_by};
 
     /// From here on the user data of each chunk that a gap ack block reports is kept until the cumulative TSN passes it (RFC 4960
@@ -33,7 +34,10 @@ impl Sender {
         if self.chunks_in_flight() > 0 {
             return Err(SenderRefusal::ChunksInFlight);
         }
-        self.kept = Some(Vec::new(self.alloc));
+        self.kept = Some(Kept {
+            user_data: VecDeque::new(self.alloc),
+            reported: Vec::new(self.alloc),
+        });
         Ok(())
     }
 
@@ -43,7 +47,8 @@ impl Sender {
     /// reported, or the SACK is out of date, nothing comes back, and it takes no memory. The refusals, in the order in which they are
     /// looked for: those of `acked`; `OutOfMemory`; `QueueFull`, where the bytes that wait, are in flight and come back would be
     /// more than the greatest usize. The sender is as it was then.
-    /// What it costs goes by the last place in flight of which something is kept.
+    /// It looks at each block of the SACK and of the one taken before it, and at each chunk that the latter reports in blocks and the
+    /// SACK does not.
     pub fn take_back(&mut self, sack: &ChunkSelectiveAck) -> Result<Vec<TakenBack>, SenderRefusal>
         ensures answer { IfOk result (λ r. r.items ≡ taken_back_by (sack_of sack.now) self.old) }
         ensures ok { OnOk result (self.new ≡ after_take_back (sack_of sack.now) self.old) }
@@ -65,7 +70,7 @@ impl Sender {
         if !self.flight.is_current(sack)? {
             return Ok(Vec::new(self.alloc));
         }
-        let backs = coming_back(self.alloc, self.flight.queue(), sack, kept)?;
+        let backs = self.flight.coming_back(self.alloc, sack, kept)?;
         let answered = answered_back(self.alloc, self.flight.queue(), &backs)?;
         if !is_room_for(self.flight.queue(), &answered) {
             return Err(SenderRefusal::QueueFull);
@@ -75,11 +80,21 @@ impl Sender {
         Ok(answered)
     }
 
-    // What is kept after a SACK; None where that is as before: nothing is kept, or the SACK is out of date. Refuses what `acked`
-    // refuses.
-    pub(super) fn kept_after(&self, sack: &ChunkSelectiveAck) -> Result<Option<Kept>, SenderRefusal>
-        ensures ok { IfOk result (λ after. option_or (option_map (λ k. k.items) after) self.now.kept
-            ≡ option_map (kept_after (sack_of sack.now) self.now.flight) self.now.kept) }
+    // What a SACK makes of what is kept; None where that stays as it is: nothing is kept, or the SACK is out of date. Refuses what
+    // `acked` refuses.
+    pub(super) fn anew_by(&self, sack: &ChunkSelectiveAck) -> Result<Option<Anew>, SenderRefusal>
+        ensures anew { IfOk result (λ anew. IfSome anew (λ a.
+            (a.count ≡ count_acked (sack_of sack.now) self.now.flight)
+            × AreAnew (sack_of sack.now) self.now.flight a.chunks.items)) }
+        ensures current { IfOk result (λ anew. IfSome anew
+            (λ a. is_outdated (sack_of sack.now) self.now.flight ≡ false)) }
+        ensures taken { IfOk result (λ anew. IfSome anew
+            (λ a. sack_refusal (sack_of sack.now) self.now.flight ≡ None)) }
+        ensures covered { IfOk result (λ anew. IfSome anew (λ a. IfSome self.now.kept
+            (λ ks. Cover a.reported.items (kept_after (sack_of sack.now) self.now.flight ks)
+            (after_sack (sack_of sack.now) self.now.flight)))) }
+        ensures same { IfOk result (λ anew. anew ≡ None → (self.now.kept ≡ None)
+            ⊎ (is_outdated (sack_of sack.now) self.now.flight ≡ true)) }
         ensures refused { IfErr result
             (λ e. ((e ≡ OutOfMemory) × (sack_refusal (sack_of sack.now) self.now.flight ≡ None))
             ⊎ (sack_refusal (sack_of sack.now) self.now.flight ≡ Some e)) }
@@ -91,8 +106,8 @@ impl Sender {
         if !self.flight.is_current(sack)? {
             return Ok(None);
         }
-        let after = self.flight.kept_after(self.alloc, sack, kept)?;
-        Ok(Some(after))
+        let anew = self.flight.anew(self.alloc, sack, kept)?;
+        Ok(Some(anew))
     }
 }
 

@@ -1,6 +1,6 @@
 //! What a sender sends again, and when (RFC 4960 6.3.3, 7.2.4).
 
-ghost use Rattle.std.specs.Prelude.{◌≡◌, ◌+◌, ◌-◌, ◌^◌, true, None, Some, OnOk, OnErr, IfOk, IfErr, IsOk, find, length, option_copied, if◌then◌else◌};
+ghost use Rattle.std.specs.Prelude.{◌≡◌, ◌+◌, ◌*◌, ◌-◌, ◌^◌, ◌≤◌, true, None, Some, OnOk, OnErr, IfOk, IfErr, IsOk, find, length, option_copied, if◌then◌else◌};
 ghost use Rattle.sctp_data.specs.declared.chunk.chunk_payload_data.ChunkPayloadData.{ChunkPayloadData};
 ghost use Rattle.sctp_sender.specs.declared.sender.refusal.SenderRefusal.TheVariants.{NotInFlight, OutOfMemory};
 ghost use Rattle.sctp_serial.specs.DataChunks.{has_tsn};
@@ -64,14 +64,15 @@ impl Sender {
         self.add_miss_indications_counted(before, &mut Turns::new())
     }
 
-    /// The same, and its turns are added: one for each chunk in flight whose TSN is before this one. The look-up by which a chunk is
-    /// counted takes none.
+    /// The same, and its turns are added: at most two for each chunk in flight whose TSN is before this one. The look-up by which a chunk
+    /// is counted takes none.
     pub fn add_miss_indications_counted(&mut self, before: u32, turns: &mut Turns) -> usize
         ensures missed { self.new ≡ with_flight
             (after_misses (count_before before self.old.flight) self.old.flight) self.old }
         ensures thirds { result
             ≡ length (thirds (count_before before self.old.flight) self.old.flight) }
-        ensures cost { turns.new ≡ turns.old + count_before before self.old.flight }
+        ensures not_back { turns.old ≤ turns.new }
+        ensures cost { turns.new ≤ turns.old + 2 * count_before before self.old.flight }
     {
         self.flight.add_miss_indications_counted(before, turns)
     }

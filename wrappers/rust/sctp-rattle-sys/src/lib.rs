@@ -408,8 +408,9 @@ extern "C" {
 
     /// Reads a packet under CRC-32C (RFC 4960 3, 6.8): header, checksum, and each of its chunks whole. `head` becomes its header, `count` how
     /// many chunks it has, and the first `room` of them stand in `rows`; the rows behind them stay. Each chunk can then be read by the calls
-    /// below as `packet + row.at, row.length`. Refuses with SCTP_ERR_PACKET_RAW_TOO_SMALL, SCTP_BAD_CHECKSUM, SCTP_UNKNOWN_CHUNK, another error
-    /// of a chunk, or SCTP_NO_MEMORY; then nothing was written.
+    /// below as `packet + row.at, row.length`. It is read where it lies: only of chunks that are neither DATA nor SACKs a copy is made, one at a
+    /// time, and given back. Refuses with SCTP_ERR_PACKET_RAW_TOO_SMALL, SCTP_BAD_CHECKSUM, SCTP_UNKNOWN_CHUNK, another error of a chunk, or,
+    /// but for a packet of DATA and SACKs alone, SCTP_NO_MEMORY; then nothing was written.
     pub fn sctp_read_packet(packet: *const u8, length: usize, head: *mut sctp_head, rows: *mut sctp_chunk, room: usize, count: *mut usize) -> sctp_code;
 
     /// The same under a sum that the caller took: of the first eight bytes, four zeros, and the bytes from the twelfth on.
@@ -489,8 +490,8 @@ extern "C" {
     pub fn sctp_receiver_reset(receiver: *mut sctp_receiver, stream: u16, last_tsn: u32) -> sctp_code;
 
     /// Takes the bytes of a DATA chunk, without its padding or with it (RFC 4960 6.2). SCTP_OK: its TSN is new, and `complete` becomes 1 where
-    /// a message of its stream became complete with it, else 0. SCTP_REPEAT: its TSN came before; the next SACK reports it as a duplicate,
-    /// but a receiver with limits notes no more of them than one SACK can report, 16,379.
+    /// a message of its stream became complete with it, else 0; of the chunk its user data alone are copied. SCTP_REPEAT: its TSN came before;
+    /// the next SACK reports it as a duplicate, but a receiver with limits notes no more of them than one SACK can report, 16,379.
     /// Refuses with an error of bytes that are no DATA chunk, and, of a new TSN, in this order, with SCTP_SSN_TOO_FAR, SCTP_TSN_OPPOSITE,
     /// SCTP_TSN_TOO_FAR, SCTP_WINDOW_FULL, SCTP_STREAM_UNKNOWN, SCTP_MESSAGE_TOO_LARGE, SCTP_NO_MEMORY: nothing is acknowledged then, and
     /// the chunk may come again. `complete` stays, but with SCTP_OK.

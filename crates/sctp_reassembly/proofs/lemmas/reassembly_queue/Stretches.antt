@@ -8,7 +8,7 @@ use Rattle.sctp_list_lemmas.specs.Serial.{comes_before}
 use Rattle.sctp_list_lemmas.proofs.Distances.{before_irrefl}
 use Rattle.sctp_serial.proofs.lemmas.ListEdits.{inserted-position, remove-insert}
 use Rattle.sctp_serial.specs.Window.{IsSerial}
-use Rattle.sctp_reassembly.specs.reassembly_queue.Costs.{FitsInOrder, Joins}
+use Rattle.sctp_reassembly.specs.reassembly_queue.Costs.{FitsInOrder, Joins, IsAtEnd}
 use Rattle.sctp_reassembly.specs.reassembly_queue.Loose.{place_among}
 use Rattle.sctp_reassembly.specs.reassembly_queue.ReassemblyQueue.{Reassembly}
 use Rattle.std.proofs.lemmas.List.{get_or_default}
@@ -122,6 +122,22 @@ pub run_joined : (xs : List ChunkPayloadData) (x : ChunkPayloadData) (place : �
 run_joined xs x place le none s t f n w run =
     let lt : place < length (insert xs place x) = omega (arith, length-insert xs place x le) in
     run_within (insert xs place x) place s t f n x w (all_around (insert xs place x) place x lt (none_without xs x place le none) f n run)
+
+-- and at an end of its stretch, where its message goes on, it completes none
+pub none_at_end : (xs : List ChunkPayloadData) (x : ChunkPayloadData) (place : ℕ) → place ≤ length xs → HasNoRun xs → (s t f n : ℕ)
+    → IsStretch (insert xs place x) place s t → IsAtEnd x place s t → IsRun (insert xs place x) f n → ⊥
+none_at_end xs x place le none s t f n w end run =
+    let ys = insert xs place x in
+    let lt : place < length ys = omega (arith, length-insert xs place x le) in
+    let (r, from, to) = all_around ys place x lt (none_without xs x place le none) f n run in
+    let low = stretch_from ys place s t w f x from (λ k e ge up. r.rising k e ge (omega arith)) in
+    let high = stretch_to ys place s t w (f + n - 1) x (omega arith) (omega (arith, r.in_range)) (λ k e ge up. r.rising k e (omega arith) up) in
+    elim end [
+      | inl (same, open_end) ↦ false≢true (sym open_end ∙ ap (λ (c : ChunkPayloadData). c.ending_fragment) (sym (get_or-insert_at xs place x x le))
+          ∙ ap (λ i. (get_or ys i x).ending_fragment) {x = place} {y = f + n - 1} (omega (arith, same, high)) ∙ r.ends x)
+      | inr (same, plain) ↦ false≢true (sym plain ∙ ap (λ (c : ChunkPayloadData). c.beginning_fragment) (sym (get_or-insert_at xs place x x le))
+          ∙ ap (λ i. (get_or ys i x).beginning_fragment) {x = place} {y = f} (omega (arith, same, low)) ∙ r.begins x)
+    ]
 
 pub bytes_with : (xs : List ChunkPayloadData) (x : ChunkPayloadData) (place : ℕ) → place ≤ length xs
     → bytes_of (insert xs place x) ≡ length x.user_data + bytes_of xs

@@ -90,11 +90,16 @@ module _ (xs : List ChunkPayloadData) (first count : ℕ) (within : first + coun
     | inr short ↦ let around = all_around xs place d (omega arith) none f n (run_low f n r short) in omega (arith, around.2)
   ]
 
-pub none_after_take : (searched serial : Bool) (xs : List ChunkPayloadData) (place first count : ℕ) → place < length xs → IsFlag searched (remove xs place)
-    → IsOrderFlag serial xs → IsRun xs first count → (searched && serial) ≡ true → HasNoRun (take first xs ++ drop (first + count) xs)
-none_after_take true true xs place first count lt none order run on =
+-- where the mark is on no run is left
+abbrev pub NoneWhere : Bool → List ChunkPayloadData → Type 0
+NoneWhere true xs = HasNoRun xs
+NoneWhere false xs = Unit {0}
+
+pub flag_after_take : (searched serial : Bool) (xs : List ChunkPayloadData) (place first count : ℕ) → place < length xs → IsFlag searched (remove xs place)
+    → IsOrderFlag serial xs → IsRun xs first count → NoneWhere (searched && serial) (take first xs ++ drop (first + count) xs)
+flag_after_take true true xs place first count lt none order run =
     let d = an_element xs place lt in
     let around = all_around xs place d lt none first count run in
     none_left xs first count run.in_range order run.some place d around.1 around.2 none
-none_after_take true false xs place first count lt none order run on = cc
-none_after_take false serial xs place first count lt none order run on = cc
+flag_after_take true false xs place first count lt none order run = tt
+flag_after_take false serial xs place first count lt none order run = tt

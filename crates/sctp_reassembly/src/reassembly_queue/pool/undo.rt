@@ -7,6 +7,7 @@ ghost use Rattle.sctp_serial.specs.DataChunks.{bytes_of, chunk_before};
 ghost use Rattle.sctp_serial.specs.Runs.{HasNoRun, IsStretch};
 ghost use Rattle.sctp_serial.specs.Window.{IsSerial};
 ghost use Rattle.sctp_reassembly.specs.reassembly_queue.Loose.{IsRunTaken, place_among};
+ghost use Rattle.sctp_reassembly.specs.reassembly_queue.Costs.{IsAtEnd};
 ghost use Rattle.sctp_reassembly.specs.reassembly_queue.PoolUndo.{CanUndoPut, pool_undone};
 
 use crate::reassembly_queue::fragment::Fragment;
@@ -29,7 +30,7 @@ impl Pool {
     /// Puts a fragment before the first that it comes before, and takes out the run
     /// that ends earliest, if there is one. Answers that run's fragments, and what takes it all back with them.
     /// Its looks are added: two for each other fragment of the stretch that it joins, and seven more at most, where all stand in serial
-    /// order, none was complete, and their bytes can be counted.
+    /// order, none was complete, and their bytes can be counted; and seven at most where it stands at an end of that (`IsAtEnd`).
     /// Precondition: `place` is that place.
     /// Refuses only for memory, and nothing changes then.
     pub(crate) fn put_undoable(
@@ -59,6 +60,11 @@ impl Pool {
             → bytes_of self.old.chunks + length chunk.user_data < 2 ^ 64 - 1
             → IsStretch (insert self.old.chunks place chunk) place first last
             → turns.new ≤ turns.old + 2 * (last - first) + 7 }
+        ensures few { (first last : ℕ) → IsSerial (insert self.old.chunks place chunk)
+            → HasNoRun self.old.chunks
+            → bytes_of self.old.chunks + length chunk.user_data < 2 ^ 64 - 1
+            → IsStretch (insert self.old.chunks place chunk) place first last
+            → IsAtEnd chunk place first last → turns.new ≤ turns.old + 7 }
         ensures walk { turns.new ≤ turns.old + 5 * length self.old.chunks + 10 }
     {
         let flags = self.unassembled.flags();

@@ -2,6 +2,7 @@
 
 ghost use Rattle.std.specs.Prelude.{◌≡◌, ◌<◌, ◌≤◌, ◌+◌, ◌-◌, ◌^◌, ◌++◌, true, false, OnOk, OnErr, IfOk, IsOkUnless, length, map, take};
 ghost use Rattle.sctp_base.specs.declared.error.Error.TheVariants.{ErrOutOfMemory};
+ghost use Rattle.sctp_reassembly.specs.reassembly_queue.Orders.{digits};
 ghost use Rattle.sctp_receiver.specs.TsnFilter.{placeholder, rise_beyond};
 ghost use Rattle.sctp_receiver.specs.Undo.{tsns_from, undo_of};
 ghost use Rattle.sctp_serial.specs.DataChunks.{following_tsn, tsns};
@@ -10,6 +11,7 @@ use super::{TsnFilter, placeholder};
 use sctp_base::error::Result;
 use sctp_outbound::payload_queue::PayloadQueue;
 use sctp_serial::serial::distance;
+use sctp_serial::turns::Turns;
 
 /// What `accept_undoable` did, so that `retract` can take it back.
 #[derive(Clone, Copy)]
@@ -37,9 +39,26 @@ impl TsnFilter {
         ensures err { OnErr result (self.new ≡ self.old) }
         ensures memory { IsOkUnless result ErrOutOfMemory }
     {
+        self.accept_undoable_counted(tsn, &mut Turns::new())
+    }
+
+    /// The same, and its turns are added as `accept_counted` adds them.
+    pub fn accept_undoable_counted(&mut self, tsn: u32, turns: &mut Turns) -> Result<FilterUndo>
+        requires new { has_come tsn self.old ≡ false }
+        requires near { is_opposite tsn self.old ≡ false }
+        ensures ok { OnOk result
+            (self.new ≡ record (with_tsn tsn self.old) { room = self.new.room }) }
+        ensures undo { IfOk result (λ u. retracted u self.new ≡ self.old) }
+        ensures can { IfOk result (λ u. CanRetract u self.new) }
+        ensures err { OnErr result (self.new ≡ self.old) }
+        ensures memory { IsOkUnless result ErrOutOfMemory }
+        ensures not_back { turns.old ≤ turns.new }
+        ensures cost { turns.new ≤ turns.old + digits (length self.old.beyond)
+            + (length self.old.beyond - length self.new.beyond) + 1 }
+    {
         let undo = self.undo_of(tsn);
         self.reserve_for(tsn)?;
-        self.accept(tsn);
+        self.accept_counted(tsn, turns);
         Ok(undo)
     }
 

@@ -1,24 +1,23 @@
 //! What is kept of the chunks that gap ack blocks reported, and what a SACK takes back of that (RFC 4960 6.2.1 D iv).
 
-ghost use Rattle.std.specs.Prelude.{◌≡◌, ◌+◌, ◌<◌, ◌≤◌, ◌^◌, ℕ, List, Option, ◌∷◌, [], not, false, true, None, Some, IfOk, IfErr, IsOk, drop, length, option_copied, slice_index_or, take};
+ghost use Rattle.std.specs.Prelude.{◌≡◌, ◌+◌, ◌<◌, ◌≤◌, ◌^◌, ℕ, List, Option, ◌∷◌, [], true, None, IfOk, IfErr, length, map, option_copied, slice_index_or};
 ghost use Rattle.std.specs.List.{All};
-ghost use Rattle.sctp_data.specs.SelectiveAck.{Sack, sack_of};
+ghost use Rattle.sctp_data.specs.SelectiveAck.{Sack};
 ghost use Rattle.sctp_data.specs.declared.chunk.chunk_payload_data.ChunkPayloadData.{ChunkPayloadData};
 ghost use Rattle.sctp_outbound.specs.outbound_queue.OutboundQueue.{total_bytes, with_inflight};
 ghost use Rattle.sctp_sender.specs.declared.sender.refusal.SenderRefusal.TheVariants.{OutOfMemory};
-ghost use Rattle.sctp_sender.specs.Keeping.{back_each, back_of, bytes_back, keep, keep_each, kept_after, restored, takes_back, answered_back, trimmed, with_restored};
-ghost use Rattle.sctp_sender.specs.Reporting.{Marks};
+ghost use Rattle.sctp_sender.specs.Keeping.{answered_back, back_each, bytes_coming, placed, put_back, answered_of_placed, with_restored};
 
 use super::InFlight;
-use super::reporting::{is_reported, marks_of};
+use super::taking_back::PlacedData;
 use crate::sender::refusal::SenderRefusal;
 use bytes::Bytes;
 use sctp_data::chunk::chunk_payload_data::ChunkPayloadData;
-use sctp_data::chunk::chunk_selective_ack::ChunkSelectiveAck;
+use sctp_data::chunk::chunk_selective_ack::GapAckBlock;
 use sctp_outbound::outbound_queue::OutboundQueue;
-use sctp_serial::serial::distance;
 use sctp_stream::stream_numbers::put;
 use std::alloc::Global;
+use std::collections::VecDeque;
 
 /// A chunk whose acknowledgement a SACK took back: it is outstanding again.
 #[derive(Clone, Copy, Debug, PartialEq, Eq)]
@@ -33,126 +32,79 @@ pub struct TakenBack {
     pub message: u64,
 }
 
-/// The user data that is kept of the chunks in flight, place by place: None where nothing is.
-pub type Kept = Vec<Option<Bytes>>;
+/// What a sender keeps of the chunks in flight that gap ack blocks reported.
+#[derive(Drop)]
+pub struct Kept {
+    /// The user data, place by place: None where nothing is kept.
+    pub user_data: VecDeque<Option<Bytes>>,
+    /// Gap ack blocks, as distances past the TSN up to which all was acknowledged. They ascend, and report each chunk in flight that
+    /// is acknowledged and of no abandoned message.
+    pub reported: Vec<GapAckBlock>,
+}
 
 impl InFlight {
-    ghost use Rattle.sctp_sender.specs.Flight.{can_resend, is_outdated, sack_refusal};
-
-    /// What is kept after a SACK: the user data of each chunk that it reports anew, shared, and what was kept before, but nothing of
-    /// what it reports cumulatively.
-    /// Precondition: `is_current` answers true. Refuses only for memory.
-    pub fn kept_after(
-        &self,
-        alloc: Global,
-        sack: &ChunkSelectiveAck,
-        kept: &[Option<Bytes>],
-    ) -> Result<Kept, SenderRefusal>
-        requires taken { sack_refusal (sack_of sack.now) self.now ≡ None }
-        requires current { is_outdated (sack_of sack.now) self.now ≡ false }
-        ensures ok { IfOk result (λ after. after.items
-            ≡ kept_after (sack_of sack.now) self.now kept.now) }
-        ensures memory { IfErr result (λ e. e ≡ OutOfMemory) }
-    {
-        let count = distance(self.acked_tsn, sack.cumulative_tsn_ack) as usize;
-        let marks = marks_of(alloc, &sack.gap_ack_blocks)?;
-        // what lies behind is neither reported nor kept
-        let end = kept
-            .len()
-            .max(count + marks.len())
-            .min(self.queue.inflight_len());
-        keep_each(alloc, &self.queue, sack, &marks, kept, (count, end))
-    }
+    ghost use Rattle.sctp_sender.specs.Flight.{can_resend};
 
     /// Each chunk with which something comes back is outstanding again, and has it. It takes no memory.
-    /// Precondition: there are as many chunks in flight; and the bytes that wait and are in flight, with these, are fewer than 2^64.
-    pub fn restore(&mut self, backs: Kept)
-        requires within { length backs.items ≤ length self.old.queue.inflight.chunks }
-        requires bytes { total_bytes self.old.queue
-            + bytes_back (answered_back backs.items self.old.queue.inflight.chunks) < 2 ^ 64 }
-        ensures restored { self.new ≡ with_restored backs.items self.old }
+    /// Precondition: each has its place in flight; and the bytes that wait and are in flight, with these, are fewer than 2^64.
+    pub fn restore(&mut self, backs: Vec<PlacedData>)
+        requires within { All (λ b. b.place < length self.old.queue.inflight.chunks) backs.items }
+        requires bytes { total_bytes self.old.queue + bytes_coming backs.items < 2 ^ 64 }
+        ensures restored { (bs : List (Option (List ℕ))) → backs.items ≡ placed 0 bs
+            → length bs ≤ length self.old.queue.inflight.chunks
+            → self.new ≡ with_restored bs self.old }
         // where they are what a SACK takes back, it can be sent again
         ensures outstanding { (s : Sack) (ks : List (Option (List ℕ)))
-            → backs.items ≡ back_each s self.old.queue.inflight.chunks ks
+            → backs.items ≡ placed 0 (back_each s self.old.queue.inflight.chunks ks)
             → All (λ b. can_resend b.tsn self.new ≡ true)
-            (answered_back backs.items self.old.queue.inflight.chunks) }
+            (answered_back (back_each s self.old.queue.inflight.chunks ks)
+            self.old.queue.inflight.chunks) }
     {
-        if !restore_each(&mut self.queue, backs) {
+        if backs.is_empty() {
             return;
         }
+        restore_each(&mut self.queue, backs);
         self.known.clear();
     }
 }
 
-/// What comes back by a SACK that is not out of date, place by place. Refuses only for memory.
-pub fn coming_back(
-    alloc: Global,
-    queue: &OutboundQueue,
-    sack: &ChunkSelectiveAck,
-    kept: &[Option<Bytes>],
-) -> Result<Kept, SenderRefusal>
-    ensures ok { IfOk result (λ backs. backs.items
-        ≡ back_each (sack_of sack.now) queue.now.inflight.chunks kept.now) }
-    ensures within { IfOk result (λ backs. length backs.items
-        ≤ length queue.now.inflight.chunks) }
-    ensures memory { IfErr result (λ e. e ≡ OutOfMemory) }
-{
-    let marks = marks_of(alloc, &sack.gap_ack_blocks)?;
-    let end = kept.len().min(queue.inflight_len());
-    let mut backs = Vec::new(alloc);
-    if backs.reserve(end).is_err() {
-        return Err(SenderRefusal::OutOfMemory);
-    }
-    for place in 0..end {
-        let Some(chunk) = queue.inflight_at(place) else {
-            unreachable!()
-        };
-        let back = back_of(sack, &marks, chunk, kept, place)?;
-        put(&mut backs, back);
-    }
-    Ok(backs)
-}
-
-/// The chunks with which something comes back, in order of TSNs. Refuses only for memory.
-/// Precondition: there are as many chunks in flight.
+/// What is told of the chunks with which something comes back. Refuses only for memory.
+/// Precondition: each has its place in flight.
 pub fn answered_back(
     alloc: Global,
     queue: &OutboundQueue,
-    backs: &[Option<Bytes>],
+    backs: &[PlacedData],
 ) -> Result<Vec<TakenBack>, SenderRefusal>
-    requires { length backs.now ≤ length queue.now.inflight.chunks }
-    ensures ok { IfOk result (λ answered. answered.items
-        ≡ answered_back backs.now queue.now.inflight.chunks) }
+    requires { All (λ b. b.place < length queue.now.inflight.chunks) backs.now }
+    ensures ok { (d : ChunkPayloadData) → IfOk result (λ answered. answered.items
+        ≡ map (λ b. answered_of_placed b (slice_index_or queue.now.inflight.chunks b.place d)) backs.now) }
     ensures memory { IfErr result (λ e. e ≡ OutOfMemory) }
 {
     let mut answered = Vec::new(alloc);
-    for place in 0..backs.len() {
-        let Some(chunk) = queue.inflight_at(place) else {
+    if answered.reserve(backs.len()).is_err() {
+        return Err(SenderRefusal::OutOfMemory);
+    }
+    for back in backs {
+        let Some(chunk) = queue.inflight_at(back.place) else {
             unreachable!()
         };
-        let Some(bytes) = kept_at(backs, place) else {
-            continue;
-        };
-        if answered.reserve(1).is_err() {
-            return Err(SenderRefusal::OutOfMemory);
-        }
-        put(&mut answered, taken_back(chunk, bytes));
+        put(&mut answered, taken_back(chunk, &back.user_data));
     }
     Ok(answered)
 }
 
 // The user data that is kept at a place.
-fn kept_at(kept: &[Option<Bytes>], place: usize) -> Option<&Bytes>
-    ensures { option_copied result ≡ slice_index_or kept.now place None }
+pub(super) fn kept_at(kept: &VecDeque<Option<Bytes>>, place: usize) -> Option<&Bytes>
+    ensures { option_copied result ≡ slice_index_or kept.now.items place None }
 {
-    if place >= kept.len() {
+    let Some(data) = kept.get(place) else {
         return None;
-    }
-    kept[place].as_ref()
+    };
+    data.as_ref()
 }
 
 // The same user data, shared.
-fn share(bytes: &Bytes) -> Result<Bytes, SenderRefusal>
+pub(super) fn share(bytes: &Bytes) -> Result<Bytes, SenderRefusal>
     ensures ok { IfOk result (λ shared. shared ≡ bytes.now) }
     ensures memory { IfErr result (λ e. e ≡ OutOfMemory) }
 {
@@ -160,102 +112,6 @@ fn share(bytes: &Bytes) -> Result<Bytes, SenderRefusal>
         Ok(shared) => Ok(shared),
         Err(_) => Err(SenderRefusal::OutOfMemory),
     }
-}
-
-// What is kept at a place, shared.
-fn share_at(kept: &[Option<Bytes>], place: usize) -> Result<Option<Bytes>, SenderRefusal>
-    ensures ok { IfOk result (λ shared. shared ≡ slice_index_or kept.now place None) }
-    ensures memory { IfErr result (λ e. e ≡ OutOfMemory) }
-{
-    let Some(bytes) = kept_at(kept, place) else {
-        return Ok(None);
-    };
-    Ok(Some(share(bytes)?))
-}
-
-// What is kept of the chunk at a place after a SACK.
-fn keep(
-    sack: &ChunkSelectiveAck,
-    marks: &[bool],
-    chunk: &ChunkPayloadData,
-    kept: &[Option<Bytes>],
-    place: usize,
-) -> Result<Option<Bytes>, SenderRefusal>
-    requires { Marks marks.now (sack_of sack.now).gap_ack_blocks }
-    ensures ok { IfOk result (λ after. after
-        ≡ keep (sack_of sack.now) chunk.now (slice_index_or kept.now place None)) }
-    ensures memory { IfErr result (λ e. e ≡ OutOfMemory) }
-{
-    if chunk.acked || !is_reported(sack, marks, chunk.tsn) {
-        return share_at(kept, place);
-    }
-    Ok(Some(share(&chunk.user_data)?))
-}
-
-// What is kept after a SACK of the chunks in flight from one place to before another, as far as something is.
-fn keep_each(
-    alloc: Global,
-    queue: &OutboundQueue,
-    sack: &ChunkSelectiveAck,
-    marks: &[bool],
-    kept: &[Option<Bytes>],
-    places: (usize, usize),
-) -> Result<Kept, SenderRefusal>
-    requires marks { Marks marks.now (sack_of sack.now).gap_ack_blocks }
-    requires ordered { places.0 ≤ places.1 }
-    requires within { places.1 ≤ length queue.now.inflight.chunks }
-    ensures ok { IfOk result (λ after. after.items ≡ trimmed (drop places.0 (take places.1
-        (keep_each (sack_of sack.now) queue.now.inflight.chunks kept.now)))) }
-    ensures memory { IfErr result (λ e. e ≡ OutOfMemory) }
-{
-    let mut after = Vec::new(alloc);
-    let mut used = 0;
-    for place in places.0..places.1 {
-        let Some(chunk) = queue.inflight_at(place) else {
-            unreachable!()
-        };
-        let bytes = keep(sack, marks, chunk, kept, place)?;
-        if after.reserve(1).is_err() {
-            return Err(SenderRefusal::OutOfMemory);
-        }
-        let is_kept = bytes.is_some();
-        put(&mut after, bytes);
-        if is_kept {
-            used = after.len();
-        }
-    }
-    after.truncate(used);
-    Ok(after)
-}
-
-// What comes back of the chunk at a place.
-fn back_of(
-    sack: &ChunkSelectiveAck,
-    marks: &[bool],
-    chunk: &ChunkPayloadData,
-    kept: &[Option<Bytes>],
-    place: usize,
-) -> Result<Option<Bytes>, SenderRefusal>
-    requires { Marks marks.now (sack_of sack.now).gap_ack_blocks }
-    ensures ok { IfOk result (λ back. back
-        ≡ back_of (sack_of sack.now) chunk.now (slice_index_or kept.now place None)) }
-    ensures memory { IfErr result (λ e. e ≡ OutOfMemory) }
-{
-    if !takes_back(sack, marks, chunk) {
-        return Ok(None);
-    }
-    share_at(kept, place)
-}
-
-// Whether a SACK takes back that the chunk was reported.
-fn takes_back(sack: &ChunkSelectiveAck, marks: &[bool], chunk: &ChunkPayloadData) -> bool
-    requires { Marks marks.now (sack_of sack.now).gap_ack_blocks }
-    ensures { result ≡ takes_back (sack_of sack.now) chunk.now }
-{
-    if !chunk.acked || chunk.abandoned {
-        return false;
-    }
-    !is_reported(sack, marks, chunk.tsn)
 }
 
 // What is told of a chunk that is outstanding again with these bytes.
@@ -275,23 +131,15 @@ fn taken_back(chunk: &ChunkPayloadData, bytes: &Bytes) -> TakenBack
     }
 }
 
-// Gives each chunk in flight what comes back of it, from the last place on. Answers whether anything does.
-fn restore_each(queue: &mut OutboundQueue, backs: Kept) -> bool
-    requires within { length backs.items ≤ length queue.old.inflight.chunks }
-    requires bytes { total_bytes queue.old
-        + bytes_back (answered_back backs.items queue.old.inflight.chunks) < 2 ^ 64 }
-    ensures restored { queue.new
-        ≡ with_inflight queue.old (restored backs.items queue.old.inflight.chunks) }
-    ensures none { result ≡ false → queue.new ≡ queue.old }
+// Gives each chunk in flight what comes back of it, from the last one on.
+fn restore_each(queue: &mut OutboundQueue, backs: Vec<PlacedData>)
+    requires within { All (λ b. b.place < length queue.old.inflight.chunks) backs.items }
+    requires bytes { total_bytes queue.old + bytes_coming backs.items < 2 ^ 64 }
+    ensures { queue.new
+        ≡ with_inflight queue.old (put_back backs.items queue.old.inflight.chunks) }
 {
-    let mut any = false;
     let mut backs = backs;
     while let Some(back) = backs.pop() {
-        let Some(bytes) = back else {
-            continue;
-        };
-        queue.take_back_at(backs.len(), bytes);
-        any = true;
+        queue.take_back_at(back.place, back.user_data);
     }
-    any
 }

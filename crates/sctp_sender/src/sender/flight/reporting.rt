@@ -11,7 +11,7 @@ ghost use Rattle.sctp_outbound.specs.pending_queue.Whole.{partially_sent};
 ghost use Rattle.sctp_serial.specs.DataChunks.{tsns};
 ghost use Rattle.sctp_sender.specs.declared.sender.refusal.SenderRefusal.TheVariants.{OutOfMemory};
 ghost use Rattle.sctp_sender.specs.Costs.{sack_turns};
-ghost use Rattle.sctp_sender.specs.Flight.{tsns_from, reports_anew, is_within};
+ghost use Rattle.sctp_sender.specs.Flight.{tsns_from, is_within};
 ghost use Rattle.sctp_sender.specs.Reporting.{after_block, after_blocks, goes_from_to, HasEnds, Marks};
 ghost use Rattle.sctp_sender.specs.SideBySide.{IsApartAt, StandSideBySide, messages_of};
 
@@ -19,7 +19,7 @@ use super::sorting::sorted_blocks;
 use super::telling::{acknowledge_answered, judge_each, tell_anew};
 use super::{InFlight, Released};
 use crate::sender::refusal::SenderRefusal;
-use sctp_base::util::{sna32lt, sna32lte};
+use sctp_base::util::sna32lt;
 use sctp_data::chunk::chunk_payload_data::ChunkPayloadData;
 use sctp_data::chunk::chunk_selective_ack::{ChunkSelectiveAck, GapAckBlock};
 use sctp_outbound::outbound_queue::OutboundQueue;
@@ -186,18 +186,8 @@ fn is_within(block: &GapAckBlock, left: usize) -> bool
     block.end < block.start || (block.start > 0 && block.end as usize <= left)
 }
 
-// For each distance up to the greatest that a block reports, whether one does.
-pub(super) fn marks_of(alloc: Global, blocks: &[GapAckBlock]) -> Result<Vec<bool>, SenderRefusal>
-    ensures marks { IfOk result (λ marks. Marks marks.items blocks.now) }
-    ensures count { IfOk result (λ marks. length marks.items ≡ after_blocks blocks.now) }
-    ensures small { IfOk result (λ marks. length marks.items ≤ 2 ^ 16) }
-    ensures memory { IfErr result (λ e. e ≡ OutOfMemory) }
-{
-    marks_of_counted(alloc, blocks, &mut Turns::new())
-}
-
-// The same, and its turns are added: two for each block, and one for each of these distances.
-pub(super) fn marks_of_counted(
+// For each distance up to the greatest that a block reports, whether one does. Turns: two for each block, one for each of these.
+pub(super) fn marks_of(
     alloc: Global,
     blocks: &[GapAckBlock],
     turns: &mut Turns,
@@ -287,19 +277,6 @@ fn after_block(block: &GapAckBlock) -> u32
         return 0;
     }
     u32::from(block.end) + 1
-}
-
-// Whether a SACK reports the TSN, where the distances that it reports are marked.
-pub(super) fn is_reported(sack: &ChunkSelectiveAck, marks: &[bool], tsn: u32) -> bool
-    requires { Marks marks.now (sack_of sack.now).gap_ack_blocks }
-    ensures { (c : ChunkPayloadData)
-        → c.tsn ≡ tsn → c.acked ≡ false → result ≡ reports_anew (sack_of sack.now) c }
-{
-    if sna32lte(tsn, sack.cumulative_tsn_ack) {
-        return true;
-    }
-    let offset = distance(sack.cumulative_tsn_ack, tsn) as usize;
-    offset < marks.len() && marks[offset]
 }
 
 // The first place from this one on from where no chunk in flight is of the message of one before it.

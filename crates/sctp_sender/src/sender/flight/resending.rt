@@ -1,12 +1,13 @@
 //! Which chunks in flight are sent again (RFC 4960 6.3.3, 7.2.4; RFC 7496 3.1).
 
-ghost use Rattle.std.specs.Prelude.{◌≡◌, ◌==◌, ◌+◌, ◌-◌, ◌^◌, ◌<◌, ◌≤◌, ◌++◌, [], min, true, None, Some, OnOk, OnErr, IfOk, IfErr, IfSome, IsOk, drop, find, length, option_copied, option_map, slice_get, take, if◌then◌else◌};
+ghost use Rattle.std.specs.Prelude.{◌≡◌, ◌==◌, ◌+◌, ◌*◌, ◌-◌, ◌^◌, ◌<◌, ◌≤◌, ◌++◌, [], min, true, None, Some, OnOk, OnErr, IfOk, IfErr, IfSome, IsOk, drop, find, length, option_copied, option_map, slice_get, take, if◌then◌else◌};
 ghost use Rattle.std.specs.List.{filter};
 ghost use Rattle.sctp_list_lemmas.specs.Lists.{change_where};
 ghost use Rattle.sctp_data.specs.declared.chunk.chunk_payload_data.ChunkPayloadData.{ChunkPayloadData};
 ghost use Rattle.sctp_outbound.specs.outbound_queue.OutboundQueue.{with_inflight};
 ghost use Rattle.sctp_sender.specs.declared.sender.refusal.SenderRefusal.TheVariants.{NotInFlight, OutOfMemory};
 ghost use Rattle.sctp_sender.specs.Flight.{tsns_from};
+ghost use Rattle.sctp_sender.specs.Reporting.{AreKnown, ascends_from};
 ghost use Rattle.sctp_sender.specs.Resending.{can_miss, is_over, is_third, is_to_resend, is_worn, limit_of, missed, missed_after, rexmit_limit, sent_again};
 ghost use Rattle.sctp_serial.specs.DataChunks.{has_tsn, tsns};
 
@@ -14,6 +15,7 @@ use super::InFlight;
 use crate::sender::refusal::SenderRefusal;
 use sctp_base::util::sna32lt;
 use sctp_data::chunk::chunk_payload_data::{ChunkPayloadData, ReliabilityType};
+use sctp_data::chunk::chunk_selective_ack::GapAckBlock;
 use sctp_outbound::outbound_queue::OutboundQueue;
 use sctp_serial::serial::distance;
 use sctp_serial::turns::Turns;
@@ -92,7 +94,8 @@ impl InFlight {
 
     /// Counts each outstanding chunk in flight whose TSN is before this one as missing once more (RFC 4960 7.2.4), up to 3, and
     /// marks for retransmission what is missing for the third time. Answers how many chunks that are. It takes no memory, and
-    /// looks only at what is before the TSN. Nothing changes where that is not past what is acknowledged.
+    /// looks only at what is before the TSN, but not at what the SACK taken last reports in blocks. Nothing changes where the TSN is
+    /// not past what is acknowledged.
     pub fn add_miss_indications(&mut self, before: u32) -> usize
         ensures missed { self.new ≡ after_misses (count_before before self.old) self.old }
         ensures thirds { result ≡ length (thirds (count_before before self.old) self.old) }
@@ -100,16 +103,17 @@ impl InFlight {
         self.add_miss_indications_counted(before, &mut Turns::new())
     }
 
-    /// The same, and its turns are added: one for each chunk in flight whose TSN is before this one. The look-up by which a chunk is
-    /// counted takes none.
+    /// The same, and its turns are added: at most two for each chunk in flight whose TSN is before this one. The look-up by which a chunk
+    /// is counted takes none.
     pub fn add_miss_indications_counted(&mut self, before: u32, turns: &mut Turns) -> usize
         ensures missed { self.new ≡ after_misses (count_before before self.old) self.old }
         ensures thirds { result ≡ length (thirds (count_before before self.old) self.old) }
-        ensures cost { turns.new ≡ turns.old + count_before before self.old }
+        ensures not_back { turns.old ≤ turns.new }
+        ensures cost { turns.new ≤ turns.old + 2 * count_before before self.old }
     {
         let count = self.count_before(before);
         let first = self.acked_tsn.wrapping_add(1);
-        count_missing(&mut self.queue, first, count, turns)
+        count_missing(&mut self.queue, &self.known, first, count, turns)
     }
 
     // How many chunks in flight have TSNs before this one.
@@ -201,8 +205,18 @@ fn is_over(count: u32, limit: Option<u32>) -> bool
     }
 }
 
-// Counts each of the first so many chunks in flight that can miss as missing once more. Answers how many are for the third time.
-fn count_missing(queue: &mut OutboundQueue, first: u32, count: usize, turns: &mut Turns) -> usize
+// Counts each of the first so many chunks in flight that can miss as missing once more. What the known blocks report is acknowledged,
+// and not looked at. Answers how many are for the third time.
+// Turns: one for each chunk and each known block that is looked at, at most two for each of these places.
+fn count_missing(
+    queue: &mut OutboundQueue,
+    known: &[GapAckBlock],
+    first: u32,
+    count: usize,
+    turns: &mut Turns,
+) -> usize
+    requires known_ascend { ascends_from 0 known.now ≡ true }
+    requires known { AreKnown known.now queue.old.inflight.chunks }
     requires run { tsns queue.old.inflight.chunks
         ≡ tsns_from first (length queue.old.inflight.chunks) }
     requires few { length queue.old.inflight.chunks < 2 ^ 31 }
@@ -212,21 +226,37 @@ fn count_missing(queue: &mut OutboundQueue, first: u32, count: usize, turns: &mu
         ++ drop count queue.old.inflight.chunks) }
     ensures thirds { result
         ≡ length (filter is_third (take count queue.old.inflight.chunks)) }
-    ensures cost { turns.new ≡ turns.old + count }
+    ensures not_back { turns.old ≤ turns.new }
+    ensures cost { turns.new ≤ turns.old + 2 * count }
 {
     let mut thirds = 0;
-    for place in 0..count {
+    let mut place = 0;
+    let mut next = 0;
+    while place < count {
         turns.tick();
+        if next < known.len() {
+            let block = known[next];
+            if block.end as usize <= place {
+                next += 1;
+                continue;
+            }
+            if block.start as usize <= place + 1 {
+                place = count.min(block.end as usize);
+                continue;
+            }
+        }
         let Some(chunk) = queue.inflight_at(place) else {
             unreachable!()
         };
         if !can_miss(chunk) {
+            place += 1;
             continue;
         }
         let misses = chunk.miss_indicator;
         let tsn = first.wrapping_add(place as u32);
         let third = note_missing(queue, tsn, misses);
         thirds += third;
+        place += 1;
     }
     thirds
 }

@@ -6,7 +6,7 @@ ghost use Rattle.sctp_sender.specs.declared.sender.refusal.SenderRefusal.TheVari
 ghost use Rattle.sctp_sender.specs.Costs.{to_sort};
 ghost use Rattle.sctp_sender.specs.Reporting.{AreSorted, ascends_from};
 
-use super::reporting::marks_of_counted;
+use super::reporting::marks_of;
 use crate::sender::refusal::SenderRefusal;
 use sctp_data::chunk::chunk_selective_ack::GapAckBlock;
 use sctp_serial::turns::Turns;
@@ -31,12 +31,12 @@ pub(super) fn sorted_blocks(
     if ascend(blocks, turns) {
         return copied(alloc, blocks, turns);
     }
-    let marks = marks_of_counted(alloc, blocks, turns)?;
+    let marks = marks_of(alloc, blocks, turns)?;
     one_by_one(alloc, &marks, turns)
 }
 
 // Whether each block reports something, and begins behind the one before it.
-fn ascend(blocks: &[GapAckBlock], turns: &mut Turns) -> bool
+pub(super) fn ascend(blocks: &[GapAckBlock], turns: &mut Turns) -> bool
     ensures answer { result ≡ ascends_from 0 blocks.now }
     ensures not_back { turns.old ≤ turns.new }
     ensures cost { turns.new ≤ turns.old + length blocks.now }

@@ -18,7 +18,7 @@ use types.Run.{stop, fld, no_more, and_then, of_opd, returns, enter}
 use types.ByLocal.{alloc_all, pass_all, free_all, look_at, get, get_in, sets}
 use denote.Exit.{yes}
 use denote.Signature.{type_at}
-use denote.Steps.{nothing, arrivals}
+use denote.Steps.{nothing, heard}
 use denote.Triple.Spec.{triple_of}
 use denote.Triple.Table.{entered}
 use denote.Triple.Walked.{says, Stays, stay_dropped, walk_of, ends_at, Goes-dropped, walk_Meets}
@@ -43,7 +43,7 @@ module _ {M : Type 1} {𝓤 : Ura M} (𝓛 : Logic 𝓤) (at_mem : Memory → SP
       (WpFn 𝓤 H 𝓣.C 𝓣.Λ code.function (z.0.4.0 ++ []) ((walk_of 𝓛 F.ended stayed (F.clauses 𝓛 at_mem run)).post z))
   walk z None none =
       qed 𝓛 ((‵ ftrue ⊛ ‵ (fsep (New.the_row.own_val z.0.3.0 z.0.4.0) ftrue)) ∷ raw (fact 𝓤 (z.0.3.0.value ≢ None)) ∷ []) ∵ move ! (1 ∷ []) $
-      arrivals ! _ (λ some. absurd (some none))
+      heard ! _ (λ some. absurd (some none))
   walk z (Some x) is =
       let Post = (walk_of 𝓛 F.ended stayed (F.clauses 𝓛 at_mem run)).post z in
       let v : D E = record { ptr = z.0.3.0.at; alloc = z.0.3.0.alloc; value = x } in

@@ -22,3 +22,9 @@ returns-clause-unordered_cost c on fits s t w =
 
 pub returns-clause-unordered_walk : goal.returns-clause-unordered_walk
 returns-clause-unordered_walk c on = omega (arith, c.place_of-place.ensures.walk, c.is_too_large_at.ensures.unordered_walk on)
+
+pub returns-clause-unordered_few : goal.returns-clause-unordered_few
+returns-clause-unordered_few c on fits s t e =
+    let q = c.args.self.now.held in
+    let h = fits_at q q.unassembled c.args.chunk.now c.place_of-place.result s t refl (c.place_of-place.ensures.place on) fits e.joins in
+    omega (arith, c.place_of-place.ensures.few h.without, c.is_too_large_at.ensures.none on h.without e.short)

@@ -1,5 +1,7 @@
-use Rattle.std.proofs.Common.{refl, sym, subst, ◌∙◌, arith}
+use Rattle.std.proofs.Common.{◌≡◌, ℕ, refl, sym, subst, ◌∙◌, arith}
 use Rattle.std.proofs.lemmas.Bool.{false≢true}
+use Rattle.sctp_data.specs.declared.chunk.chunk_payload_data.ChunkPayloadData.{ChunkPayloadData}
+use Rattle.sctp_reassembly.specs.reassembly_queue.Costs.{IsAtEnd}
 use Rattle.sctp_reassembly.specs.reassembly_queue.ReassemblyQueue.{IsCounted}
 use Rattle.sctp_reassembly.proofs.lemmas.reassembly_queue.ByteCounts.{ordered_counted, unordered_counted, either, either_of}
 use Rattle.sctp_reassembly.proofs.lemmas.reassembly_queue.Stretches.{fits_at}
@@ -77,3 +79,28 @@ returns-else-chunk-clause-unordered_cost c on fits s t w = absurd (false≢true 
 
 pub returns-else-chunk-clause-unordered_walk : goal.returns-else-chunk-clause-unordered_walk
 returns-else-chunk-clause-unordered_walk c on = absurd (false≢true (sym c.if-chunk.false ∙ on))
+
+-- at an end of its stretch, where all fit in one message
+at_place : (x : ChunkPayloadData) (first last : ℕ) {place n : ℕ} → place ≡ n → IsAtEnd x n first last → IsAtEnd x place first last
+at_place x first last same end = subst (λ i. IsAtEnd x i first last) (sym same) end
+
+pub returns-then-is_too_large_at-clause-unordered_few : goal.returns-then-is_too_large_at-clause-unordered_few
+returns-then-is_too_large_at-clause-unordered_few c on fits s t e =
+    let q = c.args.self.now.held in
+    let h = fits_at q q.unassembled c.args.chunk c.place_of-place.result s t refl (c.place_of-place.ensures.place on) fits e.joins in
+    omega (arith, c.place_of-place.ensures.few h.without, c.is_too_large_at.ensures.none on h.without e.short)
+
+pub returns-then-chunk-clause-unordered_few : goal.returns-then-chunk-clause-unordered_few
+returns-then-chunk-clause-unordered_few c on fits s t e =
+    let q = c.args.self.now.held in
+    let at = c.place_of-place.ensures.place on in
+    let h = fits_at q q.unassembled c.args.chunk c.place_of-place.result s t refl at fits e.joins in
+    omega (
+      arith,
+      c.place_of-place.ensures.few h.without,
+      c.is_too_large_at.ensures.none on h.without e.short,
+      c.push_unordered.ensures.few fits s t e.joins (at_place c.args.chunk s t at e.at_end),
+    )
+
+pub returns-else-chunk-clause-unordered_few : goal.returns-else-chunk-clause-unordered_few
+returns-else-chunk-clause-unordered_few c on fits s t e = absurd (false≢true (sym c.if-chunk.false ∙ on))

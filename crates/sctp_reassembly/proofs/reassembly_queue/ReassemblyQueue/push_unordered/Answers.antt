@@ -11,7 +11,7 @@ use Rattle.sctp_reassembly.specs.reassembly_queue.Undo.{last_chunks}
 use Rattle.sctp_reassembly.proofs.lemmas.reassembly_queue.ChunkSets.{state_of}
 use Rattle.sctp_reassembly.proofs.lemmas.reassembly_queue.Undone.{last_out, last_there}
 use Rattle.sctp_reassembly.proofs.lemmas.reassembly_queue.SerialPlaces.{place_upto}
-use Rattle.sctp_reassembly.proofs.lemmas.reassembly_queue.Stretches.{fits_at, run_long, run_joined, inserted_among}
+use Rattle.sctp_reassembly.proofs.lemmas.reassembly_queue.Stretches.{fits_at, run_long, run_joined, none_at_end, inserted_among}
 use Rattle.sctp_reassembly.proofs.reassembly_queue.ReassemblyQueue.push_unordered.Goals as goal
 
 pub returns-in-None-clause-ok : goal.returns-in-None-clause-ok
@@ -136,3 +136,31 @@ returns-in-Some-clause-walk c =
     let long = run_long (insert_before chunk_before x xs) c.in-Some.chunks.items r.first r.count r.run.run.in_range r.fragments in
     let all = ap length (inserted_among xs x c.args.place at) ∙ length-insert xs c.args.place x (place_upto x.tsn xs c.args.place at) in
     omega (arith, c.in_ok-run.ensures.walk, c.set_of_run.ensures.cost, long, all, ap length same, r.run.run.in_range)
+
+pub returns-in_err-run-clause-few : goal.returns-in_err-run-clause-few
+returns-in_err-run-clause-few c fits s t w end =
+    let q = c.args.self.now.held in
+    let xs = c.self.inside.unordered_chunks.chunks in
+    let same : xs ≡ q.unassembled = ap (λ (r : ReassemblyState). r.held.unassembled) c.self.view_is in
+    let h = fits_at q xs c.args.chunk c.args.place s t same c.requires fits w in
+    omega (arith, c.in_err-run.ensures.few s t h.serial h.none h.small h.stretch end)
+
+pub returns-in-None-clause-few : goal.returns-in-None-clause-few
+returns-in-None-clause-few c fits s t w end =
+    let q = c.args.self.now.held in
+    let xs = c.self.inside.unordered_chunks.chunks in
+    let same : xs ≡ q.unassembled = ap (λ (r : ReassemblyState). r.held.unassembled) c.self.view_is in
+    let h = fits_at q xs c.args.chunk c.args.place s t same c.requires fits w in
+    omega (arith, c.in_ok-run.ensures.few s t h.serial h.none h.small h.stretch end)
+
+pub returns-in-Some-clause-few : goal.returns-in-Some-clause-few
+returns-in-Some-clause-few c fits s t w end =
+    let q = c.args.self.now.held in
+    let xs = c.self.inside.unordered_chunks.chunks in
+    let x = c.args.chunk in
+    let same : xs ≡ q.unassembled = ap (λ (r : ReassemblyState). r.held.unassembled) c.self.view_is in
+    let h = fits_at q xs x c.args.place s t same c.requires fits w in
+    let r = rw c.in-Some.is at c.in_ok-run.ensures.ok in
+    let at = c.requires ∙ ap (place_among x.tsn) (sym same) in
+    absurd (none_at_end xs x c.args.place h.le h.none s t r.first r.count h.stretch end
+    (subst (λ ys. IsRun ys r.first r.count) (inserted_among xs x c.args.place at) r.run.run))

@@ -6,6 +6,8 @@ use Rattle.sctp_sender.specs.Flight.{Flight}
 use Rattle.sctp_sender.specs.Totals.{IsAllSettled}
 use Rattle.sctp_sender.proofs.Settled.{abandoned-settled}
 use Rattle.sctp_sender.proofs.Lows.{release-answered}
+use Rattle.sctp_sender.specs.Keeping.{IsCovered}
+use Rattle.sctp_sender.proofs.Covers.{after-abandonment-covered}
 use Rattle.sctp_sender.proofs.sender.Sender.abandon.Goals as goal
 
 pub invariant_of-self-2 : goal.invariant_of-self-2
@@ -15,6 +17,8 @@ invariant_of-self-2 c =
       c.self.invariant.1,
       subst (λ (g : Flight). IsAllSettled g.queue) (sym c.in_ok-stream.ensures.ok)
           (abandoned-settled (to_abandon (find (has_tsn c.args.tsn) f.queue.inflight.chunks)) f.next_tsn f.queue c.self.invariant.2),
+      subst (IsCovered c.self.inside.kept) (sym c.in_ok-stream.ensures.ok)
+          (after-abandonment-covered c.self.inside.kept (to_abandon (find (has_tsn c.args.tsn) f.queue.inflight.chunks)) f c.self.invariant.3),
     )
 
 pub returns-clause-low : goal.returns-clause-low

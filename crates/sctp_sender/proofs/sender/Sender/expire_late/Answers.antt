@@ -4,6 +4,8 @@ use Rattle.sctp_sender.specs.Late.{late_order}
 use Rattle.sctp_sender.specs.Totals.{IsAllSettled}
 use Rattle.sctp_sender.proofs.Settled.{each-settled}
 use Rattle.sctp_sender.proofs.Lows.{messages-released-same, messages-tell, one-message-tells}
+use Rattle.sctp_sender.specs.Keeping.{IsCovered}
+use Rattle.sctp_sender.proofs.Covers.{each-covered}
 use Rattle.sctp_sender.proofs.sender.Sender.expire_late.Goals as goal
 
 pub invariant_of-self-2 : goal.invariant_of-self-2
@@ -12,6 +14,7 @@ invariant_of-self-2 c =
       c.self.invariant.0,
       c.self.invariant.1,
       subst (λ (g : Flight). IsAllSettled g.queue) (sym c.in_ok-abandoned.ensures.ok) (each-settled (late_order c.args.now f) f c.self.invariant.2),
+      subst (IsCovered c.self.inside.kept) (sym c.in_ok-abandoned.ensures.ok) (each-covered c.self.inside.kept (late_order c.args.now f) f c.self.invariant.3),
     )
 
 pub returns-clause-low : goal.returns-clause-low

@@ -12,7 +12,7 @@ returns-in_default-clause-refused c =
       flight = c.self.inside.flight;
       fragment_size = c.self.inside.fragment_size;
       max_message_size = c.self.inside.max_message_size;
-      kept = option_map (λ k. k.items) c.self.inside.kept;
+      kept = option_map (λ k. k.user_data.items) c.self.inside.kept;
     } in
     rw (← c.self.view_is) (reset-unknown c.args.stream t (closed c.self.inside.streams c.args.stream c.in_default.ensures))
 
@@ -23,7 +23,7 @@ returns-then-not-is_drained-clause-refused c =
       flight = c.self.inside.flight;
       fragment_size = c.self.inside.fragment_size;
       max_message_size = c.self.inside.max_message_size;
-      kept = option_map (λ k. k.items) c.self.inside.kept;
+      kept = option_map (λ k. k.user_data.items) c.self.inside.kept;
     } in
     let open' : is_open c.args.stream t ≡ true = open-at c.self.inside.streams c.args.stream c.in-Some.place c.in-Some.ensures in
     let busy : is_drained c.args.stream c.args.self.now ≡ false = sym c.is_drained.ensures ∙ c.if-not-is_drained.true in
@@ -36,7 +36,7 @@ returns-clause-accepted c =
       flight = c.self.inside.flight;
       fragment_size = c.self.inside.fragment_size;
       max_message_size = c.self.inside.max_message_size;
-      kept = option_map (λ k. k.items) c.self.inside.kept;
+      kept = option_map (λ k. k.user_data.items) c.self.inside.kept;
     } in
     let open' : is_open c.args.stream t ≡ true = open-at c.self.inside.streams c.args.stream c.in-Some.place c.in-Some.ensures in
     let drained : is_drained c.args.stream c.args.self.now ≡ true = sym c.is_drained.ensures ∙ c.if-not-is_drained.false in

@@ -10,6 +10,8 @@ use Rattle.sctp_sender.specs.Sender.{Transmission, with_flight}
 use Rattle.sctp_sender.proofs.Amounts.{sent-bytes, started-bytes}
 use Rattle.sctp_sender.specs.Totals.{IsAllSettled}
 use Rattle.sctp_sender.proofs.Settled.{started-settled, sent-settled}
+use Rattle.sctp_sender.specs.Keeping.{IsCovered}
+use Rattle.sctp_sender.proofs.Covers.{sent-covered, started-covered}
 use Rattle.sctp_sender.proofs.sender.Sender.send_next_tsn_unbounded.Goals as goal
 use Rattle.sctp_serial.specs.DataChunks.{following_tsn}
 
@@ -21,7 +23,7 @@ returns-in_default-clause-ok c =
       flight = c.self.inside.flight;
       fragment_size = c.self.inside.fragment_size;
       max_message_size = c.self.inside.max_message_size;
-      kept = option_map (λ k. k.items) c.self.inside.kept;
+      kept = option_map (λ k. k.user_data.items) c.self.inside.kept;
     } in
     let none : None ≡ next_pending f.queue.pending = c.in_default.ensures.value ∙ ap (λ (o : Outbound). next_pending o.pending) c.queue-2.ensures in
     let same : (if is_some (next_pending f.queue.pending) then following_tsn f.next_tsn else f.next_tsn) ≡ f.next_tsn =
@@ -53,6 +55,7 @@ invariant_of-self c =
       c.self.invariant.0,
       c.self.invariant.1,
       subst (λ (g : Flight). IsAllSettled g.queue) (sym c.start.ensures) (started-settled c.args.now f.queue c.self.invariant.2),
+      subst (IsCovered c.self.inside.kept) (sym c.start.ensures) (started-covered c.self.inside.kept c.args.now f c.self.invariant.3),
     )
 
 pub invariant_of-self-2 : goal.invariant_of-self-2
@@ -61,4 +64,5 @@ invariant_of-self-2 c =
       c.self.invariant.0,
       c.self.invariant.1,
       subst (λ (g : Flight). IsAllSettled g.queue) (sym c.in_ok-sent.ensures.ok) (sent-settled f.queue f.next_tsn c.args.now c.self.invariant.2),
+      subst (IsCovered c.self.inside.kept) (sym c.in_ok-sent.ensures.ok) (sent-covered c.self.inside.kept f c.args.now (next_after_send f) c.self.invariant.3),
     )

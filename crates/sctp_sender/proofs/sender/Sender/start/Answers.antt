@@ -2,6 +2,8 @@ use Rattle.std.proofs.Common.{sym, subst}
 use Rattle.sctp_sender.specs.Flight.{Flight}
 use Rattle.sctp_sender.specs.Totals.{IsAllSettled}
 use Rattle.sctp_sender.proofs.Settled.{started-settled}
+use Rattle.sctp_sender.specs.Keeping.{IsCovered}
+use Rattle.sctp_sender.proofs.Covers.{started-covered}
 use Rattle.sctp_sender.proofs.sender.Sender.start.Goals as goal
 
 pub invariant_of-self : goal.invariant_of-self
@@ -10,4 +12,5 @@ invariant_of-self c =
       c.self.invariant.0,
       c.self.invariant.1,
       subst (λ (g : Flight). IsAllSettled g.queue) (sym c.start.ensures) (started-settled c.args.now f.queue c.self.invariant.2),
+      subst (IsCovered c.self.inside.kept) (sym c.start.ensures) (started-covered c.self.inside.kept c.args.now f c.self.invariant.3),
     )

@@ -1,50 +1,301 @@
-use Rattle.std.proofs.Common.{◌≡◌, true, ◌+◌, ◌≤◌, length, ap, sym, subst, ◌∙◌, arith}
+use Rattle.std.proofs.Common.{◌≡◌, true, false, ◌+◌, ◌<◌, ◌≤◌, ◌^◌, List, Some, length, map, get_or, inr, refl, ap, sym, subst, ◌∙◌, arith}
 use Rattle.std.specs.List.{All}
-use Rattle.sctp_data.specs.SelectiveAck.{sack_of}
+use Rattle.std.specs.Option.{option_map}
+use Rattle.std.specs.Prelude.{nat_lt}
+use Rattle.std.proofs.lemmas.Bool.Decides.{nat_tests}
+use Rattle.sctp_list_lemmas.proofs.Cases.{negated}
+use Rattle.sctp_data.specs.SelectiveAck.{Sack, sack_of}
 use Rattle.sctp_outbound.specs.outbound_queue.OutboundQueue.{Outbound, total_bytes}
 use Rattle.sctp_serial.specs.DataChunks.{bytes_of}
-use Rattle.sctp_sender.specs.Flight.{Flight, can_resend}
+use Rattle.sctp_stream.specs.declared.stream.StreamState.{StreamState}
+use Rattle.sctp_sender.specs.Flight.{Flight, can_resend, is_outdated}
 use Rattle.sctp_sender.specs.declared.sender.flight.keeping.TakenBack.{TakenBack}
-use Rattle.sctp_sender.specs.Keeping.{back_each, bytes_back, restored, answered_back}
+use Rattle.sctp_sender.specs.declared.sender.flight.taking_back.PlacedData.{PlacedData}
+use Rattle.sctp_sender.specs.Keeping.{IsCovered, after_returns, back_each, bytes_back, bytes_coming, placed, restored, answered_of_placed, answered_back}
+use Rattle.sctp_sender.specs.Keeping.{with_restored}
+use Rattle.sctp_sender.specs.Sender.{Transmission, after_take_back, back_by, take_back_refusal, taken_back_by}
 use Rattle.sctp_sender.specs.Totals.{IsAllSettled}
+use Rattle.sctp_sender.proofs.Covers.{restored-covered}
 use Rattle.sctp_sender.proofs.Keepings.{back-bytes, restored-all-settled, answered-weight, weight}
+use Rattle.sctp_sender.proofs.Placed.{back-length, placed-within, answer-bytes}
+use Rattle.sctp_sender.proofs.Runs.{any_chunk}
+use Rattle.sctp_sender.proofs.TakenBacks.{back-by-is, refusal-is, answer-is}
 use Rattle.sctp_sender.proofs.sender.Sender.take_back.Goals as goal
+
+pub answered_back-requires : goal.answered_back-requires
+answered_back-requires c =
+    let f : Flight = c.self.inside.flight in
+    let t : Transmission = record {
+      streams = c.self.inside.streams;
+      flight = f;
+      fragment_size = c.self.inside.fragment_size;
+      max_message_size = c.self.inside.max_message_size;
+      kept = option_map (λ k. k.user_data.items) c.self.inside.kept;
+    } in
+    let s : Sack = sack_of c.args.sack.now in
+    let cs = f.queue.inflight.chunks in
+    let ks = c.in-Some.kept.user_data.items in
+    let kept : t.kept ≡ Some ks = ap (option_map (λ k. k.user_data.items)) c.in-Some.is in
+    let current : is_outdated s f ≡ false = negated (is_outdated s f) (sym c.in_ok-is_current.ensures.answer ∙ c.if-not-branch.false) in
+    let dense = back_each s cs ks in
+    let backs = c.in_ok-backs.backs.items in
+    let is : backs ≡ placed 0 dense = c.in_ok-backs.ensures.ok in
+    let le : length dense ≤ length cs = back-length s cs ks in
+    λ k d lt.
+    let within = placed-within 0 (length cs) dense (omega (arith, le)) in
+    let here : All (λ (b : PlacedData). b.place < length cs) c.deref.result.now =
+    subst (λ (xs : List PlacedData). All (λ (b : PlacedData). b.place < length cs) xs)
+    (sym (c.deref.ensures.value ∙ is)) within in
+    let n = ap (λ (o : Outbound). length o.inflight.chunks) c.queue.ensures in
+    let h = here k d lt in omega (arith, h, n)
+
+pub returns-then-not-is_room_for-clause-refused : goal.returns-then-not-is_room_for-clause-refused
+returns-then-not-is_room_for-clause-refused c =
+    let f : Flight = c.self.inside.flight in
+    let t : Transmission = record {
+      streams = c.self.inside.streams;
+      flight = f;
+      fragment_size = c.self.inside.fragment_size;
+      max_message_size = c.self.inside.max_message_size;
+      kept = option_map (λ k. k.user_data.items) c.self.inside.kept;
+    } in
+    let s : Sack = sack_of c.args.sack.now in
+    let cs = f.queue.inflight.chunks in
+    let ks = c.in-Some.kept.user_data.items in
+    let kept : t.kept ≡ Some ks = ap (option_map (λ k. k.user_data.items)) c.in-Some.is in
+    let current : is_outdated s f ≡ false = negated (is_outdated s f) (sym c.in_ok-is_current.ensures.answer ∙ c.if-not-branch.false) in
+    let dense = back_each s cs ks in
+    let backs = c.in_ok-backs.backs.items in
+    let is : backs ≡ placed 0 dense = c.in_ok-backs.ensures.ok in
+    let le : length dense ≤ length cs = back-length s cs ks in
+    let mapped : c.in_ok-answered.answered.items ≡ map (λ b. answered_of_placed b (get_or cs b.place any_chunk)) backs = c.in_ok-answered.ensures.ok any_chunk
+    ∙ ap (λ (o : Outbound). map (λ b. answered_of_placed b (get_or o.inflight.chunks b.place any_chunk)) c.deref.result.now) c.queue.ensures
+    ∙ ap (map (λ b. answered_of_placed b (get_or cs b.place any_chunk))) c.deref.ensures.value in
+    let answer : c.in_ok-answered.answered.items ≡ taken_back_by s t = mapped ∙ answer-is s t ks kept current backs is any_chunk in
+    let room : c.is_room_for.result ≡ nat_lt (total_bytes f.queue + bytes_back c.in_ok-answered.answered.items) (2 ^ 64) = c.is_room_for.ensures
+    ∙ ap (λ (o : Outbound). nat_lt (total_bytes o + bytes_back c.deref-2.result.now) (2 ^ 64)) c.queue-2.ensures
+    ∙ ap (λ (rs : List TakenBack). nat_lt (total_bytes f.queue + bytes_back rs) (2 ^ 64)) c.deref-2.ensures.value in
+    let full : nat_lt (total_bytes f.queue + bytes_back (taken_back_by s t)) (2 ^ 64) ≡ false =
+    ap (λ (rs : List TakenBack). nat_lt (total_bytes f.queue + bytes_back rs) (2 ^ 64)) (sym answer) ∙ sym room ∙ c.if-not-is_room_for.true in
+    inr (ap (take_back_refusal s) (sym c.self.view_is) ∙ refusal-is s t ks kept current false (c.in_ok-is_current.ensures.accepted refl) full)
+
+pub restore-requires-clause-within : goal.restore-requires-clause-within
+restore-requires-clause-within c =
+    let f : Flight = c.self.inside.flight in
+    let t : Transmission = record {
+      streams = c.self.inside.streams;
+      flight = f;
+      fragment_size = c.self.inside.fragment_size;
+      max_message_size = c.self.inside.max_message_size;
+      kept = option_map (λ k. k.user_data.items) c.self.inside.kept;
+    } in
+    let s : Sack = sack_of c.args.sack.now in
+    let cs = f.queue.inflight.chunks in
+    let ks = c.in-Some.kept.user_data.items in
+    let kept : t.kept ≡ Some ks = ap (option_map (λ k. k.user_data.items)) c.in-Some.is in
+    let current : is_outdated s f ≡ false = negated (is_outdated s f) (sym c.in_ok-is_current.ensures.answer ∙ c.if-not-branch.false) in
+    let dense = back_each s cs ks in
+    let backs = c.in_ok-backs.backs.items in
+    let is : backs ≡ placed 0 dense = c.in_ok-backs.ensures.ok in
+    let le : length dense ≤ length cs = back-length s cs ks in
+    subst (λ (xs : List PlacedData). All (λ (b : PlacedData). b.place < length cs) xs) (sym is) (placed-within 0 (length cs) dense (omega (arith, le)))
+
+pub restore-requires-clause-bytes : goal.restore-requires-clause-bytes
+restore-requires-clause-bytes c =
+    let f : Flight = c.self.inside.flight in
+    let t : Transmission = record {
+      streams = c.self.inside.streams;
+      flight = f;
+      fragment_size = c.self.inside.fragment_size;
+      max_message_size = c.self.inside.max_message_size;
+      kept = option_map (λ k. k.user_data.items) c.self.inside.kept;
+    } in
+    let s : Sack = sack_of c.args.sack.now in
+    let cs = f.queue.inflight.chunks in
+    let ks = c.in-Some.kept.user_data.items in
+    let kept : t.kept ≡ Some ks = ap (option_map (λ k. k.user_data.items)) c.in-Some.is in
+    let current : is_outdated s f ≡ false = negated (is_outdated s f) (sym c.in_ok-is_current.ensures.answer ∙ c.if-not-branch.false) in
+    let dense = back_each s cs ks in
+    let backs = c.in_ok-backs.backs.items in
+    let is : backs ≡ placed 0 dense = c.in_ok-backs.ensures.ok in
+    let le : length dense ≤ length cs = back-length s cs ks in
+    let mapped : c.in_ok-answered.answered.items ≡ map (λ b. answered_of_placed b (get_or cs b.place any_chunk)) backs = c.in_ok-answered.ensures.ok any_chunk
+    ∙ ap (λ (o : Outbound). map (λ b. answered_of_placed b (get_or o.inflight.chunks b.place any_chunk)) c.deref.result.now) c.queue.ensures
+    ∙ ap (map (λ b. answered_of_placed b (get_or cs b.place any_chunk))) c.deref.ensures.value in
+    let answer : c.in_ok-answered.answered.items ≡ taken_back_by s t = mapped ∙ answer-is s t ks kept current backs is any_chunk in
+    let room : c.is_room_for.result ≡ nat_lt (total_bytes f.queue + bytes_back c.in_ok-answered.answered.items) (2 ^ 64) = c.is_room_for.ensures
+    ∙ ap (λ (o : Outbound). nat_lt (total_bytes o + bytes_back c.deref-2.result.now) (2 ^ 64)) c.queue-2.ensures
+    ∙ ap (λ (rs : List TakenBack). nat_lt (total_bytes f.queue + bytes_back rs) (2 ^ 64)) c.deref-2.ensures.value in
+    let same : bytes_back c.in_ok-answered.answered.items ≡ bytes_coming backs = ap bytes_back mapped ∙ answer-bytes backs cs any_chunk in
+    let fits = sym room ∙ c.if-not-is_room_for.false in
+    grind (arith, nat_tests, same, fits)
 
 pub invariant_of-self : goal.invariant_of-self
 invariant_of-self c =
-    let f : Flight = c.self.inside.flight in (
+    let f : Flight = c.self.inside.flight in
+    let t : Transmission = record {
+      streams = c.self.inside.streams;
+      flight = f;
+      fragment_size = c.self.inside.fragment_size;
+      max_message_size = c.self.inside.max_message_size;
+      kept = option_map (λ k. k.user_data.items) c.self.inside.kept;
+    } in
+    let s : Sack = sack_of c.args.sack.now in
+    let cs = f.queue.inflight.chunks in
+    let ks = c.in-Some.kept.user_data.items in
+    let kept : t.kept ≡ Some ks = ap (option_map (λ k. k.user_data.items)) c.in-Some.is in
+    let current : is_outdated s f ≡ false = negated (is_outdated s f) (sym c.in_ok-is_current.ensures.answer ∙ c.if-not-branch.false) in
+    let dense = back_each s cs ks in
+    let backs = c.in_ok-backs.backs.items in
+    let is : backs ≡ placed 0 dense = c.in_ok-backs.ensures.ok in
+    let le : length dense ≤ length cs = back-length s cs ks in
+    let new : c.restore.new.self ≡ with_restored dense f = c.restore.ensures.restored dense is le in (
       c.self.invariant.0,
       c.self.invariant.1,
-      subst (λ (g : Flight). IsAllSettled g.queue) (sym c.restore.ensures.restored) (restored-all-settled c.in_ok-backs.backs.items f c.self.invariant.2),
+      subst (λ (g : Flight). IsAllSettled g.queue) (sym new) (restored-all-settled dense f c.self.invariant.2),
+      subst (IsCovered c.self.inside.kept) (sym new) (restored-covered c.self.inside.kept dense f c.self.invariant.3),
     )
+
+pub returns-clause-answer : goal.returns-clause-answer
+returns-clause-answer c =
+    let f : Flight = c.self.inside.flight in
+    let t : Transmission = record {
+      streams = c.self.inside.streams;
+      flight = f;
+      fragment_size = c.self.inside.fragment_size;
+      max_message_size = c.self.inside.max_message_size;
+      kept = option_map (λ k. k.user_data.items) c.self.inside.kept;
+    } in
+    let s : Sack = sack_of c.args.sack.now in
+    let cs = f.queue.inflight.chunks in
+    let ks = c.in-Some.kept.user_data.items in
+    let kept : t.kept ≡ Some ks = ap (option_map (λ k. k.user_data.items)) c.in-Some.is in
+    let current : is_outdated s f ≡ false = negated (is_outdated s f) (sym c.in_ok-is_current.ensures.answer ∙ c.if-not-branch.false) in
+    let dense = back_each s cs ks in
+    let backs = c.in_ok-backs.backs.items in
+    let is : backs ≡ placed 0 dense = c.in_ok-backs.ensures.ok in
+    let le : length dense ≤ length cs = back-length s cs ks in
+    let mapped : c.in_ok-answered.answered.items ≡ map (λ b. answered_of_placed b (get_or cs b.place any_chunk)) backs = c.in_ok-answered.ensures.ok any_chunk
+    ∙ ap (λ (o : Outbound). map (λ b. answered_of_placed b (get_or o.inflight.chunks b.place any_chunk)) c.deref.result.now) c.queue.ensures
+    ∙ ap (map (λ b. answered_of_placed b (get_or cs b.place any_chunk))) c.deref.ensures.value in
+    let answer : c.in_ok-answered.answered.items ≡ taken_back_by s t = mapped ∙ answer-is s t ks kept current backs is any_chunk in
+    answer ∙ ap (taken_back_by s) c.self.view_is
+
+pub returns-clause-ok : goal.returns-clause-ok
+returns-clause-ok c =
+    let f : Flight = c.self.inside.flight in
+    let t : Transmission = record {
+      streams = c.self.inside.streams;
+      flight = f;
+      fragment_size = c.self.inside.fragment_size;
+      max_message_size = c.self.inside.max_message_size;
+      kept = option_map (λ k. k.user_data.items) c.self.inside.kept;
+    } in
+    let s : Sack = sack_of c.args.sack.now in
+    let cs = f.queue.inflight.chunks in
+    let ks = c.in-Some.kept.user_data.items in
+    let kept : t.kept ≡ Some ks = ap (option_map (λ k. k.user_data.items)) c.in-Some.is in
+    let current : is_outdated s f ≡ false = negated (is_outdated s f) (sym c.in_ok-is_current.ensures.answer ∙ c.if-not-branch.false) in
+    let dense = back_each s cs ks in
+    let backs = c.in_ok-backs.backs.items in
+    let is : backs ≡ placed 0 dense = c.in_ok-backs.ensures.ok in
+    let le : length dense ≤ length cs = back-length s cs ks in
+    let mapped : c.in_ok-answered.answered.items ≡ map (λ b. answered_of_placed b (get_or cs b.place any_chunk)) backs = c.in_ok-answered.ensures.ok any_chunk
+    ∙ ap (λ (o : Outbound). map (λ b. answered_of_placed b (get_or o.inflight.chunks b.place any_chunk)) c.deref.result.now) c.queue.ensures
+    ∙ ap (map (λ b. answered_of_placed b (get_or cs b.place any_chunk))) c.deref.ensures.value in
+    let answer : c.in_ok-answered.answered.items ≡ taken_back_by s t = mapped ∙ answer-is s t ks kept current backs is any_chunk in
+    let streams : c.return_each.new.streams ≡ after_returns (taken_back_by s t) t.streams = c.return_each.ensures
+    ∙ ap (λ rs. after_returns rs t.streams) (c.deref-3.ensures.value ∙ answer) in
+    let new : c.restore.new.self ≡ with_restored (back_by s f t.kept) f = c.restore.ensures.restored dense is le
+    ∙ ap (λ bs. with_restored bs f) (back-by-is s t ks kept current) in
+    ap (λ (ls : List StreamState). let u : Transmission = record t { streams = ls; flight = c.restore.new.self } in u) streams
+    ∙ ap (λ (g : Flight). let u : Transmission = record t { streams = after_returns (taken_back_by s t) t.streams; flight = g } in u) new
+    ∙ ap (after_take_back s) c.self.view_is
+
+pub returns-clause-accepted : goal.returns-clause-accepted
+returns-clause-accepted c =
+    let f : Flight = c.self.inside.flight in
+    let t : Transmission = record {
+      streams = c.self.inside.streams;
+      flight = f;
+      fragment_size = c.self.inside.fragment_size;
+      max_message_size = c.self.inside.max_message_size;
+      kept = option_map (λ k. k.user_data.items) c.self.inside.kept;
+    } in
+    let s : Sack = sack_of c.args.sack.now in
+    let cs = f.queue.inflight.chunks in
+    let ks = c.in-Some.kept.user_data.items in
+    let kept : t.kept ≡ Some ks = ap (option_map (λ k. k.user_data.items)) c.in-Some.is in
+    let current : is_outdated s f ≡ false = negated (is_outdated s f) (sym c.in_ok-is_current.ensures.answer ∙ c.if-not-branch.false) in
+    let dense = back_each s cs ks in
+    let backs = c.in_ok-backs.backs.items in
+    let is : backs ≡ placed 0 dense = c.in_ok-backs.ensures.ok in
+    let le : length dense ≤ length cs = back-length s cs ks in
+    let mapped : c.in_ok-answered.answered.items ≡ map (λ b. answered_of_placed b (get_or cs b.place any_chunk)) backs = c.in_ok-answered.ensures.ok any_chunk
+    ∙ ap (λ (o : Outbound). map (λ b. answered_of_placed b (get_or o.inflight.chunks b.place any_chunk)) c.deref.result.now) c.queue.ensures
+    ∙ ap (map (λ b. answered_of_placed b (get_or cs b.place any_chunk))) c.deref.ensures.value in
+    let answer : c.in_ok-answered.answered.items ≡ taken_back_by s t = mapped ∙ answer-is s t ks kept current backs is any_chunk in
+    let room : c.is_room_for.result ≡ nat_lt (total_bytes f.queue + bytes_back c.in_ok-answered.answered.items) (2 ^ 64) = c.is_room_for.ensures
+    ∙ ap (λ (o : Outbound). nat_lt (total_bytes o + bytes_back c.deref-2.result.now) (2 ^ 64)) c.queue-2.ensures
+    ∙ ap (λ (rs : List TakenBack). nat_lt (total_bytes f.queue + bytes_back rs) (2 ^ 64)) c.deref-2.ensures.value in
+    λ ok.
+    let fits : nat_lt (total_bytes f.queue + bytes_back (taken_back_by s t)) (2 ^ 64) ≡ true =
+    ap (λ (rs : List TakenBack). nat_lt (total_bytes f.queue + bytes_back rs) (2 ^ 64)) (sym answer) ∙ sym room ∙ c.if-not-is_room_for.false in
+    ap (take_back_refusal s) (sym c.self.view_is) ∙ refusal-is s t ks kept current true (c.in_ok-is_current.ensures.accepted refl) fits
 
 pub returns-clause-bytes : goal.returns-clause-bytes
 returns-clause-bytes c =
     let f : Flight = c.self.inside.flight in
+    let t : Transmission = record {
+      streams = c.self.inside.streams;
+      flight = f;
+      fragment_size = c.self.inside.fragment_size;
+      max_message_size = c.self.inside.max_message_size;
+      kept = option_map (λ k. k.user_data.items) c.self.inside.kept;
+    } in
+    let s : Sack = sack_of c.args.sack.now in
     let cs = f.queue.inflight.chunks in
-    let s = sack_of c.args.sack.now in
-    let bs = c.in_ok-backs.backs.items in
-    let is : bs ≡ back_each s cs c.in-Some.kept.items =
-    c.in_ok-backs.ensures.ok ∙ ap (λ (o : Outbound). back_each s o.inflight.chunks c.deref.result.now) c.queue.ensures
-    ∙ ap (back_each s cs) c.deref.ensures.value in
-    let count = ap (λ (o : Outbound). length o.inflight.chunks) c.queue.ensures in
-    let within : length bs ≤ length cs = omega (arith, count, c.in_ok-backs.ensures.within) in
-    let answered : bytes_back c.in_ok-answered.answered.items ≡ weight bs =
-    ap bytes_back (c.in_ok-answered.ensures.ok ∙ ap (λ (o : Outbound). answered_back c.deref-2.result.now o.inflight.chunks) c.queue-2.ensures
-    ∙ ap (λ ks. answered_back ks cs) c.deref-2.ensures.value) ∙ answered-weight bs cs within in
-    let back : bytes_of (restored bs cs) ≡ bytes_of cs + weight bs =
-    subst (λ ks. bytes_of (restored ks cs) ≡ bytes_of cs + weight ks) (sym is) (back-bytes s cs c.in-Some.kept.items c.self.invariant.2.inflight) in
-    let new = ap (λ (g : Flight). total_bytes g.queue) c.restore.ensures.restored in
+    let ks = c.in-Some.kept.user_data.items in
+    let kept : t.kept ≡ Some ks = ap (option_map (λ k. k.user_data.items)) c.in-Some.is in
+    let current : is_outdated s f ≡ false = negated (is_outdated s f) (sym c.in_ok-is_current.ensures.answer ∙ c.if-not-branch.false) in
+    let dense = back_each s cs ks in
+    let backs = c.in_ok-backs.backs.items in
+    let is : backs ≡ placed 0 dense = c.in_ok-backs.ensures.ok in
+    let le : length dense ≤ length cs = back-length s cs ks in
+    let mapped : c.in_ok-answered.answered.items ≡ map (λ b. answered_of_placed b (get_or cs b.place any_chunk)) backs = c.in_ok-answered.ensures.ok any_chunk
+    ∙ ap (λ (o : Outbound). map (λ b. answered_of_placed b (get_or o.inflight.chunks b.place any_chunk)) c.deref.result.now) c.queue.ensures
+    ∙ ap (map (λ b. answered_of_placed b (get_or cs b.place any_chunk))) c.deref.ensures.value in
+    let answer : c.in_ok-answered.answered.items ≡ taken_back_by s t = mapped ∙ answer-is s t ks kept current backs is any_chunk in
+    let new : total_bytes c.restore.new.self.queue ≡ total_bytes (with_restored dense f).queue =
+    ap (λ (g : Flight). total_bytes g.queue) (c.restore.ensures.restored dense is le) in
+    let back : bytes_of (restored dense cs) ≡ bytes_of cs + weight dense = back-bytes s cs ks c.self.invariant.2.inflight in
+    let answered : bytes_back c.in_ok-answered.answered.items ≡ weight dense = ap bytes_back (answer ∙ ap (λ bs. answered_back bs cs)
+    (sym (back-by-is s t ks kept current))) ∙ answered-weight dense cs le in
     let all : total_bytes c.restore.new.self.queue ≡ total_bytes f.queue + bytes_back c.in_ok-answered.answered.items = omega (arith, answered, back, new) in
     rw (← c.self.view_is) all
 
 pub returns-clause-outstanding : goal.returns-clause-outstanding
 returns-clause-outstanding c =
-    let cs = c.self.inside.flight.queue.inflight.chunks in
-    let s = sack_of c.args.sack.now in
-    let ks = c.in-Some.kept.items in
-    let is = c.in_ok-backs.ensures.ok ∙ ap (λ (o : Outbound). back_each s o.inflight.chunks c.deref.result.now) c.queue.ensures
-    ∙ ap (back_each s cs) c.deref.ensures.value in
-    let answered = c.in_ok-answered.ensures.ok ∙ ap (λ (o : Outbound). answered_back c.deref-2.result.now o.inflight.chunks) c.queue-2.ensures
-    ∙ ap (λ bs. answered_back bs cs) c.deref-2.ensures.value in
-    subst (λ ts. All (λ (b : TakenBack). can_resend b.tsn c.restore.new.self ≡ true) ts) (sym answered) (c.restore.ensures.outstanding s ks is)
+    let f : Flight = c.self.inside.flight in
+    let t : Transmission = record {
+      streams = c.self.inside.streams;
+      flight = f;
+      fragment_size = c.self.inside.fragment_size;
+      max_message_size = c.self.inside.max_message_size;
+      kept = option_map (λ k. k.user_data.items) c.self.inside.kept;
+    } in
+    let s : Sack = sack_of c.args.sack.now in
+    let cs = f.queue.inflight.chunks in
+    let ks = c.in-Some.kept.user_data.items in
+    let kept : t.kept ≡ Some ks = ap (option_map (λ k. k.user_data.items)) c.in-Some.is in
+    let current : is_outdated s f ≡ false = negated (is_outdated s f) (sym c.in_ok-is_current.ensures.answer ∙ c.if-not-branch.false) in
+    let dense = back_each s cs ks in
+    let backs = c.in_ok-backs.backs.items in
+    let is : backs ≡ placed 0 dense = c.in_ok-backs.ensures.ok in
+    let le : length dense ≤ length cs = back-length s cs ks in
+    let mapped : c.in_ok-answered.answered.items ≡ map (λ b. answered_of_placed b (get_or cs b.place any_chunk)) backs = c.in_ok-answered.ensures.ok any_chunk
+    ∙ ap (λ (o : Outbound). map (λ b. answered_of_placed b (get_or o.inflight.chunks b.place any_chunk)) c.deref.result.now) c.queue.ensures
+    ∙ ap (map (λ b. answered_of_placed b (get_or cs b.place any_chunk))) c.deref.ensures.value in
+    let answer : c.in_ok-answered.answered.items ≡ taken_back_by s t = mapped ∙ answer-is s t ks kept current backs is any_chunk in
+    let dense-answer : c.in_ok-answered.answered.items ≡ answered_back dense cs = answer ∙ ap (λ bs. answered_back bs cs) (sym (back-by-is s t ks kept current)) in
+    subst (λ ts. All (λ (b : TakenBack). can_resend b.tsn c.restore.new.self ≡ true) ts) (sym dense-answer) (c.restore.ensures.outstanding s ks is)

@@ -1,5 +1,8 @@
 use Rattle.std.proofs.Common.{◌≡◌, ◌+◌, ◌<◌, ◌≤◌, ap, sym, ◌∙◌, true, false, subst, inr, None, rules, arith, length}
 use Rattle.std.specs.Option.{option_map}
+use Rattle.std.specs.List.{list_any}
+use Rattle.std.proofs.Common.{List}
+use Rattle.sctp_data.specs.declared.chunk.chunk_payload_data.ChunkPayloadData.{ChunkPayloadData}
 use Rattle.sctp_outbound.specs.pending_queue.Whole.{IsMessageOrNone}
 use Rattle.sctp_outbound.specs.outbound_queue.OutboundQueue.{total_bytes}
 use Rattle.sctp_sender.specs.Flight.{Flight}
@@ -8,6 +11,8 @@ use Rattle.sctp_sender.specs.Sender.{Transmission, is_open, is_full, is_full_of,
 use Rattle.sctp_sender.proofs.SenderStreams.{closed, open-at, found-at, unknown, too-large, full, fine, one-message, refused-not}
 use Rattle.sctp_sender.specs.Totals.{AreSettled, IsAllSettled}
 use Rattle.sctp_sender.proofs.Settled.{fragments-settled, message-settled}
+use Rattle.sctp_sender.specs.Keeping.{IsCovered}
+use Rattle.sctp_sender.proofs.Covers.{fragments-unacked, message-covered}
 use Rattle.sctp_sender.proofs.sender.Sender.write.Goals as goal
 
 pub returns-in_default-clause-refused : goal.returns-in_default-clause-refused
@@ -17,7 +22,7 @@ returns-in_default-clause-refused c =
       flight = c.self.inside.flight;
       fragment_size = c.self.inside.fragment_size;
       max_message_size = c.self.inside.max_message_size;
-      kept = option_map (λ k. k.items) c.self.inside.kept;
+      kept = option_map (λ k. k.user_data.items) c.self.inside.kept;
     } in
     inr (rw (← c.self.view_is) (unknown c.args.stream (length c.args.bytes.now) t (closed c.self.inside.streams c.args.stream c.in_default.ensures)))
 
@@ -28,7 +33,7 @@ returns-then-len-self-clause-refused c =
       flight = c.self.inside.flight;
       fragment_size = c.self.inside.fragment_size;
       max_message_size = c.self.inside.max_message_size;
-      kept = option_map (λ k. k.items) c.self.inside.kept;
+      kept = option_map (λ k. k.user_data.items) c.self.inside.kept;
     } in
     let open' : is_open c.args.stream t ≡ true = open-at c.self.inside.streams c.args.stream c.in-Some.place c.in-Some.ensures in
     inr (rw (← c.self.view_is) (too-large c.args.stream (length c.args.bytes.now) t open' (omega (arith, c.if-len-self.true, c.len-len.ensures.value))))
@@ -40,7 +45,7 @@ returns-then-is_full-clause-refused c =
       flight = c.self.inside.flight;
       fragment_size = c.self.inside.fragment_size;
       max_message_size = c.self.inside.max_message_size;
-      kept = option_map (λ k. k.items) c.self.inside.kept;
+      kept = option_map (λ k. k.user_data.items) c.self.inside.kept;
     } in
     let open' : is_open c.args.stream t ≡ true = open-at c.self.inside.streams c.args.stream c.in-Some.place c.in-Some.ensures in
     let le : length c.args.bytes.now ≤ t.max_message_size = omega (arith, c.if-len-self.false, c.len-len.ensures.value) in
@@ -55,7 +60,7 @@ returns-then-len-eq0-clause-accepted c =
       flight = c.self.inside.flight;
       fragment_size = c.self.inside.fragment_size;
       max_message_size = c.self.inside.max_message_size;
-      kept = option_map (λ k. k.items) c.self.inside.kept;
+      kept = option_map (λ k. k.user_data.items) c.self.inside.kept;
     } in
     let open' : is_open c.args.stream t ≡ true = open-at c.self.inside.streams c.args.stream c.in-Some.place c.in-Some.ensures in
     let le : length c.args.bytes.now ≤ t.max_message_size = omega (arith, c.if-len-self.false, c.len-len.ensures.value) in
@@ -72,7 +77,7 @@ returns-in_err-chunks-clause-refused c =
       flight = c.self.inside.flight;
       fragment_size = c.self.inside.fragment_size;
       max_message_size = c.self.inside.max_message_size;
-      kept = option_map (λ k. k.items) c.self.inside.kept;
+      kept = option_map (λ k. k.user_data.items) c.self.inside.kept;
     } in
     let open' : is_open c.args.stream t ≡ true = open-at c.self.inside.streams c.args.stream c.in-Some.place c.in-Some.ensures in
     let le : length c.args.bytes.now ≤ t.max_message_size = omega (arith, c.if-len-self.false, c.len-len.ensures.value) in
@@ -95,7 +100,7 @@ returns-in_err-push-clause-refused c =
       flight = c.self.inside.flight;
       fragment_size = c.self.inside.fragment_size;
       max_message_size = c.self.inside.max_message_size;
-      kept = option_map (λ k. k.items) c.self.inside.kept;
+      kept = option_map (λ k. k.user_data.items) c.self.inside.kept;
     } in
     let open' : is_open c.args.stream t ≡ true = open-at c.self.inside.streams c.args.stream c.in-Some.place c.in-Some.ensures in
     let le : length c.args.bytes.now ≤ t.max_message_size = omega (arith, c.if-len-self.false, c.len-len.ensures.value) in
@@ -112,7 +117,7 @@ returns-clause-accepted c =
       flight = c.self.inside.flight;
       fragment_size = c.self.inside.fragment_size;
       max_message_size = c.self.inside.max_message_size;
-      kept = option_map (λ k. k.items) c.self.inside.kept;
+      kept = option_map (λ k. k.user_data.items) c.self.inside.kept;
     } in
     let open' : is_open c.args.stream t ≡ true = open-at c.self.inside.streams c.args.stream c.in-Some.place c.in-Some.ensures in
     let le : length c.args.bytes.now ≤ t.max_message_size = omega (arith, c.if-len-self.false, c.len-len.ensures.value) in
@@ -129,7 +134,7 @@ returns-in_default-clause-idle c = λ len none.
       flight = c.self.inside.flight;
       fragment_size = c.self.inside.fragment_size;
       max_message_size = c.self.inside.max_message_size;
-      kept = option_map (λ k. k.items) c.self.inside.kept;
+      kept = option_map (λ k. k.user_data.items) c.self.inside.kept;
     } in
     let here : write_refusal c.args.stream 0 t ≡ None = rw (← c.self.view_is) at none in
     refused-not c.args.stream (length c.args.bytes.now) t _
@@ -145,7 +150,7 @@ returns-then-is_full-clause-idle c = λ len none.
       flight = c.self.inside.flight;
       fragment_size = c.self.inside.fragment_size;
       max_message_size = c.self.inside.max_message_size;
-      kept = option_map (λ k. k.items) c.self.inside.kept;
+      kept = option_map (λ k. k.user_data.items) c.self.inside.kept;
     } in
     let open' : is_open c.args.stream t ≡ true = open-at c.self.inside.streams c.args.stream c.in-Some.place c.in-Some.ensures in
     let le : length c.args.bytes.now ≤ t.max_message_size = omega (arith, c.if-len-self.false, c.len-len.ensures.value) in
@@ -171,8 +176,12 @@ pub invariant_of-self-2 : goal.invariant_of-self-2
 invariant_of-self-2 c =
     let f : Flight = c.self.inside.flight in
     let l = found-at c.self.inside.streams c.args.stream c.in-Some.place c.in-Some.ensures in
-    let new = subst AreSettled (sym (c.in_ok-chunks.ensures.ok l.0 l.1)) (fragments-settled l.0 c.args.ppi c.args.bytes.now) in (
+    let new = subst AreSettled (sym (c.in_ok-chunks.ensures.ok l.0 l.1)) (fragments-settled l.0 c.args.ppi c.args.bytes.now) in
+    let unacked = subst (λ (cs : List ChunkPayloadData). list_any (λ d. d.acked) cs ≡ false) (sym (c.in_ok-chunks.ensures.ok l.0 l.1))
+    (fragments-unacked l.0 c.args.ppi c.args.bytes.now) in (
       c.self.invariant.0,
       c.self.invariant.1,
       subst (λ (g : Flight). IsAllSettled g.queue) (sym c.in_ok-push.ensures.ok) (message-settled c.in_ok-chunks.chunks.items f.queue new c.self.invariant.2),
+      subst (IsCovered c.self.inside.kept) (sym c.in_ok-push.ensures.ok)
+          (message-covered c.self.inside.kept c.in_ok-chunks.chunks.items f unacked c.self.invariant.3),
     )

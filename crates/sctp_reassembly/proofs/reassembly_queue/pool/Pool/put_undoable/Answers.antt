@@ -1,7 +1,8 @@
-use Rattle.std.proofs.Common.{◌≡◌, ℕ, ◌+◌, ◌-◌, ◌^◌, ◌<◌, ◌≤◌, ◌&&◌, Bool, true, List, [], length, length-append, length-drop, length-take-le, insert, remove}
+use Rattle.std.proofs.Common.{◌≡◌, ◌++◌, get_or, ℕ, ◌+◌, ◌-◌, ◌^◌, ◌<◌, ◌≤◌, ◌&&◌, Bool, true, List, [], length, length-append, length-drop, length-take-le}
+use Rattle.std.proofs.Common.{insert, remove}
 use Rattle.std.proofs.Common.{take}
 use Rattle.std.proofs.Common.{drop, refl, sym, ap, ap₂, subst, ◌∙◌, arith}
-use Rattle.std.proofs.lemmas.List.Edits.{length-insert}
+use Rattle.std.proofs.lemmas.List.Edits.{length-insert, get_or-insert_at}
 use Rattle.sctp_data.specs.declared.chunk.chunk_payload_data.ChunkPayloadData.{ChunkPayloadData}
 use Rattle.sctp_list_lemmas.specs.Lists.{insert_before}
 use Rattle.sctp_serial.specs.DataChunks.{bytes_of, chunk_before}
@@ -10,9 +11,9 @@ use Rattle.sctp_serial.specs.Window.{IsSerial}
 use Rattle.sctp_reassembly.specs.reassembly_queue.Loose.{IsFlag, IsRunTaken, Unassembled, place_among, with_one}
 use Rattle.sctp_serial.proofs.lemmas.ListEdits.{remove-insert, inserted-position}
 use Rattle.sctp_reassembly.proofs.lemmas.reassembly_queue.SerialPlaces.{place_upto, serial_on, serial_without}
-use Rattle.sctp_reassembly.proofs.lemmas.reassembly_queue.Stretches.{none_without, run_joined, bytes_with}
+use Rattle.sctp_reassembly.proofs.lemmas.reassembly_queue.Stretches.{none_without, run_joined, none_at_end, bytes_with}
 use Rattle.sctp_reassembly.proofs.lemmas.reassembly_queue.UnassembledRuns.{searched_on}
-use Rattle.sctp_reassembly.proofs.lemmas.reassembly_queue.TakenRuns.{none_after_take}
+use Rattle.sctp_reassembly.proofs.lemmas.reassembly_queue.TakenRuns.{NoneWhere, flag_after_take}
 use Rattle.sctp_reassembly.specs.declared.reassembly_queue.unassembled.InsertionUndo.{InsertionUndo}
 use Rattle.sctp_reassembly.specs.reassembly_queue.PoolUndo.{CanUndoPut}
 use Rattle.sctp_reassembly.proofs.lemmas.reassembly_queue.TakenBack.{Undoes, one_undone, run_undone}
@@ -62,8 +63,10 @@ is_searched-self-inside-requires c on =
     let le = within c.self.view_is c.args.chunk.tsn c.args.place c.requires in
     let flag = flag_before c.self.inside.searched xs ys c.args.place c.args.chunk le (same_list put) c.self.invariant in
     let lt : c.args.place < length ys = omega (arith, same_long put, length-insert xs c.args.place c.args.chunk le) in
-    subst HasNoRun (sym (same_list c.in-Ok.ensures.rest)) (none_after_take c.self.inside.searched c.is_serial-serial.result ys c.args.place c.in-Some.first
-    c.in-Some.count lt flag c.is_serial-serial.ensures run (sym c.is_known-known.ensures ∙ on))
+    let left = flag_after_take c.self.inside.searched c.is_serial-serial.result ys c.args.place c.in-Some.first c.in-Some.count lt flag
+    c.is_serial-serial.ensures run in
+    subst HasNoRun (sym (same_list c.in-Ok.ensures.rest))
+    (subst (λ b. NoneWhere b (take c.in-Some.first ys ++ drop (c.in-Some.first + c.in-Some.count) ys)) (sym c.is_known-known.ensures ∙ on) left)
 
 pub returns-in_default-clause-ok : goal.returns-in_default-clause-ok
 returns-in_default-clause-ok c =
@@ -236,3 +239,28 @@ pub returns-in-Err-clause-walk : goal.returns-in-Err-clause-walk
 returns-in-Err-clause-walk c =
     let n = with_it c.args.self.now c.args.chunk c.args.place c.self.view_is c.requires c.in_ok-insert_counted.ensures.ok in
     omega (arith, n, c.in-Some.ensures.found.run.in_range, c.in_ok-insert_counted.ensures.few, c.search.ensures.walk, c.in-Err.ensures.walk)
+
+pub returns-in_default-clause-few : goal.returns-in_default-clause-few
+returns-in_default-clause-few c s t serial none small w end =
+    let xs = c.args.self.now.chunks in
+    let le = place_upto c.args.chunk.tsn xs c.args.place c.requires in
+    let put = same_list c.in_ok-insert_counted.ensures.ok in
+    let h = plain c.self.inside.searched c.self.inside.unassembled c.insert_counted.new.self xs c.args.chunk c.args.place s t (same_list c.self.view_is) le put
+    c.self.invariant serial none small w in
+    let here : (d : ChunkPayloadData) → get_or c.insert_counted.new.self.chunks c.args.place d ≡ c.args.chunk = λ d. ap (λ ys. get_or ys c.args.place d) put
+    ∙ get_or-insert_at c.self.inside.unassembled.chunks c.args.place c.args.chunk d (omega (arith, same_long c.self.view_is, le)) in
+    omega (arith, c.in_ok-insert_counted.ensures.few, c.search.ensures.few c.args.chunk s t h.serial h.without h.stretch here end)
+
+pub returns-in-Ok-clause-few : goal.returns-in-Ok-clause-few
+returns-in-Ok-clause-few c s t serial none small w end =
+    let xs = c.args.self.now.chunks in
+    let e = same_list c.in_ok-insert_counted.ensures.ok ∙ ap (λ zs. insert zs c.args.place c.args.chunk) (same_list c.self.view_is) in
+    absurd (none_at_end xs c.args.chunk c.args.place (place_upto c.args.chunk.tsn xs c.args.place c.requires) none s t c.in-Some.first c.in-Some.count w end
+    (subst (λ ys. IsRun ys c.in-Some.first c.in-Some.count) e c.in-Some.ensures.found.run))
+
+pub returns-in-Err-clause-few : goal.returns-in-Err-clause-few
+returns-in-Err-clause-few c s t serial none small w end =
+    let xs = c.args.self.now.chunks in
+    let e = same_list c.in_ok-insert_counted.ensures.ok ∙ ap (λ zs. insert zs c.args.place c.args.chunk) (same_list c.self.view_is) in
+    absurd (none_at_end xs c.args.chunk c.args.place (place_upto c.args.chunk.tsn xs c.args.place c.requires) none s t c.in-Some.first c.in-Some.count w end
+    (subst (λ ys. IsRun ys c.in-Some.first c.in-Some.count) e c.in-Some.ensures.found.run))

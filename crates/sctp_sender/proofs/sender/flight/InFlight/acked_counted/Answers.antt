@@ -407,7 +407,7 @@ returns-clause-cost c =
     let all = all-reported f inv s fits none current c.deref-3.result.now lent in
     let count = c.distance-count.ensures.value in
     let n = ap (λ (rs : List Released). length rs) answered ∙ length-map (filter p cs) (released_of no_message) ∙ length-filter p cs in
-    let told = ap (λ (rs : List Released). length rs) c.deref-4.ensures.value in
+    let answer = ap (λ (rs : List Released). length rs) c.deref-4.ensures.value in
     let messages = same-messages s cs c.acknowledge_answered.new.queue.inflight.chunks c.tell_anew.new.released.items answered
     (ap (λ (o : Outbound). o.inflight.chunks) marked) in
     rw (← c.self.view_is) (omega (
@@ -426,6 +426,6 @@ returns-clause-cost c =
       all,
       count,
       n,
-      told,
+      answer,
       messages,
     ))

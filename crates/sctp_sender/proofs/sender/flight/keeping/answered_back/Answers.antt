@@ -1,30 +1,38 @@
-use Rattle.std.proofs.Common.{◌<◌, ◌++◌, ◌∷◌, [], List, Some, None, length, take, ap, sym, ◌∙◌, arith}
-use Rattle.std.proofs.lemmas.List.{append-nil}
-use Rattle.sctp_sender.specs.Keeping.{answered_back}
+use Rattle.std.proofs.Common.{◌≡◌, ◌+◌, ◌<◌, ◌≤◌, ◌++◌, ◌∷◌, [], List, length, length-append, map, take, get_or, ap, sym, ◌∙◌, arith}
+use Rattle.std.proofs.lemmas.List.{get_or_default, map-append, take_more, take_all}
 use Rattle.sctp_sender.specs.declared.sender.flight.keeping.TakenBack.{TakenBack}
+use Rattle.sctp_sender.specs.declared.sender.flight.taking_back.PlacedData.{PlacedData}
+use Rattle.sctp_sender.specs.Keeping.{answered_of_placed}
 use Rattle.sctp_sender.proofs.Walks.{read-of}
-use Rattle.sctp_sender.proofs.Keepings.{answered-more}
 use Rattle.sctp_sender.proofs.sender.flight.keeping.answered_back.Goals as goal
 
-pub loop-place-preserved-in_default-kept_at : goal.loop-place-preserved-in_default-kept_at
-loop-place-preserved-in_default-kept_at c =
+pub loop-back-preserved : goal.loop-back-preserved
+loop-back-preserved c =
     let cs = c.args.queue.now.inflight.chunks in
     let bs = c.args.backs.now in
-    let i = c.loop-place.place in
+    let i = c.loop-back.back-index in
+    let b : PlacedData = c.back-item.result in
     let x = c.in-Some.chunk.now in
-    let at = read-of cs i x (sym c.in-Some.ensures) in
-    let less : i < length bs = omega (arith, c.loop-place-test.true) in
-    c.loop-place.invariant ∙ sym (answered-more bs cs i x None less at.0 at.1 c.in_default-kept_at.ensures ∙ append-nil _)
+    let inv = c.loop-back.invariant in
+    let at = read-of cs b.place x (sym c.in-Some.ensures) in
+    let lt : i < length bs = c.loop-back-test.true in
+    let n = length-append c.loop-back.answered.items (c.taken_back.result ∷ []) in
+    let put = ap length c.put.ensures.items in
+    let next : take (i + 1) bs ≡ take i bs ++ b ∷ [] = take_more bs i b lt ∙ ap (λ y. take i bs ++ y ∷ []) (sym c.back-item.is) in
+    record {
+      answered = λ d.
+          let f : PlacedData → TakenBack = λ y. answered_of_placed y (get_or cs y.place d) in
+          let same : c.taken_back.result ≡ f b = c.taken_back.ensures ∙ ap (answered_of_placed b) (at.1 ∙ get_or_default cs b.place x d at.0) in
+          c.put.ensures.items ∙ ap (λ (ts : List TakenBack). ts ++ c.taken_back.result ∷ []) (inv.answered d)
+          ∙ ap (λ (r : TakenBack). map f (take i bs) ++ r ∷ []) same ∙ sym (map-append f (take i bs) (b ∷ [])) ∙ ap (map f) (sym next);
+      count = omega (arith, put, n, inv.count);
+      room = omega (arith, c.put.ensures.capacity, inv.room);
+    }
 
-pub loop-place-preserved : goal.loop-place-preserved
-loop-place-preserved c =
+pub returns-clause-ok : goal.returns-clause-ok
+returns-clause-ok c = λ d.
     let cs = c.args.queue.now.inflight.chunks in
     let bs = c.args.backs.now in
-    let i = c.loop-place.place in
-    let x = c.in-Some.chunk.now in
-    let bytes = c.in-Some-kept_at.bytes.now in
-    let at = read-of cs i x (sym c.in-Some.ensures) in
-    let less : i < length bs = omega (arith, c.loop-place-test.true) in
-    c.put.ensures.items ∙ ap (λ (ts : List TakenBack). ts ++ c.taken_back.result ∷ []) (c.reserve.ensures.items ∙ c.loop-place.invariant)
-    ∙ ap (λ (r : TakenBack). answered_back (take i bs) cs ++ r ∷ []) c.taken_back.ensures
-    ∙ sym (answered-more bs cs i x (Some bytes) less at.0 at.1 c.in-Some-kept_at.ensures)
+    let f : PlacedData → TakenBack = λ y. answered_of_placed y (get_or cs y.place d) in
+    let all : length bs ≤ c.loop-back.back-index = c.loop-back-test.false in
+    c.loop-back.invariant.answered d ∙ ap (map f) (take_all c.loop-back.back-index bs all)

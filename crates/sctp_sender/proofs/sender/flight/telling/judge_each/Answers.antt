@@ -55,7 +55,7 @@ loop-one-preserved c =
     let rs = c.loop-one.one-items in
     let i = c.loop-one.one-index in
     let inv = c.loop-one.invariant in
-    let told = c.whole_or_last-whole.ensures in
+    let answer = c.whole_or_last-whole.ensures in
     let lt : i < length rs = omega arith in
     let m : ℕ = (get_or rs i any_answered).message in
     let stay : numbers_of rs ≡ ms = numbers-stay c.args.partial cs old rs i inv.noted in
@@ -68,7 +68,7 @@ loop-one-preserved c =
       last = search rules;
       own = (omega arith, is ∙ ap (λ k. get_or ms k 0) (sym back));
       first = λ e. absurd (none-some _ (sym e));
-      not_back = omega (arith, told.not_back, inv.not_back);
+      not_back = omega (arith, answer.not_back, inv.not_back);
       cost = one-judged ms (messages_of cs) i m c.args.turns.now c.loop-one.turns c.whole_or_last-whole.new.turns c.loop-one.last c.requires.in_turn
-          (omega (arith, n, lt)) is inv.own inv.first inv.cost told.same told.cost;
+          (omega (arith, n, lt)) is inv.own inv.first inv.cost answer.same answer.cost;
     }

@@ -16,7 +16,7 @@ tell_between-requires-in-loop-block-clause-within c =
     let none : GapAckBlock = record { start = 0; end = 0 } in
     let b = get_or bs i none in
     let d : drop i bs ≡ b ∷ drop (i + 1) bs = drop_more bs i none c.loop-block-test.true in
-    let t = subst (λ xs. IsAnsweredTo c.args.count bs xs cs c.loop-block.released.items) d c.loop-block.invariant.told in
+    let t = subst (λ xs. IsAnsweredTo c.args.count bs xs cs c.loop-block.released.items) d c.loop-block.invariant.answer in
     block-within c.args.count bs (drop (i + 1) bs) b cs c.loop-block.released.items t c.requires.within
 
 pub tell_between-requires-in-loop-block-clause-passed : goal.tell_between-requires-in-loop-block-clause-passed
@@ -29,19 +29,19 @@ tell_between-requires-in-loop-block-clause-passed c = λ k b lt.
 
 pub loop-block-init : goal.loop-block-init
 loop-block-init c =
-    let told = c.in_ok-tell_between.ensures in
+    let answer = c.in_ok-tell_between.ensures in
     let whole : c.args.count - 0 ≡ c.args.count = omega arith in
     let same = ap (λ n. unknown_from c.args.known.now 0 n) whole in
     record {
-      told = grind (arith, common_steps);
-      inside = told.inside (omega arith);
-      not_back = told.not_back;
-      cost = (let cost = told.cost in omega (arith, cost));
+      answer = grind (arith, common_steps);
+      inside = answer.inside (omega arith);
+      not_back = answer.not_back;
+      cost = (let cost = answer.cost in omega (arith, cost));
       passed = λ k b lt some.
-          (let h = told.passed k b lt in
+          (let h = answer.passed k b lt in
           let s = first-behind c.args.sorted.now 0 any_block c.requires.ascend some in
           omega (arith, h, s));
-      unknown = (let unknown = told.unknown in omega (arith, unknown, same));
+      unknown = (let unknown = answer.unknown in omega (arith, unknown, same));
     }
 
 pub loop-block-preserved : goal.loop-block-preserved
@@ -53,20 +53,20 @@ loop-block-preserved c =
     let none : GapAckBlock = record { start = 0; end = 0 } in
     let b = get_or bs i none in
     let d : drop i bs ≡ b ∷ drop (i + 1) bs = drop_more bs i none c.loop-block-test.true in
-    let t = subst (λ xs. IsAnsweredTo c.args.count bs xs cs rs) d c.loop-block.invariant.told in
+    let t = subst (λ xs. IsAnsweredTo c.args.count bs xs cs rs) d c.loop-block.invariant.answer in
     let some = behind-last c.args.count bs (drop (i + 1) bs) b cs rs t in
     let more = sum_by_more (λ (b : GapAckBlock). b.end + 1 - b.start) bs i none c.loop-block-test.true in
     let inv = c.loop-block.invariant in
-    let told = c.in_ok-tell_between-2.ensures in
+    let answer = c.in_ok-tell_between-2.ensures in
     let inside = inv.inside in
     let cost = inv.cost in
     record {
-      told = next-block c.args.count bs (drop (i + 1) bs) b cs rs t (c.args.count + b.start - 1) (c.args.count + b.end)
+      answer = next-block c.args.count bs (drop (i + 1) bs) b cs rs t (c.args.count + b.start - 1) (c.args.count + b.end)
           (omega (arith, some)) refl c.requires.within
           c.tell_between-in-loop-block.new.released.items c.in_ok-tell_between-2.ensures.answered;
-      inside = told.inside inside;
+      inside = answer.inside inside;
       passed = λ k x lt some'.
-          (let h = told.passed k x lt in
+          (let h = answer.passed k x lt in
           let next = next-behind bs 0 i any_block c.requires.ascend (omega (arith, some')) in
           let e : suc i ≡ i + 1 = omega arith in
           let same = ap (λ j. (get_or bs j any_block).start) e in
@@ -76,11 +76,11 @@ loop-block-preserved c =
           let same = ap (λ n. unknown_from c.args.known.now (c.args.count + b.start - 1) n) span in
           let one = sum_by_more (λ (b : GapAckBlock). unknown_from c.args.known.now (c.args.count + b.start - 1) (b.end + 1 - b.start)) bs i none
           c.loop-block-test.true in
-          let unknown = told.unknown in
+          let unknown = answer.unknown in
           let before = inv.unknown in
           omega (arith, c.tick.ensures, unknown, before, same, one));
-      not_back = omega (arith, c.tick.ensures, told.not_back, inv.not_back);
-      cost = omega (arith, c.tick.ensures, told.cost, cost, more, some);
+      not_back = omega (arith, c.tick.ensures, answer.not_back, inv.not_back);
+      cost = omega (arith, c.tick.ensures, answer.cost, cost, more, some);
     }
 
 pub returns-clause-answered : goal.returns-clause-answered
@@ -90,7 +90,7 @@ returns-clause-answered c = λ p picks.
     let cs = c.args.queue.now.inflight.chunks in
     let rs = c.loop-block.released.items in
     let none : drop i bs ≡ [] = drop_all i bs (omega (arith, c.loop-block-test.false, c.loop-block.auto.block-index-end)) in
-    answered-all c.args.count bs cs rs (subst (λ xs. IsAnsweredTo c.args.count bs xs cs rs) none c.loop-block.invariant.told) p picks
+    answered-all c.args.count bs cs rs (subst (λ xs. IsAnsweredTo c.args.count bs xs cs rs) none c.loop-block.invariant.answer) p picks
 
 pub returns-in_err-tell_between-2-clause-unknown : goal.returns-in_err-tell_between-2-clause-unknown
 returns-in_err-tell_between-2-clause-unknown c =
@@ -101,11 +101,11 @@ returns-in_err-tell_between-2-clause-unknown c =
     let none : GapAckBlock = record { start = 0; end = 0 } in
     let b = get_or bs i none in
     let d : drop i bs ≡ b ∷ drop (i + 1) bs = drop_more bs i none c.loop-block-test.true in
-    let t = subst (λ xs. IsAnsweredTo c.args.count bs xs cs rs) d c.loop-block.invariant.told in
+    let t = subst (λ xs. IsAnsweredTo c.args.count bs xs cs rs) d c.loop-block.invariant.answer in
     let some = behind-last c.args.count bs (drop (i + 1) bs) b cs rs t in
-    let told = c.tell_between-in-loop-block.ensures in
-    let inside = told.inside c.loop-block.invariant.inside in
-    let unknown = told.unknown in
+    let answer = c.tell_between-in-loop-block.ensures in
+    let inside = answer.inside c.loop-block.invariant.inside in
+    let unknown = answer.unknown in
     let before = c.loop-block.invariant.unknown in
     let span : c.args.count + b.end - (c.args.count + b.start - 1) ≡ b.end + 1 - b.start = omega (arith, some) in
     let same = ap (λ n. unknown_from c.args.known.now (c.args.count + b.start - 1) n) span in

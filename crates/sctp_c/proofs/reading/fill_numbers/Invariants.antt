@@ -1,0 +1,8 @@
+use Rattle.std.proofs.Common.{◌≡◌, ◌+◌, ◌*◌, ◌++◌}
+use Rattle.std.specs.Prelude.{take, drop}
+use Rattle.sctp_base.specs.Each.{each}
+use Rattle.sctp_base.specs.Field.{u32_at}
+use Rattle.sctp_c.proofs.reading.fill_numbers.Given as goal
+
+abbrev pub invariant-loop-i : goal.invariant-loop-i
+invariant-loop-i l = l.rows ≡ take l.i (each l.count (λ i. u32_at l.bytes (l.at + 4 * i))) ++ drop l.i l.fn.rows

@@ -1,0 +1,412 @@
+-- Each session can end: round after round leaves fewer chunks, and then all that is to be read is read.
+use Rattle.std.proofs.Common.{◌≡◌, ℕ, zero, suc, ◌+◌, ◌-◌, ◌%◌, ◌^◌, ◌<◌, ◌≤◌, Bool, true, false, not, List, [], ◌∷◌, length, Option, Some, None, is_some, inl}
+use Rattle.std.proofs.Common.{inr, refl, ap, subst, ◌∙◌, arith}
+use Rattle.std.specs.Prelude.{◌*◌, ◌==◌, ◌&&◌, if◌then◌else◌, nat_le, nat_lt, slice_get}
+use Rattle.std.proofs.lemmas.Bool.{cases_lt}
+use Rattle.std.proofs.lemmas.Bool.Decides.{nat_tests}
+use Rattle.std.proofs.lemmas.List.Sums.{sum_by-cons}
+use Rattle.sctp_list_lemmas.proofs.Cases.{and-none, same-yes}
+use Rattle.sctp_list_lemmas.proofs.Edits.{length-change_where}
+use Rattle.sctp_list_lemmas.proofs.More.{and, both, not_both}
+use Rattle.sctp_list_lemmas.proofs.Round.{distance-tsn}
+use Rattle.sctp_list_lemmas.specs.Lists.{change_where, insert_before}
+use Rattle.sctp_list_lemmas.specs.Serial.{distance}
+use Rattle.sctp_data.specs.declared.chunk.chunk_payload_data.ChunkPayloadData.{ChunkPayloadData}
+use Rattle.sctp_outbound.proofs.lemmas.outbound_queue.Outbounds.{peeked_all_started}
+use Rattle.sctp_outbound.proofs.lemmas.outbound_queue.Sendable.{popped_bytes, sendable-sent}
+use Rattle.sctp_outbound.specs.declared.pending_queue.Selected.{Selected}
+use Rattle.sctp_outbound.specs.outbound_queue.OutboundQueue.{Outbound, all_started, as_sent, sent_next, sent_of}
+use Rattle.sctp_outbound.specs.pending_queue.PendingQueue.{Pending, chunk_count, front_of, is_to_start, list_of, list_to_pop, next_pending, next_pending_of}
+use Rattle.sctp_outbound.specs.pending_queue.PendingQueue.{start_pending, with_deadline}
+use Rattle.sctp_outbound.specs.pending_queue.Whole.{IsSendable, IsWhole, begun, free, stage_of}
+use Rattle.sctp_receiver.specs.declared.receiver.limits.Limits.{Limits}
+use Rattle.sctp_serial.specs.DataChunks.{bytes_of, chunk_before, following_tsn}
+use Rattle.sctp_sender.proofs.Amounts.{sent-bytes}
+use Rattle.sctp_sender.proofs.Flights.{started-inflight}
+use Rattle.sctp_sender.specs.Flight.{Flight, next_after_send}
+use Rattle.sctp_sender.specs.Numbers.{begins_ordered, first_ordered, past_number, refusal_of, send_refusal}
+use Rattle.sctp_sender.specs.Sender.{with_flight}
+use Rattle.sctp_sender.specs.SenderRuns.{Ledger}
+use Rattle.sctp_sender.specs.declared.sender.refusal.SenderRefusal.TheVariants.{SsnsUsedUp, TsnsUsedUp}
+use Rattle.sctp_delivery.specs.Abandoned.{EachOtherIsReadOnce, abandoned_in}
+use Rattle.sctp_delivery.specs.Complete.{is_all_acknowledged, reads_nothing}
+use Rattle.sctp_delivery.specs.Ending.{AfterEachSessionWithTsnsLeft, EndsWhereTaken, EndsWithAllRead, chunks_waiting, has_room, takes_all_of}
+use Rattle.sctp_delivery.specs.Rounds.{chunks_left, flight_of, in_flight}
+use Rattle.sctp_delivery.specs.Sacks.{tsns_given}
+use Rattle.sctp_delivery.specs.SenderCalls.{Made, made_after, next_chunk, sends, with_chunk}
+use Rattle.sctp_delivery.specs.Session.{Call, RunsTo, SenderFollows, Session, at_start, of_sender}
+use Rattle.sctp_delivery.proofs.Delivered.{next_tsn}
+use Rattle.sctp_delivery.proofs.EndDelivers.{ends-delivered, few-given}
+use Rattle.sctp_delivery.proofs.EndForwards.{ends-answered, ends-caught-up}
+use Rattle.sctp_delivery.proofs.EndReads.{ends-read}
+use Rattle.sctp_delivery.proofs.EndRoom.{RoomIn, cost, due_by, few-spent, price, put-due, room-of, spent, waiting_cost}
+use Rattle.sctp_delivery.proofs.EndSteps.{At, Ends, Setting, at-next, kept-at, numbered-at, sender-before}
+use Rattle.sctp_delivery.proofs.MessageSizes.{fit-session}
+use Rattle.sctp_delivery.proofs.NoneAbandoned.{each-of-others}
+use Rattle.sctp_delivery.proofs.Numbers.{number_of}
+use Rattle.sctp_delivery.proofs.OthersOnce.{others-read}
+use Rattle.sctp_delivery.proofs.Queues.{started}
+use Rattle.sctp_delivery.proofs.QueuesLeft.{popped}
+use Rattle.sctp_delivery.proofs.RefusedLaw.{limits-same}
+use Rattle.sctp_delivery.proofs.TsnPlaces.{base, next-place}
+
+-- ## A chunk is sent
+
+filled : (kind : Bool) (n m : ℕ) (xs : List ChunkPayloadData) → IsWhole kind n (begun m) xs → is_some (slice_get xs 0) ≡ true
+filled kind n m [] w = absurd w
+filled kind n m (c ∷ cs) w = refl
+
+-- where some chunk waits, one is next
+next-there : (q : Pending) (xs : List ChunkPayloadData) (n : ℕ) → IsSendable q xs n → 0 < chunk_count q → is_some (next_pending q) ≡ true
+next-there q xs n s some = by q.selected s.ordered s.unordered
+  where
+    front : (us os : List ChunkPayloadData) → 0 < length os + length us → is_some (front_of us os) ≡ true
+    front (u ∷ us) os lt = refl
+    front [] (o ∷ os) lt = refl
+    front [] [] lt = absurd (omega (arith, lt))
+
+    kind : (m : ℕ) (b : Bool) → IsWhole false n (if b then free 0 else begun m) q.ordered → IsWhole true n (if b then begun m else free 0) q.unordered
+        → is_some (slice_get (list_of b q) 0) ≡ true
+    kind m true w v = filled true n m q.unordered v
+    kind m false w v = filled false n m q.ordered w
+
+    by : (o : Option Selected) → IsWhole false n (stage_of false o) q.ordered → IsWhole true n (stage_of true o) q.unordered
+        → is_some (next_pending_of o q) ≡ true
+    by None w v = front q.unordered q.ordered some
+    by (Some t) w v = kind t.message_id t.unordered w v
+
+put-length : (x : ChunkPayloadData) (cs : List ChunkPayloadData) → length (insert_before chunk_before x cs) ≡ length cs + 1
+put-length x [] = omega arith
+put-length x (c ∷ cs) = by (chunk_before x c) (put-length x cs)
+  where
+    by : (b : Bool) → length (insert_before chunk_before x cs) ≡ length cs + 1
+        → length (if b then x ∷ c ∷ cs else c ∷ insert_before chunk_before x cs) ≡ length (c ∷ cs) + 1
+    by true ih = omega arith
+    by false ih = omega (arith, ih)
+
+-- a deadline costs nothing
+bytes-same : (p : ChunkPayloadData → Bool) (now : ℕ) (cs : List ChunkPayloadData) → bytes_of (change_where p (with_deadline now) cs) ≡ bytes_of cs
+bytes-same p now [] = refl
+bytes-same p now (c ∷ cs) = by (p c) (bytes-same p now cs)
+  where
+    by : (b : Bool) → bytes_of (change_where p (with_deadline now) cs) ≡ bytes_of cs
+        → bytes_of ((if b then with_deadline now c else c) ∷ change_where p (with_deadline now) cs) ≡ bytes_of (c ∷ cs)
+    by true ih =
+        let n = sum_by-cons (λ (d : ChunkPayloadData). length d.user_data) (with_deadline now c) (change_where p (with_deadline now) cs) in
+        let m = sum_by-cons (λ (d : ChunkPayloadData). length d.user_data) c cs in
+        omega (arith, n, m, ih)
+    by false ih =
+        let n = sum_by-cons (λ (d : ChunkPayloadData). length d.user_data) c (change_where p (with_deadline now) cs) in
+        let m = sum_by-cons (λ (d : ChunkPayloadData). length d.user_data) c cs in
+        omega (arith, n, m, ih)
+
+started-count : (now : ℕ) (q : Outbound) → chunk_count (all_started now q).pending ≡ chunk_count q.pending
+started-count now q = by (q.next_unstarted == q.next_message_id)
+  where
+    by : (b : Bool)
+        → chunk_count (if b then q else record q { pending = start_pending q.next_unstarted now q.pending; next_unstarted = q.next_message_id }).pending
+        ≡ chunk_count q.pending
+    by true = refl
+    by false =
+        let o = length-change_where (is_to_start q.next_unstarted) (with_deadline now) q.pending.ordered in
+        let u = length-change_where (is_to_start q.next_unstarted) (with_deadline now) q.pending.unordered in
+        omega (arith, o, u)
+
+started-waiting : (now : ℕ) (q : Outbound) → waiting_cost (all_started now q).pending ≡ waiting_cost q.pending
+started-waiting now q = by (q.next_unstarted == q.next_message_id)
+  where
+    by : (b : Bool)
+        → waiting_cost (if b then q else record q { pending = start_pending q.next_unstarted now q.pending; next_unstarted = q.next_message_id }).pending
+        ≡ waiting_cost q.pending
+    by true = refl
+    by false =
+        let o = length-change_where (is_to_start q.next_unstarted) (with_deadline now) q.pending.ordered in
+        let u = length-change_where (is_to_start q.next_unstarted) (with_deadline now) q.pending.unordered in
+        let x = bytes-same (is_to_start q.next_unstarted) now q.pending.ordered in
+        let y = bytes-same (is_to_start q.next_unstarted) now q.pending.unordered in
+        omega (arith, o, u, x, y)
+
+-- it waits no more, and is in flight, for its price
+record IsMoved (q r : Outbound) : Type 0 where
+  waiting : chunk_count r.pending + 1 ≡ chunk_count q.pending
+  flying : length r.inflight.chunks ≡ length q.inflight.chunks + 1
+  dear : (accepted : List ChunkPayloadData) → due_by price accepted r.inflight.chunks + waiting_cost r.pending
+      ≤ due_by price accepted q.inflight.chunks + waiting_cost q.pending
+
+moved : (q : Outbound) (tsn now : ℕ) → IsSendable q.pending q.inflight.chunks q.next_message_id → (o : Option ChunkPayloadData)
+    → next_pending q.pending ≡ o → is_some o ≡ true → IsMoved q (sent_of o q tsn now)
+moved q tsn now s None e some = absurd (not_both some)
+moved q tsn now s (Some c) e some = record {
+  waiting =
+      popped (list_to_pop q.pending.selected c.beginning_fragment c.unordered) q.pending.ordered q.pending.unordered q.pending.selected q.pending.ordered_room
+      q.pending.unordered_room c (sendable-sent q.pending q.inflight.chunks q.next_message_id c (as_sent tsn now c) refl s e).taken;
+  flying = put-length (as_sent tsn now c) q.inflight.chunks;
+  dear = λ accepted.
+      let on = (sendable-sent q.pending q.inflight.chunks q.next_message_id c (as_sent tsn now c) refl s e).taken in
+      let count = popped (list_to_pop q.pending.selected c.beginning_fragment c.unordered) q.pending.ordered q.pending.unordered q.pending.selected
+      q.pending.ordered_room q.pending.unordered_room c on in
+      let bytes = popped_bytes c.beginning_fragment c.unordered q.pending c on in
+      let put = put-due price accepted (as_sent tsn now c) q.inflight.chunks in
+      omega (arith, count, bytes, put);
+}
+
+-- with nothing in flight none is refused
+unrefused : (f : Flight) → length f.queue.inflight.chunks ≡ 0 → send_refusal f ≡ None
+unrefused f none = by (next_pending f.queue.pending)
+  where
+    room : nat_lt (length f.queue.inflight.chunks + 1) (2 ^ 31) ≡ true
+    room = grind (arith, nat_tests, none)
+
+    near : nat_le (2 ^ 14) (length f.queue.inflight.chunks) ≡ false
+    near = grind (arith, nat_tests, none)
+
+    by : (o : Option ChunkPayloadData) → refusal_of o f ≡ None
+    by None = refl
+    by (Some c) =
+        ap (λ b. if not b then Some TsnsUsedUp else (if begins_ordered c && (nat_le (2 ^ 14) (length f.queue.inflight.chunks)
+        && nat_le (2 ^ 14) (past_number (first_ordered c.stream_identifier f) c)) then Some SsnsUsedUp else None)) room
+        ∙ ap (λ b. if begins_ordered c && (b && nat_le (2 ^ 14) (past_number (first_ordered c.stream_identifier f) c)) then Some SsnsUsedUp else None) near
+        ∙ ap (λ b. if b then Some SsnsUsedUp else None) (and-none (begins_ordered c))
+
+-- no more than one chunk is made
+few-made : (o : Option ChunkPayloadData) (ms : List Made) → length (with_chunk o ms) ≤ length ms + 1
+few-made None ms = omega arith
+few-made (Some c) ms = omega arith
+
+abbrev after_sends : ℕ → Session → Session
+after_sends now s =
+    record s {
+      sending = record s.sending {
+        sender = with_flight (record s.sending.sender.flight {
+          queue = sent_next s.sending.sender.flight.queue s.sending.sender.flight.next_tsn now;
+          next_tsn = next_after_send s.sending.sender.flight;
+        }) s.sending.sender;
+      };
+      made = made_after (sends now) s.sending.sender s.made;
+    }
+
+-- one chunk waits less, and is in flight
+record Sent (s t : Session) : Type 0 where
+  waiting : chunks_waiting t.sending.sender + 1 ≡ chunks_waiting s.sending.sender
+  flying : length (in_flight t) ≡ length (in_flight s) + 1
+  dear : cost t ≤ cost s
+  few : spent t ≤ spent s + 2
+  sacks : t.sacks ≡ s.sacks
+
+module _ (b : Setting) (n : ℕ) (s : Session) (i : At b n s) (none : length (in_flight s) ≡ 0) (some : 0 < chunks_waiting s.sending.sender)
+    (few : n + 1 < 2 ^ 31) where
+  abbrev q : Outbound
+  q = s.sending.sender.flight.queue
+
+  abbrev next : ℕ
+  next = s.sending.sender.flight.next_tsn
+
+  sendable : IsSendable s.sending.sender.flight.queue.pending s.sending.sender.flight.queue.inflight.chunks s.sending.sender.flight.queue.next_message_id
+  sendable = (kept-at b n s i).kept.holds.held.stands.sendable
+
+  there : is_some (next_pending s.sending.sender.flight.queue.pending) ≡ true
+  there = next-there q.pending q.inflight.chunks q.next_message_id sendable some
+
+  sending : SenderFollows (sends b.now) s (after_sends b.now s)
+  sending = record {
+    handed = tt;
+    step = record { sender = sent-bytes next b.now q sendable; written = omega arith; released = omega arith; taken_back = omega arith };
+    exact = refl;
+    accepted = unrefused (flight_of s) none;
+    after = refl;
+  }
+
+  sent : Sent s (after_sends b.now s)
+  sent =
+      let k = kept-at b n s i in
+      let st = started k.numbered b.first (λ st. number_of st s.sending.sender.streams) b.now q next k.sent k.kept.holds.held.stands in
+      let m = moved (all_started b.now q) next b.now st.sendable (next_pending (all_started b.now q).pending) refl (peeked_all_started b.now q ∙ there) in
+      let waits = m.waiting in
+      let flies = m.flying in
+      let count = started-count b.now q in
+      let same = ap (λ p. length p.chunks) (started-inflight b.now q) in
+      let dear = m.dear s.receiving.accepted in
+      let flying-same = ap (λ p. due_by price s.receiving.accepted p.chunks) (started-inflight b.now q) in
+      let waiting-same = started-waiting b.now q in
+      record {
+        waiting = omega (arith, waits, count);
+        flying = omega (arith, flies, same);
+        dear = omega (arith, dear, flying-same, waiting-same);
+        few =
+            let most = few-spent (after_sends b.now s) in
+            let made = few-made (next_chunk b.now s.sending.sender) s.made in
+            let long : length (in_flight (after_sends b.now s)) ≡ 1 = omega (arith, flies, same, none) in
+            omega (arith, most, made, long);
+        sacks = refl;
+      }
+
+  one-tsn : distance (next_tsn s) (next_tsn (after_sends b.now s)) ≡ 1
+  one-tsn =
+      let at = (numbered-at b n s i).next_is in
+      let p = base b.first in
+      let up : next_tsn (after_sends b.now s) ≡ following_tsn next = ap (λ c. if c then following_tsn next else next) there in
+      ap (distance next) (up ∙ ap following_tsn at ∙ next-place p (n + 1)) ∙ ap (λ u. distance u ((p + (n + 1 + 1)) % 2 ^ 32)) at
+      ∙ distance-tsn p (n + 1) (n + 1 + 1) (omega arith) (omega arith) ∙ (let z : n + 1 + 1 - (n + 1) ≡ 1 = omega arith in z)
+
+  ends-sent : ((t : Session) → At b (n + 1) t → Sent s t → Ends b t) → Ends b s
+  ends-sent next-ends =
+      let t = after_sends b.now s in
+      let one = one-tsn in
+      let x = sent in
+      let waits = x.waiting in
+      let flies = x.flying in
+      let dear = x.dear in
+      let j = at-next b n (of_sender (sends b.now)) s t sending (same-yes b.now) (omega (arith, one, few)) (omega (arith, waits, flies)) dear i in
+      sender-before b (sends b.now) s t sending (same-yes b.now) (omega (arith, one, waits))
+      (next-ends t (subst (λ k. At b k t) {x = n + distance (next_tsn s) (next_tsn t)} {y = n + 1} (omega (arith, one)) j) x)
+
+-- ## A round
+
+-- fewer chunks are in flight, and as many wait
+record Rounded (s t : Session) : Type 0 where
+  waiting : chunks_waiting t.sending.sender ≡ chunks_waiting s.sending.sender
+  fewer : length (in_flight t) < length (in_flight s)
+  few : spent t ≤ spent s + 1
+  sacks : length t.sacks ≡ length s.sacks + 1
+
+module _ (b : Setting) where
+  ends-rounded : (n : ℕ) (s : Session) → At b n s → 0 < length (in_flight s) → ((t : Session) → At b n t → Rounded s t → Ends b t) → Ends b s
+  ends-rounded n s i some next = ends-delivered b n s i (λ t j d. ends-caught-up b n t j d.taken (λ u k c.
+      let long = d.as_many in
+      let same = ap (λ (l : Ledger). length l.sender.flight.queue.inflight.chunks) c.sending in
+      let waited = ap chunk_count d.pending in
+      let waits = ap (λ (l : Ledger). chunks_waiting l.sender) c.sending in
+      let sacks = ap length (c.sacks ∙ d.sacks) in
+      ends-answered b n u k c.caught (omega (arith, long, same, some)) (λ v l a.
+      let fewer = a.fewer in
+      let waiting = a.waiting in
+      let made = a.sacks in
+      let few = a.few in
+      let few-caught = c.few in
+      let few-delivered = d.few in
+      next v l (record {
+        waiting = omega (arith, waiting, waits, waited);
+        fewer = omega (arith, fewer, long, same);
+        few = omega (arith, few, few-caught, few-delivered);
+        sacks = omega (arith, made, sacks);
+      }))))
+
+  -- ## The end
+
+  finish : (n : ℕ) (s : Session) → At b n s → chunks_left s.sending.sender ≡ 0 → length s.sacks ≤ b.sacks → length s.made ≤ b.made → Ends b s
+  finish n s i none made all = ends-read b n s i (λ t j x unread.
+      let waits = ap (λ (l : Ledger). chunks_waiting l.sender) x.sending in
+      let flies = ap (λ (l : Ledger). length l.sender.flight.queue.inflight.chunks) x.sending in
+      let sacks = ap length x.sacks in
+      let waiting : chunks_waiting t.sending.sender ≡ 0 = omega (arith, waits, none) in
+      let flying : length (in_flight t) ≡ 0 = omega (arith, flies, none) in
+      let exhausted = and (is_all_acknowledged t.sending.sender) (reads_nothing t.receiving.receiver)
+      (and (chunks_waiting t.sending.sender == 0) (length (in_flight t) == 0) (grind (arith, nat_tests, waiting)) (grind (arith, nat_tests, flying))) unread in
+      record {
+        calls = [];
+        ended = t;
+        run = refl;
+        delivery = refl;
+        given = omega (arith, waiting);
+        written = refl;
+        sacks = omega (arith, sacks, made);
+        made = let same = ap length x.made in omega (arith, same, all);
+        exhausted = exhausted;
+        read = subst (λ g. EachOtherIsReadOnce g t) j.gone
+            (others-read b.first b.size b.max b.most b.limits j.calls t j.run b.small (few-given b n t j) b.some exhausted);
+      })
+
+  ends-from : (m n : ℕ) (s : Session) → At b n s → n + chunks_waiting s.sending.sender < 2 ^ 31
+      → length s.sacks + chunks_left s.sending.sender ≤ b.sacks → spent s + chunks_left s.sending.sender + 2 * chunks_waiting s.sending.sender ≤ b.made
+      → chunks_left s.sending.sender ≤ m → Ends b s
+  ends-from zero n s i few sacks made le = finish n s i (omega (arith, le)) (omega (arith, sacks)) (omega (arith, made))
+  ends-from (suc m) n s i few sacks made le = elim (cases_lt 0 (length (in_flight s))) [
+    | inl some ↦ ends-rounded n s i some (λ t j r.
+        let waits = r.waiting in
+        let fewer = r.fewer in
+        let reported = r.sacks in
+        let spent' = r.few in
+        ends-from m n t j (omega (arith, few, waits)) (omega (arith, sacks, waits, fewer, reported)) (omega (arith, made, spent', waits, fewer))
+        (omega (arith, le, waits, fewer)))
+    | inr none ↦ elim (cases_lt 0 (chunks_waiting s.sending.sender)) [
+      | inr empty ↦ finish n s i (omega (arith, none, empty)) (omega (arith, sacks)) (omega (arith, made))
+      | inl more ↦ ends-sent b n s i (omega (arith, none)) more (omega (arith, few, more)) (λ u k x.
+          let gone = x.waiting in
+          let flies = x.flying in
+          let before = ap length x.sacks in
+          ends-rounded (n + 1) u k (omega (arith, flies)) (λ t j r.
+          let waits = r.waiting in
+          let fewer = r.fewer in
+          let reported = r.sacks in
+          let spent' = r.few in
+          let sent' = x.few in
+          ends-from m (n + 1) t j (omega (arith, few, waits, gone)) (omega (arith, sacks, waits, fewer, reported, gone, flies, before))
+          (omega (arith, made, spent', sent', waits, fewer, gone, flies)) (omega (arith, le, waits, fewer, gone, flies))))
+    ]
+  ]
+
+-- ## The law
+
+module _ (tsn size max most : ℕ) (limits : Option Limits) (cs : List Call) (s : Session) (small : tsn < 2 ^ 32) (some : 0 < size)
+    (run : RunsTo (at_start tsn size max most limits) cs s)
+    (few : tsns_given (at_start tsn size max most limits) cs s run + chunks_waiting s.sending.sender < 2 ^ 31)
+    (takes : takes_all_of s.sending.sender s.receiving.receiver ≡ true) (now : ℕ) where
+  parts : (has_room s.receiving.receiver.limits s.sending.sender s.receiving.receiver ≡ true)
+      × (nat_le s.sending.sender.max_message_size s.receiving.receiver.max_message_size ≡ true)
+  parts = both (has_room s.receiving.receiver.limits s.sending.sender s.receiving.receiver)
+      (nat_le s.sending.sender.max_message_size s.receiving.receiver.max_message_size) takes
+
+  longer : max ≤ most
+  longer =
+      let fit = fit-session tsn size max most limits cs s run in
+      let sent = fit.sender in
+      let own = fit.streams.own in
+      let enough : s.sending.sender.max_message_size ≤ s.receiving.receiver.max_message_size = grind (arith, nat_tests, parts.1) in
+      omega (arith, sent, own, enough)
+
+  abbrev setting : Setting
+  setting = record {
+    first = tsn;
+    size = size;
+    max = max;
+    most = most;
+    limits = limits;
+    small = small;
+    some = some;
+    enough = longer;
+    gone = abandoned_in (at_start tsn size max most limits) cs s run;
+    sacks = length s.sacks + chunks_left s.sending.sender;
+    made = length s.made + 3 * chunks_left s.sending.sender;
+    now = now;
+  }
+
+  room : RoomIn limits s
+  room =
+      room-of limits s (subst (λ o. has_room o s.sending.sender s.receiving.receiver ≡ true)
+      (limits-same cs (at_start tsn size max most limits) s run) parts.0)
+
+  ends : Ends setting s
+  ends = ends-from setting (chunks_left s.sending.sender) (tsns_given (at_start tsn size max most limits) cs s run) s
+      (record { calls = cs; run = run; given = refl; gone = refl; few = omega (arith, few); room = room }) few (omega arith)
+      (let most = few-spent s in omega (arith, most)) (omega arith)
+
+pub all-end : AfterEachSessionWithTsnsLeft EndsWhereTaken
+all-end tsn size max most limits cs s small some run few takes now =
+    let e = ends tsn size max most limits cs s small some run few takes now in
+    record {
+      calls = e.calls;
+      ended = e.ended;
+      run = e.run;
+      delivery = e.delivery;
+      given = e.given;
+      written = e.written;
+      sacks = e.sacks;
+      made = e.made;
+      exhausted = e.exhausted;
+      read = e.read;
+    }
+
+pub all-read : AfterEachSessionWithTsnsLeft EndsWithAllRead
+all-read tsn size max most limits cs s small some run few none takes now =
+    let e = all-end tsn size max most limits cs s small some run few takes now in
+    (e, each-of-others e.ended (subst (λ gone. EachOtherIsReadOnce gone e.ended) none e.read))

@@ -1,0 +1,240 @@
+-- A walk over the places where something can come back, and over the blocks of a SACK.
+use Rattle.std.proofs.Common.{◌≡◌, ℕ, zero, suc, ◌+◌, ◌-◌, ◌<◌, ◌≤◌, Bool, true, false, List, [], ◌∷◌, length, take, drop, get_or, refl, ap, sym}
+use Rattle.std.proofs.Common.{subst}
+use Rattle.std.proofs.Common.{◌∙◌, inl, inr, slice_get, None, arith}
+use Rattle.std.specs.Prelude.{Option, if◌then◌else◌, ◌&&◌, ◌||◌, not, nat_le, nat_lt}
+use Rattle.std.proofs.lemmas.Bool.{cases_lt, false≢true}
+use Rattle.std.proofs.lemmas.Bool.Decides.{nat_tests}
+use Rattle.std.proofs.lemmas.List.{drop_more, get_or_default, take_more, take-append-drop}
+use Rattle.std.proofs.lemmas.Option.{none-some}
+use Rattle.sctp_list_lemmas.proofs.Cases.{and-none, and-true, or-left, or-none, or-right}
+use Rattle.sctp_list_lemmas.proofs.Edits.{list_any-append}
+use Rattle.sctp_list_lemmas.proofs.More.{fails}
+use Rattle.sctp_data.specs.declared.chunk.chunk_payload_data.ChunkPayloadData.{ChunkPayloadData}
+use Rattle.sctp_data.specs.declared.chunk.chunk_selective_ack.GapAckBlock.{GapAckBlock}
+use Rattle.sctp_outbound.specs.payload_queue.Blocks.{is_in_block, is_in_blocks}
+use Rattle.sctp_sender.specs.Keeping.{ArePassed, can_at, return_at, returns_at}
+use Rattle.sctp_sender.specs.Reporting.{ascends_from}
+use Rattle.sctp_sender.specs.Telling.{is_reached}
+use Rattle.sctp_sender.proofs.Anew.{any-at, both, in-block, none-up-to}
+
+abbrev pub no_block : GapAckBlock
+no_block = record { start = 0; end = 0 }
+
+-- ## Blocks that ascend, from one of them on
+
+ascends-drop : (bs : List GapAckBlock) (last i : ℕ) → ascends_from last bs ≡ true → (more : ℕ) × (last ≤ more) × (ascends_from more (drop i bs) ≡ true)
+ascends-drop bs last zero e = (last, omega arith, e)
+ascends-drop [] last (suc i) e = (last, omega arith, refl)
+ascends-drop (b ∷ bs) last (suc i) e =
+    let h = both (nat_lt last b.start && _) (ascends_from b.end bs) e in
+    let t = both (nat_lt last b.start) _ h.0 in
+    let r = ascends-drop bs b.end i h.1 in
+    (r.0, grind (arith, nat_tests, t.0, t.1, r.1), r.2)
+
+-- the block at a place: it begins past 0, and the later ones behind it
+pub record IsBlockAt (bs : List GapAckBlock) (i : ℕ) (b : GapAckBlock) : Type 0 where
+  pub past : 0 < b.start
+  pub runs : b.start ≤ b.end
+  pub before : (n : ℕ) → n < b.start → is_in_blocks (drop i bs) n ≡ false
+
+pub block-at : (bs : List GapAckBlock) (i : ℕ) (b : GapAckBlock) → ascends_from 0 bs ≡ true → i < length bs → b ≡ get_or bs i b → IsBlockAt bs i b
+block-at bs i b e lt is =
+    let d : drop i bs ≡ b ∷ drop (i + 1) bs = drop_more bs i b lt ∙ ap (λ x. x ∷ drop (i + 1) bs) (sym is) in
+    let r = ascends-drop bs 0 i e in
+    let all : ascends_from r.0 (b ∷ drop (i + 1) bs) ≡ true = subst (λ xs. ascends_from r.0 xs ≡ true) d r.2 in
+    let h = both (nat_lt r.0 b.start && _) (ascends_from b.end (drop (i + 1) bs)) all in
+    let t = both (nat_lt r.0 b.start) _ h.0 in
+    let runs : b.start ≤ b.end = grind (arith, nat_tests, t.1) in
+    record {
+      past = grind (arith, nat_tests, t.0);
+      runs = runs;
+      before = λ n lt. ap (λ xs. is_in_blocks xs n) d
+          ∙ ap (λ k. k || is_in_blocks (drop (i + 1) bs) n) (out n b lt)
+          ∙ none-up-to (drop (i + 1) bs) b.end n h.1 (omega (arith, lt, runs));
+    }
+  where
+    out : (n : ℕ) (b : GapAckBlock) → n < b.start → is_in_block n b ≡ false
+    out n b lt = grind (arith, nat_tests, lt)
+
+-- ## Blocks that are passed
+
+passed-on : (count i : ℕ) (bs : List GapAckBlock) (place next : ℕ) → place ≤ next → ArePassed count i bs place → ArePassed count i bs next
+passed-on count i bs place next le p n lt = p n (omega (arith, le, lt))
+
+one-passed : (count i : ℕ) (bs : List GapAckBlock) (b : GapAckBlock) (place : ℕ) → i < length bs → b ≡ get_or bs i b → count + b.end ≤ place
+    → ArePassed count i bs place → ArePassed count (i + 1) bs place
+one-passed count i bs b place lt is le p n far =
+    let out : is_in_block n b ≡ false = grind (arith, nat_tests, le, far) in
+    ap (λ xs. is_in_blocks xs n) (take_more bs i b lt) ∙ list_any-append (is_in_block n) (take i bs) (get_or bs i b ∷ [])
+    ∙ ap (λ k. k || is_in_blocks (get_or bs i b ∷ []) n) (p n far) ∙ or-none (is_in_block n (get_or bs i b)) ∙ ap (is_in_block n) (sym is) ∙ out
+
+split : (i n : ℕ) (bs : List GapAckBlock) → is_in_blocks bs n ≡ (is_in_blocks (take i bs) n || is_in_blocks (drop i bs) n)
+split i n bs = ap (λ xs. is_in_blocks xs n) (sym (take-append-drop i bs)) ∙ list_any-append (is_in_block n) (take i bs) (drop i bs)
+
+-- what lies behind those that are passed, and before the next one, is in none
+pub between : (count i : ℕ) (bs : List GapAckBlock) (place n : ℕ) → ArePassed count i bs place → place < count + n
+    → ((b : GapAckBlock) → i < length bs → b ≡ get_or bs i b → n < b.start) → ascends_from 0 bs ≡ true → is_in_blocks bs n ≡ false
+between count i bs place n p far next e = elim (cases_lt i (length bs)) [
+  | inl lt ↦
+      let b : GapAckBlock = get_or bs i no_block in
+      let is : b ≡ get_or bs i b = get_or_default bs i no_block b lt in
+      split i n bs ∙ ap (λ k. k || is_in_blocks (drop i bs) n) (p n far) ∙ (block-at bs i b e lt is).before n (next b lt is)
+  | inr ge ↦ split i n bs ∙ ap (λ k. k || is_in_blocks (drop i bs) n) (p n far) ∙ ap (λ xs. is_in_blocks xs n) (drop-past i bs ge)
+]
+  where
+    drop-past : (i : ℕ) (bs : List GapAckBlock) → length bs ≤ i → drop i bs ≡ []
+    drop-past zero [] le = refl
+    drop-past (suc i) [] le = refl
+    drop-past zero (b ∷ bs) le = absurd (omega (arith, le))
+    drop-past (suc i) (b ∷ bs) le = drop-past i bs (omega (arith, le))
+
+-- ## The walk
+
+pub record Walked (count : ℕ) (listed blocks : List GapAckBlock) (cs : List ChunkPayloadData) (from place i j : ℕ) : Type 0 where
+  pub on : from ≤ place
+  pub least : count ≤ place
+  pub before : (k : ℕ) → from ≤ k → k < place → returns_at count blocks cs k ≡ false
+  pub passed : ArePassed 0 i listed place
+  pub reported : ArePassed count j blocks place
+
+module _ (count : ℕ) (listed blocks : List GapAckBlock) (cs : List ChunkPayloadData) (ascend : ascends_from 0 listed ≡ true)
+    (sorted : ascends_from 0 blocks ≡ true) (covered : (k : ℕ) → can_at cs k ≡ true → is_in_blocks listed (suc k) ≡ true) where
+  unlisted : (k : ℕ) → is_in_blocks listed (suc k) ≡ false → returns_at count blocks cs k ≡ false
+  unlisted k e =
+      let none : can_at cs k ≡ false = fails (can_at cs k) (λ h. false≢true (sym e ∙ covered k h)) in
+      ap (λ b. b && not (is_reached count blocks k)) none
+
+  reported-at : (k : ℕ) → is_reached count blocks k ≡ true → returns_at count blocks cs k ≡ false
+  reported-at k e = ap (λ b. can_at cs k && not b) e ∙ and-none (can_at cs k)
+
+  module _ (from place i j : ℕ) (w : Walked count listed blocks cs from place i j) where
+    moved : (next : ℕ) → place ≤ next → ((k : ℕ) → place ≤ k → k < next → returns_at count blocks cs k ≡ false) → Walked count listed blocks cs from next i j
+    moved next le none = record {
+      on = let h = w.on in omega (arith, le, h);
+      least = let h = w.least in omega (arith, le, h);
+      before = λ k low high. elim (cases_lt k place) [ inl lt ↦ w.before k low lt | inr ge ↦ none k ge high ];
+      passed = passed-on 0 i listed place next le w.passed;
+      reported = passed-on count j blocks place next le w.reported;
+    }
+
+    module _ (b : GapAckBlock) (lt : i < length listed) (is : b ≡ get_or listed i b) where
+      -- to where the next run of what is listed begins
+      pub to-start : (next : ℕ) → place ≤ next → ((k : ℕ) → place ≤ k → k < next → suc k < b.start) → Walked count listed blocks cs from next i j
+      to-start next le near = moved next le (λ k low high. unlisted k
+          (between 0 i listed place (suc k) w.passed (omega (arith, low))
+          (λ x less same. subst (λ (y : GapAckBlock). suc k < y.start) (at-one x b same is) (near k low high)) ascend))
+        where
+          at-one : (x b : GapAckBlock) → x ≡ get_or listed i x → b ≡ get_or listed i b → b ≡ x
+          at-one x b f g = g ∙ get_or_default listed i b x lt ∙ sym f
+
+      -- behind it
+      pub past-run : b.end ≤ place → Walked count listed blocks cs from place (i + 1) j
+      past-run le = record {
+        on = w.on;
+        least = w.least;
+        before = w.before;
+        passed = one-passed 0 i listed b place lt is (omega (arith, le)) w.passed;
+        reported = w.reported;
+      }
+
+    module _ (b : GapAckBlock) (lt : j < length blocks) (is : b ≡ get_or blocks j b) where
+      pub past-block : count + b.end ≤ place → Walked count listed blocks cs from place i (j + 1)
+      past-block le = record {
+        on = w.on;
+        least = w.least;
+        before = w.before;
+        passed = w.passed;
+        reported = one-passed count j blocks b place lt is le w.reported;
+      }
+
+      -- to the end of a block
+      pub to-end : (next : ℕ) → count + b.start ≤ place + 1 → place ≤ next → next ≤ count + b.end → Walked count listed blocks cs from next i j
+      to-end next start le end = moved next le (λ k low high.
+          let there : is_in_block (suc k - count) (get_or blocks j b) ≡ true = ap (is_in_block (suc k - count)) (sym is)
+          ∙ in-block (suc k - count) b (omega (arith, start, low)) (omega (arith, high, end)) in
+          reported-at k (or-right (nat_lt k count) (is_in_blocks blocks (suc k - count)) (any-at (is_in_block (suc k - count)) blocks j b lt there)))
+
+    -- a place that no block reports
+    pub looked-at : ((b : GapAckBlock) → j < length blocks → b ≡ get_or blocks j b → place + 1 < count + b.start)
+        → returns_at count blocks cs place ≡ can_at cs place
+    looked-at next =
+        let least = w.least in
+        let out : is_in_blocks blocks (suc place - count) ≡ false = between count j blocks place (suc place - count) w.reported (omega (arith, least))
+        (λ b lt is. let n = next b lt is in omega (arith, n, least)) sorted in
+        let behind : nat_lt place count ≡ false = grind (arith, nat_tests, least) in
+        ap (λ k. can_at cs place && not (k || is_in_blocks blocks (suc place - count))) behind ∙ ap (λ k. can_at cs place && not k) out
+        ∙ and-true (can_at cs place)
+
+    pub one-on : returns_at count blocks cs place ≡ false → Walked count listed blocks cs from (place + 1) i j
+    one-on e = moved (place + 1) (omega arith) (λ k low high.
+        let same : k ≡ place = omega (arith, low, high) in ap (returns_at count blocks cs) same ∙ e)
+
+    -- where all runs are passed
+    pub ended : length listed ≤ i → (k : ℕ) → from ≤ k → returns_at count blocks cs k ≡ false
+    ended all k low = elim (cases_lt k place) [
+      | inl lt ↦ w.before k low lt
+      | inr ge ↦ unlisted k (between 0 i listed place (suc k) w.passed (omega (arith, ge)) (λ b lt is. absurd (omega (arith, lt, all))) ascend)
+    ]
+
+pub can-none : (cs : List ChunkPayloadData) (k : ℕ) → slice_get cs k ≡ None → can_at cs k ≡ false
+can-none [] zero e = refl
+can-none [] (suc k) e = refl
+can-none (d ∷ cs) zero e = absurd (none-some d (sym e))
+can-none (d ∷ cs) (suc k) e = can-none cs k e
+
+-- ## What comes back at a place
+
+module _ (count : ℕ) (blocks : List GapAckBlock) (cs : List ChunkPayloadData) (ks : List (Option (List ℕ))) (k : ℕ) where
+  pub none-at : returns_at count blocks cs k ≡ false → return_at count blocks cs ks k ≡ None
+  none-at e = ap (λ b. if b then get_or ks k None else None) e
+
+  pub some-at : returns_at count blocks cs k ≡ true → return_at count blocks cs ks k ≡ get_or ks k None
+  some-at e = ap (λ b. if b then get_or ks k None else None) e
+
+  pub none-below : k < count → return_at count blocks cs ks k ≡ None
+  none-below lt =
+      let front : nat_lt k count ≡ true = grind (arith, nat_tests, lt) in
+      none-at (ap (λ b. can_at cs k && not (b || is_in_blocks blocks (suc k - count))) front ∙ and-none (can_at cs k))
+
+-- ## The last distance
+
+further : (xs : List GapAckBlock) (m i : ℕ) (d : GapAckBlock) → ascends_from m xs ≡ true → i + 1 ≡ length xs → m ≤ (get_or xs i d).end
+further [] m i d a is = absurd (omega (arith, is))
+further (x ∷ xs) m zero d a is =
+    let h = both (nat_lt m x.start && nat_le x.start x.end) (ascends_from x.end xs) a in
+    let t = both (nat_lt m x.start) (nat_le x.start x.end) h.0 in
+    grind (arith, nat_tests, t.0, t.1)
+further (x ∷ xs) m (suc i) d a is =
+    let h = both (nat_lt m x.start && nat_le x.start x.end) (ascends_from x.end xs) a in
+    let t = both (nat_lt m x.start) (nat_le x.start x.end) h.0 in
+    let rest = further xs x.end i d h.1 (omega (arith, is)) in
+    grind (arith, nat_tests, t.0, t.1, rest)
+
+last-end-from : (bs : List GapAckBlock) (last n i : ℕ) (d : GapAckBlock) → ascends_from last bs ≡ true → i + 1 ≡ length bs → is_in_blocks bs n ≡ true
+    → n ≤ (get_or bs i d).end
+last-end-from [] last n i d e is h = absurd (false≢true h)
+last-end-from (b ∷ bs) last n zero d e is h = by bs (omega (arith, is)) h
+  where
+    by : (xs : List GapAckBlock) → length xs ≡ 0 → (is_in_block n b || is_in_blocks xs n) ≡ true → n ≤ b.end
+    by [] z f = let t = both (nat_le b.start n) (nat_le n b.end) (sym (or-none (is_in_block n b)) ∙ f) in grind (arith, nat_tests, t.1)
+    by (x ∷ xs) z f = absurd (omega (arith, z))
+last-end-from (b ∷ bs) last n (suc i) d e is h =
+    let r = both (nat_lt last b.start && nat_le b.start b.end) (ascends_from b.end bs) e in
+    by (is_in_block n b) refl h (further bs b.end i d r.1 (omega (arith, is))) (last-end-from bs b.end n i d r.1 (omega (arith, is)))
+  where
+    by : (k : Bool) → is_in_block n b ≡ k → (k || is_in_blocks bs n) ≡ true → b.end ≤ (get_or bs i d).end
+        → (is_in_blocks bs n ≡ true → n ≤ (get_or bs i d).end) → n ≤ (get_or bs i d).end
+    by true f g le ih = let t = both (nat_le b.start n) (nat_le n b.end) f in grind (arith, nat_tests, t.1, le)
+    by false f g le ih = ih g
+
+pub last-end : (bs : List GapAckBlock) (n : ℕ) (d : GapAckBlock) → ascends_from 0 bs ≡ true → is_in_blocks bs n ≡ true → n ≤ (get_or bs (length bs - 1) d).end
+last-end bs n d e h = last-end-from bs 0 n (length bs - 1) d e (some bs h) h
+  where
+    some : (xs : List GapAckBlock) → is_in_blocks xs n ≡ true → length xs - 1 + 1 ≡ length xs
+    some [] f = absurd (false≢true f)
+    some (x ∷ xs) f = omega arith
+
+-- a block from the first distance on
+pub one-block : (end n : ℕ) → 0 < n → n ≤ end → is_in_blocks ((let b : GapAckBlock = record { start = 1; end = end } in b) ∷ []) n ≡ true
+one-block end n pos le = or-left (is_in_block n (record { start = 1; end = end })) false (in-block n (record { start = 1; end = end }) (omega (arith, pos)) le)

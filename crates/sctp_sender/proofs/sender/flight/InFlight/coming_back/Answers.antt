@@ -1,0 +1,91 @@
+use Rattle.std.proofs.Common.{◌≡◌, true, List, None, get_or, refl, ap, sym, subst, ◌∙◌}
+use Rattle.sctp_data.specs.SelectiveAck.{Sack, sack_of}
+use Rattle.sctp_data.specs.declared.chunk.chunk_selective_ack.GapAckBlock.{GapAckBlock}
+use Rattle.sctp_sender.specs.Flight.{Flight, is_outdated, sack_refusal}
+use Rattle.sctp_sender.specs.Keeping.{Cover, back_each, return_at}
+use Rattle.sctp_sender.specs.Reporting.{AreSorted, ascends_from}
+use Rattle.sctp_sender.proofs.Covering.{back-is, covered-at}
+use Rattle.sctp_sender.proofs.sender.flight.InFlight.coming_back.Goals as goal
+
+pub returning-requires-clause-covered : goal.returning-requires-clause-covered
+returning-requires-clause-covered c = λ k e.
+    let f : Flight = record { queue = c.self.inside.queue; next_tsn = c.self.inside.next_tsn; acked_tsn = c.self.inside.acked_tsn } in
+    let s : Sack = sack_of c.args.sack.now in
+    let cs = f.queue.inflight.chunks in
+    let bs = c.args.kept.now.reported.items in
+    let ks = c.args.kept.now.user_data.items in
+    let inv = c.self.invariant.contiguous in
+    let v : Cover bs ks f = subst (Cover bs ks) (sym c.self.view_is) c.requires.covered in
+    covered-at f inv bs ks v k e
+
+pub returns-then-ascend-clause-ok : goal.returns-then-ascend-clause-ok
+returns-then-ascend-clause-ok c =
+    let f : Flight = record { queue = c.self.inside.queue; next_tsn = c.self.inside.next_tsn; acked_tsn = c.self.inside.acked_tsn } in
+    let s : Sack = sack_of c.args.sack.now in
+    let cs = f.queue.inflight.chunks in
+    let bs = c.args.kept.now.reported.items in
+    let ks = c.args.kept.now.user_data.items in
+    let inv = c.self.invariant.contiguous in
+    let v : Cover bs ks f = subst (Cover bs ks) (sym c.self.view_is) c.requires.covered in
+    let none = ap (sack_refusal s) c.self.view_is ∙ c.requires.taken in
+    let current = ap (is_outdated s) c.self.view_is ∙ c.requires.current in
+    let fits = c.distance-count.ensures.to_fits in
+    let rises : ascends_from 0 s.gap_ack_blocks ≡ true = ap (ascends_from 0) (sym c.deref.ensures.value) ∙ sym c.ascend.ensures.answer ∙ c.if-ascend.true in
+    let sorted = c.deref-then-ascend.result.now in
+    let are : AreSorted sorted s.gap_ack_blocks = subst (λ (xs : List GapAckBlock). AreSorted xs s.gap_ack_blocks) (sym c.deref-then-ascend.ensures.value)
+    (record { ascend = rises; same = λ n pos. refl }) in
+    let dense = back_each s cs ks in
+    rw (← c.self.view_is) (c.returning.ensures.ok dense (λ k. subst (λ n. get_or dense k None ≡ return_at n sorted cs ks k) (sym c.distance-count.ensures.value)
+    (back-is f inv s fits none current sorted are ks k)))
+
+pub returns-then-ascend-clause-idle : goal.returns-then-ascend-clause-idle
+returns-then-ascend-clause-idle c =
+    let f : Flight = record { queue = c.self.inside.queue; next_tsn = c.self.inside.next_tsn; acked_tsn = c.self.inside.acked_tsn } in
+    let s : Sack = sack_of c.args.sack.now in
+    let cs = f.queue.inflight.chunks in
+    let bs = c.args.kept.now.reported.items in
+    let ks = c.args.kept.now.user_data.items in
+    let inv = c.self.invariant.contiguous in
+    let v : Cover bs ks f = subst (Cover bs ks) (sym c.self.view_is) c.requires.covered in
+    let none = ap (sack_refusal s) c.self.view_is ∙ c.requires.taken in
+    let current = ap (is_outdated s) c.self.view_is ∙ c.requires.current in
+    let fits = c.distance-count.ensures.to_fits in
+    let rises : ascends_from 0 s.gap_ack_blocks ≡ true = ap (ascends_from 0) (sym c.deref.ensures.value) ∙ sym c.ascend.ensures.answer ∙ c.if-ascend.true in
+    let sorted = c.deref-then-ascend.result.now in
+    let are : AreSorted sorted s.gap_ack_blocks = subst (λ (xs : List GapAckBlock). AreSorted xs s.gap_ack_blocks) (sym c.deref-then-ascend.ensures.value)
+    (record { ascend = rises; same = λ n pos. refl }) in
+    let dense = back_each s cs ks in
+    rw (← c.self.view_is)
+    (λ _ none-back. c.returning.ensures.idle dense (λ k. subst (λ n. get_or dense k None ≡ return_at n sorted cs ks k) (sym c.distance-count.ensures.value)
+    (back-is f inv s fits none current sorted are ks k)) none-back)
+
+pub returning-requires-2-clause-covered : goal.returning-requires-2-clause-covered
+returning-requires-2-clause-covered c = λ k e.
+    let f : Flight = record { queue = c.self.inside.queue; next_tsn = c.self.inside.next_tsn; acked_tsn = c.self.inside.acked_tsn } in
+    let s : Sack = sack_of c.args.sack.now in
+    let cs = f.queue.inflight.chunks in
+    let bs = c.args.kept.now.reported.items in
+    let ks = c.args.kept.now.user_data.items in
+    let inv = c.self.invariant.contiguous in
+    let v : Cover bs ks f = subst (Cover bs ks) (sym c.self.view_is) c.requires.covered in
+    covered-at f inv bs ks v k e
+
+pub returns-clause-ok : goal.returns-clause-ok
+returns-clause-ok c =
+    let f : Flight = record { queue = c.self.inside.queue; next_tsn = c.self.inside.next_tsn; acked_tsn = c.self.inside.acked_tsn } in
+    let s : Sack = sack_of c.args.sack.now in
+    let cs = f.queue.inflight.chunks in
+    let bs = c.args.kept.now.reported.items in
+    let ks = c.args.kept.now.user_data.items in
+    let inv = c.self.invariant.contiguous in
+    let v : Cover bs ks f = subst (Cover bs ks) (sym c.self.view_is) c.requires.covered in
+    let none = ap (sack_refusal s) c.self.view_is ∙ c.requires.taken in
+    let current = ap (is_outdated s) c.self.view_is ∙ c.requires.current in
+    let fits = c.distance-count.ensures.to_fits in
+    let sorted = c.deref-3.result.now in
+    let are : AreSorted sorted s.gap_ack_blocks = subst (λ (xs : List GapAckBlock). AreSorted xs s.gap_ack_blocks) (sym c.deref-3.ensures.value)
+    (subst (AreSorted c.in_ok-sorted.sorted.items) c.deref-2.ensures.value c.in_ok-sorted.ensures.ok) in
+    let dense = back_each s cs ks in
+    rw (← c.self.view_is)
+    (c.returning-2.ensures.ok dense (λ k. subst (λ n. get_or dense k None ≡ return_at n sorted cs ks k) (sym c.distance-count.ensures.value)
+    (back-is f inv s fits none current sorted are ks k)))

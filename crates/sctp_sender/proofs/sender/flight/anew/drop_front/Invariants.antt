@@ -1,0 +1,12 @@
+use Rattle.std.proofs.Common.{◌≡◌, drop}
+use Rattle.std.specs.VecDeque.{deque_capacity}
+use Rattle.sctp_sender.proofs.sender.flight.anew.drop_front.Given as goal
+
+abbrev pub invariant-loop-left : goal.invariant-loop-left
+invariant-loop-left l = record {
+  rest : drop l.left l.kept.items ≡ drop l.initial.left l.initial.kept.items;
+  capacity : deque_capacity l.kept ≡ deque_capacity l.initial.kept;
+}
+
+abbrev pub decreases-loop-left : goal.decreases-loop-left
+decreases-loop-left l = l.left

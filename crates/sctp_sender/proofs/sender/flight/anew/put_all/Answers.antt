@@ -1,0 +1,23 @@
+use Rattle.std.proofs.Common.{◌≡◌, ◌++◌, ◌∷◌, [], List, length, length-append, get_or, ap, sym, ◌∙◌, arith}
+use Rattle.std.proofs.lemmas.List.{get_or_append_left}
+use Rattle.sctp_sender.specs.declared.sender.flight.taking_back.PlacedData.{PlacedData}
+use Rattle.sctp_sender.specs.Keeping.{put_all}
+use Rattle.sctp_sender.proofs.AnewKept.{put-last}
+use Rattle.sctp_sender.proofs.sender.flight.anew.put_all.Goals as goal
+
+pub loop-one-preserved : goal.loop-one-preserved
+loop-one-preserved c =
+    let bs = c.pop.new.self.items in
+    let b : PlacedData = c.in-Some.one in
+    let inv = c.loop-one.invariant in
+    let all : c.loop-one.chunks.items ≡ bs ++ b ∷ [] = c.in-Some.ensures.items in
+    let n = ap length all in
+    let m = length-append bs (b ∷ []) in
+    record {
+      goes_on = ap (put_all bs) c.put_at.ensures.items ∙ sym (put-last bs b c.loop-one.kept.items)
+          ∙ ap (λ xs. put_all xs c.loop-one.kept.items) (sym all) ∙ inv.goes_on;
+      room = λ k d less.
+          let same = ap (λ (x : PlacedData). x.place) (ap (λ (xs : List PlacedData). get_or xs k d) all ∙ get_or_append_left bs (b ∷ []) d k less) in
+          let h = inv.room k d (omega (arith, n, m, less)) in
+          omega (arith, h, same, c.put_at.ensures.capacity);
+    }

@@ -1,0 +1,14 @@
+use Rattle.std.proofs.Common.{◌≡◌, ◌<◌, length}
+use Rattle.std.specs.List.{All}
+use Rattle.std.specs.VecDeque.{deque_capacity}
+use Rattle.sctp_sender.specs.Keeping.{put_all}
+use Rattle.sctp_sender.proofs.sender.flight.anew.put_all.Given as goal
+
+abbrev pub invariant-loop-one : goal.invariant-loop-one
+invariant-loop-one l = record {
+  goes_on : put_all l.chunks.items l.kept.items ≡ put_all l.initial.chunks.items l.initial.kept.items;
+  room : All (λ b. b.place < deque_capacity l.kept) l.chunks.items;
+}
+
+abbrev pub decreases-loop-one : goal.decreases-loop-one
+decreases-loop-one l = length l.chunks.items

@@ -1,0 +1,14 @@
+use Rattle.std.proofs.Common.{◌≡◌, ◌+◌, ◌<◌, ℕ, length, take}
+use Rattle.std.specs.Prelude.{slice_index_or}
+use Rattle.std.specs.List.{All, list_any}
+use Rattle.sctp_data.specs.declared.chunk.chunk_payload_data.ChunkPayloadData.{ChunkPayloadData}
+use Rattle.sctp_sender.specs.Keeping.{IsOwn, is_at}
+use Rattle.sctp_sender.specs.Telling.{is_answered}
+use Rattle.sctp_sender.proofs.sender.flight.anew.shared_each.Given as goal
+
+abbrev pub invariant-loop-one : goal.invariant-loop-one
+invariant-loop-one l = record {
+  own : All (IsOwn l.count l.queue.inflight.chunks) l.anew.items;
+  each : (k : ℕ) (d : ChunkPayloadData) → l.count + k < length l.queue.inflight.chunks → list_any (is_at k) l.anew.items
+      ≡ is_answered (take l.one-index l.released) (slice_index_or l.queue.inflight.chunks (l.count + k) d);
+}

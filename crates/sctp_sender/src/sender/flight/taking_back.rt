@@ -1,0 +1,234 @@
+//! Which chunks in flight a SACK takes back, found by blocks (RFC 4960 6.2.1 D iv).
+
+ghost use Rattle.std.specs.Prelude.{◌≡◌, ℕ, List, Option, ◌∷◌, [], suc, ◌+◌, ◌<◌, ◌≤◌, ◌^◌, None, true, false, IfOk, IfErr, IsOk, slice_index_or};
+ghost use Rattle.sctp_data.specs.SelectiveAck.{sack_of};
+ghost use Rattle.sctp_outbound.specs.payload_queue.Blocks.{is_in_blocks};
+ghost use Rattle.sctp_sender.specs.declared.sender.refusal.SenderRefusal.TheVariants.{OutOfMemory};
+ghost use Rattle.sctp_sender.specs.Keeping.{ArePassed, Cover, back_each, can_at, kept_after, placed, return_at, returns_at};
+ghost use Rattle.sctp_sender.specs.Reporting.{AreSorted, ascends_from};
+
+use super::InFlight;
+use super::keeping::{Kept, kept_at, share};
+use super::sorting::{ascend, sorted_blocks};
+use crate::sender::refusal::SenderRefusal;
+use bytes::Bytes;
+use sctp_data::chunk::chunk_selective_ack::{ChunkSelectiveAck, GapAckBlock};
+use sctp_outbound::outbound_queue::OutboundQueue;
+use sctp_serial::serial::distance;
+use sctp_serial::turns::Turns;
+use sctp_stream::stream_numbers::put;
+use std::alloc::Global;
+
+/// User data that is kept or comes back, with its place.
+#[derive(Drop)]
+pub struct PlacedData {
+    /// The place of its chunk in flight, from 0.
+    pub place: usize,
+    /// The user data of the chunk.
+    pub user_data: Bytes,
+}
+
+impl InFlight {
+    ghost use Rattle.sctp_sender.specs.Flight.{after_sack, is_outdated, sack_refusal};
+
+    /// What comes back by a SACK, in order of TSNs. It looks at each block of it and of what was reported, and at each place of these
+    /// that it does not report.
+    /// Precondition: `is_current` answers true. Refuses only for memory, and takes none where nothing comes back and the blocks
+    /// ascend.
+    pub fn coming_back(
+        &self,
+        alloc: Global,
+        sack: &ChunkSelectiveAck,
+        kept: &Kept,
+    ) -> Result<Vec<PlacedData>, SenderRefusal>
+        requires taken { sack_refusal (sack_of sack.now) self.now ≡ None }
+        requires current { is_outdated (sack_of sack.now) self.now ≡ false }
+        requires covered { Cover kept.now.reported.items kept.now.user_data.items self.now }
+        ensures ok { IfOk result (λ backs. backs.items ≡ placed 0 (back_each (sack_of sack.now)
+            self.now.queue.inflight.chunks kept.now.user_data.items)) }
+        ensures memory { IfErr result (λ e. e ≡ OutOfMemory) }
+        ensures idle { ascends_from 0 (sack_of sack.now).gap_ack_blocks ≡ true
+            → placed 0 (back_each (sack_of sack.now)
+            self.now.queue.inflight.chunks kept.now.user_data.items) ≡ [] → IsOk result }
+    {
+        let count = distance(self.acked_tsn, sack.cumulative_tsn_ack) as usize;
+        if ascend(&sack.gap_ack_blocks, &mut Turns::new()) {
+            return returning(alloc, &self.queue, kept, count, &sack.gap_ack_blocks);
+        }
+        let sorted = sorted_blocks(alloc, &sack.gap_ack_blocks, &mut Turns::new())?;
+        returning(alloc, &self.queue, kept, count, &sorted)
+    }
+
+    // Blocks that report, after a SACK, each chunk in flight that can come back then: its own, which are these in ascending order, but
+    // where some chunk could come back by it, which `take_back` then did not do before, one up to the last distance.
+    pub(super) fn reported_after(
+        &self,
+        alloc: Global,
+        sack: &ChunkSelectiveAck,
+        kept: &Kept,
+        sorted: Vec<GapAckBlock>,
+    ) -> Result<Vec<GapAckBlock>, SenderRefusal>
+        requires taken { sack_refusal (sack_of sack.now) self.now ≡ None }
+        requires current { is_outdated (sack_of sack.now) self.now ≡ false }
+        requires covered { Cover kept.now.reported.items kept.now.user_data.items self.now }
+        requires sorted { AreSorted sorted.items (sack_of sack.now).gap_ack_blocks }
+        ensures covered { IfOk result (λ after. Cover after.items
+            (kept_after (sack_of sack.now) self.now kept.now.user_data.items)
+            (after_sack (sack_of sack.now) self.now)) }
+        ensures memory { IfErr result (λ e. e ≡ OutOfMemory) }
+    {
+        let count = distance(self.acked_tsn, sack.cumulative_tsn_ack) as usize;
+        let mut at = Reached {
+            place: count,
+            listed: 0,
+            block: 0,
+        };
+        if !next_return(&self.queue, &kept.reported, count, &sorted, &mut at) {
+            return Ok(sorted);
+        }
+        let last = last_end(&sorted).max(last_end(&kept.reported));
+        one_block(alloc, last.max(1))
+    }
+}
+
+// What comes back, of the places from `count` on that the blocks do not report.
+fn returning(
+    alloc: Global,
+    queue: &OutboundQueue,
+    kept: &Kept,
+    count: usize,
+    blocks: &[GapAckBlock],
+) -> Result<Vec<PlacedData>, SenderRefusal>
+    requires ascend { ascends_from 0 kept.now.reported.items ≡ true }
+    requires sorted { ascends_from 0 blocks.now ≡ true }
+    requires few { count < 2 ^ 31 }
+    requires covered { (k : ℕ) → can_at queue.now.inflight.chunks k ≡ true
+        → is_in_blocks kept.now.reported.items (suc k) ≡ true }
+    ensures ok { (bs : List (Option (List ℕ))) → ((k : ℕ) → slice_index_or bs k None
+        ≡ return_at count blocks.now queue.now.inflight.chunks kept.now.user_data.items k)
+        → IfOk result (λ backs. backs.items ≡ placed 0 bs) }
+    ensures memory { IfErr result (λ e. e ≡ OutOfMemory) }
+    ensures idle { (bs : List (Option (List ℕ))) → ((k : ℕ) → slice_index_or bs k None
+        ≡ return_at count blocks.now queue.now.inflight.chunks kept.now.user_data.items k)
+        → placed 0 bs ≡ [] → IsOk result }
+{
+    let mut backs = Vec::new(alloc);
+    let mut at = Reached {
+        place: count,
+        listed: 0,
+        block: 0,
+    };
+    while next_return(queue, &kept.reported, count, blocks, &mut at) {
+        let place = at.place;
+        at.place += 1;
+        let Some(bytes) = kept_at(&kept.user_data, place) else {
+            continue;
+        };
+        let user_data = share(bytes)?;
+        if backs.reserve(1).is_err() {
+            return Err(SenderRefusal::OutOfMemory);
+        }
+        put(&mut backs, PlacedData { place, user_data });
+    }
+    Ok(backs)
+}
+
+/// How far what is in flight was looked through.
+#[derive(Clone, Copy)]
+pub(super) struct Reached {
+    /// The place that is looked at next.
+    pub place: usize,
+    /// How many blocks of what was reported lie before it.
+    pub listed: usize,
+    /// How many blocks of the SACK lie before it.
+    pub block: usize,
+}
+
+/// Goes on to the next place of which something comes back, where `count` places are reported cumulatively; `listed` are blocks
+/// that report each chunk in flight that can come back. Answers whether there is one. It looks at each block, and at each place
+/// that is listed and that the blocks do not report.
+pub(super) fn next_return(
+    queue: &OutboundQueue,
+    listed: &[GapAckBlock],
+    count: usize,
+    blocks: &[GapAckBlock],
+    at: &mut Reached,
+) -> bool
+    requires ascend { ascends_from 0 listed.now ≡ true }
+    requires sorted { ascends_from 0 blocks.now ≡ true }
+    requires few { count < 2 ^ 31 }
+    requires least { count ≤ at.old.place }
+    requires covered { (k : ℕ) → can_at queue.now.inflight.chunks k ≡ true
+        → is_in_blocks listed.now (suc k) ≡ true }
+    requires passed { ArePassed 0 at.old.listed listed.now at.old.place }
+    requires reported { ArePassed count at.old.block blocks.now at.old.place }
+    ensures on { at.old.place ≤ at.new.place }
+    ensures small { result ≡ true → at.new.place < 2 ^ 16 }
+    ensures before { (k : ℕ) → at.old.place ≤ k → k < at.new.place
+        → returns_at count blocks.now queue.now.inflight.chunks k ≡ false }
+    ensures found { result ≡ true
+        → returns_at count blocks.now queue.now.inflight.chunks at.new.place ≡ true }
+    ensures none { result ≡ false → (k : ℕ) → at.old.place ≤ k
+        → returns_at count blocks.now queue.now.inflight.chunks k ≡ false }
+    ensures passed { ArePassed 0 at.new.listed listed.now at.new.place }
+    ensures reported { ArePassed count at.new.block blocks.now at.new.place }
+{
+    while at.listed < listed.len() {
+        let run = listed[at.listed];
+        at.place = at.place.max(run.start as usize - 1);
+        if at.place >= run.end as usize {
+            at.listed += 1;
+            continue;
+        }
+        if at.block < blocks.len() {
+            let block = blocks[at.block];
+            if count + block.end as usize <= at.place {
+                at.block += 1;
+                continue;
+            }
+            if count + block.start as usize <= at.place + 1 {
+                at.place = count + block.end as usize;
+                continue;
+            }
+        }
+        if can_come_back(queue, at.place) {
+            return true;
+        }
+        at.place += 1;
+    }
+    false
+}
+
+// Whether the chunk at a place is acknowledged, and its message not abandoned.
+fn can_come_back(queue: &OutboundQueue, place: usize) -> bool
+    ensures { result ≡ can_at queue.now.inflight.chunks place }
+{
+    let Some(chunk) = queue.inflight_at(place) else {
+        return false;
+    };
+    chunk.acked && !chunk.abandoned
+}
+
+// The last distance that blocks in ascending order report, 0 where they report none.
+fn last_end(blocks: &[GapAckBlock]) -> u16
+    ensures { ascends_from 0 blocks.now ≡ true
+        → (n : ℕ) → is_in_blocks blocks.now n ≡ true → n ≤ result }
+{
+    if blocks.is_empty() {
+        return 0;
+    }
+    blocks[blocks.len() - 1].end
+}
+
+// A block from the first distance to this one.
+fn one_block(alloc: Global, end: u16) -> Result<Vec<GapAckBlock>, SenderRefusal>
+    ensures ok { IfOk result (λ blocks. blocks.items ≡ record { start = 1; end = end } ∷ []) }
+    ensures memory { IfErr result (λ e. e ≡ OutOfMemory) }
+{
+    let mut blocks = Vec::new(alloc);
+    if blocks.reserve(1).is_err() {
+        return Err(SenderRefusal::OutOfMemory);
+    }
+    put(&mut blocks, GapAckBlock { start: 1, end });
+    Ok(blocks)
+}
