@@ -5,7 +5,7 @@
 
 A CAPTURE is a file that both read, or, where its name ends in .hex, lines of hex text, which are wrapped into a capture of link type 248 first.
 PROGRAM is crates/sctpdump/out/sctpdump unless told otherwise (`rt run` in crates/sctpdump makes it). tshark is found on the PATH. Prints a line for
-each packet whose fields differ, with both values, and one line for each capture; the exit status is 0 where nothing differs. docs/SCTPDUMP.md says
+each packet whose fields differ, with both values, and one line for each capture; the exit status is 0 where nothing differs. docs/EVIDENCE.md says
 which fields are compared, and which differences are known.
 """
 import json

@@ -1,5 +1,5 @@
 #!/usr/bin/env python3
-"""Reckons how long `rt ci` takes, from the processor times in docs/GATE.md and from the order in which rt takes the crates.
+"""Reckons how long `rt ci` takes, from the processor times in tools/gate_times.txt and from the order in which rt takes the crates.
 
     python3 tools/gate_time.py [PROCESSORS [MEMORY]]
 
@@ -23,9 +23,9 @@ SHARE = {1: 0.8, 2: 0.8, 3: 0.9}
 ROW = re.compile(r"(\w+) +\d+" + r"(?: +([\d.]+|-))?" * 3 + "$")
 
 
-def times_of(page):
+def times_of(path):
     """Returns for each crate of the table the processor minutes of its proof, its tests and its wrong bodies."""
-    with open(page, encoding="utf-8") as it:
+    with open(path, encoding="utf-8") as it:
         return {row[1]: [float((minutes or "").strip("-") or 0) for minutes in row.groups()[1:]] for row in map(ROW.match, it) if row}
 
 
@@ -57,14 +57,14 @@ def main():
     rt.processors, rt.free = lambda: processors, lambda: memory * 1e9
     os.environ.pop("RT_JOBS", None)
     crates = sorted(rt.rtlib.crates_below(os.getcwd()), key=lambda it: len(it.below()))
-    times, ended = times_of("docs/GATE.md"), {}
+    times, ended = times_of("tools/gate_times.txt"), {}
     for name in sorted({it.name for it in crates} - {*times}):
-        print(f"{name}: no row in docs/GATE.md")
+        print(f"{name}: no row in tools/gate_times.txt")
     tasks, begin = tasks_of(rt, crates, times, processors, ended), time.monotonic()
     rt.in_lanes(tasks)
     ended = {it: (at - begin) / MINUTE for it, at in ended.items()}
     if not any(part != "edits" for _, part in ended):
-        sys.exit("gate_time.py: docs/GATE.md says of no crate how long its proof takes")
+        sys.exit("gate_time.py: tools/gate_times.txt says of no crate how long its proof takes")
     last = sorted(ended, key=lambda it: -ended[it])
     print(f"{sum(map(sum, times.values())) * SHARE.get(processors, 1):.0f} min of processor time")
     print(f"all proved after {max(ended[it] for it in last if it[1] != 'edits'):.0f} min, the last task ends after {ended[last[0]]:.0f}")

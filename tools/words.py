@@ -3,11 +3,11 @@
 
     python3 tools/words.py [--all]
 
-run at the top of the repository, by hand: it is no part of the gate. Retired words are those of the last table of docs/GLOSSARY.md.
-The docs are all pages (*.md); what stands in code fences or between backticks is no prose, and is passed over for words. With --all
-sources (*.rt, *.antt, *.edit, lists of wrong bodies) are looked through too, names in their code included: half_sent, HalfSent.
-The type `Loose` and the kit's module `sound` are passed over. Paths that begin with a folder of this repository, and links, must name a file or a folder,
-from the top or beside the page. The exit status is 1 where a retired word or a name of nothing is found.
+run at the top of the repository, by hand: it is no part of the gate. Retired words are those of tools/retired_words.txt: each line
+has some, and the word in their place. The docs are all pages (*.md); what stands in code fences or between backticks is no prose, and is passed over
+for words. With --all sources (*.rt, *.antt, *.edit, lists of wrong bodies) are looked through too, names in their code included: half_sent, HalfSent.
+The type `Loose`, the kit's module `sound` and its step `heard` are passed over. Paths that begin with a folder of this repository, and links, must
+name a file or a folder, from the top or beside the page. The exit status is 1 where a retired word or a name of nothing is found.
 """
 
 import re
@@ -15,10 +15,10 @@ import subprocess
 import sys
 from pathlib import Path
 
-GLOSSARY = "docs/GLOSSARY.md"
+RETIRED = "tools/retired_words.txt"
 FENCE = re.compile(r"^```.*?^```", re.M | re.S)
 SPAN = re.compile(r"`[^`\n]*`")
-FIXED = re.compile(r"\bLoose\b|^use sound\.", re.M)
+FIXED = re.compile(r"\bLoose\b|^use sound\.|^use denote\.Steps\..*|\bheard !", re.M)
 LINK = re.compile(r"\]\(([^)#\s]+)(#[^)\s]*)?\)")
 PATH = re.compile(r"(?<![\w/.])(?:crates|docs|tools|examples)/[\w./-]*\w")
 
@@ -36,9 +36,8 @@ def pages():
 
 def retired():
     """Retired words, and the word used in the place of each."""
-    table = Path(GLOSSARY).read_text().split("## Retired words", 1)[1]
-    rows = re.findall(r"^\| ([^|]+) \| ([^|]+) \|$", table, re.M)
-    return [(word, other) for words, other in rows[1:] for word in words.split(", ")]
+    rows = [line.split(": ") for line in Path(RETIRED).read_text().splitlines()]
+    return [(word, other) for words, other in rows for word in words.split(", ")]
 
 
 def pattern(word):
@@ -52,11 +51,8 @@ def blank(match):
 
 
 def prose(name):
-    """A page without code, and without the table of retired words, line for line."""
-    text = Path(name).read_text()
-    if name == GLOSSARY:
-        text = text.split("## Retired words", 1)[0]
-    return SPAN.sub(blank, FENCE.sub(blank, text))
+    """A page without code, line for line."""
+    return SPAN.sub(blank, FENCE.sub(blank, Path(name).read_text()))
 
 
 def line_of(text, place):
