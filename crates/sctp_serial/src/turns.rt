@@ -15,8 +15,8 @@ enum Seen {
 
 /// How many turns were taken: a whole number in contracts, and no bytes at run time.
 ///
-/// Only `tick` raises it. A turn is one look: at a held chunk, or at what else the counting call says (a name, a stream, a TSN that
-/// leaves). Insertions, removals and the TSN of the first chunk take none.
+/// Only `tick` raises it. A turn is one look at whatever the counting call says: a block, a TSN that leaves, a chunk, a stream's
+/// name. Insertions, removals and the TSN of the first chunk take none.
 #[derive(Drop)]
 pub struct Turns {
     seen: Snapshot<Seen>,

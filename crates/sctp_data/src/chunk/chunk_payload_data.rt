@@ -137,26 +137,28 @@ pub struct ChunkPayloadData {
     /// How many acknowledgements reported this chunk missing: at the third the
     /// layer above sends it again at once, and need not count on (RFC 4960 7.2.4).
     pub miss_indicator: u8,
-
-    /// One number for all fragments of a message, by which they are found when it is abandoned.
-    pub message_id: u64,
     /// Whether the message was abandoned: the chunk is not sent again, and a FORWARD-TSN is to pass it (RFC 3758 3.5).
     pub abandoned: bool,
-
-    /// The moment at which the chunk was sent, in nanoseconds, as it was noted
-    /// last; None before it was put in flight.
-    pub since: Option<u64>,
-    /// How far sending is to go, and its value: sendings after the first, or milliseconds. None counts as reliable.
-    pub reliability: Option<(ReliabilityType, u32)>,
-    /// The moment at which the lifetime of a timed message ends, in nanoseconds;
-    /// None before it was started, and where that moment passes the greatest u64.
-    pub deadline: Option<u64>,
-    /// How often this chunk was sent.
-    pub nsent: u32,
     /// Whether the chunk is to be sent again, as after the retransmission timer ran out while
     /// it was in flight (RFC 4960 6.3.3). An acknowledgement clears it, and so does abandoning.
     pub retransmit: bool,
+    /// How often this chunk was sent.
+    pub nsent: u32,
+
+    /// One number for all fragments of a message, by which they are found when it is abandoned.
+    pub message_id: u64,
+    /// The moment at which the chunk was sent, in nanoseconds, as it was noted
+    /// last; None before it was put in flight.
+    pub since: Option<u64>,
+    /// The moment at which the lifetime of a timed message ends, in nanoseconds;
+    /// None before it was started, and where that moment passes the greatest u64.
+    pub deadline: Option<u64>,
+    /// How far sending is to go, and its value: sendings after the first, or milliseconds. None counts as reliable.
+    pub reliability: Option<(ReliabilityType, u32)>,
 }
+
+// Fields lie in the order of the source: in this one a chunk takes no more. Queues hold many.
+const _: () = prove!(size_of::<ChunkPayloadData>() == 120);
 
 impl fmt::Display for PayloadProtocolIdentifier {
     ghost output = { λ p. Some (payload_type_name p) };

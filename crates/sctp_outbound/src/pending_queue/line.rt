@@ -19,7 +19,7 @@ use std::alloc::Global;
 use std::collections::VecDeque;
 use std::marker::Model;
 
-// For how many chunks an empty line keeps memory, where its room does not ask for more: 139,264 bytes.
+// For how many chunks an empty line keeps memory, where its room does not ask for more: 122,880 bytes.
 const MOST_KEPT: usize = 1024;
 
 /// Chunks in the order in which they came. The next `room` pushes take no memory.

@@ -48,7 +48,7 @@ impl Sender {
     /// looked for: those of `acked`; `OutOfMemory`; `QueueFull`, where the bytes that wait, are in flight and come back would be
     /// more than the greatest usize. The sender is as it was then.
     /// It looks at each block of the SACK and of the one taken before it, and at each chunk that the latter reports in blocks and the
-    /// SACK does not.
+    /// SACK does not; where `acked` took a SACK in between without this call, once at each place up to the last that was reported.
     pub fn take_back(&mut self, sack: &ChunkSelectiveAck) -> Result<Vec<TakenBack>, SenderRefusal>
         ensures answer { IfOk result (λ r. r.items ≡ taken_back_by (sack_of sack.now) self.old) }
         ensures ok { OnOk result (self.new ≡ after_take_back (sack_of sack.now) self.old) }
