@@ -181,18 +181,17 @@ def within(section, own):
 
 
 def rules():
-    """Prints the table of RULES; ends with status 1 where one of them names what isn't there."""
+    """Prints RULES, each with its sections, definitions, calls and tests; ends with status 1 where one of them names what isn't there."""
     functions = {it.title() for it in Sources().functions}
     missing = [f"{crate} {word}" for rule in RULES for crate, module, word in rule[2] if not definition_at(crate, module, word)]
     missing += [title for rule in RULES for title in rule[3] + rule[4] if title not in functions]
     if missing:
         sys.exit("rfc.py: RULES names what is not there: " + ", ".join(missing))
-    print("| rule | RFC | definition | call | test |\n|---|---|---|---|---|")
     for rule, section, definitions, calls, tests in RULES:
         words = ", ".join(f"`{crate}::{word}`" for crate, _, word in definitions)
         named = ", ".join(f"`{it.partition('::')[2]}`" for it in calls)
         tested = ", ".join(f"`{it}`" for it in tests)
-        print(f"| {rule} | {section} | {words} | {named} | {tested} |")
+        print(f"- {rule} ({section}): {words}; {named}; {tested}")
 
 
 def not_cited(citations):
@@ -209,8 +208,8 @@ def not_cited(citations):
 def page():
     print("# Which rule of an RFC stands where\n")
     print("Made by `python3 tools/rfc.py --page`. `python3 tools/rfc.py` lists the sections that comments cite, and those that none cites;")
-    print("`python3 tools/rfc.py RFC SECTION` the calls and definitions that cite one, with clauses and tests. RFC 9260 replaced RFC 4960; the")
-    print("numbers are those of RFC 4960.\n")
+    print("`python3 tools/rfc.py RFC SECTION` the calls and definitions that cite one, with clauses and tests. The numbers are those of RFC 4960,")
+    print("which RFC 9260 replaced. Each rule stands with its RFC and sections, definitions; calls; tests.\n")
     rules()
 
 
