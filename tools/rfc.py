@@ -191,7 +191,7 @@ def rules():
         words = ", ".join(f"`{crate}::{word}`" for crate, _, word in definitions)
         named = ", ".join(f"`{it.partition('::')[2]}`" for it in calls)
         tested = ", ".join(f"`{it}`" for it in tests)
-        print(f"- {rule} ({section}): {words}; {named}; {tested}")
+        print(f"- {rule} ({section.removeprefix('4960 ') if section.startswith('4960 ') else 'RFC ' + section}): {words}; {named}; {tested}")
 
 
 def not_cited(citations):
@@ -207,9 +207,9 @@ def not_cited(citations):
 
 def page():
     print("# Which rule of an RFC stands where\n")
-    print("Made by `python3 tools/rfc.py --page`. `python3 tools/rfc.py` lists the sections that comments cite, and those that none cites;")
-    print("`python3 tools/rfc.py RFC SECTION` the calls and definitions that cite one, with clauses and tests. The numbers are those of RFC 4960,")
-    print("which RFC 9260 replaced. Each rule stands with its RFC and sections, definitions; calls; tests.\n")
+    print("Made by `python3 tools/rfc.py --page`; without `--page` it lists the sections that comments cite, and those that none cites, with")
+    print("`RFC SECTION` the calls and definitions that cite one. Sections are of RFC 4960, which RFC 9260 replaced, or the one named. Behind each rule")
+    print("stand definitions; calls; tests.\n")
     rules()
 
 
