@@ -207,9 +207,9 @@ def not_cited(citations):
 
 def page():
     print("# Which rule of an RFC stands where\n")
-    print("Made by `python3 tools/rfc.py --page`; without `--page` it lists the sections that comments cite, and those that none cites, with")
-    print("`RFC SECTION` the calls and definitions that cite one. Sections are of RFC 4960, which RFC 9260 replaced, or the one named. Behind each rule")
-    print("stand definitions; calls; tests.\n")
+    print("Made by `python3 tools/rfc.py --page`; without `--page` it lists the sections that comments cite, and those that none cites; with")
+    print("`RFC SECTION` what cites one. Sections are of RFC 4960, which RFC 9260 replaced, or of the one named. Behind each rule: definitions;")
+    print("calls; tests.\n")
     rules()
 
 
