@@ -191,7 +191,8 @@ def rules():
         words = ", ".join(f"`{crate}::{word}`" for crate, _, word in definitions)
         named = ", ".join(f"`{it.partition('::')[2]}`" for it in calls)
         tested = ", ".join(f"`{it}`" for it in tests)
-        print(f"- {rule} ({section.removeprefix('4960 ') if section.startswith('4960 ') else 'RFC ' + section}): {words}; {named}; {tested}")
+        place = section[5:] if section.startswith("4960 ") else f"RFC {section}"
+        print(f"- {rule} ({place}): {words}; {named}; {tested}")
 
 
 def not_cited(citations):
