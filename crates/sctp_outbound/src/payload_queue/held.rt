@@ -1,6 +1,7 @@
-//! Held chunks, in one deque. `look`, `mark` and `take_back` take a turn; `front_tsn` and the edits take none.
+//! Held chunks: a slab of them, and a deque of their TSNs and keys in order, so that a search reads TSNs alone and an edit moves no chunk.
+//! `look`, `tsn_at`, `mark` and `take_back` take a turn; `at`, `front_tsn`, `last_tsn` and the edits take none.
 
-ghost use Rattle.std.specs.Prelude.{◌≡◌, ◌==◌, ◌+◌, ◌-◌, ◌<◌, ◌≤◌, [], ◌∷◌, length, max, min, insert, remove, slice_get, slice_index_or, slice_set, OnOk, OnErr, IfSome, IfNone, IsOk, IsOkUnless};
+ghost use Rattle.std.specs.Prelude.{◌≡◌, ◌==◌, ◌+◌, ◌-◌, ◌<◌, ◌≤◌, [], ◌∷◌, false, length, max, min, insert, remove, slice_get, slice_index_or, slice_set, OnOk, OnErr, IfSome, IfNone, IsOk, IsOkUnless};
 ghost use Rattle.std.specs.Option.{option_map};
 ghost use Rattle.sctp_base.specs.declared.error.Error.TheVariants.{ErrOutOfMemory};
 ghost use Rattle.sctp_outbound.specs.Stored.{IsNotBefore, NoneBefore};
@@ -9,6 +10,7 @@ use bytes::Bytes;
 use sctp_base::error::Result;
 use sctp_data::chunk::chunk_payload_data::ChunkPayloadData;
 use sctp_serial::turns::Turns;
+use slab::Slab;
 use std::alloc::Global;
 use std::collections::VecDeque;
 use std::marker::Model;
@@ -30,26 +32,79 @@ pub(crate) enum Mark {
     MissIndicator(u8),
 }
 
+impl Mark {
+    ghost use Rattle.sctp_outbound.specs.Marks.{with_mark};
+
+    // Writes it in a chunk, and answers how many bytes left.
+    fn write(self, chunk: &mut ChunkPayloadData) -> usize
+        ensures changed { chunk.new ≡ with_mark self chunk.old }
+        ensures left { result + length (with_mark self chunk.old).user_data
+            ≡ length chunk.old.user_data }
+    {
+        match self {
+            Mark::Acknowledged => {
+                chunk.acked = true;
+                chunk.retransmit = false;
+                clear(chunk)
+            }
+            Mark::Abandoned => {
+                chunk.abandoned = true;
+                chunk.retransmit = false;
+                clear(chunk)
+            }
+            Mark::Retransmit(retransmit) => {
+                chunk.retransmit = retransmit;
+                0
+            }
+            Mark::Nsent(nsent) => {
+                chunk.nsent = nsent;
+                0
+            }
+            Mark::Since(since) => {
+                chunk.since = since;
+                0
+            }
+            Mark::MissIndicator(miss_indicator) => {
+                chunk.miss_indicator = miss_indicator;
+                0
+            }
+        }
+    }
+}
+
+/// Where a chunk is: its TSN, and its key in the slab.
+#[derive(Clone, Copy)]
+struct Place {
+    tsn: u32,
+    key: usize,
+}
+
 /// Chunks by place, from 0. The next `room` insertions take no memory. None that is not abandoned has a deadline before `earliest`.
 #[derive(Drop)]
 pub struct Held {
-    chunks: VecDeque<ChunkPayloadData>,
+    places: VecDeque<Place>,
+    slab: Slab<ChunkPayloadData>,
     room: usize,
     earliest: u64,
 }
 
 impl Model for Held {
-    ghost use Rattle.std.specs.Prelude.{◌+◌, ◌≤◌};
+    ghost use Rattle.std.specs.Prelude.{◌≡◌, ◌+◌, ◌≤◌, length};
     ghost use Rattle.std.specs.VecDeque.{deque_capacity, deque_len};
+    ghost use Rattle.slab.specs.Slab.{HasRoomFor, get};
     ghost use Rattle.sctp_outbound.specs.Stored.{NoneBefore, Stored};
+    ghost use Rattle.sctp_outbound.specs.payload_queue.Places.{AreHeldAt, chunks_at};
 
     ghost Value = { Stored };
 
-    ghost view = { λ h. record { chunks = h.chunks.items; room = h.room } };
+    ghost view = { λ h. record { chunks = chunks_at (get h.slab) h.places.items; room = h.room } };
 
     ghost invariant = { λ h. record {
-      fits : deque_len h.chunks + h.room ≤ deque_capacity h.chunks;
-      deadlines : NoneBefore h.earliest h.chunks.items;
+      fits : deque_len h.places + h.room ≤ deque_capacity h.places;
+      slab_fits : HasRoomFor h.slab h.room;
+      counted : deque_len h.places ≡ length (chunks_at (get h.slab) h.places.items);
+      held : AreHeldAt (get h.slab) h.places.items (chunks_at (get h.slab) h.places.items);
+      deadlines : NoneBefore h.earliest (chunks_at (get h.slab) h.places.items);
     } };
 }
 
@@ -62,7 +117,8 @@ impl Held {
         ensures { result ≡ record { chunks = []; room = 0 } }
     {
         Held {
-            chunks: VecDeque::new(alloc),
+            places: VecDeque::new(alloc),
+            slab: Slab::new(alloc),
             room: 0,
             earliest: u64::MAX,
         }
@@ -72,14 +128,14 @@ impl Held {
     pub fn len(&self) -> usize
         ensures { result ≡ length self.now.chunks }
     {
-        self.chunks.len()
+        self.places.len()
     }
 
     /// Whether there are none.
     pub fn is_empty(&self) -> bool
         ensures { result ≡ (length self.now.chunks == 0) }
     {
-        self.chunks.is_empty()
+        self.places.is_empty()
     }
 
     /// How many insertions take no memory.
@@ -97,15 +153,35 @@ impl Held {
         ensures turn { turns.new ≡ turns.old + 1 }
     {
         turns.tick();
-        &self.chunks[place]
+        self.at(place)
+    }
+
+    /// The chunk at a place whose TSN was looked at before.
+    /// Precondition: the place has one.
+    pub(crate) fn at(&self, place: usize) -> &ChunkPayloadData
+        requires { place < length self.now.chunks }
+        ensures { result.now ≡ slice_index_or self.now.chunks place result.now }
+    {
+        &self.slab[self.places[place].key]
+    }
+
+    /// Looks at the TSN at a place, which is a turn.
+    /// Precondition: the place has a chunk.
+    pub(crate) fn tsn_at(&self, place: usize, turns: &mut Turns) -> u32
+        requires { place < length self.now.chunks }
+        ensures value { (d : _) → (slice_index_or self.now.chunks place d).tsn ≡ result }
+        ensures turn { turns.new ≡ turns.old + 1 }
+    {
+        turns.tick();
+        self.places[place].tsn
     }
 
     /// The TSN of the first chunk; None where there are none.
     pub fn front_tsn(&self) -> Option<u32>
         ensures { result ≡ option_map (λ c. c.tsn) (slice_get self.now.chunks 0) }
     {
-        match self.chunks.front() {
-            Some(chunk) => Some(chunk.tsn),
+        match self.places.front() {
+            Some(place) => Some(place.tsn),
             None => None,
         }
     }
@@ -115,8 +191,8 @@ impl Held {
         ensures { result
             ≡ option_map (λ c. c.tsn) (slice_get self.now.chunks (length self.now.chunks - 1)) }
     {
-        match self.chunks.back() {
-            Some(chunk) => Some(chunk.tsn),
+        match self.places.back() {
+            Some(place) => Some(place.tsn),
             None => None,
         }
     }
@@ -134,8 +210,8 @@ impl Held {
         ensures { self.new ≡ self.old }
     {
         let mut earliest = u64::MAX;
-        for place in 0..self.chunks.len() {
-            earliest = earliest.min(deadline_of(&self.chunks[place]));
+        for place in 0..self.len() {
+            earliest = earliest.min(deadline_of(self.at(place)));
         }
         self.earliest = earliest;
     }
@@ -152,7 +228,8 @@ impl Held {
         if additional <= self.room {
             return Ok(());
         }
-        self.chunks.reserve(additional)?;
+        self.places.reserve(additional)?;
+        self.slab.reserve(additional)?;
         self.room = additional;
         Ok(())
     }
@@ -168,11 +245,16 @@ impl Held {
         ensures memory { IsOkUnless result ErrOutOfMemory }
         ensures succeeds { 0 < self.old.room → IsOk result }
     {
-        let deadline = deadline_of(&chunk);
-        self.chunks.insert(place, chunk)?;
+        self.places.reserve(1)?;
+        self.slab.reserve(1)?;
+        let tsn = chunk.tsn;
+        self.earliest = self.earliest.min(deadline_of(&chunk));
         self.room = self.room.saturating_sub(1);
-        self.earliest = self.earliest.min(deadline);
-        Ok(())
+        let key = self.slab.insert_reserved(chunk);
+        match self.places.insert(place, Place { tsn, key }) {
+            Ok(()) => Ok(()),
+            Err(_) => unreachable!(),
+        }
     }
 
     /// The room is no more than this from here on.
@@ -192,10 +274,10 @@ impl Held {
         } }
         ensures value { result ≡ slice_index_or self.old.chunks place result }
     {
-        match self.chunks.remove(place) {
-            Some(chunk) => {
+        match self.places.remove(place) {
+            Some(place) => {
                 self.room += 1;
-                chunk
+                self.slab.remove(place.key)
             }
             None => unreachable!(),
         }
@@ -226,35 +308,8 @@ impl Held {
         ensures turn { turns.new ≡ turns.old + 1 }
     {
         turns.tick();
-        let chunk = &mut self.chunks[place];
-        match mark {
-            Mark::Acknowledged => {
-                chunk.acked = true;
-                chunk.retransmit = false;
-                clear(chunk)
-            }
-            Mark::Abandoned => {
-                chunk.abandoned = true;
-                chunk.retransmit = false;
-                clear(chunk)
-            }
-            Mark::Retransmit(retransmit) => {
-                chunk.retransmit = retransmit;
-                0
-            }
-            Mark::Nsent(nsent) => {
-                chunk.nsent = nsent;
-                0
-            }
-            Mark::Since(since) => {
-                chunk.since = since;
-                0
-            }
-            Mark::MissIndicator(miss_indicator) => {
-                chunk.miss_indicator = miss_indicator;
-                0
-            }
-        }
+        let key = self.places[place].key;
+        mark.write(&mut self.slab[key])
     }
 
     /// Takes back the acknowledgement of the chunk at a place, which is a turn: it has these bytes then. Answers how many it had.
@@ -268,11 +323,8 @@ impl Held {
         ensures turn { turns.new ≡ turns.old + 1 }
     {
         turns.tick();
-        let chunk = &mut self.chunks[place];
-        let len = chunk.user_data.len();
-        chunk.acked = false;
-        chunk.user_data = user_data;
-        len
+        let key = self.places[place].key;
+        take_back(&mut self.slab[key], user_data)
     }
 }
 
@@ -284,6 +336,17 @@ fn deadline_of(chunk: &ChunkPayloadData) -> u64
         return u64::MAX;
     }
     chunk.deadline.unwrap_or(u64::MAX)
+}
+
+// Takes back the acknowledgement of a chunk: it has these bytes then. Answers how many it had.
+fn take_back(chunk: &mut ChunkPayloadData, user_data: Bytes) -> usize
+    ensures back { chunk.new ≡ record chunk.old { acked = false; user_data = user_data } }
+    ensures had { result ≡ length chunk.old.user_data }
+{
+    let len = chunk.user_data.len();
+    chunk.acked = false;
+    chunk.user_data = user_data;
+    len
 }
 
 // Takes the bytes out of a chunk, and answers how many they were.
