@@ -30,7 +30,8 @@ between base f m l hb hf hm hl wf wl fm ml fl =
 module _ (chunks : List ChunkPayloadData) (serial : IsSerial chunks) where
   -- where the first and the last lie within half a circle after a base, so do all
   pub all_between : (base : ℕ) → base < 2 ^ 32 → (f l : ℕ) → 0 < length chunks → ((d : ChunkPayloadData) → (get_or chunks 0 d).tsn ≡ f)
-      → ((d : ChunkPayloadData) → (get_or chunks (length chunks - 1) d).tsn ≡ l) → IsWithinHalf base f → IsWithinHalf base l → All (λ c. IsWithinHalf base c.tsn) chunks
+      → ((d : ChunkPayloadData) → (get_or chunks (length chunks - 1) d).tsn ≡ l) → IsWithinHalf base f → IsWithinHalf base l
+      → All (λ c. IsWithinHalf base c.tsn) chunks
   all_between base hb f l some rf rl wf wl k d lt =
       let last = length chunks - 1 in
       let wf' : IsWithinHalf base (get_or chunks 0 d).tsn = subst (IsWithinHalf base) (sym (rf d)) wf in

@@ -1,5 +1,6 @@
 -- Chunks in a slab by their places: what an edit of one key leaves.
-use Rattle.std.proofs.Common.{◌≡◌, ◌≢◌, ℕ, zero, suc, ◌<◌, ◌≤◌, List, [], ◌∷◌, length, get_or, set, take, drop, min, is_some, cond, IsSome, Option, None, Some, refl, sym, ap, ap₂, ◌∙◌, subst, arith}
+use Rattle.std.proofs.Common.{◌≡◌, ◌≢◌, ℕ, zero, suc, ◌<◌, ◌≤◌, List, [], ◌∷◌, length, get_or, set, take, drop, min, is_some, cond, IsSome, Option, None, Some}
+use Rattle.std.proofs.Common.{refl, sym, ap, ap₂, ◌∙◌, subst, arith}
 use Rattle.std.specs.List.{AllByRecursion, insert, remove}
 use Rattle.std.proofs.lemmas.List.Elements.{All-append, All-cons, All-take, All-drop}
 use Rattle.std.proofs.lemmas.List.Sums.{sum_by-set}
@@ -180,8 +181,10 @@ rewritten slab ps n p x y lt e is same h =
     let within = ContainsKey-within slab p.key present in
     let updates = Updates-with_value slab p.key y present in
     let found = held_at (get slab) ps _ h n p lt e in
-    let number : y.tsn ≡ (get_or (chunks_at (get slab) ps) n x).tsn = same ∙ ap (λ (c : ChunkPayloadData). c.tsn) (same_chunk _ _ _ is found.1 ∙ sym (found.3 x)) in
-    let both = written (get slab) (get (with_value slab p.key y)) p.key updates.others y x updates.changed ps n p lt (ap (λ (r : Place). r.key) (sym e)) number h in
+    let number : y.tsn ≡ (get_or (chunks_at (get slab) ps) n x).tsn = same
+    ∙ ap (λ (c : ChunkPayloadData). c.tsn) (same_chunk _ _ _ is found.1 ∙ sym (found.3 x)) in
+    let both = written (get slab)
+    (get (with_value slab p.key y)) p.key updates.others y x updates.changed ps n p lt (ap (λ (r : Place). r.key) (sym e)) number h in
     let moved = sum_by-set (λ o. cond (is_some o) 1 0) slab.slots p.key (Some y) None within in
     (both.0, both.1, omega (arith, rw is at moved))
 

@@ -18,7 +18,8 @@ pub record Narrowed (chunks : List ChunkPayloadData) (tsn low high : ℕ) : Type
   pub right : (b : ℕ) → IsWindow b chunks tsn → (k : ℕ) (d : ChunkPayloadData) → high ≤ k → k < length chunks
       → IsTrue (comes_before tsn (get_or chunks k d).tsn)
 
-module _ (chunks : List ChunkPayloadData) (serial : IsSerial chunks) (tsn low high middle : ℕ) (fits : tsn < 2 ^ 32) (n : Narrowed chunks tsn low high) (here : ℕ)
+module _ (chunks : List ChunkPayloadData) (serial : IsSerial chunks) (tsn low high middle : ℕ) (fits : tsn < 2 ^ 32) (n : Narrowed chunks tsn low high)
+    (here : ℕ)
     (at_least : low ≤ middle) (below : middle < high) (number_here : (d : ChunkPayloadData) → (get_or chunks middle d).tsn ≡ here) (differs : here ≢ tsn) where
   within : middle < length chunks
   within = omega (arith, n.in_range)
@@ -101,7 +102,8 @@ narrowed_none chunks tsn = record {
 
 -- what comes after the last goes behind it
 pub behind_last : (chunks : List ChunkPayloadData) → IsSerial chunks → (tsn last : ℕ) → tsn < 2 ^ 32 → 0 < length chunks
-    → ((d : ChunkPayloadData) → (get_or chunks (length chunks - 1) d).tsn ≡ last) → IsTrue (comes_before last tsn) → Narrowed chunks tsn (length chunks) (length chunks)
+    → ((d : ChunkPayloadData) → (get_or chunks (length chunks - 1) d).tsn ≡ last) → IsTrue (comes_before last tsn)
+    → Narrowed chunks tsn (length chunks) (length chunks)
 behind_last chunks serial tsn last fits some read h =
     subst (λ n. Narrowed chunks tsn n (length chunks)) {x = length chunks - 1 + 1} (omega arith)
     (narrowed_right chunks serial tsn 0 (length chunks) (length chunks - 1) fits (narrowed_none chunks tsn) last (omega arith) (omega arith) read

@@ -71,8 +71,8 @@ loop-step-preserved c =
       ];
       number = c.tsn_at-ahead.ensures.value;
       rising = rising_on xs c.args.place last (last + step) inv.rising
-          (rises_ahead xs c.requires.serial last c.loop-step.tsn step c.tsn_at-ahead.result short inv.number c.tsn_at-ahead.ensures.value (sym c.distance.ensures.value
-          ∙ c.if-distance-step.false));
+          (rises_ahead xs c.requires.serial last c.loop-step.tsn step c.tsn_at-ahead.result short inv.number c.tsn_at-ahead.ensures.value
+          (sym c.distance.ensures.value ∙ c.if-distance-step.false));
       not_back = omega arith;
       cost = omega (arith, more, inv.cost, inv.known, inv.from);
     }

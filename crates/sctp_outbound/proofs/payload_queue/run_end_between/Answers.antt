@@ -38,7 +38,8 @@ loop-last-preserved c =
       in_range = omega (arith, c.loop-last.invariant.in_range);
       number = c.loop-last.invariant.number;
       rising = c.loop-last.invariant.rising;
-      breaks = λ lt. breaks_ahead xs c.requires.serial last c.loop-last.tsn partial c.tsn_at-ahead.result short c.loop-last.invariant.number c.tsn_at-ahead.ensures.value
+      breaks = λ lt.
+          breaks_ahead xs c.requires.serial last c.loop-last.tsn partial c.tsn_at-ahead.result short c.loop-last.invariant.number c.tsn_at-ahead.ensures.value
           (λ e. c.if-distance-middle.false (c.distance.ensures.value ∙ e ∙ omega arith));
       seen = c.tsn_at-ahead.ensures.value;
       not_back = omega arith;

@@ -42,7 +42,8 @@ returns-then-not-is_last_up_to-clause-kept c =
     let i = c.loop-place.place in
     let x = any_chunk in
     let tsn = c.args.cumulative_tsn in
-    let here : at_or_before (get_or xs i x).tsn tsn ≡ false = ap (λ t. at_or_before t tsn) (c.tsn_at-tsn.ensures.value x) ∙ sym c.sna32lte.ensures.value ∙ c.if-sna32lte.false in
+    let here : at_or_before (get_or xs i x).tsn tsn ≡ false = ap (λ t. at_or_before t tsn) (c.tsn_at-tsn.ensures.value x) ∙ sym c.sna32lte.ensures.value
+    ∙ c.if-sna32lte.false in
     let last = sym (c.is_last_up_to.ensures.is x) ∙ c.if-not-is_last_up_to.true in
     let rest = rest_stays tsn xs c.ranges.cumulative_tsn.fits c.loop-place.invariant.serial i x (omega arith) here last in
     let all : xs ≡ past tsn c.self.inside.held.chunks = sym (take-append-drop i xs) ∙ ap (λ ys. take i xs ++ ys) (sym rest) ∙ c.loop-place.invariant.kept in
@@ -56,7 +57,8 @@ loop-place-preserved c =
     let tsn = c.args.cumulative_tsn in
     let inv = c.loop-place.invariant in
     let read = get_or_default xs c.loop-place.place any_chunk x (omega arith) in
-    let here : at_or_before x.tsn tsn ≡ false = ap (λ t. at_or_before t tsn) (c.tsn_at-tsn.ensures.value any_chunk) ∙ sym c.sna32lte.ensures.value ∙ c.if-sna32lte.false in
+    let here : at_or_before x.tsn tsn ≡ false = ap (λ t. at_or_before t tsn) (c.tsn_at-tsn.ensures.value any_chunk) ∙ sym c.sna32lte.ensures.value
+    ∙ c.if-sna32lte.false in
     let last = sym (c.is_last_up_to.ensures.is x) ∙ c.if-not-is_last_up_to.false in
     record {
       serial = inv.serial;

@@ -38,7 +38,8 @@ after c =
     let long = held_length _ _ _ c.self.invariant.held in
     let viewed = ap (λ s. length s.chunks) c.self.view_is in
     let held = still (λ under ps. AreHeldAt under ps (chunks_at under ps)) c.self.inside.slab c.reserve-2.new.self _ _ _ kept same c.self.invariant.held in
-    let more = inserted (get c.reserve-2.new.self) (get c.insert_reserved-key.new.self) c.insert_reserved-key.result c.insert_reserved-key.ensures.updates.others
+    let more = inserted (get c.reserve-2.new.self)
+    (get c.insert_reserved-key.new.self) c.insert_reserved-key.result c.insert_reserved-key.ensures.updates.others
     c.args.chunk c.insert_reserved-key.ensures.was_vacant c.insert_reserved-key.ensures.updates.changed c.reserve.new.self.items c.insert.new.self.items
     c.args.place _ (omega (arith, viewed, c.requires, long, ap length same)) refl refl c.in-Ok.ensures.items held in
     (more.0 ∙ ap (λ cs. insert cs c.args.place c.args.chunk) unchanged, more.1)

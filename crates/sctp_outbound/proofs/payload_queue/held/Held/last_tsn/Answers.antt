@@ -17,5 +17,5 @@ returns-in-Some c =
     let found = held_at _ _ _ inv.held last c.in-Some.place.now (omega (arith, some, long, inv.counted)) c.in-Some.ensures.lookup in
     let read = slice_get-get_or _ last found.0 (omega (arith, some, inv.counted)) ∙ ap Some (found.3 found.0) in
     sym (ap (λ s. option_map (λ (x : ChunkPayloadData). x.tsn) (slice_get s.chunks (length s.chunks - 1))) (sym c.self.view_is)
-    ∙ ap (λ n. option_map (λ (x : ChunkPayloadData). x.tsn) (slice_get (chunks_at (get c.self.inside.slab) c.self.inside.places.items) (n - 1))) (sym inv.counted)
-    ∙ ap (option_map (λ (x : ChunkPayloadData). x.tsn)) read ∙ ap Some (sym found.2))
+    ∙ ap (λ n. option_map (λ (x : ChunkPayloadData). x.tsn) (slice_get (chunks_at (get c.self.inside.slab) c.self.inside.places.items) (n - 1)))
+    (sym inv.counted) ∙ ap (option_map (λ (x : ChunkPayloadData). x.tsn)) read ∙ ap Some (sym found.2))

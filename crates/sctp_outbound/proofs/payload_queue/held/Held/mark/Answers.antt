@@ -38,7 +38,8 @@ after c =
     let viewed = ap (λ s. length s.chunks) c.self.view_is in
     let inv = c.self.invariant in
     rewritten c.self.inside.slab c.self.inside.places.items c.args.place c.index.result.now c.index_mut.result.now c.write.new.chunk
-    (omega (arith, c.requires, viewed, held_length _ _ _ inv.held)) c.index.ensures c.index_mut.ensures.value (ap (λ (x : ChunkPayloadData). x.tsn) c.write.ensures.changed ∙ marked-tsn c.args.mark c.index_mut.result.now) inv.held
+    (omega (arith, c.requires, viewed, held_length _ _ _ inv.held)) c.index.ensures c.index_mut.ensures.value
+    (ap (λ (x : ChunkPayloadData). x.tsn) c.write.ensures.changed ∙ marked-tsn c.args.mark c.index_mut.result.now) inv.held
 
 pub invariant_of-self : goal.invariant_of-self
 invariant_of-self c =
@@ -56,15 +57,17 @@ invariant_of-self c =
       counted = omega (arith, inv.counted, long, held_length _ _ _ inv.held);
       held = now.1;
       deadlines = subst (NoneBefore moment) (sym now.0)
-          (All-set (IsNotBefore moment) xs c.args.place c.write.new.chunk (subst (IsNotBefore moment) (sym c.write.ensures.changed) (marked-not_before moment c.args.mark x own)) inv.deadlines);
+          (All-set (IsNotBefore moment) xs c.args.place c.write.new.chunk
+          (subst (IsNotBefore moment) (sym c.write.ensures.changed) (marked-not_before moment c.args.mark x own)) inv.deadlines);
     }
 
 pub returns-clause-changed : goal.returns-clause-changed
 returns-clause-changed c d = stored _ _ _ _ ((after c).0
-    ∙ ap (set (chunks_at (get c.self.inside.slab) c.self.inside.places.items) c.args.place) (c.write.ensures.changed ∙ ap (with_mark c.args.mark) (sym (reads_now c d)))
-    ∙ ap (λ s. set s.chunks c.args.place (with_mark c.args.mark (get_or c.args.self.now.chunks c.args.place d))) c.self.view_is)
+    ∙ ap (set (chunks_at (get c.self.inside.slab) c.self.inside.places.items) c.args.place) (c.write.ensures.changed ∙ ap (with_mark c.args.mark)
+    (sym (reads_now c d))) ∙ ap (λ s. set s.chunks c.args.place (with_mark c.args.mark (get_or c.args.self.now.chunks c.args.place d))) c.self.view_is)
     (ap (λ s. s.room) c.self.view_is)
 
 pub returns-clause-left : goal.returns-clause-left
 returns-clause-left c d =
-    subst (λ (x : ChunkPayloadData). c.write.result + length (with_mark c.args.mark x).user_data ≡ length x.user_data) (sym (reads_now c d)) c.write.ensures.left
+    subst (λ (x : ChunkPayloadData). c.write.result + length (with_mark c.args.mark x).user_data ≡ length x.user_data)
+    (sym (reads_now c d)) c.write.ensures.left

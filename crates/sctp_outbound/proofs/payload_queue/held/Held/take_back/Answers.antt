@@ -37,7 +37,8 @@ after c =
     let viewed = ap (λ s. length s.chunks) c.self.view_is in
     let inv = c.self.invariant in
     rewritten c.self.inside.slab c.self.inside.places.items c.args.place c.index.result.now c.index_mut.result.now c.take_back.new.chunk
-    (omega (arith, c.requires, viewed, held_length _ _ _ inv.held)) c.index.ensures c.index_mut.ensures.value (ap (λ (x : ChunkPayloadData). x.tsn) c.take_back.ensures.back) inv.held
+    (omega (arith, c.requires, viewed, held_length _ _ _ inv.held)) c.index.ensures c.index_mut.ensures.value
+    (ap (λ (x : ChunkPayloadData). x.tsn) c.take_back.ensures.back) inv.held
 
 pub invariant_of-self : goal.invariant_of-self
 invariant_of-self c =
@@ -60,7 +61,8 @@ invariant_of-self c =
 
 pub returns-clause-changed : goal.returns-clause-changed
 returns-clause-changed c d = stored _ _ _ _ ((after c).0
-    ∙ ap (set (chunks_at (get c.self.inside.slab) c.self.inside.places.items) c.args.place) (c.take_back.ensures.back ∙ ap (as_taken_back c.args.user_data) (sym (reads_now c d)))
+    ∙ ap (set (chunks_at (get c.self.inside.slab) c.self.inside.places.items) c.args.place) (c.take_back.ensures.back
+    ∙ ap (as_taken_back c.args.user_data) (sym (reads_now c d)))
     ∙ ap (λ s. set s.chunks c.args.place (as_taken_back c.args.user_data (get_or c.args.self.now.chunks c.args.place d))) c.self.view_is)
     (ap (λ s. s.room) c.self.view_is)
 
