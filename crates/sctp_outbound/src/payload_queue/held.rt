@@ -3,6 +3,7 @@
 
 ghost use Rattle.std.specs.Prelude.{◌≡◌, ◌==◌, ◌+◌, ◌-◌, ◌<◌, ◌≤◌, [], ◌∷◌, false, length, max, min, insert, remove, slice_get, slice_index_or, slice_set, OnOk, OnErr, IfSome, IfNone, IsOk, IsOkUnless};
 ghost use Rattle.std.specs.Option.{option_map};
+ghost use Rattle.std.specs.VecDeque.{deque_capacity, deque_len};
 ghost use Rattle.sctp_base.specs.declared.error.Error.TheVariants.{ErrOutOfMemory};
 ghost use Rattle.sctp_outbound.specs.Stored.{IsNotBefore, NoneBefore};
 
@@ -251,10 +252,8 @@ impl Held {
         self.earliest = self.earliest.min(deadline_of(&chunk));
         self.room = self.room.saturating_sub(1);
         let key = self.slab.insert_reserved(chunk);
-        match self.places.insert(place, Place { tsn, key }) {
-            Ok(()) => Ok(()),
-            Err(_) => unreachable!(),
-        }
+        put_in(&mut self.places, place, Place { tsn, key });
+        Ok(())
     }
 
     /// The room is no more than this from here on.
@@ -274,13 +273,9 @@ impl Held {
         } }
         ensures value { result ≡ slice_index_or self.old.chunks place result }
     {
-        match self.places.remove(place) {
-            Some(place) => {
-                self.room += 1;
-                self.slab.remove(place.key)
-            }
-            None => unreachable!(),
-        }
+        let taken = take_from(&mut self.places, place);
+        self.room += 1;
+        self.slab.remove(taken.key)
     }
 
     /// Takes out the chunk at a place. The room stays as it is.
@@ -325,6 +320,44 @@ impl Held {
         turns.tick();
         let key = self.places[place].key;
         take_back(&mut self.slab[key], user_data)
+    }
+}
+
+// Puts a place before the one at an index, mostly behind the last.
+fn put_in(places: &mut VecDeque<Place>, at: usize, place: Place)
+    requires index { at ≤ deque_len places.old }
+    requires room { deque_len places.old < deque_capacity places.old }
+    ensures items { places.new.items ≡ insert places.old.items at place }
+    ensures len { deque_len places.new ≡ deque_len places.old + 1 }
+    ensures capacity { deque_capacity places.old ≤ deque_capacity places.new }
+{
+    if at == places.len() {
+        places.push_back_reserved(place);
+        return;
+    }
+    match places.insert(at, place) {
+        Ok(()) => (),
+        Err(_) => unreachable!(),
+    }
+}
+
+// Takes out the place at an index, mostly the first.
+fn take_from(places: &mut VecDeque<Place>, at: usize) -> Place
+    requires { at < deque_len places.old }
+    ensures value { result ≡ slice_index_or places.old.items at result }
+    ensures items { places.new.items ≡ remove places.old.items at }
+    ensures len { deque_len places.new + 1 ≡ deque_len places.old }
+    ensures capacity { deque_capacity places.new ≡ deque_capacity places.old }
+{
+    if at == 0 {
+        return match places.pop_front() {
+            Some(place) => place,
+            None => unreachable!(),
+        };
+    }
+    match places.remove(at) {
+        Some(place) => place,
+        None => unreachable!(),
     }
 }
 

@@ -21,15 +21,15 @@ invariant_of-self-in_err-reserve-2 c =
           inv.deadlines;
     }
 
-pub insert-requires : goal.insert-requires
-insert-requires c =
+pub put_in-requires-clause-index : goal.put_in-requires-clause-index
+put_in-requires-clause-index c =
     let viewed = ap (λ s. length s.chunks) c.self.view_is in
     omega (arith, viewed, c.requires, c.self.invariant.counted, c.in_ok-reserve.ensures.len)
 
 -- the places of the new deque, and the chunks under the new slab's keys
-after : (c : goal.In-Ok) → (chunks_at (get c.insert_reserved-key.new.self) c.insert.new.self.items
+after : (c : goal.After-put_in) → (chunks_at (get c.insert_reserved-key.new.self) c.put_in.new.places.items
     ≡ insert (chunks_at (get c.self.inside.slab) c.self.inside.places.items) c.args.place c.args.chunk)
-    × AreHeldAt (get c.insert_reserved-key.new.self) c.insert.new.self.items (chunks_at (get c.insert_reserved-key.new.self) c.insert.new.self.items)
+    × AreHeldAt (get c.insert_reserved-key.new.self) c.put_in.new.places.items (chunks_at (get c.insert_reserved-key.new.self) c.put_in.new.places.items)
 after c =
     let kept = c.in_ok-reserve-2.ensures.rest_kept in
     let same = c.in_ok-reserve.ensures.items in
@@ -40,8 +40,8 @@ after c =
     let held = still (λ under ps. AreHeldAt under ps (chunks_at under ps)) c.self.inside.slab c.reserve-2.new.self _ _ _ kept same c.self.invariant.held in
     let more = inserted (get c.reserve-2.new.self)
     (get c.insert_reserved-key.new.self) c.insert_reserved-key.result c.insert_reserved-key.ensures.updates.others
-    c.args.chunk c.insert_reserved-key.ensures.was_vacant c.insert_reserved-key.ensures.updates.changed c.reserve.new.self.items c.insert.new.self.items
-    c.args.place _ (omega (arith, viewed, c.requires, long, ap length same)) refl refl c.in-Ok.ensures.items held in
+    c.args.chunk c.insert_reserved-key.ensures.was_vacant c.insert_reserved-key.ensures.updates.changed c.reserve.new.self.items c.put_in.new.places.items
+    c.args.place _ (omega (arith, viewed, c.requires, long, ap length same)) refl refl c.put_in.ensures.items held in
     (more.0 ∙ ap (λ cs. insert cs c.args.place c.args.chunk) unchanged, more.1)
 
 pub invariant_of-self-2 : goal.invariant_of-self-2
@@ -50,7 +50,7 @@ invariant_of-self-2 c =
     let kept = c.in_ok-reserve-2.ensures.rest_kept in
     let now = after c in
     let long = held_length _ _ _ now.1 in
-    let ok = c.insert.new.self.ok.0 in
+    let ok = c.put_in.new.places.ok.0 in
     let less = c.saturating_sub-self-inside.ensures in
     record {
       fits = omega (
@@ -60,8 +60,8 @@ invariant_of-self-2 c =
         c.in_ok-reserve.ensures.len,
         c.in_ok-reserve.ensures.ok,
         c.in_ok-reserve.ensures.capacity,
-        c.in-Ok.ensures.len,
-        c.in-Ok.ensures.capacity,
+        c.put_in.ensures.len,
+        c.put_in.ensures.capacity,
       );
       slab_fits = omega (
         arith,

@@ -7,33 +7,33 @@ use Rattle.sctp_outbound.specs.declared.payload_queue.held.Place.{Place}
 use Rattle.sctp_outbound.proofs.lemmas.payload_queue.Places.{held_at, held_length, none_before_remove, removed, same_chunk, stored}
 use Rattle.sctp_outbound.proofs.payload_queue.held.Held.remove_leaving_room.Goals as goal
 
-pub remove-requires-in-Some : goal.remove-requires-in-Some
-remove-requires-in-Some c =
+pub remove-requires : goal.remove-requires
+remove-requires c =
     let viewed = ap (λ s. length s.chunks) c.self.view_is in
     let inv = c.self.invariant in
-    let found = held_at _ _ _ inv.held c.args.place c.in-Some.place (omega (arith, c.requires, viewed, held_length _ _ _ inv.held)) c.in-Some.ensures.value in
+    let found = held_at _ _ _ inv.held c.args.place c.take_from-taken.result (omega (arith, c.requires, viewed, held_length _ _ _ inv.held)) c.take_from-taken.ensures.value in
     subst IsSome (sym found.1) refl
 
 -- the places that are left, and the chunks under the keys that are left
-after : (c : goal.After-remove-in-Some) → (chunks_at (get c.remove-in-Some.new.self) c.remove.new.self.items
+after : (c : goal.After-remove) → (chunks_at (get c.remove.new.self) c.take_from-taken.new.places.items
     ≡ remove (chunks_at (get c.self.inside.slab) c.self.inside.places.items) c.args.place)
-    × AreHeldAt (get c.remove-in-Some.new.self) c.remove.new.self.items (chunks_at (get c.remove-in-Some.new.self) c.remove.new.self.items)
+    × AreHeldAt (get c.remove.new.self) c.take_from-taken.new.places.items (chunks_at (get c.remove.new.self) c.take_from-taken.new.places.items)
 after c =
     let viewed = ap (λ s. length s.chunks) c.self.view_is in
     let inv = c.self.invariant in
-    removed (get c.self.inside.slab) (get c.remove-in-Some.new.self) c.in-Some.place.key c.remove-in-Some.ensures.updates.others c.self.inside.places.items
-    c.remove.new.self.items c.args.place c.in-Some.place (omega (arith, c.requires, viewed, held_length _ _ _ inv.held))
-    (ap (λ (p : Place). p.key) (sym c.in-Some.ensures.value)) c.in-Some.ensures.items inv.held
+    removed (get c.self.inside.slab) (get c.remove.new.self) c.take_from-taken.result.key c.remove.ensures.updates.others c.self.inside.places.items
+    c.take_from-taken.new.places.items c.args.place c.take_from-taken.result (omega (arith, c.requires, viewed, held_length _ _ _ inv.held))
+    (ap (λ (p : Place). p.key) (sym c.take_from-taken.ensures.value)) c.take_from-taken.ensures.items inv.held
 
 pub invariant_of-self : goal.invariant_of-self
 invariant_of-self c =
     let inv = c.self.invariant in
     let now = after c in
     let long = held_length _ _ _ now.1 in
-    let ok = c.remove.new.self.ok.0 in
+    let ok = c.take_from-taken.new.places.ok.0 in
     record {
-      fits = omega (arith, inv.fits, c.in-Some.ensures.len, c.in-Some.ensures.capacity);
-      slab_fits = omega (arith, inv.slab_fits, c.remove-in-Some.ensures.len, c.remove-in-Some.ensures.capacity);
+      fits = omega (arith, inv.fits, c.take_from-taken.ensures.len, c.take_from-taken.ensures.capacity);
+      slab_fits = omega (arith, inv.slab_fits, c.remove.ensures.len, c.remove.ensures.capacity);
       counted = omega (arith, long, ok);
       held = now.1;
       deadlines = subst (NoneBefore c.self.inside.earliest) (sym now.0) (none_before_remove c.self.inside.earliest c.args.place _ inv.deadlines);
@@ -46,6 +46,6 @@ pub returns-clause-value : goal.returns-clause-value
 returns-clause-value c =
     let viewed = ap (λ s. length s.chunks) c.self.view_is in
     let inv = c.self.invariant in
-    let found = held_at _ _ _ inv.held c.args.place c.in-Some.place (omega (arith, c.requires, viewed, held_length _ _ _ inv.held)) c.in-Some.ensures.value in
-    let same = same_chunk _ _ _ found.1 c.remove-in-Some.ensures.value in
-    sym (ap (λ s. get_or s.chunks c.args.place c.remove-in-Some.result) (sym c.self.view_is) ∙ found.3 c.remove-in-Some.result ∙ same)
+    let found = held_at _ _ _ inv.held c.args.place c.take_from-taken.result (omega (arith, c.requires, viewed, held_length _ _ _ inv.held)) c.take_from-taken.ensures.value in
+    let same = same_chunk _ _ _ found.1 c.remove.ensures.value in
+    sym (ap (λ s. get_or s.chunks c.args.place c.remove.result) (sym c.self.view_is) ∙ found.3 c.remove.result ∙ same)
