@@ -1,3 +1,4 @@
 -- What the contracts of `PayloadQueue` cite.
 pub mod Blocks
 pub mod PayloadQueue
+pub mod Places

@@ -81,11 +81,11 @@ fn search<'a>(
     let mut high = held.len();
     while low < high {
         let middle = low + (high - low) / 2;
-        let chunk = held.look(middle, turns);
-        if chunk.tsn == tsn {
-            return Ok((middle, chunk));
+        let here = held.tsn_at(middle, turns);
+        if here == tsn {
+            return Ok((middle, held.at(middle)));
         }
-        if sna32lt(chunk.tsn, tsn) {
+        if sna32lt(here, tsn) {
             low = middle + 1;
         } else {
             high = middle;
@@ -107,8 +107,8 @@ fn free_place(held: &Held, tsn: u32, turns: &mut Turns) -> Option<usize>
     if len == 0 {
         return Some(0);
     }
-    let last = held.look(len - 1, turns);
-    if sna32lt(last.tsn, tsn) {
+    let last = held.tsn_at(len - 1, turns);
+    if sna32lt(last, tsn) {
         return Some(len);
     }
     match search(held, tsn, turns) {
@@ -161,7 +161,7 @@ fn seen_or_look(held: &Held, place: usize, seen: Option<u32>, turns: &mut Turns)
 {
     match seen {
         Some(tsn) => tsn,
-        None => held.look(place, turns).tsn,
+        None => held.tsn_at(place, turns),
     }
 }
 
@@ -190,7 +190,7 @@ fn run_end(
     let mut tsn = tsn;
     let mut step = 1;
     while step < end - last {
-        let ahead = held.look(last + step, turns).tsn;
+        let ahead = held.tsn_at(last + step, turns);
         if distance(tsn, ahead) as usize != step {
             return run_end_between(held, last, tsn, last + step, Some(ahead), turns);
         }
@@ -229,7 +229,7 @@ fn run_end_between(
     let mut seen = seen;
     while last + 1 < beyond {
         let middle = last + (beyond - last) / 2;
-        let ahead = held.look(middle, turns).tsn;
+        let ahead = held.tsn_at(middle, turns);
         if distance(tsn, ahead) as usize == middle - last {
             last = middle;
             tsn = ahead;
@@ -376,8 +376,8 @@ impl PayloadQueue {
     {
         let mut place = 0;
         while place < self.held.len() {
-            let chunk = self.held.look(place, turns);
-            if sna32lte(chunk.tsn, cumulative_tsn) {
+            let tsn = self.held.tsn_at(place, turns);
+            if sna32lte(tsn, cumulative_tsn) {
                 let removed = self.held.remove(place);
                 self.n_bytes -= removed.user_data.len();
                 continue;
@@ -414,7 +414,7 @@ impl PayloadQueue {
         ensures { result ≡ option_map (λ c. c.tsn) (slice_get self.now.chunks place) }
     {
         if place < self.held.len() {
-            Some(self.held.look(place, &mut Turns::new()).tsn)
+            Some(self.held.tsn_at(place, &mut Turns::new()))
         } else {
             None
         }
@@ -743,6 +743,6 @@ impl PayloadQueue {
         requires { place < length self.now.chunks }
         ensures { result.now ≡ slice_index_or self.now.chunks place result.now }
     {
-        self.held.look(place, &mut Turns::new())
+        self.held.at(place)
     }
 }

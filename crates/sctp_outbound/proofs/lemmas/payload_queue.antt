@@ -7,3 +7,4 @@ pub mod Search
 pub mod Between
 pub mod Deadlines
 pub mod Passed
+pub mod Places

@@ -1,7 +1,9 @@
-//! Held chunks, in one deque. `look`, `mark` and `take_back` take a turn; `front_tsn` and the edits take none.
+//! Held chunks: a slab of them, and a deque of their TSNs and keys in order, so that a search reads TSNs alone and an edit moves no chunk.
+//! `look`, `tsn_at`, `mark` and `take_back` take a turn; `at`, `front_tsn`, `last_tsn` and the edits take none.
 
-ghost use Rattle.std.specs.Prelude.{◌≡◌, ◌==◌, ◌+◌, ◌-◌, ◌<◌, ◌≤◌, [], ◌∷◌, length, max, min, insert, remove, slice_get, slice_index_or, slice_set, OnOk, OnErr, IfSome, IfNone, IsOk, IsOkUnless};
+ghost use Rattle.std.specs.Prelude.{◌≡◌, ◌==◌, ◌+◌, ◌-◌, ◌<◌, ◌≤◌, [], ◌∷◌, false, length, max, min, insert, remove, slice_get, slice_index_or, slice_set, OnOk, OnErr, IfSome, IfNone, IsOk, IsOkUnless};
 ghost use Rattle.std.specs.Option.{option_map};
+ghost use Rattle.std.specs.VecDeque.{deque_capacity, deque_len};
 ghost use Rattle.sctp_base.specs.declared.error.Error.TheVariants.{ErrOutOfMemory};
 ghost use Rattle.sctp_outbound.specs.Stored.{IsNotBefore, NoneBefore};
 
@@ -9,6 +11,7 @@ use bytes::Bytes;
 use sctp_base::error::Result;
 use sctp_data::chunk::chunk_payload_data::ChunkPayloadData;
 use sctp_serial::turns::Turns;
+use slab::Slab;
 use std::alloc::Global;
 use std::collections::VecDeque;
 use std::marker::Model;
@@ -30,204 +33,16 @@ pub(crate) enum Mark {
     MissIndicator(u8),
 }
 
-/// Chunks by place, from 0. The next `room` insertions take no memory. None that is not abandoned has a deadline before `earliest`.
-#[derive(Drop)]
-pub struct Held {
-    chunks: VecDeque<ChunkPayloadData>,
-    room: usize,
-    earliest: u64,
-}
+impl Mark {
+    ghost use Rattle.sctp_outbound.specs.Marks.{with_mark};
 
-impl Model for Held {
-    ghost use Rattle.std.specs.Prelude.{◌+◌, ◌≤◌};
-    ghost use Rattle.std.specs.VecDeque.{deque_capacity, deque_len};
-    ghost use Rattle.sctp_outbound.specs.Stored.{NoneBefore, Stored};
-
-    ghost Value = { Stored };
-
-    ghost view = { λ h. record { chunks = h.chunks.items; room = h.room } };
-
-    ghost invariant = { λ h. record {
-      fits : deque_len h.chunks + h.room ≤ deque_capacity h.chunks;
-      deadlines : NoneBefore h.earliest h.chunks.items;
-    } };
-}
-
-impl Held {
-    ghost use Rattle.sctp_outbound.specs.Stored.{with_chunks};
-    ghost use Rattle.sctp_outbound.specs.Marks.{as_taken_back, with_mark};
-
-    /// No chunks. It takes no memory.
-    pub fn new(alloc: Global) -> Self
-        ensures { result ≡ record { chunks = []; room = 0 } }
+    // Writes it in a chunk, and answers how many bytes left.
+    fn write(self, chunk: &mut ChunkPayloadData) -> usize
+        ensures changed { chunk.new ≡ with_mark self chunk.old }
+        ensures left { result + length (with_mark self chunk.old).user_data
+            ≡ length chunk.old.user_data }
     {
-        Held {
-            chunks: VecDeque::new(alloc),
-            room: 0,
-            earliest: u64::MAX,
-        }
-    }
-
-    /// How many chunks there are.
-    pub fn len(&self) -> usize
-        ensures { result ≡ length self.now.chunks }
-    {
-        self.chunks.len()
-    }
-
-    /// Whether there are none.
-    pub fn is_empty(&self) -> bool
-        ensures { result ≡ (length self.now.chunks == 0) }
-    {
-        self.chunks.is_empty()
-    }
-
-    /// How many insertions take no memory.
-    pub fn room(&self) -> usize
-        ensures { result ≡ self.now.room }
-    {
-        self.room
-    }
-
-    /// Looks at the chunk at a place, which is a turn.
-    /// Precondition: the place has one.
-    pub fn look<'a>(&'a self, place: usize, turns: &mut Turns) -> &'a ChunkPayloadData
-        requires { place < length self.now.chunks }
-        ensures value { result.now ≡ slice_index_or self.now.chunks place result.now }
-        ensures turn { turns.new ≡ turns.old + 1 }
-    {
-        turns.tick();
-        &self.chunks[place]
-    }
-
-    /// The TSN of the first chunk; None where there are none.
-    pub fn front_tsn(&self) -> Option<u32>
-        ensures { result ≡ option_map (λ c. c.tsn) (slice_get self.now.chunks 0) }
-    {
-        match self.chunks.front() {
-            Some(chunk) => Some(chunk.tsn),
-            None => None,
-        }
-    }
-
-    /// The TSN of the last chunk; None where there are none.
-    pub(crate) fn last_tsn(&self) -> Option<u32>
-        ensures { result
-            ≡ option_map (λ c. c.tsn) (slice_get self.now.chunks (length self.now.chunks - 1)) }
-    {
-        match self.chunks.back() {
-            Some(chunk) => Some(chunk.tsn),
-            None => None,
-        }
-    }
-
-    /// A moment in nanoseconds before which no chunk that is not abandoned has a deadline: the earliest deadline of all that came since
-    /// `settle_earliest`, and of those that it found.
-    pub(crate) fn earliest(&self) -> u64
-        ensures { NoneBefore result self.now.chunks }
-    {
-        self.earliest
-    }
-
-    /// Looks at each chunk, so that `earliest` hangs on those alone that are held and not abandoned.
-    pub(crate) fn settle_earliest(&mut self)
-        ensures { self.new ≡ self.old }
-    {
-        let mut earliest = u64::MAX;
-        for place in 0..self.chunks.len() {
-            earliest = earliest.min(deadline_of(&self.chunks[place]));
-        }
-        self.earliest = earliest;
-    }
-
-    /// From here on `additional` insertions take no memory.
-    /// Refuses only for memory, and nothing changes then.
-    pub fn reserve(&mut self, additional: usize) -> Result<()>
-        ensures ok { OnOk result (self.new
-            ≡ record self.old { room = max additional self.old.room }) }
-        ensures err { OnErr result (self.new ≡ self.old) }
-        ensures memory { IsOkUnless result ErrOutOfMemory }
-        ensures succeeds { additional ≤ self.old.room → IsOk result }
-    {
-        if additional <= self.room {
-            return Ok(());
-        }
-        self.chunks.reserve(additional)?;
-        self.room = additional;
-        Ok(())
-    }
-
-    /// Puts a chunk at a place, before the one that is there.
-    /// Precondition: the place is at most the number of chunks.
-    /// Refuses only for memory, and never within the room. Nothing changes then.
-    pub fn insert(&mut self, place: usize, chunk: ChunkPayloadData) -> Result<()>
-        requires { place ≤ length self.old.chunks }
-        ensures ok { OnOk result (self.new
-            ≡ record { chunks = insert self.old.chunks place chunk; room = self.old.room - 1 }) }
-        ensures err { OnErr result (self.new ≡ self.old) }
-        ensures memory { IsOkUnless result ErrOutOfMemory }
-        ensures succeeds { 0 < self.old.room → IsOk result }
-    {
-        let deadline = deadline_of(&chunk);
-        self.chunks.insert(place, chunk)?;
-        self.room = self.room.saturating_sub(1);
-        self.earliest = self.earliest.min(deadline);
-        Ok(())
-    }
-
-    /// The room is no more than this from here on.
-    pub fn limit_room(&mut self, room: usize)
-        ensures { self.new ≡ record self.old { room = min room self.old.room } }
-    {
-        self.room = self.room.min(room);
-    }
-
-    /// Takes out the chunk at a place, which is room then.
-    /// Precondition: the place has one.
-    pub fn remove_leaving_room(&mut self, place: usize) -> ChunkPayloadData
-        requires { place < length self.old.chunks }
-        ensures removed { self.new ≡ record {
-          chunks = remove self.old.chunks place;
-          room = self.old.room + 1;
-        } }
-        ensures value { result ≡ slice_index_or self.old.chunks place result }
-    {
-        match self.chunks.remove(place) {
-            Some(chunk) => {
-                self.room += 1;
-                chunk
-            }
-            None => unreachable!(),
-        }
-    }
-
-    /// Takes out the chunk at a place. The room stays as it is.
-    /// Precondition: the place has one.
-    pub fn remove(&mut self, place: usize) -> ChunkPayloadData
-        requires { place < length self.old.chunks }
-        ensures removed { self.new ≡ with_chunks self.old (remove self.old.chunks place) }
-        ensures value { result ≡ slice_index_or self.old.chunks place result }
-    {
-        let room = self.room;
-        let chunk = self.remove_leaving_room(place);
-        self.room = room;
-        chunk
-    }
-
-    /// Marks the chunk at a place, which is a turn, and answers how many bytes left with it.
-    /// Precondition: the place has one.
-    pub(crate) fn mark(&mut self, place: usize, mark: Mark, turns: &mut Turns) -> usize
-        requires { place < length self.old.chunks }
-        ensures changed { (d : _) → self.new ≡ with_chunks self.old (slice_set self.old.chunks place
-            (with_mark mark (slice_index_or self.old.chunks place d))) }
-        ensures left { (d : _)
-            → result + length (with_mark mark (slice_index_or self.old.chunks place d)).user_data
-            ≡ length (slice_index_or self.old.chunks place d).user_data }
-        ensures turn { turns.new ≡ turns.old + 1 }
-    {
-        turns.tick();
-        let chunk = &mut self.chunks[place];
-        match mark {
+        match self {
             Mark::Acknowledged => {
                 chunk.acked = true;
                 chunk.retransmit = false;
@@ -256,6 +71,241 @@ impl Held {
             }
         }
     }
+}
+
+/// Where a chunk is: its TSN, and its key in the slab.
+#[derive(Clone, Copy)]
+struct Place {
+    tsn: u32,
+    key: usize,
+}
+
+/// Chunks by place, from 0. The next `room` insertions take no memory. None that is not abandoned has a deadline before `earliest`.
+#[derive(Drop)]
+pub struct Held {
+    places: VecDeque<Place>,
+    slab: Slab<ChunkPayloadData>,
+    room: usize,
+    earliest: u64,
+}
+
+impl Model for Held {
+    ghost use Rattle.std.specs.Prelude.{◌≡◌, ◌+◌, ◌≤◌, length};
+    ghost use Rattle.std.specs.VecDeque.{deque_capacity, deque_len};
+    ghost use Rattle.slab.specs.Slab.{HasRoomFor, get};
+    ghost use Rattle.sctp_outbound.specs.Stored.{NoneBefore, Stored};
+    ghost use Rattle.sctp_outbound.specs.payload_queue.Places.{AreHeldAt, chunks_at};
+
+    ghost Value = { Stored };
+
+    ghost view = { λ h. record { chunks = chunks_at (get h.slab) h.places.items; room = h.room } };
+
+    ghost invariant = { λ h. record {
+      fits : deque_len h.places + h.room ≤ deque_capacity h.places;
+      slab_fits : HasRoomFor h.slab h.room;
+      counted : deque_len h.places ≡ length (chunks_at (get h.slab) h.places.items);
+      held : AreHeldAt (get h.slab) h.places.items (chunks_at (get h.slab) h.places.items);
+      deadlines : NoneBefore h.earliest (chunks_at (get h.slab) h.places.items);
+    } };
+}
+
+impl Held {
+    ghost use Rattle.sctp_outbound.specs.Stored.{with_chunks};
+    ghost use Rattle.sctp_outbound.specs.Marks.{as_taken_back, with_mark};
+
+    /// No chunks. It takes no memory.
+    pub fn new(alloc: Global) -> Self
+        ensures { result ≡ record { chunks = []; room = 0 } }
+    {
+        Held {
+            places: VecDeque::new(alloc),
+            slab: Slab::new(alloc),
+            room: 0,
+            earliest: u64::MAX,
+        }
+    }
+
+    /// How many chunks there are.
+    pub fn len(&self) -> usize
+        ensures { result ≡ length self.now.chunks }
+    {
+        self.places.len()
+    }
+
+    /// Whether there are none.
+    pub fn is_empty(&self) -> bool
+        ensures { result ≡ (length self.now.chunks == 0) }
+    {
+        self.places.is_empty()
+    }
+
+    /// How many insertions take no memory.
+    pub fn room(&self) -> usize
+        ensures { result ≡ self.now.room }
+    {
+        self.room
+    }
+
+    /// Looks at the chunk at a place, which is a turn.
+    /// Precondition: the place has one.
+    pub fn look<'a>(&'a self, place: usize, turns: &mut Turns) -> &'a ChunkPayloadData
+        requires { place < length self.now.chunks }
+        ensures value { result.now ≡ slice_index_or self.now.chunks place result.now }
+        ensures turn { turns.new ≡ turns.old + 1 }
+    {
+        turns.tick();
+        self.at(place)
+    }
+
+    /// The chunk at a place whose TSN was looked at before.
+    /// Precondition: the place has one.
+    pub(crate) fn at(&self, place: usize) -> &ChunkPayloadData
+        requires { place < length self.now.chunks }
+        ensures { result.now ≡ slice_index_or self.now.chunks place result.now }
+    {
+        &self.slab[self.places[place].key]
+    }
+
+    /// Looks at the TSN at a place, which is a turn.
+    /// Precondition: the place has a chunk.
+    pub(crate) fn tsn_at(&self, place: usize, turns: &mut Turns) -> u32
+        requires { place < length self.now.chunks }
+        ensures value { (d : _) → (slice_index_or self.now.chunks place d).tsn ≡ result }
+        ensures turn { turns.new ≡ turns.old + 1 }
+    {
+        turns.tick();
+        self.places[place].tsn
+    }
+
+    /// The TSN of the first chunk; None where there are none.
+    pub fn front_tsn(&self) -> Option<u32>
+        ensures { result ≡ option_map (λ c. c.tsn) (slice_get self.now.chunks 0) }
+    {
+        match self.places.front() {
+            Some(place) => Some(place.tsn),
+            None => None,
+        }
+    }
+
+    /// The TSN of the last chunk; None where there are none.
+    pub(crate) fn last_tsn(&self) -> Option<u32>
+        ensures { result
+            ≡ option_map (λ c. c.tsn) (slice_get self.now.chunks (length self.now.chunks - 1)) }
+    {
+        match self.places.back() {
+            Some(place) => Some(place.tsn),
+            None => None,
+        }
+    }
+
+    /// A moment in nanoseconds before which no chunk that is not abandoned has a deadline: the earliest deadline of all that came since
+    /// `settle_earliest`, and of those that it found.
+    pub(crate) fn earliest(&self) -> u64
+        ensures { NoneBefore result self.now.chunks }
+    {
+        self.earliest
+    }
+
+    /// Looks at each chunk, so that `earliest` hangs on those alone that are held and not abandoned.
+    pub(crate) fn settle_earliest(&mut self)
+        ensures { self.new ≡ self.old }
+    {
+        let mut earliest = u64::MAX;
+        for place in 0..self.len() {
+            earliest = earliest.min(deadline_of(self.at(place)));
+        }
+        self.earliest = earliest;
+    }
+
+    /// From here on `additional` insertions take no memory.
+    /// Refuses only for memory, and nothing changes then.
+    pub fn reserve(&mut self, additional: usize) -> Result<()>
+        ensures ok { OnOk result (self.new
+            ≡ record self.old { room = max additional self.old.room }) }
+        ensures err { OnErr result (self.new ≡ self.old) }
+        ensures memory { IsOkUnless result ErrOutOfMemory }
+        ensures succeeds { additional ≤ self.old.room → IsOk result }
+    {
+        if additional <= self.room {
+            return Ok(());
+        }
+        self.places.reserve(additional)?;
+        self.slab.reserve(additional)?;
+        self.room = additional;
+        Ok(())
+    }
+
+    /// Puts a chunk at a place, before the one that is there.
+    /// Precondition: the place is at most the number of chunks.
+    /// Refuses only for memory, and never within the room. Nothing changes then.
+    pub fn insert(&mut self, place: usize, chunk: ChunkPayloadData) -> Result<()>
+        requires { place ≤ length self.old.chunks }
+        ensures ok { OnOk result (self.new
+            ≡ record { chunks = insert self.old.chunks place chunk; room = self.old.room - 1 }) }
+        ensures err { OnErr result (self.new ≡ self.old) }
+        ensures memory { IsOkUnless result ErrOutOfMemory }
+        ensures succeeds { 0 < self.old.room → IsOk result }
+    {
+        self.places.reserve(1)?;
+        self.slab.reserve(1)?;
+        let tsn = chunk.tsn;
+        self.earliest = self.earliest.min(deadline_of(&chunk));
+        self.room = self.room.saturating_sub(1);
+        let key = self.slab.insert_reserved(chunk);
+        put_in(&mut self.places, place, Place { tsn, key });
+        Ok(())
+    }
+
+    /// The room is no more than this from here on.
+    pub fn limit_room(&mut self, room: usize)
+        ensures { self.new ≡ record self.old { room = min room self.old.room } }
+    {
+        self.room = self.room.min(room);
+    }
+
+    /// Takes out the chunk at a place, which is room then.
+    /// Precondition: the place has one.
+    pub fn remove_leaving_room(&mut self, place: usize) -> ChunkPayloadData
+        requires { place < length self.old.chunks }
+        ensures removed { self.new ≡ record {
+          chunks = remove self.old.chunks place;
+          room = self.old.room + 1;
+        } }
+        ensures value { result ≡ slice_index_or self.old.chunks place result }
+    {
+        let taken = take_from(&mut self.places, place);
+        self.room += 1;
+        self.slab.remove(taken.key)
+    }
+
+    /// Takes out the chunk at a place. The room stays as it is.
+    /// Precondition: the place has one.
+    pub fn remove(&mut self, place: usize) -> ChunkPayloadData
+        requires { place < length self.old.chunks }
+        ensures removed { self.new ≡ with_chunks self.old (remove self.old.chunks place) }
+        ensures value { result ≡ slice_index_or self.old.chunks place result }
+    {
+        let room = self.room;
+        let chunk = self.remove_leaving_room(place);
+        self.room = room;
+        chunk
+    }
+
+    /// Marks the chunk at a place, which is a turn, and answers how many bytes left with it.
+    /// Precondition: the place has one.
+    pub(crate) fn mark(&mut self, place: usize, mark: Mark, turns: &mut Turns) -> usize
+        requires { place < length self.old.chunks }
+        ensures changed { (d : _) → self.new ≡ with_chunks self.old (slice_set self.old.chunks place
+            (with_mark mark (slice_index_or self.old.chunks place d))) }
+        ensures left { (d : _)
+            → result + length (with_mark mark (slice_index_or self.old.chunks place d)).user_data
+            ≡ length (slice_index_or self.old.chunks place d).user_data }
+        ensures turn { turns.new ≡ turns.old + 1 }
+    {
+        turns.tick();
+        let key = self.places[place].key;
+        mark.write(&mut self.slab[key])
+    }
 
     /// Takes back the acknowledgement of the chunk at a place, which is a turn: it has these bytes then. Answers how many it had.
     /// Precondition: the place has one.
@@ -268,11 +318,46 @@ impl Held {
         ensures turn { turns.new ≡ turns.old + 1 }
     {
         turns.tick();
-        let chunk = &mut self.chunks[place];
-        let len = chunk.user_data.len();
-        chunk.acked = false;
-        chunk.user_data = user_data;
-        len
+        let key = self.places[place].key;
+        take_back(&mut self.slab[key], user_data)
+    }
+}
+
+// Puts a place before the one at an index, mostly behind the last.
+fn put_in(places: &mut VecDeque<Place>, at: usize, place: Place)
+    requires index { at ≤ deque_len places.old }
+    requires room { deque_len places.old < deque_capacity places.old }
+    ensures items { places.new.items ≡ insert places.old.items at place }
+    ensures len { deque_len places.new ≡ deque_len places.old + 1 }
+    ensures capacity { deque_capacity places.old ≤ deque_capacity places.new }
+{
+    if at == places.len() {
+        places.push_back_reserved(place);
+        return;
+    }
+    match places.insert(at, place) {
+        Ok(()) => (),
+        Err(_) => unreachable!(),
+    }
+}
+
+// Takes out the place at an index, mostly the first.
+fn take_from(places: &mut VecDeque<Place>, at: usize) -> Place
+    requires { at < deque_len places.old }
+    ensures value { result ≡ slice_index_or places.old.items at result }
+    ensures items { places.new.items ≡ remove places.old.items at }
+    ensures len { deque_len places.new + 1 ≡ deque_len places.old }
+    ensures capacity { deque_capacity places.new ≡ deque_capacity places.old }
+{
+    if at == 0 {
+        return match places.pop_front() {
+            Some(place) => place,
+            None => unreachable!(),
+        };
+    }
+    match places.remove(at) {
+        Some(place) => place,
+        None => unreachable!(),
     }
 }
 
@@ -284,6 +369,17 @@ fn deadline_of(chunk: &ChunkPayloadData) -> u64
         return u64::MAX;
     }
     chunk.deadline.unwrap_or(u64::MAX)
+}
+
+// Takes back the acknowledgement of a chunk: it has these bytes then. Answers how many it had.
+fn take_back(chunk: &mut ChunkPayloadData, user_data: Bytes) -> usize
+    ensures back { chunk.new ≡ record chunk.old { acked = false; user_data = user_data } }
+    ensures had { result ≡ length chunk.old.user_data }
+{
+    let len = chunk.user_data.len();
+    chunk.acked = false;
+    chunk.user_data = user_data;
+    len
 }
 
 // Takes the bytes out of a chunk, and answers how many they were.

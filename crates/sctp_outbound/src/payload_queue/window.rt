@@ -30,10 +30,10 @@ pub(crate) fn are_within_half(held: &Held, base: u32) -> bool
         return true;
     }
     let mut turns = Turns::new();
-    if !is_within_half(base, held.look(0, &mut turns).tsn) {
+    if !is_within_half(base, held.tsn_at(0, &mut turns)) {
         return false;
     }
-    is_within_half(base, held.look(len - 1, &mut turns).tsn)
+    is_within_half(base, held.tsn_at(len - 1, &mut turns))
 }
 
 /// Whether there is a base after which all that is held and the TSN lie at distance 1 to 2^31. Where there is one, the number before the

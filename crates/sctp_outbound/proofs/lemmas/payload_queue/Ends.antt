@@ -4,10 +4,10 @@ use Rattle.std.proofs.Common.{sym, subst, ◌∙◌, inl, inr, arith}
 use Rattle.std.specs.List.{All}
 use Rattle.std.proofs.lemmas.Bool.{cases_lt, false≢true}
 use Rattle.std.proofs.lemmas.Bool.Decides.{nat_tests}
-use Rattle.std.proofs.lemmas.List.{get_or_default}
 use Rattle.sctp_data.specs.declared.chunk.chunk_payload_data.ChunkPayloadData.{ChunkPayloadData}
 use Rattle.sctp_list_lemmas.specs.Serial.{distance, comes_before, at_or_before}
 use Rattle.sctp_list_lemmas.proofs.Distances.{before_is, before_by_distance, distance_by_before}
+use Rattle.sctp_outbound.proofs.lemmas.payload_queue.Marked.{any_chunk}
 use Rattle.sctp_serial.specs.Window.{IsSerial, IsWindow, IsWithinHalf, SpansOneWindow, first_among, is_held, is_new}
 
 -- distances add up, where the sum is short of the circle
@@ -29,14 +29,13 @@ between base f m l hb hf hm hl wf wl fm ml fl =
 
 module _ (chunks : List ChunkPayloadData) (serial : IsSerial chunks) where
   -- where the first and the last lie within half a circle after a base, so do all
-  pub all_between : (base : ℕ) → base < 2 ^ 32 → (f l : ChunkPayloadData) → 0 < length chunks → f ≡ get_or chunks 0 f → l ≡ get_or chunks (length chunks - 1) l
-      → IsWithinHalf base f.tsn → IsWithinHalf base l.tsn → All (λ c. IsWithinHalf base c.tsn) chunks
+  pub all_between : (base : ℕ) → base < 2 ^ 32 → (f l : ℕ) → 0 < length chunks → ((d : ChunkPayloadData) → (get_or chunks 0 d).tsn ≡ f)
+      → ((d : ChunkPayloadData) → (get_or chunks (length chunks - 1) d).tsn ≡ l) → IsWithinHalf base f → IsWithinHalf base l
+      → All (λ c. IsWithinHalf base c.tsn) chunks
   all_between base hb f l some rf rl wf wl k d lt =
       let last = length chunks - 1 in
-      let first_is : get_or chunks 0 d ≡ f = get_or_default chunks 0 d f some ∙ sym rf in
-      let last_is : get_or chunks last d ≡ l = get_or_default chunks last d l (omega arith) ∙ sym rl in
-      let wf' : IsWithinHalf base (get_or chunks 0 d).tsn = subst (λ (c : ChunkPayloadData). IsWithinHalf base c.tsn) (sym first_is) wf in
-      let wl' : IsWithinHalf base (get_or chunks last d).tsn = subst (λ (c : ChunkPayloadData). IsWithinHalf base c.tsn) (sym last_is) wl in
+      let wf' : IsWithinHalf base (get_or chunks 0 d).tsn = subst (IsWithinHalf base) (sym (rf d)) wf in
+      let wl' : IsWithinHalf base (get_or chunks last d).tsn = subst (IsWithinHalf base) (sym (rl d)) wl in
       elim (cases_lt 0 k) [
         | inl later ↦ elim (cases_lt k last) [
           | inl sooner ↦ between base (get_or chunks 0 d).tsn (get_or chunks k d).tsn (get_or chunks last d).tsn hb (serial.in_range 0 d some)
@@ -48,9 +47,9 @@ module _ (chunks : List ChunkPayloadData) (serial : IsSerial chunks) where
       ]
 
 -- of all, one that is read
-pub read_within : (chunks : List ChunkPayloadData) (base place : ℕ) (x : ChunkPayloadData) → place < length chunks → x ≡ get_or chunks place x
-    → All (λ c. IsWithinHalf base c.tsn) chunks → IsWithinHalf base x.tsn
-read_within chunks base place x lt read all = subst (λ (c : ChunkPayloadData). IsWithinHalf base c.tsn) (sym read) (all place x lt)
+pub read_within : (chunks : List ChunkPayloadData) (base place tsn : ℕ) → place < length chunks → ((d : ChunkPayloadData) → (get_or chunks place d).tsn ≡ tsn)
+    → All (λ c. IsWithinHalf base c.tsn) chunks → IsWithinHalf base tsn
+read_within chunks base place tsn lt read all = subst (IsWithinHalf base) (read any_chunk) (all place any_chunk lt)
 
 -- ## The window that begins with the first
 

@@ -18,6 +18,7 @@ use Rattle.sctp_list_lemmas.proofs.Edits.{those-append, list_any-append, or_asso
 use Rattle.sctp_list_lemmas.proofs.Distances.{distance_cases, before_is, distance_by_before}
 use Rattle.sctp_serial.specs.Runs.{IsRising}
 use Rattle.sctp_serial.specs.Window.{IsSerial, IsHeldAt, IsPlaceFor, IsWithinHalf, SpansOneWindow}
+use Rattle.sctp_outbound.proofs.lemmas.payload_queue.Marked.{any_chunk}
 use Rattle.sctp_outbound.specs.payload_queue.Blocks.{AscendsFrom, IsFirstAfter, IsRunUntil, is_offset, is_reported, is_in_blocks, gap_offsets, ends_of}
 use Rattle.sctp_list_lemmas.proofs.Cases.{or-none}
 use Rattle.sctp_serial.proofs.lemmas.AscendingEdits.{distance_self}
@@ -100,19 +101,16 @@ pub rising_on : (xs : List ChunkPayloadData) (first middle last : ℕ) → IsRis
 rising_on xs first middle last p q k d le lt = elim (cases_lt k middle) [ inl low ↦ p k d le low | inr high ↦ q k d high lt ]
 
 -- a look some places ahead of one whose TSN is known
-module _ (xs : List ChunkPayloadData) (serial : IsSerial xs) (place tsn step : ℕ) (x : ChunkPayloadData) (short : place + step < length xs)
-    (number : (d : ChunkPayloadData) → (get_or xs place d).tsn ≡ tsn) (read : x ≡ get_or xs (place + step) x) where
-  ahead : distance (get_or xs place x).tsn (get_or xs (place + step) x).tsn ≡ distance tsn x.tsn
-  ahead = ap (λ t. distance t (get_or xs (place + step) x).tsn) (number x) ∙ ap (λ (y : ChunkPayloadData). distance tsn y.tsn) (sym read)
+module _ (xs : List ChunkPayloadData) (serial : IsSerial xs) (place tsn step ahead : ℕ) (short : place + step < length xs)
+    (number : (d : ChunkPayloadData) → (get_or xs place d).tsn ≡ tsn) (read : (d : ChunkPayloadData) → (get_or xs (place + step) d).tsn ≡ ahead) where
+  apart : distance (get_or xs place any_chunk).tsn (get_or xs (place + step) any_chunk).tsn ≡ distance tsn ahead
+  apart = ap₂ distance (number any_chunk) (read any_chunk)
 
-  pub number_ahead : (d : ChunkPayloadData) → (get_or xs (place + step) d).tsn ≡ x.tsn
-  number_ahead d = ap (λ (y : ChunkPayloadData). y.tsn) (get_or_default xs (place + step) d x short ∙ sym read)
+  pub rises_ahead : distance tsn ahead ≡ step → IsRising xs place (place + step)
+  rises_ahead e = rising_from_distance xs serial place any_chunk step short (apart ∙ e)
 
-  pub rises_ahead : distance tsn x.tsn ≡ step → IsRising xs place (place + step)
-  rises_ahead e = rising_from_distance xs serial place x step short (ahead ∙ e)
-
-  pub breaks_ahead : (distance tsn x.tsn ≡ step → ⊥) → IsRising xs place (place + step) → ⊥
-  breaks_ahead differs r = differs (sym ahead ∙ distance_from_rising xs serial place x step short r)
+  pub breaks_ahead : (distance tsn ahead ≡ step → ⊥) → IsRising xs place (place + step) → ⊥
+  breaks_ahead differs r = differs (sym apart ∙ distance_from_rising xs serial place any_chunk step short r)
 
 -- a run that ends before a place where it breaks ends there for good
 pub run_cut : (xs : List ChunkPayloadData) (first middle cut end last : ℕ) → cut < end → end ≤ length xs → first ≤ middle → IsRising xs first middle

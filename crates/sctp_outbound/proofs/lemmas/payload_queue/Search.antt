@@ -5,8 +5,8 @@ use Rattle.std.proofs.lemmas.Bool.{cases_lt, false≢true}
 use Rattle.sctp_data.specs.declared.chunk.chunk_payload_data.ChunkPayloadData.{ChunkPayloadData}
 use Rattle.sctp_list_lemmas.specs.Serial.{comes_before}
 use Rattle.sctp_list_lemmas.proofs.Distances.{before_asym, before_irrefl, before_total, before_trans}
+use Rattle.sctp_outbound.proofs.lemmas.payload_queue.Marked.{any_chunk}
 use Rattle.sctp_serial.specs.Window.{IsSerial, IsPlaceFor, IsWindow, IsWithinHalf}
-use Rattle.std.proofs.lemmas.List.{get_or_default}
 
 -- what is left of the search
 pub record Narrowed (chunks : List ChunkPayloadData) (tsn low high : ℕ) : Type 0 where
@@ -19,65 +19,60 @@ pub record Narrowed (chunks : List ChunkPayloadData) (tsn low high : ℕ) : Type
       → IsTrue (comes_before tsn (get_or chunks k d).tsn)
 
 module _ (chunks : List ChunkPayloadData) (serial : IsSerial chunks) (tsn low high middle : ℕ) (fits : tsn < 2 ^ 32) (n : Narrowed chunks tsn low high)
-    (chunk : ChunkPayloadData) (at_least : low ≤ middle) (below : middle < high) (read : chunk ≡ get_or chunks middle chunk) (differs : chunk.tsn ≢ tsn) where
+    (here : ℕ)
+    (at_least : low ≤ middle) (below : middle < high) (number_here : (d : ChunkPayloadData) → (get_or chunks middle d).tsn ≡ here) (differs : here ≢ tsn) where
   within : middle < length chunks
   within = omega (arith, n.in_range)
 
-  number_here : (d : ChunkPayloadData) → (get_or chunks middle d).tsn ≡ chunk.tsn
-  number_here d = ap (λ (c : ChunkPayloadData). c.tsn) (get_or_default chunks middle d chunk within ∙ sym read)
-
-  rises : (k : ℕ) (d : ChunkPayloadData) → k < middle → IsTrue (comes_before (get_or chunks k d).tsn chunk.tsn)
+  rises : (k : ℕ) (d : ChunkPayloadData) → k < middle → IsTrue (comes_before (get_or chunks k d).tsn here)
   rises k d lt = subst (λ t. IsTrue (comes_before (get_or chunks k d).tsn t)) (number_here d) (serial.ascending k middle d lt within)
 
-  falls : (k : ℕ) (d : ChunkPayloadData) → middle < k → k < length chunks → IsTrue (comes_before chunk.tsn (get_or chunks k d).tsn)
+  falls : (k : ℕ) (d : ChunkPayloadData) → middle < k → k < length chunks → IsTrue (comes_before here (get_or chunks k d).tsn)
   falls k d lt short = subst (λ t. IsTrue (comes_before t (get_or chunks k d).tsn)) (number_here d) (serial.ascending middle k d lt short)
 
-  small : chunk.tsn < 2 ^ 32
-  small = subst (λ t. t < 2 ^ 32) (number_here chunk) (serial.in_range middle chunk within)
+  small : here < 2 ^ 32
+  small = subst (λ t. t < 2 ^ 32) (number_here any_chunk) (serial.in_range middle any_chunk within)
 
-  pub narrowed_right : IsTrue (comes_before chunk.tsn tsn) → Narrowed chunks tsn (middle + 1) high
+  near : (b : ℕ) → IsWindow b chunks tsn → IsWithinHalf b here
+  near b w = subst (IsWithinHalf b) (number_here any_chunk) (w.held middle any_chunk within)
+
+  pub narrowed_right : IsTrue (comes_before here tsn) → Narrowed chunks tsn (middle + 1) high
   narrowed_right h = record {
     ordered = omega arith;
     in_range = n.in_range;
     none_left = λ k d lt same. elim (cases_lt k middle) [
       | inl below_it ↦
-          absurd (false≢true (sym (before_asym chunk.tsn tsn small fits h) ∙ subst (λ t. IsTrue (comes_before t chunk.tsn)) same (rises k d below_it)))
+          absurd (false≢true (sym (before_asym here tsn small fits h) ∙ subst (λ t. IsTrue (comes_before t here)) same (rises k d below_it)))
       | inr above ↦ differs (sym (number_here d) ∙ ap (λ i. (get_or chunks i d).tsn) (omega arith) ∙ same)
     ];
     none_right = n.none_right;
     left = λ b w k d lt. elim (cases_lt k middle) [
-      | inl below_it ↦ before_trans b (get_or chunks k d).tsn chunk.tsn tsn w.base_in_range (serial.in_range k d (omega arith)) small fits
-          (w.held k d (omega arith)).0 (w.held k d (omega arith)).1 (here b w).0 (here b w).1 w.number.0 w.number.1 (rises k d below_it) h
+      | inl below_it ↦ before_trans b (get_or chunks k d).tsn here tsn w.base_in_range (serial.in_range k d (omega arith)) small fits
+          (w.held k d (omega arith)).0 (w.held k d (omega arith)).1 (near b w).0 (near b w).1 w.number.0 w.number.1 (rises k d below_it) h
       | inr above ↦ subst (λ t. IsTrue (comes_before t tsn)) (sym (number_here d) ∙ ap (λ i. (get_or chunks i d).tsn) (omega arith)) h
     ];
     right = n.right;
   }
-    where
-      here : (b : ℕ) → IsWindow b chunks tsn → IsWithinHalf b chunk.tsn
-      here b w = subst (IsWithinHalf b) (number_here chunk) (w.held middle chunk within)
 
-  pub narrowed_left : comes_before chunk.tsn tsn ≡ false → Narrowed chunks tsn low middle
+  pub narrowed_left : comes_before here tsn ≡ false → Narrowed chunks tsn low middle
   narrowed_left h = record {
     ordered = at_least;
     in_range = omega arith;
     none_left = n.none_left;
     none_right = λ k d le short same. elim (cases_lt middle k) [
-      | inl above ↦ absurd (false≢true (sym h ∙ subst (λ t. IsTrue (comes_before chunk.tsn t)) same (falls k d above short)))
+      | inl above ↦ absurd (false≢true (sym h ∙ subst (λ t. IsTrue (comes_before here t)) same (falls k d above short)))
       | inr at_it ↦ differs (sym (number_here d) ∙ ap (λ i. (get_or chunks i d).tsn) (omega arith) ∙ same)
     ];
     left = n.left;
     right = λ b w k d le short. elim (cases_lt middle k) [
-      | inl above ↦ before_trans b tsn chunk.tsn (get_or chunks k d).tsn w.base_in_range fits small (serial.in_range k d short) w.number.0 w.number.1
-          (here b w).0 (here b w).1 (w.held k d short).0 (w.held k d short).1 (turned b w) (falls k d above short)
+      | inl above ↦ before_trans b tsn here (get_or chunks k d).tsn w.base_in_range fits small (serial.in_range k d short) w.number.0 w.number.1
+          (near b w).0 (near b w).1 (w.held k d short).0 (w.held k d short).1 (turned b w) (falls k d above short)
       | inr at_it ↦ subst (λ t. IsTrue (comes_before tsn t)) (sym (number_here d) ∙ ap (λ i. (get_or chunks i d).tsn) (omega arith)) (turned b w)
     ];
   }
     where
-      here : (b : ℕ) → IsWindow b chunks tsn → IsWithinHalf b chunk.tsn
-      here b w = subst (IsWithinHalf b) (number_here chunk) (w.held middle chunk within)
-
-      turned : (b : ℕ) → IsWindow b chunks tsn → IsTrue (comes_before tsn chunk.tsn)
-      turned b w = before_total b chunk.tsn tsn w.base_in_range small fits (here b w).0 (here b w).1 w.number.0 w.number.1 differs h
+      turned : (b : ℕ) → IsWindow b chunks tsn → IsTrue (comes_before tsn here)
+      turned b w = before_total b here tsn w.base_in_range small fits (near b w).0 (near b w).1 w.number.0 w.number.1 differs h
 
 -- nothing is left to search
 module _ (chunks : List ChunkPayloadData) (tsn place : ℕ) (n : Narrowed chunks tsn place place) where
@@ -106,9 +101,10 @@ narrowed_none chunks tsn = record {
 }
 
 -- what comes after the last goes behind it
-pub behind_last : (chunks : List ChunkPayloadData) → IsSerial chunks → (tsn : ℕ) (chunk : ChunkPayloadData) → tsn < 2 ^ 32 → 0 < length chunks
-    → chunk ≡ get_or chunks (length chunks - 1) chunk → IsTrue (comes_before chunk.tsn tsn) → Narrowed chunks tsn (length chunks) (length chunks)
-behind_last chunks serial tsn chunk fits some read h =
+pub behind_last : (chunks : List ChunkPayloadData) → IsSerial chunks → (tsn last : ℕ) → tsn < 2 ^ 32 → 0 < length chunks
+    → ((d : ChunkPayloadData) → (get_or chunks (length chunks - 1) d).tsn ≡ last) → IsTrue (comes_before last tsn)
+    → Narrowed chunks tsn (length chunks) (length chunks)
+behind_last chunks serial tsn last fits some read h =
     subst (λ n. Narrowed chunks tsn n (length chunks)) {x = length chunks - 1 + 1} (omega arith)
-    (narrowed_right chunks serial tsn 0 (length chunks) (length chunks - 1) fits (narrowed_none chunks tsn) chunk (omega arith) (omega arith) read
+    (narrowed_right chunks serial tsn 0 (length chunks) (length chunks - 1) fits (narrowed_none chunks tsn) last (omega arith) (omega arith) read
     (λ e. false≢true (sym (before_irrefl tsn fits) ∙ subst (λ t. IsTrue (comes_before t tsn)) e h)) h)

@@ -2,7 +2,7 @@ use Rattle.std.proofs.Common.{◌≡◌, ℕ, ◌+◌, ◌-◌, ◌*◌, ◌^◌
 use Rattle.std.proofs.Math.Nat.{mul-le-mul, pow-le-pow_right}
 use Rattle.std.proofs.lemmas.Bool.{cases_lt}
 use Rattle.std.proofs.lemmas.Nat.{pow-add}
-use Rattle.sctp_outbound.proofs.lemmas.payload_queue.Gaps.{number_ahead, rises_ahead, breaks_ahead, rising_on, run_cut}
+use Rattle.sctp_outbound.proofs.lemmas.payload_queue.Gaps.{rises_ahead, breaks_ahead, rising_on, run_cut}
 use Rattle.sctp_serial.proofs.lemmas.Halves.{one_more}
 use Rattle.sctp_outbound.proofs.payload_queue.run_end.Goals as goal
 
@@ -39,18 +39,18 @@ returns-then-distance-step-clause-run c =
     let short : last + step < length xs = omega (arith, c.requires.in_range) in
     run_cut xs c.args.place last (last + step) c.args.end c.run_end_between.result.0
     (omega arith) c.requires.in_range c.loop-step.invariant.from c.loop-step.invariant.rising
-    (breaks_ahead xs c.requires.serial last c.loop-step.tsn step c.look.result.now short c.loop-step.invariant.number c.look.ensures.value
+    (breaks_ahead xs c.requires.serial last c.loop-step.tsn step c.tsn_at-ahead.result short c.loop-step.invariant.number c.tsn_at-ahead.ensures.value
     (λ e. c.if-distance-step.true (c.distance.ensures.value ∙ e)))
     c.run_end_between.ensures.run
 
 pub returns-then-distance-step-clause-cost : goal.returns-then-distance-step-clause-cost
 returns-then-distance-step-clause-cost c =
     let inv = c.loop-step.invariant in
-    let more = one_more c.args.turns.now c.loop-step.turns c.look.new.turns inv.not_back c.look.ensures.turn in
+    let more = one_more c.args.turns.now c.loop-step.turns c.tsn_at-ahead.new.turns inv.not_back c.tsn_at-ahead.ensures.turn in
     let run = c.run_end_between.ensures.run in
-    let second = no_greater (c.run_end_between.new.turns - c.look.new.turns) inv.power.0 c.loop-step.step inv.power.1
+    let second = no_greater (c.run_end_between.new.turns - c.tsn_at-ahead.new.turns) inv.power.0 c.loop-step.step inv.power.1
     (omega (arith, c.run_end_between.ensures.cost, inv.known)) in
-    turns_of_both c.args.turns.now c.look.new.turns c.run_end_between.new.turns _ (omega arith) c.run_end_between.ensures.not_back
+    turns_of_both c.args.turns.now c.tsn_at-ahead.new.turns c.run_end_between.new.turns _ (omega arith) c.run_end_between.ensures.not_back
     (omega (arith, more, inv.cost, inv.from, run.from)) (omega (arith, second, inv.known, inv.from, run.from))
 
 pub loop-step-preserved : goal.loop-step-preserved
@@ -59,7 +59,7 @@ loop-step-preserved c =
     let last = c.loop-step.last in
     let step = c.loop-step.step in
     let inv = c.loop-step.invariant in
-    let more = one_more c.args.turns.now c.loop-step.turns c.look.new.turns inv.not_back c.look.ensures.turn in
+    let more = one_more c.args.turns.now c.loop-step.turns c.tsn_at-ahead.new.turns inv.not_back c.tsn_at-ahead.ensures.turn in
     let short : last + step < length xs = omega (arith, c.requires.in_range) in
     record {
       from = omega arith;
@@ -69,10 +69,10 @@ loop-step-preserved c =
         | inl some ↦ (inv.power.0 + 1, omega (arith, inv.power.1, inv.known, inv.from, pow-add 2 inv.power.0 1))
         | inr none ↦ (0, omega (arith, inv.known, inv.from))
       ];
-      number = number_ahead xs c.requires.serial last c.loop-step.tsn step c.look.result.now short inv.number c.look.ensures.value;
+      number = c.tsn_at-ahead.ensures.value;
       rising = rising_on xs c.args.place last (last + step) inv.rising
-          (rises_ahead xs c.requires.serial last c.loop-step.tsn step c.look.result.now short inv.number c.look.ensures.value (sym c.distance.ensures.value
-          ∙ c.if-distance-step.false));
+          (rises_ahead xs c.requires.serial last c.loop-step.tsn step c.tsn_at-ahead.result short inv.number c.tsn_at-ahead.ensures.value
+          (sym c.distance.ensures.value ∙ c.if-distance-step.false));
       not_back = omega arith;
       cost = omega (arith, more, inv.cost, inv.known, inv.from);
     }

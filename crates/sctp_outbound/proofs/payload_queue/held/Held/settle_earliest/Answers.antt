@@ -1,4 +1,4 @@
-use Rattle.std.proofs.Common.{rules, ◌≡◌, ◌<◌, length, take, subst, arith}
+use Rattle.std.proofs.Common.{take, sym, ap, ◌∙◌, subst, arith}
 use Rattle.std.proofs.lemmas.List.{take_all}
 use Rattle.std.proofs.lemmas.List.Elements.{All-more}
 use Rattle.sctp_outbound.specs.Stored.{IsNotBefore, NoneBefore}
@@ -7,19 +7,22 @@ use Rattle.sctp_outbound.proofs.payload_queue.held.Held.settle_earliest.Goals as
 
 pub loop-place-preserved : goal.loop-place-preserved
 loop-place-preserved c =
-    let xs = c.self.inside.chunks.items in
-    let x = c.index.result.now in
+    let xs = c.args.self.now.chunks in
+    let x = c.at.result.now in
     let moment = c.min-earliest.result in
-    let within : c.loop-place.place < length xs = search rules in
-    All-more (IsNotBefore moment) xs c.loop-place.place x within
+    All-more (IsNotBefore moment) xs c.loop-place.place x (omega (arith, c.loop-place-test.true, c.len-place-end.ensures))
     (none_sooner c.loop-place.earliest moment (take c.loop-place.place xs) (omega (arith, c.min-earliest.ensures)) c.loop-place.invariant)
-    (subst (IsNotBefore moment) c.index.ensures (not_sooner c.deadline_of.result moment x (omega (arith, c.min-earliest.ensures)) c.deadline_of.ensures))
+    (subst (IsNotBefore moment) c.at.ensures (not_sooner c.deadline_of.result moment x (omega (arith, c.min-earliest.ensures)) c.deadline_of.ensures))
 
 pub invariant_of-self : goal.invariant_of-self
 invariant_of-self c =
-    let xs = c.self.inside.chunks.items in
-    let all : length xs ≡ c.loop-place.place = search rules in
+    let xs = c.args.self.now.chunks in
+    let all = take_all c.loop-place.place xs (omega (arith, c.loop-place-test.false, c.len-place-end.ensures)) in
+    let inv = c.self.invariant in
     record {
-      fits = c.self.invariant.fits;
-      deadlines = subst (NoneBefore c.loop-place.earliest) (take_all c.loop-place.place xs (omega arith)) c.loop-place.invariant;
+      fits = inv.fits;
+      slab_fits = inv.slab_fits;
+      counted = inv.counted;
+      held = inv.held;
+      deadlines = subst (NoneBefore c.loop-place.earliest) (all ∙ ap (λ s. s.chunks) (sym c.self.view_is)) c.loop-place.invariant;
     }

@@ -3,4 +3,4 @@ use Rattle.sctp_outbound.specs.Stored.{NoneBefore}
 use Rattle.sctp_outbound.proofs.payload_queue.held.Held.settle_earliest.Given as goal
 
 abbrev pub invariant-loop-place : goal.invariant-loop-place
-invariant-loop-place l = NoneBefore l.earliest (take l.place l.self-inside.chunks.items)
+invariant-loop-place l = NoneBefore l.earliest (take l.place l.fn.self.chunks)

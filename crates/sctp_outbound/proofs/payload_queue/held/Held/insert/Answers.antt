@@ -1,0 +1,85 @@
+use Rattle.std.proofs.Common.{◌≡◌, ◌-◌, length, refl, sym, ap, ◌∙◌, subst, arith}
+use Rattle.std.specs.List.{insert}
+use Rattle.slab.specs.Slab.{get, slab_len}
+use Rattle.sctp_outbound.specs.Stored.{NoneBefore}
+use Rattle.sctp_outbound.specs.payload_queue.Places.{AreHeldAt, chunks_at}
+use Rattle.sctp_outbound.proofs.lemmas.payload_queue.Places.{inserted, held_length, still, stored, none_before_insert}
+use Rattle.sctp_outbound.proofs.payload_queue.held.Held.insert.Goals as goal
+
+pub invariant_of-self-in_err-reserve-2 : goal.invariant_of-self-in_err-reserve-2
+invariant_of-self-in_err-reserve-2 c =
+    let kept = c.in_err-reserve-2.ensures.rest_kept in
+    let same = c.in_ok-reserve.ensures.items in
+    let inv = c.self.invariant in
+    record {
+      fits = omega (arith, inv.fits, c.in_ok-reserve.ensures.len, c.in_ok-reserve.ensures.capacity);
+      slab_fits = omega (arith, inv.slab_fits, ap slab_len kept, c.in_err-reserve-2.ensures.capacity);
+      counted = still (λ under ps. c.reserve.new.self.len ≡ length (chunks_at under ps)) c.self.inside.slab c.reserve-2.new.self _ _ _ kept same
+          (c.in_ok-reserve.ensures.len ∙ inv.counted);
+      held = still (λ under ps. AreHeldAt under ps (chunks_at under ps)) c.self.inside.slab c.reserve-2.new.self _ _ _ kept same inv.held;
+      deadlines = still (λ under ps. NoneBefore c.self.inside.earliest (chunks_at under ps)) c.self.inside.slab c.reserve-2.new.self _ _ _ kept same
+          inv.deadlines;
+    }
+
+pub put_in-requires-clause-index : goal.put_in-requires-clause-index
+put_in-requires-clause-index c =
+    let viewed = ap (λ s. length s.chunks) c.self.view_is in
+    omega (arith, viewed, c.requires, c.self.invariant.counted, c.in_ok-reserve.ensures.len)
+
+-- the places of the new deque, and the chunks under the new slab's keys
+after : (c : goal.After-put_in) → (chunks_at (get c.insert_reserved-key.new.self) c.put_in.new.places.items
+    ≡ insert (chunks_at (get c.self.inside.slab) c.self.inside.places.items) c.args.place c.args.chunk)
+    × AreHeldAt (get c.insert_reserved-key.new.self) c.put_in.new.places.items (chunks_at (get c.insert_reserved-key.new.self) c.put_in.new.places.items)
+after c =
+    let kept = c.in_ok-reserve-2.ensures.rest_kept in
+    let same = c.in_ok-reserve.ensures.items in
+    let before = chunks_at (get c.self.inside.slab) c.self.inside.places.items in
+    let unchanged = still (λ under ps. chunks_at under ps ≡ before) c.self.inside.slab c.reserve-2.new.self _ _ _ kept same refl in
+    let long = held_length _ _ _ c.self.invariant.held in
+    let viewed = ap (λ s. length s.chunks) c.self.view_is in
+    let held = still (λ under ps. AreHeldAt under ps (chunks_at under ps)) c.self.inside.slab c.reserve-2.new.self _ _ _ kept same c.self.invariant.held in
+    let more = inserted (get c.reserve-2.new.self)
+    (get c.insert_reserved-key.new.self) c.insert_reserved-key.result c.insert_reserved-key.ensures.updates.others
+    c.args.chunk c.insert_reserved-key.ensures.was_vacant c.insert_reserved-key.ensures.updates.changed c.reserve.new.self.items c.put_in.new.places.items
+    c.args.place _ (omega (arith, viewed, c.requires, long, ap length same)) refl refl c.put_in.ensures.items held in
+    (more.0 ∙ ap (λ cs. insert cs c.args.place c.args.chunk) unchanged, more.1)
+
+pub invariant_of-self-2 : goal.invariant_of-self-2
+invariant_of-self-2 c =
+    let inv = c.self.invariant in
+    let kept = c.in_ok-reserve-2.ensures.rest_kept in
+    let now = after c in
+    let long = held_length _ _ _ now.1 in
+    let ok = c.put_in.new.places.ok.0 in
+    let less = c.saturating_sub-self-inside.ensures in
+    record {
+      fits = omega (
+        arith,
+        inv.fits,
+        less,
+        c.in_ok-reserve.ensures.len,
+        c.in_ok-reserve.ensures.ok,
+        c.in_ok-reserve.ensures.capacity,
+        c.put_in.ensures.len,
+        c.put_in.ensures.capacity,
+      );
+      slab_fits = omega (
+        arith,
+        inv.slab_fits,
+        less,
+        ap slab_len kept,
+        c.in_ok-reserve-2.ensures.room,
+        c.in_ok-reserve-2.ensures.capacity,
+        c.insert_reserved-key.ensures.len,
+        c.insert_reserved-key.ensures.capacity,
+      );
+      counted = omega (arith, long, ok);
+      held = now.1;
+      deadlines = subst (NoneBefore c.min-self-inside.result) (sym now.0)
+          (none_before_insert c.self.inside.earliest c.deadline_of.result c.args.place _ c.args.chunk c.min-self-inside.result c.min-self-inside.ensures
+          inv.deadlines c.deadline_of.ensures);
+    }
+
+pub returns-clause-ok : goal.returns-clause-ok
+returns-clause-ok c = stored _ _ _ _ ((after c).0 ∙ ap (λ s. insert s.chunks c.args.place c.args.chunk) c.self.view_is)
+    (c.saturating_sub-self-inside.ensures ∙ ap (λ s. s.room - 1) c.self.view_is)
