@@ -192,6 +192,23 @@ impl Line {
             ≡ with_chunks self.new (chunk ∷ self.new.chunks)) }
         ensures empty { IfNone result ((self.old.chunks ≡ []) × (self.new ≡ self.old)) }
     {
+        if self.chunks.len() == 1 && self.chunks.capacity() > MOST_KEPT {
+            return self.pop_last();
+        }
+        // looked at where it stands, so that it is copied once, into the result
+        let chunk = self.chunks.front()?;
+        self.n_bytes -= chunk.user_data.len();
+        self.chunks.pop_front()
+    }
+
+    // Takes out the first chunk, and gives back memory where it was the last.
+    #[cold]
+    #[inline(never)]
+    fn pop_last(&mut self) -> Option<ChunkPayloadData>
+        ensures popped { IfSome result (λ chunk. self.old
+            ≡ with_chunks self.new (chunk ∷ self.new.chunks)) }
+        ensures empty { IfNone result ((self.old.chunks ≡ []) × (self.new ≡ self.old)) }
+    {
         let chunk = self.chunks.pop_front()?;
         self.n_bytes -= chunk.user_data.len();
         self.give_back();
