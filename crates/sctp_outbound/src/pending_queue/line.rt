@@ -178,12 +178,21 @@ impl Line {
         let mut rest = VecDeque::from_vec(chunks);
         while let Some(mut chunk) = rest.pop_front() {
             chunk.message_id = message_id;
-            match self.push_back(chunk) {
-                Ok(()) => {}
-                Err(_) => unreachable!(),
-            }
+            self.push_within_room(chunk);
         }
         Ok(())
+    }
+
+    // Puts a chunk behind the others, for which there is room.
+    fn push_within_room(&mut self, chunk: ChunkPayloadData)
+        requires bytes { bytes_of self.old.chunks + length chunk.user_data < 2 ^ 64 }
+        requires room { 0 < self.old.room }
+        ensures { self.new
+            ≡ record { chunks = self.old.chunks ++ chunk ∷ []; room = self.old.room - 1 } }
+    {
+        self.n_bytes += chunk.user_data.len();
+        self.room -= 1;
+        self.chunks.push_back_reserved(chunk);
     }
 
     /// Takes out the first chunk; None where there are none.
