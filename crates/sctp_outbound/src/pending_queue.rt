@@ -200,13 +200,13 @@ impl PendingQueue {
         ensures popped { result ≡ slice_get (list_of unordered self.old) 0 }
         ensures rest { self.new ≡ rest_of unordered self.old (list_of unordered self.old) }
     {
-        let chunk = if unordered {
-            self.unordered.pop_front()?
-        } else {
-            self.ordered.pop_front()?
-        };
-        self.selected = selected_after(self.selected, unordered, &chunk);
-        Some(chunk)
+        if unordered {
+            // looked at where it stands, so that it is copied once, into the result
+            note_sent(&mut self.selected, true, self.unordered.get(0)?);
+            return self.unordered.pop_front();
+        }
+        note_sent(&mut self.selected, false, self.ordered.get(0)?);
+        self.ordered.pop_front()
     }
 
     /// The list that the flag names.
@@ -345,29 +345,23 @@ fn list_to_pop(
     }
 }
 
-// The partially sent message after a chunk of a list left.
-fn selected_after(
-    selected: Option<Selected>,
-    unordered: bool,
-    chunk: &ChunkPayloadData,
-) -> Option<Selected>
-    ensures { result ≡ selected_after selected unordered chunk.now }
+// Notes which message is partially sent once a chunk of a list leaves. It writes only where that changes.
+fn note_sent(selected: &mut Option<Selected>, unordered: bool, chunk: &ChunkPayloadData)
+    ensures { selected.new ≡ selected_after selected.old unordered chunk.now }
 {
-    match selected {
-        Some(selected) => {
-            if chunk.ending_fragment && chunk.message_id == selected.message_id {
-                return None;
+    match *selected {
+        Some(partial) => {
+            if chunk.ending_fragment && chunk.message_id == partial.message_id {
+                *selected = None;
             }
-            Some(selected)
         }
         None => {
-            if chunk.ending_fragment {
-                return None;
+            if !chunk.ending_fragment {
+                *selected = Some(Selected {
+                    message_id: chunk.message_id,
+                    unordered,
+                });
             }
-            Some(Selected {
-                message_id: chunk.message_id,
-                unordered,
-            })
         }
     }
 }

@@ -178,16 +178,42 @@ impl Line {
         let mut rest = VecDeque::from_vec(chunks);
         while let Some(mut chunk) = rest.pop_front() {
             chunk.message_id = message_id;
-            match self.push_back(chunk) {
-                Ok(()) => {}
-                Err(_) => unreachable!(),
-            }
+            self.push_within_room(chunk);
         }
         Ok(())
     }
 
+    // Puts a chunk behind the others, for which there is room.
+    fn push_within_room(&mut self, chunk: ChunkPayloadData)
+        requires bytes { bytes_of self.old.chunks + length chunk.user_data < 2 ^ 64 }
+        requires room { 0 < self.old.room }
+        ensures { self.new
+            ≡ record { chunks = self.old.chunks ++ chunk ∷ []; room = self.old.room - 1 } }
+    {
+        self.n_bytes += chunk.user_data.len();
+        self.room -= 1;
+        self.chunks.push_back_reserved(chunk);
+    }
+
     /// Takes out the first chunk; None where there are none.
     pub(crate) fn pop_front(&mut self) -> Option<ChunkPayloadData>
+        ensures popped { IfSome result (λ chunk. self.old
+            ≡ with_chunks self.new (chunk ∷ self.new.chunks)) }
+        ensures empty { IfNone result ((self.old.chunks ≡ []) × (self.new ≡ self.old)) }
+    {
+        if self.chunks.len() == 1 && self.chunks.capacity() > MOST_KEPT {
+            return self.pop_last();
+        }
+        // looked at where it stands, so that it is copied once, into the result
+        let chunk = self.chunks.front()?;
+        self.n_bytes -= chunk.user_data.len();
+        self.chunks.pop_front()
+    }
+
+    // Takes out the first chunk, and gives back memory where it was the last.
+    #[cold]
+    #[inline(never)]
+    fn pop_last(&mut self) -> Option<ChunkPayloadData>
         ensures popped { IfSome result (λ chunk. self.old
             ≡ with_chunks self.new (chunk ∷ self.new.chunks)) }
         ensures empty { IfNone result ((self.old.chunks ≡ []) × (self.new ≡ self.old)) }
