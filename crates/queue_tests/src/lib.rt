@@ -6,6 +6,8 @@ mod chunk;
 #[cfg(test)]
 mod chunks;
 #[cfg(test)]
+mod counted;
+#[cfg(test)]
 mod outbound_queue;
 #[cfg(test)]
 mod part;

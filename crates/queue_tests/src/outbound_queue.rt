@@ -4,7 +4,7 @@ use crate::chunk::chunk;
 use bytes::Bytes;
 use sctp_base::error::Error;
 use sctp_chunks::chunk::chunk_payload_data::{ChunkPayloadData, ReliabilityType};
-use sctp_queues::outbound_queue::OutboundQueue;
+use sctp_queues::outbound_queue::{ExpiredRun, OutboundQueue};
 use std::alloc::Global;
 
 const MILLISECOND: u64 = 1_000_000;
@@ -247,6 +247,48 @@ fn numbers_close_up(queue: &mut OutboundQueue) -> bool {
 fn closes_up_later_numbers(rt: HostRuntime) {
     let mut queue = OutboundQueue::new(rt.alloc());
     assert!(rt; lapsing(rt.alloc(), &mut queue) && numbers_close_up(&mut queue));
+}
+
+// Two messages on stream 1 with lifetimes and one without, then one with a lifetime on stream 2, and an unordered one on stream 1. The
+// lifetimes begin at 0.
+fn lapsing_together(alloc: Global, queue: &mut OutboundQueue) -> bool {
+    let well = pushes(queue, letter(alloc, 1, 0, false, true))
+        && pushes(queue, letter(alloc, 1, 1, false, true))
+        && pushes(queue, letter(alloc, 1, 2, false, false))
+        && pushes(queue, letter(alloc, 2, 0, false, true))
+        && pushes(queue, letter(alloc, 1, 3, true, true));
+    queue.start_timed_messages(0);
+    well
+}
+
+// Whether so many messages of one byte each expire together on this stream.
+fn expire_together(queue: &mut OutboundQueue, kind: (u16, bool), messages: u16) -> bool {
+    let run = ExpiredRun {
+        stream_identifier: kind.0,
+        unordered: kind.1,
+        messages,
+        bytes: usize::from(messages),
+    };
+    queue.expire_pending_run(MILLISECOND) == Some(run)
+}
+
+// What is unordered goes first. The third message of stream 1 is sent as its first one, since nothing of those before was sent.
+fn runs_expire(queue: &mut OutboundQueue) -> bool {
+    let mut tsn = 10;
+    queue.expire_pending_run(MILLISECOND - 1) == None
+        && expire_together(queue, (1, true), 1)
+        && expire_together(queue, (1, false), 2)
+        && queue.expire_pending_run(MILLISECOND) == None
+        && numbers(queue.peek_pending()) == Some((2, 0))
+        && sends(queue, &mut tsn, Some(10))
+        && expire_together(queue, (2, false), 1)
+        && queue.pending_len() == 0
+}
+
+#[test]
+fn messages_expire_together(rt: HostRuntime) {
+    let mut queue = OutboundQueue::new(rt.alloc());
+    assert!(rt; lapsing_together(rt.alloc(), &mut queue) && runs_expire(&mut queue));
 }
 
 fn no_lifetime_starts_twice(queue: &mut OutboundQueue) -> bool {
