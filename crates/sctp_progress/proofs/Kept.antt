@@ -57,7 +57,7 @@ pub numbers-alike : (ps qs : List StreamProgress) → map standing_of qs ≡ map
 numbers-alike ps qs e = numbers-shown qs ∙ ap numbers_of e ∙ sym (numbers-shown ps)
 
 module _ (ns : List ℕ) (ps : List StreamProgress) (is : ns ≡ map (λ (p : StreamProgress). p.number) ps) where
-  shown : ns ≡ numbers_of (map standing_of ps)
+  pub shown : ns ≡ numbers_of (map standing_of ps)
   shown = is ∙ numbers-shown ps
 
   -- ## One that is not there

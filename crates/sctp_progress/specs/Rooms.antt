@@ -1,18 +1,26 @@
 -- Room for the numbers of unordered messages that become complete.
-use Rattle.std.specs.Prelude.{◌≡◌, ℕ, ◌+◌, ◌<◌, ◌≤◌, List, length, slice_index_or}
+use Rattle.std.specs.Prelude.{◌≡◌, ℕ, ◌+◌, ◌<◌, ◌≤◌, Bool, ◌==◌, List, length, slice_index_or}
+use Rattle.std.specs.List.{count_by}
 use Rattle.std.specs.VecDeque.{deque_len, deque_capacity}
 use Rattle.sctp_data.specs.declared.chunk.chunk_payload_data.ChunkPayloadData.{ChunkPayloadData}
-use Rattle.sctp_stream.specs.Numbers.{IsOnlyPlace}
 use Rattle.sctp_progress.specs.declared.progress.StreamProgress.{StreamProgress}
 
--- there is room for n further numbers on the stream at a place, where there is one
-abbrev pub HasRoomAt : ℕ → ℕ → List StreamProgress → Type 0
-HasRoomAt n k ps =
-    (p : StreamProgress) → k < length ps → p ≡ slice_index_or ps k p
-    → deque_len p.complete + n ≤ deque_capacity p.complete
+-- a chunk is one of stream s
+abbrev pub is_of : ℕ → ChunkPayloadData → Bool
+is_of s c = c.stream_identifier == s
 
--- so on the stream of each chunk
-abbrev pub HasRoom : ℕ → List ℕ → List ChunkPayloadData → List StreamProgress → Type 0
-HasRoom n ns cs ps =
-    (j k : ℕ) (c : ChunkPayloadData) → j < length cs → c ≡ slice_index_or cs j c
-    → IsOnlyPlace c.stream_identifier ns k → HasRoomAt n k ps
+-- how many of these chunks are a stream's
+abbrev pub chunks_of : StreamProgress → List ChunkPayloadData → ℕ
+chunks_of p cs = count_by (is_of p.number) cs
+
+-- each stream has room for as many numbers as these chunks are its own
+abbrev pub HasRoom : List ChunkPayloadData → List StreamProgress → Type 0
+HasRoom cs ps =
+    (k : ℕ) (p : StreamProgress) → k < length ps → p ≡ slice_index_or ps k p
+    → deque_len p.complete + chunks_of p cs ≤ deque_capacity p.complete
+
+-- each stream that has one of the chunks cs has counted its own of these
+abbrev pub HasCounted : List ChunkPayloadData → List ChunkPayloadData → List StreamProgress → Type 0
+HasCounted cs these ps =
+    (k : ℕ) (p : StreamProgress) → k < length ps → p ≡ slice_index_or ps k p
+    → 0 < chunks_of p cs → p.incoming ≡ chunks_of p these

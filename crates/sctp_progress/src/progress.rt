@@ -1,6 +1,6 @@
 //! How far the messages of each open stream are.
 
-ghost use Rattle.std.specs.Prelude.{◌≡◌, ◌<◌, ◌≤◌, ◌+◌, ◌^◌, ◌⊎◌, ◌++◌, ◌∷◌, [], None, Some, OnOk, OnErr, IfOk, IfErr, IsOkUnless, find, is_some, length, map, option_map, slice_index_or, if◌then◌else◌};
+ghost use Rattle.std.specs.Prelude.{◌≡◌, ◌<◌, ◌≤◌, ◌+◌, ◌^◌, ◌⊎◌, ◌++◌, ◌∷◌, [], None, Some, OnOk, OnErr, IfOk, IfErr, IsOkUnless, MatchOption, find, is_some, length, map, option_map, slice_index_or, if◌then◌else◌};
 ghost use Rattle.sctp_base.specs.declared.error.Error.TheVariants.{ErrOutOfMemory};
 ghost use Rattle.sctp_progress.specs.Progress.{Standing, standing_of, fresh};
 
@@ -23,6 +23,8 @@ pub struct StreamProgress {
     number: u16,
     // the unordered messages that are complete and not read, by their numbers, in the order in which they became complete
     complete: VecDeque<u64>,
+    // while room is made for the chunks of a datagram, how many of those so far are of this stream; else it means nothing
+    incoming: usize,
     // how many ordered messages were written and did not expire
     ordered: u64,
     // how many of them were begun to be sent
@@ -41,6 +43,7 @@ impl StreamProgress {
         StreamProgress {
             number,
             complete: VecDeque::new(alloc),
+            incoming: 0,
             ordered: 0,
             begun: 0,
             next: 0,
@@ -74,7 +77,8 @@ impl Progress {
     ghost use Rattle.sctp_list_lemmas.specs.Lists.{change_at, change_where};
     ghost use Rattle.sctp_receiver.specs.Receiver.{TakesEachBy, StopsAtBy, data_refusal};
     ghost use Rattle.sctp_receiver.specs.declared.receiver.refusal.ReceiverRefusal.TheVariants.{OutOfMemory};
-    ghost use Rattle.sctp_progress.specs.Progress.{has_number, ordered_in, begun_in, with_write, with_expiry, with_begun, with_read, with_named, after_each};
+    ghost use Rattle.sctp_stream.specs.Numbers.{IsAbsent, IsOnlyPlace};
+    ghost use Rattle.sctp_progress.specs.Progress.{has_number, numbers_of, ordered_in, begun_in, with_write, with_expiry, with_begun, with_read, with_named, after_each};
 
     /// No stream is open. It takes no memory.
     pub fn new(alloc: Global) -> Self
@@ -106,6 +110,14 @@ impl Progress {
         ensures { result ≡ is_some (find (has_number stream) self.now) }
     {
         self.numbers.place_of(stream).is_some()
+    }
+
+    /// How many streams were opened before one that is open; None where it is not.
+    pub fn place_of(&self, stream: u16) -> Option<usize>
+        ensures { MatchOption result (IsAbsent stream (numbers_of self.now))
+            (IsOnlyPlace stream (numbers_of self.now)) }
+    {
+        self.numbers.place_of(stream)
     }
 
     /// How many streams are open.

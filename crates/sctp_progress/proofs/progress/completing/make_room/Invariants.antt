@@ -1,10 +1,12 @@
-use Rattle.std.proofs.Common.{◌≡◌, length, map}
+use Rattle.std.proofs.Common.{◌≡◌, map, take}
 use Rattle.sctp_progress.specs.Progress.{standing_of}
-use Rattle.sctp_progress.proofs.Rooms.{HasRoomTo}
+use Rattle.sctp_progress.specs.Rooms.{HasRoom, HasCounted}
 use Rattle.sctp_progress.proofs.progress.completing.make_room.Given as goal
 
 abbrev pub invariant-loop-at : goal.invariant-loop-at
 invariant-loop-at l = record {
-  kept : map standing_of l.streams.items ≡ map standing_of l.initial.streams.items;
-  room : HasRoomTo l.at (length l.chunks) l.numbers l.chunks l.streams.items;
+  kept : map standing_of l.streams.items ≡ map standing_of l.fn.streams.items;
+  counted : HasCounted l.chunks (take l.at l.chunks) l.streams.items;
+  room : HasRoom (take l.at l.chunks) l.streams.items;
+  spare : HasRoom l.chunks l.fn.streams.items → HasRoom l.chunks l.streams.items;
 }

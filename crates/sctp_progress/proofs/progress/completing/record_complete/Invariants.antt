@@ -1,10 +1,10 @@
-use Rattle.std.proofs.Common.{◌≡◌, ◌-◌, length, map, take}
+use Rattle.std.proofs.Common.{◌≡◌, map, take, drop}
 use Rattle.sctp_progress.specs.Progress.{standing_of, after_each}
 use Rattle.sctp_progress.specs.Rooms.{HasRoom}
 use Rattle.sctp_progress.proofs.progress.completing.record_complete.Given as goal
 
 abbrev pub invariant-loop-at : goal.invariant-loop-at
 invariant-loop-at l = record {
-  room : HasRoom (length l.chunks - l.at) l.numbers l.chunks l.streams.items;
+  room : HasRoom (drop l.at l.chunks) l.streams.items;
   complete : map standing_of l.streams.items ≡ after_each (take l.at l.chunks) l.messages (take l.at l.arrivals) (map standing_of l.initial.streams.items);
 }

@@ -1,13 +1,13 @@
-use Rattle.std.proofs.Common.{◌+◌, ap, map, sym, ◌∙◌, arith}
+use Rattle.std.proofs.Common.{ap, map, refl, sym, ◌∙◌, arith}
 use Rattle.sctp_progress.specs.declared.progress.StreamProgress.{StreamProgress}
 use Rattle.sctp_progress.specs.Progress.{Standing, standing_of, with_complete}
 use Rattle.sctp_progress.proofs.Kept.{absent-on, place-inside, put-on}
 use Rattle.sctp_progress.proofs.Completing.{one-absent, one-complete, one-more}
-use Rattle.sctp_progress.proofs.Rooms.{room-put}
+use Rattle.sctp_progress.proofs.Rooms.{room-less, room-one, room-taken}
 use Rattle.sctp_progress.proofs.progress.completing.record_one.Goals as goal
 
 pub returns-in_default-clause-rest : goal.returns-in_default-clause-rest
-returns-in_default-clause-rest c = λ k n h p lt e. omega (arith, h p lt e)
+returns-in_default-clause-rest c = λ cs. room-less c.args.chunk.now cs c.args.streams.now.items
 
 pub returns-in_default-clause-complete : goal.returns-in_default-clause-complete
 returns-in_default-clause-complete c =
@@ -24,15 +24,19 @@ index_mut-requires c =
 
 pub push_back_reserved-requires : goal.push_back_reserved-requires
 push_back_reserved-requires c =
-    let lt = place-inside c.args.numbers.now c.args.streams.now.items c.requires.numbers c.args.chunk.now.stream_identifier c.in-Some.place c.in-Some.ensures in
-    omega (arith, c.requires.room c.in-Some.place c.in-Some.ensures c.index_mut.result.now lt c.index_mut.ensures.value)
+    let ps = c.args.streams.now.items in
+    let lt = place-inside c.args.numbers.now ps c.requires.numbers c.args.chunk.now.stream_identifier c.in-Some.place c.in-Some.ensures in
+    room-one c.args.numbers.now ps c.requires.numbers c.args.chunk.now c.in-Some.place c.in-Some.ensures lt c.index_mut.result.now c.index_mut.ensures.value
+    c.requires.room
 
 pub returns-then-completes-clause-rest : goal.returns-then-completes-clause-rest
-returns-then-completes-clause-rest c = λ k n h.
+returns-then-completes-clause-rest c =
+    let ps = c.args.streams.now.items in
     let p = c.index_mut.result.now in
-    room-put c.in-Some.place p (record p { complete = c.push_back_reserved.new.self }) c.args.streams.now.items k (n + 1) n c.index_mut.ensures.value
-    (omega arith)
-    (λ room. omega (arith, room, c.push_back_reserved.ensures.len, c.push_back_reserved.ensures.capacity)) h
+    let q : StreamProgress = record p { complete = c.push_back_reserved.new.self } in
+    let lt = place-inside c.args.numbers.now ps c.requires.numbers c.args.chunk.now.stream_identifier c.in-Some.place c.in-Some.ensures in
+    room-taken c.args.numbers.now ps c.requires.numbers c.args.chunk.now c.in-Some.place c.in-Some.ensures lt p c.index_mut.ensures.value q refl
+    c.push_back_reserved.ensures.len c.push_back_reserved.ensures.capacity
 
 pub returns-then-completes-clause-complete : goal.returns-then-completes-clause-complete
 returns-then-completes-clause-complete c =
@@ -45,7 +49,7 @@ returns-then-completes-clause-complete c =
     ∙ sym (one-complete c.args.chunk.now c.args.message c.args.arrival (map standing_of ps) (sym c.completes.ensures ∙ c.if-completes.true))
 
 pub returns-else-completes-clause-rest : goal.returns-else-completes-clause-rest
-returns-else-completes-clause-rest c = λ k n h p lt e. omega (arith, h p lt e)
+returns-else-completes-clause-rest c = λ cs. room-less c.args.chunk.now cs c.args.streams.now.items
 
 pub returns-else-completes-clause-complete : goal.returns-else-completes-clause-complete
 returns-else-completes-clause-complete c =
