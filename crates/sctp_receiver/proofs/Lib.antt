@@ -6,6 +6,7 @@ pub mod PushCosts
 pub mod Retracts
 pub mod Inbounds
 pub mod Undone
+pub mod UndoCosts
 pub mod Forwarded
 pub mod Receptions
 pub mod RepeatedNames
@@ -24,5 +25,7 @@ pub mod Settled
 pub mod Listing
 pub mod GapCounts
 pub mod StreamCosts
+pub mod SkipCosts
+pub mod HeldSkips
 pub mod HeldBound
 mod Examples
