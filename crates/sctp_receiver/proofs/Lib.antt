@@ -7,6 +7,7 @@ pub mod Retracts
 pub mod Inbounds
 pub mod Undone
 pub mod UndoCosts
+pub mod Datagrams
 pub mod Forwarded
 pub mod Receptions
 pub mod RepeatedNames

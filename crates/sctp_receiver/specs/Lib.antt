@@ -11,3 +11,4 @@ pub mod Undo
 pub mod Visited
 pub mod Costs
 pub mod SkipCosts
+pub mod Datagrams
