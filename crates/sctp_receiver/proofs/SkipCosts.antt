@@ -4,7 +4,7 @@ use Rattle.std.proofs.Common.{Some, None, refl, ap, sym, ◌∙◌}
 use Rattle.std.proofs.Common.{arith}
 use Rattle.std.specs.Prelude.{find, not, if◌then◌else◌, slice_get, slice_set}
 use Rattle.std.specs.List.{sum_by, filter}
-use Rattle.std.proofs.lemmas.Bool.{ne_eqb}
+use Rattle.std.proofs.lemmas.Bool.{le-ltb, ne_eqb}
 use Rattle.std.proofs.lemmas.List.Sums.{sum_by-cons, sum_by-set}
 use Rattle.std.proofs.lemmas.Option.{slice_get_within, slice_get-get_or, get_or_from_slice_get}
 use Rattle.sctp_list_lemmas.specs.Lists.{change_where}
@@ -23,10 +23,11 @@ use Rattle.sctp_receiver.specs.declared.receiver.visiting.Skip.TheVariants.{Unas
 use Rattle.sctp_receiver.specs.Inbound.{has_number, ssn_forwarded, named_forwarded, unassembled_forwarded}
 use Rattle.sctp_receiver.specs.Receiver.{Reception, after_forward, follow_forward_tsn, is_stale}
 use Rattle.sctp_receiver.specs.SkipCosts.{name_walk, names_walk_behind, name_before, is_repeated, settle_walk, unordered_skips_walk, incomplete_skips_walk}
-use Rattle.sctp_receiver.specs.Visited.{AreInverse, holds_any, skip_forwarded, to_visit}
+use Rattle.sctp_receiver.specs.Visited.{AreInverse, is_spot_before, holds_any, skip_forwarded, to_visit}
 use Rattle.sctp_receiver.proofs.Settled.{named-any, unassembled-any}
 use Rattle.sctp_receiver.proofs.StreamCosts.{mapped-cost, named-cost}
 use Rattle.sctp_receiver.proofs.VisitOrders.{set-there}
+use Rattle.sctp_receiver.proofs.Visiting.{ChangedBefore}
 use Rattle.sctp_receiver.proofs.Weights as weights
 
 -- ## What is spent at the places of an order
@@ -92,6 +93,12 @@ pub spent-more : (n k w : ℕ) (order ws : List ℕ) → slice_get order n ≡ S
 spent-more n k w order ws at here =
     let e : weight_at ws (slice_get order n) ≡ w = ap (weight_at ws) at ∙ ap number_of here in
     omega (arith, e)
+
+-- what stands at the next spot is as it was
+pub not-yet : {X : Type 0} (g : X → X) (i k : ℕ) (spots : List ℕ) (xs ys : List X) (x : X) → ChangedBefore g i spots xs ys → slice_get spots k ≡ Some i
+    → slice_get xs k ≡ Some x → slice_get ys k ≡ Some x
+not-yet g i k spots xs ys x changed spot e =
+    changed k x e ∙ ap (λ o. Some (if is_spot_before i o then g x else x)) spot ∙ ap (λ b. Some (if b then g x else x)) (le-ltb i i (omega arith))
 
 module _ {X : Type 0} (f : X → ℕ) where
   pub total-map : (xs : List X) → total (map f xs) ≡ sum_by f xs

@@ -1,12 +1,12 @@
 use Rattle.std.proofs.Common.{rules, arith, ◌≡◌, ◌<◌, Bool, map, length, length-set, add-one, Some, ap, sym, subst, ◌∙◌, refl}
 use Rattle.std.specs.Prelude.{slice_get, slice_index_or, if◌then◌else◌}
-use Rattle.std.proofs.lemmas.Bool.{lt-ltb, le-ltb}
+use Rattle.std.proofs.lemmas.Bool.{lt-ltb}
 use Rattle.std.proofs.lemmas.Option.{slice_get_within, get_or_from_slice_get}
 use Rattle.sctp_list_lemmas.proofs.Cases.{some-same}
 use Rattle.sctp_receiver.specs.declared.receiver.inbound_streams.InboundStream.{InboundStream}
 use Rattle.sctp_receiver.specs.SkipCosts.{visit_walk}
 use Rattle.sctp_receiver.specs.Visited.{skip_forwarded, is_spot_before}
-use Rattle.sctp_receiver.proofs.SkipCosts.{if_visited, spent-more, spent-within, at-map, total-map, visited-sum}
+use Rattle.sctp_receiver.proofs.SkipCosts.{if_visited, not-yet, spent-more, spent-within, at-map, total-map, visited-sum}
 use Rattle.sctp_receiver.proofs.Settled.{skip-stays}
 use Rattle.sctp_receiver.proofs.Listing.{any, incomplete}
 use Rattle.sctp_receiver.proofs.Visiting.{ChangedBefore, none-changed, next-changed, all-changed, few-visited, element}
@@ -41,8 +41,7 @@ loop-spot-preserved c =
     let here = element any xs k (omega (arith, lt, c.loop-spot.invariant.same)) in
     let x = here.0 in
     let stands : slice_get v.spots k ≡ Some spot = (c.at.ensures.inverse spot k).0 c.at.ensures.place in
-    let still : slice_get ys k ≡ Some x = c.loop-spot.invariant.so_far k x here.1
-    ∙ ap (λ o. Some (if is_spot_before spot o then f x else x)) stands ∙ ap (λ b. Some (if b then f x else x)) (le-ltb spot spot (omega arith)) in
+    let still : slice_get ys k ≡ Some x = not-yet f spot k v.spots xs ys x c.loop-spot.invariant.so_far stands here.1 in
     let same = ap m (get_or_from_slice_get ys k x d still) in
     let before : spot < v.count = search rules in
     let holds = c.requires.listing.visited k x here.1 (ap (is_spot_before v.count) stands ∙ lt-ltb spot v.count before) in
