@@ -6,6 +6,8 @@ pub mod PushCosts
 pub mod Retracts
 pub mod Inbounds
 pub mod Undone
+pub mod UndoCosts
+pub mod Datagrams
 pub mod Forwarded
 pub mod Receptions
 pub mod RepeatedNames
@@ -24,5 +26,7 @@ pub mod Settled
 pub mod Listing
 pub mod GapCounts
 pub mod StreamCosts
+pub mod SkipCosts
+pub mod HeldSkips
 pub mod HeldBound
 mod Examples

@@ -53,7 +53,7 @@ room-kept r n room mid adv last was moved rest places limited =
           ∙ ap (with_chunks mid) (sym chunks),
     )
 
-length-put : {A : Type 0} (before : A → A → Bool) (x : A) (xs : List A) → length (insert_before before x xs) ≡ length xs + 1
+pub length-put : {A : Type 0} (before : A → A → Bool) (x : A) (xs : List A) → length (insert_before before x xs) ≡ length xs + 1
 length-put before x [] = omega arith
 length-put before x (e ∷ es) = by (before x e) (length-put before x es)
   where

@@ -96,13 +96,13 @@ named-none ssn l h = fewer-sets l.queue.held (ssn_forwarded ssn l).queue.held re
 
 -- ## No more streams to visit
 
-unassembled-any : (tsn : ℕ) (l : InboundStream) → holds_any l.queue.held ≡ false → holds_any (unassembled_forwarded tsn l).queue.held ≡ false
+pub unassembled-any : (tsn : ℕ) (l : InboundStream) → holds_any l.queue.held ≡ false → holds_any (unassembled_forwarded tsn l).queue.held ≡ false
 unassembled-any tsn l h =
     let parts = neither (not (length l.queue.held.unassembled == 0)) (not (length l.queue.held.ordered == 0)) h in
     ap₂ (λ us os. not (length (after_leading (λ x. at_or_before x.tsn tsn) us) == 0) || not (length os == 0))
     (is-empty l.queue.held.unassembled parts.0) (is-empty l.queue.held.ordered parts.1)
 
-named-any : (ssn : ℕ) (l : InboundStream) → holds_any l.queue.held ≡ false → holds_any (ssn_forwarded ssn l).queue.held ≡ false
+pub named-any : (ssn : ℕ) (l : InboundStream) → holds_any l.queue.held ≡ false → holds_any (ssn_forwarded ssn l).queue.held ≡ false
 named-any ssn l h =
     let parts = neither (not (length l.queue.held.unassembled == 0)) (not (length l.queue.held.ordered == 0)) h in
     ap₂ (λ us os. not (length us == 0) || not (length (filter (λ set. not (is_passed ssn set)) os) == 0))

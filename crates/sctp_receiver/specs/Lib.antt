@@ -10,3 +10,5 @@ pub mod ReceiverRuns
 pub mod Undo
 pub mod Visited
 pub mod Costs
+pub mod SkipCosts
+pub mod Datagrams

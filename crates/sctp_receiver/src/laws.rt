@@ -1,6 +1,8 @@
-//! What holds after every run of calls of a receiver: a law, the contract of a function that does nothing.
+//! What holds of every receiver, or after every run of its calls: a law, the contract of a function that does nothing.
 
 ghost use Rattle.sctp_receiver.specs.ReceiverRuns.{AfterEachRun, AfterEachRunWithin, AreComplete, AreOfOneMessage, CostsLittle, HoldsFewChunks, KeepsFewTsns, NotesFewDuplicates, WereAccepted};
+ghost use Rattle.sctp_receiver.specs.Datagrams.{DatagramsCostLittle};
+ghost use Rattle.sctp_receiver.specs.SkipCosts.{SkipsCostByWhatIsHeld};
 
 /// Whatever chunks come to a receiver, and whichever streams are opened and closed, each message that it hands out is complete: its
 /// fragments have consecutive TSNs, the first begins and the last ends. They are alike: all unordered, or all ordered with one stream
@@ -23,4 +25,19 @@ pub fn what_is_held_is_bounded()
     ensures bytes { AfterEachRunWithin CostsLittle }
     ensures beyond { AfterEachRunWithin KeepsFewTsns }
     ensures duplicates { AfterEachRunWithin NotesFewDuplicates }
+{}
+
+/// What a FORWARD-TSN looks at within streams, by the bound of `Receiver::forward_tsn_skips_counted` (`skips_walk`), where it names no stream
+/// twice, as it holds the greatest number of each (RFC 3758 3.2): each ordered message that was not read at most 14 times, each of their
+/// fragments and each unassembled one six times, and once for each name, and for each stream that has any of these. So it costs what
+/// is held, once, and not that for each name.
+pub fn a_skip_costs_by_what_is_held()
+    ensures { SkipsCostByWhatIsHeld }
+{}
+
+/// What the DATA chunks of one datagram look at together, by the bound of `Receiver::data_each_counted` where none is refused
+/// (`IsWithinEach`): beside the pushes in their streams, for each chunk three times the binary digits of the number of TSNs beyond the
+/// cumulative one and of chunks together, and six more; and for each TSN that was beyond one, not one for each chunk.
+pub fn a_datagram_costs_by_its_chunks()
+    ensures { DatagramsCostLittle }
 {}

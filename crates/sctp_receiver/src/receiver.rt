@@ -1,9 +1,10 @@
 //! The receiving half of a link (RFC 4960 6.2; RFC 3758 3.6).
 
-ghost use Rattle.std.specs.Prelude.{◌≡◌, ◌==◌, ◌⊎◌, true, false, not, None, Some, OnOk, OnErr, IfOk, IfErr, IsOk, IsOkUnless, option_map, option_copied, is_some, map, min, length, slice_index_or, ◌<◌, ◌≤◌, ◌+◌, ◌-◌, ◌^◌, if◌then◌else◌};
+ghost use Rattle.std.specs.Prelude.{◌≡◌, ◌==◌, ◌⊎◌, true, false, not, None, Some, OnOk, OnErr, IfOk, IfErr, IsOk, IsOkUnless, option_map, option_copied, is_some, find, map, min, length, slice_index_or, ◌<◌, ◌≤◌, ◌+◌, ◌-◌, ◌^◌, if◌then◌else◌};
 ghost use Rattle.sctp_data.specs.declared.chunk.chunk_forward_tsn.ChunkForwardTsnStream.{ChunkForwardTsnStream};
 ghost use Rattle.sctp_list_lemmas.specs.Lists.{change_where};
 ghost use Rattle.sctp_receiver.specs.Inbound.{named_forwarded, has_number, ssn_forwarded};
+ghost use Rattle.sctp_receiver.specs.SkipCosts.{name_walk, names_walk_behind, name_before, is_repeated};
 ghost use Rattle.sctp_receiver.specs.declared.receiver.refusal.ReceiverRefusal.TheVariants.{StreamOpen, StreamUnknown, OutOfMemory};
 
 pub mod arrival;
@@ -72,6 +73,7 @@ impl Receiver {
     ghost use Rattle.sctp_data.specs.ForwardTsn.{forward_tsn_of};
     ghost use Rattle.sctp_reassembly.specs.reassembly_queue.ReassemblyQueue.{at_start};
     ghost use Rattle.sctp_receiver.specs.Costs.{names_turns, IsWithinData};
+    ghost use Rattle.sctp_receiver.specs.SkipCosts.{names_walk, unordered_skips_walk};
     ghost use Rattle.sctp_receiver.specs.Ssns.{is_kept_on};
     ghost use Rattle.sctp_receiver.specs.TsnFilter.{has_come, placeholder};
     ghost use Rattle.sctp_serial.specs.DataChunks.{bytes_of};
@@ -359,6 +361,33 @@ impl Receiver {
         ensures cost { turns.new
             ≤ turns.old + names_turns (forward_tsn_of chunk.now) self.old self.new }
     {
+        self.forward_tsn_by_names_skips_counted(chunk, turns, &mut Turns::new())
+    }
+
+    /// The same, and what it looks at within streams is added to `skips`: for each name that does not repeat the one before it five turns for
+    /// each ordered message that its stream held before the chunk, and two for each of their fragments, at most; and in all streams six
+    /// for each unassembled fragment, and one more for each stream that has these or ordered messages.
+    pub fn forward_tsn_by_names_skips_counted(
+        &mut self,
+        chunk: &ChunkForwardTsn,
+        turns: &mut Turns,
+        skips: &mut Turns,
+    ) -> Result<Forwarded, ReceiverRefusal>
+        ensures answer { IfOk result (λ forwarded. forwarded
+            ≡ forwarded_of (forward_tsn_of chunk.now) self.old) }
+        ensures ok { OnOk result (self.new ≡ after_forward (forward_tsn_of chunk.now) self.old) }
+        ensures accepted { IsOk result
+            → forward_refusal (forward_tsn_of chunk.now) self.old ≡ None }
+        ensures refused { IfErr result (λ e. forward_refusal (forward_tsn_of chunk.now) self.old
+            ≡ Some e) }
+        ensures err { OnErr result (self.new ≡ self.old) }
+        ensures not_back { turns.old ≤ turns.new }
+        ensures cost { turns.new
+            ≤ turns.old + names_turns (forward_tsn_of chunk.now) self.old self.new }
+        ensures skips_not_back { skips.old ≤ skips.new }
+        ensures walk { skips.new ≤ skips.old + names_walk (forward_tsn_of chunk.now) self.old
+            + unordered_skips_walk self.old.streams }
+    {
         let tsn = chunk.new_cumulative_tsn;
         if self.filter.is_opposite(tsn) {
             return Err(ReceiverRefusal::TsnOpposite);
@@ -366,8 +395,9 @@ impl Receiver {
         if sna32lte(tsn, self.filter.cumulative_tsn()) {
             return Ok(Forwarded::Stale);
         }
-        forward_named(&mut self.streams, &chunk.streams, turns);
-        self.streams.forward_unordered_counted(tsn, turns);
+        forward_named(&mut self.streams, &chunk.streams, turns, skips);
+        self.streams
+            .forward_unordered_skips_counted(tsn, turns, skips);
         self.filter.skip_to_counted(tsn, turns);
         Ok(Forwarded::Skipped)
     }
@@ -410,25 +440,39 @@ impl Receiver {
 }
 
 // Discards what a FORWARD-TSN names, one name after another. A name that repeats the one before it changes nothing, and costs no walk.
-// A turn is taken for each name.
-fn forward_named(streams: &mut InboundStreams, names: &[ChunkForwardTsnStream], turns: &mut Turns)
+// A turn is taken for each name, and those of the skips are added to `skips`.
+fn forward_named(
+    streams: &mut InboundStreams,
+    names: &[ChunkForwardTsnStream],
+    turns: &mut Turns,
+    skips: &mut Turns,
+)
     ensures value { streams.new ≡ named_forwarded names.now streams.old }
     ensures cost { turns.new ≡ turns.old + length names.now }
+    ensures skips_not_back { skips.old ≤ skips.new }
+    ensures walk { skips.new ≤ skips.old + names_walk_behind None names.now streams.old }
 {
     for place in 0..names.len() {
         turns.tick();
         if is_repeat(names, place) {
             continue;
         }
-        forward_name(streams, names[place].identifier, names[place].sequence);
+        forward_name(
+            streams,
+            names[place].identifier,
+            names[place].sequence,
+            skips,
+        );
     }
 }
 
 // Whether a name repeats the one before it.
 fn is_repeat(names: &[ChunkForwardTsnStream], place: usize) -> bool
     requires { place < length names.now }
-    ensures { result ≡ true → (0 < place) × ((d : ChunkForwardTsnStream)
+    ensures same { result ≡ true → (0 < place) × ((d : ChunkForwardTsnStream)
         → slice_index_or names.now (place - 1) d ≡ slice_index_or names.now place d) }
+    ensures told { (d : ChunkForwardTsnStream) → result
+        ≡ is_repeated (name_before place names.now) (slice_index_or names.now place d) }
 {
     if place == 0 {
         return false;
@@ -439,11 +483,14 @@ fn is_repeat(names: &[ChunkForwardTsnStream], place: usize) -> bool
 }
 
 // Discards what one name says. Another time it would change nothing.
-fn forward_name(streams: &mut InboundStreams, stream: u16, ssn: u16)
+fn forward_name(streams: &mut InboundStreams, stream: u16, ssn: u16, skips: &mut Turns)
     ensures value { streams.new
         ≡ change_where (has_number stream) (ssn_forwarded ssn) streams.old }
     ensures again { change_where (has_number stream) (ssn_forwarded ssn) streams.new
         ≡ streams.new }
+    ensures not_back { skips.old ≤ skips.new }
+    ensures walk { skips.new
+        ≤ skips.old + name_walk (find (has_number stream) streams.old) }
 {
-    streams.forward_ordered(stream, ssn);
+    streams.forward_ordered_counted(stream, ssn, skips);
 }

@@ -1,8 +1,9 @@
 //! The DATA chunks of a datagram (RFC 4960 6.10).
 
-ghost use Rattle.std.specs.Prelude.{◌≡◌, ◌⊎◌, ◌≤◌, [], OnErr, IfOk, IfErr};
+ghost use Rattle.std.specs.Prelude.{◌≡◌, ◌⊎◌, ◌≤◌, ◌-◌, [], OnOk, OnErr, IfOk, IfErr};
 ghost use Rattle.std.specs.Vec.{vec_capacity};
 ghost use Rattle.sctp_receiver.specs.declared.receiver.refusal.ReceiverRefusal.TheVariants.{OutOfMemory};
+ghost use Rattle.sctp_receiver.specs.Costs.{IsWithinEach, IsWithinEachBy, IsWithinRefused, IsWithinRefusedBy};
 ghost use Rattle.sctp_receiver.specs.Receiver.{TakesEach, TakesEachBy, StopsAt, StopsAtBy, data_refusal, refusal_for};
 ghost use Rattle.sctp_receiver.specs.Undo.{parts, reception_of};
 
@@ -20,8 +21,7 @@ use std::alloc::Global;
 impl Receiver {
     /// Takes DATA chunks one after another, each as `data` takes it, and answers what each was. The first one that is refused refuses
     /// them all, with its refusal; `OutOfMemory` may come in the place of any other, since room for the answers is taken before. The
-    /// receiver is as it was before the first chunk: those before the refused one are taken back, the last one first. Two chunks cost
-    /// what twice one costs, whatever is held.
+    /// receiver is as it was before the first chunk: those before the refused one are taken back, the last one first.
     pub fn data_each(
         &mut self,
         chunks: &[ChunkPayloadData],
@@ -31,7 +31,29 @@ impl Receiver {
         ensures refused { IfErr result (λ e. (e ≡ OutOfMemory) ⊎ StopsAt chunks.now self.old e) }
         ensures err { OnErr result (self.new ≡ self.old) }
     {
-        self.take_all(chunks, false)
+        self.data_each_counted(chunks, &mut Turns::new())
+    }
+
+    /// The same, and its turns are added: for each chunk those of `data_counted`, as the receiver is when its turn comes
+    /// (`IsWithinEach`). Where one is refused, none is looked at behind it, and each before it takes as many more as `undo_looks` says: one,
+    /// and for each TSN that is beyond the cumulative one again one more than the number of those has binary digits
+    /// (`IsWithinRefused`). What takes its fragment back, and the search for its TSN beyond, take no turn.
+    pub fn data_each_counted(
+        &mut self,
+        chunks: &[ChunkPayloadData],
+        turns: &mut Turns,
+    ) -> Result<Vec<Arrival>, ReceiverRefusal>
+        ensures ok { IfOk result (λ arrivals.
+            TakesEach chunks.now arrivals.items self.old self.new) }
+        ensures refused { IfErr result (λ e. (e ≡ OutOfMemory) ⊎ StopsAt chunks.now self.old e) }
+        ensures err { OnErr result (self.new ≡ self.old) }
+        ensures not_back { turns.old ≤ turns.new }
+        ensures cost { OnOk result
+            (IsWithinEach chunks.now self.old self.new (turns.new - turns.old)) }
+        ensures cost_refused { OnErr result
+            (IsWithinRefused chunks.now self.old (turns.new - turns.old)) }
+    {
+        self.take_all(chunks, false, turns)
     }
 
     /// Takes DATA chunks as `data_each` does, but for `SsnTooFar`: ordered ones of any stream sequence number (`data_with_any_ssn`).
@@ -45,20 +67,26 @@ impl Receiver {
             ⊎ StopsAtBy data_refusal chunks.now self.old e) }
         ensures err { OnErr result (self.new ≡ self.old) }
     {
-        self.take_all(chunks, true)
+        self.take_all(chunks, true, &mut Turns::new())
     }
 
-    // Takes them all, or none.
+    // Takes them all, or none. Its turns are added.
     fn take_all(
         &mut self,
         chunks: &[ChunkPayloadData],
         any_ssn: bool,
+        turns: &mut Turns,
     ) -> Result<Vec<Arrival>, ReceiverRefusal>
         ensures ok { IfOk result (λ arrivals.
             TakesEachBy (refusal_for any_ssn) chunks.now arrivals.items self.old self.new) }
         ensures refused { IfErr result (λ e. (e ≡ OutOfMemory)
             ⊎ StopsAtBy (refusal_for any_ssn) chunks.now self.old e) }
         ensures err { OnErr result (self.new ≡ self.old) }
+        ensures not_back { turns.old ≤ turns.new }
+        ensures cost { OnOk result (IsWithinEachBy (refusal_for any_ssn) chunks.now
+            self.old self.new (turns.new - turns.old)) }
+        ensures cost_refused { OnErr result
+            (IsWithinRefusedBy (refusal_for any_ssn) chunks.now self.old (turns.new - turns.old)) }
     {
         let rules = self.rules(any_ssn);
         take_each(
@@ -67,17 +95,19 @@ impl Receiver {
             &mut self.filter,
             rules,
             chunks,
+            turns,
         )
     }
 }
 
-// Takes chunks one after another, up to the first one that is refused: then those before it are taken back.
+// Takes chunks one after another, up to the first one that is refused: then those before it are taken back. Its turns are added.
 fn take_each(
     alloc: Global,
     streams: &mut InboundStreams,
     filter: &mut TsnFilter,
     rules: Rules,
     chunks: &[ChunkPayloadData],
+    turns: &mut Turns,
 ) -> Result<Vec<Arrival>, ReceiverRefusal>
     ensures ok { IfOk result (λ arrivals. TakesEachBy (refusal_for rules.any_ssn)
         chunks.now arrivals.items
@@ -87,16 +117,23 @@ fn take_each(
         ⊎ StopsAtBy (refusal_for rules.any_ssn) chunks.now
         (reception_of rules (parts streams.old filter.old)) e) }
     ensures err { OnErr result (parts streams.new filter.new ≡ parts streams.old filter.old) }
+    ensures not_back { turns.old ≤ turns.new }
+    ensures cost { OnOk result (IsWithinEachBy (refusal_for rules.any_ssn) chunks.now
+        (reception_of rules (parts streams.old filter.old))
+        (reception_of rules (parts streams.new filter.new)) (turns.new - turns.old)) }
+    ensures cost_refused { OnErr result (IsWithinRefusedBy
+        (refusal_for rules.any_ssn) chunks.now
+        (reception_of rules (parts streams.old filter.old)) (turns.new - turns.old)) }
 {
     let (mut arrivals, mut undos) = room_for(alloc, chunks.len())?;
     for chunk in chunks {
-        match take(streams, filter, rules, chunk, &mut Turns::new()) {
+        match take(streams, filter, rules, chunk, turns) {
             Ok((arrival, undo)) => {
                 put(&mut arrivals, arrival);
                 put(&mut undos, undo);
             }
             Err(refusal) => {
-                undo_each(streams, filter, undos);
+                undo_each(streams, filter, undos, turns);
                 return Err(refusal);
             }
         }

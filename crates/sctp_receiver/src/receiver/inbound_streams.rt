@@ -1,7 +1,7 @@
 //! The streams of a receiver.
 
 ghost use Rattle.std.specs.Prelude.{◌≡◌, ◌==◌, ◌<◌, ◌≤◌, ◌+◌, ◌-◌, ◌^◌, ◌++◌, ◌∷◌, ◌⊎◌, [], not, true, false, Some, None, OnOk, OnErr, IfOk, IfErr, IsOk, IsOkUnless, MatchOption, length, map, find, option_map, option_copied, slice_get, if◌then◌else◌};
-ghost use Rattle.std.specs.List.{filter};
+ghost use Rattle.std.specs.List.{filter, sum_by};
 ghost use Rattle.sctp_base.specs.declared.error.Error.TheVariants.{ErrOutOfMemory};
 ghost use Rattle.sctp_list_lemmas.specs.Lists.{change_where};
 ghost use Rattle.sctp_receiver.specs.declared.receiver.refusal.ReceiverRefusal.TheVariants.{MessageTooLarge, OutOfMemory};
@@ -13,6 +13,7 @@ ghost use Rattle.sctp_receiver.specs.Inbound.{unassembled_forwarded};
 ghost use Rattle.sctp_receiver.specs.Limits.{held_cost};
 ghost use Rattle.sctp_receiver.specs.Receiver.{readable_streams};
 ghost use Rattle.sctp_receiver.specs.Resets.{stream_reset, keeps_message};
+ghost use Rattle.sctp_receiver.specs.SkipCosts.{name_walk, unordered_skips_walk, incomplete_skips_walk, visit_walk, settle_walk};
 ghost use Rattle.sctp_receiver.specs.Skips.{incomplete_forwarded};
 ghost use Rattle.sctp_receiver.specs.Undo.{stream_undone, undone_on, CanUndoOn};
 ghost use Rattle.sctp_receiver.specs.Visited.{skip_forwarded, to_visit};
@@ -408,12 +409,22 @@ impl InboundStreams {
     pub fn forward_ordered(&mut self, stream: u16, ssn: u16)
         ensures { self.new ≡ change_where (has_number stream) (ssn_forwarded ssn) self.old }
     {
+        self.forward_ordered_counted(stream, ssn, &mut Turns::new());
+    }
+
+    /// The same, and its turns are added: those of the skip in the queue of that stream, and none where it is not open.
+    pub fn forward_ordered_counted(&mut self, stream: u16, ssn: u16, skips: &mut Turns)
+        ensures value { self.new ≡ change_where (has_number stream) (ssn_forwarded ssn) self.old }
+        ensures not_back { skips.old ≤ skips.new }
+        ensures walk { skips.new
+            ≤ skips.old + name_walk (find (has_number stream) self.old) }
+    {
         let Some(place) = self.numbers.place_of(stream) else {
             return;
         };
         let inbound = &mut self.items[place];
         let before = cost_of(&inbound.queue);
-        inbound.queue.forward_tsn_for_ordered(ssn);
+        inbound.queue.forward_tsn_for_ordered_counted(ssn, skips);
         self.cost = moved(self.cost, before, cost_of(&inbound.queue));
         renew(&mut self.visits, place, &inbound.queue, false);
     }
@@ -431,7 +442,24 @@ impl InboundStreams {
         ensures not_back { turns.old ≤ turns.new }
         ensures cost { turns.new ≤ turns.old + length (to_visit self.old) }
     {
-        self.forward(Skip::Unassembled, tsn, turns);
+        self.forward_unordered_skips_counted(tsn, turns, &mut Turns::new());
+    }
+
+    /// The same, and what it looks at within these streams is added to `skips`: six turns for each unassembled fragment at most, and
+    /// one more for each stream.
+    pub fn forward_unordered_skips_counted(
+        &mut self,
+        tsn: u32,
+        turns: &mut Turns,
+        skips: &mut Turns,
+    )
+        ensures value { self.new ≡ map (unassembled_forwarded tsn) self.old }
+        ensures not_back { turns.old ≤ turns.new }
+        ensures cost { turns.new ≤ turns.old + length (to_visit self.old) }
+        ensures skips_not_back { skips.old ≤ skips.new }
+        ensures walk { skips.new ≤ skips.old + unordered_skips_walk self.old }
+    {
+        self.forward(Skip::Unassembled, tsn, turns, skips);
     }
 
     /// Discards the incomplete ordered messages of all streams that miss a TSN at or before the given one (RFC 3758 3.6). It takes no
@@ -448,17 +476,47 @@ impl InboundStreams {
         ensures not_back { turns.old ≤ turns.new }
         ensures cost { turns.new ≤ turns.old + length (to_visit self.old) }
     {
-        self.forward(Skip::Incomplete, tsn, turns);
+        self.forward_incomplete_skips_counted(tsn, turns, &mut Turns::new());
+    }
+
+    /// The same, and what it looks at within these streams is added to `skips`: nine turns for each ordered message at most, and four for
+    /// each of their fragments.
+    pub fn forward_incomplete_skips_counted(
+        &mut self,
+        tsn: u32,
+        turns: &mut Turns,
+        skips: &mut Turns,
+    )
+        ensures value { self.new ≡ map (incomplete_forwarded tsn) self.old }
+        ensures not_back { turns.old ≤ turns.new }
+        ensures cost { turns.new ≤ turns.old + length (to_visit self.old) }
+        ensures skips_not_back { skips.old ≤ skips.new }
+        ensures walk { skips.new ≤ skips.old + incomplete_skips_walk self.old }
+    {
+        self.forward(Skip::Incomplete, tsn, turns, skips);
     }
 
     // Discards, as the skip says, on all streams: those are visited that may hold something incomplete, and a turn is taken for each.
-    fn forward(&mut self, skip: Skip, tsn: u32, turns: &mut Turns)
+    // Those of the skips are added to `skips`.
+    fn forward(&mut self, skip: Skip, tsn: u32, turns: &mut Turns, skips: &mut Turns)
         ensures value { self.new ≡ map (skip_forwarded skip tsn) self.old }
         ensures not_back { turns.old ≤ turns.new }
         ensures cost { turns.new ≤ turns.old + length (to_visit self.old) }
+        ensures skips_not_back { skips.old ≤ skips.new }
+        ensures walk { skips.new ≤ skips.old
+            + sum_by (λ l. visit_walk skip l.queue.held) (to_visit self.old)
+            + sum_by (λ l. settle_walk skip l.queue.held) self.old }
     {
-        self.cost = forward_each(&mut self.items, self.cost, &self.visits, skip, tsn, turns);
-        settle(&mut self.visits, &self.items, skip);
+        self.cost = forward_each(
+            &mut self.items,
+            self.cost,
+            &self.visits,
+            skip,
+            tsn,
+            turns,
+            skips,
+        );
+        settle(&mut self.visits, &self.items, skip, skips);
     }
 }
 

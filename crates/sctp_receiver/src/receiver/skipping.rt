@@ -12,6 +12,7 @@ use sctp_serial::turns::Turns;
 impl Receiver {
     ghost use Rattle.sctp_receiver.specs.Costs.{forward_turns};
     ghost use Rattle.sctp_receiver.specs.Receiver.{forwarded_of, after_forward};
+    ghost use Rattle.sctp_receiver.specs.SkipCosts.{skips_walk};
     ghost use Rattle.sctp_receiver.specs.Skips.{after_forward_tsn, has_incomplete, past_closed_refusal, skip_refusal};
 
     /// Takes a FORWARD-TSN (RFC 3758 3.6): `Skipped`, where its TSN comes after the cumulative one, and `Stale`, where
@@ -70,10 +71,44 @@ impl Receiver {
         ensures cost { turns.new
             ≤ turns.old + forward_turns (forward_tsn_of chunk.now) self.old self.new }
     {
+        self.forward_tsn_skips_counted(chunk, turns, &mut Turns::new())
+    }
+
+    /// The same, and what it looks at within streams is added to `skips` (`skips_walk`): one turn for each name, for the test of its number;
+    /// for each that does not repeat the one before it five for each ordered message that its stream held before the chunk, and two for
+    /// each of their fragments, at most; and in all streams nine for each ordered message, four for each of their fragments, six for
+    /// each unassembled fragment, and one more for each stream that has any of these. So where no stream is named twice (RFC 3758 3.2) it
+    /// costs what is held, once (`laws::a_skip_costs_by_what_is_held`); else each further name of a stream as much again. In the
+    /// tests whether a message is complete, beside those of the skips, that message takes one turn, also where its TSNs do not ascend.
+    pub fn forward_tsn_skips_counted(
+        &mut self,
+        chunk: &ChunkForwardTsn,
+        turns: &mut Turns,
+        skips: &mut Turns,
+    ) -> Result<Forwarded, ReceiverRefusal>
+        ensures answer { IfOk result (λ forwarded. forwarded
+            ≡ forwarded_of (forward_tsn_of chunk.now) self.old) }
+        ensures ok { OnOk result (self.new
+            ≡ after_forward_tsn (forward_tsn_of chunk.now) self.old) }
+        ensures accepted { IsOk result
+            → skip_refusal (forward_tsn_of chunk.now) self.old ≡ None }
+        ensures refused { IfErr result (λ e. skip_refusal (forward_tsn_of chunk.now) self.old
+            ≡ Some e) }
+        ensures err { OnErr result (self.new ≡ self.old) }
+        ensures agrees { has_incomplete chunk.now.new_cumulative_tsn
+            (after_forward (forward_tsn_of chunk.now) self.old).streams ≡ false
+            → OnOk result (self.new ≡ after_forward (forward_tsn_of chunk.now) self.old) }
+        ensures not_back { turns.old ≤ turns.new }
+        ensures cost { turns.new
+            ≤ turns.old + forward_turns (forward_tsn_of chunk.now) self.old self.new }
+        ensures skips_not_back { skips.old ≤ skips.new }
+        ensures walk { skips.new
+            ≤ skips.old + skips_walk (forward_tsn_of chunk.now) self.old }
+    {
         if self.names_closed(chunk) {
             return Err(ReceiverRefusal::NamedStreamUnknown);
         }
-        self.forward_tsn_past_closed_counted(chunk, turns)
+        self.forward_tsn_past_closed_skips_counted(chunk, turns, skips)
     }
 
     /// Takes a FORWARD-TSN as `forward_tsn` does, but for `NamedStreamUnknown`: what it names on a stream that is not open is passed over,
@@ -120,13 +155,42 @@ impl Receiver {
         ensures cost { turns.new
             ≤ turns.old + forward_turns (forward_tsn_of chunk.now) self.old self.new }
     {
-        if self.names_too_far(chunk) {
+        self.forward_tsn_past_closed_skips_counted(chunk, turns, &mut Turns::new())
+    }
+
+    /// The same, and its looks within streams are added to `skips` as `forward_tsn_skips_counted` adds them.
+    pub fn forward_tsn_past_closed_skips_counted(
+        &mut self,
+        chunk: &ChunkForwardTsn,
+        turns: &mut Turns,
+        skips: &mut Turns,
+    ) -> Result<Forwarded, ReceiverRefusal>
+        ensures answer { IfOk result (λ forwarded. forwarded
+            ≡ forwarded_of (forward_tsn_of chunk.now) self.old) }
+        ensures ok { OnOk result (self.new
+            ≡ after_forward_tsn (forward_tsn_of chunk.now) self.old) }
+        ensures accepted { IsOk result
+            → past_closed_refusal (forward_tsn_of chunk.now) self.old ≡ None }
+        ensures refused { IfErr result
+            (λ e. past_closed_refusal (forward_tsn_of chunk.now) self.old ≡ Some e) }
+        ensures err { OnErr result (self.new ≡ self.old) }
+        ensures agrees { has_incomplete chunk.now.new_cumulative_tsn
+            (after_forward (forward_tsn_of chunk.now) self.old).streams ≡ false
+            → OnOk result (self.new ≡ after_forward (forward_tsn_of chunk.now) self.old) }
+        ensures not_back { turns.old ≤ turns.new }
+        ensures cost { turns.new
+            ≤ turns.old + forward_turns (forward_tsn_of chunk.now) self.old self.new }
+        ensures skips_not_back { skips.old ≤ skips.new }
+        ensures walk { skips.new
+            ≤ skips.old + skips_walk (forward_tsn_of chunk.now) self.old }
+    {
+        if self.names_too_far(chunk, skips) {
             return Err(ReceiverRefusal::NamedSsnTooFar);
         }
-        let forwarded = self.forward_tsn_by_names_counted(chunk, turns)?;
+        let forwarded = self.forward_tsn_by_names_skips_counted(chunk, turns, skips)?;
         if let Forwarded::Skipped = forwarded {
             self.streams
-                .forward_incomplete_counted(chunk.new_cumulative_tsn, turns);
+                .forward_incomplete_skips_counted(chunk.new_cumulative_tsn, turns, skips);
         }
         Ok(forwarded)
     }

@@ -36,11 +36,13 @@ impl Receiver {
         self.is_ahead(chunk.new_cumulative_tsn) && self.is_any_closed(&chunk.streams)
     }
 
-    // Whether it is followed, and names a number that is too far on its stream, where that is open.
-    pub(crate) fn names_too_far(&self, chunk: &ChunkForwardTsn) -> bool
-        ensures { result ≡ names_too_far (forward_tsn_of chunk.now) self.now }
+    // Whether it is followed, and names a number that is too far on its stream, where that is open. A turn is taken for each name at most.
+    pub(crate) fn names_too_far(&self, chunk: &ChunkForwardTsn, skips: &mut Turns) -> bool
+        ensures value { result ≡ names_too_far (forward_tsn_of chunk.now) self.now }
+        ensures not_back { skips.old ≤ skips.new }
+        ensures walk { skips.new ≤ skips.old + length (forward_tsn_of chunk.now).streams }
     {
-        self.is_ahead(chunk.new_cumulative_tsn) && self.is_any_too_far(&chunk.streams)
+        self.is_ahead(chunk.new_cumulative_tsn) && self.is_any_too_far(&chunk.streams, skips)
     }
 
     // Whether a TSN comes after the cumulative one.
@@ -60,19 +62,29 @@ impl Receiver {
     }
 
     // Whether a name is too far on its stream, where that is open.
-    fn is_any_too_far(&self, names: &[ChunkForwardTsnStream]) -> bool
-        ensures { result
+    fn is_any_too_far(&self, names: &[ChunkForwardTsnStream], skips: &mut Turns) -> bool
+        ensures value { result
             ≡ list_any (λ n. is_named_too_far n (stream_of n.identifier self.now)) names.now }
+        ensures not_back { skips.old ≤ skips.new }
+        ensures walk { skips.new ≤ skips.old + length names.now }
     {
-        names.iter().any(|name| self.is_named_too_far(name))
+        for place in 0..names.len() {
+            if self.is_named_too_far(&names[place], skips) {
+                return true;
+            }
+        }
+        false
     }
 
-    // Whether this one is.
-    fn is_named_too_far(&self, name: &ChunkForwardTsnStream) -> bool
-        ensures { result ≡ is_named_too_far name.now (stream_of name.now.identifier self.now) }
+    // Whether this one is. A turn is taken at most.
+    fn is_named_too_far(&self, name: &ChunkForwardTsnStream, skips: &mut Turns) -> bool
+        ensures value { result
+            ≡ is_named_too_far name.now (stream_of name.now.identifier self.now) }
+        ensures not_back { skips.old ≤ skips.new }
+        ensures walk { skips.new ≤ skips.old + 1 }
     {
         match self.streams.find(name.identifier) {
-            Some(inbound) => is_name_too_far(&inbound.queue, name.sequence),
+            Some(inbound) => is_name_too_far(&inbound.queue, name.sequence, skips),
             None => false,
         }
     }
@@ -117,14 +129,17 @@ fn is_ssn_too_far(queue: &ReassemblyQueue, ssn: u16) -> bool
 }
 
 // Whether the number of a name may be ahead of the lowest one or behind it, or would put half the circle between a complete
-// lowest message and the next one.
-fn is_name_too_far(queue: &ReassemblyQueue, ssn: u16) -> bool
-    ensures { result ≡ is_name_too_far ssn queue.now.held }
+// lowest message and the next one. A turn is taken for the look at that message.
+fn is_name_too_far(queue: &ReassemblyQueue, ssn: u16, skips: &mut Turns) -> bool
+    ensures value { result ≡ is_name_too_far ssn queue.now.held }
+    ensures not_back { skips.old ≤ skips.new }
+    ensures walk { skips.new ≤ skips.old + 1 }
 {
     let ahead = distance(lowest_ssn(queue), ssn);
     if ahead >= HALF_CIRCLE {
         return ahead < HALF_CIRCLE + OLD_NAMES;
     }
+    skips.tick();
     ahead == HALF_CIRCLE - 1 && is_lowest_complete(queue)
 }
 

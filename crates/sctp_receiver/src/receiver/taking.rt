@@ -4,7 +4,7 @@ ghost use Rattle.std.specs.Prelude.{◌≡◌, ◌+◌, ◌-◌, ◌≤◌, leng
 ghost use Rattle.sctp_receiver.specs.declared.receiver.refusal.ReceiverRefusal.TheVariants.{OutOfMemory};
 ghost use Rattle.sctp_receiver.specs.Receiver.{data_refusal, refusal_for, IsRefusedFor, takes_memory, arrival_of, is_answered_complete, Takes, stream_of, is_full_by, noted_by};
 ghost use Rattle.sctp_reassembly.specs.reassembly_queue.Orders.{digits};
-ghost use Rattle.sctp_receiver.specs.Costs.{IsWithinData};
+ghost use Rattle.sctp_receiver.specs.Costs.{IsWithinData, undo_looks, undo_each_looks};
 ghost use Rattle.sctp_receiver.specs.Ssns.{is_kept_on};
 ghost use Rattle.sctp_receiver.specs.TsnFilter.{has_come};
 ghost use Rattle.sctp_receiver.specs.Undo.{parts, reception_of, chunk_undone, CanUndoChunk, chunks_undone, CanUndoChunks, repeat_undone};
@@ -195,25 +195,42 @@ fn forget_repeat(filter: &mut TsnFilter, noted: bool)
     }
 }
 
-// Takes chunks back, the last one first. It takes no memory.
+// Takes chunks back, the last one first. It takes no memory. Its turns are added.
 // Precondition: all is as the last one left it.
-pub(crate) fn undo_each(streams: &mut InboundStreams, filter: &mut TsnFilter, undos: Vec<ChunkUndo>)
+pub(crate) fn undo_each(
+    streams: &mut InboundStreams,
+    filter: &mut TsnFilter,
+    undos: Vec<ChunkUndo>,
+    turns: &mut Turns,
+)
     requires { CanUndoChunks undos.items (parts streams.old filter.old) }
-    ensures { parts streams.new filter.new
+    ensures value { parts streams.new filter.new
         ≡ chunks_undone undos.items (parts streams.old filter.old) }
+    ensures not_back { turns.old ≤ turns.new }
+    ensures cost { turns.new
+        ≤ turns.old + undo_each_looks undos.items (parts streams.old filter.old) }
 {
     let mut undos = undos;
     while let Some(undo) = undos.pop() {
-        undo_chunk(streams, filter, undo);
+        undo_chunk(streams, filter, undo, turns);
     }
 }
 
-// Takes a chunk back.
-fn undo_chunk(streams: &mut InboundStreams, filter: &mut TsnFilter, undo: ChunkUndo)
+// Takes a chunk back. A turn is taken for it, and those of its TSN.
+fn undo_chunk(
+    streams: &mut InboundStreams,
+    filter: &mut TsnFilter,
+    undo: ChunkUndo,
+    turns: &mut Turns,
+)
     requires { CanUndoChunk undo (parts streams.old filter.old) }
-    ensures { parts streams.new filter.new
+    ensures value { parts streams.new filter.new
         ≡ chunk_undone undo (parts streams.old filter.old) }
+    ensures not_back { turns.old ≤ turns.new }
+    ensures cost { turns.new ≤ turns.old
+        + undo_looks (length filter.new.beyond) (length filter.old.beyond) }
 {
+    turns.tick();
     match undo {
         ChunkUndo::Repeat { noted } => forget_repeat(filter, noted),
         ChunkUndo::New {
@@ -223,7 +240,7 @@ fn undo_chunk(streams: &mut InboundStreams, filter: &mut TsnFilter, undo: ChunkU
             queue,
         } => {
             streams.undo_push_at(place, stream, queue);
-            filter.retract(tsn);
+            filter.retract_counted(tsn, turns);
         }
     }
 }

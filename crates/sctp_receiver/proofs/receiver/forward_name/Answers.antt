@@ -7,4 +7,5 @@ use Rattle.sctp_receiver.proofs.receiver.forward_name.Goals as goal
 pub returns-clause-again : goal.returns-clause-again
 returns-clause-again c =
     let f = change_where (has_number c.args.stream) (ssn_forwarded c.args.ssn) in
-    ap f c.forward_ordered.ensures ∙ name-again c.args.stream c.args.ssn c.ranges.ssn.fits c.args.streams.now ∙ sym c.forward_ordered.ensures
+    ap f c.forward_ordered_counted.ensures.value ∙ name-again c.args.stream c.args.ssn c.ranges.ssn.fits c.args.streams.now
+    ∙ sym c.forward_ordered_counted.ensures.value

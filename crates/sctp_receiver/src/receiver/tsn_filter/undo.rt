@@ -1,6 +1,6 @@
 //! A TSN that came is taken back.
 
-ghost use Rattle.std.specs.Prelude.{◌≡◌, ◌<◌, ◌≤◌, ◌+◌, ◌-◌, ◌^◌, ◌++◌, true, false, OnOk, OnErr, IfOk, IsOkUnless, length, map, take};
+ghost use Rattle.std.specs.Prelude.{◌≡◌, ◌<◌, ◌≤◌, ◌+◌, ◌-◌, ◌*◌, ◌^◌, ◌++◌, true, false, OnOk, OnErr, IfOk, IsOkUnless, length, map, take};
 ghost use Rattle.sctp_base.specs.declared.error.Error.TheVariants.{ErrOutOfMemory};
 ghost use Rattle.sctp_reassembly.specs.reassembly_queue.Orders.{digits};
 ghost use Rattle.sctp_receiver.specs.TsnFilter.{placeholder, rise_beyond};
@@ -87,6 +87,18 @@ impl TsnFilter {
         requires { CanRetract undo self.old }
         ensures { self.new ≡ retracted undo self.old }
     {
+        self.retract_counted(undo, &mut Turns::new());
+    }
+
+    /// The same, and its turns are added: for each TSN that is beyond again at most one more than the number of those has binary digits.
+    /// The search for one that goes takes no turn.
+    pub fn retract_counted(&mut self, undo: FilterUndo, turns: &mut Turns)
+        requires { CanRetract undo self.old }
+        ensures value { self.new ≡ retracted undo self.old }
+        ensures not_back { turns.old ≤ turns.new }
+        ensures cost { turns.new ≤ turns.old + (length self.new.beyond - length self.old.beyond)
+            * (digits (length self.new.beyond) + 1) }
+    {
         match undo {
             FilterUndo::Beyond { tsn, room } => {
                 let _ = self.queue.take_leaving_room(tsn);
@@ -97,7 +109,7 @@ impl TsnFilter {
                 room,
             } => {
                 let passed = distance(cumulative_tsn, self.cumulative_tsn);
-                put_back(&mut self.queue, cumulative_tsn, passed);
+                put_back(&mut self.queue, cumulative_tsn, passed, turns);
                 self.cumulative_tsn = cumulative_tsn;
                 self.queue.limit_room(room);
             }
@@ -115,8 +127,9 @@ impl TsnFilter {
 }
 
 // Marks TSNs that the cumulative one moved over, from so many past it down to the second one past it.
+// Its turns are added.
 // Precondition: those that are held lie farther, and there is room.
-fn put_back(queue: &mut PayloadQueue, cumulative_tsn: u32, count: u32)
+fn put_back(queue: &mut PayloadQueue, cumulative_tsn: u32, count: u32, turns: &mut Turns)
     requires placeholders { queue.old.chunks ≡ map placeholder (tsns queue.old.chunks) }
     requires rise { rise_beyond cumulative_tsn 1
         (tsns_from (following_tsn (following_tsn cumulative_tsn)) (count - 1)
@@ -127,12 +140,16 @@ fn put_back(queue: &mut PayloadQueue, cumulative_tsn: u32, count: u32)
         ++ tsns queue.old.chunks) }
     ensures rest { queue.new
         ≡ record queue.old { chunks = queue.new.chunks; room = queue.old.room - (count - 1) } }
+    ensures not_back { turns.old ≤ turns.new }
+    ensures cost { turns.new ≤ turns.old
+        + (count - 1) * (digits (count - 1 + length queue.old.chunks) + 1) }
 {
     let mut left = count;
     while left > 1 {
-        let _ = queue.push(
+        let _ = queue.push_counted(
             placeholder(cumulative_tsn.wrapping_add(left)),
             cumulative_tsn,
+            turns,
         );
         left -= 1;
     }

@@ -1,5 +1,6 @@
-use Rattle.std.proofs.Common.{◌≡◌, ◌≤◌, length, take}
+use Rattle.std.proofs.Common.{◌≡◌, ◌+◌, ◌-◌, ◌≤◌, length, take}
 use Rattle.std.specs.Vec.{vec_capacity}
+use Rattle.sctp_receiver.specs.Costs.{IsWithinEachBy, TakesEachWithin, IsWithinUndone, undo_each_looks}
 use Rattle.sctp_receiver.specs.Receiver.{TakesEachBy, refusal_for}
 use Rattle.sctp_receiver.specs.Undo.{parts, reception_of, chunks_undone, CanUndoChunks}
 use Rattle.sctp_receiver.proofs.receiver.data_each.take_each.Given as goal
@@ -14,4 +15,10 @@ invariant-loop-chunk l = record {
   arrivals_fit : length l.chunks ≤ vec_capacity l.arrivals;
   undos : length l.undos.items ≡ l.chunk-index;
   undos_fit : length l.chunks ≤ vec_capacity l.undos;
+  not_back : l.initial.turns ≤ l.turns;
+  cost : IsWithinEachBy (refusal_for l.rules.any_ssn) (take l.chunk-index l.chunks)
+      (reception_of l.rules (parts l.initial.streams l.initial.filter)) (reception_of l.rules (parts l.streams l.filter)) (l.turns - l.initial.turns);
+  cost_undone : TakesEachWithin (refusal_for l.rules.any_ssn) IsWithinUndone (take l.chunk-index l.chunks)
+      (reception_of l.rules (parts l.initial.streams l.initial.filter)) (reception_of l.rules (parts l.streams l.filter))
+      (l.turns - l.initial.turns + undo_each_looks l.undos.items (parts l.streams l.filter));
 }

@@ -1,4 +1,5 @@
-use Rattle.std.proofs.Common.{◌≡◌}
+use Rattle.std.proofs.Common.{◌≡◌, ◌+◌, ◌≤◌}
+use Rattle.sctp_receiver.specs.Costs.{undo_each_looks}
 use Rattle.sctp_receiver.specs.Undo.{parts, chunks_undone, CanUndoChunks}
 use Rattle.sctp_receiver.proofs.receiver.taking.undo_each.Given as goal
 
@@ -6,6 +7,9 @@ abbrev pub invariant-loop-undo : goal.invariant-loop-undo
 invariant-loop-undo l = record {
   same : chunks_undone l.undos.items (parts l.streams l.filter) ≡ chunks_undone l.initial.undos.items (parts l.initial.streams l.initial.filter);
   can : CanUndoChunks l.undos.items (parts l.streams l.filter);
+  not_back : l.initial.turns ≤ l.turns;
+  cost : l.turns + undo_each_looks l.undos.items (parts l.streams l.filter)
+      ≤ l.initial.turns + undo_each_looks l.initial.undos.items (parts l.initial.streams l.initial.filter);
 }
 
 abbrev pub decreases-loop-undo : goal.decreases-loop-undo

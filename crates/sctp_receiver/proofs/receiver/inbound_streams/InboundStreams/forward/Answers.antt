@@ -1,10 +1,14 @@
-use Rattle.std.proofs.Common.{◌≡◌, ap, sym, subst, ◌∙◌, refl}
+use Rattle.std.proofs.Common.{◌≡◌, List, ap, sym, subst, ◌∙◌, refl, arith}
+use Rattle.std.specs.List.{sum_by}
 use Rattle.sctp_receiver.specs.declared.receiver.inbound_streams.InboundStream.{InboundStream}
 use Rattle.sctp_receiver.specs.declared.receiver.visiting.Skip.{Skip}
 use Rattle.sctp_receiver.specs.declared.receiver.visiting.Skip.TheVariants.{Unassembled, Incomplete}
 use Rattle.std.proofs.Common.{ℕ}
 use Rattle.sctp_receiver.specs.Inbound.{number, numbers_of}
-use Rattle.sctp_receiver.specs.Visited.{IsListing, skip_forwarded}
+use Rattle.sctp_receiver.specs.SkipCosts.{visit_walk, settle_walk}
+use Rattle.sctp_receiver.specs.Visited.{IsListing, skip_forwarded, to_visit}
+use Rattle.sctp_receiver.proofs.SkipCosts.{settle-less}
+use Rattle.sctp_receiver.proofs.StreamCosts.{mapped-cost}
 use Rattle.sctp_receiver.proofs.Inbounds.{stays-mapped}
 use Rattle.sctp_receiver.proofs.receiver.inbound_streams.InboundStreams.forward.Goals as goal
 
@@ -17,5 +21,17 @@ invariant_of-self c = record {
   numbers = c.self.invariant.numbers ∙ sym (ap numbers_of c.forward_each-self-inside.ensures.value
       ∙ stays-mapped number (skip_forwarded c.args.skip c.args.tsn) (number-stays c.args.skip c.args.tsn) c.self.inside.items.items);
   cost = c.forward_each-self-inside.ensures.cost;
-  visits = subst (IsListing c.settle.new.visits) c.deref.ensures.value c.settle.ensures;
+  visits = subst (IsListing c.settle.new.visits) c.deref.ensures.value c.settle.ensures.listing;
 }
+
+pub returns-clause-walk : goal.returns-clause-walk
+returns-clause-walk c =
+    let weigh = λ (l : InboundStream). settle_walk c.args.skip l.queue.held in
+    let visits = λ (ls : List InboundStream). sum_by (λ (l : InboundStream). visit_walk c.args.skip l.queue.held) (to_visit ls) in
+    let ls = c.self.inside.items.items in
+    let lent = ap (sum_by weigh) c.deref.ensures.value in
+    let made = ap (sum_by weigh) c.forward_each-self-inside.ensures.value in
+    let less = mapped-cost weigh (skip_forwarded c.args.skip c.args.tsn) (settle-less c.args.skip c.args.tsn) ls in
+    let was = ap (sum_by weigh) c.self.view_is in
+    let visited = ap visits c.self.view_is in
+    omega (arith, c.forward_each-self-inside.ensures.walk, c.settle.ensures.walk, lent, made, less, was, visited)

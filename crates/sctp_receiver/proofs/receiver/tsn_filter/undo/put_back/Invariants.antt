@@ -1,5 +1,6 @@
-use Rattle.std.proofs.Common.{◌≡◌, ◌-◌, ◌+◌, ◌≤◌, ◌++◌, map}
+use Rattle.std.proofs.Common.{◌≡◌, ◌-◌, ◌+◌, ◌*◌, ◌≤◌, ◌++◌, length, map}
 use Rattle.std.specs.Prelude.{min}
+use Rattle.sctp_reassembly.specs.reassembly_queue.Orders.{digits}
 use Rattle.sctp_receiver.specs.TsnFilter.{placeholder}
 use Rattle.sctp_receiver.specs.Undo.{tsns_from}
 use Rattle.sctp_serial.specs.DataChunks.{following_tsn, tsns}
@@ -14,6 +15,8 @@ invariant-loop-left l = record {
   room : l.queue.room + l.count ≡ l.initial.queue.room + l.left;
   down : l.left ≤ l.count;
   above : min l.count 1 ≤ l.left;
+  not_back : l.initial.turns ≤ l.turns;
+  cost : l.turns ≤ l.initial.turns + (l.count - l.left) * (digits (l.count - 1 + length l.initial.queue.chunks) + 1);
 }
 
 abbrev pub decreases-loop-left : goal.decreases-loop-left

@@ -1,0 +1,265 @@
+-- What the skips of a FORWARD-TSN look at within streams.
+use Rattle.std.proofs.Common.{◌≡◌, ℕ, zero, suc, ◌+◌, ◌-◌, ◌<◌, ◌≤◌, Bool, true, false, List, [], ◌∷◌, length, map, drop, drop-cons, add-one, get_or, Option}
+use Rattle.std.proofs.Common.{Some, None, refl, ap, sym, ◌∙◌}
+use Rattle.std.proofs.Common.{arith}
+use Rattle.std.specs.Prelude.{find, not, if◌then◌else◌, slice_get, slice_set}
+use Rattle.std.specs.List.{sum_by, filter}
+use Rattle.std.proofs.lemmas.Bool.{le-ltb, ne_eqb}
+use Rattle.std.proofs.lemmas.List.Sums.{sum_by-cons, sum_by-set}
+use Rattle.std.proofs.lemmas.Option.{slice_get_within, slice_get-get_or, get_or_from_slice_get}
+use Rattle.sctp_list_lemmas.specs.Lists.{change_where}
+use Rattle.sctp_list_lemmas.proofs.Cases.{some-same}
+use Rattle.sctp_list_lemmas.proofs.More.{not_both}
+use Rattle.sctp_data.specs.ChunkSet.{ChunkSet}
+use Rattle.sctp_data.specs.ForwardTsn.{ForwardTsn}
+use Rattle.sctp_data.specs.declared.chunk.chunk_forward_tsn.ChunkForwardTsnStream.{ChunkForwardTsnStream}
+use Rattle.sctp_reassembly.specs.reassembly_queue.Costs.{ordered_skip_walk, incomplete_skip_walk, unordered_skip_walk}
+use Rattle.sctp_reassembly.specs.reassembly_queue.Counts.{set_chunks}
+use Rattle.sctp_reassembly.specs.reassembly_queue.ReassemblyQueue.{is_passed}
+use Rattle.sctp_reassembly.specs.reassembly_queue.Skips.{cannot_complete}
+use Rattle.sctp_receiver.specs.declared.receiver.inbound_streams.InboundStream.{InboundStream}
+use Rattle.sctp_receiver.specs.declared.receiver.visiting.Skip.{Skip}
+use Rattle.sctp_receiver.specs.declared.receiver.visiting.Skip.TheVariants.{Unassembled, Incomplete}
+use Rattle.sctp_receiver.specs.Inbound.{has_number, ssn_forwarded, named_forwarded, unassembled_forwarded}
+use Rattle.sctp_receiver.specs.Receiver.{Reception, after_forward, follow_forward_tsn, is_stale}
+use Rattle.sctp_receiver.specs.SkipCosts.{name_walk, names_walk_behind, name_before, is_repeated, settle_walk, unordered_skips_walk, incomplete_skips_walk}
+use Rattle.sctp_receiver.specs.Visited.{AreInverse, is_spot_before, holds_any, skip_forwarded, to_visit}
+use Rattle.sctp_receiver.proofs.Settled.{named-any, unassembled-any}
+use Rattle.sctp_receiver.proofs.StreamCosts.{mapped-cost, named-cost}
+use Rattle.sctp_receiver.proofs.VisitOrders.{set-there}
+use Rattle.sctp_receiver.proofs.Visiting.{ChangedBefore}
+use Rattle.sctp_receiver.proofs.Weights as weights
+
+-- ## What is spent at the places of an order
+
+-- a number, none where there is none
+abbrev number_of : Option ℕ → ℕ
+number_of None = 0
+number_of (Some n) = n
+
+-- what stands at a place of a list
+abbrev weight_at : List ℕ → Option ℕ → ℕ
+weight_at ws None = 0
+weight_at ws (Some p) = number_of (slice_get ws p)
+
+-- at the first so many places of an order
+abbrev pub spent : ℕ → List ℕ → List ℕ → ℕ
+spent zero order ws = 0
+spent (suc n) order ws = spent n order ws + weight_at ws (slice_get order n)
+
+abbrev pub total : List ℕ → ℕ
+total ws = sum_by (λ (w : ℕ). w) ws
+
+pub spent-same : (n : ℕ) (order order' ws : List ℕ) → ((k : ℕ) → k < n → slice_get order k ≡ slice_get order' k) → spent n order ws ≡ spent n order' ws
+spent-same zero order order' ws h = refl
+spent-same (suc n) order order' ws h =
+    let ih = spent-same n order order' ws (λ k lt. h k (omega (arith, lt))) in
+    let e = ap (weight_at ws) (h n (omega arith)) in
+    omega (arith, ih, e)
+
+-- another place is none of the first so many
+spent-without : (m n p : ℕ) (order spots ws : List ℕ) → AreInverse order spots → slice_get order n ≡ Some p → m ≤ n
+    → spent m order (slice_set ws p 0) ≡ spent m order ws
+spent-without zero n p order spots ws inverse at le = refl
+spent-without (suc m) n p order spots ws inverse at le =
+    let ih = spent-without m n p order spots ws inverse at (omega (arith, le)) in
+    let e = by (slice_get order m) refl in
+    omega (arith, ih, e)
+  where
+    by : (o : Option ℕ) → slice_get order m ≡ o → weight_at (slice_set ws p 0) o ≡ weight_at ws o
+    by None e = refl
+    by (Some q) e = ap number_of (set-there ws p q 0
+        (λ z. let same : m ≡ n = some-same (sym ((inverse m q).0 e) ∙ ap (slice_get spots) z ∙ (inverse n p).0 at) in omega (arith, same, le)))
+
+pub spent-within : (n : ℕ) (order spots ws : List ℕ) → AreInverse order spots → spent n order ws ≤ total ws
+spent-within zero order spots ws inverse = omega arith
+spent-within (suc n) order spots ws inverse = by (λ vs. spent-within n order spots vs inverse) (slice_get order n) refl
+  where
+    by : ((vs : List ℕ) → spent n order vs ≤ total vs) → (o : Option ℕ) → slice_get order n ≡ o → spent n order ws + weight_at ws o ≤ total ws
+    by less None e = let ih = less ws in omega (arith, ih)
+    by less (Some p) e = at (slice_get ws p) refl
+      where
+        at : (o : Option ℕ) → slice_get ws p ≡ o → spent n order ws + number_of o ≤ total ws
+        at None f = let ih = less ws in omega (arith, ih)
+        at (Some w) f =
+            let ih = less (slice_set ws p 0) in
+            let same = spent-without n n p order spots ws inverse e (omega arith) in
+            let s = sum_by-set (λ (v : ℕ). v) ws p 0 0 (slice_get_within ws p w f) in
+            let here = get_or_from_slice_get ws p w 0 f in
+            omega (arith, ih, same, s, here)
+
+-- one more
+pub spent-more : (n k w : ℕ) (order ws : List ℕ) → slice_get order n ≡ Some k → slice_get ws k ≡ Some w → spent (suc n) order ws ≡ spent n order ws + w
+spent-more n k w order ws at here =
+    let e : weight_at ws (slice_get order n) ≡ w = ap (weight_at ws) at ∙ ap number_of here in
+    omega (arith, e)
+
+-- what stands at the next spot is as it was
+pub not-yet : {X : Type 0} (g : X → X) (i k : ℕ) (spots : List ℕ) (xs ys : List X) (x : X) → ChangedBefore g i spots xs ys → slice_get spots k ≡ Some i
+    → slice_get xs k ≡ Some x → slice_get ys k ≡ Some x
+not-yet g i k spots xs ys x changed spot e =
+    changed k x e ∙ ap (λ o. Some (if is_spot_before i o then g x else x)) spot ∙ ap (λ b. Some (if b then g x else x)) (le-ltb i i (omega arith))
+
+module _ {X : Type 0} (f : X → ℕ) where
+  pub total-map : (xs : List X) → total (map f xs) ≡ sum_by f xs
+  total-map [] = refl
+  total-map (x ∷ xs) =
+      let a = sum_by-cons (λ (w : ℕ). w) (f x) (map f xs) in
+      let b = sum_by-cons f x xs in
+      let ih = total-map xs in
+      omega (arith, a, b, ih)
+
+  pub at-map : (xs : List X) (p : ℕ) (x : X) → slice_get xs p ≡ Some x → slice_get (map f xs) p ≡ Some (f x)
+  at-map [] p x e = cc
+  at-map (y ∷ xs) zero x e = ap (λ z. Some (f z)) (some-same e)
+  at-map (y ∷ xs) (suc p) x e = at-map xs p x e
+
+-- ## Only streams that are visited
+
+abbrev any : InboundStream → Bool
+any l = holds_any l.queue.held
+
+abbrev pub if_visited : (InboundStream → ℕ) → InboundStream → ℕ
+if_visited m l = if holds_any l.queue.held then m l else 0
+
+pub visited-sum : (m : InboundStream → ℕ) (ls : List InboundStream) → sum_by m (to_visit ls) ≡ sum_by (if_visited m) ls
+visited-sum m [] = refl
+visited-sum m (l ∷ ls) = by (any l) (visited-sum m ls) ∙ sym (sum_by-cons (if_visited m) l ls)
+  where
+    by : (b : Bool) → sum_by m (to_visit ls) ≡ sum_by (if_visited m) ls
+        → sum_by m (if b then l ∷ to_visit ls else to_visit ls) ≡ (if b then m l else 0) + sum_by (if_visited m) ls
+    by true ih = let a = sum_by-cons m l (to_visit ls) in omega (arith, a, ih)
+    by false ih = omega (arith, ih)
+
+-- no more of one that changes so that it holds no more
+visited-less : (m : InboundStream → ℕ) (x y : InboundStream) → (any x ≡ false → any y ≡ false) → m y ≤ m x → if_visited m y ≤ if_visited m x
+visited-less m x y keeps le = by (any x) (any y) keeps
+  where
+    by : (a b : Bool) → (a ≡ false → b ≡ false) → (if b then m y else 0) ≤ (if a then m x else 0)
+    by true true h = le
+    by true false h = omega arith
+    by false true h = absurd (not_both (sym (h refl)))
+    by false false h = omega arith
+
+-- ## Fewer sets
+
+fewer-length : {A : Type 0} (p : A → Bool) (xs : List A) → length (filter p xs) ≤ length xs
+fewer-length p [] = omega arith
+fewer-length p (x ∷ xs) = by (p x) (fewer-length p xs)
+  where
+    by : (b : Bool) → length (filter p xs) ≤ length xs → length (if b then x ∷ filter p xs else filter p xs) ≤ length (x ∷ xs)
+    by true ih = omega (arith, ih)
+    by false ih = omega (arith, ih)
+
+fewer-chunks : (p : ChunkSet → Bool) (sets : List ChunkSet) → set_chunks (filter p sets) ≤ set_chunks sets
+fewer-chunks p sets = weights.fewer (λ x. 0) (λ (s : ChunkSet). length s.chunks) p sets
+
+abbrev pub ordered_walk : InboundStream → ℕ
+ordered_walk l = ordered_skip_walk l.queue.held
+
+abbrev pub incomplete_walk : InboundStream → ℕ
+incomplete_walk l = incomplete_skip_walk l.queue.held
+
+abbrev pub unordered_walk : InboundStream → ℕ
+unordered_walk l = unordered_skip_walk l.queue.held
+
+abbrev pub messages : InboundStream → ℕ
+messages l = length l.queue.held.ordered
+
+module _ (ssn : ℕ) (l : InboundStream) where
+  kept : length (ssn_forwarded ssn l).queue.held.ordered ≤ length l.queue.held.ordered
+  kept = fewer-length (λ set. not (is_passed ssn set)) l.queue.held.ordered
+
+  kept-chunks : set_chunks (ssn_forwarded ssn l).queue.held.ordered ≤ set_chunks l.queue.held.ordered
+  kept-chunks = fewer-chunks (λ set. not (is_passed ssn set)) l.queue.held.ordered
+
+  named-ordered : ordered_walk (ssn_forwarded ssn l) ≤ ordered_walk l
+  named-ordered = let a = kept in let b = kept-chunks in omega (arith, a, b)
+
+  named-incomplete : incomplete_walk (ssn_forwarded ssn l) ≤ incomplete_walk l
+  named-incomplete = let a = kept in let b = kept-chunks in omega (arith, a, b)
+
+-- no more is to be settled after a skip
+pub settle-less : (skip : Skip) (tsn : ℕ) (l : InboundStream)
+    → settle_walk skip (skip_forwarded skip tsn l).queue.held ≤ settle_walk skip l.queue.held
+settle-less Unassembled tsn l = omega arith
+settle-less Incomplete tsn l = fewer-length (λ set. not (cannot_complete tsn set)) l.queue.held.ordered
+
+-- ## Names
+
+-- no name costs more after another one
+pub name-less : (s k ssn : ℕ) (ls : List InboundStream)
+    → name_walk (find (has_number s) (change_where (has_number k) (ssn_forwarded ssn) ls)) ≤ name_walk (find (has_number s) ls)
+name-less s k ssn [] = omega arith
+name-less s k ssn (l ∷ ls) = by (has_number k l) (name-less s k ssn ls)
+  where
+    rest : List InboundStream
+    rest = change_where (has_number k) (ssn_forwarded ssn) ls
+
+    at : (b : Bool) (x : InboundStream) → ordered_walk x ≤ ordered_walk l → name_walk (find (has_number s) rest) ≤ name_walk (find (has_number s) ls)
+        → name_walk (if b then Some x else find (has_number s) rest) ≤ name_walk (if b then Some l else find (has_number s) ls)
+    at true x le ih = le
+    at false x le ih = ih
+
+    by : (a : Bool) → name_walk (find (has_number s) rest) ≤ name_walk (find (has_number s) ls)
+        → name_walk (find (has_number s) ((if a then ssn_forwarded ssn l else l) ∷ rest)) ≤ name_walk (find (has_number s) (l ∷ ls))
+    by true ih = at (has_number s l) (ssn_forwarded ssn l) (named-ordered ssn l) ih
+    by false ih = at (has_number s l) l (omega arith) ih
+
+-- the name at a place, and those behind it
+pub at-name : (ns : List ChunkForwardTsnStream) (ls : List InboundStream) (i : ℕ) (d : ChunkForwardTsnStream) → i < length ns
+    → names_walk_behind (name_before i ns) (drop i ns) ls
+    ≡ (if is_repeated (name_before i ns) (get_or ns i d) then 0 else name_walk (find (has_number (get_or ns i d).identifier) ls))
+    + names_walk_behind (name_before (i + 1) ns) (drop (i + 1) ns) ls
+at-name ns ls i d lt =
+    let n = get_or ns i d in
+    let next : Some n ≡ name_before (i + 1) ns = sym (slice_get-get_or ns i d lt)
+    ∙ ap (slice_get ns) {x = i} {y = i + 1 - 1} (omega arith)
+    ∙ ap (λ (b : Bool). if b then None else slice_get ns (i + 1 - 1)) (sym (ne_eqb (i + 1) 0 (λ e. omega (arith, e)))) in
+    ap (λ ms. names_walk_behind (name_before i ns) ms ls) (drop-cons ns i d lt)
+    ∙ ap (λ o. (if is_repeated (name_before i ns) n then 0 else name_walk (find (has_number n.identifier) ls)) + names_walk_behind o (drop (suc i) ns) ls) next
+    ∙ ap (λ k. (if is_repeated (name_before i ns) n then 0 else name_walk (find (has_number n.identifier) ls))
+    + names_walk_behind (name_before (i + 1) ns) (drop k ns) ls) (sym (add-one i))
+
+-- ## All of them
+
+pub unordered-after-names : (ns : List ChunkForwardTsnStream) (ls : List InboundStream) → unordered_skips_walk (named_forwarded ns ls) ≤ unordered_skips_walk ls
+unordered-after-names ns ls =
+    let a = visited-sum unordered_walk (named_forwarded ns ls) in
+    let b = visited-sum unordered_walk ls in
+    let h = named-cost (if_visited unordered_walk) (λ ssn l. visited-less unordered_walk l (ssn_forwarded ssn l) (named-any ssn l) (omega arith)) ns ls in
+    omega (arith, a, b, h)
+
+incomplete-after-names : (ns : List ChunkForwardTsnStream) (ls : List InboundStream)
+    → incomplete_skips_walk (named_forwarded ns ls) ≤ incomplete_skips_walk ls
+incomplete-after-names ns ls =
+    let a = visited-sum incomplete_walk (named_forwarded ns ls) in
+    let b = visited-sum incomplete_walk ls in
+    let h = named-cost (if_visited incomplete_walk)
+    (λ ssn l. visited-less incomplete_walk l (ssn_forwarded ssn l) (named-any ssn l) (named-incomplete ssn l)) ns ls in
+    let m = named-cost messages kept ns ls in
+    omega (arith, a, b, h, m)
+
+incomplete-after-fragments : (tsn : ℕ) (ls : List InboundStream) → incomplete_skips_walk (map (unassembled_forwarded tsn) ls) ≤ incomplete_skips_walk ls
+incomplete-after-fragments tsn ls =
+    let f = unassembled_forwarded tsn in
+    let a = visited-sum incomplete_walk (map f ls) in
+    let b = visited-sum incomplete_walk ls in
+    let h = mapped-cost (if_visited incomplete_walk) f (λ l. visited-less incomplete_walk l (f l) (unassembled-any tsn l) (omega arith)) ls in
+    let m = mapped-cost messages f (λ l. omega arith) ls in
+    omega (arith, a, b, h, m)
+
+pub incomplete-after : (f : ForwardTsn) (r : Reception) → incomplete_skips_walk (after_forward f r).streams ≤ incomplete_skips_walk r.streams
+incomplete-after f r = by (is_stale f r)
+  where
+    by : (b : Bool) → incomplete_skips_walk (if b then r else follow_forward_tsn f r).streams ≤ incomplete_skips_walk r.streams
+    by true = omega arith
+    by false =
+        let a = incomplete-after-fragments f.new_cumulative_tsn (named_forwarded f.streams r.streams) in
+        let b = incomplete-after-names f.streams r.streams in
+        omega (arith, a, b)
+
+pub none-settled : (ls : List InboundStream) → sum_by (λ (l : InboundStream). settle_walk Unassembled l.queue.held) ls ≡ 0
+none-settled [] = refl
+none-settled (l ∷ ls) = let a = sum_by-cons (λ (x : InboundStream). settle_walk Unassembled x.queue.held) l ls in let ih = none-settled ls in
+    omega (arith, a, ih)

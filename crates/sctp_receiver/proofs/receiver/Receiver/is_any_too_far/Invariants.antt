@@ -1,0 +1,13 @@
+use Rattle.std.proofs.Common.{◌≡◌, ◌+◌, ◌≤◌, drop}
+use Rattle.std.specs.List.{list_any}
+use Rattle.sctp_receiver.specs.Receiver.{stream_of}
+use Rattle.sctp_receiver.specs.Ssns.{is_named_too_far}
+use Rattle.sctp_receiver.proofs.receiver.Receiver.is_any_too_far.Given as goal
+
+abbrev pub invariant-loop-place : goal.invariant-loop-place
+invariant-loop-place l = record {
+  rest : list_any (λ n. is_named_too_far n (stream_of n.identifier l.self)) (drop l.place l.names)
+      ≡ list_any (λ n. is_named_too_far n (stream_of n.identifier l.self)) l.names;
+  not_back : l.initial.skips ≤ l.skips;
+  walk : l.skips ≤ l.initial.skips + l.place;
+}
