@@ -471,7 +471,7 @@ fn is_repeat(names: &[ChunkForwardTsnStream], place: usize) -> bool
     requires { place < length names.now }
     ensures same { result ≡ true → (0 < place) × ((d : ChunkForwardTsnStream)
         → slice_index_or names.now (place - 1) d ≡ slice_index_or names.now place d) }
-    ensures told { (d : ChunkForwardTsnStream) → result
+    ensures repeats { (d : ChunkForwardTsnStream) → result
         ≡ is_repeated (name_before place names.now) (slice_index_or names.now place d) }
 {
     if place == 0 {

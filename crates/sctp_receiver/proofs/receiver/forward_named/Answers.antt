@@ -44,7 +44,7 @@ loop-place-preserved c =
     let back : k + 1 - 1 ≡ k = omega arith in
     let fewer = c.loop-place.invariant.fewer in
     let told = ap (λ (b : Bool). if b then 0 else name_walk (find (has_number n.identifier) c.args.streams.now))
-    (sym (c.is_repeat.ensures.told none) ∙ c.if-is_repeat.false) in
+    (sym (c.is_repeat.ensures.repeats none) ∙ c.if-is_repeat.false) in
     record {
       so_far = c.loop-place.invariant.so_far ∙ next;
       settled = λ pos d. rw (back, get_or_default ns k d none lt) here.again;
