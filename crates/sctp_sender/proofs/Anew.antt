@@ -109,10 +109,10 @@ both-hold : (a b : Bool) → a ≡ true → b ≡ true → (a && b) ≡ true
 both-hold true b e h = h
 both-hold false b e h = e
 
-pub one-more-block : (bs : List GapAckBlock) (last x : ℕ) → ascends_from last bs ≡ true → last < x → ((n : ℕ) → x ≤ n → is_in_blocks bs n ≡ false)
-    → ascends_from last (bs ++ (let b : GapAckBlock = record { start = x; end = x } in b) ∷ []) ≡ true
-one-more-block [] last x e lt none = grind (arith, nat_tests, lt)
-one-more-block (b ∷ bs) last x e lt none =
+pub one-more-block : (bs : List GapAckBlock) (last x y : ℕ) → ascends_from last bs ≡ true → last < x → x ≤ y
+    → ((n : ℕ) → x ≤ n → is_in_blocks bs n ≡ false) → ascends_from last (bs ++ (let b : GapAckBlock = record { start = x; end = y } in b) ∷ []) ≡ true
+one-more-block [] last x y e lt le none = grind (arith, nat_tests, lt, le)
+one-more-block (b ∷ bs) last x y e lt le none =
     let a = ahead last b bs e in
     let h = both (nat_lt last b.start && nat_le b.start b.end) (ascends_from b.end bs) e in
     let before : b.end < x = elim (cases_lt b.end x) [
@@ -121,7 +121,7 @@ one-more-block (b ∷ bs) last x e lt none =
           absurd (false≢true (sym (none b.end ge) ∙ or-left (is_in_block b.end b) (is_in_blocks bs b.end) (in-block b.end b a.runs (omega arith))))
     ] in
     both-hold (nat_lt last b.start && nat_le b.start b.end) _ h.0
-    (one-more-block bs b.end x a.ascend before (λ n le. or-last (is_in_block n b) (is_in_blocks bs n) (none n le)))
+    (one-more-block bs b.end x y a.ascend before le (λ n le. or-last (is_in_block n b) (is_in_blocks bs n) (none n le)))
   where
     or-last : (p q : Bool) → (p || q) ≡ false → q ≡ false
     or-last true q e = absurd (false≢true (sym e))

@@ -9,7 +9,7 @@ use Rattle.std.proofs.lemmas.List.{get_or-drop, get_or-map, get_or_past, length-
 use Rattle.std.proofs.lemmas.List.Folds.{list_any_none}
 use Rattle.sctp_list_lemmas.specs.Lists.{change_where}
 use Rattle.sctp_list_lemmas.specs.Serial.{distance}
-use Rattle.sctp_list_lemmas.proofs.Cases.{and-none}
+use Rattle.sctp_list_lemmas.proofs.Cases.{and-none, or-left, or-right}
 use Rattle.sctp_list_lemmas.proofs.More.{not_both}
 use Rattle.sctp_data.specs.declared.chunk.chunk_payload_data.ChunkPayloadData.{ChunkPayloadData}
 use Rattle.sctp_data.specs.declared.chunk.chunk_selective_ack.GapAckBlock.{GapAckBlock}
@@ -20,11 +20,12 @@ use Rattle.sctp_serial.specs.DataChunks.{following_tsn}
 use Rattle.sctp_sender.specs.Flight.{Flight, IsContiguous, after_sack, is_outdated, reports, reports_anew, sack_refusal, take_sack}
 use Rattle.sctp_sender.specs.Keeping.{Cover, back_each, back_of, can_at, can_come_back, is_uncovered, keep_each, kept_after, return_at, returns_at, trimmed}
 use Rattle.sctp_sender.specs.Keeping.{kept_from}
-use Rattle.sctp_sender.specs.Reporting.{AreSorted, ascends_from}
+use Rattle.sctp_sender.specs.Reporting.{AreKnown, AreSorted, ascends_from}
 use Rattle.sctp_sender.specs.Telling.{is_reached}
 use Rattle.sctp_sender.proofs.Covers.{neither}
 use Rattle.sctp_sender.proofs.Keepings.{length-keep_each, taken-within}
-use Rattle.sctp_sender.proofs.Reported.{changed-at, reached}
+use Rattle.sctp_sender.proofs.Known.{known-at}
+use Rattle.sctp_sender.proofs.Reported.{changed-at, ends, reached}
 use Rattle.sctp_sender.proofs.Runs.{any_chunk, past-is, tsn-at}
 use Rattle.sctp_sender.proofs.Sacks.{apart, count as marked-count, cum-is, run as marked-run}
 
@@ -35,7 +36,7 @@ none-at q (x ∷ xs) (suc i) d h lt = none-at q xs i d (neither (q x) (list_any 
 
 -- ## The chunk at a place
 
-can-here : (cs : List ChunkPayloadData) (k : ℕ) (d : ChunkPayloadData) → k < length cs → can_at cs k ≡ can_come_back (get_or cs k d)
+pub can-here : (cs : List ChunkPayloadData) (k : ℕ) (d : ChunkPayloadData) → k < length cs → can_at cs k ≡ can_come_back (get_or cs k d)
 can-here cs k d lt = get_or-map can_come_back cs k d false lt
 
 can-in : (cs : List ChunkPayloadData) (k : ℕ) → can_at cs k ≡ true → k < length cs
@@ -49,7 +50,7 @@ module _ (f : Flight) (inv : IsContiguous f) where
   cs = f.queue.inflight.chunks
 
   -- how far it is past what is acknowledged
-  far-at : (k : ℕ) (d : ChunkPayloadData) → k < length cs → distance f.acked_tsn (get_or cs k d).tsn ≡ suc k
+  pub far-at : (k : ℕ) (d : ChunkPayloadData) → k < length cs → distance f.acked_tsn (get_or cs k d).tsn ≡ suc k
   far-at k d lt =
       let tsn = tsn-at cs (following_tsn f.acked_tsn) k d (omega arith) inv.run lt in
       let few = inv.few in
@@ -173,6 +174,44 @@ module _ (f : Flight) (inv : IsContiguous f) where
         twice : (xs : List (Option (List ℕ))) → trimmed (trimmed xs) ≡ trimmed xs
         twice [] = refl
         twice (x ∷ xs) = again x (trimmed xs) (twice xs)
+
+    acked-now : (k : ℕ) (d : ChunkPayloadData) → count + k < length cs
+        → ((get_or cs (count + k) d).acked || reports s (get_or cs (count + k) d)) ≡ true → (get_or (drop count marked) k d).acked ≡ true
+    acked-now k d lt h = ap (λ (x : ChunkPayloadData). x.acked) (now-at k d lt) ∙ by (get_or cs (count + k) d).acked (reports s (get_or cs (count + k) d)) refl refl h
+      where
+        c : ChunkPayloadData
+        c = get_or cs (count + k) d
+
+        by : (a r : Bool) → c.acked ≡ a → reports s c ≡ r → (a || r) ≡ true → (if reports_anew s c then as_acknowledged c else c).acked ≡ true
+        by true r e g o = ap (λ b. (if not b && reports s c then as_acknowledged c else c).acked) e ∙ e
+        by false true e g o = ap (λ b. (if not b && reports s c then as_acknowledged c else c).acked) e ∙ ap (λ b. (if b then as_acknowledged c else c).acked) g
+        by false false e g o = absurd (false≢true o)
+
+    -- what these blocks or earlier ones report is acknowledged then
+    pub after-known : (bs listed : List GapAckBlock) → AreKnown listed cs → ((k : ℕ) → is_in_blocks bs (suc k) ≡ true
+        → (is_in_blocks sorted (suc k) || is_in_blocks listed (suc (count + k))) ≡ true) → AreKnown bs (after_sack s f).queue.inflight.chunks
+    after-known bs listed known from k e =
+        ap (λ (xs : List ChunkPayloadData). get_or (map (λ (c : ChunkPayloadData). c.acked) xs) k false) after-is
+        ∙ by (is_in_blocks sorted (suc k)) refl (from k e)
+      where
+        at : count + k < length cs → ((get_or cs (count + k) any_chunk).acked || reports s (get_or cs (count + k) any_chunk)) ≡ true
+            → get_or (map (λ (c : ChunkPayloadData). c.acked) (drop count marked)) k false ≡ true
+        at lt h =
+            let n = length-drop count marked in
+            let m = marked-count f inv s fits in
+            get_or-map (λ (c : ChunkPayloadData). c.acked) (drop count marked) k any_chunk false (omega (arith, n, m, lt)) ∙ acked-now k any_chunk lt h
+
+        by : (b : Bool) → is_in_blocks sorted (suc k) ≡ b → (b || is_in_blocks listed (suc (count + k))) ≡ true
+            → get_or (map (λ (c : ChunkPayloadData). c.acked) (drop count marked)) k false ≡ true
+        by true there o =
+            let end = ends f inv s fits taken current sorted are (suc k) there in
+            let lt : count + k < length cs = omega (arith, end) in
+            let same : suc (count + k) - count ≡ suc k = omega arith in
+            at lt (or-right (get_or cs (count + k) any_chunk).acked (reports s (get_or cs (count + k) any_chunk)) (reports-here (count + k) any_chunk lt
+            ∙ or-right (nat_lt (count + k) count) (is_in_blocks sorted (suc (count + k) - count)) (ap (is_in_blocks sorted) same ∙ there)))
+        by false there o =
+            let h = known-at listed cs known (count + k) any_chunk o in
+            at h.0 (or-left (get_or cs (count + k) any_chunk).acked (reports s (get_or cs (count + k) any_chunk)) h.1)
 
     module _ (bs : List GapAckBlock) (ks : List (Option (List ℕ))) (ascend : ascends_from 0 bs ≡ true)
         (theirs : (k : ℕ) → is_in_blocks sorted (suc k) ≡ true → is_in_blocks bs (suc k) ≡ true)

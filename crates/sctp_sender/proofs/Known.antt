@@ -1,9 +1,9 @@
 -- What is known to be acknowledged stays so.
-use Rattle.std.proofs.Common.{◌≡◌, ℕ, Bool, true, false, List, [], ◌∷◌, ◌++◌, length, map, take, drop, get_or, Option, Some, None, refl, ap}
+use Rattle.std.proofs.Common.{◌≡◌, ℕ, suc, ◌<◌, Bool, true, false, List, [], ◌∷◌, ◌++◌, length, map, take, drop, get_or, Option, Some, None, refl, ap}
 use Rattle.std.proofs.Common.{sym, ◌∙◌, subst, inl, inr, arith}
 use Rattle.std.specs.Prelude.{if◌then◌else◌}
 use Rattle.std.proofs.lemmas.Bool.{cases_lt, false≢true}
-use Rattle.std.proofs.lemmas.List.{get_or_append_left, get_or_past, map-append, take-append-drop}
+use Rattle.std.proofs.lemmas.List.{get_or-map, get_or_append_left, get_or_past, length-map, map-append, take-append-drop}
 use Rattle.sctp_list_lemmas.specs.Lists.{change_where}
 use Rattle.sctp_list_lemmas.proofs.Edits.{length-change_where}
 use Rattle.sctp_data.specs.declared.chunk.chunk_payload_data.ChunkPayloadData.{ChunkPayloadData}
@@ -11,6 +11,7 @@ use Rattle.sctp_data.specs.declared.chunk.chunk_selective_ack.GapAckBlock.{GapAc
 use Rattle.sctp_outbound.specs.Marks.{as_abandoned, is_of}
 use Rattle.sctp_outbound.specs.outbound_queue.OutboundQueue.{Outbound, abandoned_of, all_started, as_sent, expired_of, sent_next, sent_of, terminal_chunk}
 use Rattle.sctp_outbound.specs.outbound_queue.OutboundQueue.{with_terminal_chunk}
+use Rattle.sctp_outbound.specs.payload_queue.Blocks.{is_in_blocks}
 use Rattle.sctp_outbound.specs.payload_queue.PayloadQueue as payload
 use Rattle.sctp_outbound.specs.pending_queue.PendingQueue.{last_removed, next_pending}
 use Rattle.sctp_serial.specs.DataChunks.{following_tsn}
@@ -107,3 +108,14 @@ expired-known bs q r (Some c) is known = subst (λ (o : Outbound). AreKnown bs o
 
 pub none-known : (cs : List ChunkPayloadData) → AreKnown [] cs
 none-known cs k h = absurd (false≢true h)
+
+-- the chunk at a distance that they report
+pub known-at : (bs : List GapAckBlock) (cs : List ChunkPayloadData) → AreKnown bs cs → (k : ℕ) (d : ChunkPayloadData) → is_in_blocks bs (suc k) ≡ true
+    → (k < length cs) × ((get_or cs k d).acked ≡ true)
+known-at bs cs known k d h =
+    let yes = known k h in
+    let n = length-map cs (λ (c : ChunkPayloadData). c.acked) in
+    let lt : k < length cs = elim (cases_lt k (length cs)) [
+      | inl lt ↦ lt
+      | inr ge ↦ absurd (false≢true (sym (get_or_past (flags cs) k false (omega (arith, n, ge))) ∙ yes))
+    ] in (lt, sym (get_or-map (λ (c : ChunkPayloadData). c.acked) cs k d false lt) ∙ yes)

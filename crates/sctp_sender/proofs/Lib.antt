@@ -33,9 +33,14 @@ pub mod Reported
 pub mod SackCosts
 pub mod TakenBacks
 pub mod Returns
+pub mod Listing
+pub mod WalkCosts
 pub mod Covers
+pub mod Listed
 pub mod Placed
 pub mod Covering
 pub mod AnewKept
+pub mod LeftReported
+pub mod KeepCosts
 pub mod Lows
 mod Examples

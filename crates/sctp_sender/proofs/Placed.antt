@@ -1,8 +1,10 @@
 -- What comes back, with its place.
 use Rattle.std.proofs.Common.{◌≡◌, ℕ, zero, suc, ◌+◌, ◌<◌, ◌≤◌, ◌%◌, ◌^◌, List, [], ◌∷◌, ◌++◌, length, map, take, drop}
-use Rattle.std.proofs.Common.{get_or, set}
+use Rattle.std.proofs.Common.{true, false, get_or, set}
 use Rattle.std.proofs.Common.{Option, Some, None, refl, ap, sym, subst, ◌∙◌, arith}
-use Rattle.std.specs.List.{All}
+use Rattle.std.specs.List.{All, list_any}
+use Rattle.std.specs.Prelude.{◌==◌, ◌&&◌, ◌||◌, is_some, nat_le}
+use Rattle.std.proofs.lemmas.Bool.Decides.{nat_tests}
 use Rattle.std.proofs.lemmas.List.{append_assoc, drop_more, length-take-le, take_more, take-append-drop}
 use Rattle.std.proofs.lemmas.List.Sums.{sum_by-append, sum_by-cons}
 use Rattle.std.proofs.lemmas.Option.{none-some}
@@ -14,7 +16,7 @@ use Rattle.sctp_outbound.specs.Marks.{as_taken_back}
 use Rattle.sctp_sender.specs.declared.sender.flight.keeping.TakenBack.{TakenBack}
 use Rattle.sctp_sender.specs.declared.sender.flight.taking_back.PlacedData.{PlacedData}
 use Rattle.sctp_sender.specs.Keeping.{answered_back, back_each, bytes_back, bytes_coming, placed, put_back, restored, answered_of_placed}
-use Rattle.sctp_sender.specs.Keeping.{with_restored}
+use Rattle.sctp_sender.specs.Keeping.{is_at, rises_from, with_restored}
 use Rattle.sctp_outbound.specs.outbound_queue.OutboundQueue.{with_inflight}
 use Rattle.sctp_outbound.specs.pending_queue.Whole.{partially_sent}
 use Rattle.sctp_serial.specs.DataChunks.{following_tsn}
@@ -209,3 +211,33 @@ put-restored f backs bs is le = ap (λ cs. with_queue f (with_inflight f.queue c
 pub nil-of : {X : Type 0} (xs : List X) → length xs ≡ 0 → xs ≡ []
 nil-of [] e = refl
 nil-of (x ∷ xs) e = absurd (omega (arith, e))
+
+-- ## In order, and at their places
+
+pub placed-rises : (m n : ℕ) (ks : List (Option (List ℕ))) → m ≤ n → rises_from m (placed n ks) ≡ true
+placed-rises m n [] le = refl
+placed-rises m n (None ∷ ks) le = placed-rises m (suc n) ks (omega (arith, le))
+placed-rises m n (Some bytes ∷ ks) le =
+    let yes : nat_le m n ≡ true = grind (arith, nat_tests, le) in
+    ap (λ a. a && rises_from (suc n) (placed (suc n) ks)) yes ∙ placed-rises (suc n) (suc n) ks (omega arith)
+
+none-under : (n k : ℕ) (ks : List (Option (List ℕ))) → k < n → list_any (is_at k) (placed n ks) ≡ false
+none-under n k [] lt = refl
+none-under n k (None ∷ ks) lt = none-under (suc n) k ks (omega (arith, lt))
+none-under n k (Some bytes ∷ ks) lt =
+    let no : (n == k) ≡ false = grind (arith, nat_tests, lt) in
+    ap (λ a. a || list_any (is_at k) (placed (suc n) ks)) no ∙ none-under (suc n) k ks (omega (arith, lt))
+
+-- one stands at a place exactly where something comes back there
+pub placed-at : (n k : ℕ) (ks : List (Option (List ℕ))) → list_any (is_at (n + k)) (placed n ks) ≡ is_some (get_or ks k None)
+placed-at n zero [] = refl
+placed-at n (suc k) [] = refl
+placed-at n zero (None ∷ ks) = none-under (suc n) (n + 0) ks (omega arith)
+placed-at n (suc k) (None ∷ ks) =
+    let e : n + suc k ≡ suc n + k = omega arith in ap (λ j. list_any (is_at j) (placed (suc n) ks)) e ∙ placed-at (suc n) k ks
+placed-at n zero (Some bytes ∷ ks) =
+    let yes : (n == n + 0) ≡ true = grind (arith, nat_tests) in ap (λ a. a || list_any (is_at (n + 0)) (placed (suc n) ks)) yes
+placed-at n (suc k) (Some bytes ∷ ks) =
+    let no : (n == n + suc k) ≡ false = grind (arith, nat_tests) in
+    let e : n + suc k ≡ suc n + k = omega arith in
+    ap (λ a. a || list_any (is_at (n + suc k)) (placed (suc n) ks)) no ∙ ap (λ j. list_any (is_at j) (placed (suc n) ks)) e ∙ placed-at (suc n) k ks

@@ -1,13 +1,13 @@
 -- A walk over the places where something can come back, and over the blocks of a SACK.
-use Rattle.std.proofs.Common.{◌≡◌, ℕ, zero, suc, ◌+◌, ◌-◌, ◌<◌, ◌≤◌, Bool, true, false, List, [], ◌∷◌, length, take, drop, get_or, refl, ap, sym}
+use Rattle.std.proofs.Common.{◌≡◌, ℕ, zero, suc, ◌+◌, ◌-◌, ◌<◌, ◌≤◌, true, false, List, [], ◌∷◌, length, take, drop, get_or, refl, ap, sym}
 use Rattle.std.proofs.Common.{subst}
 use Rattle.std.proofs.Common.{◌∙◌, inl, inr, slice_get, None, arith}
-use Rattle.std.specs.Prelude.{Option, if◌then◌else◌, ◌&&◌, ◌||◌, not, nat_le, nat_lt}
+use Rattle.std.specs.Prelude.{Option, if◌then◌else◌, ◌&&◌, ◌||◌, not, nat_lt}
 use Rattle.std.proofs.lemmas.Bool.{cases_lt, false≢true}
 use Rattle.std.proofs.lemmas.Bool.Decides.{nat_tests}
 use Rattle.std.proofs.lemmas.List.{drop_more, get_or_default, take_more, take-append-drop}
 use Rattle.std.proofs.lemmas.Option.{none-some}
-use Rattle.sctp_list_lemmas.proofs.Cases.{and-none, and-true, or-left, or-none, or-right}
+use Rattle.sctp_list_lemmas.proofs.Cases.{and-none, and-true, or-none, or-right}
 use Rattle.sctp_list_lemmas.proofs.Edits.{list_any-append}
 use Rattle.sctp_list_lemmas.proofs.More.{fails}
 use Rattle.sctp_data.specs.declared.chunk.chunk_payload_data.ChunkPayloadData.{ChunkPayloadData}
@@ -59,10 +59,10 @@ block-at bs i b e lt is =
 
 -- ## Blocks that are passed
 
-passed-on : (count i : ℕ) (bs : List GapAckBlock) (place next : ℕ) → place ≤ next → ArePassed count i bs place → ArePassed count i bs next
+pub passed-on : (count i : ℕ) (bs : List GapAckBlock) (place next : ℕ) → place ≤ next → ArePassed count i bs place → ArePassed count i bs next
 passed-on count i bs place next le p n lt = p n (omega (arith, le, lt))
 
-one-passed : (count i : ℕ) (bs : List GapAckBlock) (b : GapAckBlock) (place : ℕ) → i < length bs → b ≡ get_or bs i b → count + b.end ≤ place
+pub one-passed : (count i : ℕ) (bs : List GapAckBlock) (b : GapAckBlock) (place : ℕ) → i < length bs → b ≡ get_or bs i b → count + b.end ≤ place
     → ArePassed count i bs place → ArePassed count (i + 1) bs place
 one-passed count i bs b place lt is le p n far =
     let out : is_in_block n b ≡ false = grind (arith, nat_tests, le, far) in
@@ -156,15 +156,17 @@ module _ (count : ℕ) (listed blocks : List GapAckBlock) (cs : List ChunkPayloa
           reported-at k (or-right (nat_lt k count) (is_in_blocks blocks (suc k - count)) (any-at (is_in_block (suc k - count)) blocks j b lt there)))
 
     -- a place that no block reports
-    pub looked-at : ((b : GapAckBlock) → j < length blocks → b ≡ get_or blocks j b → place + 1 < count + b.start)
-        → returns_at count blocks cs place ≡ can_at cs place
-    looked-at next =
+    pub unreached : ((b : GapAckBlock) → j < length blocks → b ≡ get_or blocks j b → place + 1 < count + b.start) → is_reached count blocks place ≡ false
+    unreached next =
         let least = w.least in
         let out : is_in_blocks blocks (suc place - count) ≡ false = between count j blocks place (suc place - count) w.reported (omega (arith, least))
         (λ b lt is. let n = next b lt is in omega (arith, n, least)) sorted in
         let behind : nat_lt place count ≡ false = grind (arith, nat_tests, least) in
-        ap (λ k. can_at cs place && not (k || is_in_blocks blocks (suc place - count))) behind ∙ ap (λ k. can_at cs place && not k) out
-        ∙ and-true (can_at cs place)
+        ap (λ k. k || is_in_blocks blocks (suc place - count)) behind ∙ out
+
+    pub looked-at : ((b : GapAckBlock) → j < length blocks → b ≡ get_or blocks j b → place + 1 < count + b.start)
+        → returns_at count blocks cs place ≡ can_at cs place
+    looked-at next = ap (λ k. can_at cs place && not k) (unreached next) ∙ and-true (can_at cs place)
 
     pub one-on : returns_at count blocks cs place ≡ false → Walked count listed blocks cs from (place + 1) i j
     one-on e = moved (place + 1) (omega arith) (λ k low high.
@@ -197,44 +199,27 @@ module _ (count : ℕ) (blocks : List GapAckBlock) (cs : List ChunkPayloadData) 
       let front : nat_lt k count ≡ true = grind (arith, nat_tests, lt) in
       none-at (ap (λ b. can_at cs k && not (b || is_in_blocks blocks (suc k - count))) front ∙ and-none (can_at cs k))
 
--- ## The last distance
+-- ## At the next run of what is listed
 
-further : (xs : List GapAckBlock) (m i : ℕ) (d : GapAckBlock) → ascends_from m xs ≡ true → i + 1 ≡ length xs → m ≤ (get_or xs i d).end
-further [] m i d a is = absurd (omega (arith, is))
-further (x ∷ xs) m zero d a is =
-    let h = both (nat_lt m x.start && nat_le x.start x.end) (ascends_from x.end xs) a in
-    let t = both (nat_lt m x.start) (nat_le x.start x.end) h.0 in
-    grind (arith, nat_tests, t.0, t.1)
-further (x ∷ xs) m (suc i) d a is =
-    let h = both (nat_lt m x.start && nat_le x.start x.end) (ascends_from x.end xs) a in
-    let t = both (nat_lt m x.start) (nat_le x.start x.end) h.0 in
-    let rest = further xs x.end i d h.1 (omega (arith, is)) in
-    grind (arith, nat_tests, t.0, t.1, rest)
+module _ (count : ℕ) (listed blocks : List GapAckBlock) (cs : List ChunkPayloadData) (ascend : ascends_from 0 listed ≡ true)
+    (sorted : ascends_from 0 blocks ≡ true) (covered : (k : ℕ) → can_at cs k ≡ true → is_in_blocks listed (suc k) ≡ true) (from place i j : ℕ) where
+  pub record IsAtRun (next : ℕ) : Type 0 where
+    pub some : 0 < (get_or listed i no_block).start
+    pub is : get_or listed i no_block ≡ get_or listed i (get_or listed i no_block)
+    pub on : place ≤ next
+    pub walked : Walked count listed blocks cs from next i j
+    pub lists : next < (get_or listed i no_block).end → is_in_blocks listed (suc next) ≡ true
 
-last-end-from : (bs : List GapAckBlock) (last n i : ℕ) (d : GapAckBlock) → ascends_from last bs ≡ true → i + 1 ≡ length bs → is_in_blocks bs n ≡ true
-    → n ≤ (get_or bs i d).end
-last-end-from [] last n i d e is h = absurd (false≢true h)
-last-end-from (b ∷ bs) last n zero d e is h = by bs (omega (arith, is)) h
-  where
-    by : (xs : List GapAckBlock) → length xs ≡ 0 → (is_in_block n b || is_in_blocks xs n) ≡ true → n ≤ b.end
-    by [] z f = let t = both (nat_le b.start n) (nat_le n b.end) (sym (or-none (is_in_block n b)) ∙ f) in grind (arith, nat_tests, t.1)
-    by (x ∷ xs) z f = absurd (omega (arith, z))
-last-end-from (b ∷ bs) last n (suc i) d e is h =
-    let r = both (nat_lt last b.start && nat_le b.start b.end) (ascends_from b.end bs) e in
-    by (is_in_block n b) refl h (further bs b.end i d r.1 (omega (arith, is))) (last-end-from bs b.end n i d r.1 (omega (arith, is)))
-  where
-    by : (k : Bool) → is_in_block n b ≡ k → (k || is_in_blocks bs n) ≡ true → b.end ≤ (get_or bs i d).end
-        → (is_in_blocks bs n ≡ true → n ≤ (get_or bs i d).end) → n ≤ (get_or bs i d).end
-    by true f g le ih = let t = both (nat_le b.start n) (nat_le n b.end) f in grind (arith, nat_tests, t.1, le)
-    by false f g le ih = ih g
-
-pub last-end : (bs : List GapAckBlock) (n : ℕ) (d : GapAckBlock) → ascends_from 0 bs ≡ true → is_in_blocks bs n ≡ true → n ≤ (get_or bs (length bs - 1) d).end
-last-end bs n d e h = last-end-from bs 0 n (length bs - 1) d e (some bs h) h
-  where
-    some : (xs : List GapAckBlock) → is_in_blocks xs n ≡ true → length xs - 1 + 1 ≡ length xs
-    some [] f = absurd (false≢true f)
-    some (x ∷ xs) f = omega arith
-
--- a block from the first distance on
-pub one-block : (end n : ℕ) → 0 < n → n ≤ end → is_in_blocks ((let b : GapAckBlock = record { start = 1; end = end } in b) ∷ []) n ≡ true
-one-block end n pos le = or-left (is_in_block n (record { start = 1; end = end })) false (in-block n (record { start = 1; end = end }) (omega (arith, pos)) le)
+  pub at-run : (w : Walked count listed blocks cs from place i j) → i < length listed → (next : ℕ) → place ≤ next
+      → (get_or listed i no_block).start ≤ next + 1 → ((k : ℕ) → place ≤ k → k < next → suc k < (get_or listed i no_block).start) → IsAtRun next
+  at-run w lt next on start near =
+      let b : GapAckBlock = get_or listed i no_block in
+      let is : b ≡ get_or listed i b = get_or_default listed i no_block b lt in
+      record {
+        some = (block-at listed i b ascend lt is).past;
+        is = is;
+        on = on;
+        walked = to-start count listed blocks cs ascend sorted covered from place i j w b lt is next on near;
+        lists = λ less. any-at (is_in_block (suc next)) listed i b lt
+            (ap (is_in_block (suc next)) (sym is) ∙ in-block (suc next) b (omega (arith, start)) (omega (arith, less)));
+      }

@@ -1,5 +1,5 @@
 -- How much a SACK reports, and of which messages.
-use Rattle.std.proofs.Common.{◌≡◌, ℕ, suc, ◌+◌, ◌-◌, ◌<◌, ◌≤◌, ◌^◌, true, false, List, length, map, take, None, refl, ap, ◌∙◌, arith, [], ◌∷◌, ◌*◌, sym, Bool}
+use Rattle.std.proofs.Common.{◌≡◌, ℕ, suc, ◌+◌, ◌-◌, ◌<◌, ◌≤◌, ◌^◌, true, false, List, length, map, take, get_or, Option, Some, None, refl, ap, ◌∙◌, arith, [], ◌∷◌, ◌*◌, sym, Bool}
 use Rattle.std.specs.Prelude.{nat_lt, cond, not, ◌&&◌}
 use Rattle.std.specs.List.{count_by, filter}
 use Rattle.std.proofs.lemmas.Bool.Decides.{nat_tests}
@@ -10,16 +10,18 @@ use Rattle.sctp_list_lemmas.proofs.Cases.{or-left, or-right}
 use Rattle.sctp_data.specs.declared.chunk.chunk_payload_data.ChunkPayloadData.{ChunkPayloadData}
 use Rattle.sctp_data.specs.declared.chunk.chunk_selective_ack.GapAckBlock.{GapAckBlock}
 use Rattle.sctp_data.specs.SelectiveAck.{Sack}
-use Rattle.sctp_outbound.specs.Marks.{as_acknowledged}
+use Rattle.sctp_outbound.specs.Marks.{as_acknowledged, as_taken_back}
 use Rattle.sctp_outbound.specs.payload_queue.Blocks.{is_in_blocks}
 use Rattle.sctp_sender.specs.declared.sender.flight.Released.{Released}
-use Rattle.sctp_sender.specs.Costs.{chunks_of, distances_in, messages_anew, sack_turns, to_sort}
+use Rattle.sctp_sender.specs.Costs.{PicksLeftOut, chunks_of, distances_in, is_left_out, keeping_turns, messages_anew, sack_turns, take_back_turns, to_sort}
 use Rattle.sctp_sender.specs.Flight.{Flight, IsContiguous, is_outdated, released_of, reports, reports_anew, sack_refusal}
-use Rattle.sctp_sender.specs.Reporting.{AreSorted}
+use Rattle.sctp_sender.specs.Keeping.{answered_back, places_kept, restored, restored_with, with_restored}
+use Rattle.sctp_sender.specs.Reporting.{AreKnown, AreSorted, ascends_from}
 use Rattle.sctp_sender.specs.SideBySide.{messages_of}
 use Rattle.sctp_sender.specs.Telling.{no_message}
-use Rattle.sctp_sender.proofs.Counts.{among, count-blocks, count-run, numbers-of-those, numbers_of}
+use Rattle.sctp_sender.proofs.Counts.{among, count-blocks, count-run, known-few, numbers-of-those, numbers_of}
 use Rattle.sctp_sender.proofs.InLine.{messages-changed}
+use Rattle.sctp_sender.proofs.Known.{known-at}
 use Rattle.sctp_sender.proofs.Reported.{ends, reached}
 use Rattle.sctp_sender.proofs.Keepings.{taken-within}
 use Rattle.sctp_sender.proofs.Runs.{any_chunk}
@@ -47,6 +49,19 @@ module _ (f : Flight) (inv : IsContiguous f) (s : Sack) (fits : s.cumulative_tsn
       let e : 0 + count ≡ count + 0 = omega arith in
       let same = ap (λ k. count_by (reports s) (take k cs)) e in
       omega (arith, front, behind, same)
+
+  -- what is listed and it does not report is acknowledged
+  pub left-out : (listed : List GapAckBlock) → AreKnown listed f.queue.inflight.chunks
+      → PicksLeftOut (is_left_out s) (distance f.acked_tsn s.cumulative_tsn_ack) listed sorted f.queue.inflight.chunks
+  left-out listed known k d lists left =
+      let at = known-at listed cs known k d lists in
+      let none : reports s (get_or cs k d) ≡ false = reached f inv s fits taken current sorted are k d at.0 ∙ left in
+      (at.0, ap (λ a. a && not (reports s (get_or cs k d))) at.1 ∙ ap not none)
+
+-- blocks that are known are no more than chunks that are acknowledged
+pub few-known : (bs : List GapAckBlock) (cs : List ChunkPayloadData) → ascends_from 0 bs ≡ true → AreKnown bs cs
+    → length bs ≤ count_by (λ (c : ChunkPayloadData). c.acked) cs
+few-known bs cs up known = let h = known-few cs any_chunk bs 0 up known in omega (arith, h)
 
 -- the messages of what was told of, among those in flight, acknowledged or not
 pub same-messages : (s : Sack) (cs ds : List ChunkPayloadData) (rs : List Released)
@@ -94,3 +109,50 @@ costs-of-nothing-new s f none =
     let new : count_by (reports_anew s) cs ≡ 0 = sym (length-filter (reports_anew s) cs) ∙ ap (λ (xs : List ChunkPayloadData). length xs) none in
     let of-them : chunks_of (messages_anew s cs) cs ≡ 0 = ap (λ (xs : List ChunkPayloadData). chunks_of (messages_of xs) cs) none ∙ none-of (messages_of cs) in
     omega (arith, h, new, of-them)
+
+-- ## Once something came back
+
+module _ (q : ChunkPayloadData → Bool) (lowers : (c : ChunkPayloadData) (bytes : List ℕ) → q (as_taken_back bytes c) ≡ false) where
+  fewer : (bs : List (Option (List ℕ))) (cs : List ChunkPayloadData) → count_by q (restored bs cs) ≤ count_by q cs
+  fewer [] cs = omega arith
+  fewer (b ∷ bs) [] = omega arith
+  fewer (b ∷ bs) (c ∷ cs) =
+      let h = fewer bs cs in
+      let old : count_by q (c ∷ cs) ≡ cond (q c) 1 0 + count_by q cs = sum_by-cons (λ c. cond (q c) 1 0) c cs in
+      let new : count_by q (restored_with b c ∷ restored bs cs) ≡ cond (q (restored_with b c)) 1 0 + count_by q (restored bs cs)
+      = sum_by-cons (λ c. cond (q c) 1 0) (restored_with b c) (restored bs cs) in
+      let one = here b in
+      omega (arith, h, old, new, one)
+    where
+      here : (b : Option (List ℕ)) → cond (q (restored_with b c)) 1 0 ≤ cond (q c) 1 0
+      here None = omega arith
+      here (Some bytes) = let e = ap {B = ℕ} (λ b. cond b 1 0) (lowers c bytes) in omega (arith, e)
+
+left-or-acked : (s : Sack) (cs : List ChunkPayloadData) → count_by (is_left_out s) cs ≤ count_by (λ (c : ChunkPayloadData). c.acked) cs
+left-or-acked s [] = omega arith
+left-or-acked s (c ∷ cs) =
+    let h = left-or-acked s cs in
+    let l : count_by (is_left_out s) (c ∷ cs) ≡ cond (is_left_out s c) 1 0 + count_by (is_left_out s) cs = sum_by-cons (λ c. cond (is_left_out s c) 1 0) c cs in
+    let a : count_by (λ (c : ChunkPayloadData). c.acked) (c ∷ cs) ≡ cond c.acked 1 0 + count_by (λ (c : ChunkPayloadData). c.acked) cs
+    = sum_by-cons (λ (c : ChunkPayloadData). cond c.acked 1 0) c cs in
+    let one = here c.acked (reports s c) in
+    omega (arith, h, l, a, one)
+  where
+    here : (a r : Bool) → cond (a && not r) 1 0 ≤ cond a 1 0
+    here true true = omega arith
+    here true false = omega arith
+    here false r = omega arith
+
+pub costs-together : (s : Sack) (f g : Flight) (ks bs : List (Option (List ℕ))) → g ≡ with_restored bs f
+    → take_back_turns s f (length (answered_back bs f.queue.inflight.chunks)) + (sack_turns s g + keeping_turns s g (places_kept s g ks))
+    ≤ 20 * length s.gap_ack_blocks + 13 * to_sort s.gap_ack_blocks + 14 * count_by (λ (c : ChunkPayloadData). c.acked) f.queue.inflight.chunks
+    + 12 * count_by (reports_anew s) g.queue.inflight.chunks + chunks_of (messages_anew s g.queue.inflight.chunks) g.queue.inflight.chunks
+    + 5 * length (answered_back bs f.queue.inflight.chunks) + places_kept s g ks + 2
+costs-together s f g ks bs is =
+    let acked : ChunkPayloadData → Bool = λ c. c.acked in
+    let same = ap (λ (h : Flight). count_by acked h.queue.inflight.chunks) is in
+    let fewer-acked = fewer acked (λ c bytes. refl) bs f.queue.inflight.chunks in
+    let reported = anew-or-before s g.queue.inflight.chunks in
+    let left-f = left-or-acked s f.queue.inflight.chunks in
+    let left-g = left-or-acked s g.queue.inflight.chunks in
+    omega (arith, same, fewer-acked, reported, left-f, left-g)

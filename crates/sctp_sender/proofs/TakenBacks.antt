@@ -4,6 +4,7 @@ use Rattle.std.proofs.Common.{arith}
 use Rattle.std.specs.Prelude.{◌&&◌, not, find, if◌then◌else◌, is_some, nat_lt}
 use Rattle.std.specs.List.{All}
 use Rattle.std.proofs.lemmas.Bool.{false≢true}
+use Rattle.std.proofs.lemmas.List.{length-map}
 use Rattle.std.proofs.lemmas.Option.{none-some}
 use Rattle.sctp_data.specs.declared.chunk.chunk_payload_data.ChunkPayloadData.{ChunkPayloadData}
 use Rattle.sctp_data.specs.SelectiveAck.{Sack}
@@ -19,7 +20,7 @@ use Rattle.sctp_sender.specs.declared.sender.refusal.SenderRefusal.TheVariants.{
 use Rattle.sctp_sender.specs.Sender.{Transmission, back_by, or_full, take_back_refusal, taken_back_by}
 use Rattle.sctp_sender.proofs.Placed.{back-length, placed-answer}
 use Rattle.sctp_sender.proofs.Keepings.{length-restored, restored-contiguous}
-use Rattle.sctp_sender.proofs.Runs.{found-at, tsn-at}
+use Rattle.sctp_sender.proofs.Runs.{any_chunk, found-at, tsn-at}
 
 abbrev answered_at : ChunkPayloadData → List ℕ → TakenBack
 answered_at c bytes = record { tsn = c.tsn; stream = c.stream_identifier; bytes = length bytes; message = c.message_id }
@@ -34,12 +35,19 @@ answered-all P (Some bytes ∷ bs) (c ∷ cs) h zero d lt = h 0 c bytes (omega a
 answered-all P (Some bytes ∷ bs) (c ∷ cs) h (suc k) d lt =
     answered-all P bs cs (λ i x more less e. h (suc i) x more (omega (arith, less)) e) k d (omega (arith, lt))
 
-restored-at : (bs : List (Option (List ℕ))) (cs : List ChunkPayloadData) (i : ℕ) (d : ChunkPayloadData) (bytes : List ℕ) → i < length cs
+pub restored-at : (bs : List (Option (List ℕ))) (cs : List ChunkPayloadData) (i : ℕ) (d : ChunkPayloadData) (bytes : List ℕ) → i < length cs
     → get_or bs i None ≡ Some bytes → get_or (restored bs cs) i d ≡ as_taken_back bytes (get_or cs i d)
 restored-at [] cs i d bytes lt e = absurd (none-some bytes e)
 restored-at (b ∷ bs) [] i d bytes lt e = absurd (omega (arith, lt))
 restored-at (b ∷ bs) (c ∷ cs) zero d bytes lt e = ap (λ k. restored_with k c) e
 restored-at (b ∷ bs) (c ∷ cs) (suc i) d bytes lt e = restored-at bs cs i d bytes (omega (arith, lt)) e
+
+pub restored-none : (bs : List (Option (List ℕ))) (cs : List ChunkPayloadData) (i : ℕ) (d : ChunkPayloadData) → get_or bs i None ≡ None
+    → get_or (restored bs cs) i d ≡ get_or cs i d
+restored-none [] cs i d e = refl
+restored-none (b ∷ bs) [] i d e = refl
+restored-none (b ∷ bs) (c ∷ cs) zero d e = ap (λ k. restored_with k c) e
+restored-none (b ∷ bs) (c ∷ cs) (suc i) d e = restored-none bs cs i d e
 
 module _ (s : Sack) where
   passes : (b : Bool) (k : Option (List ℕ)) (bytes : List ℕ) → (if b then k else None) ≡ Some bytes → b ≡ true
@@ -92,6 +100,10 @@ module _ (s : Sack) (t : Transmission) (ks : List (Option (List ℕ))) (kept : t
       ap (map (λ b. answered_of_placed b (get_or chunks b.place d))) is ∙ placed-answer 0 (back_each s chunks ks) chunks d
       (let le = back-length s chunks ks in omega (arith, le))
       ∙ ap (λ bs. answered_back bs chunks) back-by-is
+
+  -- as many as it is told of
+  pub back-count : (backs : List PlacedData) → backs ≡ placed 0 (back_each s chunks ks) → length backs ≡ length (taken_back_by s t)
+  back-count backs is = sym (length-map backs (λ b. answered_of_placed b (get_or chunks b.place any_chunk))) ∙ ap length (answer-is backs is any_chunk)
 
   pub refusal-is : (fits : Bool) → sack_refusal s t.flight ≡ None
       → nat_lt (total_bytes t.flight.queue + bytes_back (taken_back_by s t)) (2 ^ 64) ≡ fits → take_back_refusal s t ≡ (if fits then None else Some QueueFull)

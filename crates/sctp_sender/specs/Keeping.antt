@@ -1,5 +1,5 @@
 -- What a sender keeps of the chunks that gap ack blocks reported, and what a SACK takes back of that (RFC 4960 6.2.1 D iv).
-use Rattle.std.specs.Prelude.{◌≡◌, ◌==◌, ◌^◌, ℕ, zero, suc, ◌+◌, ◌<◌, ◌≤◌, Bool, false, true, not, ◌&&◌, if◌then◌else◌, List, [], ◌∷◌, ◌++◌, length, map, take}
+use Rattle.std.specs.Prelude.{◌≡◌, ◌==◌, ◌^◌, ℕ, zero, suc, ◌+◌, ◌-◌, ◌<◌, ◌≤◌, nat_le, Bool, false, true, not, ◌&&◌, if◌then◌else◌, List, [], ◌∷◌, ◌++◌, length, map, take}
 use Rattle.std.specs.Prelude.{drop, slice_index_or}
 use Rattle.std.specs.Prelude.{Option, Some, None, IfSome}
 use Rattle.std.specs.List.{All, list_any, sum_by}
@@ -19,7 +19,7 @@ use Rattle.sctp_sender.specs.declared.sender.flight.keeping.TakenBack.{TakenBack
 use Rattle.sctp_sender.specs.declared.sender.flight.taking_back.PlacedData.{PlacedData}
 use Rattle.sctp_sender.specs.Flight.{Flight, count_acked, is_outdated, reports, reports_anew, with_queue}
 use Rattle.sctp_sender.specs.Outgoing.{has_number}
-use Rattle.sctp_sender.specs.Reporting.{ascends_from}
+use Rattle.sctp_sender.specs.Reporting.{AreKnown, ascends_from}
 use Rattle.sctp_sender.specs.Telling.{is_reached}
 
 -- ## What is kept, place by place in flight: the user data of a chunk, or nothing; and nothing behind the list
@@ -50,6 +50,10 @@ abbrev pub kept_after : Sack → Flight → List (Option (List ℕ)) → List (O
 kept_after s f ks =
     if is_outdated s f then ks
     else trimmed (drop (count_acked s f) (keep_each s f.queue.inflight.chunks ks))
+
+-- how many places come to those at which something is kept, by a SACK
+abbrev pub places_kept : Sack → Flight → List (Option (List ℕ)) → ℕ
+places_kept s f ks = length (kept_after s f ks) - length (drop (count_acked s f) ks)
 
 -- ## What comes back
 
@@ -135,6 +139,10 @@ pub record Cover (blocks : List GapAckBlock) (ks : List (Option (List ℕ))) (f 
   pub within : length ks ≤ length f.queue.inflight.chunks
   pub trim : trimmed ks ≡ ks
 
+-- where a sender keeps what was reported, its blocks report nothing but what is acknowledged
+abbrev pub AreReported : Option Kept → Flight → Type 0
+AreReported kept f = IfSome kept (λ k. AreKnown k.reported.items f.queue.inflight.chunks)
+
 -- no chunk that waits is acknowledged, and, where a sender keeps what was reported, its blocks do so
 pub record IsCovered (kept : Option Kept) (f : Flight) : Type 0 where
   pub ordered : list_any (λ c. c.acked) f.queue.pending.ordered ≡ false
@@ -179,6 +187,11 @@ answered_of_placed b c = record {
 
 abbrev pub bytes_coming : List PlacedData → ℕ
 bytes_coming bs = sum_by (λ b. length b.user_data) bs
+
+-- their places ascend, the first from one on
+abbrev pub rises_from : ℕ → List PlacedData → Bool
+rises_from n [] = true
+rises_from n (b ∷ bs) = nat_le n b.place && rises_from (suc b.place) bs
 
 -- each chunk is outstanding again, with what comes back of it
 abbrev pub put_back : List PlacedData → List ChunkPayloadData → List ChunkPayloadData
@@ -228,3 +241,8 @@ data_after (Some a) ks = put_all a.chunks.items (drop a.count ks)
 abbrev pub blocks_after : Option Anew → List GapAckBlock → List GapAckBlock
 blocks_after None bs = bs
 blocks_after (Some a) bs = a.reported.items
+
+-- the blocks that are left, or the same where nothing is cut out of them
+abbrev pub blocks_left : Option (List GapAckBlock) → List GapAckBlock → List GapAckBlock
+blocks_left None bs = bs
+blocks_left (Some left) bs = left

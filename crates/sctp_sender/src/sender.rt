@@ -61,7 +61,7 @@ pub struct Sender {
 
 impl Model for Sender {
     ghost use Rattle.std.specs.Prelude.{◌<◌, ◌≤◌, option_map};
-    ghost use Rattle.sctp_sender.specs.Keeping.{IsCovered};
+    ghost use Rattle.sctp_sender.specs.Keeping.{AreReported, IsCovered};
     ghost use Rattle.sctp_sender.specs.Sender.{Transmission};
     ghost use Rattle.sctp_sender.specs.Totals.{IsAllSettled};
 
@@ -76,7 +76,8 @@ impl Model for Sender {
     } };
 
     ghost invariant = { λ s. (0 < s.fragment_size) × (s.fragment_size ≤ 65519)
-        × IsAllSettled s.flight.queue × IsCovered s.kept s.flight };
+        × IsAllSettled s.flight.queue × IsCovered s.kept s.flight
+        × AreReported s.kept s.flight };
 }
 
 impl Sender {
@@ -86,7 +87,8 @@ impl Sender {
     ghost use Rattle.sctp_outbound.specs.pending_queue.PendingQueue.{next_pending};
     ghost use Rattle.sctp_serial.specs.DataChunks.{has_tsn};
     ghost use Rattle.sctp_serial.specs.Window.{is_held};
-    ghost use Rattle.sctp_sender.specs.Costs.{sack_turns};
+    ghost use Rattle.sctp_sender.specs.Costs.{keeping_turns, sack_turns};
+    ghost use Rattle.sctp_sender.specs.Keeping.{places_kept};
     ghost use Rattle.sctp_sender.specs.Flight.{with_queue, with_room, may_send, next_after_send, resent, is_outdated, sack_refusal, released_by, message_to_abandon, has_tail_at};
     ghost use Rattle.sctp_sender.specs.Abandonment.{abandon_refusal};
     ghost use Rattle.sctp_sender.specs.Numbers.{send_refusal};
@@ -566,8 +568,8 @@ impl Sender {
     }
 
     /// The same, and its turns are added: where the sender does not keep what is reported, at most `sack_turns`, as
-    /// `InFlight::acked_counted` says, none where the SACK is out of date, and at most one for each block where it is refused for what it
-    /// claims. What one that keeps it looks at to keep it takes none, nor do the amounts of the streams.
+    /// `InFlight::acked_counted` says, and where it does, at most `keeping_turns` more; none where the SACK is out of date, and at most
+    /// one for each block where it is refused for what it claims. The amounts of the streams take none.
     pub fn acked_counted(
         &mut self,
         sack: &ChunkSelectiveAck,
@@ -590,16 +592,24 @@ impl Sender {
         ensures not_back { turns.old ≤ turns.new }
         ensures cost { self.old.kept ≡ None
             → turns.new ≤ turns.old + sack_turns (sack_of sack.now) self.old.flight }
+        ensures cost_keeping { IfSome self.old.kept (λ ks. turns.new
+            ≤ turns.old + sack_turns (sack_of sack.now) self.old.flight
+            + keeping_turns (sack_of sack.now) self.old.flight
+            (places_kept (sack_of sack.now) self.old.flight ks)) }
+        ensures stale_keeping { is_outdated (sack_of sack.now) self.old.flight ≡ true
+            → turns.new ≡ turns.old }
+        ensures forged_keeping { is_some (sack_refusal (sack_of sack.now) self.old.flight) ≡ true
+            → turns.new ≤ turns.old + length (sack_of sack.now).gap_ack_blocks }
         ensures stale { self.old.kept ≡ None
             → is_outdated (sack_of sack.now) self.old.flight ≡ true → turns.new ≡ turns.old }
         ensures forged { self.old.kept ≡ None
             → is_some (sack_refusal (sack_of sack.now) self.old.flight) ≡ true
             → turns.new ≤ turns.old + length (sack_of sack.now).gap_ack_blocks }
     {
-        let anew = self.anew_by(sack)?;
-        make_room(&mut self.kept, &anew)?;
+        let anew = self.anew_by(sack, turns)?;
+        make_room(&mut self.kept, &anew, turns)?;
         let mut released = self.flight.acked_counted(self.alloc, sack, turns)?;
-        keep_anew(&mut self.kept, anew);
+        keep_anew(&mut self.kept, anew, turns);
         release_each(&mut self.streams, &mut released);
         Ok(released)
     }

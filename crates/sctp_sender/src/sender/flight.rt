@@ -1,13 +1,16 @@
 //! What is in flight: each TSN from the one behind the acknowledged ones to the one before the next.
 
-ghost use Rattle.std.specs.Prelude.{◌≡◌, not, ◌+◌, ◌-◌, ◌<◌, ◌≤◌, ◌^◌, ℕ, true, false, is_some, Some, None, OnOk, OnErr, IfOk, IfErr, IsOk, option_map, find, Bool};
+ghost use Rattle.std.specs.Prelude.{◌≡◌, not, ◌+◌, ◌-◌, ◌<◌, ◌≤◌, ◌^◌, ℕ, true, false, is_some, Some, None, OnOk, OnErr, IfOk, IfErr, IsOk, option_map, find, Bool, List};
 ghost use Rattle.sctp_data.specs.declared.chunk.chunk_payload_data.ChunkPayloadData.{ChunkPayloadData};
+ghost use Rattle.sctp_data.specs.declared.chunk.chunk_selective_ack.GapAckBlock.{GapAckBlock};
+ghost use Rattle.sctp_sender.specs.Reporting.{AreKnown};
 ghost use Rattle.sctp_sender.specs.declared.sender.refusal.SenderRefusal.TheVariants.{OutOfMemory};
 ghost use Rattle.sctp_serial.specs.DataChunks.{bytes_of, has_tsn};
 
 pub mod anew;
 pub mod keeping;
 pub mod late;
+pub(crate) mod listing;
 mod numbers;
 mod pairs;
 mod places;
@@ -203,6 +206,8 @@ impl InFlight {
         ensures memory { IfErr result (λ e. e ≡ OutOfMemory) }
         ensures succeeds { 0 < self.old.queue.inflight.room → IsOk result }
         ensures idle { pending.next_pending self.old.queue.pending ≡ None → IsOk result }
+        ensures known { (bs : List GapAckBlock) → AreKnown bs self.old.queue.inflight.chunks
+            → AreKnown bs self.new.queue.inflight.chunks }
     {
         self.queue.are_whole();
         let sent = self.queue.send_next(&mut self.next_tsn, now)?;
@@ -227,6 +232,8 @@ impl InFlight {
             ≡ total_bytes self.old.queue) }
         ensures succeeds { 0 < self.old.queue.inflight.room → IsOk result }
         ensures no_tail { has_tail_at self.old tsn ≡ false → IsOk result }
+        ensures known { (bs : List GapAckBlock) → AreKnown bs self.old.queue.inflight.chunks
+            → AreKnown bs self.new.queue.inflight.chunks }
     {
         self.queue.are_whole();
         let (start, end) = self.places_of(tsn);
@@ -266,6 +273,8 @@ impl InFlight {
             ≡ total_bytes self.old.queue) }
         ensures succeeds { 0 < self.old.queue.inflight.room → IsOk result }
         ensures idle { expiring_tail now self.old.queue ≡ None → IsOk result }
+        ensures known { (bs : List GapAckBlock) → AreKnown bs self.old.queue.inflight.chunks
+            → AreKnown bs self.new.queue.inflight.chunks }
     {
         self.queue.are_whole();
         let abandoned = self.queue.expire_pending_tail(now, &mut self.next_tsn)?;

@@ -1,20 +1,23 @@
 //! What is kept of the chunks that gap ack blocks reported, and what a SACK takes back of that (RFC 4960 6.2.1 D iv).
 
-ghost use Rattle.std.specs.Prelude.{◌≡◌, ◌+◌, ◌<◌, ◌≤◌, ◌^◌, ℕ, List, Option, ◌∷◌, [], true, None, IfOk, IfErr, length, map, option_copied, slice_index_or};
+ghost use Rattle.std.specs.Prelude.{◌≡◌, ◌+◌, ◌<◌, ◌≤◌, ◌^◌, ℕ, List, Option, true, None, IfOk, IfErr, length, map, option_copied, option_map, slice_index_or};
 ghost use Rattle.std.specs.List.{All};
 ghost use Rattle.sctp_data.specs.SelectiveAck.{Sack};
 ghost use Rattle.sctp_data.specs.declared.chunk.chunk_payload_data.ChunkPayloadData.{ChunkPayloadData};
 ghost use Rattle.sctp_outbound.specs.outbound_queue.OutboundQueue.{total_bytes, with_inflight};
 ghost use Rattle.sctp_sender.specs.declared.sender.refusal.SenderRefusal.TheVariants.{OutOfMemory};
-ghost use Rattle.sctp_sender.specs.Keeping.{answered_back, back_each, bytes_coming, placed, put_back, answered_of_placed, with_restored};
+ghost use Rattle.sctp_sender.specs.Keeping.{Cover, answered_back, back_each, blocks_left, bytes_coming, placed, put_back, answered_of_placed, restored, rises_from, with_restored};
+ghost use Rattle.sctp_sender.specs.Reporting.{AreKnown};
 
 use super::InFlight;
+use super::listing::without;
 use super::taking_back::PlacedData;
 use crate::sender::refusal::SenderRefusal;
 use bytes::Bytes;
 use sctp_data::chunk::chunk_payload_data::ChunkPayloadData;
 use sctp_data::chunk::chunk_selective_ack::GapAckBlock;
 use sctp_outbound::outbound_queue::OutboundQueue;
+use sctp_serial::turns::Turns;
 use sctp_stream::stream_numbers::put;
 use std::alloc::Global;
 use std::collections::VecDeque;
@@ -60,12 +63,76 @@ impl InFlight {
             (answered_back (back_each s self.old.queue.inflight.chunks ks)
             self.old.queue.inflight.chunks) }
     {
+        self.restore_counted(backs, &mut Turns::new());
+    }
+
+    /// The same, a turn for each.
+    pub fn restore_counted(&mut self, backs: Vec<PlacedData>, turns: &mut Turns)
+        requires within { All (λ b. b.place < length self.old.queue.inflight.chunks) backs.items }
+        requires bytes { total_bytes self.old.queue + bytes_coming backs.items < 2 ^ 64 }
+        ensures restored { (bs : List (Option (List ℕ))) → backs.items ≡ placed 0 bs
+            → length bs ≤ length self.old.queue.inflight.chunks
+            → self.new ≡ with_restored bs self.old }
+        ensures outstanding { (s : Sack) (ks : List (Option (List ℕ)))
+            → backs.items ≡ placed 0 (back_each s self.old.queue.inflight.chunks ks)
+            → All (λ b. can_resend b.tsn self.new ≡ true)
+            (answered_back (back_each s self.old.queue.inflight.chunks ks)
+            self.old.queue.inflight.chunks) }
+        ensures cost { turns.new ≡ turns.old + length backs.items }
+    {
         if backs.is_empty() {
             return;
         }
-        restore_each(&mut self.queue, backs);
+        restore_each(&mut self.queue, backs, turns);
         self.known.clear();
     }
+
+    /// Blocks that report what can come back once these places have what comes back, and nothing that is not acknowledged then: those
+    /// of what was reported, without these; None, and no memory, where nothing comes back. Refuses only for memory. Turns: at most one
+    /// for each block, and one for each of these places.
+    pub(crate) fn left_reported(
+        &self,
+        alloc: Global,
+        kept: &Kept,
+        backs: &[PlacedData],
+        turns: &mut Turns,
+    ) -> Result<Option<Vec<GapAckBlock>>, SenderRefusal>
+        requires covered { Cover kept.now.reported.items kept.now.user_data.items self.now }
+        requires in_order { rises_from 0 backs.now ≡ true }
+        ensures covered { IfOk result (λ left. (bs : List (Option (List ℕ)))
+            → backs.now ≡ placed 0 bs → length bs ≤ length self.now.queue.inflight.chunks
+            → Cover (blocks_left (option_map (λ l. l.items) left) kept.now.reported.items)
+            kept.now.user_data.items (with_restored bs self.now)) }
+        ensures known { IfOk result (λ left. (bs : List (Option (List ℕ)))
+            → AreKnown kept.now.reported.items self.now.queue.inflight.chunks
+            → backs.now ≡ placed 0 bs
+            → AreKnown (blocks_left (option_map (λ l. l.items) left) kept.now.reported.items)
+            (restored bs self.now.queue.inflight.chunks)) }
+        ensures memory { IfErr result (λ e. e ≡ OutOfMemory) }
+        ensures not_back { turns.old ≤ turns.new }
+        ensures cost { turns.new
+            ≤ turns.old + length kept.now.reported.items + length backs.now }
+    {
+        let _acked_tsn = self.acked_tsn;
+        without(alloc, &kept.reported, backs, turns)
+    }
+}
+
+/// From here on these blocks report what can come back, if they do not stay.
+pub(crate) fn set_reported(kept: &mut Option<Kept>, left: Option<Vec<GapAckBlock>>)
+    ensures data { option_map (λ k. k.user_data.items) kept.new
+        ≡ option_map (λ k. k.user_data.items) kept.old }
+    ensures blocks { option_map (λ k. k.reported.items) kept.new
+        ≡ option_map (λ k. blocks_left (option_map (λ l. l.items) left) k.reported.items)
+        kept.old }
+{
+    let Some(kept) = kept else {
+        return;
+    };
+    let Some(left) = left else {
+        return;
+    };
+    kept.reported = left;
 }
 
 /// What is told of the chunks with which something comes back. Refuses only for memory.
@@ -80,11 +147,29 @@ pub fn answered_back(
         ≡ map (λ b. answered_of_placed b (slice_index_or queue.now.inflight.chunks b.place d)) backs.now) }
     ensures memory { IfErr result (λ e. e ≡ OutOfMemory) }
 {
+    answered_back_counted(alloc, queue, backs, &mut Turns::new())
+}
+
+/// The same, at most a turn for each.
+pub fn answered_back_counted(
+    alloc: Global,
+    queue: &OutboundQueue,
+    backs: &[PlacedData],
+    turns: &mut Turns,
+) -> Result<Vec<TakenBack>, SenderRefusal>
+    requires { All (λ b. b.place < length queue.now.inflight.chunks) backs.now }
+    ensures ok { (d : ChunkPayloadData) → IfOk result (λ answered. answered.items
+        ≡ map (λ b. answered_of_placed b (slice_index_or queue.now.inflight.chunks b.place d)) backs.now) }
+    ensures memory { IfErr result (λ e. e ≡ OutOfMemory) }
+    ensures not_back { turns.old ≤ turns.new }
+    ensures cost { turns.new ≤ turns.old + length backs.now }
+{
     let mut answered = Vec::new(alloc);
     if answered.reserve(backs.len()).is_err() {
         return Err(SenderRefusal::OutOfMemory);
     }
     for back in backs {
+        turns.tick();
         let Some(chunk) = queue.inflight_at(back.place) else {
             unreachable!()
         };
@@ -131,15 +216,17 @@ fn taken_back(chunk: &ChunkPayloadData, bytes: &Bytes) -> TakenBack
     }
 }
 
-// Gives each chunk in flight what comes back of it, from the last one on.
-fn restore_each(queue: &mut OutboundQueue, backs: Vec<PlacedData>)
+// Gives each chunk in flight what comes back of it, from the last one on, a turn for each.
+fn restore_each(queue: &mut OutboundQueue, backs: Vec<PlacedData>, turns: &mut Turns)
     requires within { All (λ b. b.place < length queue.old.inflight.chunks) backs.items }
     requires bytes { total_bytes queue.old + bytes_coming backs.items < 2 ^ 64 }
-    ensures { queue.new
+    ensures value { queue.new
         ≡ with_inflight queue.old (put_back backs.items queue.old.inflight.chunks) }
+    ensures cost { turns.new ≡ turns.old + length backs.items }
 {
     let mut backs = backs;
     while let Some(back) = backs.pop() {
+        turns.tick();
         queue.take_back_at(back.place, back.user_data);
     }
 }

@@ -3,6 +3,8 @@
 
 ghost use Rattle.std.specs.Prelude.{◌≡◌, ◌+◌, ◌≤◌, ◌<◌, ◌⊎◌, ◌++◌, ◌∷◌, ℕ, List, [], true, false, not, None, OnOk, OnErr, IfOk, IfErr, IsOk, is_some, length, map, vec_len, vec_capacity, option_to_list};
 ghost use Rattle.std.specs.List.{list_all, sum_by};
+ghost use Rattle.sctp_data.specs.declared.chunk.chunk_selective_ack.GapAckBlock.{GapAckBlock};
+ghost use Rattle.sctp_sender.specs.Reporting.{AreKnown};
 ghost use Rattle.sctp_sender.specs.declared.sender.refusal.SenderRefusal.TheVariants.{OutOfMemory, TsnsUsedUp};
 
 use super::InFlight;
@@ -53,6 +55,8 @@ impl InFlight {
             × (is_some (with_tail (late_tsns now self.old.queue) self.old) ≡ true))) }
         ensures idle { late_tsns now self.old.queue ≡ [] → IsOk result }
         ensures err { OnErr result (self.new ≡ self.old) }
+        ensures known { (bs : List GapAckBlock) → AreKnown bs self.old.queue.inflight.chunks
+            → AreKnown bs self.new.queue.inflight.chunks }
     {
         let tsns = self.queue.expired_inflight(alloc, now)?;
         let abandoned = self.abandon_all(alloc, &tsns)?;
@@ -77,6 +81,8 @@ impl InFlight {
             × (is_some (with_tail (worn_tsns self.old) self.old) ≡ true))) }
         ensures idle { worn_tsns self.old ≡ [] → IsOk result }
         ensures err { OnErr result (self.new ≡ self.old) }
+        ensures known { (bs : List GapAckBlock) → AreKnown bs self.old.queue.inflight.chunks
+            → AreKnown bs self.new.queue.inflight.chunks }
     {
         let tsns = self.worn_tsns(alloc)?;
         self.abandon_all(alloc, &tsns)
@@ -103,6 +109,8 @@ impl InFlight {
             × (is_some (with_tail tsns.now self.old) ≡ true))) }
         ensures idle { tsns.now ≡ [] → IsOk result }
         ensures err { OnErr result (self.new ≡ self.old) }
+        ensures known { (bs : List GapAckBlock) → AreKnown bs self.old.queue.inflight.chunks
+            → AreKnown bs self.new.queue.inflight.chunks }
     {
         let mut abandoned = Vec::new(alloc);
         if tsns.is_empty() {
@@ -143,6 +151,8 @@ impl InFlight {
             ⊎ ((e ≡ TsnsUsedUp) × (may_send self.old ≡ false)
             × (is_some (with_tail tsns.now self.old) ≡ true))) }
         ensures err { OnErr result (self.new ≡ self.old) }
+        ensures known { (bs : List GapAckBlock) → AreKnown bs self.old.queue.inflight.chunks
+            → AreKnown bs self.new.queue.inflight.chunks }
     {
         let Some(tsn) = self.first_with_tail(tsns) else {
             return Ok(());
@@ -191,6 +201,8 @@ impl InFlight {
             ++ leaving_each tsns.now self.old }
         ensures released { total_bytes self.new.queue + sum_by (λ g. g.bytes) abandoned.new.items
             ≡ total_bytes self.old.queue + sum_by (λ g. g.bytes) abandoned.old.items }
+        ensures known { (bs : List GapAckBlock) → AreKnown bs self.old.queue.inflight.chunks
+            → AreKnown bs self.new.queue.inflight.chunks }
     {
         for tsn in tsns {
             let Ok(one) = self.abandon_message(*tsn) else {
@@ -212,6 +224,8 @@ impl InFlight {
         ensures no_tail { has_tail_at self.old tsn ≡ false → IsOk result }
         ensures memory { IfErr result (λ e. e ≡ OutOfMemory) }
         ensures err { OnErr result (self.new ≡ self.old) }
+        ensures known { (bs : List GapAckBlock) → AreKnown bs self.old.queue.inflight.chunks
+            → AreKnown bs self.new.queue.inflight.chunks }
     {
         let Some(chunk) = self.queue.get(tsn) else {
             return Ok(None);

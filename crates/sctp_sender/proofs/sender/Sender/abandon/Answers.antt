@@ -8,6 +8,7 @@ use Rattle.sctp_sender.proofs.Settled.{abandoned-settled}
 use Rattle.sctp_sender.proofs.Lows.{release-answered}
 use Rattle.sctp_sender.specs.Keeping.{IsCovered}
 use Rattle.sctp_sender.proofs.Covers.{after-abandonment-covered}
+use Rattle.sctp_sender.proofs.Listed.{reported-on}
 use Rattle.sctp_sender.proofs.sender.Sender.abandon.Goals as goal
 
 pub invariant_of-self-2 : goal.invariant_of-self-2
@@ -19,6 +20,7 @@ invariant_of-self-2 c =
           (abandoned-settled (to_abandon (find (has_tsn c.args.tsn) f.queue.inflight.chunks)) f.next_tsn f.queue c.self.invariant.2),
       subst (IsCovered c.self.inside.kept) (sym c.in_ok-stream.ensures.ok)
           (after-abandonment-covered c.self.inside.kept (to_abandon (find (has_tsn c.args.tsn) f.queue.inflight.chunks)) f c.self.invariant.3),
+      reported-on c.self.inside.kept f c.abandon.new.self c.abandon.ensures.known c.self.invariant.4,
     )
 
 pub returns-clause-low : goal.returns-clause-low

@@ -3,8 +3,9 @@ use Rattle.sctp_sender.specs.Flight.{Flight}
 use Rattle.sctp_sender.specs.Resending.{count_before}
 use Rattle.sctp_sender.specs.Totals.{IsAllSettled}
 use Rattle.sctp_sender.proofs.Settled.{misses-settled}
-use Rattle.sctp_sender.specs.Keeping.{IsCovered}
+use Rattle.sctp_sender.specs.Keeping.{AreReported, IsCovered}
 use Rattle.sctp_sender.proofs.Covers.{misses-covered}
+use Rattle.sctp_sender.proofs.Listed.{misses-reported}
 use Rattle.sctp_sender.proofs.sender.Sender.add_miss_indications_counted.Goals as goal
 
 pub invariant_of-self : goal.invariant_of-self
@@ -16,4 +17,6 @@ invariant_of-self c =
           (misses-settled (count_before c.args.before f) f c.self.invariant.2),
       subst (IsCovered c.self.inside.kept) (sym c.add_miss_indications_counted.ensures.missed)
           (misses-covered c.self.inside.kept (count_before c.args.before f) f c.self.invariant.3),
+      subst (AreReported c.self.inside.kept) (sym c.add_miss_indications_counted.ensures.missed)
+          (misses-reported c.self.inside.kept (count_before c.args.before f) f c.self.invariant.4),
     )

@@ -4,8 +4,9 @@ use Rattle.sctp_outbound.specs.outbound_queue.OutboundQueue.{expiring}
 use Rattle.sctp_sender.specs.Totals.{IsAllSettled}
 use Rattle.sctp_sender.proofs.Settled.{expired-settled}
 use Rattle.sctp_sender.proofs.Lows.{expiry-answered}
-use Rattle.sctp_sender.specs.Keeping.{IsCovered}
+use Rattle.sctp_sender.specs.Keeping.{AreReported, IsCovered}
 use Rattle.sctp_sender.proofs.Covers.{expired-covered}
+use Rattle.sctp_sender.proofs.Listed.{expired-reported}
 use Rattle.sctp_sender.proofs.sender.Sender.expire.Goals as goal
 
 pub invariant_of-self-2 : goal.invariant_of-self-2
@@ -16,6 +17,8 @@ invariant_of-self-2 c =
       subst (λ (g : Flight). IsAllSettled g.queue) (sym c.expire.ensures.expired) (expired-settled (expiring c.args.now f.queue) f.queue c.self.invariant.2),
       subst (IsCovered c.self.inside.kept) (sym c.expire.ensures.expired)
           (expired-covered c.self.inside.kept (expiring c.args.now f.queue) f c.self.invariant.3),
+      subst (AreReported c.self.inside.kept) (sym c.expire.ensures.expired)
+          (expired-reported c.self.inside.kept (expiring c.args.now f.queue) f c.self.invariant.4),
     )
 
 pub returns-clause-low : goal.returns-clause-low

@@ -6,6 +6,7 @@ use Rattle.sctp_sender.proofs.Settled.{each-settled}
 use Rattle.sctp_sender.proofs.Lows.{messages-released-same, messages-tell, one-message-tells}
 use Rattle.sctp_sender.specs.Keeping.{IsCovered}
 use Rattle.sctp_sender.proofs.Covers.{each-covered}
+use Rattle.sctp_sender.proofs.Listed.{reported-on}
 use Rattle.sctp_sender.proofs.sender.Sender.expire_late.Goals as goal
 
 pub invariant_of-self-2 : goal.invariant_of-self-2
@@ -15,6 +16,7 @@ invariant_of-self-2 c =
       c.self.invariant.1,
       subst (λ (g : Flight). IsAllSettled g.queue) (sym c.in_ok-abandoned.ensures.ok) (each-settled (late_order c.args.now f) f c.self.invariant.2),
       subst (IsCovered c.self.inside.kept) (sym c.in_ok-abandoned.ensures.ok) (each-covered c.self.inside.kept (late_order c.args.now f) f c.self.invariant.3),
+      reported-on c.self.inside.kept f c.expire_late.new.self c.expire_late.ensures.known c.self.invariant.4,
     )
 
 pub returns-clause-low : goal.returns-clause-low

@@ -6,6 +6,7 @@ use Rattle.sctp_sender.proofs.Settled.{abandoned-settled}
 use Rattle.sctp_sender.proofs.Lows.{release-answered}
 use Rattle.sctp_sender.specs.Keeping.{IsCovered}
 use Rattle.sctp_sender.proofs.Covers.{after-abandonment-covered}
+use Rattle.sctp_sender.proofs.Listed.{reported-on}
 use Rattle.sctp_sender.proofs.sender.Sender.expire_tail.Goals as goal
 
 pub invariant_of-self-2 : goal.invariant_of-self-2
@@ -17,6 +18,7 @@ invariant_of-self-2 c =
           (abandoned-settled (message_of (expiring_tail c.args.now f.queue)) f.next_tsn f.queue c.self.invariant.2),
       subst (IsCovered c.self.inside.kept) (sym c.in_ok-stream.ensures.ok)
           (after-abandonment-covered c.self.inside.kept (message_of (expiring_tail c.args.now f.queue)) f c.self.invariant.3),
+      reported-on c.self.inside.kept f c.expire_tail.new.self c.expire_tail.ensures.known c.self.invariant.4,
     )
 
 pub returns-clause-low : goal.returns-clause-low

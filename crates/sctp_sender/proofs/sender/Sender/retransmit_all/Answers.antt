@@ -2,8 +2,9 @@ use Rattle.std.proofs.Common.{sym, subst}
 use Rattle.sctp_sender.specs.Flight.{Flight}
 use Rattle.sctp_sender.specs.Totals.{IsAllSettled}
 use Rattle.sctp_sender.proofs.Settled.{all-marked-settled}
-use Rattle.sctp_sender.specs.Keeping.{IsCovered}
+use Rattle.sctp_sender.specs.Keeping.{AreReported, IsCovered}
 use Rattle.sctp_sender.proofs.Covers.{all-marked-covered}
+use Rattle.sctp_sender.proofs.Listed.{all-marked-reported}
 use Rattle.sctp_sender.proofs.sender.Sender.retransmit_all.Goals as goal
 
 pub invariant_of-self : goal.invariant_of-self
@@ -13,4 +14,5 @@ invariant_of-self c =
       c.self.invariant.1,
       subst (λ (g : Flight). IsAllSettled g.queue) (sym c.retransmit_all.ensures) (all-marked-settled f c.self.invariant.2),
       subst (IsCovered c.self.inside.kept) (sym c.retransmit_all.ensures) (all-marked-covered c.self.inside.kept f c.self.invariant.3),
+      subst (AreReported c.self.inside.kept) (sym c.retransmit_all.ensures) (all-marked-reported c.self.inside.kept f c.self.invariant.4),
     )

@@ -10,8 +10,9 @@ use Rattle.sctp_sender.specs.Sender.{Transmission, with_flight}
 use Rattle.sctp_sender.proofs.Amounts.{sent-bytes, started-bytes}
 use Rattle.sctp_sender.specs.Totals.{IsAllSettled}
 use Rattle.sctp_sender.proofs.Settled.{started-settled, sent-settled}
-use Rattle.sctp_sender.specs.Keeping.{IsCovered}
+use Rattle.sctp_sender.specs.Keeping.{AreReported, IsCovered}
 use Rattle.sctp_sender.proofs.Covers.{sent-covered, started-covered}
+use Rattle.sctp_sender.proofs.Listed.{reported-on, started-reported}
 use Rattle.sctp_sender.proofs.sender.Sender.send_next_tsn_unbounded.Goals as goal
 use Rattle.sctp_serial.specs.DataChunks.{following_tsn}
 
@@ -56,6 +57,7 @@ invariant_of-self c =
       c.self.invariant.1,
       subst (λ (g : Flight). IsAllSettled g.queue) (sym c.start.ensures) (started-settled c.args.now f.queue c.self.invariant.2),
       subst (IsCovered c.self.inside.kept) (sym c.start.ensures) (started-covered c.self.inside.kept c.args.now f c.self.invariant.3),
+      subst (AreReported c.self.inside.kept) (sym c.start.ensures) (started-reported c.self.inside.kept c.args.now f c.self.invariant.4),
     )
 
 pub invariant_of-self-2 : goal.invariant_of-self-2
@@ -65,4 +67,5 @@ invariant_of-self-2 c =
       c.self.invariant.1,
       subst (λ (g : Flight). IsAllSettled g.queue) (sym c.in_ok-sent.ensures.ok) (sent-settled f.queue f.next_tsn c.args.now c.self.invariant.2),
       subst (IsCovered c.self.inside.kept) (sym c.in_ok-sent.ensures.ok) (sent-covered c.self.inside.kept f c.args.now (next_after_send f) c.self.invariant.3),
+      reported-on c.self.inside.kept f c.send_next.new.self c.send_next.ensures.known c.self.invariant.4,
     )

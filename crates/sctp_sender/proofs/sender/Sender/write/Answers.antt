@@ -11,8 +11,9 @@ use Rattle.sctp_sender.specs.Sender.{Transmission, is_open, is_full, is_full_of,
 use Rattle.sctp_sender.proofs.SenderStreams.{closed, open-at, found-at, unknown, too-large, full, fine, one-message, refused-not}
 use Rattle.sctp_sender.specs.Totals.{AreSettled, IsAllSettled}
 use Rattle.sctp_sender.proofs.Settled.{fragments-settled, message-settled}
-use Rattle.sctp_sender.specs.Keeping.{IsCovered}
+use Rattle.sctp_sender.specs.Keeping.{AreReported, IsCovered}
 use Rattle.sctp_sender.proofs.Covers.{fragments-unacked, message-covered}
+use Rattle.sctp_sender.proofs.Listed.{message-reported}
 use Rattle.sctp_sender.proofs.sender.Sender.write.Goals as goal
 
 pub returns-in_default-clause-refused : goal.returns-in_default-clause-refused
@@ -184,4 +185,6 @@ invariant_of-self-2 c =
       subst (λ (g : Flight). IsAllSettled g.queue) (sym c.in_ok-push.ensures.ok) (message-settled c.in_ok-chunks.chunks.items f.queue new c.self.invariant.2),
       subst (IsCovered c.self.inside.kept) (sym c.in_ok-push.ensures.ok)
           (message-covered c.self.inside.kept c.in_ok-chunks.chunks.items f unacked c.self.invariant.3),
+      subst (AreReported c.self.inside.kept) (sym c.in_ok-push.ensures.ok)
+          (message-reported c.self.inside.kept c.in_ok-chunks.chunks.items f c.self.invariant.4),
     )

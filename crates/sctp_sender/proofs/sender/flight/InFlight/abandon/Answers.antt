@@ -43,3 +43,9 @@ pub abandon_between-requires-clause-between : goal.abandon_between-requires-clau
 abandon_between-requires-clause-between c =
     subst (λ (g : Flight). (x : ChunkPayloadData) → find (has_tsn c.args.tsn) g.queue.inflight.chunks ≡ Some x
     → IsBetween x.message_id c.places_of-start.result.0 c.places_of-start.result.1 g.queue.inflight.chunks) (sym c.self.view_is) c.places_of-start.ensures
+
+pub returns-clause-known : goal.returns-clause-known
+returns-clause-known c =
+    let f : Flight = record { queue = c.self.inside.queue; next_tsn = c.self.inside.next_tsn; acked_tsn = c.self.inside.acked_tsn } in
+    rw (← c.self.view_is) (λ bs k. abandoned-known bs f c.self.invariant.contiguous k (to_abandon (find (has_tsn c.args.tsn) f.queue.inflight.chunks))
+    c.abandon_between.new.self c.in_ok-abandoned.ensures.ok)

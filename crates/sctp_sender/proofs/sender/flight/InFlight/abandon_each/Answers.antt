@@ -33,6 +33,7 @@ loop-tsn-preserved c =
           (let s = ap (sum_by (λ (g : AbandonedMessage). g.bytes)) c.put_any.ensures.items
           ∙ sum_by-append (λ (g : AbandonedMessage). g.bytes) items (option_to_list c.in-Ok.one) in
           omega (arith, s, c.in-Ok.ensures.released, inv.bytes));
+      known = λ bs k. c.abandon_message.ensures.known bs (inv.known bs k);
       no_tail = rest-with-no-tail f c.abandon_message.new.self t rest (subst (λ xs. list_all (λ x. not (has_tail_at f x)) xs ≡ true) d inv.no_tail) is;
       room =
           (let n = ap length c.put_any.ensures.items ∙ length-append items (option_to_list c.in-Ok.one) in

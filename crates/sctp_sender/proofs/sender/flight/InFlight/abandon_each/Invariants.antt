@@ -1,9 +1,11 @@
-use Rattle.std.proofs.Common.{◌≡◌, ◌+◌, ◌≤◌, ◌++◌, true, drop, length}
+use Rattle.std.proofs.Common.{◌≡◌, ◌+◌, ◌≤◌, ◌++◌, List, true, drop, length}
 use Rattle.sctp_sender.specs.Flight.{has_tail_at}
 use Rattle.std.specs.Prelude.{not, vec_capacity}
 use Rattle.std.specs.List.{list_all, sum_by}
 use Rattle.sctp_outbound.specs.outbound_queue.OutboundQueue.{total_bytes}
 use Rattle.sctp_sender.specs.declared.sender.flight.late.AbandonedMessage.{AbandonedMessage}
+use Rattle.sctp_data.specs.declared.chunk.chunk_selective_ack.GapAckBlock.{GapAckBlock}
+use Rattle.sctp_sender.specs.Reporting.{AreKnown}
 use Rattle.sctp_sender.specs.Resending.{are_listed}
 use Rattle.sctp_sender.specs.Late.{abandoned_each, leaving_each}
 use Rattle.sctp_sender.proofs.sender.flight.InFlight.abandon_each.Given as goal
@@ -15,6 +17,7 @@ invariant-loop-tsn l = record {
   answered : l.initial.abandoned.items ++ leaving_each l.tsns l.initial.self ≡ l.abandoned.items ++ leaving_each (drop l.tsn-index l.tsns) l.self;
   bytes : total_bytes l.self.queue + sum_by (λ (g : AbandonedMessage). g.bytes) l.abandoned.items
       ≡ total_bytes l.initial.self.queue + sum_by (λ (g : AbandonedMessage). g.bytes) l.initial.abandoned.items;
+  known : (bs : List GapAckBlock) → AreKnown bs l.initial.self.queue.inflight.chunks → AreKnown bs l.self.queue.inflight.chunks;
   no_tail : list_all (λ t. not (has_tail_at l.self t)) (drop l.tsn-index l.tsns) ≡ true;
   room : length l.abandoned.items + length (drop l.tsn-index l.tsns) ≤ vec_capacity l.abandoned;
 }

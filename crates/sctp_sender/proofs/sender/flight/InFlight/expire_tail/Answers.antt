@@ -35,3 +35,9 @@ invariant_of-self-2 c =
       known = abandoned-known c.self.inside.known.items f c.self.invariant.contiguous c.self.invariant.known
           (message_of (expiring_tail c.args.now f.queue)) c.expire_pending_tail.new.self c.in_ok-abandoned.ensures.ok;
     }
+
+pub returns-clause-known : goal.returns-clause-known
+returns-clause-known c =
+    let f : Flight = record { queue = c.self.inside.queue; next_tsn = c.self.inside.next_tsn; acked_tsn = c.self.inside.acked_tsn } in
+    rw (← c.self.view_is) (λ bs k. abandoned-known bs f c.self.invariant.contiguous k (message_of (expiring_tail c.args.now f.queue))
+    c.expire_pending_tail.new.self c.in_ok-abandoned.ensures.ok)

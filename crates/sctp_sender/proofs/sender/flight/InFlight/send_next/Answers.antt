@@ -38,3 +38,8 @@ returns-clause-noted c =
     let f : Flight = record { queue = c.self.inside.queue; next_tsn = c.self.inside.next_tsn; acked_tsn = c.self.inside.acked_tsn } in
     rw (← c.self.view_is)
     (ap (λ (o : Outbound). find (has_tsn f.next_tsn) o.inflight.chunks) c.in_ok-sent.ensures.ok ∙ noted-next f c.self.invariant.contiguous c.args.now)
+
+pub returns-clause-known : goal.returns-clause-known
+returns-clause-known c =
+    let f : Flight = record { queue = c.self.inside.queue; next_tsn = c.self.inside.next_tsn; acked_tsn = c.self.inside.acked_tsn } in
+    rw (← c.self.view_is) (λ bs k. sent-known bs f c.self.invariant.contiguous k c.args.now c.send_next.new.self c.in_ok-sent.ensures.ok)

@@ -1,13 +1,14 @@
-use Rattle.std.proofs.Common.{◌≡◌, ◌-◌}
+use Rattle.std.proofs.Common.{◌≡◌, ◌+◌, ◌-◌, length}
 use Rattle.std.specs.VecDeque.{deque_capacity, deque_len}
 use Rattle.sctp_sender.specs.Keeping.{filled}
 use Rattle.sctp_sender.proofs.sender.flight.anew.fill.Given as goal
 
-abbrev pub invariant-loop-kept : goal.invariant-loop-kept
-invariant-loop-kept l = record {
+abbrev pub invariant-loop-turns : goal.invariant-loop-turns
+invariant-loop-turns l = record {
   goes_on : filled l.places l.kept.items ≡ filled l.places l.initial.kept.items;
+  turns : l.turns + length l.initial.kept.items ≡ l.initial.turns + length l.kept.items;
   capacity : deque_capacity l.kept ≡ deque_capacity l.initial.kept;
 }
 
-abbrev pub decreases-loop-kept : goal.decreases-loop-kept
-decreases-loop-kept l = l.places - deque_len l.kept
+abbrev pub decreases-loop-turns : goal.decreases-loop-turns
+decreases-loop-turns l = l.places - deque_len l.kept

@@ -20,8 +20,10 @@ loop-one-preserved c =
             let here = ap (λ j. (get_or bs j d).place) same ∙ ap (λ (x : PlacedData). x.place) (get_or_default bs i d b lt) ∙ sym is in
             omega (arith, here, c.max-places.ensures)
       ];
+      top = omega (arith, lt);
+      turns = omega (arith, c.tick.ensures, c.loop-one.invariant.turns);
       small = omega (arith, small, is, c.max-places.ensures, c.loop-one.invariant.small);
     }
 
-pub returns : goal.returns
-returns c = λ k d lt. c.loop-one.invariant.all k d (omega (arith, lt, c.loop-one-test.false)) lt
+pub returns-clause-within : goal.returns-clause-within
+returns-clause-within c = λ k d lt. c.loop-one.invariant.all k d (omega (arith, lt, c.loop-one-test.false)) lt

@@ -1,4 +1,4 @@
-use Rattle.std.proofs.Common.{◌<◌, ◌≤◌, ◌^◌, ℕ, length}
+use Rattle.std.proofs.Common.{◌≡◌, ◌+◌, ◌<◌, ◌≤◌, ◌^◌, ℕ, length}
 use Rattle.std.specs.Prelude.{slice_index_or}
 use Rattle.sctp_sender.specs.declared.sender.flight.taking_back.PlacedData.{PlacedData}
 use Rattle.sctp_sender.proofs.sender.flight.anew.places_of.Given as goal
@@ -6,5 +6,7 @@ use Rattle.sctp_sender.proofs.sender.flight.anew.places_of.Given as goal
 abbrev pub invariant-loop-one : goal.invariant-loop-one
 invariant-loop-one l = record {
   all : (k : ℕ) (d : PlacedData) → k < l.one-index → k < length l.chunks → (slice_index_or l.chunks k d).place < l.places;
+  top : l.one-index ≤ length l.chunks;
+  turns : l.turns ≡ l.initial.turns + l.one-index;
   small : l.places ≤ 2 ^ 31;
 }

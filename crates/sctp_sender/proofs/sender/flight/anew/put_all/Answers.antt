@@ -16,6 +16,8 @@ loop-one-preserved c =
     record {
       goes_on = ap (put_all bs) c.put_at.ensures.items ∙ sym (put-last bs b c.loop-one.kept.items)
           ∙ ap (λ xs. put_all xs c.loop-one.kept.items) (sym all) ∙ inv.goes_on;
+      not_back = omega (arith, c.put_at.ensures.not_back, inv.not_back);
+      turns = omega (arith, n, m, c.put_at.ensures.cost, inv.turns);
       room = λ k d less.
           let same = ap (λ (x : PlacedData). x.place) (ap (λ (xs : List PlacedData). get_or xs k d) all ∙ get_or_append_left bs (b ∷ []) d k less) in
           let h = inv.room k d (omega (arith, n, m, less)) in

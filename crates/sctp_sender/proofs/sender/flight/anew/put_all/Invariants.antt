@@ -1,4 +1,4 @@
-use Rattle.std.proofs.Common.{◌≡◌, ◌<◌, length}
+use Rattle.std.proofs.Common.{◌≡◌, ◌+◌, ◌<◌, ◌≤◌, length}
 use Rattle.std.specs.List.{All}
 use Rattle.std.specs.VecDeque.{deque_capacity}
 use Rattle.sctp_sender.specs.Keeping.{put_all}
@@ -7,6 +7,9 @@ use Rattle.sctp_sender.proofs.sender.flight.anew.put_all.Given as goal
 abbrev pub invariant-loop-one : goal.invariant-loop-one
 invariant-loop-one l = record {
   goes_on : put_all l.chunks.items l.kept.items ≡ put_all l.initial.chunks.items l.initial.kept.items;
+  not_back : l.initial.turns ≤ l.turns;
+  turns : l.turns + length l.initial.kept.items + length l.chunks.items
+      ≤ l.initial.turns + length l.initial.chunks.items + length l.kept.items;
   room : All (λ b. b.place < deque_capacity l.kept) l.chunks.items;
 }
 

@@ -2,7 +2,7 @@ use Rattle.std.proofs.Common.{◌≡◌, ◌+◌, ◌-◌, ◌<◌, ◌≤◌, �
 use Rattle.std.specs.Prelude.{◌==◌, ◌||◌}
 use Rattle.std.specs.List.{All, list_any}
 use Rattle.std.proofs.lemmas.Bool.Decides.{nat_tests}
-use Rattle.std.proofs.lemmas.List.{get_or_default}
+use Rattle.std.proofs.lemmas.List.{get_or_default, length_push}
 use Rattle.std.proofs.lemmas.Option.{slice_get-get_or}
 use Rattle.sctp_list_lemmas.proofs.Cases.{or-none}
 use Rattle.sctp_data.specs.declared.chunk.chunk_payload_data.ChunkPayloadData.{ChunkPayloadData}
@@ -57,6 +57,9 @@ loop-one-preserved-then-place-count c =
     let low : at.k < c.args.count = omega (arith, far, c.if-place-count.true) in
     record {
       own = c.loop-one.invariant.own;
+      few = (let few = c.loop-one.invariant.few in omega (arith, few));
+      top = omega (arith, lt);
+      turns = omega (arith, c.tick.ensures, c.loop-one.invariant.turns);
       each = λ k d less. c.loop-one.invariant.each k d less
           ∙ sym (answered-more rs i r (get_or cs (c.args.count + k) d) lt (get_or_default rs i any_answered r lt)
           ∙ ap (λ b. is_answered (take i rs) (get_or cs (c.args.count + k) d) || b)
@@ -90,6 +93,9 @@ loop-one-preserved c =
         ap (λ j. (get_or cs j d).user_data) there
             ∙ ap (λ (y : ChunkPayloadData). y.user_data) (get_or_default cs (c.distance.result - 1) d x read.0 ∙ sym read.1) ∙ sym c.in_ok-user_data.ensures.ok,
       )));
+      few = (let m = ap length new ∙ length_push c.loop-one.anew.items b in let few = c.loop-one.invariant.few in omega (arith, m, few));
+      top = omega (arith, lt);
+      turns = omega (arith, c.tick.ensures, c.loop-one.invariant.turns);
       each = λ k d less. ap (list_any (is_at k)) new ∙ one-more-at k c.loop-one.anew.items b
           ∙ ap (λ q. q || (b.place == k)) (c.loop-one.invariant.each k d less)
           ∙ sym (answered-more rs i r (get_or cs (c.args.count + k) d) lt (get_or_default rs i any_answered r lt)

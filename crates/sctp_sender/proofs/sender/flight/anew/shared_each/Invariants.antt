@@ -1,4 +1,4 @@
-use Rattle.std.proofs.Common.{◌≡◌, ◌+◌, ◌<◌, ℕ, length, take}
+use Rattle.std.proofs.Common.{◌≡◌, ◌+◌, ◌<◌, ◌≤◌, ℕ, length, take}
 use Rattle.std.specs.Prelude.{slice_index_or}
 use Rattle.std.specs.List.{All, list_any}
 use Rattle.sctp_data.specs.declared.chunk.chunk_payload_data.ChunkPayloadData.{ChunkPayloadData}
@@ -9,6 +9,9 @@ use Rattle.sctp_sender.proofs.sender.flight.anew.shared_each.Given as goal
 abbrev pub invariant-loop-one : goal.invariant-loop-one
 invariant-loop-one l = record {
   own : All (IsOwn l.count l.queue.inflight.chunks) l.anew.items;
+  few : length l.anew.items ≤ l.one-index;
+  top : l.one-index ≤ length l.released;
+  turns : l.turns ≡ l.initial.turns + l.one-index;
   each : (k : ℕ) (d : ChunkPayloadData) → l.count + k < length l.queue.inflight.chunks → list_any (is_at k) l.anew.items
       ≡ is_answered (take l.one-index l.released) (slice_index_or l.queue.inflight.chunks (l.count + k) d);
 }

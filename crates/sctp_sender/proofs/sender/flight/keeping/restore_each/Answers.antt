@@ -35,5 +35,6 @@ loop-back-preserved c =
           let same = ap (λ (x : PlacedData). x.place) (ap (λ (xs : List PlacedData). get_or xs k d) items ∙ get_or_append_left bs (b ∷ []) d k less) in
           let w = inv.within k d (omega (arith, n, m, less)) in
           omega (arith, w, same, long);
+      turns = omega (arith, n, m, c.tick.ensures, inv.turns);
       fits = omega (arith, w, inv.fits, c.take_back_at.ensures.counted any_chunk);
     }

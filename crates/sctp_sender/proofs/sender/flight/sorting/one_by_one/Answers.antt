@@ -21,7 +21,7 @@ loop-offset-preserved c =
     let none : (n : ℕ) → i ≤ n → is_in_blocks bs n ≡ false = λ n le.
     (let late : nat_lt n i ≡ false = grind (arith, nat_tests, le) in inv.same n (omega (arith, le, pos)) ∙ ap (λ k. k && get_or ms n false) late) in
     record {
-      ascend = ap (ascends_from 0) put ∙ one-more-block bs 0 i inv.ascend pos none;
+      ascend = ap (ascends_from 0) put ∙ one-more-block bs 0 i i inv.ascend pos (omega arith) none;
       same = λ n some.
           (let yes : get_or ms i false ≡ true = search rules in
           ap (λ zs. is_in_blocks zs n) put ∙ in-more bs b n ∙ ap (λ k. k || (nat_le i n && nat_le n i)) (inv.same n some)

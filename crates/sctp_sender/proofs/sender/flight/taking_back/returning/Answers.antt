@@ -1,10 +1,14 @@
-use Rattle.std.proofs.Common.{length, ◌≡◌, ◌+◌, ◌++◌, List, take, get_or, Some, None, inl, inr, refl, ap, sym, subst, ◌∙◌, arith}
+use Rattle.std.proofs.Common.{length, ◌≡◌, ℕ, ◌+◌, ◌*◌, ◌≤◌, ◌++◌, Bool, List, take, get_or, Some, None, inl, inr, refl, ap, sym, subst, ◌∙◌, arith}
 use Rattle.std.specs.Prelude.{false}
+use Rattle.std.specs.List.{count_by}
 use Rattle.std.proofs.lemmas.Bool.{cases_lt}
+use Rattle.sctp_data.specs.declared.chunk.chunk_payload_data.ChunkPayloadData.{ChunkPayloadData}
 use Rattle.sctp_data.specs.declared.chunk.chunk_selective_ack.GapAckBlock.{GapAckBlock}
 use Rattle.sctp_outbound.specs.payload_queue.Blocks.{is_in_blocks}
 use Rattle.sctp_sender.specs.declared.sender.flight.taking_back.PlacedData.{PlacedData}
+use Rattle.sctp_sender.specs.Costs.{PicksLeftOut}
 use Rattle.sctp_sender.specs.Keeping.{return_at}
+use Rattle.sctp_sender.proofs.Counts.{count-in}
 use Rattle.sctp_sender.proofs.Placed.{one, placed-end, placed-more, placed-same, placed-some}
 use Rattle.sctp_sender.proofs.Returns.{none-at, none-below, some-at}
 use Rattle.sctp_sender.proofs.sender.flight.taking_back.returning.Goals as goal
@@ -16,6 +20,10 @@ loop-at-init c = record {
   reported = λ n lt. refl;
   backs = λ bs is. c.new-backs.ensures.items ∙ sym (placed-same 0 0 c.args.count bs (omega arith)
       (λ k low high. is k ∙ none-below c.args.count c.args.blocks.now c.args.queue.now.inflight.chunks c.args.kept.now.user_data.items k high));
+  inside = omega arith;
+  within = omega arith;
+  not_back = omega arith;
+  cost = λ q picks. omega arith;
 }
 
 pub loop-at-preserved-in_default : goal.loop-at-preserved-in_default
@@ -25,6 +33,7 @@ loop-at-preserved-in_default c =
     let j = c.next_return.new.at.block in
     let e = c.next_return.ensures in
     let on = e.on in
+    let inv = c.loop-at.invariant in
     let empty : get_or c.args.kept.now.user_data.items p None ≡ None = sym c.in_default.ensures in
     record {
       from = let f = c.loop-at.invariant.from in omega (arith, f, on);
@@ -39,6 +48,16 @@ loop-at-preserved-in_default c =
                 ∙ some-at c.args.count c.args.blocks.now c.args.queue.now.inflight.chunks c.args.kept.now.user_data.items p (e.found c.loop-at-test.true)
                 ∙ empty
           ]));
+      inside = (let n = ap length c.deref.ensures.value in let h = inv.inside in let g = e.inside (omega (arith, n, h)) in omega (arith, n, g));
+      within = e.within inv.within;
+      not_back = (let h = inv.not_back in omega (arith, h, e.not_back));
+      cost = λ q picks. (
+          let there = subst (λ (xs : List GapAckBlock). PicksLeftOut q c.args.count xs c.args.blocks.now c.args.queue.now.inflight.chunks)
+          (sym c.deref.ensures.value) picks in
+          let h = inv.cost q picks in
+          let g = e.cost q there in
+          let one = e.picked q there c.loop-at-test.true in omega (arith, h, g, one)
+          );
     }
 
 pub loop-at-preserved : goal.loop-at-preserved
@@ -48,6 +67,7 @@ loop-at-preserved c =
     let j = c.next_return.new.at.block in
     let e = c.next_return.ensures in
     let on = e.on in
+    let inv = c.loop-at.invariant in
     let bytes = c.in_ok-user_data.user_data in
     let full : get_or c.args.kept.now.user_data.items p None ≡ Some bytes = sym c.in-Some.ensures ∙ ap Some (sym c.in_ok-user_data.ensures.ok) in
     record {
@@ -59,6 +79,16 @@ loop-at-preserved c =
           ∙ none-at c.args.count c.args.blocks.now c.args.queue.now.inflight.chunks c.args.kept.now.user_data.items k (e.before k low high))))
           ∙ sym (placed-more 0 p p bs bytes (is p ∙ some-at c.args.count c.args.blocks.now c.args.queue.now.inflight.chunks c.args.kept.now.user_data.items
           p (e.found c.loop-at-test.true) ∙ full) (omega arith));
+      inside = (let n = ap length c.deref.ensures.value in let h = inv.inside in let g = e.inside (omega (arith, n, h)) in omega (arith, n, g));
+      within = e.within inv.within;
+      not_back = (let h = inv.not_back in omega (arith, h, e.not_back));
+      cost = λ q picks. (
+          let there = subst (λ (xs : List GapAckBlock). PicksLeftOut q c.args.count xs c.args.blocks.now c.args.queue.now.inflight.chunks)
+          (sym c.deref.ensures.value) picks in
+          let h = inv.cost q picks in
+          let g = e.cost q there in
+          let one = e.picked q there c.loop-at-test.true in omega (arith, h, g, one)
+          );
     }
 
 pub returns-clause-ok : goal.returns-clause-ok
@@ -84,3 +114,58 @@ returns-then-is_err-clause-idle c = λ bs is none.
     let some = placed-some 0 p bs c.in-Some.bytes.now full in
     let n = ap length none in
     absurd (omega (arith, some, n))
+
+module _ (q : ChunkPayloadData → Bool) (cs : List ChunkPayloadData) (began first last i j blocks listed count place end : ℕ)
+    (so-far : first + count_by q (take count cs) ≤ began + i + 2 * j + count_by q (take place cs)) where
+  -- once all was walked over
+  all-walked : (l b : ℕ) → last + i + 2 * j + count_by q (take place cs) ≤ first + l + 2 * b + count_by q (take end cs) + 1 → l ≤ listed → b ≤ blocks
+      → last ≤ began + listed + 2 * blocks + count_by q cs + 1
+  all-walked l b more inside within = let n = count-in q cs end in omega (arith, so-far, more, inside, within, n)
+
+pub returns-in_err-user_data-clause-cost : goal.returns-in_err-user_data-clause-cost
+returns-in_err-user_data-clause-cost c = λ q picks.
+    let e = c.next_return.ensures in
+    let inv = c.loop-at.invariant in
+    let n = ap length c.deref.ensures.value in
+    let inside = e.inside (omega (arith, n, inv.inside)) in
+    all-walked q c.args.queue.now.inflight.chunks c.args.turns.now c.loop-at.turns
+    c.next_return.new.turns c.loop-at.at.listed c.loop-at.at.block (length c.args.blocks.now) (length c.args.kept.now.reported.items) c.args.count c.loop-at.at.place
+    c.next_return.new.at.place
+    (inv.cost q picks) c.next_return.new.at.listed c.next_return.new.at.block
+    (e.cost q (subst (λ (xs : List GapAckBlock). PicksLeftOut q c.args.count xs c.args.blocks.now c.args.queue.now.inflight.chunks)
+    (sym c.deref.ensures.value) picks)) (omega (arith, n, inside)) (e.within inv.within)
+
+pub returns-then-is_err-clause-cost : goal.returns-then-is_err-clause-cost
+returns-then-is_err-clause-cost c = λ q picks.
+    let e = c.next_return.ensures in
+    let inv = c.loop-at.invariant in
+    let n = ap length c.deref.ensures.value in
+    let inside = e.inside (omega (arith, n, inv.inside)) in
+    all-walked q c.args.queue.now.inflight.chunks c.args.turns.now c.loop-at.turns
+    c.next_return.new.turns c.loop-at.at.listed c.loop-at.at.block (length c.args.blocks.now) (length c.args.kept.now.reported.items) c.args.count c.loop-at.at.place
+    c.next_return.new.at.place
+    (inv.cost q picks) c.next_return.new.at.listed c.next_return.new.at.block
+    (e.cost q (subst (λ (xs : List GapAckBlock). PicksLeftOut q c.args.count xs c.args.blocks.now c.args.queue.now.inflight.chunks)
+    (sym c.deref.ensures.value) picks)) (omega (arith, n, inside)) (e.within inv.within)
+
+pub returns-clause-cost : goal.returns-clause-cost
+returns-clause-cost c = λ q picks.
+    let e = c.next_return.ensures in
+    let inv = c.loop-at.invariant in
+    let n = ap length c.deref.ensures.value in
+    let inside = e.inside (omega (arith, n, inv.inside)) in
+    all-walked q c.args.queue.now.inflight.chunks c.args.turns.now c.loop-at.turns
+    c.next_return.new.turns c.loop-at.at.listed c.loop-at.at.block (length c.args.blocks.now) (length c.args.kept.now.reported.items) c.args.count c.loop-at.at.place
+    c.next_return.new.at.place
+    (inv.cost q picks) c.next_return.new.at.listed c.next_return.new.at.block
+    (e.cost q (subst (λ (xs : List GapAckBlock). PicksLeftOut q c.args.count xs c.args.blocks.now c.args.queue.now.inflight.chunks)
+    (sym c.deref.ensures.value) picks)) (omega (arith, n, inside)) (e.within inv.within)
+
+pub returns-in_err-user_data-clause-not_back : goal.returns-in_err-user_data-clause-not_back
+returns-in_err-user_data-clause-not_back c = let h = c.loop-at.invariant.not_back in omega (arith, h, c.next_return.ensures.not_back)
+
+pub returns-then-is_err-clause-not_back : goal.returns-then-is_err-clause-not_back
+returns-then-is_err-clause-not_back c = let h = c.loop-at.invariant.not_back in omega (arith, h, c.next_return.ensures.not_back)
+
+pub returns-clause-not_back : goal.returns-clause-not_back
+returns-clause-not_back c = let h = c.loop-at.invariant.not_back in omega (arith, h, c.next_return.ensures.not_back)

@@ -11,14 +11,14 @@ use Rattle.sctp_list_lemmas.proofs.Cases.{same-is}
 use Rattle.sctp_sender.proofs.TakenBacks.{outstanding}
 use Rattle.sctp_sender.specs.Reporting.{AreKnown, ascends_from}
 use Rattle.sctp_sender.proofs.Known.{none-known}
-use Rattle.sctp_sender.proofs.sender.flight.InFlight.restore.Goals as goal
+use Rattle.sctp_sender.proofs.sender.flight.InFlight.restore_counted.Goals as goal
 
 pub invariant_of-self : goal.invariant_of-self
 invariant_of-self c =
     let f : Flight = record { queue = c.self.inside.queue; next_tsn = c.self.inside.next_tsn; acked_tsn = c.self.inside.acked_tsn } in
     record {
       contiguous = subst (λ (o : Outbound). IsContiguous (record { queue = o; next_tsn = f.next_tsn; acked_tsn = f.acked_tsn }))
-          (sym c.restore_each.ensures) (put-contiguous c.args.backs.items f c.self.invariant.contiguous);
+          (sym c.restore_each.ensures.value) (put-contiguous c.args.backs.items f c.self.invariant.contiguous);
       ascend = ap (ascends_from 0) c.clear.ensures.items;
       known = subst (λ (bs : List GapAckBlock). AreKnown bs c.restore_each.new.queue.inflight.chunks) (sym c.clear.ensures.items)
           (none-known c.restore_each.new.queue.inflight.chunks);
@@ -43,7 +43,7 @@ pub returns-clause-restored : goal.returns-clause-restored
 returns-clause-restored c = λ bs is le.
     let f : Flight = record { queue = c.self.inside.queue; next_tsn = c.self.inside.next_tsn; acked_tsn = c.self.inside.acked_tsn } in
     let short : length bs ≤ length f.queue.inflight.chunks = subst (λ (g : Flight). length bs ≤ length g.queue.inflight.chunks) (sym c.self.view_is) le in
-    ap (λ (o : Outbound). let g : Flight = record f { queue = o } in g) c.restore_each.ensures ∙ put-restored f c.args.backs.items bs is short
+    ap (λ (o : Outbound). let g : Flight = record f { queue = o } in g) c.restore_each.ensures.value ∙ put-restored f c.args.backs.items bs is short
     ∙ ap (with_restored bs) c.self.view_is
 
 pub returns-clause-outstanding : goal.returns-clause-outstanding
@@ -53,9 +53,14 @@ returns-clause-outstanding c = λ s ks is.
     let cs = f.queue.inflight.chunks in
     let bs = back_each s cs ks in
     let here : c.args.backs.items ≡ placed 0 bs = is ∙ ap (λ (h : Flight). placed 0 (back_each s h.queue.inflight.chunks ks)) (sym c.self.view_is) in
-    let new : with_restored bs f ≡ g = sym (ap (λ (o : Outbound). let h : Flight = record f { queue = o } in h) c.restore_each.ensures
+    let new : with_restored bs f ≡ g = sym (ap (λ (o : Outbound). let h : Flight = record f { queue = o } in h) c.restore_each.ensures.value
     ∙ put-restored f c.args.backs.items bs here (back-length s cs ks)) in
     let all = subst (λ (h : Flight). All (λ (b : TakenBack). can_resend b.tsn h ≡ true) (answered_back bs cs)) new
     (outstanding s f c.self.invariant.contiguous ks bs refl) in
     subst (λ (h : Flight). All (λ (b : TakenBack). can_resend b.tsn g ≡ true) (answered_back (back_each s h.queue.inflight.chunks ks) h.queue.inflight.chunks))
     c.self.view_is all
+
+pub returns-then-is_empty-clause-cost : goal.returns-then-is_empty-clause-cost
+returns-then-is_empty-clause-cost c =
+    let none : c.args.backs.items ≡ [] = nil-of c.args.backs.items (sym c.args.backs.ok.0 ∙ same-is _ 0 (sym c.is_empty.ensures ∙ c.if-is_empty.true)) in
+    let n = ap length none in omega (arith, n)

@@ -4,7 +4,7 @@ use Rattle.sctp_sender.specs.declared.sender.flight.keeping.TakenBack.{TakenBack
 use Rattle.sctp_sender.specs.declared.sender.flight.taking_back.PlacedData.{PlacedData}
 use Rattle.sctp_sender.specs.Keeping.{answered_of_placed}
 use Rattle.sctp_sender.proofs.Walks.{read-of}
-use Rattle.sctp_sender.proofs.sender.flight.keeping.answered_back.Goals as goal
+use Rattle.sctp_sender.proofs.sender.flight.keeping.answered_back_counted.Goals as goal
 
 pub loop-back-preserved : goal.loop-back-preserved
 loop-back-preserved c =
@@ -26,6 +26,8 @@ loop-back-preserved c =
           c.put.ensures.items ∙ ap (λ (ts : List TakenBack). ts ++ c.taken_back.result ∷ []) (inv.answered d)
           ∙ ap (λ (r : TakenBack). map f (take i bs) ++ r ∷ []) same ∙ sym (map-append f (take i bs) (b ∷ [])) ∙ ap (map f) (sym next);
       count = omega (arith, put, n, inv.count);
+      top = omega (arith, lt);
+      turns = omega (arith, c.tick.ensures, inv.turns);
       room = omega (arith, c.put.ensures.capacity, inv.room);
     }
 
