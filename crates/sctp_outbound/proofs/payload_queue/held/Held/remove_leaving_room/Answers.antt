@@ -11,7 +11,8 @@ pub remove-requires : goal.remove-requires
 remove-requires c =
     let viewed = ap (λ s. length s.chunks) c.self.view_is in
     let inv = c.self.invariant in
-    let found = held_at _ _ _ inv.held c.args.place c.take_from-taken.result (omega (arith, c.requires, viewed, held_length _ _ _ inv.held)) c.take_from-taken.ensures.value in
+    let found = held_at _ _ _ inv.held c.args.place c.take_from-taken.result
+    (omega (arith, c.requires, viewed, held_length _ _ _ inv.held)) c.take_from-taken.ensures.value in
     subst IsSome (sym found.1) refl
 
 -- the places that are left, and the chunks under the keys that are left
@@ -46,6 +47,7 @@ pub returns-clause-value : goal.returns-clause-value
 returns-clause-value c =
     let viewed = ap (λ s. length s.chunks) c.self.view_is in
     let inv = c.self.invariant in
-    let found = held_at _ _ _ inv.held c.args.place c.take_from-taken.result (omega (arith, c.requires, viewed, held_length _ _ _ inv.held)) c.take_from-taken.ensures.value in
+    let found = held_at _ _ _ inv.held c.args.place c.take_from-taken.result
+    (omega (arith, c.requires, viewed, held_length _ _ _ inv.held)) c.take_from-taken.ensures.value in
     let same = same_chunk _ _ _ found.1 c.remove.ensures.value in
     sym (ap (λ s. get_or s.chunks c.args.place c.remove.result) (sym c.self.view_is) ∙ found.3 c.remove.result ∙ same)
