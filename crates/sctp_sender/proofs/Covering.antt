@@ -177,7 +177,8 @@ module _ (f : Flight) (inv : IsContiguous f) where
 
     acked-now : (k : ℕ) (d : ChunkPayloadData) → count + k < length cs
         → ((get_or cs (count + k) d).acked || reports s (get_or cs (count + k) d)) ≡ true → (get_or (drop count marked) k d).acked ≡ true
-    acked-now k d lt h = ap (λ (x : ChunkPayloadData). x.acked) (now-at k d lt) ∙ by (get_or cs (count + k) d).acked (reports s (get_or cs (count + k) d)) refl refl h
+    acked-now k d lt h = ap (λ (x : ChunkPayloadData). x.acked) (now-at k d lt)
+        ∙ by (get_or cs (count + k) d).acked (reports s (get_or cs (count + k) d)) refl refl h
       where
         c : ChunkPayloadData
         c = get_or cs (count + k) d

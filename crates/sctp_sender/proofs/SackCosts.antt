@@ -1,5 +1,6 @@
 -- How much a SACK reports, and of which messages.
-use Rattle.std.proofs.Common.{◌≡◌, ℕ, suc, ◌+◌, ◌-◌, ◌<◌, ◌≤◌, ◌^◌, true, false, List, length, map, take, get_or, Option, Some, None, refl, ap, ◌∙◌, arith, [], ◌∷◌, ◌*◌, sym, Bool}
+use Rattle.std.proofs.Common.{◌≡◌, ℕ, suc, ◌+◌, ◌-◌, ◌<◌, ◌≤◌, ◌^◌, true, false, List, length, map, take, get_or, Option, Some, None, refl, ap, ◌∙◌, arith, []}
+use Rattle.std.proofs.Common.{◌∷◌, ◌*◌, sym, Bool}
 use Rattle.std.specs.Prelude.{nat_lt, cond, not, ◌&&◌}
 use Rattle.std.specs.List.{count_by, filter}
 use Rattle.std.proofs.lemmas.Bool.Decides.{nat_tests}

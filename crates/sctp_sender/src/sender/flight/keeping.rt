@@ -40,8 +40,8 @@ pub struct TakenBack {
 pub struct Kept {
     /// The user data, place by place: None where nothing is kept.
     pub user_data: VecDeque<Option<Bytes>>,
-    /// Gap ack blocks, as distances past the TSN up to which all was acknowledged. They ascend, and report each chunk in flight that
-    /// is acknowledged and of no abandoned message.
+    /// Gap ack blocks, as distances past the TSN up to which all was acknowledged. They ascend, report each chunk in flight that is
+    /// acknowledged and of no abandoned message, and none that is not acknowledged.
     pub reported: Vec<GapAckBlock>,
 }
 

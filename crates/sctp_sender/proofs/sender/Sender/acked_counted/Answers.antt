@@ -37,7 +37,8 @@ invariant_of-self-2 c =
           (subst (λ (t : Transmission). IfSome c.in_ok-anew.anew (λ a. IfSome t.kept
           (λ ks. Cover a.reported.items (kept_after s t.flight ks) (after_sack s t.flight)))) (sym c.self.view_is) c.in_ok-anew.ensures.covered)
           c.self.invariant.3 c.make_room.ensures.same c.make_room.ensures.covered c.keep_anew.ensures.items c.keep_anew.ensures.covered,
-      subst (AreReported c.keep_anew.new.kept) (sym c.in_ok-released.ensures.ok) (after-reported s f c.self.inside.kept c.make_room.new.kept c.keep_anew.new.kept
+      subst (AreReported c.keep_anew.new.kept) (sym c.in_ok-released.ensures.ok)
+          (after-reported s f c.self.inside.kept c.make_room.new.kept c.keep_anew.new.kept
           c.in_ok-anew.anew
           (subst (λ (t : Transmission). c.in_ok-anew.anew ≡ None → (t.kept ≡ None) ⊎ (is_outdated s t.flight ≡ true)) (sym c.self.view_is)
           c.in_ok-anew.ensures.same)
@@ -282,7 +283,8 @@ returns-in_err-released-clause-cost_keeping c =
     let first = subst (λ (t : Transmission). c.anew_by.new.turns ≤ c.args.turns.now + length s.gap_ack_blocks + anew_turns s t.flight) now
     c.anew_by.ensures.cost in
     rw (← c.self.view_is) (refused-cost s f c.args.turns.now c.anew_by.new.turns c.make_room.new.turns c.acked_counted.new.turns first
-    c.acked_counted.ensures.cost (option_map (λ k. k.user_data.items) c.self.inside.kept) c.in_ok-anew.anew c.make_room.ensures.none c.make_room.ensures.cost few)
+    c.acked_counted.ensures.cost
+    (option_map (λ k. k.user_data.items) c.self.inside.kept) c.in_ok-anew.anew c.make_room.ensures.none c.make_room.ensures.cost few)
 
 pub returns-in_err-make_room-clause-cost_keeping : goal.returns-in_err-make_room-clause-cost_keeping
 returns-in_err-make_room-clause-cost_keeping c =

@@ -17,7 +17,8 @@ use Rattle.sctp_sender.specs.declared.sender.flight.taking_back.PlacedData.{Plac
 use Rattle.sctp_data.specs.declared.chunk.chunk_selective_ack.GapAckBlock.{GapAckBlock}
 use Rattle.sctp_sender.specs.declared.sender.flight.keeping.Kept.{Kept}
 use Rattle.sctp_sender.specs.Reporting.{AreKnown}
-use Rattle.sctp_sender.specs.Keeping.{AreReported, Cover, IsCovered, blocks_left, rises_from, after_returns, back_each, bytes_back, bytes_coming, placed, restored, answered_of_placed, answered_back}
+use Rattle.sctp_sender.specs.Keeping.{AreReported, Cover, IsCovered, blocks_left, rises_from, after_returns, back_each, bytes_back, bytes_coming, placed}
+use Rattle.sctp_sender.specs.Keeping.{restored, answered_of_placed, answered_back}
 use Rattle.sctp_sender.specs.Keeping.{with_restored}
 use Rattle.sctp_sender.specs.Sender.{Transmission, after_take_back, back_by, take_back_refusal, taken_back_by}
 use Rattle.sctp_sender.specs.Totals.{IsAllSettled}
@@ -168,7 +169,8 @@ invariant_of-self c =
       subst (IsCovered c.set_reported.new.kept) (sym new) (record {
         ordered = (restored-covered c.self.inside.kept dense f c.self.invariant.3).ordered;
         unordered = (restored-covered c.self.inside.kept dense f c.self.invariant.3).unordered;
-        cover = others-covered c.self.inside.kept c.set_reported.new.kept (with_restored dense f) left-of c.set_reported.ensures.data c.set_reported.ensures.blocks
+        cover =
+            others-covered c.self.inside.kept c.set_reported.new.kept (with_restored dense f) left-of c.set_reported.ensures.data c.set_reported.ensures.blocks
             (subst (λ (o : Option Kept). IfSome o (λ k. Cover (left-of k.reported.items) k.user_data.items (with_restored dense f))) (sym c.in-Some.is)
             (c.in_ok-left.ensures.covered dense there le));
       }),
@@ -298,7 +300,8 @@ returns-clause-bytes c =
     let back : bytes_of (restored dense cs) ≡ bytes_of cs + weight dense = back-bytes s cs ks c.self.invariant.2.inflight in
     let answered : bytes_back c.in_ok-answered.answered.items ≡ weight dense = ap bytes_back (answer ∙ ap (λ bs. answered_back bs cs)
     (sym (back-by-is s t ks kept current))) ∙ answered-weight dense cs le in
-    let all : total_bytes c.restore_counted.new.self.queue ≡ total_bytes f.queue + bytes_back c.in_ok-answered.answered.items = omega (arith, answered, back, new) in
+    let all : total_bytes c.restore_counted.new.self.queue ≡ total_bytes f.queue + bytes_back c.in_ok-answered.answered.items =
+    omega (arith, answered, back, new) in
     rw (← c.self.view_is) all
 
 pub returns-clause-outstanding : goal.returns-clause-outstanding
@@ -326,7 +329,8 @@ returns-clause-outstanding c =
     let answer : c.in_ok-answered.answered.items ≡ taken_back_by s t = mapped ∙ answer-is s t ks kept current backs is any_chunk in
     let dense-answer : c.in_ok-answered.answered.items ≡ answered_back dense cs =
     answer ∙ ap (λ bs. answered_back bs cs) (sym (back-by-is s t ks kept current)) in
-    subst (λ ts. All (λ (b : TakenBack). can_resend b.tsn c.restore_counted.new.self ≡ true) ts) (sym dense-answer) (c.restore_counted.ensures.outstanding s ks is)
+    subst (λ ts. All (λ (b : TakenBack). can_resend b.tsn c.restore_counted.new.self ≡ true) ts) (sym dense-answer)
+    (c.restore_counted.ensures.outstanding s ks is)
 
 pub left_reported-requires-clause-in_order : goal.left_reported-requires-clause-in_order
 left_reported-requires-clause-in_order c =
@@ -360,7 +364,8 @@ returns-in_err-backs-clause-stale c = rw (← c.self.view_is) (λ old.
     absurd (false≢true (sym (negated _ (sym c.in_ok-is_current_counted.ensures.answer ∙ c.if-not-branch.false)) ∙ old)))
 
 pub returns-in_err-backs-clause-forged : goal.returns-in_err-backs-clause-forged
-returns-in_err-backs-clause-forged c = rw (← c.self.view_is) (λ some. absurd (false≢true (ap is_some (sym (c.in_ok-is_current_counted.ensures.accepted refl)) ∙ some)))
+returns-in_err-backs-clause-forged c =
+    rw (← c.self.view_is) (λ some. absurd (false≢true (ap is_some (sym (c.in_ok-is_current_counted.ensures.accepted refl)) ∙ some)))
 
 pub returns-in_err-backs-clause-nothing_kept : goal.returns-in_err-backs-clause-nothing_kept
 returns-in_err-backs-clause-nothing_kept c = rw (← c.self.view_is) (λ none. absurd (none-some c.in-Some.kept.user_data.items
@@ -397,7 +402,8 @@ returns-in_err-left-clause-stale c = rw (← c.self.view_is) (λ old.
     absurd (false≢true (sym (negated _ (sym c.in_ok-is_current_counted.ensures.answer ∙ c.if-not-branch.false)) ∙ old)))
 
 pub returns-in_err-left-clause-forged : goal.returns-in_err-left-clause-forged
-returns-in_err-left-clause-forged c = rw (← c.self.view_is) (λ some. absurd (false≢true (ap is_some (sym (c.in_ok-is_current_counted.ensures.accepted refl)) ∙ some)))
+returns-in_err-left-clause-forged c =
+    rw (← c.self.view_is) (λ some. absurd (false≢true (ap is_some (sym (c.in_ok-is_current_counted.ensures.accepted refl)) ∙ some)))
 
 pub returns-in_err-left-clause-nothing_kept : goal.returns-in_err-left-clause-nothing_kept
 returns-in_err-left-clause-nothing_kept c = rw (← c.self.view_is) (λ none. absurd (none-some c.in-Some.kept.user_data.items
@@ -435,7 +441,8 @@ returns-in_err-answered-clause-stale c = rw (← c.self.view_is) (λ old.
     absurd (false≢true (sym (negated _ (sym c.in_ok-is_current_counted.ensures.answer ∙ c.if-not-branch.false)) ∙ old)))
 
 pub returns-in_err-answered-clause-forged : goal.returns-in_err-answered-clause-forged
-returns-in_err-answered-clause-forged c = rw (← c.self.view_is) (λ some. absurd (false≢true (ap is_some (sym (c.in_ok-is_current_counted.ensures.accepted refl)) ∙ some)))
+returns-in_err-answered-clause-forged c =
+    rw (← c.self.view_is) (λ some. absurd (false≢true (ap is_some (sym (c.in_ok-is_current_counted.ensures.accepted refl)) ∙ some)))
 
 pub returns-in_err-answered-clause-nothing_kept : goal.returns-in_err-answered-clause-nothing_kept
 returns-in_err-answered-clause-nothing_kept c = rw (← c.self.view_is) (λ none. absurd (none-some c.in-Some.kept.user_data.items
@@ -476,7 +483,8 @@ returns-then-not-is_room_for-clause-stale c = rw (← c.self.view_is) (λ old.
     absurd (false≢true (sym (negated _ (sym c.in_ok-is_current_counted.ensures.answer ∙ c.if-not-branch.false)) ∙ old)))
 
 pub returns-then-not-is_room_for-clause-forged : goal.returns-then-not-is_room_for-clause-forged
-returns-then-not-is_room_for-clause-forged c = rw (← c.self.view_is) (λ some. absurd (false≢true (ap is_some (sym (c.in_ok-is_current_counted.ensures.accepted refl)) ∙ some)))
+returns-then-not-is_room_for-clause-forged c =
+    rw (← c.self.view_is) (λ some. absurd (false≢true (ap is_some (sym (c.in_ok-is_current_counted.ensures.accepted refl)) ∙ some)))
 
 pub returns-then-not-is_room_for-clause-nothing_kept : goal.returns-then-not-is_room_for-clause-nothing_kept
 returns-then-not-is_room_for-clause-nothing_kept c = rw (← c.self.view_is) (λ none. absurd (none-some c.in-Some.kept.user_data.items

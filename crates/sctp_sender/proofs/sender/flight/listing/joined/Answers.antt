@@ -68,7 +68,8 @@ loop-next-preserved c =
           (λ less. let b = c.comes_first.ensures.no c.if-comes_first.false no_block less in omega (arith, b)) c.max-in-loop-next.result
           c.saturating_sub-end.result far start k low (omega (arith, low, high, c.max-from-in-loop-next.ensures)));
       past = none-on ss from i c.max-from-in-loop-next.result on inv.past;
-      before = none-past ls c.requires.listed (c.args.count + from) j (some-further ss c.requires.sorted ls c.requires.listed c.args.count from i j inv.swept.some
+      before =
+          none-past ls c.requires.listed (c.args.count + from) j (some-further ss c.requires.sorted ls c.requires.listed c.args.count from i j inv.swept.some
           inv.past inv.before) inv.before lt (c.args.count + c.max-from-in-loop-next.result) (omega (arith, on))
           (omega (arith, c.max-from-in-loop-next.ensures, far));
       ours = inv.ours;

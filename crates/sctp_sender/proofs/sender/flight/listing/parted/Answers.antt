@@ -70,7 +70,8 @@ loop-next-preserved c =
           (omega (arith, c.max-from-in-loop-next.ensures)) c.in_ok-put_run-2.ensures.ascend c.in_ok-put_run-2.ensures.same (λ k low high.
           left-to-end bs c.requires.ascend from i inv.swept.some inv.past lt ps c.requires.in_order j inv.gone c.max-start.result start after
           k low (omega (arith, low, high, c.max-from-in-loop-next.ensures)));
-      past = none-past bs c.requires.ascend from i inv.swept.some inv.past lt c.max-from-in-loop-next.result on (omega (arith, c.max-from-in-loop-next.ensures));
+      past =
+          none-past bs c.requires.ascend from i inv.swept.some inv.past lt c.max-from-in-loop-next.result on (omega (arith, c.max-from-in-loop-next.ensures));
       gone = λ k le. inv.gone k (omega (arith, le, on));
       blocks = omega (arith, lt);
       backs = inv.backs;

@@ -33,13 +33,15 @@ loop-at-preserved-then-at-run c =
     let run : GapAckBlock = get_or c.args.listed.now i no_block in
     let at : IsAtRun c.args.count c.args.listed.now c.args.blocks.now c.args.queue.now.inflight.chunks
     c.requires.ascend c.requires.sorted c.requires.covered c.args.at.now.place c.loop-at.at.place i j c.max-at.result =
-    at-run c.args.count c.args.listed.now c.args.blocks.now c.args.queue.now.inflight.chunks c.requires.ascend c.requires.sorted c.requires.covered c.args.at.now.place
+    at-run c.args.count c.args.listed.now c.args.blocks.now c.args.queue.now.inflight.chunks c.requires.ascend c.requires.sorted c.requires.covered
+    c.args.at.now.place
     c.loop-at.at.place i j c.loop-at.invariant.walked lt c.max-at.result (omega (arith, c.max-at.ensures)) (omega (arith, c.max-at.ensures))
     (λ k low high. omega (arith, c.max-at.ensures, low, high)) in
     record {
       walked = past-run c.args.count c.args.listed.now c.args.blocks.now c.args.queue.now.inflight.chunks c.requires.ascend c.requires.sorted c.requires.covered
           c.args.at.now.place c.max-at.result i j at.walked run lt at.is c.if-at-run.true;
-      paid = run-paid c.args.count c.args.listed.now c.args.blocks.now c.args.queue.now.inflight.chunks c.args.turns.now c.args.at.now.place c.args.at.now.listed
+      paid =
+          run-paid c.args.count c.args.listed.now c.args.blocks.now c.args.queue.now.inflight.chunks c.args.turns.now c.args.at.now.place c.args.at.now.listed
           c.args.at.now.block c.loop-at.turns c.loop-at.at.place i j c.loop-at.invariant.paid c.tick.new.self
           c.max-at.result c.tick.ensures at.on lt;
     }
@@ -52,16 +54,19 @@ loop-at-preserved-then-count-block c =
     let run : GapAckBlock = get_or c.args.listed.now i no_block in
     let at : IsAtRun c.args.count c.args.listed.now c.args.blocks.now c.args.queue.now.inflight.chunks
     c.requires.ascend c.requires.sorted c.requires.covered c.args.at.now.place c.loop-at.at.place i j c.max-at.result =
-    at-run c.args.count c.args.listed.now c.args.blocks.now c.args.queue.now.inflight.chunks c.requires.ascend c.requires.sorted c.requires.covered c.args.at.now.place
+    at-run c.args.count c.args.listed.now c.args.blocks.now c.args.queue.now.inflight.chunks c.requires.ascend c.requires.sorted c.requires.covered
+    c.args.at.now.place
     c.loop-at.at.place i j c.loop-at.invariant.walked lt c.max-at.result (omega (arith, c.max-at.ensures)) (omega (arith, c.max-at.ensures))
     (λ k low high. omega (arith, c.max-at.ensures, low, high)) in
     let block : GapAckBlock = get_or c.args.blocks.now j no_block in
     let less = c.if-at-blocks.true in
     let same : block ≡ get_or c.args.blocks.now j block = get_or_default c.args.blocks.now j no_block block less in
     record {
-      walked = past-block c.args.count c.args.listed.now c.args.blocks.now c.args.queue.now.inflight.chunks c.requires.ascend c.requires.sorted c.requires.covered
+      walked =
+          past-block c.args.count c.args.listed.now c.args.blocks.now c.args.queue.now.inflight.chunks c.requires.ascend c.requires.sorted c.requires.covered
           c.args.at.now.place c.max-at.result i j at.walked block less same c.if-count-block.true;
-      paid = block-paid c.args.count c.args.listed.now c.args.blocks.now c.args.queue.now.inflight.chunks c.args.turns.now c.args.at.now.place c.args.at.now.listed
+      paid =
+          block-paid c.args.count c.args.listed.now c.args.blocks.now c.args.queue.now.inflight.chunks c.args.turns.now c.args.at.now.place c.args.at.now.listed
           c.args.at.now.block c.loop-at.turns c.loop-at.at.place i j c.loop-at.invariant.paid c.tick.new.self
           c.max-at.result c.tick.ensures at.on less;
     }
@@ -74,7 +79,8 @@ loop-at-preserved-then-count-block-2 c =
     let run : GapAckBlock = get_or c.args.listed.now i no_block in
     let at : IsAtRun c.args.count c.args.listed.now c.args.blocks.now c.args.queue.now.inflight.chunks
     c.requires.ascend c.requires.sorted c.requires.covered c.args.at.now.place c.loop-at.at.place i j c.max-at.result =
-    at-run c.args.count c.args.listed.now c.args.blocks.now c.args.queue.now.inflight.chunks c.requires.ascend c.requires.sorted c.requires.covered c.args.at.now.place
+    at-run c.args.count c.args.listed.now c.args.blocks.now c.args.queue.now.inflight.chunks c.requires.ascend c.requires.sorted c.requires.covered
+    c.args.at.now.place
     c.loop-at.at.place i j c.loop-at.invariant.walked lt c.max-at.result (omega (arith, c.max-at.ensures)) (omega (arith, c.max-at.ensures))
     (λ k low high. omega (arith, c.max-at.ensures, low, high)) in
     let block : GapAckBlock = get_or c.args.blocks.now j no_block in
@@ -86,7 +92,8 @@ loop-at-preserved-then-count-block-2 c =
       walked = to-end c.args.count c.args.listed.now c.args.blocks.now c.args.queue.now.inflight.chunks c.requires.ascend c.requires.sorted c.requires.covered
           c.args.at.now.place c.max-at.result i j at.walked block less same (c.args.count + block.end)
           c.if-count-block-2.true (omega (arith, before)) (omega arith);
-      paid = end-paid c.args.count c.args.listed.now c.args.blocks.now c.args.queue.now.inflight.chunks c.args.turns.now c.args.at.now.place c.args.at.now.listed
+      paid =
+          end-paid c.args.count c.args.listed.now c.args.blocks.now c.args.queue.now.inflight.chunks c.args.turns.now c.args.at.now.place c.args.at.now.listed
           c.args.at.now.block c.loop-at.turns c.loop-at.at.place i j c.loop-at.invariant.paid c.tick.new.self
           (c.args.count + block.end) c.tick.ensures (omega (arith, before, further)) less (omega (arith, before, further)) (omega arith);
     }
@@ -99,7 +106,8 @@ returns-then-can_come_back-clause-before c =
     let run : GapAckBlock = get_or c.args.listed.now i no_block in
     let at : IsAtRun c.args.count c.args.listed.now c.args.blocks.now c.args.queue.now.inflight.chunks
     c.requires.ascend c.requires.sorted c.requires.covered c.args.at.now.place c.loop-at.at.place i j c.max-at.result =
-    at-run c.args.count c.args.listed.now c.args.blocks.now c.args.queue.now.inflight.chunks c.requires.ascend c.requires.sorted c.requires.covered c.args.at.now.place
+    at-run c.args.count c.args.listed.now c.args.blocks.now c.args.queue.now.inflight.chunks c.requires.ascend c.requires.sorted c.requires.covered
+    c.args.at.now.place
     c.loop-at.at.place i j c.loop-at.invariant.walked lt c.max-at.result (omega (arith, c.max-at.ensures)) (omega (arith, c.max-at.ensures))
     (λ k low high. omega (arith, c.max-at.ensures, low, high)) in
     at.walked.before
@@ -112,7 +120,8 @@ returns-then-can_come_back-clause-found c = λ e.
     let run : GapAckBlock = get_or c.args.listed.now i no_block in
     let at : IsAtRun c.args.count c.args.listed.now c.args.blocks.now c.args.queue.now.inflight.chunks
     c.requires.ascend c.requires.sorted c.requires.covered c.args.at.now.place c.loop-at.at.place i j c.max-at.result =
-    at-run c.args.count c.args.listed.now c.args.blocks.now c.args.queue.now.inflight.chunks c.requires.ascend c.requires.sorted c.requires.covered c.args.at.now.place
+    at-run c.args.count c.args.listed.now c.args.blocks.now c.args.queue.now.inflight.chunks c.requires.ascend c.requires.sorted c.requires.covered
+    c.args.at.now.place
     c.loop-at.at.place i j c.loop-at.invariant.walked lt c.max-at.result (omega (arith, c.max-at.ensures)) (omega (arith, c.max-at.ensures))
     (λ k low high. omega (arith, c.max-at.ensures, low, high)) in
     let next : (b : GapAckBlock) → j < length c.args.blocks.now → b ≡ get_or c.args.blocks.now j b
@@ -148,7 +157,8 @@ returns-then-can_come_back-clause-cost c =
     let run : GapAckBlock = get_or c.args.listed.now i no_block in
     let at : IsAtRun c.args.count c.args.listed.now c.args.blocks.now c.args.queue.now.inflight.chunks
     c.requires.ascend c.requires.sorted c.requires.covered c.args.at.now.place c.loop-at.at.place i j c.max-at.result =
-    at-run c.args.count c.args.listed.now c.args.blocks.now c.args.queue.now.inflight.chunks c.requires.ascend c.requires.sorted c.requires.covered c.args.at.now.place
+    at-run c.args.count c.args.listed.now c.args.blocks.now c.args.queue.now.inflight.chunks c.requires.ascend c.requires.sorted c.requires.covered
+    c.args.at.now.place
     c.loop-at.at.place i j c.loop-at.invariant.walked lt c.max-at.result (omega (arith, c.max-at.ensures)) (omega (arith, c.max-at.ensures))
     (λ k low high. omega (arith, c.max-at.ensures, low, high)) in
     let next : (b : GapAckBlock) → j < length c.args.blocks.now → b ≡ get_or c.args.blocks.now j b
@@ -166,7 +176,8 @@ returns-then-can_come_back-clause-cost c =
     ] in
     look-cost c.args.count c.args.listed.now c.args.blocks.now c.args.queue.now.inflight.chunks c.args.turns.now c.args.at.now.place c.args.at.now.listed
     c.args.at.now.block c.loop-at.turns c.loop-at.at.place i j c.loop-at.invariant.paid c.tick.new.self
-    c.max-at.result c.tick.ensures at.on open' (at.lists (omega (arith, c.if-at-run.false))) (unreached c.args.count c.args.listed.now c.args.blocks.now c.args.queue.now.inflight.chunks c.requires.ascend c.requires.sorted c.requires.covered
+    c.max-at.result c.tick.ensures at.on open' (at.lists (omega (arith, c.if-at-run.false)))
+    (unreached c.args.count c.args.listed.now c.args.blocks.now c.args.queue.now.inflight.chunks c.requires.ascend c.requires.sorted c.requires.covered
     c.args.at.now.place c.max-at.result i j at.walked next)
 
 pub returns-then-can_come_back-clause-picked : goal.returns-then-can_come_back-clause-picked
@@ -177,7 +188,8 @@ returns-then-can_come_back-clause-picked c = λ q picks e.
     let run : GapAckBlock = get_or c.args.listed.now i no_block in
     let at : IsAtRun c.args.count c.args.listed.now c.args.blocks.now c.args.queue.now.inflight.chunks
     c.requires.ascend c.requires.sorted c.requires.covered c.args.at.now.place c.loop-at.at.place i j c.max-at.result =
-    at-run c.args.count c.args.listed.now c.args.blocks.now c.args.queue.now.inflight.chunks c.requires.ascend c.requires.sorted c.requires.covered c.args.at.now.place
+    at-run c.args.count c.args.listed.now c.args.blocks.now c.args.queue.now.inflight.chunks c.requires.ascend c.requires.sorted c.requires.covered
+    c.args.at.now.place
     c.loop-at.at.place i j c.loop-at.invariant.walked lt c.max-at.result (omega (arith, c.max-at.ensures)) (omega (arith, c.max-at.ensures))
     (λ k low high. omega (arith, c.max-at.ensures, low, high)) in
     let next : (b : GapAckBlock) → j < length c.args.blocks.now → b ≡ get_or c.args.blocks.now j b
@@ -195,7 +207,8 @@ returns-then-can_come_back-clause-picked c = λ q picks e.
     ] in
     one-picked c.args.count c.args.listed.now c.args.blocks.now c.args.queue.now.inflight.chunks c.args.turns.now c.args.at.now.place c.args.at.now.listed
     c.args.at.now.block c.loop-at.turns c.loop-at.at.place i j c.loop-at.invariant.paid c.tick.new.self
-    c.max-at.result c.tick.ensures at.on open' (at.lists (omega (arith, c.if-at-run.false))) (unreached c.args.count c.args.listed.now c.args.blocks.now c.args.queue.now.inflight.chunks c.requires.ascend c.requires.sorted c.requires.covered
+    c.max-at.result c.tick.ensures at.on open' (at.lists (omega (arith, c.if-at-run.false)))
+    (unreached c.args.count c.args.listed.now c.args.blocks.now c.args.queue.now.inflight.chunks c.requires.ascend c.requires.sorted c.requires.covered
     c.args.at.now.place c.max-at.result i j at.walked next) q picks
 
 pub loop-at-preserved : goal.loop-at-preserved
@@ -206,7 +219,8 @@ loop-at-preserved c =
     let run : GapAckBlock = get_or c.args.listed.now i no_block in
     let at : IsAtRun c.args.count c.args.listed.now c.args.blocks.now c.args.queue.now.inflight.chunks
     c.requires.ascend c.requires.sorted c.requires.covered c.args.at.now.place c.loop-at.at.place i j c.max-at.result =
-    at-run c.args.count c.args.listed.now c.args.blocks.now c.args.queue.now.inflight.chunks c.requires.ascend c.requires.sorted c.requires.covered c.args.at.now.place
+    at-run c.args.count c.args.listed.now c.args.blocks.now c.args.queue.now.inflight.chunks c.requires.ascend c.requires.sorted c.requires.covered
+    c.args.at.now.place
     c.loop-at.at.place i j c.loop-at.invariant.walked lt c.max-at.result (omega (arith, c.max-at.ensures)) (omega (arith, c.max-at.ensures))
     (λ k low high. omega (arith, c.max-at.ensures, low, high)) in
     let next : (b : GapAckBlock) → j < length c.args.blocks.now → b ≡ get_or c.args.blocks.now j b
@@ -227,9 +241,11 @@ loop-at-preserved c =
           c.args.at.now.place c.max-at.result i j at.walked
           (looked-at c.args.count c.args.listed.now c.args.blocks.now c.args.queue.now.inflight.chunks c.requires.ascend c.requires.sorted c.requires.covered
           c.args.at.now.place c.max-at.result i j at.walked next ∙ sym c.can_come_back.ensures ∙ c.if-can_come_back.false);
-      paid = look-paid c.args.count c.args.listed.now c.args.blocks.now c.args.queue.now.inflight.chunks c.args.turns.now c.args.at.now.place c.args.at.now.listed
+      paid =
+          look-paid c.args.count c.args.listed.now c.args.blocks.now c.args.queue.now.inflight.chunks c.args.turns.now c.args.at.now.place c.args.at.now.listed
           c.args.at.now.block c.loop-at.turns c.loop-at.at.place i j c.loop-at.invariant.paid c.tick.new.self
-          c.max-at.result c.tick.ensures at.on open' (at.lists (omega (arith, c.if-at-run.false))) (unreached c.args.count c.args.listed.now c.args.blocks.now c.args.queue.now.inflight.chunks c.requires.ascend c.requires.sorted c.requires.covered
+          c.max-at.result c.tick.ensures at.on open' (at.lists (omega (arith, c.if-at-run.false))) (unreached c.args.count c.args.listed.now c.args.blocks.now
+          c.args.queue.now.inflight.chunks c.requires.ascend c.requires.sorted c.requires.covered
           c.args.at.now.place c.max-at.result i j at.walked next);
     }
 

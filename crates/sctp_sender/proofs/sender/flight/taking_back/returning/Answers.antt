@@ -129,7 +129,8 @@ returns-in_err-user_data-clause-cost c = λ q picks.
     let n = ap length c.deref.ensures.value in
     let inside = e.inside (omega (arith, n, inv.inside)) in
     all-walked q c.args.queue.now.inflight.chunks c.args.turns.now c.loop-at.turns
-    c.next_return.new.turns c.loop-at.at.listed c.loop-at.at.block (length c.args.blocks.now) (length c.args.kept.now.reported.items) c.args.count c.loop-at.at.place
+    c.next_return.new.turns c.loop-at.at.listed c.loop-at.at.block (length c.args.blocks.now)
+    (length c.args.kept.now.reported.items) c.args.count c.loop-at.at.place
     c.next_return.new.at.place
     (inv.cost q picks) c.next_return.new.at.listed c.next_return.new.at.block
     (e.cost q (subst (λ (xs : List GapAckBlock). PicksLeftOut q c.args.count xs c.args.blocks.now c.args.queue.now.inflight.chunks)
@@ -142,7 +143,8 @@ returns-then-is_err-clause-cost c = λ q picks.
     let n = ap length c.deref.ensures.value in
     let inside = e.inside (omega (arith, n, inv.inside)) in
     all-walked q c.args.queue.now.inflight.chunks c.args.turns.now c.loop-at.turns
-    c.next_return.new.turns c.loop-at.at.listed c.loop-at.at.block (length c.args.blocks.now) (length c.args.kept.now.reported.items) c.args.count c.loop-at.at.place
+    c.next_return.new.turns c.loop-at.at.listed c.loop-at.at.block (length c.args.blocks.now)
+    (length c.args.kept.now.reported.items) c.args.count c.loop-at.at.place
     c.next_return.new.at.place
     (inv.cost q picks) c.next_return.new.at.listed c.next_return.new.at.block
     (e.cost q (subst (λ (xs : List GapAckBlock). PicksLeftOut q c.args.count xs c.args.blocks.now c.args.queue.now.inflight.chunks)
@@ -155,7 +157,8 @@ returns-clause-cost c = λ q picks.
     let n = ap length c.deref.ensures.value in
     let inside = e.inside (omega (arith, n, inv.inside)) in
     all-walked q c.args.queue.now.inflight.chunks c.args.turns.now c.loop-at.turns
-    c.next_return.new.turns c.loop-at.at.listed c.loop-at.at.block (length c.args.blocks.now) (length c.args.kept.now.reported.items) c.args.count c.loop-at.at.place
+    c.next_return.new.turns c.loop-at.at.listed c.loop-at.at.block (length c.args.blocks.now)
+    (length c.args.kept.now.reported.items) c.args.count c.loop-at.at.place
     c.next_return.new.at.place
     (inv.cost q picks) c.next_return.new.at.listed c.next_return.new.at.block
     (e.cost q (subst (λ (xs : List GapAckBlock). PicksLeftOut q c.args.count xs c.args.blocks.now c.args.queue.now.inflight.chunks)
