@@ -18,7 +18,7 @@ CALLERS = {
                                          "benchlib/sending abandoned"},
     "sctp_outbound::PayloadQueue::pop_up_to": {"queue_tests/payload_queue pops_up_to"},
     "sctp_reassembly::Loose::take_range_counted": {"sctp_reassembly/reassembly_queue/pool/undo put_undoable", "sctp_reassembly/reassembly_queue/unassembled take_range"},
-    "sctp_reassembly::ReassemblyQueue::forward_tsn_for_unordered": {"queue_tests/reassembly_queue skips_by_half_a_circle", "sctp_receiver/receiver/visiting skip_on"},
+    "sctp_reassembly::ReassemblyQueue::forward_tsn_for_unordered": {"queue_tests/reassembly_queue skips_by_half_a_circle"},
     "sctp_receiver::TsnFilter::record_duplicate_counted": {"sctp_receiver/receiver/taking note_repeat", "sctp_receiver/receiver/tsn_filter record_duplicate"},
     "sctp_reassembly::place_for": {"sctp_reassembly/reassembly_queue place_of"},
     "sctp_outbound::PayloadQueue::mark_as_acked_at": {"sctp_outbound/outbound_queue mark_as_acked_at"},
