@@ -3,3 +3,5 @@ pub mod SkipComes
 pub mod NamesInTurn
 pub mod SkipFollowed
 pub mod SkipMade
+pub mod NamedTables
+pub mod NamedOnEach

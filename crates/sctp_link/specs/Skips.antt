@@ -1,5 +1,5 @@
 -- What a skip names on a stream of a link (RFC 3758 3.6).
-use Rattle.std.specs.Prelude.{ℕ, ◌+◌, ◌-◌, ◌%◌, ◌^◌, min, max, Bool, ◌&&◌, not, ◌==◌, if◌then◌else◌, List, map, slice_index_or}
+use Rattle.std.specs.Prelude.{◌≡◌, ℕ, ◌<◌, ◌+◌, ◌-◌, ◌%◌, ◌^◌, min, max, Bool, ◌&&◌, not, ◌==◌, if◌then◌else◌, List, length, map, slice_index_or}
 use Rattle.std.specs.List.{filter}
 use Rattle.sctp_data.specs.declared.chunk.chunk_forward_tsn.ChunkForwardTsnStream.{ChunkForwardTsnStream}
 use Rattle.sctp_data.specs.ForwardTsn.{ForwardTsn}
@@ -8,6 +8,7 @@ use Rattle.sctp_model.specs.LinkRecord.{LinkRecord}
 use Rattle.sctp_model.specs.Contents.{name_of}
 use Rattle.sctp_model.specs.Messages.{no_message, tsn_of}
 use Rattle.sctp_model.specs.Receiver.{least, greatest}
+use Rattle.sctp_refinement.specs.Naming.{low_named, end_named}
 use Rattle.sctp_progress.specs.Progress.{Standing}
 use Rattle.sctp_progress.specs.Progress as Progress
 use Rattle.sctp_link.specs.Streams.{OpenStream, with_named}
@@ -48,6 +49,17 @@ with_name ms s n named =
       low = min named.low (index_in ms n);
       end = max named.end (index_in ms n + 1);
     } else named
+
+-- these messages are named on each stream: for what stands in its place further ones are still to be counted in
+abbrev pub HasNames : List Message → List ℕ → List ℕ → List Standing → List Named → Type 0
+HasNames ms names further ps table =
+    (k : ℕ) (p : Standing) (d : Named) → k < length table → k < length ps
+    → p ≡ slice_index_or ps k p → d ≡ slice_index_or table k d
+    → named_from ms p.number d further ≡ named_from ms p.number none_named names
+
+-- what these messages name on stream s, as the record has it
+abbrev pub named_in : LinkRecord → ℕ → List ℕ → Named
+named_in w s names = record { low = low_named w s names; end = end_named w s names }
 
 -- the pair that names message n
 abbrev pub pair_in : List Message → ℕ → ChunkForwardTsnStream

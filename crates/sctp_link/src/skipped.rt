@@ -1,8 +1,9 @@
 //! What a FORWARD-TSN names on a stream (RFC 3758 3.2, 3.6).
 
-ghost use Rattle.std.specs.Prelude.{◌≡◌, ◌+◌, ◌<◌, ◌^◌, ℕ, length, map, slice_index_or, IfOk, IsOkUnless};
+ghost use Rattle.std.specs.Prelude.{◌≡◌, ◌+◌, ◌<◌, ◌^◌, ◌∷◌, ℕ, List, [], length, map, slice_index_or, IfOk, IsOkUnless};
 ghost use Rattle.sctp_base.specs.declared.error.Error.TheVariants.{ErrOutOfMemory};
-ghost use Rattle.sctp_link.specs.Skips.{index_in, named_from, none_named, with_name, pair_in, standing_named};
+ghost use Rattle.sctp_link.specs.declared.skipped.Named.{Named};
+ghost use Rattle.sctp_link.specs.Skips.{index_in, named_from, none_named, with_name, pair_in, standing_named, HasNames};
 
 use crate::record::Message;
 use sctp_base::error::Result;
@@ -47,6 +48,57 @@ fn with_name(messages: &[Message], stream: u16, number: u64, named: Named) -> Na
     Named {
         low: named.low.min(message.index),
         end: named.end.max(message.index + 1),
+    }
+}
+
+/// What a skip that names these messages names on each open stream, in the order in which they were opened: in a time that grows with
+/// the names and the streams, and not with their product. Where memory is refused it has no elements.
+/// Precondition: the index of each message is below the greatest u64.
+pub fn named_on_each(
+    alloc: Global,
+    progress: &Progress,
+    messages: &[Message],
+    names: &[u64],
+) -> Vec<Named>
+    requires { (n : ℕ) → index_in messages.now n + 1 < 2 ^ 64 }
+    ensures { HasNames messages.now names.now [] progress.now result.items }
+{
+    let mut table = none_named(alloc, progress.len());
+    for number in names {
+        put_name(&mut table, progress, messages, *number);
+    }
+    table
+}
+
+// Nothing is named on so many streams.
+fn none_named(alloc: Global, count: usize) -> Vec<Named>
+    ensures { (k : ℕ) (d : Named)
+        → k < length result.items → d ≡ slice_index_or result.items k d → d ≡ none_named }
+{
+    let mut table = Vec::new(alloc);
+    let none = Named {
+        low: u64::MAX,
+        end: 0,
+    };
+    let _ = table.resize(count, none);
+    table
+}
+
+// One message more is named, on the stream that it is one of.
+fn put_name(table: &mut Vec<Named>, progress: &Progress, messages: &[Message], number: u64)
+    requires { (n : ℕ) → index_in messages.now n + 1 < 2 ^ 64 }
+    ensures { (names rest : List ℕ)
+        → HasNames messages.now names (number ∷ rest) progress.now table.old.items
+        → HasNames messages.now names rest progress.now table.new.items }
+{
+    let Some(message) = messages.get(number as usize) else {
+        return;
+    };
+    let Some(place) = progress.place_of(message.stream) else {
+        return;
+    };
+    if place < table.len() {
+        table[place] = with_name(messages, message.stream, number, table[place]);
     }
 }
 

@@ -8,6 +8,8 @@ mod bound_tests;
 #[cfg(test)]
 mod closing_tests;
 #[cfg(test)]
+mod counted_tests;
+#[cfg(test)]
 mod flight_tests;
 #[cfg(test)]
 mod host;

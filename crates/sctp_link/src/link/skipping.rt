@@ -1,6 +1,6 @@
 //! What the arrival of a FORWARD-TSN makes of the receiver of a link (RFC 3758 3.6).
 
-ghost use Rattle.std.specs.Prelude.{◌≡◌, ◌<◌, ◌≤◌, ◌+◌, ◌-◌, ◌%◌, ◌^◌, ◌∷◌, ℕ, List, true, None, Some, OnErr, IfOk, IsOkUnless, length, slice_get};
+ghost use Rattle.std.specs.Prelude.{◌≡◌, ◌<◌, ◌≤◌, ◌+◌, ◌-◌, ◌%◌, ◌^◌, ◌∷◌, ℕ, List, true, None, Some, OnErr, IfOk, IsOkUnless, length, slice_get, slice_index_or};
 ghost use Rattle.std.specs.List.{list_all};
 ghost use Rattle.sctp_base.specs.declared.error.Error.TheVariants.{ErrOutOfMemory};
 
@@ -8,7 +8,7 @@ use super::Link;
 use crate::datagram::read_forward_tsn;
 use crate::event::Reply;
 use crate::record::Kind;
-use crate::skipped::{named_on, record_names};
+use crate::skipped::{Named, named_on, named_on_each, record_names};
 use sctp_base::error::Result;
 use sctp_base::util::Checksum;
 use sctp_chunks::chunk::chunk_forward_tsn::ChunkForwardTsn;
@@ -23,7 +23,8 @@ impl<C: Checksum + Drop> Link<C> {
     ghost use Rattle.sctp_model.specs.declared.event.Event.TheVariants as E;
     ghost use Rattle.sctp_refinement.specs.Naming.{names_fit, complete_first, min_with};
     ghost use Rattle.sctp_link.specs.Replies.{reply_of};
-    ghost use Rattle.sctp_link.specs.Skips.{wire_skip};
+    ghost use Rattle.sctp_link.specs.declared.skipped.Named.{Named};
+    ghost use Rattle.sctp_link.specs.Skips.{named_in, wire_skip};
 
     // Whether stream sequence numbers can be told apart before a skip and after it (RFC 4960 6.5).
     pub(super) fn skip_fits(&self, upto: u64, names: &[u64]) -> bool
@@ -38,7 +39,7 @@ impl<C: Checksum + Drop> Link<C> {
         self.names_fit(upto, names)
     }
 
-    // So on each open stream.
+    // So on each open stream. The names are gone through once, if there is memory for what they name on each.
     fn names_fit(&self, upto: u64, names: &[u64]) -> bool
         requires { (k : ℕ) × (slice_get self.now.recorded.network k
             ≡ Some (Forward upto names.now)) }
@@ -46,8 +47,9 @@ impl<C: Checksum + Drop> Link<C> {
             ≡ list_all (λ r. names_fit self.now.recorded r.stream names.now)
             self.now.recorded.streams }
     {
+        let table = named_on_each(self.alloc, &self.progress, &self.messages, names);
         for at in 0..self.progress.len() {
-            if !self.stream_fits(at, upto, names) {
+            if !self.stream_fits(at, upto, names, &table) {
                 return false;
             }
         }
@@ -55,21 +57,43 @@ impl<C: Checksum + Drop> Link<C> {
     }
 
     // On the stream at a place, from the ends of what is held and of what is named.
-    fn stream_fits(&self, at: usize, upto: u64, names: &[u64]) -> bool
+    fn stream_fits(&self, at: usize, upto: u64, names: &[u64], table: &[Named]) -> bool
         requires inside { at < length self.now.recorded.streams }
         requires lies { (k : ℕ)
             × (slice_get self.now.recorded.network k ≡ Some (Forward upto names.now)) }
+        requires table { (r : StreamRecord) (d : Named)
+            → slice_get self.now.recorded.streams at ≡ Some r → at < length table.now
+            → d ≡ slice_index_or table.now at d
+            → d ≡ named_in self.now.recorded r.stream names.now }
         ensures { (r : StreamRecord) → slice_get self.now.recorded.streams at ≡ Some r
             → result ≡ names_fit self.now.recorded r.stream names.now }
     {
         let stream = self.progress.number_at(at);
-        let named = named_on(&self.messages, stream, names);
+        let named = self.named_at(at, upto, names, table);
         let (low, high) = self.index_range(stream);
         let span = low.min(named.low) + 0x8000;
         if high.max(named.end.saturating_sub(1)) >= span {
             return false;
         }
         named.end < span || named.end - 0x8000 < self.least_left(stream, named.low)
+    }
+
+    // What is named on the stream at a place: from the table, or where that has nothing by going through the names.
+    fn named_at(&self, at: usize, upto: u64, names: &[u64], table: &[Named]) -> Named
+        requires inside { at < length self.now.recorded.streams }
+        requires lies { (k : ℕ)
+            × (slice_get self.now.recorded.network k ≡ Some (Forward upto names.now)) }
+        requires table { (r : StreamRecord) (d : Named)
+            → slice_get self.now.recorded.streams at ≡ Some r → at < length table.now
+            → d ≡ slice_index_or table.now at d
+            → d ≡ named_in self.now.recorded r.stream names.now }
+        ensures { (r : StreamRecord) → slice_get self.now.recorded.streams at ≡ Some r
+            → result ≡ named_in self.now.recorded r.stream names.now }
+    {
+        if at < table.len() {
+            return table[at];
+        }
+        named_on(&self.messages, self.progress.number_at(at), names)
     }
 
     // The lesser of an index and that of the first message held, where it is complete: no skip gives that up.

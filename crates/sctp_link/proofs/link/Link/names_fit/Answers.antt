@@ -1,11 +1,15 @@
-use Rattle.sctp_link.specs.Fields.{sides_in}
-use Rattle.std.proofs.Common.{◌<◌, ◌≤◌, ◌+◌, refl, ap, sym, ◌∙◌, arith, length}
+use Rattle.sctp_link.specs.Fields.{record_in, sides_in}
+use Rattle.std.proofs.Common.{◌≡◌, ℕ, ◌<◌, ◌≤◌, ◌+◌, [], Some, refl, ap, sym, ◌∙◌, subst, arith, length}
+use Rattle.std.specs.Prelude.{slice_get}
+use Rattle.sctp_model.specs.LinkRecord.{Forward}
 use Rattle.std.specs.List.{list_all}
 use Rattle.std.proofs.lemmas.List.{take_all}
 use Rattle.sctp_refinement.specs.Naming.{names_fit}
 use Rattle.sctp_link.specs.Records.{stream_record}
+use Rattle.sctp_link.specs.Skips.{HasNames}
 use Rattle.sctp_link.proofs.sides.Aligned.{count-is}
 use Rattle.sctp_link.proofs.skipping.SkipComes.{all-more, all-no}
+use Rattle.sctp_link.proofs.skipping.NamedOnEach.{table-there}
 use Rattle.sctp_link.proofs.link.Link.names_fit.Goals as goal
 use Rattle.sctp_list_lemmas.proofs.Getting.{length-mapped}
 
@@ -21,6 +25,18 @@ stream_fits-requires-clause-inside g c =
       count-is c.self.inside.sender c.self.inside.receiver c.self.inside.progress c.self.invariant.0,
       length-mapped stream_record (sides_in c.self.inside).streams,
     ))
+
+pub stream_fits-requires-clause-table : goal.stream_fits-requires-clause-table
+stream_fits-requires-clause-table g c =
+    let a = c.self.inside in
+    let lies : (k : ℕ) × (slice_get (record_in a).network k ≡ Some (Forward c.args.upto c.args.names.now)) = rw (← c.self.view_is) at c.requires in
+    let lt : c.loop-at.at < length a.progress = omega (arith, c.loop-at-test.true, c.len-at-end.ensures) in
+    let named : HasNames a.messages.items c.args.names.now [] a.progress c.named_on_each-table.result.items =
+    subst (λ ms. HasNames ms c.args.names.now [] a.progress c.named_on_each-table.result.items) c.deref.ensures.value c.named_on_each-table.ensures in
+    rw (← c.self.view_is)
+    (table-there (g.C.Checksum.sum a.checksum) a c.self.invariant.0 c.self.invariant.1 lies.0 c.args.upto c.args.names.now lies.1 c.loop-at.at lt
+    c.deref-in-loop-at.result.now
+    (subst (HasNames a.messages.items c.args.names.now [] a.progress) (sym c.deref-in-loop-at.ensures.value) named))
 
 pub returns-then-not-stream_fits : goal.returns-then-not-stream_fits
 returns-then-not-stream_fits g c =

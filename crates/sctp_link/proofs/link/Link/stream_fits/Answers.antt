@@ -1,6 +1,6 @@
 use Rattle.std.proofs.Common.{◌≡◌, ℕ, ◌+◌, ◌<◌, true, List, Some, refl, ap, sym, ◌∙◌, arith, length, map}
 use Rattle.std.specs.Prelude.{is_some, slice_get, slice_index_or, nat_lt}
-use Rattle.sctp_model.specs.LinkRecord.{Forward, StreamRecord}
+use Rattle.sctp_model.specs.LinkRecord.{StreamRecord}
 use Rattle.sctp_model.specs.Messages.{is_open, index_of}
 use Rattle.sctp_model.specs.Receiver.{held_on, next_of, least, greatest}
 use Rattle.sctp_refinement.specs.Naming.{names_fit, complete_first, min_with, lowest_held, highest_held}
@@ -12,10 +12,9 @@ use Rattle.sctp_link.proofs.sides.Changes.{number-answered}
 use Rattle.sctp_link.specs.declared.link.Link.TheInside.{Inside}
 use Rattle.sctp_link.specs.declared.skipped.Named.{Named}
 use Rattle.sctp_link.specs.Fields.{record_in, state_in, sides_in}
-use Rattle.sctp_link.specs.Linked.{IsLinked}
 use Rattle.sctp_link.specs.Records.{stream_record}
-use Rattle.sctp_link.specs.Skips.{named_from, none_named}
-use Rattle.sctp_link.proofs.skipping.SkipComes.{Judged, open-at, record-at, skips-in, names-are, judged, lowest-short}
+use Rattle.sctp_link.specs.Skips.{named_in}
+use Rattle.sctp_link.proofs.skipping.SkipComes.{Judged, open-at, record-at, judged, lowest-short}
 use Rattle.sctp_link.proofs.link.Link.stream_fits.Goals as goal
 use Rattle.sctp_list_lemmas.proofs.Getting.{length-mapped}
 
@@ -43,12 +42,12 @@ open-one a at s inside id =
     }
 
 -- What was found of the stream and of the names is what the record has.
-judged-at : {C : Type 0} (sum : List ℕ → ℕ) (a : Inside C) (l : IsLinked sum (state_in a)) (s upto : ℕ) (names : List ℕ) (k : ℕ)
-    → slice_get (record_in a).network k ≡ Some (Forward upto names) → (low high : ℕ) (named : Named) → low ≡ lowest_held (record_in a) s
-    → high ≡ highest_held (record_in a) s → named ≡ named_from a.messages.items s none_named names → Judged (record_in a) s names low high named
-judged-at sum a l s upto names k lies low high named low_is high_is named_is =
-    judged (record_in a) s names low high named low_is high_is
-    (named_is ∙ names-are sum (state_in a) l a.messages.items refl refl upto s names (skips-in sum (state_in a) l k upto names lies).fit)
+judged-at : {C : Type 0} (a : Inside C) (at s : ℕ) (names : List ℕ) (o : IsOpenAt a at s) (low high : ℕ) (named : Named) → low ≡ lowest_held (record_in a) s
+    → high ≡ highest_held (record_in a) s
+    → ((r : StreamRecord) → slice_get (record_in a).streams at ≡ Some r → named ≡ named_in (record_in a) r.stream names)
+    → (r : StreamRecord) → slice_get (record_in a).streams at ≡ Some r → Judged (record_in a) s names low high named
+judged-at a at s names o low high named low_is high_is named_is r e =
+    judged (record_in a) s names low high named low_is high_is (named_is r e ∙ ap (λ t. named_in (record_in a) t names) (sym (o.there r e)))
 
 pub index_range-low-requires : goal.index_range-low-requires
 index_range-low-requires g c =
@@ -68,18 +67,17 @@ overflow_add-span g c =
 pub returns-then-max-span : goal.returns-then-max-span
 returns-then-max-span g c =
     let a = c.self.inside in
-    let sum = g.C.Checksum.sum a.checksum in
     let w = record_in a in
     let s = c.number_at-stream.result in
     let inside : c.args.at < length w.streams = rw (← c.self.view_is) at c.requires.inside in
     let o = open-one a c.args.at s inside (λ e. c.number_at-stream.ensures (fresh 0)
     ∙ number-answered a.sender a.receiver a.progress c.self.invariant.0 c.args.at (fresh 0) e (at-inside a c.self.invariant.0 c.args.at inside)) in
-    let lies : (k : ℕ) × (slice_get w.network k ≡ Some (Forward c.args.upto c.args.names.now)) = rw (← c.self.view_is) at c.requires.lies in
     let low : c.index_range-low.result.0 ≡ least (next_of w s) (map (index_of w) (held_on w s)) = rw (← c.self.view_is) at c.index_range-low.ensures.low in
     let high : c.index_range-low.result.1 ≡ greatest (next_of w s) (map (index_of w) (held_on w s)) = rw (← c.self.view_is) at c.index_range-low.ensures.high in
-    let j = judged-at sum a c.self.invariant.1 s c.args.upto c.args.names.now lies.0 lies.1 c.index_range-low.result.0 c.index_range-low.result.1
-    c.named_on-named.result low high (c.named_on-named.ensures ∙ ap (λ ms. named_from ms s none_named c.args.names.now) c.deref.ensures.value) in
-    rw (← c.self.view_is) (λ r e. j.no' (omega (arith, c.if-max-span.true, c.min-span.ensures, c.max.ensures, c.saturating_sub.ensures))
+    let named : (r : StreamRecord) → slice_get w.streams c.args.at ≡ Some r → c.named_at-named.result ≡ named_in w r.stream c.args.names.now =
+    rw (← c.self.view_is) at c.named_at-named.ensures in
+    let j = judged-at a c.args.at s c.args.names.now o c.index_range-low.result.0 c.index_range-low.result.1 c.named_at-named.result low high named in
+    rw (← c.self.view_is) (λ r e. (j r e).no' (omega (arith, c.if-max-span.true, c.min-span.ensures, c.max.ensures, c.saturating_sub.ensures))
     ∙ ap (λ t. names_fit w t c.args.names.now) (o.there r e))
 
 pub least_left-requires : goal.least_left-requires
@@ -92,36 +90,34 @@ least_left-requires g c =
 pub returns-then-named-span : goal.returns-then-named-span
 returns-then-named-span g c =
     let a = c.self.inside in
-    let sum = g.C.Checksum.sum a.checksum in
     let w = record_in a in
     let s = c.number_at-stream.result in
     let inside : c.args.at < length w.streams = rw (← c.self.view_is) at c.requires.inside in
     let o = open-one a c.args.at s inside (λ e. c.number_at-stream.ensures (fresh 0)
     ∙ number-answered a.sender a.receiver a.progress c.self.invariant.0 c.args.at (fresh 0) e (at-inside a c.self.invariant.0 c.args.at inside)) in
-    let lies : (k : ℕ) × (slice_get w.network k ≡ Some (Forward c.args.upto c.args.names.now)) = rw (← c.self.view_is) at c.requires.lies in
     let low : c.index_range-low.result.0 ≡ least (next_of w s) (map (index_of w) (held_on w s)) = rw (← c.self.view_is) at c.index_range-low.ensures.low in
     let high : c.index_range-low.result.1 ≡ greatest (next_of w s) (map (index_of w) (held_on w s)) = rw (← c.self.view_is) at c.index_range-low.ensures.high in
-    let j = judged-at sum a c.self.invariant.1 s c.args.upto c.args.names.now lies.0 lies.1 c.index_range-low.result.0 c.index_range-low.result.1
-    c.named_on-named.result low high (c.named_on-named.ensures ∙ ap (λ ms. named_from ms s none_named c.args.names.now) c.deref.ensures.value) in
-    rw (← c.self.view_is) (λ r e. ap (λ n. nat_lt c.named_on-named.result.end (n + 32768)) c.min-span.ensures
-    ∙ j.yes' (omega (arith, c.if-max-span.false, c.min-span.ensures, c.max.ensures, c.saturating_sub.ensures))
+    let named : (r : StreamRecord) → slice_get w.streams c.args.at ≡ Some r → c.named_at-named.result ≡ named_in w r.stream c.args.names.now =
+    rw (← c.self.view_is) at c.named_at-named.ensures in
+    let j = judged-at a c.args.at s c.args.names.now o c.index_range-low.result.0 c.index_range-low.result.1 c.named_at-named.result low high named in
+    rw (← c.self.view_is) (λ r e. ap (λ n. nat_lt c.named_at-named.result.end (n + 32768)) c.min-span.ensures
+    ∙ (j r e).yes' (omega (arith, c.if-max-span.false, c.min-span.ensures, c.max.ensures, c.saturating_sub.ensures))
     (omega (arith, c.if-named-span.true, c.min-span.ensures)) ∙ ap (λ t. names_fit w t c.args.names.now) (o.there r e))
 
 pub returns-else-named-span : goal.returns-else-named-span
 returns-else-named-span g c =
     let a = c.self.inside in
-    let sum = g.C.Checksum.sum a.checksum in
     let w = record_in a in
     let s = c.number_at-stream.result in
     let inside : c.args.at < length w.streams = rw (← c.self.view_is) at c.requires.inside in
     let o = open-one a c.args.at s inside (λ e. c.number_at-stream.ensures (fresh 0)
     ∙ number-answered a.sender a.receiver a.progress c.self.invariant.0 c.args.at (fresh 0) e (at-inside a c.self.invariant.0 c.args.at inside)) in
-    let lies : (k : ℕ) × (slice_get w.network k ≡ Some (Forward c.args.upto c.args.names.now)) = rw (← c.self.view_is) at c.requires.lies in
     let low : c.index_range-low.result.0 ≡ least (next_of w s) (map (index_of w) (held_on w s)) = rw (← c.self.view_is) at c.index_range-low.ensures.low in
     let high : c.index_range-low.result.1 ≡ greatest (next_of w s) (map (index_of w) (held_on w s)) = rw (← c.self.view_is) at c.index_range-low.ensures.high in
-    let j = judged-at sum a c.self.invariant.1 s c.args.upto c.args.names.now lies.0 lies.1 c.index_range-low.result.0 c.index_range-low.result.1
-    c.named_on-named.result low high (c.named_on-named.ensures ∙ ap (λ ms. named_from ms s none_named c.args.names.now) c.deref.ensures.value) in
-    let left : c.least_left.result ≡ min_with (complete_first w (held_on w s)) c.named_on-named.result.low = rw (← c.self.view_is) at c.least_left.ensures in
+    let named : (r : StreamRecord) → slice_get w.streams c.args.at ≡ Some r → c.named_at-named.result ≡ named_in w r.stream c.args.names.now =
+    rw (← c.self.view_is) at c.named_at-named.ensures in
+    let j = judged-at a c.args.at s c.args.names.now o c.index_range-low.result.0 c.index_range-low.result.1 c.named_at-named.result low high named in
+    let left : c.least_left.result ≡ min_with (complete_first w (held_on w s)) c.named_at-named.result.low = rw (← c.self.view_is) at c.least_left.ensures in
     rw (← c.self.view_is)
-    (λ r e. j.edge c.least_left.result left (omega (arith, c.if-max-span.false, c.min-span.ensures, c.max.ensures, c.saturating_sub.ensures))
+    (λ r e. (j r e).edge c.least_left.result left (omega (arith, c.if-max-span.false, c.min-span.ensures, c.max.ensures, c.saturating_sub.ensures))
     (omega (arith, c.if-named-span.false, c.min-span.ensures)) ∙ ap (λ t. names_fit w t c.args.names.now) (o.there r e))
