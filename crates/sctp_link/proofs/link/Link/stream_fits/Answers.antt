@@ -1,23 +1,12 @@
-use Rattle.std.proofs.Common.{◌≡◌, ℕ, ◌+◌, ◌<◌, true, List, Some, refl, ap, sym, ◌∙◌, arith, length, map}
-use Rattle.std.specs.Prelude.{is_some, slice_get, slice_index_or, nat_lt}
-use Rattle.sctp_model.specs.LinkRecord.{Forward, StreamRecord}
-use Rattle.sctp_model.specs.Messages.{is_open, index_of}
-use Rattle.sctp_model.specs.Receiver.{held_on, next_of, least, greatest}
-use Rattle.sctp_refinement.specs.Naming.{names_fit, complete_first, min_with, lowest_held, highest_held}
+use Rattle.sctp_link.proofs.Names.{◌≡◌, ℕ, ◌+◌, ◌<◌, true, List, Some, refl, ap, sym, ◌∙◌, arith, length, map, is_some, slice_get, slice_index_or, nat_lt}
+use Rattle.sctp_link.proofs.Names.{Forward, StreamRecord, is_open, index_of, held_on, next_of, least, greatest, names_fit, complete_first, min_with}
+use Rattle.sctp_link.proofs.Names.{lowest_held, highest_held, IsAligned, OpenStream, new_open_stream, Inside, Named, record_in, state_in, sides_in, IsLinked}
+use Rattle.sctp_link.proofs.Names.{stream_record, named_from, none_named, length-mapped}
 use Rattle.sctp_progress.specs.Progress.{fresh}
-use Rattle.sctp_link.specs.Sides.{IsAligned}
-use Rattle.sctp_link.specs.Streams.{OpenStream, new_open_stream}
 use Rattle.sctp_link.proofs.sides.Aligned.{count-is}
 use Rattle.sctp_link.proofs.sides.Changes.{number-answered}
-use Rattle.sctp_link.specs.declared.link.Link.TheInside.{Inside}
-use Rattle.sctp_link.specs.declared.skipped.Named.{Named}
-use Rattle.sctp_link.specs.Fields.{record_in, state_in, sides_in}
-use Rattle.sctp_link.specs.Linked.{IsLinked}
-use Rattle.sctp_link.specs.Records.{stream_record}
-use Rattle.sctp_link.specs.Skips.{named_from, none_named}
 use Rattle.sctp_link.proofs.skipping.SkipComes.{Judged, open-at, record-at, skips-in, names-are, judged, lowest-short}
 use Rattle.sctp_link.proofs.link.Link.stream_fits.Goals as goal
-use Rattle.sctp_list_lemmas.proofs.Getting.{length-mapped}
 
 -- The stream at a place is open, and it is the one that the record has there.
 record IsOpenAt {C : Type 0} (a : Inside C) (at s : ℕ) : Type 0 where
@@ -25,7 +14,7 @@ record IsOpenAt {C : Type 0} (a : Inside C) (at s : ℕ) : Type 0 where
   there : (r : StreamRecord) → slice_get (record_in a).streams at ≡ Some r → s ≡ r.stream
 
 at-inside : {C : Type 0} (a : Inside C) → IsAligned a.sender a.receiver a.progress → (at : ℕ) → at < length (record_in a).streams → at < length a.progress
-at-inside a al at inside = omega (arith, inside, length-mapped stream_record (sides_in a).streams, count-is a.sender a.receiver a.progress al)
+at-inside a al at inside = omega (arith, inside, length-mapped stream_record (sides_in a).streams, count-is al)
 
 pub number_at-stream-requires : goal.number_at-stream-requires
 number_at-stream-requires g c =
@@ -43,19 +32,19 @@ open-one a at s inside id =
     }
 
 -- What was found of the stream and of the names is what the record has.
-judged-at : {C : Type 0} (sum : List ℕ → ℕ) (a : Inside C) (l : IsLinked sum (state_in a)) (s upto : ℕ) (names : List ℕ) (k : ℕ)
+judged-at : {C : Type 0} {sum : List ℕ → ℕ} (a : Inside C) (l : IsLinked sum (state_in a)) (s upto : ℕ) (names : List ℕ) (k : ℕ)
     → slice_get (record_in a).network k ≡ Some (Forward upto names) → (low high : ℕ) (named : Named) → low ≡ lowest_held (record_in a) s
     → high ≡ highest_held (record_in a) s → named ≡ named_from a.messages.items s none_named names → Judged (record_in a) s names low high named
-judged-at sum a l s upto names k lies low high named low_is high_is named_is =
-    judged (record_in a) s names low high named low_is high_is
-    (named_is ∙ names-are sum (state_in a) l a.messages.items refl refl upto s names (skips-in sum (state_in a) l k upto names lies).fit)
+judged-at a l s upto names k lies low high named low_is high_is named_is =
+    judged (record_in a) s names low high named low_is high_is (named_is
+    ∙ names-are l a.messages.items refl refl upto s names (skips-in l k upto names lies).fit)
 
 pub index_range-low-requires : goal.index_range-low-requires
 index_range-low-requires g c =
     let a = c.self.inside in
     let inside : c.args.at < length (record_in a).streams = rw (← c.self.view_is) at c.requires.inside in
     rw (← c.self.view_is) (open-one a c.args.at c.number_at-stream.result inside (λ e. c.number_at-stream.ensures (fresh 0)
-    ∙ number-answered a.sender a.receiver a.progress c.self.invariant.0 c.args.at (fresh 0) e (at-inside a c.self.invariant.0 c.args.at inside))).opened
+    ∙ number-answered c.self.invariant.0 c.args.at (fresh 0) e (at-inside a c.self.invariant.0 c.args.at inside))).opened
 
 pub overflow_add-span : goal.overflow_add-span
 overflow_add-span g c =
@@ -63,21 +52,20 @@ overflow_add-span g c =
     let w = record_in a in
     let s = c.number_at-stream.result in
     let low : c.index_range-low.result.0 ≡ least (next_of w s) (map (index_of w) (held_on w s)) = rw (← c.self.view_is) at c.index_range-low.ensures.low in
-    omega (arith, c.min-span.ensures, low, lowest-short (g.C.Checksum.sum a.checksum) (state_in a) c.self.invariant.1 s)
+    omega (arith, c.min-span.ensures, low, lowest-short c.self.invariant.1 s)
 
 pub returns-then-max-span : goal.returns-then-max-span
 returns-then-max-span g c =
     let a = c.self.inside in
-    let sum = g.C.Checksum.sum a.checksum in
     let w = record_in a in
     let s = c.number_at-stream.result in
     let inside : c.args.at < length w.streams = rw (← c.self.view_is) at c.requires.inside in
     let o = open-one a c.args.at s inside (λ e. c.number_at-stream.ensures (fresh 0)
-    ∙ number-answered a.sender a.receiver a.progress c.self.invariant.0 c.args.at (fresh 0) e (at-inside a c.self.invariant.0 c.args.at inside)) in
+    ∙ number-answered c.self.invariant.0 c.args.at (fresh 0) e (at-inside a c.self.invariant.0 c.args.at inside)) in
     let lies : (k : ℕ) × (slice_get w.network k ≡ Some (Forward c.args.upto c.args.names.now)) = rw (← c.self.view_is) at c.requires.lies in
     let low : c.index_range-low.result.0 ≡ least (next_of w s) (map (index_of w) (held_on w s)) = rw (← c.self.view_is) at c.index_range-low.ensures.low in
     let high : c.index_range-low.result.1 ≡ greatest (next_of w s) (map (index_of w) (held_on w s)) = rw (← c.self.view_is) at c.index_range-low.ensures.high in
-    let j = judged-at sum a c.self.invariant.1 s c.args.upto c.args.names.now lies.0 lies.1 c.index_range-low.result.0 c.index_range-low.result.1
+    let j = judged-at a c.self.invariant.1 s c.args.upto c.args.names.now lies.0 lies.1 c.index_range-low.result.0 c.index_range-low.result.1
     c.named_on-named.result low high (c.named_on-named.ensures ∙ ap (λ ms. named_from ms s none_named c.args.names.now) c.deref.ensures.value) in
     rw (← c.self.view_is) (λ r e. j.no' (omega (arith, c.if-max-span.true, c.min-span.ensures, c.max.ensures, c.saturating_sub.ensures))
     ∙ ap (λ t. names_fit w t c.args.names.now) (o.there r e))
@@ -87,21 +75,20 @@ least_left-requires g c =
     let a = c.self.inside in
     let inside : c.args.at < length (record_in a).streams = rw (← c.self.view_is) at c.requires.inside in
     rw (← c.self.view_is) (open-one a c.args.at c.number_at-stream.result inside (λ e. c.number_at-stream.ensures (fresh 0)
-    ∙ number-answered a.sender a.receiver a.progress c.self.invariant.0 c.args.at (fresh 0) e (at-inside a c.self.invariant.0 c.args.at inside))).opened
+    ∙ number-answered c.self.invariant.0 c.args.at (fresh 0) e (at-inside a c.self.invariant.0 c.args.at inside))).opened
 
 pub returns-then-named-span : goal.returns-then-named-span
 returns-then-named-span g c =
     let a = c.self.inside in
-    let sum = g.C.Checksum.sum a.checksum in
     let w = record_in a in
     let s = c.number_at-stream.result in
     let inside : c.args.at < length w.streams = rw (← c.self.view_is) at c.requires.inside in
     let o = open-one a c.args.at s inside (λ e. c.number_at-stream.ensures (fresh 0)
-    ∙ number-answered a.sender a.receiver a.progress c.self.invariant.0 c.args.at (fresh 0) e (at-inside a c.self.invariant.0 c.args.at inside)) in
+    ∙ number-answered c.self.invariant.0 c.args.at (fresh 0) e (at-inside a c.self.invariant.0 c.args.at inside)) in
     let lies : (k : ℕ) × (slice_get w.network k ≡ Some (Forward c.args.upto c.args.names.now)) = rw (← c.self.view_is) at c.requires.lies in
     let low : c.index_range-low.result.0 ≡ least (next_of w s) (map (index_of w) (held_on w s)) = rw (← c.self.view_is) at c.index_range-low.ensures.low in
     let high : c.index_range-low.result.1 ≡ greatest (next_of w s) (map (index_of w) (held_on w s)) = rw (← c.self.view_is) at c.index_range-low.ensures.high in
-    let j = judged-at sum a c.self.invariant.1 s c.args.upto c.args.names.now lies.0 lies.1 c.index_range-low.result.0 c.index_range-low.result.1
+    let j = judged-at a c.self.invariant.1 s c.args.upto c.args.names.now lies.0 lies.1 c.index_range-low.result.0 c.index_range-low.result.1
     c.named_on-named.result low high (c.named_on-named.ensures ∙ ap (λ ms. named_from ms s none_named c.args.names.now) c.deref.ensures.value) in
     rw (← c.self.view_is) (λ r e. ap (λ n. nat_lt c.named_on-named.result.end (n + 32768)) c.min-span.ensures
     ∙ j.yes' (omega (arith, c.if-max-span.false, c.min-span.ensures, c.max.ensures, c.saturating_sub.ensures))
@@ -110,16 +97,15 @@ returns-then-named-span g c =
 pub returns-else-named-span : goal.returns-else-named-span
 returns-else-named-span g c =
     let a = c.self.inside in
-    let sum = g.C.Checksum.sum a.checksum in
     let w = record_in a in
     let s = c.number_at-stream.result in
     let inside : c.args.at < length w.streams = rw (← c.self.view_is) at c.requires.inside in
     let o = open-one a c.args.at s inside (λ e. c.number_at-stream.ensures (fresh 0)
-    ∙ number-answered a.sender a.receiver a.progress c.self.invariant.0 c.args.at (fresh 0) e (at-inside a c.self.invariant.0 c.args.at inside)) in
+    ∙ number-answered c.self.invariant.0 c.args.at (fresh 0) e (at-inside a c.self.invariant.0 c.args.at inside)) in
     let lies : (k : ℕ) × (slice_get w.network k ≡ Some (Forward c.args.upto c.args.names.now)) = rw (← c.self.view_is) at c.requires.lies in
     let low : c.index_range-low.result.0 ≡ least (next_of w s) (map (index_of w) (held_on w s)) = rw (← c.self.view_is) at c.index_range-low.ensures.low in
     let high : c.index_range-low.result.1 ≡ greatest (next_of w s) (map (index_of w) (held_on w s)) = rw (← c.self.view_is) at c.index_range-low.ensures.high in
-    let j = judged-at sum a c.self.invariant.1 s c.args.upto c.args.names.now lies.0 lies.1 c.index_range-low.result.0 c.index_range-low.result.1
+    let j = judged-at a c.self.invariant.1 s c.args.upto c.args.names.now lies.0 lies.1 c.index_range-low.result.0 c.index_range-low.result.1
     c.named_on-named.result low high (c.named_on-named.ensures ∙ ap (λ ms. named_from ms s none_named c.args.names.now) c.deref.ensures.value) in
     let left : c.least_left.result ≡ min_with (complete_first w (held_on w s)) c.named_on-named.result.low = rw (← c.self.view_is) at c.least_left.ensures in
     rw (← c.self.view_is)
